@@ -1,0 +1,86 @@
+-- A batch has no fault exactly where it has from 1 to 65,536 rows, and each cell of each row fits.
+use Rattle.std.specs.Prelude.{◌≡◌, ℕ, suc, ◌≤◌, Bool, true, false, cond, ◌&&◌, ◌==◌, List, [], ◌∷◌, length, Option, Some, None, ℤ, int_le, T}
+use Rattle.std.proofs.Common.{refl, sym, ap, ◌∙◌, arith, subst}
+use Rattle.std.specs.Int.Signed.{le_z_yes}
+use Rattle.std.proofs.lemmas.Bool.Decides.{nat_tests}
+use Rattle.table_model.specs.State.{Cells, Batch}
+use Rattle.table_model.specs.Table.{Table, ColumnShape, least_of, greatest_of, fits, cells_fault, row_fault, first_fault, or_else, Fits, IsRow, AreRows, IsBatch}
+use Rattle.table_model.specs.declared.refusal.Refusal.TheVariants.{WrongArity, OutOfType}
+
+two_true : (a b : Bool) → (a && b) ≡ true → (a ≡ true) × (b ≡ true)
+two_true true b e = (refl, e)
+two_true false b e = cc
+
+holds_true : {b : Bool} → b ≡ true → T b
+holds_true e = subst T (sym e) tt
+
+two_hold : (a b : Bool) → T a → T b → (a && b) ≡ true
+two_hold true true h g = refl
+two_hold true false h g = absurd g
+two_hold false b h g = absurd h
+
+Fits-fits : (c : ColumnShape) (v : Option ℤ) → fits c v ≡ true → Fits c v
+Fits-fits c None e = tt
+Fits-fits c (Some z) e =
+    let both = two_true (int_le (least_of c.column_type) z) (int_le z (greatest_of c.column_type)) e in
+    (le_z_yes (holds_true both.0), le_z_yes (holds_true both.1))
+
+fits-Fits : (c : ColumnShape) (v : Option ℤ) → Fits c v → fits c v ≡ true
+fits-Fits c None h = refl
+fits-Fits c (Some z) h = two_hold _ _ h.0.le h.1.le
+
+-- a row with one cell for each column, none of them at fault
+IsRow-cells : (row column : ℕ) (columns : List ColumnShape) (cells : Cells) → length cells ≡ length columns → cells_fault row column columns cells ≡ None → IsRow columns cells
+IsRow-cells row column [] [] same e = tt
+IsRow-cells row column [] (v ∷ vs) same e = absurd (omega arith)
+IsRow-cells row column (c ∷ cs) [] same e = absurd (omega arith)
+IsRow-cells row column (c ∷ cs) (v ∷ vs) same e =
+    elim (fits c v) as (λ b. fits c v ≡ b → cond b (cells_fault row (suc column) cs vs) (Some (OutOfType row column)) ≡ None → Fits c v × IsRow cs vs) [
+      | true ↦ λ t left. (Fits-fits c v t, IsRow-cells row (suc column) cs vs (omega arith) left)
+      | false ↦ λ t left. cc
+    ] refl e
+
+cells-IsRow : (row column : ℕ) (columns : List ColumnShape) (cells : Cells) → IsRow columns cells → cells_fault row column columns cells ≡ None
+cells-IsRow row column [] [] h = refl
+cells-IsRow row column [] (v ∷ vs) h = absurd h
+cells-IsRow row column (c ∷ cs) [] h = absurd h
+cells-IsRow row column (c ∷ cs) (v ∷ vs) h = ap (λ b. cond b (cells_fault row (suc column) cs vs) (Some (OutOfType row column))) (fits-Fits c v h.0) ∙ cells-IsRow row (suc column) cs vs h.1
+
+lengths-IsRow : (columns : List ColumnShape) (cells : Cells) → IsRow columns cells → length cells ≡ length columns
+lengths-IsRow [] [] h = refl
+lengths-IsRow [] (v ∷ vs) h = absurd h
+lengths-IsRow (c ∷ cs) [] h = absurd h
+lengths-IsRow (c ∷ cs) (v ∷ vs) h = ap suc (lengths-IsRow cs vs h.1)
+
+IsRow-fault : (columns : List ColumnShape) (row : ℕ) (cells : Cells) → row_fault columns row cells ≡ None → IsRow columns cells
+IsRow-fault columns row cells e =
+    elim (length cells == length columns) as (λ b. (length cells == length columns) ≡ b → cond b (cells_fault row 0 columns cells) (Some (WrongArity row)) ≡ None → IsRow columns cells) [
+      | true ↦ λ same left. IsRow-cells row 0 columns cells (grind (arith, nat_tests)) left
+      | false ↦ λ same left. cc
+    ] refl e
+
+fault-IsRow : (columns : List ColumnShape) (row : ℕ) (cells : Cells) → IsRow columns cells → row_fault columns row cells ≡ None
+fault-IsRow columns row cells h =
+    let lengths = lengths-IsRow columns cells h in
+    let same : (length cells == length columns) ≡ true = grind (arith, nat_tests) in
+    ap (λ b. cond b (cells_fault row 0 columns cells) (Some (WrongArity row))) same ∙ cells-IsRow row 0 columns cells h
+
+none_first : {X : Type 0} (a b : Option X) → or_else a b ≡ None → (a ≡ None) × (b ≡ None)
+none_first None b e = (refl, e)
+none_first (Some x) b e = cc
+
+AreRows-fault : (columns : List ColumnShape) (row : ℕ) (rows : Batch) → first_fault columns row rows ≡ None → AreRows columns rows
+AreRows-fault columns row [] e = tt
+AreRows-fault columns row (cells ∷ rows) e =
+    let both = none_first (row_fault columns row cells) (first_fault columns (suc row) rows) e in
+    (IsRow-fault columns row cells both.0, AreRows-fault columns (suc row) rows both.1)
+
+fault-AreRows : (columns : List ColumnShape) (row : ℕ) (rows : Batch) → AreRows columns rows → first_fault columns row rows ≡ None
+fault-AreRows columns row [] h = refl
+fault-AreRows columns row (cells ∷ rows) h = ap (λ o. or_else o (first_fault columns (suc row) rows)) (fault-IsRow columns row cells h.0) ∙ fault-AreRows columns (suc row) rows h.1
+
+pub IsBatch-fault : (table : Table) (rows : Batch) → 1 ≤ length rows → length rows ≤ 65536 → first_fault table.columns 0 rows ≡ None → IsBatch table rows
+IsBatch-fault table rows some limit e = record { some = some; limit = limit; rows_fit = AreRows-fault table.columns 0 rows e }
+
+pub fault-IsBatch : (table : Table) (rows : Batch) → IsBatch table rows → first_fault table.columns 0 rows ≡ None
+fault-IsBatch table rows h = fault-AreRows table.columns 0 rows h.rows_fit

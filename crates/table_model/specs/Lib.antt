@@ -1,0 +1,9 @@
+pub mod Answer
+pub mod Counted
+pub mod Identifier
+pub mod Name
+pub mod Operation
+pub mod Outcome
+pub mod RefusalText
+pub mod State
+pub mod Table

@@ -1,0 +1,48 @@
+//! The names of batches and of rows, and their orders.
+ghost use Rattle.std.specs.Prelude.{◌≡◌};
+ghost use Rattle.table_model.specs.Name.{is_proper_name, name_text};
+
+use std::fmt;
+
+/// The site that numbers a batch: from 1 to 4,294,967,295 in a proper name.
+#[derive(Clone, Copy, Debug, PartialEq, Eq, PartialOrd, Ord)]
+pub struct Origin(pub u32);
+
+/// A batch's number at its origin: from 1 to 4,294,967,295 in a proper name.
+#[derive(Clone, Copy, Debug, PartialEq, Eq, PartialOrd, Ord)]
+pub struct Number(pub u32);
+
+/// The name of a batch, ordered by origin and then by number, and written `1.7`.
+#[derive(Clone, Copy, Debug, PartialEq, Eq, PartialOrd, Ord)]
+pub struct BatchName {
+    pub origin: Origin,
+    pub number: Number,
+}
+
+/// The name of a row: its batch, and its place there from 0 on.
+#[derive(Clone, Copy, Debug, PartialEq, Eq, PartialOrd, Ord)]
+pub struct RowName {
+    pub batch: BatchName,
+    pub ordinal: u16,
+}
+
+impl BatchName {
+    /// Whether a batch may have this name: neither its origin nor its number is 0.
+    pub fn is_proper(self) -> bool
+        ensures { result ≡ is_proper_name self }
+    {
+        self.origin.0 != 0 && self.number.0 != 0
+    }
+}
+
+impl fmt::Display for BatchName {
+    ghost use Rattle.std.specs.Prelude.{Some};
+
+    ghost output = { λ name. Some (name_text name) };
+
+    fn fmt<W: fmt::Write>(&self, f: &mut fmt::Formatter<W>) -> fmt::Result {
+        let origin = self.origin.0;
+        let number = self.number.0;
+        write!(f, "{origin}.{number}")
+    }
+}

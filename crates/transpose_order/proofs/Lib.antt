@@ -1,0 +1,4 @@
+pub mod PlaceLemmas
+pub mod WidthLemmas
+pub mod BitLemmas
+pub mod MaskLemmas

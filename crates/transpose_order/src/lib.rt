@@ -1,0 +1,15 @@
+//! The transposed order of a vector of 1024 rows, and masks over its rows.
+#![tactic(auto)]
+
+mod masks;
+mod places;
+mod words;
+
+pub use masks::Mask;
+pub use places::{
+    every_place_is_a_row, one_order_serves_every_width, pieces_stand_in_words, place,
+    place_in_word, places_are_distinct, position, row_at,
+};
+
+#[cfg(test)]
+mod tests;

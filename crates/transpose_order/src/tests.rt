@@ -1,0 +1,94 @@
+//! Places and masks at values worked out by hand from the order 0 4 2 6 1 5 3 7 and the bits of words.
+use super::*;
+use std::test::Fail;
+
+// Row 16 has part 16 of word 0, which is quarter 1 at 16 bits, and 1 in two bits reversed is 2: lane 16 * 2. Row 8 is
+// eighth 1 at 8 bits, and 1 in three bits reversed is 4: lane 16 * 4. Row 64 begins word 1.
+#[test]
+fn rows_stand_at_their_places(rt: HostRuntime) -> Result<(), Fail> {
+    assert_eq!(rt; place(16, 16), (32, 0));
+    assert_eq!(rt; place(16, 64), (1, 0));
+    assert_eq!(rt; place(32, 1023), (31, 31));
+    assert_eq!(rt; place(8, 8), (64, 0));
+    assert_eq!(rt; place(64, 127), (1, 63));
+    assert_eq!(rt; row_at(16, 32, 0), 16);
+    assert_eq!(rt; row_at(8, 127, 7), 1023);
+    assert_eq!(rt; position(16), 32);
+    assert_eq!(rt; position(1023), 1023);
+    assert_eq!(rt; position(1), 128);
+    assert_eq!(rt; place_in_word(16, 16), 32);
+    assert_eq!(rt; place_in_word(64, 17), 17);
+    Ok(())
+}
+
+// Rows 60 to 69 are the four high bits of word 0 and the six low bits of word 1.
+#[test]
+fn a_range_of_rows_crosses_words(rt: HostRuntime) -> Result<(), Fail> {
+    let mut mask = Mask::none();
+    mask.set_range(60, 70, true);
+    assert_eq!(rt; mask.words()[0], 0xF000_0000_0000_0000);
+    assert_eq!(rt; mask.words()[1], 0x3F);
+    assert_eq!(rt; mask.words()[2], 0);
+    assert_eq!(rt;
+        (mask.count(), mask.count_below(64), mask.count_below(69)),
+        (10, 4, 9)
+    );
+    assert_eq!(rt;
+        (mask.get(59), mask.get(60), mask.get(69), mask.get(70)),
+        (false, true, true, false)
+    );
+    mask.set_range(61, 1024, false);
+    assert_eq!(rt; mask.words()[0], 0x1000_0000_0000_0000);
+    mask.set_range(7, 7, true);
+    mask.set_range(0, 1024, true);
+    assert_eq!(rt;
+        (mask.count(), Mask::all().count(), Mask::none().count()),
+        (1024, 1024, 0)
+    );
+    Ok(())
+}
+
+// The two masks differ in each of the four ways at rows 0 to 3.
+#[test]
+fn masks_join_row_by_row(rt: HostRuntime) -> Result<(), Fail> {
+    let mut words = [0; 16];
+    words[0] = 0b0011;
+    let a = Mask::from_words(words);
+    words[0] = 0b0101;
+    let b = Mask::from_words(words);
+    assert_eq!(rt; a.and(&b).words()[0], 0b0001);
+    assert_eq!(rt; a.or(&b).words()[0], 0b0111);
+    assert_eq!(rt; a.and_not(&b).words()[0], 0b0010);
+    assert_eq!(rt; a.not().words()[0], 0xFFFF_FFFF_FFFF_FFFC);
+    assert_eq!(rt; a.not().count(), 1022);
+    Ok(())
+}
+
+// The quarters of word 0 belong to lanes 0, 32, 16 and 48, as 0 1 2 3 in two bits reversed is 0 2 1 3.
+#[test]
+fn pieces_are_the_lanes_rows(rt: HostRuntime) -> Result<(), Fail> {
+    let mut words = [0; 16];
+    words[0] = 0x4444_3333_2222_1111;
+    words[15] = 0x8000_0000_0000_0001;
+    let mask = Mask::from_words(words);
+    assert_eq!(rt; (mask.piece(16, 0), mask.piece(16, 32)), (0x1111, 0x2222));
+    assert_eq!(rt; (mask.piece(16, 16), mask.piece(16, 48)), (0x3333, 0x4444));
+    assert_eq!(rt;
+        (mask.piece(64, 0), mask.piece(64, 15)),
+        (words[0], words[15])
+    );
+    assert_eq!(rt;
+        (mask.piece(32, 0), mask.piece(32, 31)),
+        (0x2222_1111, 0x8000_0000)
+    );
+    assert_eq!(rt; (mask.piece(8, 16), mask.piece(8, 127)), (0x33, 0x80));
+    Ok(())
+}
+
+#[test]
+fn the_laws_may_be_called() {
+    places_are_distinct();
+    every_place_is_a_row();
+    one_order_serves_every_width();
+    pieces_stand_in_words();
+}
