@@ -1,3 +1,4 @@
+-- Each word before j is made of the two words at its place.
 use Rattle.std.proofs.Common.{◌≡◌, ℕ, ◌<◌, slice_index_or, length}
 use Rattle.transpose_order.proofs.words.combined.Given as goal
 

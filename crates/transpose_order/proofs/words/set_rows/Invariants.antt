@@ -1,8 +1,8 @@
+-- the words before j are written, the others are as they were
 use Rattle.std.proofs.Common.{◌≡◌, ◌==◌, ◌-◌, ◌*◌, ◌^◌, ℕ, ◌<◌, ◌≤◌, ◌&&◌, min, nat_le, nat_lt, if◌then◌else◌, slice_index_or, length}
 use Rattle.std.specs.Int.{bit_at}
 use Rattle.transpose_order.proofs.words.set_rows.Given as goal
 
--- the words before j are written, the others are as they were
 abbrev pub invariant-loop-j : goal.invariant-loop-j
 invariant-loop-j l = record {
   count : length l.words ≡ 16;

@@ -1,0 +1,25 @@
+-- One bit of what shifts and masks make.
+use Rattle.std.proofs.Common.{◌≡◌, ℕ, ◌-◌, ◌*◌, ◌/◌, ◌%◌, ◌^◌, ◌<◌, ◌≤◌, bit_and, sym, ap, ◌∙◌, arith}
+use Rattle.std.specs.Int.{bit_at}
+use Rattle.std.proofs.lemmas.Nat.{and_mask, shr_split, pow_pos}
+use Rattle.std.proofs.lemmas.Nat.Bits.{bit_at_cat_low, bit_at_cat_high, bit_at-zero, ones_shr}
+
+pub bit_at-mod : (x m i : ℕ) → i < m → bit_at (x % 2 ^ m) i ≡ bit_at x i
+bit_at-mod x m i h =
+    sym (bit_at_cat_low (x / 2 ^ m) m (x % 2 ^ m) i h) ∙ ap (λ y. bit_at y i) (shr_split x m)
+
+-- a shift to the left brings zeros in
+pub bit_at-shl_low : (x k i : ℕ) → i < k → i < 64 → bit_at (x * 2 ^ k % 2 ^ 64) i ≡ 0
+bit_at-shl_low x k i h within =
+    bit_at-mod (x * 2 ^ k) 64 i within ∙ ap (λ y. bit_at y i) (omega arith) ∙ bit_at_cat_low x k 0 i h ∙ bit_at-zero i
+
+pub bit_at-shl_high : (x k i : ℕ) → k ≤ i → i < 64 → bit_at (x * 2 ^ k % 2 ^ 64) i ≡ bit_at x (i - k)
+bit_at-shl_high x k i h within =
+    bit_at-mod (x * 2 ^ k) 64 i within ∙ ap (λ y. bit_at y i) (omega arith) ∙ bit_at_cat_high x k 0 i (pow_pos k) h
+
+-- the mask of `width` ones keeps the low bits
+pub low_ones : (x width : ℕ) → width ≤ 64 → bit_and x ((2 ^ 64 - 1) / 2 ^ (64 - width)) ≡ x % 2 ^ width
+low_ones x width h =
+    let ones : (2 ^ 64 - 1) / 2 ^ (64 - width) ≡ 2 ^ (64 - (64 - width)) - 1 = ones_shr 64 (64 - width) (omega arith) in
+    let same : 64 - (64 - width) ≡ width = omega arith in
+    ap (bit_and x) (ones ∙ ap (λ k. 2 ^ k - 1) same) ∙ and_mask x width

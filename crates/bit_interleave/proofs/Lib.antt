@@ -1,0 +1,11 @@
+pub mod WrapLemmas
+pub mod LeastWidthLemmas
+pub mod BitLemmas
+pub mod SixteenLemmas
+pub mod StepLemmas
+pub mod PackLemmas
+pub mod WriteLemmas
+pub mod PieceLemmas
+pub mod RoundTrip
+pub mod WordsLemmas
+pub mod ValueLemmas

@@ -1,0 +1,4 @@
+pub mod Arithmetic
+pub mod Packing
+pub mod PackedWords
+pub mod StoredWords

@@ -1,0 +1,51 @@
+//! Arithmetic modulo a power of two, read as signed, and the least width of a number.
+ghost use Rattle.std.specs.Prelude.{◌≡◌, ℕ, ◌+◌, ◌<◌, ◌≤◌, ◌^◌, pos, ◌+ℤ◌, ◌-ℤ◌};
+ghost use Rattle.std.specs.Int.{int_wrap};
+ghost use Rattle.transpose_order.specs.Place.{IsLaneWidth};
+ghost use Rattle.bit_interleave.specs.Arithmetic.{integer_width, least_width};
+
+/// The number modulo two to the power of `lane_width`, read as signed.
+pub fn wrap(lane_width: usize, number: u64) -> i64
+    requires { IsLaneWidth lane_width }
+    ensures { result ≡ int_wrap (integer_width lane_width) (pos number) }
+{
+    let half = 1 << (lane_width - 1);
+    let mask = u64::MAX >> (64 - lane_width);
+    (number.wrapping_add(half) & mask)
+        .wrapping_sub(half)
+        .cast_signed()
+}
+
+/// The sum modulo two to the power of `lane_width`, read as signed.
+pub fn wrapping_sum(lane_width: usize, a: i64, b: i64) -> i64
+    requires { IsLaneWidth lane_width }
+    ensures { result ≡ int_wrap (integer_width lane_width) (a +ℤ b) }
+{
+    wrap(lane_width, a.wrapping_add(b).cast_unsigned())
+}
+
+/// The sum with a packed number, modulo two to the power of `lane_width`, read as signed.
+pub fn wrapping_sum_with(lane_width: usize, a: i64, number: u64) -> i64
+    requires { IsLaneWidth lane_width }
+    ensures { result ≡ int_wrap (integer_width lane_width) (a +ℤ pos number) }
+{
+    wrap(lane_width, a.cast_unsigned().wrapping_add(number))
+}
+
+/// The difference modulo two to the power of `lane_width`, read as signed.
+pub fn wrapping_difference(lane_width: usize, a: i64, b: i64) -> i64
+    requires { IsLaneWidth lane_width }
+    ensures { result ≡ int_wrap (integer_width lane_width) (a -ℤ b) }
+{
+    wrap(lane_width, a.wrapping_sub(b).cast_unsigned())
+}
+
+/// The least width that holds every number up to `max`.
+pub fn width_of(max: u64) -> usize
+    ensures value { result ≡ least_width max }
+    ensures holds { max < 2 ^ result }
+    ensures least { (width : ℕ) → max < 2 ^ width → result ≤ width }
+    ensures bounded { result ≤ 64 }
+{
+    64 - max.leading_zeros() as usize
+}

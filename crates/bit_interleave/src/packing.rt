@@ -1,0 +1,89 @@
+//! Values to packed words, a word at a time.
+ghost use Rattle.std.specs.Prelude.{◌≡◌, ℕ, ◌+◌, ◌*◌, ◌/◌, ◌%◌, ◌<◌, ◌≤◌, ◌^◌, map, length, slice_index};
+ghost use Rattle.std.specs.List.{All};
+ghost use Rattle.transpose_order.specs.Place.{IsLaneWidth};
+ghost use Rattle.bit_interleave.specs.Packing.{packed_word, packed};
+
+use crate::lane_word::LaneWord;
+use transpose_order::row_at;
+
+/// Word `word` of a lane.
+fn word_of<V: LaneWord>(
+    lane_width: usize,
+    width: usize,
+    values: &[V; 1024],
+    lane: usize,
+    word: usize,
+) -> u64
+    requires lane_width { IsLaneWidth lane_width }
+    requires width { width ≤ lane_width }
+    requires fit { All (λ v. V.number v < 2 ^ width) values.now }
+    requires lane { lane < 1024 / lane_width }
+    requires word { word < width }
+    ensures value { result ≡ packed_word lane_width width (map V.number values.now) lane word }
+    ensures fits { result < 2 ^ lane_width }
+{
+    let first = row_at(lane_width, lane, 0);
+    let start = word * lane_width;
+    let begin = start / width;
+    let end = (start + lane_width - 1) / width + 1;
+    let mut bits = values[first + begin].to_u64() >> (start % width);
+    for step in begin + 1..end {
+        bits |= values[first + step].to_u64() << (step * width - start);
+    }
+    bits & (u64::MAX >> (64 - lane_width))
+}
+
+/// Writes word `word` of each lane.
+fn pack_word<V: LaneWord, U: LaneWord>(
+    width: usize,
+    values: &[V; 1024],
+    word: usize,
+    words: &mut [U],
+)
+    requires width { width ≤ U.BITS }
+    requires fit { All (λ v. V.number v < 2 ^ width) values.now }
+    requires words { length words.old ≡ width * (1024 / U.BITS) }
+    requires word { word < width }
+    ensures written { (lane : ℕ) → lane < 1024 / U.BITS → slice_index (map U.number words.new) (word * (1024 / U.BITS) + lane) ≡ packed_word U.BITS width (map V.number values.now) lane word }
+    ensures before { (i : ℕ) → i < word * (1024 / U.BITS) → slice_index (map U.number words.new) i ≡ slice_index (map U.number words.old) i }
+{
+    let bits = U::BITS;
+    let lanes = 1024 / bits;
+    for lane in 0..lanes {
+        let number = word_of(bits, width, values, lane, word);
+        words[word * lanes + lane] = U::from_u64(number);
+    }
+}
+
+/// The words that pack 1024 values of `width` bits in row order, given in words of any type.
+pub(crate) fn pack_from<V: LaneWord, U: LaneWord>(width: usize, values: &[V; 1024], words: &mut [U])
+    requires width { width ≤ U.BITS }
+    requires fit { All (λ v. V.number v < 2 ^ width) values.now }
+    requires words { length words.old ≡ width * (1024 / U.BITS) }
+    ensures { map U.number words.new ≡ packed U.BITS width (map V.number values.now) }
+{
+    for word in 0..width {
+        pack_word(width, values, word, words);
+    }
+}
+
+/// The words that pack 1024 values of `width` bits in row order.
+pub fn pack_at<U: LaneWord>(width: usize, values: &[U; 1024], words: &mut [U])
+    requires width { width ≤ U.BITS }
+    requires fit { All (λ v. U.number v < 2 ^ width) values.now }
+    requires words { length words.old ≡ width * (1024 / U.BITS) }
+    ensures { map U.number words.new ≡ packed U.BITS width (map U.number values.now) }
+{
+    pack_from(width, values, words);
+}
+
+/// The words that pack 1024 values of `W` bits in row order.
+pub fn pack<U: LaneWord, const W: usize>(values: &[U; 1024], words: &mut [U])
+    requires width { W ≤ U.BITS }
+    requires fit { All (λ v. U.number v < 2 ^ W) values.now }
+    requires words { length words.old ≡ W * (1024 / U.BITS) }
+    ensures { map U.number words.new ≡ packed U.BITS W (map U.number values.now) }
+{
+    pack_from(W, values, words);
+}

@@ -1,0 +1,128 @@
+//! Packed words to values, sixteen lanes at a time.
+ghost use Rattle.std.specs.Prelude.{◌≡◌, ℕ, ◌+◌, ◌*◌, ◌/◌, ◌%◌, ◌<◌, ◌≤◌, ◌^◌, map, length, slice_index, bit_or, ◌≢◌};
+ghost use Rattle.std.specs.Simd.Lanes.{Each1, zip2};
+ghost use Rattle.bit_interleave.specs.Packing.{sixteen_of, packed_value, unpacked};
+
+use crate::lane_word::LaneWord;
+use std::simd::prelude::*;
+use transpose_order::place_in_word;
+
+/// The `width` bits of each lane from bit `shift` on.
+fn within_words(low: Simd<u64, 16>, shift: usize, width: usize) -> Simd<u64, 16>
+    requires lanes { length low ≡ 16 }
+    requires shift { shift < 64 }
+    requires positive { 0 < width }
+    requires width { width ≤ 64 }
+    ensures { result ≡ map (λ x. x / 2 ^ shift % 2 ^ width) low }
+{
+    let mask = Simd::splat(u64::MAX >> (64 - width));
+    low >> Simd::splat(shift as u64) & mask
+}
+
+/// The `width` bits of each lane from bit `shift` of its low word on, of which the low word has `kept`.
+fn across_words(
+    low: Simd<u64, 16>,
+    high: Simd<u64, 16>,
+    shift: usize,
+    kept: usize,
+    width: usize,
+) -> Simd<u64, 16>
+    requires low { length low ≡ 16 }
+    requires high { length high ≡ 16 }
+    requires shift { shift < 64 }
+    requires kept { kept < 64 }
+    requires positive { 0 < width }
+    requires width { width ≤ 64 }
+    ensures { result ≡ zip2 (λ x y. bit_or (x / 2 ^ shift) (y * 2 ^ kept % 2 ^ 64) % 2 ^ width) low high }
+{
+    let mask = Simd::splat(u64::MAX >> (64 - width));
+    (low >> Simd::splat(shift as u64) | high << Simd::splat(kept as u64)) & mask
+}
+
+/// Element i is the value at lane `16 * group + i` and this step of words packed at `width` bits.
+pub fn step_at<U: LaneWord>(width: usize, words: &[U], group: usize, step: usize) -> Simd<u64, 16>
+    requires width { width ≤ U.BITS }
+    requires words { length words.now ≡ width * (1024 / U.BITS) }
+    requires group { 16 * group < 1024 / U.BITS }
+    requires step { step < U.BITS }
+    ensures values { result ≡ sixteen_of (λ i. packed_value U.BITS width (map U.number words.now) (16 * group + i) step) }
+    ensures fit { Each1 (λ n. n < 2 ^ width) result }
+{
+    if width == 0 {
+        return Simd::splat(0);
+    }
+    let bits = U::BITS;
+    let lanes = 1024 / bits;
+    let bit = step * width;
+    let shift = bit % bits;
+    let at = bit / bits * lanes + 16 * group;
+    let low = U::load(words, at);
+    if shift + width <= bits {
+        return within_words(low, shift, width);
+    }
+    let high = U::load(words, at + lanes);
+    across_words(low, high, shift, bits - shift, width)
+}
+
+/// Element i is the value at lane `16 * group + i` and this step of words packed at `W` bits.
+pub fn step<U: LaneWord, const W: usize>(words: &[U], group: usize, step: usize) -> Simd<u64, 16>
+    requires width { W ≤ U.BITS }
+    requires words { length words.now ≡ W * (1024 / U.BITS) }
+    requires group { 16 * group < 1024 / U.BITS }
+    requires step { step < U.BITS }
+    ensures values { result ≡ sixteen_of (λ i. packed_value U.BITS W (map U.number words.now) (16 * group + i) step) }
+    ensures fit { Each1 (λ n. n < 2 ^ W) result }
+{
+    step_at(W, words, group, step)
+}
+
+/// Writes the sixteen lanes of a piece to its rows, which stand at one place of each 64.
+fn put_piece<V: LaneWord>(lanes: Simd<u64, 16>, place: usize, values: &mut [V; 1024])
+    requires lanes { length lanes ≡ 16 }
+    requires fit { Each1 (λ n. n < 2 ^ V.BITS) lanes }
+    requires place { place < 64 }
+    ensures long { length values.new ≡ 1024 }
+    ensures written { (i : ℕ) → i < 16 → slice_index (map V.number values.new) (64 * i + place) ≡ slice_index lanes i }
+    ensures others { (n : ℕ) → n % 64 ≢ place → slice_index (map V.number values.new) n ≡ slice_index (map V.number values.old) n }
+{
+    let numbers = lanes.to_array();
+    for i in 0..16 {
+        values[64 * i + place] = V::from_u64(numbers[i]);
+    }
+}
+
+/// The 1024 values in row order of words packed at `width` bits, in words of a type that they fit.
+pub(crate) fn unpack_into<U: LaneWord, V: LaneWord>(
+    width: usize,
+    words: &[U],
+    values: &mut [V; 1024],
+)
+    requires width { width ≤ U.BITS }
+    requires fit { width ≤ V.BITS }
+    requires words { length words.now ≡ width * (1024 / U.BITS) }
+    ensures { map V.number values.new ≡ unpacked U.BITS width (map U.number words.now) }
+{
+    let bits = U::BITS;
+    for piece in 0..64 {
+        let lanes = step_at(width, words, piece / bits, piece % bits);
+        put_piece(lanes, place_in_word(bits, piece), values);
+    }
+}
+
+/// The 1024 values in row order of words packed at `width` bits.
+pub fn unpack_at<U: LaneWord>(width: usize, words: &[U], values: &mut [U; 1024])
+    requires width { width ≤ U.BITS }
+    requires words { length words.now ≡ width * (1024 / U.BITS) }
+    ensures { map U.number values.new ≡ unpacked U.BITS width (map U.number words.now) }
+{
+    unpack_into(width, words, values);
+}
+
+/// The 1024 values in row order of words packed at `W` bits.
+pub fn unpack<U: LaneWord, const W: usize>(words: &[U], values: &mut [U; 1024])
+    requires width { W ≤ U.BITS }
+    requires words { length words.now ≡ W * (1024 / U.BITS) }
+    ensures { map U.number values.new ≡ unpacked U.BITS W (map U.number words.now) }
+{
+    unpack_into(W, words, values);
+}

@@ -1,0 +1,224 @@
+//! Packed words whose lane width is known when the program runs.
+ghost use Rattle.std.specs.Prelude.{◌≡◌, ℕ, ◌+◌, ◌*◌, ◌/◌, ◌<◌, ◌≤◌, ◌^◌, ◌↔◌, map, length, slice_index, IsTrue, IfOk};
+ghost use Rattle.std.specs.List.{All};
+ghost use Rattle.std.specs.Simd.Lanes.{Each1};
+ghost use Rattle.transpose_order.specs.Place.{IsLaneWidth};
+ghost use Rattle.bit_interleave.specs.Packing.{sixteen_of, packed_value, unpacked, packed};
+ghost use Rattle.bit_interleave.specs.PackedWords.{PackedWords, words_packing, HasWidth, FitLanes};
+
+use crate::lane_word::LaneWord;
+use crate::packing::pack_from;
+use crate::unpacking::{step_at, unpack_into};
+use std::alloc::{AllocError, Global};
+use std::marker::Model;
+use std::simd::prelude::*;
+
+/// Words of one lane width, 8, 16, 32 or 64 bits, that pack a vector of 1024 values.
+#[derive(Drop)]
+pub struct Words {
+    stored: Stored,
+}
+
+#[derive(Drop)]
+enum Stored {
+    U8(Vec<u8>),
+    U16(Vec<u16>),
+    U32(Vec<u32>),
+    U64(Vec<u64>),
+}
+
+impl Model for Words {
+    ghost use Rattle.bit_interleave.specs.PackedWords.{PackedWords};
+
+    ghost Value = { PackedWords };
+
+    ghost use Rattle.bit_interleave.specs.StoredWords.{numbers_of};
+
+    ghost view = { λ words. numbers_of words.stored };
+
+    ghost use Rattle.bit_interleave.specs.PackedWords.{FitLanes};
+
+    ghost invariant = { λ words. FitLanes (numbers_of words.stored) };
+}
+
+impl Stored {
+    ghost use Rattle.bit_interleave.specs.StoredWords.{numbers_of};
+
+    fn into_words(self) -> Words
+        requires { FitLanes (numbers_of self) }
+        ensures { result ≡ numbers_of self }
+    {
+        Words { stored: self }
+    }
+}
+
+/// The words that pack 1024 values of `width` bits in row order, with no room to spare.
+fn packed_vec<U: LaneWord>(
+    alloc: Global,
+    width: usize,
+    values: &[u64; 1024],
+) -> Result<Vec<U>, AllocError>
+    requires width { width ≤ U.BITS }
+    requires fit { All (λ v. v < 2 ^ width) values.now }
+    ensures numbers { IfOk result (λ words. map U.number words.items ≡ packed U.BITS width values.now) }
+    ensures fit { IfOk result (λ words. All (λ n. n < 2 ^ U.BITS) (map U.number words.items)) }
+{
+    let count = width * (1024 / U::BITS);
+    let mut words = vec![in alloc; U::from_u64(0); count]?;
+    pack_from(width, values, words.as_mut_slice());
+    Ok(words)
+}
+
+/// The words with these numbers, with no room to spare.
+fn vec_of<U: LaneWord>(alloc: Global, numbers: &[u64]) -> Result<Vec<U>, AllocError>
+    requires { All (λ n. n < 2 ^ U.BITS) numbers.now }
+    ensures numbers { IfOk result (λ words. map U.number words.items ≡ numbers.now) }
+    ensures fit { IfOk result (λ words. All (λ n. n < 2 ^ U.BITS) (map U.number words.items)) }
+{
+    let mut words = Vec::with_capacity(alloc, numbers.len())?;
+    for number in numbers {
+        words.push(U::from_u64(*number))?;
+    }
+    Ok(words)
+}
+
+impl Words {
+    /// The words that pack 1024 values of `width` bits in row order.
+    pub fn pack(
+        alloc: Global,
+        lane_width: usize,
+        width: usize,
+        values: &[u64; 1024],
+    ) -> Result<Self, AllocError>
+        requires lane_width { IsLaneWidth lane_width }
+        requires width { width ≤ lane_width }
+        requires fit { All (λ v. v < 2 ^ width) values.now }
+        ensures { IfOk result (λ words. words ≡ words_packing lane_width width values.now) }
+    {
+        match lane_width {
+            8 => Ok(Stored::U8(packed_vec(alloc, width, values)?).into_words()),
+            16 => Ok(Stored::U16(packed_vec(alloc, width, values)?).into_words()),
+            32 => Ok(Stored::U32(packed_vec(alloc, width, values)?).into_words()),
+            _ => Ok(Stored::U64(packed_vec(alloc, width, values)?).into_words()),
+        }
+    }
+
+    /// Words of this width with these numbers.
+    pub fn from_numbers(
+        alloc: Global,
+        lane_width: usize,
+        numbers: &[u64],
+    ) -> Result<Self, AllocError>
+        requires lane_width { IsLaneWidth lane_width }
+        requires fit { All (λ n. n < 2 ^ lane_width) numbers.now }
+        ensures { IfOk result (λ words. words ≡ record { lane_width = lane_width; numbers = numbers.now }) }
+    {
+        match lane_width {
+            8 => Ok(Stored::U8(vec_of(alloc, numbers)?).into_words()),
+            16 => Ok(Stored::U16(vec_of(alloc, numbers)?).into_words()),
+            32 => Ok(Stored::U32(vec_of(alloc, numbers)?).into_words()),
+            _ => Ok(Stored::U64(vec_of(alloc, numbers)?).into_words()),
+        }
+    }
+
+    /// The words' width in bits.
+    pub fn lane_width(&self) -> usize
+        ensures value { result ≡ self.now.lane_width }
+        ensures width { IsLaneWidth result }
+    {
+        match &self.stored {
+            Stored::U8(_) => 8,
+            Stored::U16(_) => 16,
+            Stored::U32(_) => 32,
+            Stored::U64(_) => 64,
+        }
+    }
+
+    /// How many words there are.
+    pub fn len(&self) -> usize
+        ensures value { result ≡ length self.now.numbers }
+        ensures fit { FitLanes self.now }
+    {
+        match &self.stored {
+            Stored::U8(words) => words.len(),
+            Stored::U16(words) => words.len(),
+            Stored::U32(words) => words.len(),
+            Stored::U64(words) => words.len(),
+        }
+    }
+
+    /// Whether there is no word, as at width 0.
+    pub fn is_empty(&self) -> bool
+        ensures { IsTrue result ↔ (length self.now.numbers ≡ 0) }
+    {
+        self.len() == 0
+    }
+
+    /// The number of word `i`.
+    pub fn word(&self, i: usize) -> u64
+        requires { i < length self.now.numbers }
+        ensures value { result ≡ slice_index self.now.numbers i }
+        ensures fits { result < 2 ^ self.now.lane_width }
+    {
+        match &self.stored {
+            Stored::U8(words) => u64::from(words[i]),
+            Stored::U16(words) => u64::from(words[i]),
+            Stored::U32(words) => u64::from(words[i]),
+            Stored::U64(words) => words[i],
+        }
+    }
+
+    /// The 1024 values of `width` bits in row order.
+    pub fn unpack(&self, width: usize, values: &mut [u64; 1024])
+        requires { HasWidth self.now width }
+        ensures values { values.new ≡ unpacked self.now.lane_width width self.now.numbers }
+        ensures back { self.now ≡ words_packing self.now.lane_width width (unpacked self.now.lane_width width self.now.numbers) }
+    {
+        match &self.stored {
+            Stored::U8(words) => unpack_into(width, words.as_slice(), values),
+            Stored::U16(words) => unpack_into(width, words.as_slice(), values),
+            Stored::U32(words) => unpack_into(width, words.as_slice(), values),
+            Stored::U64(words) => unpack_into(width, words.as_slice(), values),
+        }
+    }
+
+    /// Element i is the value of `width` bits at lane `16 * group + i` and this step.
+    pub fn step(&self, width: usize, group: usize, step: usize) -> Simd<u64, 16>
+        requires width { HasWidth self.now width }
+        requires group { 16 * group < 1024 / self.now.lane_width }
+        requires step { step < self.now.lane_width }
+        ensures values { result ≡ sixteen_of (λ i. packed_value self.now.lane_width width self.now.numbers (16 * group + i) step) }
+        ensures fit { Each1 (λ n. n < 2 ^ width) result }
+    {
+        match &self.stored {
+            Stored::U8(words) => step_at(width, words.as_slice(), group, step),
+            Stored::U16(words) => step_at(width, words.as_slice(), group, step),
+            Stored::U32(words) => step_at(width, words.as_slice(), group, step),
+            Stored::U64(words) => step_at(width, words.as_slice(), group, step),
+        }
+    }
+
+    /// The same words again.
+    pub fn copy(&self, alloc: Global) -> Result<Self, AllocError>
+        ensures { IfOk result (λ words. words ≡ self.now) }
+    {
+        match &self.stored {
+            Stored::U8(words) => Ok(Stored::U8(Vec::from_slice(
+                alloc,
+                words.as_slice(),
+            )?).into_words()),
+            Stored::U16(words) => Ok(Stored::U16(Vec::from_slice(
+                alloc,
+                words.as_slice(),
+            )?).into_words()),
+            Stored::U32(words) => Ok(Stored::U32(Vec::from_slice(
+                alloc,
+                words.as_slice(),
+            )?).into_words()),
+            Stored::U64(words) => Ok(Stored::U64(Vec::from_slice(
+                alloc,
+                words.as_slice(),
+            )?).into_words()),
+        }
+    }
+}

@@ -1,0 +1,11 @@
+//! Laws of the sets, each stated as the contract of a function that does nothing.
+ghost use Rattle.std.specs.Prelude.{◌≡◌, List};
+ghost use Rattle.std.specs.FinSet as set;
+ghost use Rattle.table_model.specs.Name.{name_cmp};
+ghost use Rattle.table_model.specs.declared.names.BatchName.{BatchName};
+ghost use Rattle.catalogue_join.specs.Held.{IsListOf};
+
+/// A set of batch names has one list in strictly ascending order.
+pub fn names_have_one_order()
+    ensures { (held : set.FinSet name_cmp) (names others : List BatchName) → IsListOf names held → IsListOf others held → names ≡ others }
+{}

@@ -1,0 +1,19 @@
+//! Sets of names as sorted ranges: which batches are held, and which rows are deleted.
+#![tactic(auto)]
+
+mod held;
+mod join;
+mod laws;
+mod ranges;
+mod row_range;
+mod run;
+mod search;
+mod span;
+mod tombs;
+
+pub use held::Held;
+pub use laws::names_have_one_order;
+pub use tombs::Tombs;
+
+#[cfg(test)]
+mod tests;

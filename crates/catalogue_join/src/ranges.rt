@@ -1,0 +1,120 @@
+//! A set of names as the ascending list of its maximal ranges.
+ghost use Rattle.std.specs.Prelude.{◌≡◌, List, [], OnOk, OnErr, IfOk, ℕ, ◌≤◌, ◌<◌, ◌+◌, false, true, ◌||◌, MatchOption, length, slice_index_or, take, drop, ◌++◌, ◌∷◌};
+ghost use Rattle.catalogue_join.specs.Span.{among, covers, Rises, IsRangeAt, IsOverlap};
+
+use crate::join::joined;
+use crate::search::{overlap, place_of, range_at};
+use crate::span::Span;
+use std::alloc::{AllocError, Global};
+use std::marker::Model;
+
+/// A set of names, kept as the ascending list of its maximal ranges.
+#[derive(Drop)]
+pub struct Ranges<S: Span> {
+    ranges: Vec<S>,
+}
+
+impl<S: Span> Model for Ranges<S> {
+    ghost use Rattle.std.specs.Prelude.{List};
+    ghost use Rattle.catalogue_join.specs.Span.{Rises};
+
+    ghost Value = { List S };
+
+    ghost view = { λ r. r.ranges.items };
+
+    ghost invariant = { λ r. Rises S.shape 0 r.ranges.items };
+}
+
+impl<S: Span> Ranges<S> {
+    /// The set without names.
+    pub fn new(alloc: Global) -> Self
+        ensures { result ≡ [] }
+    {
+        Ranges {
+            ranges: Vec::new(alloc),
+        }
+    }
+
+    /// The ranges, ascending.
+    pub fn as_slice(&self) -> &[S]
+        ensures ranges { result.now ≡ self.now }
+        ensures maximal { Rises S.shape 0 result.now }
+    {
+        self.ranges.as_slice()
+    }
+
+    /// The allocator that the set was made with.
+    pub fn allocator(&self) -> Global {
+        *self.ranges.allocator()
+    }
+
+    /// The range that has the first name of `at`.
+    pub fn find(&self, at: S) -> Option<S>
+        ensures { MatchOption result
+            (among S.shape self.now (S.shape.low at) ≡ false)
+            (IsRangeAt S.shape self.now (S.shape.low at)) }
+    {
+        range_at(&self.ranges, at)
+    }
+
+    /// The ranges that have a name of `range`.
+    pub fn overlapping(&self, range: S) -> &[S]
+        requires { S.shape.low range ≤ S.shape.high range }
+        ensures { IsOverlap S.shape self.now range result.now }
+    {
+        overlap(&self.ranges, range)
+    }
+
+    /// The names of both sets, in one step for each of their ranges.
+    pub fn joined(&self, other: &Ranges<S>) -> Result<Ranges<S>, AllocError>
+        ensures places { IfOk result (λ r. (p : ℕ) → among S.shape r p
+            ≡ (among S.shape self.now p || among S.shape other.now p)) }
+        ensures maximal { IfOk result (λ r. Rises S.shape 0 r) }
+    {
+        Ok(Ranges {
+            ranges: joined(self.allocator(), &self.ranges, &other.ranges)?,
+        })
+    }
+
+    /// Adds the names of a range. Where memory is refused the set is as before.
+    pub fn insert(&mut self, range: S) -> Result<(), AllocError>
+        requires not_empty { S.shape.low range ≤ S.shape.high range }
+        requires named { S.shape.named range ≡ true }
+        ensures places { OnOk result ((p : ℕ) → among S.shape self.new p
+            ≡ (among S.shape self.old p || covers S.shape range p)) }
+        ensures err { OnErr result (self.new ≡ self.old) }
+        ensures maximal { Rises S.shape 0 self.new }
+    {
+        put(&mut self.ranges, range)
+    }
+}
+
+// Puts a range in its place, in one with those that it touches.
+fn put<S: Span>(ranges: &mut Vec<S>, range: S) -> Result<(), AllocError>
+    requires rising { Rises S.shape 0 ranges.old.items }
+    requires not_empty { S.shape.low range ≤ S.shape.high range }
+    requires named { S.shape.named range ≡ true }
+    ensures places { OnOk result ((p : ℕ) → among S.shape ranges.new.items p
+        ≡ (among S.shape ranges.old.items p || covers S.shape range p)) }
+    ensures err { OnErr result (ranges.new.items ≡ ranges.old.items) }
+    ensures maximal { Rises S.shape 0 ranges.new.items }
+{
+    let (first, end) = place_of(ranges, range);
+    if first == end {
+        ranges.insert(first, range)?;
+    } else {
+        let hull = range.hull(ranges[first]).hull(ranges[end - 1]);
+        replace(ranges, first, end, hull);
+    }
+    Ok(())
+}
+
+// Puts one range in the place of those from `first` on and before `end`.
+fn replace<S: Span>(ranges: &mut Vec<S>, first: usize, end: usize, range: S)
+    requires order { first < end }
+    requires within { end ≤ length ranges.old.items }
+    ensures { ranges.new.items ≡ take first ranges.old.items ++ range ∷ drop end ranges.old.items }
+{
+    ranges[first] = range;
+    drop(ranges.drain(first + 1..end));
+}

@@ -1,0 +1,26 @@
+//! What a type of ranges has to tell, so that one set of ranges serves names of every kind.
+ghost use Rattle.std.specs.Prelude.{◌≡◌, nat_le};
+ghost use Rattle.catalogue_join.specs.Span.{Shape, IsShape, apart};
+
+/// A range of names that lie side by side, its first and its last name included.
+pub trait Span: Copy {
+    ghost shape: { Shape Self };
+
+    /// Whether this range ends, and leaves a name free, before `other` begins.
+    fn ends_before(self, other: Self) -> bool
+        ensures { result ≡ apart shape self other };
+
+    /// Whether this range begins where `other` does or before.
+    fn begins_by(self, other: Self) -> bool
+        ensures { result ≡ nat_le (shape.low self) (shape.low other) };
+
+    /// Whether this range ends where `other` begins or after.
+    fn reaches(self, other: Self) -> bool
+        ensures { result ≡ nat_le (shape.low other) (shape.high self) };
+
+    /// The range from where the earlier one begins to where the later one ends, for two that touch.
+    fn hull(self, other: Self) -> Self
+        ensures { result ≡ shape.hull self other };
+
+    ghost law: { IsShape shape };
+}

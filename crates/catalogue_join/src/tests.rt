@@ -1,0 +1,139 @@
+//! Sets in use: what the contracts cannot say is that memory suffices, so each call that takes some is made here.
+ghost use Rattle.std.specs.Prelude.{◌≡◌};
+
+use crate::{Held, Tombs};
+use std::alloc::{AllocError, Global};
+use std::test::Fail;
+use table_model::{BatchName, Number, Origin, RowName};
+
+fn batch(origin: u32, number: u32) -> BatchName
+    ensures { result ≡ record { origin = record { 0 = origin }; number = record { 0 = number } } }
+{
+    BatchName {
+        origin: Origin(origin),
+        number: Number(number),
+    }
+}
+
+fn row(number: u32, ordinal: u16) -> RowName
+    ensures { result ≡ record { batch = record { origin = record { 0 = 1 }; number = record { 0 = number } }; ordinal = ordinal } }
+{
+    RowName {
+        batch: batch(1, number),
+        ordinal,
+    }
+}
+
+// The names of origin 1 with these numbers, each at least 1.
+fn held_of(alloc: Global, numbers: &[u32]) -> Result<Held, AllocError> {
+    let mut held = Held::new(alloc);
+    for number in numbers {
+        if *number > 0 {
+            held.insert(batch(1, *number))?;
+        }
+    }
+    Ok(held)
+}
+
+// The numbers of a set's names in order.
+fn numbers_of(alloc: Global, held: &Held) -> Result<Vec<u32>, AllocError> {
+    let mut numbers = Vec::new(alloc);
+    for index in 0..held.len() {
+        numbers.push(held.name(index).number.0)?;
+    }
+    Ok(numbers)
+}
+
+// Worked out by hand: names in ascending order, the front of origin 1, and what a set with 1.1 alone lacks of them.
+#[test]
+fn a_front_rises_exactly_over_gapless_numbers(rt: HostRuntime) -> Result<(), Fail> {
+    let alloc = rt.alloc();
+    let one = held_of(alloc, &[1])?;
+    for (inserted, names, front, missing) in [
+        ([3, 1, 1], [1, 3].as_slice(), 1, [3].as_slice()),
+        ([3, 1, 2], [1, 2, 3].as_slice(), 3, [2, 3].as_slice()),
+        ([5, 4, 2], [2, 4, 5].as_slice(), 0, [2, 4, 5].as_slice()),
+    ] {
+        let held = held_of(alloc, &inserted)?;
+        let numbers = numbers_of(alloc, &held)?;
+        assert_eq!(rt; numbers.as_slice(), names);
+        assert_eq!(rt; held.front(Origin(1)), front);
+        assert_eq!(rt; held.front(Origin(2)), 0);
+        assert!(rt; held.holds(batch(1, 5)) == names.contains(&5));
+        let mut lacked = Vec::new(alloc);
+        for name in &held.missing_from(&one)? {
+            lacked.push(name.number.0)?;
+        }
+        assert_eq!(rt; lacked.as_slice(), missing);
+    }
+    Ok(())
+}
+
+// Worked out by hand.
+#[test]
+fn a_join_has_the_names_of_both(rt: HostRuntime) -> Result<(), Fail> {
+    let alloc = rt.alloc();
+    let mut held = held_of(alloc, &[1, 3])?;
+    let other = held_of(alloc, &[2, 1])?;
+    let both = held.joined(&other)?;
+    held.join(&other)?;
+    for joined in [&both, &held] {
+        let numbers = numbers_of(alloc, joined)?;
+        assert_eq!(rt; numbers.as_slice(), [1, 2, 3].as_slice());
+    }
+    Ok(())
+}
+
+// Worked out by hand: two sets of ranges of batch 1.1, given by first and last ordinals, and the ranges of their join.
+#[test]
+fn ranges_that_touch_are_one(rt: HostRuntime) -> Result<(), Fail> {
+    let alloc = rt.alloc();
+    for (ours, others, ranges) in [
+        ((0, 4), (5, 9), [(0, 9)].as_slice()),
+        ((0, 4), (6, 9), [(0, 4), (6, 9)].as_slice()),
+        ((6, 9), (0, 7), [(0, 9)].as_slice()),
+        ((65535, 65535), (0, 65534), [(0, 65535)].as_slice()),
+    ] {
+        let mut tombs = tombs_of(alloc, ours)?;
+        let other = tombs_of(alloc, others)?;
+        let both = tombs.joined(&other)?;
+        tombs.join(&other)?;
+        for joined in [&both, &tombs] {
+            let mut ordinals = Vec::new(alloc);
+            for (first, last) in joined.ranges() {
+                ordinals.push((first.ordinal, *last))?;
+            }
+            assert_eq!(rt; ordinals.as_slice(), ranges);
+            assert!(rt; joined.holds(row(1, ranges[0].1)));
+            assert!(rt; !joined.holds(row(2, ranges[0].1)));
+        }
+    }
+    Ok(())
+}
+
+// The rows of batch 1.1 from a first to a last ordinal, and one of batch 1.3.
+fn tombs_of(alloc: Global, (first, last): (u16, u16)) -> Result<Tombs, AllocError> {
+    let mut tombs = Tombs::new(alloc);
+    if first <= last {
+        tombs.insert(row(1, first), last)?;
+    }
+    Ok(tombs)
+}
+
+// Worked out by hand: of 1,030 rows of batch 1.1 the rows 3 to 1,026 are deleted, and how many are live in each vector.
+#[test]
+fn rows_that_are_not_deleted_are_live(rt: HostRuntime) -> Result<(), Fail> {
+    let tombs = tombs_of(rt.alloc(), (3, 1026))?;
+    for (number, vector, rows, live) in [
+        (1, 0, 1024, 3),
+        (1, 1, 6, 3),
+        (1, 2, 0, 0),
+        (2, 0, 1024, 1024),
+    ] {
+        let mask = tombs.live_mask(batch(1, number), vector, rows);
+        assert_eq!(rt; mask.count(), live, "batch 1.{number}, vector {vector}");
+    }
+    assert!(rt; tombs.live_mask(batch(1, 1), 1, 6).get(3));
+    assert!(rt; !tombs.live_mask(batch(1, 1), 1, 6).get(2));
+    Ok(())
+}

@@ -1,0 +1,125 @@
+//! Deleted rows: a set of row names, kept as its maximal ranges.
+ghost use Rattle.std.specs.Prelude.{◌≡◌, ◌≤◌, ◌<◌, ◌+◌, ◌&&◌, not, nat_le, OnOk, OnErr, IfOk, IsTrue, List};
+ghost use Rattle.std.specs.FinSet as set;
+ghost use Rattle.table_model.specs.Name.{is_proper_name};
+ghost use Rattle.transpose_order.specs.Mask.{rows_of, has};
+ghost use Rattle.catalogue_join.specs.LiveMask.{is_live};
+ghost use Rattle.catalogue_join.specs.RowRange.{rows_in, rows_between, AreMaximal, RowRange};
+
+use crate::ranges::Ranges;
+use std::alloc::{AllocError, Global};
+use std::marker::Model;
+use table_model::{BatchName, RowName};
+use transpose_order::Mask;
+
+/// The names of deleted rows, held or not: a set of row names.
+#[derive(Drop)]
+pub struct Tombs {
+    ranges: Ranges<(RowName, u16)>,
+}
+
+impl Model for Tombs {
+    ghost use Rattle.std.specs.FinSet as set;
+    ghost use Rattle.table_model.specs.Name.{row_name_cmp, coded_row_name};
+    ghost use Rattle.catalogue_join.specs.Span.{Rises};
+    ghost use Rattle.catalogue_join.specs.RowRange.{rows_in, row_range_shape};
+
+    ghost Value = { set.FinSet row_name_cmp };
+
+    ghost coded = { set.code coded_row_name };
+
+    ghost view = { λ t. rows_in t.ranges };
+
+    ghost invariant = { λ t. Rises row_range_shape 0 t.ranges };
+}
+
+impl Tombs {
+    /// The set without rows. It takes no memory, and keeps the allocator for its own methods.
+    pub fn new(alloc: Global) -> Self
+        ensures { result ≡ set.empty }
+    {
+        Tombs {
+            ranges: Ranges::new(alloc),
+        }
+    }
+
+    /// Whether the row is in the set.
+    pub fn holds(&self, row: RowName) -> bool
+        ensures { result ≡ set.contains self.now row }
+    {
+        self.ranges.find((row, row.ordinal)).is_some()
+    }
+
+    /// Adds the rows of a batch from `first` to the ordinal `last`. Where memory is refused the set is as before.
+    pub fn insert(&mut self, first: RowName, last: u16) -> Result<(), AllocError>
+        requires proper { IsTrue (is_proper_name first.batch) }
+        requires not_empty { first.ordinal ≤ last }
+        ensures ok { OnOk result (self.new ≡ set.union self.old (set.from_list (rows_between first last))) }
+        ensures err { OnErr result (self.new ≡ self.old) }
+    {
+        self.ranges.insert((first, last))
+    }
+
+    /// The rows of both sets.
+    pub fn joined(&self, other: &Tombs) -> Result<Tombs, AllocError>
+        ensures { IfOk result (λ both. both ≡ set.union self.now other.now) }
+    {
+        Ok(Tombs {
+            ranges: self.ranges.joined(&other.ranges)?,
+        })
+    }
+
+    /// Adds the rows of another set. Where memory is refused the set is as before.
+    pub fn join(&mut self, other: &Tombs) -> Result<(), AllocError>
+        ensures ok { OnOk result (self.new ≡ set.union self.old other.now) }
+        ensures err { OnErr result (self.new ≡ self.old) }
+    {
+        *self = self.joined(other)?;
+        Ok(())
+    }
+
+    /// The set's maximal ranges, ascending: each is its first row and the ordinal of its last.
+    pub fn ranges(&self) -> &[(RowName, u16)]
+        ensures rows { rows_in result.now ≡ self.now }
+        ensures maximal { AreMaximal result.now }
+
+        // No other list of maximal ranges has the same rows.
+        ensures only { (ranges : List RowRange) → AreMaximal ranges → rows_in ranges ≡ self.now → ranges ≡ result.now }
+    {
+        self.ranges.as_slice()
+    }
+
+    /// The live rows of a vector of a batch that covers `rows` rows, at most 1024: those whose names are not in the
+    /// set. Row `n` of the vector has the ordinal `1024 * vector + n`.
+    pub fn live_mask(&self, batch: BatchName, vector: usize, rows: usize) -> Mask
+        requires vector { vector < 64 }
+        requires rows { rows ≤ 1024 }
+        ensures { result ≡ rows_of (is_live self.now batch vector rows) }
+    {
+        let mut live = Mask::none();
+        live.set_range(0, rows, true);
+        let start = 1024 * vector;
+        let first = RowName {
+            batch,
+            ordinal: start as u16,
+        };
+        for deleted in self.ranges.overlapping((first, first.ordinal + 1023)) {
+            clear(&mut live, *deleted, start);
+        }
+        live
+    }
+}
+
+// Sets the deleted rows of a vector to false, whose first row has the ordinal `start`.
+fn clear(live: &mut Mask, deleted: (RowName, u16), start: usize)
+    requires begun { deleted.0.ordinal ≤ start + 1023 }
+    requires reached { start ≤ deleted.1 }
+    requires not_empty { deleted.0.ordinal ≤ deleted.1 }
+    requires within { start < 65536 }
+    ensures { live.new ≡ rows_of (λ n. has live.old n
+        && not (nat_le deleted.0.ordinal (start + n) && nat_le (start + n) deleted.1)) }
+{
+    let from = usize::from(deleted.0.ordinal).max(start);
+    let end = (usize::from(deleted.1) + 1).min(start + 1024);
+    live.set_range(from - start, end - start, false);
+}

@@ -1,0 +1,9 @@
+pub mod Conflicts
+pub mod Counts
+pub mod Limits
+pub mod Maps
+pub mod MergeAnswers
+pub mod Merges
+pub mod Names
+pub mod Numbers
+pub mod Places

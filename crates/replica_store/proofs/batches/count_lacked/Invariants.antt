@@ -1,0 +1,10 @@
+-- The count so far, and that of the batches that are left, are all.
+use Rattle.std.proofs.Common.{◌≡◌, ◌+◌, ◌≤◌, length, drop}
+use Rattle.replica_store.specs.Replica.{lacked_by}
+use Rattle.replica_store.proofs.batches.count_lacked.Given as goal
+
+abbrev pub invariant-loop-name : goal.invariant-loop-name
+invariant-loop-name l = record {
+  counted : l.count + length (lacked_by l.ours (drop l.name-index l.theirs)) ≡ length (lacked_by l.ours l.theirs);
+  below : l.count ≤ l.name-index;
+}

@@ -1,0 +1,280 @@
+//! The batches of a replica: a vector in ascending order of name.
+ghost use Rattle.std.specs.Prelude.{◌≡◌, ◌+◌, ◌≤◌, T, [], ◌∷◌, ◌++◌, length, reverse, nat_lt, None, IsNone, IsTrue, OnOk, OnErr, IfOk, vec_len, vec_capacity};
+ghost use Rattle.std.specs.Option.{option_copied, option_to_list};
+ghost use Rattle.std.specs.FinMap as map;
+ghost use Rattle.table_model.specs.Name.{name_cmp, is_proper_name};
+ghost use Rattle.replica_store.specs.Entries.{count_below, merge, takes_first};
+ghost use Rattle.replica_store.specs.Replica.{greatest_number, differs, conflict_with, lacked_by};
+ghost use Rattle.table_model.specs.State.{union_of};
+
+use catalogue_join::Held;
+use std::alloc::{AllocError, Global};
+use std::marker::Model;
+use std::mem;
+use table_model::{BatchName, Origin, Rows, same_rows};
+
+/// The batches by name, and the set of the names. Contracts see them as a finite map from names to lists of rows.
+#[derive(Drop)]
+pub(crate) struct Batches {
+    entries: Vec<(BatchName, Rows)>,
+    held: Held,
+}
+
+impl Model for Batches {
+    ghost use Rattle.std.specs.FinMap as map;
+    ghost use Rattle.table_model.specs.Name.{name_cmp, coded_name};
+    ghost use Rattle.table_model.specs.State.{Batch, coded_batch};
+    ghost use Rattle.replica_store.specs.Replica.{AreKept};
+
+    ghost Value = { map.FinMap name_cmp Batch };
+
+    ghost coded = { map.code coded_name coded_batch };
+
+    ghost view = { λ b. map.from_sorted b.entries.items };
+
+    ghost invariant = { λ b. AreKept b.entries.items b.held };
+}
+
+impl Batches {
+    /// No batch.
+    pub fn new(alloc: Global) -> Batches
+        ensures { result ≡ map.empty }
+    {
+        Batches {
+            entries: Vec::new(alloc),
+            held: Held::new(alloc),
+        }
+    }
+
+    /// How many batches there are.
+    pub fn len(&self) -> usize
+        ensures { result ≡ map.len self.now }
+    {
+        self.entries.len()
+    }
+
+    /// The batches, in ascending order of name.
+    pub fn entries(&self) -> &[(BatchName, Rows)]
+        ensures { result.now ≡ map.entries self.now }
+    {
+        self.entries.as_slice()
+    }
+
+    /// The rows of a batch, if there is one of that name. It takes a binary search.
+    pub fn get(&self, name: BatchName) -> Option<&Rows>
+        ensures { option_copied result ≡ map.get self.now name }
+    {
+        found(self.entries.as_slice(), name)
+    }
+
+    /// Whether there is a batch of this name. It takes a search among the runs of names.
+    pub fn holds(&self, name: BatchName) -> bool
+        ensures { result ≡ map.contains_key self.now name }
+    {
+        self.held.holds(name)
+    }
+
+    /// The greatest number of an origin, or 0. It takes a binary search.
+    pub fn greatest_number(&self, own: Origin) -> u32
+        ensures { result ≡ greatest_number own (map.entries self.now) }
+    {
+        last_number(self.entries.as_slice(), own)
+    }
+
+    /// Whether the batch of this name has other rows.
+    fn differs(&self, name: BatchName, rows: &Rows) -> bool
+        ensures { result ≡ differs (map.get self.now name) rows.now }
+    {
+        match self.get(name) {
+            None => false,
+            Some(held) => !same_rows(held.as_slice(), rows.as_slice()),
+        }
+    }
+
+    /// The first of the other batches that has other rows here under its name.
+    pub fn conflict_with(&self, other: &Batches) -> Option<BatchName>
+        ensures { result ≡ conflict_with self.now (map.entries other.now) }
+    {
+        first_conflict(self, other.entries())
+    }
+
+    /// Whether the union with the others has more batches than this.
+    pub fn union_exceeds(&self, other: &Batches, limit: usize) -> bool
+        ensures { result ≡ nat_lt limit (map.len (union_of self.now other.now)) }
+    {
+        self.len() > limit || count_lacked(self, other.entries()) > limit - self.len()
+    }
+
+    /// Takes in copies of the other's batches whose names aren't here. It takes as many steps as there are batches on both sides.
+    pub fn join(&mut self, alloc: Global, other: &Batches) -> Result<(), AllocError>
+        ensures ok { OnOk result (self.new ≡ union_of self.old other.now) }
+        ensures err { OnErr result (self.new ≡ self.old) }
+    {
+        let fresh = copies_lacked(alloc, self, other.entries())?;
+        let room = Vec::with_capacity(alloc, self.entries.len().saturating_add(fresh.len()))?;
+        let held = self.held.joined(&other.held)?;
+        let ours = mem::replace(&mut self.entries, Vec::new(alloc));
+        self.entries = merged(ours, fresh, room);
+        self.held = held;
+        Ok(())
+    }
+
+    /// Puts in a batch of a proper name that isn't there.
+    pub fn insert(&mut self, name: BatchName, rows: Rows) -> Result<(), AllocError>
+        requires proper { IsTrue (is_proper_name name) }
+        requires new { map.get self.old name ≡ None }
+        ensures ok { OnOk result (self.new ≡ map.insert self.old name rows) }
+        ensures err { OnErr result (self.new ≡ self.old) }
+    {
+        self.entries.reserve(1)?;
+        self.held.insert(name)?;
+        let at = place(self.entries.as_slice(), name);
+        let _ = self.entries.insert(at, (name, rows));
+        Ok(())
+    }
+}
+
+/// How many of the batches have names below this one: the place where it is, or where it would go.
+fn place(entries: &[(BatchName, Rows)], name: BatchName) -> usize
+    requires { T (map.is_sorted name_cmp entries.now) }
+    ensures { result ≡ count_below name_cmp name entries.now }
+{
+    entries.partition_point(|entry| entry.0 < name)
+}
+
+/// The greatest number of the origin: that of the last batch whose origin isn't greater, if it is this one.
+fn last_number(entries: &[(BatchName, Rows)], own: Origin) -> u32
+    requires { T (map.is_sorted name_cmp entries.now) }
+    ensures { result ≡ greatest_number own entries.now }
+{
+    let (up_to, _) = entries.split_at(entries.partition_point(|entry| entry.0.origin.0 <= own.0));
+    match up_to.split_last() {
+        None => 0,
+        Some((last, _)) => {
+            if last.0.origin.0 == own.0 {
+                last.0.number.0
+            } else {
+                0
+            }
+        }
+    }
+}
+
+/// The first of these batches that has other rows among ours.
+fn first_conflict(ours: &Batches, theirs: &[(BatchName, Rows)]) -> Option<BatchName>
+    ensures { result ≡ conflict_with ours.now theirs.now }
+{
+    for (name, rows) in theirs {
+        if ours.differs(*name, rows) {
+            return Some(*name);
+        }
+    }
+    None
+}
+
+/// How many of these batches have names that aren't among ours.
+fn count_lacked(ours: &Batches, theirs: &[(BatchName, Rows)]) -> usize
+    ensures { result ≡ length (lacked_by ours.now theirs.now) }
+{
+    let mut count = 0;
+    for (name, _) in theirs {
+        if !ours.holds(*name) {
+            count += 1;
+        }
+    }
+    count
+}
+
+/// Copies of these batches whose names aren't among ours, in their order.
+fn copies_lacked(
+    alloc: Global,
+    ours: &Batches,
+    theirs: &[(BatchName, Rows)],
+) -> Result<Vec<(BatchName, Rows)>, AllocError>
+    ensures { IfOk result (λ copies. copies.items ≡ lacked_by ours.now theirs.now) }
+{
+    let mut copies = Vec::new(alloc);
+    for (name, rows) in theirs {
+        push_lacked(alloc, ours, *name, rows, &mut copies)?;
+    }
+    Ok(copies)
+}
+
+/// Puts a copy of the batch at the end, unless its name is among ours.
+fn push_lacked(
+    alloc: Global,
+    ours: &Batches,
+    name: BatchName,
+    rows: &Rows,
+    copies: &mut Vec<(BatchName, Rows)>,
+) -> Result<(), AllocError>
+    ensures { OnOk result (copies.new.items ≡ copies.old.items ++ lacked_by ours.now ((name, rows.now) ∷ [])) }
+{
+    if !ours.holds(name) {
+        copies.push((name, Rows::copy_of(alloc, rows.as_slice())?))?;
+    }
+    Ok(())
+}
+
+/// The batches of both vectors, which are in order, as one in order. There is room for them.
+fn merged(
+    mut ours: Vec<(BatchName, Rows)>,
+    mut fresh: Vec<(BatchName, Rows)>,
+    mut room: Vec<(BatchName, Rows)>,
+) -> Vec<(BatchName, Rows)>
+    requires empty { room.items ≡ [] }
+    requires fits { vec_len ours + vec_len fresh ≤ vec_capacity room }
+    ensures { result.items ≡ merge name_cmp ours.items fresh.items }
+{
+    ours.reverse();
+    fresh.reverse();
+    while let Some(next) = pop_lesser(&mut ours, &mut fresh) {
+        room.push_reserved(next);
+    }
+    room
+}
+
+/// Takes the lesser of the last batches of both vectors.
+fn pop_lesser(
+    ours: &mut Vec<(BatchName, Rows)>,
+    fresh: &mut Vec<(BatchName, Rows)>,
+) -> Option<(BatchName, Rows)>
+    ensures rest { merge name_cmp (reverse ours.old.items) (reverse fresh.old.items) ≡ option_to_list result ++ merge name_cmp (reverse ours.new.items) (reverse fresh.new.items) }
+    ensures fewer { length (option_to_list result) + (vec_len ours.new + vec_len fresh.new) ≡ vec_len ours.old + vec_len fresh.old }
+    ensures last { IsNone result → vec_len ours.old + vec_len fresh.old ≡ 0 }
+{
+    if takes_first(ours.as_slice(), fresh.as_slice()) {
+        ours.pop()
+    } else {
+        fresh.pop()
+    }
+}
+
+/// Whether the last of our batches is the next one.
+fn takes_first(ours: &[(BatchName, Rows)], fresh: &[(BatchName, Rows)]) -> bool
+    ensures { result ≡ takes_first name_cmp (reverse ours.now) (reverse fresh.now) }
+{
+    match (ours.split_last(), fresh.split_last()) {
+        (None, _) => false,
+        (Some(_), None) => true,
+        (Some((our_last, _)), Some((fresh_last, _))) => our_last.0.cmp(&fresh_last.0).is_lt(),
+    }
+}
+
+/// The rows of the batch of this name.
+fn found(entries: &[(BatchName, Rows)], name: BatchName) -> Option<&Rows>
+    requires { T (map.is_sorted name_cmp entries.now) }
+    ensures { option_copied result ≡ map.find name_cmp name entries.now }
+{
+    let (_, from_place) = entries.split_at(place(entries, name));
+    match from_place.split_first() {
+        None => None,
+        Some((first, _)) => {
+            if name.cmp(&first.0).is_eq() {
+                Some(&first.1)
+            } else {
+                None
+            }
+        }
+    }
+}

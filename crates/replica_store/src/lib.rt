@@ -1,0 +1,14 @@
+//! Replicas of a table: batches that come by append, insert and merge, and rows that are deleted.
+#![tactic(auto)]
+
+mod batches;
+mod inserted;
+mod laws;
+mod store;
+
+pub use inserted::Inserted;
+pub use laws::{keeping_laws, merge_laws};
+pub use store::{MAX_BATCHES, Store};
+
+#[cfg(test)]
+mod tests;

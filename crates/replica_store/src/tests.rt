@@ -1,0 +1,318 @@
+//! Stores at values worked out by hand from the rules of names, refusals, states and merges.
+use super::*;
+use std::alloc::{AllocError, Global};
+use std::test::Fail;
+use table_model::{BatchName, ColType, Number, Origin, Refusal, Row, RowName, Schema};
+
+/// A batch of the tests: its origin, its number, and the one cell of each row.
+type OneColumn<'a> = (u32, u32, &'a [i128]);
+
+/// Deleted rows of the tests: the batch's origin and number, and the first and the last ordinal.
+type Deleted = (u32, u32, u16, u16);
+
+/// What a replica is told.
+#[derive(Clone, Copy)]
+enum Told {
+    Batch(u32, u32, &'static [i128]),
+    Deletion(u32, u32, u16, u16),
+}
+
+fn name(origin: u32, number: u32) -> BatchName {
+    BatchName {
+        origin: Origin(origin),
+        number: Number(number),
+    }
+}
+
+fn row_name(origin: u32, number: u32, ordinal: u16) -> RowName {
+    RowName {
+        batch: name(origin, number),
+        ordinal,
+    }
+}
+
+fn rows_of(alloc: Global, values: &[i128]) -> Result<Vec<Row>, AllocError> {
+    let mut rows = Vec::with_capacity(alloc, values.len())?;
+    for value in values {
+        rows.push(Row::from_cells(Vec::from_slice(alloc, &[Some(*value)])?))?;
+    }
+    Ok(rows)
+}
+
+fn many_rows(alloc: Global, count: usize) -> Result<Vec<Row>, AllocError> {
+    let mut rows = Vec::with_capacity(alloc, count)?;
+    for _ in 0..count {
+        rows.push(Row::from_cells(Vec::from_slice(alloc, &[None])?))?;
+    }
+    Ok(rows)
+}
+
+fn store_with(alloc: Global, own: u32, column_type: ColType) -> Result<Store, Refusal> {
+    let schema = Schema::new(alloc, "T", &[("A", column_type)])?;
+    Store::new(alloc, &schema, Origin(own))
+}
+
+fn store_of(alloc: Global, own: u32) -> Result<Store, Refusal> {
+    store_with(alloc, own, ColType::BigInt)
+}
+
+fn insert(alloc: Global, store: &mut Store, batch: OneColumn<'_>) -> Result<Inserted, Refusal> {
+    let rows = rows_of(alloc, batch.2)?;
+    store.insert(alloc, name(batch.0, batch.1), rows.as_slice())
+}
+
+fn delete(alloc: Global, store: &mut Store, rows: Deleted) -> Result<(), Refusal> {
+    store.delete(alloc, row_name(rows.0, rows.1, rows.2), rows.3)
+}
+
+fn tell(alloc: Global, store: &mut Store, told: &[Told]) -> Result<(), Refusal> {
+    for step in told {
+        match *step {
+            Told::Batch(origin, number, values) => {
+                let _ = insert(alloc, store, (origin, number, values))?;
+            }
+            Told::Deletion(origin, number, first, last) => delete(
+                alloc,
+                store,
+                (origin, number, first, last),
+            )?,
+        }
+    }
+    Ok(())
+}
+
+fn told_store(alloc: Global, own: u32, told: &[Told]) -> Result<Store, Refusal> {
+    let mut store = store_of(alloc, own)?;
+    tell(alloc, &mut store, told)?;
+    Ok(store)
+}
+
+fn has_rows(rows: &[Row], values: &[i128]) -> bool {
+    for (row, value) in rows.iter().zip(values) {
+        if row.cells() != [Some(*value)].as_slice() {
+            return false;
+        }
+    }
+    rows.len() == values.len()
+}
+
+fn has_batch(store: &Store, index: usize, batch: OneColumn<'_>) -> bool {
+    if index >= store.batches() {
+        return false;
+    }
+    let (found, rows) = store.batch(index);
+    found == name(batch.0, batch.1) && has_rows(rows, batch.2)
+}
+
+/// Whether these are the batches of the store, in their order.
+fn has_batches(store: &Store, batches: &[OneColumn<'_>]) -> bool {
+    for (index, batch) in batches.iter().enumerate() {
+        if !has_batch(store, index, *batch) {
+            return false;
+        }
+    }
+    store.batches() == batches.len()
+}
+
+/// Whether these are the store's deletions, as maximal ranges in their order.
+fn has_deleted(store: &Store, deleted: &[Deleted]) -> bool {
+    for (range, want) in store.tombs().ranges().iter().zip(deleted) {
+        if *range != (row_name(want.0, want.1, want.2), want.3) {
+            return false;
+        }
+    }
+    store.tombs().ranges().len() == deleted.len()
+}
+
+/// Whether these are the store's batches and deletions, each in order, and how many of its rows are live.
+fn is_state(store: &Store, batches: &[OneColumn<'_>], deleted: &[Deleted], live: u64) -> bool {
+    has_batches(store, batches) && has_deleted(store, deleted) && store.live_count() == live
+}
+
+/// Our store after a merge of theirs, and what the merge answered.
+fn merged_store(
+    alloc: Global,
+    ours: &[Told],
+    theirs: &[Told],
+) -> Result<(Result<(), Refusal>, Store), Refusal> {
+    let mut store = told_store(alloc, 1, ours)?;
+    let other = told_store(alloc, 2, theirs)?;
+    let answer = store.merge(alloc, &other);
+    Ok((answer, store))
+}
+
+type Merge<'a> = (
+    &'a [Told],
+    &'a [Told],
+    Result<(), Refusal>,
+    &'a [OneColumn<'a>],
+    &'a [Deleted],
+    u64,
+);
+
+// The first case conflicts under 2.1 and 3.1, and nothing comes; in the second a deletion comes before its batch; in the
+// last the states are made of the same operations in another order, with repeats.
+#[test]
+fn a_merge_joins_states_or_names_the_least_conflict(rt: HostRuntime) -> Result<(), Fail> {
+    let cases: [Merge<'_>; 4] = [
+        (
+            &[
+                Told::Batch(3, 1, &[3]),
+                Told::Batch(2, 1, &[2]),
+                Told::Batch(1, 2, &[1]),
+            ],
+            &[
+                Told::Batch(1, 1, &[9]),
+                Told::Batch(3, 1, &[8]),
+                Told::Batch(2, 1, &[2, 2]),
+                Told::Deletion(1, 2, 0, 0),
+            ],
+            Err(Refusal::Conflict(name(2, 1))),
+            &[(1, 2, &[1]), (2, 1, &[2]), (3, 1, &[3])],
+            &[],
+            3,
+        ),
+        (
+            &[Told::Deletion(2, 1, 1, 9)],
+            &[Told::Batch(2, 1, &[20, 21, 22])],
+            Ok(()),
+            &[(2, 1, &[20, 21, 22])],
+            &[(2, 1, 1, 9)],
+            1,
+        ),
+        (
+            &[Told::Deletion(1, 1, 0, 4), Told::Deletion(1, 2, 7, 7)],
+            &[Told::Deletion(1, 1, 5, 9), Told::Deletion(1, 2, 5, 5)],
+            Ok(()),
+            &[],
+            &[(1, 1, 0, 9), (1, 2, 5, 5), (1, 2, 7, 7)],
+            0,
+        ),
+        (
+            &[
+                Told::Batch(1, 1, &[10, 11]),
+                Told::Deletion(3, 1, 1, 2),
+                Told::Batch(3, 1, &[30, 31]),
+            ],
+            &[
+                Told::Batch(3, 1, &[30, 31]),
+                Told::Deletion(3, 1, 2, 2),
+                Told::Batch(1, 1, &[10, 11]),
+                Told::Deletion(3, 1, 1, 1),
+            ],
+            Ok(()),
+            &[(1, 1, &[10, 11]), (3, 1, &[30, 31])],
+            &[(3, 1, 1, 2)],
+            3,
+        ),
+    ];
+    for (ours, theirs, want, batches, deleted, live) in cases {
+        let (answer, store) = merged_store(rt.alloc(), ours, theirs)?;
+        assert!(rt;
+            answer == want && is_state(&store, batches, deleted, live),
+            "merged {answer:?}"
+        );
+    }
+    Ok(())
+}
+
+/// What an append answers after these inserts.
+fn appended_name(alloc: Global, told: &[Told]) -> Result<BatchName, Refusal> {
+    let mut store = told_store(alloc, 7, told)?;
+    let rows = rows_of(alloc, &[0])?;
+    store.append(alloc, rows.as_slice())
+}
+
+// One more than the greatest number that is held of the own origin, else 1; the last number is 4,294,967,295.
+#[test]
+fn an_append_is_named_after_the_greatest_number_of_the_own_origin(
+    rt: HostRuntime,
+) -> Result<(), Fail> {
+    let cases: [(&[Told], Result<BatchName, Refusal>); 5] = [
+        (&[], Ok(name(7, 1))),
+        (
+            &[
+                Told::Batch(7, 5, &[1]),
+                Told::Batch(8, 9, &[1]),
+                Told::Batch(7, 2, &[1]),
+            ],
+            Ok(name(7, 6)),
+        ),
+        (&[Told::Batch(8, 9, &[1])], Ok(name(7, 1))),
+        (
+            &[Told::Batch(7, 4_294_967_294, &[1])],
+            Ok(name(7, 4_294_967_295)),
+        ),
+        (
+            &[Told::Batch(7, 4_294_967_295, &[1])],
+            Err(Refusal::NumbersSpent),
+        ),
+    ];
+    for (told, want) in cases {
+        let answer = appended_name(rt.alloc(), told);
+        assert!(rt; answer == want, "answered {answer:?}");
+    }
+    Ok(())
+}
+
+/// What an insert of so many nulls under this name answers beside the batch 2.1 of one null.
+fn inserted_nulls(alloc: Global, name: BatchName, count: usize) -> Result<Inserted, Refusal> {
+    let mut store = store_of(alloc, 1)?;
+    let one = many_rows(alloc, 1)?;
+    let _ = store.insert(
+        alloc,
+        BatchName {
+            origin: Origin(2),
+            number: Number(1),
+        },
+        one.as_slice(),
+    )?;
+    let rows = many_rows(alloc, count)?;
+    store.insert(alloc, name, rows.as_slice())
+}
+
+// A batch has 1 to 65,536 rows; the faults of rows come before those of a name, and these before a conflict.
+#[test]
+fn an_insert_answers_the_first_refusal_in_order(rt: HostRuntime) -> Result<(), Fail> {
+    let cases = [
+        (0, 0, 0, Err(Refusal::EmptyBatch)),
+        (0, 0, 65_537, Err(Refusal::BatchTooLong)),
+        (0, 1, 1, Err(Refusal::BadName)),
+        (2, 0, 1, Err(Refusal::BadName)),
+        (2, 1, 2, Err(Refusal::Conflict(name(2, 1)))),
+        (2, 1, 1, Ok(Inserted::Already)),
+        (2, 2, 65_536, Ok(Inserted::New)),
+    ];
+    for (origin, number, count, want) in cases {
+        let answer = inserted_nulls(rt.alloc(), name(origin, number), count);
+        assert!(rt; answer == want, "answered {answer:?}");
+    }
+    Ok(())
+}
+
+/// A store of 65,536 batches of one row.
+fn full_store(alloc: Global) -> Result<Store, Refusal> {
+    let mut store = store_of(alloc, 1)?;
+    let rows = rows_of(alloc, &[3])?;
+    for _ in 0..65_536 {
+        let _ = store.append(alloc, rows.as_slice())?;
+    }
+    Ok(store)
+}
+
+// A name that is held is answered before the limit of 65,536 batches.
+#[test]
+fn a_store_of_65_536_batches_is_full(rt: HostRuntime) -> Result<(), Fail> {
+    let mut store = full_store(rt.alloc())?;
+    let cases = [
+        (2, 1, 3, Err(Refusal::Full)),
+        (1, 9, 3, Ok(Inserted::Already)),
+        (1, 9, 4, Err(Refusal::Conflict(name(1, 9)))),
+    ];
+    for (origin, number, value, want) in cases {
+        let answer = insert(rt.alloc(), &mut store, (origin, number, &[value]));
+        assert!(rt; answer == want, "answered {answer:?}");
+    }
+    assert!(rt; store.batches() == 65_536 && store.live_count() == 65_536);
+    Ok(())
+}

@@ -1,0 +1,322 @@
+-- A code is a place among ascending values, so packed and unpacked codes look up the values that they were made of.
+use Rattle.std.proofs.Common.{◌≡◌, ℕ, zero, suc, ◌+◌, ◌-◌, ◌*◌, ◌/◌, ◌%◌, ◌^◌, ◌<◌, ◌≤◌, Bool, true, false, cond, int_lt, ℤ, pos, FitsSigned, ◌<ℤ◌, ◌≤ℤ◌, List, [], ◌∷◌, map, length, take, replicate, get_or, Contains, ◌⊎◌, inl, inr, sym, ap, ◌∙◌, refl, subst, arith}
+use Rattle.std.specs.List.{All}
+use Rattle.std.specs.Ordering.{int_eq, int_cmp, is_eq, ordering_index}
+use Rattle.std.specs.List.Sorted.{IsNonDecreasingBy, IsPartitionPoint}
+use Rattle.std.specs.declared.cmp.Ordering.TheVariants.{Less, Equal, Greater}
+use Rattle.std.proofs.lemmas.Int.{ints}
+use Rattle.std.proofs.lemmas.Bool.{cases_lt, false_from_ne_true, false≢true}
+use Rattle.std.proofs.lemmas.Bool.Decides.{Decides-int_eq}
+use Rattle.std.proofs.lemmas.List.{length-map, get_or_default, get_or-take, length-take}
+use Rattle.std.proofs.Math.ListN.{get_or-map}
+use Rattle.std.proofs.lemmas.List.Elements.{All-from_get_or}
+use Rattle.std.proofs.lemmas.Grind.{same_number_lists}
+use Rattle.std.proofs.lemmas.List.Sums.{position_or_len_is}
+use Rattle.transpose_order.specs.Mask.{rows_of}
+use Rattle.transpose_order.specs.MaskWords.{get_or-rows_of, length-rows_of}
+use Rattle.transpose_order.specs.Place.{IsLaneWidth, lane_of, step_of}
+use Rattle.bit_interleave.specs.Arithmetic.{least_width, integer_width}
+use Rattle.bit_interleave.specs.Packing.{packed_value, packed, unpacked, sixteen_of}
+use Rattle.bit_interleave.proofs.SixteenLemmas.{get_or-sixteen_of}
+use Rattle.bit_interleave.specs.PackedWords.{words_packing}
+use Rattle.bit_interleave.proofs.ValueLemmas.{length-unpacked, get_or-unpacked, All-unpacked, HasWidth-words_packing}
+use Rattle.bit_interleave.proofs.WordsLemmas.{All-packed}
+use Rattle.bit_interleave.proofs.RoundTrip.{unpacked-packed}
+use Rattle.bit_interleave.proofs.LeastWidthLemmas.{least_width-holds, least_width-least}
+use Rattle.run_dictionary.specs.Range.{value_of, AreInRange}
+use Rattle.run_dictionary.specs.Dict.{DictForm, IsDictForm, IsAscending, distinct, code_at, code_of, dict_value, least_dict}
+use Rattle.run_dictionary.proofs.OrderLemmas.{Has, Has-get_or, place_of_member, Ascends, Ascends-distinct, Has-distinct, Has-from_distinct, distinct_is, length-le_from_members, length-distinct}
+
+-- ---- ascending by neighbours and by members
+pub Ascends-from_neighbours : (xs : List ℤ) → IsAscending xs → Ascends xs
+Ascends-from_neighbours [] h = tt
+Ascends-from_neighbours (x ∷ []) h = ((λ z g. elim g [ ]), tt)
+Ascends-from_neighbours (x ∷ y ∷ ys) h =
+    let rest : IsAscending (y ∷ ys) = (λ k l.
+    let next : k + 1 + 1 ≡ suc (k + 1) = omega arith in
+    subst (λ (j : ℕ). get_or (y ∷ ys) k (pos 0) <ℤ get_or (x ∷ y ∷ ys) j (pos 0)) next
+    (subst (λ (j : ℕ). get_or (x ∷ y ∷ ys) j (pos 0) <ℤ get_or (x ∷ y ∷ ys) (k + 1 + 1) (pos 0)) (let e : k + 1 ≡ suc k = omega arith in e) (h (k + 1) (omega arith)))) in
+    let tail : Ascends (y ∷ ys) = Ascends-from_neighbours (y ∷ ys) rest in
+    let first : x <ℤ y = h 0 (omega arith) in
+    ((λ z g. above z first tail g), tail)
+  where
+    through : (z : ℤ) → x <ℤ y → y <ℤ z → x <ℤ z
+    through z l m = omega (arith, ints)
+
+    above : (z : ℤ) → x <ℤ y → Ascends (y ∷ ys) → Has z (y ∷ ys) → x <ℤ z
+    above z l t (inl e) = subst (λ (z : ℤ). x <ℤ z) (sym e) l
+    above z l t (inr g) = through z l (t.0 z g)
+
+-- an earlier value is less than a later one
+pub less_at : (xs : List ℤ) → Ascends xs → (i j : ℕ) → i < j → j < length xs → get_or xs i (pos 0) <ℤ get_or xs j (pos 0)
+less_at [] a i j l h = absurd (omega arith)
+less_at (x ∷ xs) a i zero l h = absurd (omega arith)
+less_at (x ∷ xs) a zero (suc j) l h = a.0 (get_or xs j (pos 0)) (Has-get_or xs j (omega arith))
+less_at (x ∷ xs) a (suc i) (suc j) l h = less_at xs a.1 i j (omega arith) (omega arith)
+
+pub neighbours-from_Ascends : (xs : List ℤ) → Ascends xs → IsAscending xs
+neighbours-from_Ascends xs a k h = less_at xs a k (k + 1) (omega arith) h
+
+differ_if_less : (x y : ℤ) → x <ℤ y → x ≡ y → ⊥
+differ_if_less x y l e = omega (arith, ints)
+
+-- two places of one value are one place
+pub same_place : (xs : List ℤ) → Ascends xs → (i j : ℕ) → i < length xs → j < length xs → get_or xs i (pos 0) ≡ get_or xs j (pos 0) → i ≡ j
+same_place xs a i j h l e = by_order (cases_lt i j) (cases_lt j i)
+  where
+    by_order : (i < j) ⊎ (j ≤ i) → (j < i) ⊎ (i ≤ j) → i ≡ j
+    by_order (inl m) _ = absurd (differ_if_less _ _ (less_at xs a i j m l) e)
+    by_order (inr m) (inl n) = absurd (differ_if_less _ _ (less_at xs a j i n h) (sym e))
+    by_order (inr m) (inr n) = omega arith
+
+-- ---- the place of a value
+pub code_of_place : (xs : List ℤ) → Ascends xs → (k : ℕ) → k < length xs → code_of xs (get_or xs k (pos 0)) ≡ k
+unfolding code_of
+code_of_place xs a k h =
+    position_or_len_is (λ x. int_eq x (get_or xs k (pos 0))) xs k (pos 0) (omega arith)
+    (λ i l. false_from_ne_true _ (λ t. differ_if_less _ _ (less_at xs a i k l h) ((Decides-int_eq (get_or xs i (pos 0)) (get_or xs k (pos 0))).0 t)))
+    (λ l. (Decides-int_eq (get_or xs k (pos 0)) (get_or xs k (pos 0))).1 refl)
+
+pub code_of_member : (xs : List ℤ) (z : ℤ) → Ascends xs → Has z xs → (code_of xs z < length xs) × (get_or xs (code_of xs z) (pos 0) ≡ z)
+code_of_member xs z a h =
+    let r = place_of_member z xs h in
+    let place : code_of xs z ≡ r.0 = ap (code_of xs) (sym r.2) ∙ code_of_place xs a r.0 r.1 in
+    (omega (arith, place, r.1), ap (λ k. get_or xs k (pos 0)) place ∙ r.2)
+
+-- ---- the least form
+-- the codes of the least form, in row order
+abbrev codes_in : List ℤ → List ℕ
+codes_in values = map (code_of (distinct values)) values
+
+abbrev least_code_width : List ℤ → ℕ
+least_code_width values = least_width (length (distinct values) - 1)
+
+pub distinct_code : (values : List ℤ) (n : ℕ) → n < length values → (code_of (distinct values) (value_of values n) < length (distinct values)) × (value_of (distinct values) (code_of (distinct values) (value_of values n)) ≡ value_of values n)
+distinct_code values n h = code_of_member (distinct values) (value_of values n) (Ascends-distinct values) (Has-distinct (value_of values n) values (Has-get_or values n h))
+
+pub get_or-map_zero : (f : ℤ → ℕ) (values : List ℤ) (n : ℕ) → n < length values → get_or (map f values) n 0 ≡ f (value_of values n)
+get_or-map_zero f values n h = get_or_default (map f values) n 0 (f (pos 0)) (omega (arith, length-map values f)) ∙ get_or-map f values n (pos 0)
+
+get_or-codes : (values : List ℤ) (n : ℕ) → n < length values → get_or (codes_in values) n 0 ≡ code_of (distinct values) (value_of values n)
+get_or-codes values n h = get_or-map_zero (code_of (distinct values)) values n h
+
+some_distinct : (values : List ℤ) → 0 < length values → 0 < length (distinct values)
+some_distinct values h = let c = distinct_code values 0 h in omega (arith, c.0)
+
+-- a code of the least form is below two to the power of its width
+pub code_fits : (values : List ℤ) → length values ≡ 1024 → All (λ v. v < 2 ^ least_code_width values) (codes_in values)
+code_fits values l =
+    All-from_get_or (λ v. v < 2 ^ least_code_width values) (codes_in values) 0
+    (λ n h.
+    let within : n < length values = omega (arith, length-map values (code_of (distinct values))) in
+    let code = distinct_code values n within in
+    let holds = least_width-holds (length (distinct values) - 1) (omega (arith, length-distinct values)) in
+    subst (λ (k : ℕ). k < 2 ^ least_code_width values) (sym (get_or-codes values n within)) (omega (arith, code.0, holds)))
+
+pub least_code_width-le : (values : List ℤ) → length values ≡ 1024 → least_code_width values ≤ 10
+least_code_width-le values l = least_width-least (length (distinct values) - 1) 10 (omega (arith, length-distinct values)) (omega (arith, length-distinct values))
+
+codes_come_back : (values : List ℤ) → length values ≡ 1024 → unpacked 16 (least_code_width values) (packed 16 (least_code_width values) (codes_in values)) ≡ codes_in values
+codes_come_back values l =
+    unpacked-packed 16 (least_code_width values) (codes_in values) (inr (inl refl)) (length-map values (code_of (distinct values)) ∙ l) (code_fits values l)
+
+-- the code of a row in packed words
+pub code_at-unpacked : (form : DictForm) (n : ℕ) → n < 1024 → get_or (unpacked 16 form.width form.codes.numbers) n 0 ≡ code_at form n
+unfolding code_at
+code_at-unpacked form n h = get_or-unpacked 16 form.width form.codes.numbers n 0 h
+
+pub code_at-least : (t : ℕ) (values : List ℤ) (n : ℕ) → length values ≡ 1024 → n < 1024 → code_at (least_dict t values) n ≡ code_of (distinct values) (value_of values n)
+code_at-least t values n l h =
+    sym (code_at-unpacked (least_dict t values) n h) ∙ ap (λ xs. get_or xs n 0) (codes_come_back values l) ∙ get_or-codes values n (omega (arith, l))
+
+pub dict_value-least : (t : ℕ) (values : List ℤ) (n : ℕ) → length values ≡ 1024 → n < 1024 → dict_value (least_dict t values) n ≡ value_of values n
+dict_value-least t values n l h = ap (value_of (distinct values)) (code_at-least t values n l h) ∙ (distinct_code values n (omega (arith, l))).1
+
+pub IsDictForm-least : (t : ℕ) (values : List ℤ) → IsLaneWidth t → length values ≡ 1024 → AreInRange t values → IsDictForm (least_dict t values)
+IsDictForm-least t values w l range = record {
+  lane_width = w;
+  words = refl;
+  packed = HasWidth-words_packing 16 (least_code_width values) (codes_in values) (omega (arith, least_code_width-le values l));
+  fit = All-packed 16 (least_code_width values) (codes_in values);
+  many = omega (arith, length-distinct values);
+  rises = neighbours-from_Ascends (distinct values) (Ascends-distinct values);
+  codes = λ n h. let code = distinct_code values n (omega (arith, l)) in omega (arith, code.0, code_at-least t values n l h);
+  range = All-from_get_or (λ z. FitsSigned (integer_width t) z) (distinct values) (pos 0)
+      (λ k h.
+      let r = place_of_member _ values (Has-from_distinct (get_or (distinct values) k (pos 0)) values (Has-get_or (distinct values) k h)) in
+      subst (λ (z : ℤ). FitsSigned (integer_width t) z) r.2 (range r.0 (pos 0) r.1));
+}
+
+-- ---- forms of the same values
+-- the rows that a form stands for
+abbrev rows_in : DictForm → List ℤ
+rows_in form = rows_of (dict_value form)
+
+row_of_member : (form : DictForm) (z : ℤ) → Has z (rows_in form) → (n : ℕ) × (n < 1024) × (dict_value form n ≡ z)
+row_of_member form z h =
+    let r = place_of_member z (rows_in form) h in
+    let within : r.0 < 1024 = omega (arith, r.1, length-rows_of (dict_value form)) in
+    (r.0, within, sym (get_or-rows_of (dict_value form) r.0 (pos 0) within) ∙ r.2)
+
+Has-rows_in : (form : DictForm) (n : ℕ) → n < 1024 → Has (dict_value form n) (rows_in form)
+Has-rows_in form n h =
+    subst (λ (z : ℤ). Has z (rows_in form)) (get_or-rows_of (dict_value form) n (pos 0) h) (Has-get_or (rows_in form) n (omega (arith, length-rows_of (dict_value form))))
+
+Has-values : (form : DictForm) → IsDictForm form → (z : ℤ) → Has z (rows_in form) → Has z form.values
+Has-values form f z h =
+    let r = row_of_member form z h in
+    subst (λ (z : ℤ). Has z form.values) r.2 (Has-get_or form.values (code_at form r.0) (f.codes r.0 r.1))
+
+pub fewest_values : (form : DictForm) → IsDictForm form → length (distinct (rows_in form)) ≤ length form.values
+fewest_values form f =
+    length-le_from_members (distinct (rows_in form)) form.values (Ascends-distinct (rows_in form)) (Ascends-from_neighbours form.values f.rises)
+    (λ z h. Has-values form f z (Has-from_distinct z (rows_in form) h))
+
+code_below : (form : DictForm) (n : ℕ) → n < 1024 → code_at form n < 2 ^ form.width
+code_below form n h =
+    subst (λ (k : ℕ). k < 2 ^ form.width) (code_at-unpacked form n h)
+    (All-unpacked 16 form.width form.codes.numbers n 0 (omega (arith, length-unpacked 16 form.width form.codes.numbers)))
+
+Ascends-take : (n : ℕ) (xs : List ℤ) → Ascends xs → Ascends (take n xs)
+Ascends-take n xs a =
+    Ascends-from_neighbours (take n xs)
+    (λ k h.
+    let l : length (take n xs) ≤ length xs = omega (arith, length-take n xs) in
+    let m : length (take n xs) ≤ n = omega (arith, length-take n xs) in
+    subst (λ (z : ℤ). z <ℤ get_or (take n xs) (k + 1) (pos 0)) (sym (get_or-take n xs k (pos 0) (omega arith)))
+    (subst (λ (z : ℤ). get_or xs k (pos 0) <ℤ z) (sym (get_or-take n xs (k + 1) (pos 0) (omega arith))) (less_at xs a k (k + 1) (omega arith) (omega arith))))
+
+-- the values that a form uses have codes of its width
+pub width_holds_values : (form : DictForm) → IsDictForm form → length (distinct (rows_in form)) ≤ 2 ^ form.width
+width_holds_values form f =
+    let short : length (take (2 ^ form.width) form.values) ≤ 2 ^ form.width = omega (arith, length-take (2 ^ form.width) form.values) in
+    let fewer = length-le_from_members (distinct (rows_in form)) (take (2 ^ form.width) form.values) (Ascends-distinct (rows_in form))
+    (Ascends-take (2 ^ form.width) form.values (Ascends-from_neighbours form.values f.rises))
+    (λ z h. in_front z (row_of_member form z (Has-from_distinct z (rows_in form) h))) in
+    omega (arith, fewer, short)
+  where
+    in_front : (z : ℤ) → ((n : ℕ) × (n < 1024) × (dict_value form n ≡ z)) → Has z (take (2 ^ form.width) form.values)
+    in_front z r =
+        let code = code_below form r.0 r.1 in
+        let within : code_at form r.0 < length (take (2 ^ form.width) form.values) = omega (arith, length-take (2 ^ form.width) form.values, code, f.codes r.0 r.1) in
+        subst (λ (z : ℤ). Has z (take (2 ^ form.width) form.values)) (get_or-take (2 ^ form.width) form.values (code_at form r.0) (pos 0) code ∙ r.2)
+        (Has-get_or (take (2 ^ form.width) form.values) (code_at form r.0) within)
+
+-- each place of the dictionary is the code of a row
+abbrev pub AllCodesUsed : DictForm → Type 0
+AllCodesUsed form = (k : ℕ) → k < length form.values → (n : ℕ) × (n < 1024) × (code_at form n ≡ k)
+
+pub least-from_used : (form : DictForm) → IsDictForm form → form.width ≡ least_width (length form.values - 1) → AllCodesUsed form → form.codes ≡ words_packing 16 form.width (unpacked 16 form.width form.codes.numbers) → form ≡ least_dict form.lane_width (rows_in form)
+least-from_used form f narrow used back =
+    let ascends = Ascends-from_neighbours form.values f.rises in
+    let values : form.values ≡ distinct (rows_in form) =
+    distinct_is (rows_in form) form.values ascends (λ z h. Has-values form f z h) (λ z h. in_rows z (place_of_member z form.values h)) in
+    let width : form.width ≡ least_code_width (rows_in form) = narrow ∙ ap (λ xs. least_width (length xs - 1)) values in
+    let codes : unpacked 16 form.width form.codes.numbers ≡ codes_in (rows_in form) =
+    same_number_lists _ _ (length-unpacked 16 form.width form.codes.numbers ∙ sym (length-map (rows_in form) (code_of (distinct (rows_in form))) ∙ length-rows_of (dict_value form)))
+    (λ n h.
+    let row : n < 1024 = omega (arith, length-unpacked 16 form.width form.codes.numbers) in
+    code_at-unpacked form n row ∙ sym (code_of_place form.values ascends (code_at form n) (f.codes n row))
+    ∙ ap (λ xs. code_of xs (dict_value form n)) values
+    ∙ ap (code_of (distinct (rows_in form))) (sym (get_or-rows_of (dict_value form) n (pos 0) row))
+    ∙ sym (get_or-codes (rows_in form) n (omega (arith, length-rows_of (dict_value form))))) in
+    let words : form.codes ≡ words_packing 16 (least_code_width (rows_in form)) (codes_in (rows_in form)) =
+    back ∙ ap (λ xs. words_packing 16 form.width xs) codes ∙ ap (λ w. words_packing 16 w (codes_in (rows_in form))) width in
+    λ i. record { lane_width = form.lane_width; width = width i; values = values i; codes = words i }
+  where
+    in_rows : (z : ℤ) → ((k : ℕ) × (k < length form.values) × (get_or form.values k (pos 0) ≡ z)) → Has z (rows_in form)
+    in_rows z r =
+        let row = used r.0 r.1 in
+        subst (λ (z : ℤ). Has z (rows_in form)) (ap (λ k. get_or form.values k (pos 0)) row.2 ∙ r.2) (Has-rows_in form row.0 row.1)
+
+pub used-from_least : (form : DictForm) → IsDictForm form → form ≡ least_dict form.lane_width (rows_in form) → (form.width ≡ least_width (length form.values - 1)) × AllCodesUsed form
+used-from_least form f e =
+    let values : form.values ≡ distinct (rows_in form) = ap (λ d. d.values) e in (
+      ap (λ d. d.width) e ∙ ap (λ xs. least_width (length xs - 1)) (sym values),
+      λ k h.
+          let z = get_or form.values k (pos 0) in
+          let r = row_of_member form z (Has-from_distinct z (rows_in form) (subst (λ (xs : List ℤ). Has z xs) values (Has-get_or form.values k h))) in
+          (r.0, r.1, same_place form.values (Ascends-from_neighbours form.values f.rises) (code_at form r.0) k (f.codes r.0 r.1) h r.2),
+    )
+
+-- ---- what a binary search answers
+pub equal_from_cmp : (x y : ℤ) → int_cmp x y ≡ Equal → x ≡ y
+equal_from_cmp x y e = (Decides-int_eq x y).0 (ap is_eq e)
+
+index_cases : (a b c d : Bool) → (c ≡ true → a ≡ true) → (b ≡ true → d ≡ true) → ordering_index (cond a Less (cond b Greater Equal)) ≤ ordering_index (cond c Less (cond d Greater Equal))
+index_cases true b c d f g = omega arith
+index_cases false b true d f g = absurd (false≢true (f refl))
+index_cases false true false true f g = omega arith
+index_cases false true false false f g = absurd (false≢true (g refl))
+index_cases false false false true f g = omega arith
+index_cases false false false false f g = omega arith
+
+test_from_less : (x y : ℤ) → x <ℤ y → int_lt x y ≡ true
+test_from_less x y l = grind (arith, ints)
+
+less_from_test : (x y : ℤ) → int_lt x y ≡ true → x <ℤ y
+less_from_test x y e = grind (arith, ints)
+
+through_left : (x y v : ℤ) → x ≤ℤ y → y <ℤ v → x <ℤ v
+through_left x y v l m = omega (arith, ints)
+
+through_right : (x y v : ℤ) → x ≤ℤ y → v <ℤ x → v <ℤ y
+through_right x y v l m = omega (arith, ints)
+
+index_rises : (x y v : ℤ) → x ≤ℤ y → ordering_index (int_cmp x v) ≤ ordering_index (int_cmp y v)
+index_rises x y v l =
+    index_cases (int_lt x v) (int_lt v x) (int_lt y v) (int_lt v y)
+    (λ t. test_from_less x v (through_left x y v l (less_from_test y v t))) (λ t. test_from_less v y (through_right x y v l (less_from_test v x t)))
+
+-- a value that an ascending list has is not missed
+pub not_missed : (xs : List ℤ) (v : ℤ) (i : ℕ) → IsAscending xs → Contains xs v → (IsNonDecreasingBy (λ y. ordering_index (int_cmp y v)) xs → IsPartitionPoint (λ y. int_cmp y v ≡ Less) (λ y. int_cmp y v ≡ Greater) xs i) → ⊥
+not_missed xs v i h c p =
+    let ascends = Ascends-from_neighbours xs h in
+    let parts = p (λ j k d l m. ordered j k d (cases_lt j k) l m) in
+    let k = c.0 in
+    let equal : int_cmp (get_or xs k v) v ≡ Equal = ap (λ x. int_cmp x v) c.2 ∙ same_cmp v in
+    by_side (cases_lt k i) equal (λ l. parts.0 k v (omega arith) l) (λ l. parts.1 k v l c.1)
+  where
+    at_most : (x y : ℤ) → x <ℤ y → x ≤ℤ y
+    at_most x y l = omega (arith, ints)
+
+    same_cmp : (v : ℤ) → int_cmp v v ≡ Equal
+    same_cmp v = grind (arith, ints)
+
+    ordered : (j k : ℕ) (d : ℤ) → (j < k) ⊎ (k ≤ j) → j ≤ k → k < length xs → ordering_index (int_cmp (get_or xs j d) v) ≤ ordering_index (int_cmp (get_or xs k d) v)
+    ordered j k d (inr g) l m =
+        let same : j ≡ k = omega arith in
+        subst (λ (i : ℕ). ordering_index (int_cmp (get_or xs j d) v) ≤ ordering_index (int_cmp (get_or xs i d) v)) same (omega arith)
+    ordered j k d (inl g) l m =
+        index_rises (get_or xs j d) (get_or xs k d) v
+        (at_most _ _ (subst (λ (z : ℤ). z <ℤ get_or xs k d) (get_or_default xs j (pos 0) d (omega arith))
+        (subst (λ (z : ℤ). get_or xs j (pos 0) <ℤ z) (get_or_default xs k (pos 0) d m) (less_at xs (Ascends-from_neighbours xs h) j k g m))))
+
+    by_side : (c.0 < i) ⊎ (i ≤ c.0) → int_cmp (get_or xs c.0 v) v ≡ Equal → (c.0 < i → int_cmp (get_or xs c.0 v) v ≡ Less) → (i ≤ c.0 → int_cmp (get_or xs c.0 v) v ≡ Greater) → ⊥
+    by_side (inl l) e f g = let less = f l in cc
+    by_side (inr l) e f g = let greater = g l in cc
+
+-- no number is marked at first
+pub none_marked : (n k : ℕ) → get_or (replicate n false) k false ≡ false
+none_marked zero k = refl
+none_marked (suc n) zero = refl
+none_marked (suc n) (suc k) = none_marked n k
+
+-- the unpacked codes of a form
+pub codes_read : (form : DictForm) → IsDictForm form → (xs : List ℕ) → xs ≡ unpacked form.codes.lane_width form.width form.codes.numbers → (n : ℕ) → n < 1024 → get_or xs n 0 ≡ code_at form n
+codes_read form f xs is n h =
+    ap (λ xs. get_or xs n 0) (is ∙ ap (λ t. unpacked t form.width form.codes.numbers) f.words) ∙ code_at-unpacked form n h
+
+pub words_read : (form : DictForm) → IsDictForm form → form.codes ≡ words_packing form.codes.lane_width form.width (unpacked form.codes.lane_width form.width form.codes.numbers) → form.codes ≡ words_packing 16 form.width (unpacked 16 form.width form.codes.numbers)
+words_read form f back = back ∙ ap (λ t. words_packing t form.width (unpacked t form.width form.codes.numbers)) f.words
+
+-- the code of a row among the sixteen of its group and step
+pub code_in_step : (form : DictForm) → IsDictForm form → (row lane step : ℕ) (sixteen : List ℕ) → lane ≡ lane_of 16 row → step ≡ step_of 16 row → sixteen ≡ sixteen_of (λ i. packed_value form.codes.lane_width form.width form.codes.numbers (16 * (lane / 16) + i) step) → get_or sixteen (lane % 16) 0 ≡ code_at form row
+unfolding code_at
+code_in_step form f row lane step sixteen here there is =
+    let whole : 16 * (lane / 16) + lane % 16 ≡ lane = omega arith in
+    ap (λ xs. get_or xs (lane % 16) 0) is
+    ∙ get_or-sixteen_of (λ i. packed_value form.codes.lane_width form.width form.codes.numbers (16 * (lane / 16) + i) step) (lane % 16) 0 (omega arith)
+    ∙ ap (λ t. packed_value t form.width form.codes.numbers (16 * (lane / 16) + lane % 16) step) f.words
+    ∙ ap (λ l. packed_value 16 form.width form.codes.numbers l step) (whole ∙ here)
+    ∙ ap (λ s. packed_value 16 form.width form.codes.numbers (lane_of 16 row) s) there

@@ -1,0 +1,13 @@
+//! Run-length and dictionary coding of vectors of 1024 values.
+#![tactic(auto)]
+
+mod codes;
+mod dicts;
+mod run_words;
+mod runs;
+
+pub use dicts::{Dict, least_dict_gives_back, least_dict_is_fewest};
+pub use runs::{Runs, least_runs_are_fewest, least_runs_give_back};
+
+#[cfg(test)]
+mod tests;
