@@ -1,0 +1,13 @@
+pub mod Apart
+pub mod AnswerTexts
+pub mod ColumnLaws
+pub mod Cuts
+pub mod Feeds
+pub mod Numerals
+pub mod Placed
+pub mod Printable
+pub mod RowLaws
+pub mod Runs
+pub mod Tellings
+pub mod Histories
+pub mod Takes

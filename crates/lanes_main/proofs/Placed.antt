@@ -1,0 +1,76 @@
+-- What a call makes of one replica, it makes of the cluster at that replica's place.
+use Rattle.std.specs.Prelude.{◌≡◌, ◌⊎◌, ℕ, zero, suc, ◌+◌, ◌<◌, List, [], ◌∷◌, ◌++◌, length, slice_get, slice_set, Option, Some, None, Result, Ok, Err, IsOk}
+use Rattle.std.proofs.Common.{refl, sym, ap, ◌∙◌, arith, inl, inr, add-one, get_or, subst}
+use Rattle.std.proofs.lemmas.List.{set-get_or}
+use Rattle.std.proofs.lemmas.Option.{slice_get_read}
+use Rattle.table_model.specs.Table.{Table}
+use Rattle.table_model.specs.Outcome.{Acts}
+use Rattle.table_model.specs.declared.refusal.Refusal.{Refusal}
+use Rattle.table_model.specs.declared.refusal.Refusal.TheVariants.{Memory, NoSuchReplica}
+use Rattle.replica_store.specs.Replica.{Replica}
+use Rattle.lanes_main.specs.Cluster.{ClusterParts, empty_replica, new_replicas, with_store, placed, held_at, at_place, place_of, at_replica}
+use Rattle.lanes_main.specs.declared.reply.Reply.{Reply}
+
+-- one more new replica stands at the end
+pub new_replicas_more : (table : Table) (first n : ℕ) → new_replicas table first (n + 1) ≡ new_replicas table first n ++ (empty_replica table (first + n) ∷ [])
+new_replicas_more table first n = ap (new_replicas table first) (add-one n) ∙ more first n where
+  more : (first n : ℕ) → new_replicas table first (suc n) ≡ new_replicas table first n ++ (empty_replica table (first + n) ∷ [])
+  more first zero = let same : first ≡ first + 0 = omega arith in ap (λ k. empty_replica table k ∷ []) same
+  more first (suc n) =
+      let same : first + 1 + n ≡ first + suc n = omega arith in
+      ap (λ rest. empty_replica table first ∷ rest) (more (first + 1) n ∙ ap (λ k. new_replicas table (first + 1) n ++ (empty_replica table k ∷ [])) same)
+
+-- there is no such place
+pub no_place : {X : Type 0} (reply : X → Reply) (c : ClusterParts) (replica : ℕ) (call : Replica → Result (X × Replica) Refusal)
+    → None ≡ place_of (length c.stores) replica → at_replica reply c replica call ≡ Err NoSuchReplica
+no_place reply c replica call none = ap (at_place reply c call) (sym none)
+
+at_found : {X : Type 0} (reply : X → Reply) (c : ClusterParts) (replica at : ℕ) (call : Replica → Result (X × Replica) Refusal) (r : Replica)
+    → Some at ≡ place_of (length c.stores) replica → slice_get c.stores at ≡ Some r → at_replica reply c replica call ≡ placed reply c at (call r)
+at_found reply c replica at call r is held = ap (at_place reply c call) (sym is) ∙ ap (held_at reply c at call) held
+
+-- the call was answered
+pub acts_done : {X : Type 0} (reply : X → Reply) (c : ClusterParts) (replica at : ℕ) (call : Replica → Result (X × Replica) Refusal) (r new : Replica) (x : X)
+    → Some at ≡ place_of (length c.stores) replica → slice_get c.stores at ≡ Some r → call r ≡ Ok (x, new) → at_replica reply c replica call ≡ Ok (reply x, with_store c at new)
+acts_done reply c replica at call r new x is held done = at_found reply c replica at call r is held ∙ ap (placed reply c at) done
+
+-- the call was refused
+placed_ok : {X : Type 0} (reply : X → Reply) (c : ClusterParts) (at : ℕ) (made : Result (X × Replica) Refusal) → IsOk made → IsOk (placed reply c at made)
+placed_ok reply c at (Ok done) ok = ok
+placed_ok reply c at (Err e) ok = ok
+
+pub acts_refused : {X : Type 0} (reply : X → Reply) (c : ClusterParts) (replica at : ℕ) (call : Replica → Result (X × Replica) Refusal) (r : Replica) (e : Refusal)
+    → Some at ≡ place_of (length c.stores) replica → slice_get c.stores at ≡ Some r → (call r ≡ Err e) ⊎ ((e ≡ Memory) × IsOk (call r))
+    → (at_replica reply c replica call ≡ Err e) ⊎ ((e ≡ Memory) × IsOk (at_replica reply c replica call))
+acts_refused reply c replica at call r e is held (inl refused) = inl (at_found reply c replica at call r is held ∙ ap (placed reply c at) refused)
+acts_refused {X = X} reply c replica at call r e is held (inr lack) =
+    inr (lack.0, rw (at_found reply c replica at call r is held) (placed_ok reply c at (call r) lack.1))
+
+found : (stores : List Replica) (at : ℕ) (r : Replica) → at < length stores → r ≡ get_or stores at r → slice_get stores at ≡ Some r
+found stores at r below is = slice_get_read stores (length stores) at r refl below is
+
+-- the cluster of these parts
+abbrev pub cluster_with : Table → List Replica → ClusterParts
+cluster_with schema stores = record { schema = schema; stores = stores }
+
+-- an answered call, seen in a cluster of known parts
+pub call_done : {X : Type 0} (reply : X → Reply) (c : ClusterParts) (schema : Table) (stores : List Replica) (replica at : ℕ) (call : Replica → Result (X × Replica) Refusal) (r new : Replica) (x : X)
+    → cluster_with schema stores ≡ c → Some at ≡ place_of (length c.stores) replica → at < length c.stores → r ≡ get_or stores at r → call r ≡ Ok (x, new)
+    → at_replica reply c replica call ≡ Ok (reply x, cluster_with schema (slice_set stores at new))
+call_done {X = X} reply c schema stores replica at call r new x view is below held done =
+    let Q : ClusterParts → Type 0 = λ c. Some at ≡ place_of (length c.stores) replica → at < length c.stores → at_replica reply c replica call ≡ Ok (reply x, cluster_with schema (slice_set stores at new)) in
+    subst Q view (λ is below. acts_done reply (cluster_with schema stores) replica at call r new x is (found stores at r below held) done) is below
+
+same_store : (stores : List Replica) (at : ℕ) (r new : Replica) → r ≡ get_or stores at r → new ≡ r → slice_set stores at new ≡ stores
+same_store stores at r new held same = ap (slice_set stores at) (same ∙ held) ∙ set-get_or stores at r
+
+-- a refused call leaves the cluster
+pub call_refused : {X : Type 0} (reply : X → Reply) (c : ClusterParts) (schema : Table) (stores : List Replica) (replica at : ℕ) (call : Replica → Result (X × Replica) Refusal) (r new : Replica) (e : Refusal)
+    → cluster_with schema stores ≡ c → Some at ≡ place_of (length c.stores) replica → at < length c.stores → r ≡ get_or stores at r
+    → (new ≡ r) × ((call r ≡ Err e) ⊎ ((e ≡ Memory) × IsOk (call r)))
+    → (cluster_with schema (slice_set stores at new) ≡ c) × ((at_replica reply c replica call ≡ Err e) ⊎ ((e ≡ Memory) × IsOk (at_replica reply c replica call)))
+call_refused {X = X} reply c schema stores replica at call r new e view is below held acts =
+    let Q : ClusterParts → Type 0 = λ c. Some at ≡ place_of (length c.stores) replica → at < length c.stores → (at_replica reply c replica call ≡ Err e) ⊎ ((e ≡ Memory) × IsOk (at_replica reply c replica call)) in (
+      ap (cluster_with schema) (same_store stores at r new held acts.0) ∙ view,
+      subst Q view (λ is below. acts_refused reply (cluster_with schema stores) replica at call r e is (found stores at r below held) acts.1) is below,
+    )

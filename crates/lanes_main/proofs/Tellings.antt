@@ -1,0 +1,153 @@
+-- What was told so far, told further by each chunk that is read, answered and written.
+use Rattle.std.specs.Prelude.{◌≡◌, ◌≢◌, ◌⊎◌, ℕ, ◌+◌, ◌<◌, Bool, true, false, cond, ◌&&◌, ◌==◌, not, Ok, List, [], ◌∷◌, ◌++◌, length, Option, Some, None, ⊤}
+use Rattle.std.specs.Io.KnownBytes.{Appends, Consumes, Keeps, IsAtEnd}
+use Rattle.std.proofs.Common.{refl, sym, ap, ◌∙◌, arith, append_assoc, subst, inl, inr}
+use Rattle.std.proofs.lemmas.List.{length-append, append-nil}
+use Rattle.std.proofs.lemmas.Bool.Decides.{nat_tests}
+use Rattle.table_model.specs.Counted.{one_more, after_write}
+use Rattle.lanes_main.specs.Cluster.{ClusterParts}
+use Rattle.lanes_main.specs.Script.{script_text, text_from}
+use Rattle.table_model.specs.declared.refusal.Refusal.{Refusal}
+use Rattle.table_model.specs.declared.refusal.Refusal.TheVariants.{Memory, ReadFault, WriteFault}
+use Rattle.lanes_main.specs.Told.{Sofar, AppendsFront, ToldFront, ToldAll, Reached, GaveMore, GoesOn, EndsEarly, Failed, read_limit}
+use Rattle.lanes_main.proofs.Feeds.{script_start}
+
+-- nothing was written
+pub appends_none : (known : Option (List ℕ)) → Appends known known []
+appends_none None = tt
+appends_none (Some xs) = sym (append-nil xs)
+
+-- one piece after another
+pub appends_both : (old mid new : Option (List ℕ)) (xs ys : List ℕ) → Appends old mid xs → Appends mid new ys → Appends old new (xs ++ ys)
+appends_both None mid new xs ys h k = tt
+appends_both (Some a) None new xs ys h k = absurd h
+appends_both (Some a) (Some b) None xs ys h k = absurd k
+appends_both (Some a) (Some b) (Some c) xs ys h k = k ∙ ap (λ (x : List ℕ). x ++ ys) h ∙ append_assoc a xs ys
+
+-- an error of a writer leaves what it holds
+pub appends_kept : (old new : Option (List ℕ)) → Keeps old new → Appends old new []
+appends_kept None new h = tt
+appends_kept (Some a) None h = absurd h
+appends_kept (Some a) (Some b) h = h ∙ sym (append-nil a)
+
+-- a script begins with nothing told
+pub told_start : (input before : Option (List ℕ)) → Sofar input input before before None [] 0
+told_start None before = tt
+told_start (Some xs) before = ([], [], refl, refl, appends_none before, λ more. script_start more)
+
+abbrev pub Feeds : Option ClusterParts → List ℕ → List ℕ → List ℕ → Option ClusterParts → List ℕ → Type 0
+Feeds cluster part chunk out next rest = (more : List ℕ) → text_from cluster part (chunk ++ more) ≡ out ++ text_from next rest more
+
+-- a chunk was read, answered and written
+pub told_more : (input rest rest' before now now' : Option (List ℕ)) (cluster next : Option ClusterParts) (part part' chunk out : List ℕ) (total : ℕ)
+    → Sofar input rest before now cluster part total → Consumes rest rest' chunk → Feeds cluster part chunk out next part' → Appends now now' out
+    → Sofar input rest' before now' next part' (total + length chunk)
+told_more None rest rest' before now now' cluster next part part' chunk out total h consumed fed wrote = tt
+told_more (Some xs) None rest' before now now' cluster next part part' chunk out total h consumed fed wrote = absurd h
+told_more (Some xs) (Some ys) None before now now' cluster next part part' chunk out total h consumed fed wrote = absurd consumed
+told_more (Some xs) (Some ys) (Some zs) before now now' cluster next part part' chunk out total h consumed fed wrote = (
+  h.0 ++ chunk,
+  h.1 ++ out,
+  h.2 ∙ ap (λ (r : List ℕ). h.0 ++ r) consumed ∙ sym (append_assoc h.0 chunk zs),
+  omega (arith, length-append h.0 chunk, h.3),
+  appends_both before now now' h.1 out h.4 wrote,
+  λ more. ap script_text (append_assoc h.0 chunk more) ∙ h.5 (chunk ++ more) ∙ ap (λ (t : List ℕ). h.1 ++ t) (fed more) ∙ sym (append_assoc h.1 out (text_from next part' more)),
+)
+
+-- what was told is a front of the text
+pub told_front : (input rest before now : Option (List ℕ)) (cluster : Option ClusterParts) (part : List ℕ) (total : ℕ) → Sofar input rest before now cluster part total → ToldFront input before now
+told_front None rest before now cluster part total h = tt
+told_front (Some xs) None before now cluster part total h = absurd h
+told_front (Some xs) (Some ys) before now cluster part total h = (h.1, text_from cluster part ys, ap script_text h.2 ∙ h.5 ys, h.4)
+
+-- a write stopped early, after a chunk was read and answered
+told_cut : (input rest rest' before now now' : Option (List ℕ)) (cluster next : Option ClusterParts) (part part' chunk out : List ℕ) (total : ℕ)
+    → Sofar input rest before now cluster part total → Consumes rest rest' chunk → Feeds cluster part chunk out next part' → AppendsFront now now' out → ToldFront input before now'
+told_cut None rest rest' before now now' cluster next part part' chunk out total h consumed fed wrote = tt
+told_cut (Some xs) None rest' before now now' cluster next part part' chunk out total h consumed fed wrote = absurd h
+told_cut (Some xs) (Some ys) None before now now' cluster next part part' chunk out total h consumed fed wrote = absurd consumed
+told_cut (Some xs) (Some ys) (Some zs) before now now' cluster next part part' chunk out total h consumed fed wrote =
+    let rest_text : text_from cluster part ys ≡ out ++ text_from next part' zs = ap (text_from cluster part) consumed ∙ fed zs in (
+      h.1 ++ wrote.0,
+      wrote.1 ++ text_from next part' zs,
+      ap script_text h.2 ∙ h.5 ys ∙ ap (λ (t : List ℕ). h.1 ++ t) (rest_text ∙ ap (λ (t : List ℕ). t ++ text_from next part' zs) wrote.2 ∙ append_assoc wrote.0 wrote.1 (text_from next part' zs)) ∙ sym (append_assoc h.1 wrote.0 (wrote.1 ++ text_from next part' zs)),
+      appends_both before now now' h.1 wrote.0 h.4 wrote.3,
+    )
+
+-- the text at the end of the input was written in part
+pub told_last : (input rest before now now' : Option (List ℕ)) (cluster : Option ClusterParts) (part out : List ℕ) (total : ℕ)
+    → Sofar input rest before now cluster part total → IsAtEnd rest → out ≡ text_from cluster part [] → AppendsFront now now' out → ToldFront input before now'
+told_last None rest before now now' cluster part out total h end is wrote = tt
+told_last (Some xs) None before now now' cluster part out total h end is wrote = absurd h
+told_last (Some xs) (Some ys) before now now' cluster part out total h end is wrote =
+    let text : script_text xs ≡ h.1 ++ out = ap script_text h.2 ∙ h.5 ys ∙ ap (λ (r : List ℕ). h.1 ++ text_from cluster part r) end ∙ ap (λ (t : List ℕ). h.1 ++ t) (sym is) in (
+      h.1 ++ wrote.0,
+      wrote.1,
+      text ∙ ap (λ (t : List ℕ). h.1 ++ t) wrote.2 ∙ sym (append_assoc h.1 wrote.0 wrote.1),
+      appends_both before now now' h.1 wrote.0 h.4 wrote.3,
+    )
+
+-- what a session was fed, in the words of its call
+fed_here : (cluster next : Option ClusterParts) (part part' taken chunk none out : List ℕ) → chunk ≡ taken → none ≡ []
+    → ((more : List ℕ) → none ++ text_from cluster part (chunk ++ more) ≡ out ++ text_from next part' more) → Feeds cluster part taken out next part'
+fed_here cluster next part part' taken chunk none out same empty fed more =
+    (λ i. sym empty i ++ text_from cluster part (sym same i ++ more)) ∙ fed more
+
+-- a round is told further
+pub round_told : (rest rest' now now' : Option (List ℕ)) (cluster next : Option ClusterParts) (part part' taken chunk none out written : List ℕ) (n : ℕ)
+    → Consumes rest rest' taken → chunk ≡ taken → length chunk ≡ n → none ≡ [] → ((more : List ℕ) → none ++ text_from cluster part (chunk ++ more) ≡ out ++ text_from next part' more)
+    → written ≡ out → Appends now now' written → GoesOn rest rest' now now' cluster part next part' n
+round_told rest rest' now now' cluster next part part' taken chunk none out written n consumed same is_len empty fed is wrote input before total h =
+    let P : List ℕ → Type 0 = λ w. Appends now now' w in
+    let Q : ℕ → Type 0 = λ k. Sofar input rest' before now' next part' (total + k) in
+    subst Q (sym (ap length same) ∙ is_len) (told_more input rest rest' before now now' cluster next part part' taken out total h consumed (fed_here cluster next part part' taken chunk none out same empty fed) (subst P is wrote))
+
+-- a round whose write stopped early
+pub round_early : (rest rest' now now' : Option (List ℕ)) (cluster next : Option ClusterParts) (part part' taken chunk none out written : List ℕ)
+    → Consumes rest rest' taken → chunk ≡ taken → none ≡ [] → ((more : List ℕ) → none ++ text_from cluster part (chunk ++ more) ≡ out ++ text_from next part' more)
+    → written ≡ out → AppendsFront now now' written → EndsEarly rest now now' cluster part
+round_early rest rest' now now' cluster next part part' taken chunk none out written consumed same empty fed is wrote input before total h =
+    let P : List ℕ → Type 0 = λ w. AppendsFront now now' w in
+    told_cut input rest rest' before now now' cluster next part part' taken out total h consumed (fed_here cluster next part part' taken chunk none out same empty fed) (subst P is wrote)
+
+-- which count rose, seen from where the counts began
+pub failed_since : (many : Type 0) (e : Refusal) (r0 r r' w0 w w' : ℕ) → r ≡ r0 → w ≡ w0 → Failed ⊥ e r r' w w' → Failed many e r0 r' w0 w'
+failed_since many e r0 r r' w0 w w' same_r same_w h =
+    let P : ℕ → Type 0 = λ k. Failed many e k r' w0 w' in
+    let Q : ℕ → Type 0 = λ k. Failed many e r r' k w' in
+    subst P same_r (subst Q same_w (weaker e h)) where
+      weaker : (e : Refusal) → Failed ⊥ e r r' w w' → Failed many e r r' w w'
+      weaker Memory h = h
+      weaker ReadFault h = (elim h.0 [ inl rose ↦ inl rose | inr none ↦ absurd none.0 ], h.1)
+      weaker WriteFault h = h
+      weaker other h = h
+
+-- the last part was answered and written at the end of the input
+pub told_all : (input rest before now now' : Option (List ℕ)) (cluster : Option ClusterParts) (part out : List ℕ) (total : ℕ)
+    → Sofar input rest before now cluster part total → IsAtEnd rest → out ≡ text_from cluster part [] → Appends now now' out → ToldAll input before now'
+told_all None rest before now now' cluster part out total h end is wrote = tt
+told_all (Some xs) None before now now' cluster part out total h end is wrote = absurd h
+told_all (Some xs) (Some ys) before now now' cluster part out total h end is wrote =
+    let text : script_text xs ≡ h.1 ++ out = ap script_text h.2 ∙ h.5 ys ∙ ap (λ (r : List ℕ). h.1 ++ text_from cluster part r) end ∙ ap (λ (t : List ℕ). h.1 ++ t) (sym is) in
+    let P : List ℕ → Type 0 = λ t. Appends before now' t in
+    subst P (sym text) (appends_both before now now' h.1 out h.4 wrote)
+
+-- more was read than a call reads
+pub gave_more : (input rest before now : Option (List ℕ)) (cluster : Option ClusterParts) (part : List ℕ) (total : ℕ) → Sofar input rest before now cluster part total → read_limit < total → GaveMore input rest
+gave_more None rest before now cluster part total h past = tt
+gave_more (Some xs) None before now cluster part total h past = absurd h
+gave_more (Some xs) (Some ys) before now cluster part total h past =
+    let lengths : length xs ≡ length h.0 + length ys = ap length h.2 ∙ length-append h.0 ys in omega (arith, h.3)
+
+-- a reader that failed has what it had
+pub told_kept : (input rest rest' before now : Option (List ℕ)) (cluster : Option ClusterParts) (part : List ℕ) (total : ℕ) → Sofar input rest before now cluster part total → Keeps rest rest' → Sofar input rest' before now cluster part total
+told_kept None rest rest' before now cluster part total h kept = tt
+told_kept (Some xs) None rest' before now cluster part total h kept = absurd h
+told_kept (Some xs) (Some ys) None before now cluster part total h kept = absurd kept
+told_kept (Some xs) (Some ys) (Some zs) before now cluster part total h kept = let P : List ℕ → Type 0 = λ r. Sofar (Some xs) (Some r) before now cluster part total in subst P (sym kept) h
+
+-- a write that took some bytes didn't fail
+pub took_some : (taken n : ℕ) (piece : List ℕ) → taken ≢ 0 → cond (taken == 0 && not (length piece == 0)) (one_more n) n ≡ n
+took_some taken n piece some =
+    let test : (taken == 0) ≡ false = grind (arith, nat_tests) in
+    ap (λ (t : Bool). cond (t && not (length piece == 0)) (one_more n) n) test

@@ -1,0 +1,10 @@
+pub mod Cluster
+pub mod History
+pub mod Line
+pub mod Reading
+pub mod ReplyText
+pub mod Run
+pub mod Script
+pub mod TableWords
+pub mod Told
+pub mod Word

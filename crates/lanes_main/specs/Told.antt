@@ -1,0 +1,65 @@
+-- What a script has told its writer of what its reader gave, where readers and writers tell their bytes.
+use Rattle.std.specs.Prelude.{◌≡◌, ◌≢◌, ◌⊎◌, ℕ, ◌+◌, ◌-◌, ◌^◌, ◌<◌, min, List, ◌++◌, length, Option, Some, None, Result, Ok, Err}
+use Rattle.std.specs.Io.KnownBytes.{Appends}
+use Rattle.table_model.specs.Counted.{one_more}
+use Rattle.table_model.specs.declared.refusal.Refusal.{Refusal}
+use Rattle.table_model.specs.declared.refusal.Refusal.TheVariants.{Memory, ReadFault, WriteFault}
+use Rattle.lanes_main.specs.Cluster.{ClusterParts}
+use Rattle.lanes_main.specs.Script.{script_text, text_from}
+
+-- A part of the input with so many bytes was read, and what was written is what the script's text begins with, whatever bytes
+-- follow that part: what is still to come is the text from the part of a line that was read last.
+abbrev pub Sofar : Option (List ℕ) → Option (List ℕ) → Option (List ℕ) → Option (List ℕ) → Option ClusterParts → List ℕ → ℕ → Type 0
+Sofar None rest before now cluster part total = Unit {0}
+Sofar (Some input) None before now cluster part total = ⊥
+Sofar (Some input) (Some rest) before now cluster part total =
+    (read : List ℕ) × (done : List ℕ) × (input ≡ read ++ rest) × (length read ≡ total) × Appends before now done × ((more : List ℕ) → script_text (read ++ more) ≡ done ++ text_from cluster part more)
+
+-- the known bytes grew by a front of the text
+abbrev pub AppendsFront : Option (List ℕ) → Option (List ℕ) → List ℕ → Type 0
+AppendsFront before now text = (front : List ℕ) × (back : List ℕ) × (text ≡ front ++ back) × Appends before now front
+
+-- a front of the script's text was written
+abbrev pub ToldFront : Option (List ℕ) → Option (List ℕ) → Option (List ℕ) → Type 0
+ToldFront None before now = Unit {0}
+ToldFront (Some input) before now = AppendsFront before now (script_text input)
+
+-- the whole text was written
+abbrev pub ToldAll : Option (List ℕ) → Option (List ℕ) → Option (List ℕ) → Type 0
+ToldAll None before now = Unit {0}
+ToldAll (Some input) before now = Appends before now (script_text input)
+
+-- so many more bytes are read, their lines are answered, and the replies are written
+abbrev pub GoesOn : Option (List ℕ) → Option (List ℕ) → Option (List ℕ) → Option (List ℕ) → Option ClusterParts → List ℕ → Option ClusterParts → List ℕ → ℕ → Type 0
+GoesOn rest rest' now now' cluster part next part' n =
+    (input before : Option (List ℕ)) (total : ℕ) → Sofar input rest before now cluster part total → Sofar input rest' before now' next part' (total + n)
+
+-- what is written is still a front of the script's text
+abbrev pub EndsEarly : Option (List ℕ) → Option (List ℕ) → Option (List ℕ) → Option ClusterParts → List ℕ → Type 0
+EndsEarly rest now now' cluster part = (input before : Option (List ℕ)) (total : ℕ) → Sofar input rest before now cluster part total → ToldFront input before now'
+
+-- a read that failed leaves what was told
+abbrev pub StaysTold : Option (List ℕ) → Option (List ℕ) → Option (List ℕ) → Option (List ℕ) → Option ClusterParts → List ℕ → Type 0
+StaysTold rest rest' now now' cluster part =
+    (input before : Option (List ℕ)) (total : ℕ) → Sofar input rest before now cluster part total → Sofar input rest' before now' cluster part total
+
+-- all lines that were read whole are answered, and nothing else
+abbrev pub Reached : Option (List ℕ) → Option (List ℕ) → Option (List ℕ) → Option (List ℕ) → Type 0
+Reached input rest before now = (cluster : Option ClusterParts) × (part : List ℕ) × (total : ℕ) × Sofar input rest before now cluster part total
+
+-- the most that one call reads
+abbrev pub read_limit : ℕ
+read_limit = 281474976710656
+
+-- the reader gave more than a call reads
+abbrev pub GaveMore : Option (List ℕ) → Option (List ℕ) → Type 0
+GaveMore None rest = Unit {0}
+GaveMore (Some input) None = ⊥
+GaveMore (Some input) (Some rest) = read_limit + length rest < length input
+
+-- Which count of failures rose with a refusal, the reader's or the writer's; many is what else makes a ReadFault.
+abbrev pub Failed : Type 0 → Refusal → ℕ → ℕ → ℕ → ℕ → Type 0
+Failed many Memory r r' w w' = (r' ≡ r) × (w' ≡ w)
+Failed many ReadFault r r' w w' = ((r' ≡ one_more r) ⊎ (many × (r' ≡ r))) × (w' ≡ w)
+Failed many WriteFault r r' w w' = (r' ≡ r) × (w' ≡ one_more w)
+Failed many other r r' w w' = ⊥

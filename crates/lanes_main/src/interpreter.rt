@@ -1,0 +1,129 @@
+//! Scripts: lines are read, and each is answered.
+ghost use Rattle.std.specs.Prelude.{◌≡◌, ◌⊎◌, ◌<◌, ◌≤◌, [], length, Option, List, ℕ, MatchResult, IfOk, IfErr, OnOk, OnErr};
+ghost use Rattle.std.specs.Io.KnownBytes.{Appends, Consumes, IsAtEnd, Keeps};
+ghost use Rattle.table_model.specs.Counted.{one_more};
+ghost use Rattle.lanes_main.specs.Told.{Sofar, AppendsFront, ToldFront, ToldAll, Reached, GaveMore, Failed, GoesOn, EndsEarly, StaysTold};
+
+use crate::session::{Session, feed, finish};
+use std::alloc::Global;
+use std::io::{Read, Write};
+use table_model::{Counted, Refusal};
+
+/// The most bytes that one call reads.
+const READ_LIMIT: u64 = 281_474_976_710_656;
+
+/// One more than that: each round but the last reads a byte at least.
+const ROUNDS: u64 = 281_474_976_710_657;
+
+/// How many bytes are asked for at once.
+const CHUNK: usize = 65_536;
+
+/// Writes all bytes.
+fn write_whole<W: Write>(writer: &mut Counted<W>, bytes: &[u8]) -> Result<(), Refusal>
+    ensures ok { OnOk result (Appends (W.contents writer.old.0) (W.contents writer.new.0) bytes.now) }
+    ensures front { OnErr result (AppendsFront (W.contents writer.old.0) (W.contents writer.new.0) bytes.now) }
+    ensures kept { OnOk result (writer.new.1 ≡ writer.old.1) }
+    ensures fault { IfErr result (λ e. (e ≡ Refusal.WriteFault) × (writer.new.1 ≡ one_more writer.old.1)) }
+{
+    let mut rest = bytes;
+    while !rest.is_empty() {
+        let Ok(taken) = writer.write(rest) else {
+            return Err(Refusal::WriteFault);
+        };
+        if taken == 0 {
+            return Err(Refusal::WriteFault);
+        }
+        let (_, left) = rest.split_at(taken);
+        rest = left;
+    }
+    Ok(())
+}
+
+/// Reads once, answers the lines that end in what came, and writes their replies; answers how many bytes came, 0 at the end.
+fn round<R: Read, W: Write>(
+    alloc: Global,
+    reader: &mut Counted<R>,
+    writer: &mut Counted<W>,
+    session: &mut Session,
+    buffer: &mut [u8],
+) -> Result<usize, Refusal>
+    requires { 0 < length buffer.old }
+    ensures told { IfOk result (λ n. GoesOn (R.remaining reader.old.0) (R.remaining reader.new.0) (W.contents writer.old.0) (W.contents writer.new.0)
+        session.old.cluster session.old.line.items session.new.cluster session.new.line.items n) }
+    ensures bound { IfOk result (λ n. n ≤ length buffer.old) }
+    ensures end { IfOk result (λ n. n ≡ 0 → IsAtEnd (R.remaining reader.new.0)) }
+    ensures early { OnErr result (EndsEarly (R.remaining reader.old.0) (W.contents writer.old.0) (W.contents writer.new.0) session.old.cluster session.old.line.items) }
+    ensures reached { IfErr result (λ e. e ≡ Refusal.ReadFault → StaysTold (R.remaining reader.old.0) (R.remaining reader.new.0) (W.contents writer.old.0) (W.contents writer.new.0)
+        session.old.cluster session.old.line.items) }
+    ensures kept { OnOk result ((reader.new.1 ≡ reader.old.1) × (writer.new.1 ≡ writer.old.1)) }
+    ensures fault { IfErr result (λ e. Failed ⊥ e reader.old.1 reader.new.1 writer.old.1 writer.new.1) }
+{
+    let Ok(count) = reader.read(buffer) else {
+        return Err(Refusal::ReadFault);
+    };
+    let mut out = Vec::new(alloc);
+    let (chunk, _) = buffer.split_at(count);
+    feed(alloc, session, &mut out, chunk)?;
+    write_whole(writer, out.as_slice())?;
+    Ok(count)
+}
+
+/// Reads to the end of the input; what is left is a part of a line that no line feed ended.
+fn rounds<R: Read, W: Write>(
+    alloc: Global,
+    reader: &mut Counted<R>,
+    writer: &mut Counted<W>,
+    buffer: &mut [u8],
+) -> Result<Session, Refusal>
+    requires some { 0 < length buffer.old }
+    requires limit { length buffer.old ≤ 65536 }
+    ensures end { OnOk result (IsAtEnd (R.remaining reader.new.0)) }
+    ensures told { IfOk result (λ session. (total : ℕ) × Sofar (R.remaining reader.old.0) (R.remaining reader.new.0) (W.contents writer.old.0) (W.contents writer.new.0)
+        session.cluster session.line.items total) }
+    ensures early { OnErr result (ToldFront (R.remaining reader.old.0) (W.contents writer.old.0) (W.contents writer.new.0)) }
+    ensures reached { IfErr result (λ e. e ≡ Refusal.ReadFault → Reached (R.remaining reader.old.0) (R.remaining reader.new.0) (W.contents writer.old.0) (W.contents writer.new.0)) }
+    ensures kept { OnOk result ((reader.new.1 ≡ reader.old.1) × (writer.new.1 ≡ writer.old.1)) }
+    ensures fault { IfErr result (λ e. Failed (GaveMore (R.remaining reader.old.0) (R.remaining reader.new.0)) e reader.old.1 reader.new.1 writer.old.1 writer.new.1) }
+{
+    let mut session = Session {
+        cluster: None,
+        line: Vec::new(alloc),
+    };
+    let mut total: u64 = 0;
+    for _turn in 0..ROUNDS {
+        let count = round(alloc, reader, writer, &mut session, buffer)?;
+        if count == 0 {
+            return Ok(session);
+        }
+        total += count as u64;
+        if total > READ_LIMIT {
+            return Err(Refusal::ReadFault);
+        }
+    }
+    Err(Refusal::ReadFault)
+}
+
+/// Reads a script to its end, and writes the reply to each line that isn't empty.
+///
+/// `Memory`, `ReadFault` and `WriteFault` end it with that refusal. After `ReadFault` the replies of all lines that were read
+/// whole are written; after each of them what was written is a front of the script's text. `ReadFault` is answered only where the
+/// reader's count of failures rose or it gave more than 2^48 bytes, and `WriteFault` only where the writer's rose. Of its input it
+/// holds one line at most, and a buffer.
+pub fn script<R: Read, W: Write>(
+    alloc: Global,
+    reader: &mut Counted<R>,
+    writer: &mut Counted<W>,
+) -> Result<(), Refusal>
+    ensures text { MatchResult result (λ _. ToldAll (R.remaining reader.old.0) (W.contents writer.old.0) (W.contents writer.new.0))
+        (λ _. ToldFront (R.remaining reader.old.0) (W.contents writer.old.0) (W.contents writer.new.0)) }
+    ensures reached { IfErr result (λ e. e ≡ Refusal.ReadFault → Reached (R.remaining reader.old.0) (R.remaining reader.new.0) (W.contents writer.old.0) (W.contents writer.new.0)) }
+    ensures kept { OnOk result ((reader.new.1 ≡ reader.old.1) × (writer.new.1 ≡ writer.old.1)) }
+    ensures fault { IfErr result (λ e. Failed (GaveMore (R.remaining reader.old.0) (R.remaining reader.new.0)) e reader.old.1 reader.new.1 writer.old.1 writer.new.1) }
+{
+    let mut buffer = vec![in alloc; 0u8; CHUNK]?;
+    let mut session = rounds(alloc, reader, writer, buffer.as_mut_slice())?;
+    let mut out = Vec::new(alloc);
+    finish(alloc, &mut session, &mut out)?;
+    write_whole(writer, out.as_slice())?;
+    Ok(())
+}

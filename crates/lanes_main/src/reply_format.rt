@@ -1,0 +1,73 @@
+//! The texts of replies.
+ghost use Rattle.std.specs.Prelude.{◌≡◌, ◌++◌, OnOk, IfOk, decimal};
+ghost use Rattle.table_model.specs.Name.{name_text};
+ghost use Rattle.table_model.specs.RefusalText.{refusal_text};
+ghost use Rattle.lanes_main.specs.ReplyText.{named_text, put_text, answered_text, refused_text, reply_text_of};
+
+use crate::answer_text::{write_answer, write_number};
+use crate::reply::Reply;
+use replica_store::Inserted;
+use std::alloc::{AllocError, Global};
+use table_model::{Answer, BatchName, Refusal};
+
+/// The text of a reply, each of its lines ended by a line feed.
+pub fn reply_text(alloc: Global, reply: &Reply) -> Result<Vec<u8>, AllocError>
+    ensures { IfOk result (λ text. text.items ≡ reply_text_of reply.now) }
+{
+    let mut out = Vec::new(alloc);
+    write_reply(alloc, &mut out, reply)?;
+    Ok(out)
+}
+
+/// Writes the text of a reply behind what is there.
+#[tactic(auto, unfolding(crate::specs::ReplyText::reply_text_of))]
+pub fn write_reply(alloc: Global, out: &mut Vec<u8>, reply: &Reply) -> Result<(), AllocError>
+    ensures { OnOk result (out.new.items ≡ out.old.items ++ reply_text_of reply.now) }
+{
+    match reply {
+        Reply::Done => out.extend_from_slice(b"ok\n"),
+        Reply::Named(name) => write_named(out, *name),
+        Reply::Put(inserted) => write_put(out, *inserted),
+        Reply::Answered(answer) => write_answered(out, answer),
+        Reply::Refused(refusal) => write_refused(alloc, out, *refusal),
+    }
+}
+
+/// Writes the name that a batch has got.
+fn write_named(out: &mut Vec<u8>, name: BatchName) -> Result<(), AllocError>
+    ensures { OnOk result (out.new.items ≡ out.old.items ++ named_text name) }
+{
+    out.extend_from_slice(b"ok ")?;
+    write_number(out, u64::from(name.origin.0))?;
+    out.extend_from_slice(b".")?;
+    write_number(out, u64::from(name.number.0))?;
+    out.extend_from_slice(b"\n")
+}
+
+/// Writes whether a batch that was put is new.
+fn write_put(out: &mut Vec<u8>, inserted: Inserted) -> Result<(), AllocError>
+    ensures { OnOk result (out.new.items ≡ out.old.items ++ put_text inserted) }
+{
+    match inserted {
+        Inserted::New => out.extend_from_slice(b"ok new\n"),
+        Inserted::Already => out.extend_from_slice(b"ok already\n"),
+    }
+}
+
+/// Writes how many rows an answer has, and the answer.
+fn write_answered(out: &mut Vec<u8>, answer: &Answer) -> Result<(), AllocError>
+    ensures { OnOk result (out.new.items ≡ out.old.items ++ answered_text answer.now) }
+{
+    out.extend_from_slice(b"ok ")?;
+    write_number(out, answer.rows().len() as u64)?;
+    out.extend_from_slice(b"\n")?;
+    write_answer(out, answer)
+}
+
+/// Writes a refusal's name and values.
+fn write_refused(alloc: Global, out: &mut Vec<u8>, refusal: Refusal) -> Result<(), AllocError>
+    ensures { OnOk result (out.new.items ≡ out.old.items ++ refused_text refusal) }
+{
+    let text = format!(in alloc; "refused {refusal}\n")?;
+    out.extend_from_slice(text.as_bytes())
+}

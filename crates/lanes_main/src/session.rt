@@ -1,0 +1,214 @@
+//! The lines of a script as they come, and their replies.
+ghost use Rattle.std.specs.Prelude.{◌≡◌, ◌≢◌, ◌<◌, ◌∷◌, ◌++◌, ◌==◌, [], List, ℕ, Some, position, IfOk, IfErr, IfSome, OnOk, length, option_map};
+ghost use Rattle.table_model.specs.Table.{schema_of};
+ghost use Rattle.lanes_main.specs.Line.{command_of};
+ghost use Rattle.lanes_main.specs.Run.{answered};
+ghost use Rattle.lanes_main.specs.Cluster.{step_of};
+ghost use Rattle.lanes_main.specs.Word.{cut};
+ghost use Rattle.lanes_main.specs.Script.{founded, first_answer, later_answer, line_answer, line_text, after_line, text_from, grown};
+
+use crate::cluster::Cluster;
+use crate::command::{Command, TableCommand};
+use crate::line::parse_line;
+use crate::reply::Reply;
+use crate::reply_format::write_reply;
+use crate::step::Step;
+use std::alloc::{AllocError, Global};
+use table_model::{Refusal, Schema};
+
+/// The greatest number of bytes of a line, without its line feed.
+const LINE_LIMIT: usize = 1_048_576;
+
+/// What a script has made so far: the cluster, once there is a table, and the part of a line that was read last.
+#[derive(Drop)]
+pub struct Session {
+    pub cluster: Option<Cluster>,
+    pub line: Vec<u8>,
+}
+
+/// A refusal as a reply, unless memory lacked: that ends a script.
+fn unless_memory(refusal: Refusal) -> Result<Reply, Refusal>
+    ensures ok { IfOk result (λ reply. (reply ≡ Reply.Refused refusal) × (refusal ≢ Refusal.Memory)) }
+    ensures memory { IfErr result (λ e. e ≡ Refusal.Memory) }
+{
+    match refusal {
+        Refusal::Memory => Err(Refusal::Memory),
+        other => Ok(Reply::Refused(other)),
+    }
+}
+
+/// The command that a line is, if it is one.
+fn command<'a>(alloc: Global, line: &'a [u8]) -> Result<Option<Command<'a>>, Refusal>
+    ensures ok { IfOk result (λ command. command_of line.now ≡ command) }
+    ensures memory { IfErr result (λ e. e ≡ Refusal.Memory) }
+{
+    match parse_line(alloc, line) {
+        Ok(command) => Ok(Some(command)),
+        Err(Refusal::Memory) => Err(Refusal::Memory),
+        Err(_) => Ok(None),
+    }
+}
+
+/// The reply to a line that makes a table, and the cluster that it made.
+fn found(alloc: Global, table: &TableCommand<'_>) -> Result<(Reply, Option<Cluster>), Refusal>
+    ensures ok { IfOk result (λ made. founded table.now (schema_of table.now.table table.now.columns) ≡ (made.0, made.1)) }
+    ensures memory { IfErr result (λ e. e ≡ Refusal.Memory) }
+{
+    match Schema::new(alloc, table.table(), table.columns()) {
+        Ok(schema) => {
+            let cluster = Cluster::new(alloc, &schema, table.replicas())?;
+            Ok((Reply::Done, Some(cluster)))
+        }
+        Err(refusal) => {
+            let reply = unless_memory(refusal)?;
+            Ok((reply, None))
+        }
+    }
+}
+
+/// The reply to a line while there is no table, and the cluster that it made.
+fn first_reply(alloc: Global, line: &[u8]) -> Result<(Reply, Option<Cluster>), Refusal>
+    ensures ok { IfOk result (λ made. first_answer (command_of line.now) ≡ (made.0, made.1)) }
+    ensures memory { IfErr result (λ e. e ≡ Refusal.Memory) }
+{
+    match command(alloc, line)? {
+        Some(Command::Table(table)) => found(alloc, &table),
+        Some(Command::Act(_)) => Ok((Reply::Refused(Refusal::BadLine), None)),
+        None => Ok((Reply::Refused(Refusal::BadLine), None)),
+    }
+}
+
+/// The reply to a step, unless memory lacked.
+fn act(alloc: Global, cluster: &mut Cluster, step: &Step) -> Result<Reply, Refusal>
+    ensures ok { IfOk result (λ reply. answered (step_of cluster.old step.now) cluster.old ≡ (reply, cluster.new)) }
+    ensures memory { IfErr result (λ e. e ≡ Refusal.Memory) }
+{
+    match cluster.act(alloc, step) {
+        Ok(reply) => Ok(reply),
+        Err(refusal) => unless_memory(refusal),
+    }
+}
+
+/// The reply to a line once there is a table.
+fn later_reply(alloc: Global, cluster: &mut Cluster, line: &[u8]) -> Result<Reply, Refusal>
+    ensures ok { IfOk result (λ reply. later_answer cluster.old (command_of line.now) ≡ (reply, Some cluster.new)) }
+    ensures memory { IfErr result (λ e. e ≡ Refusal.Memory) }
+{
+    match command(alloc, line)? {
+        Some(Command::Act(step)) => act(alloc, cluster, &step),
+        Some(Command::Table(_)) => Ok(Reply::Refused(Refusal::BadLine)),
+        None => Ok(Reply::Refused(Refusal::BadLine)),
+    }
+}
+
+/// The reply to a line that isn't empty.
+#[tactic(auto, unfolding(crate::specs::Script::line_answer))]
+fn line_reply(alloc: Global, cluster: &mut Option<Cluster>, line: &[u8]) -> Result<Reply, Refusal>
+    ensures ok { IfOk result (λ reply. line_answer cluster.old line.now ≡ (reply, cluster.new)) }
+    ensures memory { IfErr result (λ e. e ≡ Refusal.Memory) }
+{
+    if line.len() > LINE_LIMIT {
+        return Ok(Reply::Refused(Refusal::LineTooLong));
+    }
+    match cluster {
+        Some(open) => later_reply(alloc, open, line),
+        None => {
+            let (reply, made) = first_reply(alloc, line)?;
+            *cluster = made;
+            Ok(reply)
+        }
+    }
+}
+
+/// Answers a line: writes the text of its reply behind what is there. An empty line has none.
+fn answer_line(
+    alloc: Global,
+    cluster: &mut Option<Cluster>,
+    out: &mut Vec<u8>,
+    line: &[u8],
+) -> Result<(), Refusal>
+    ensures text { OnOk result (out.new.items ≡ out.old.items ++ line_text cluster.old line.now) }
+    ensures after { OnOk result (cluster.new ≡ after_line cluster.old line.now) }
+    ensures memory { IfErr result (λ e. e ≡ Refusal.Memory) }
+{
+    if line.is_empty() {
+        return Ok(());
+    }
+    let reply = line_reply(alloc, cluster, line)?;
+    write_reply(alloc, out, &reply)?;
+    Ok(())
+}
+
+/// Adds more of a line to its part, which stops growing one byte past the limit.
+fn grow(line: &mut Vec<u8>, more: &[u8]) -> Result<(), AllocError>
+    ensures { OnOk result (line.new.items ≡ grown line.old.items more.now) }
+{
+    let room = (LINE_LIMIT + 1).saturating_sub(line.len());
+    let kept = room.min(more.len());
+    line.extend_from_slice(&more[..kept])
+}
+
+/// Where the first line feed stands.
+fn line_end(bytes: &[u8]) -> Option<usize>
+    ensures { result ≡ position (λ byte. byte == 10) bytes.now }
+{
+    bytes.iter().position(|byte| *byte == b'\n')
+}
+
+/// What stands before the first line feed and what stands after it, where there is one.
+fn cut_line(bytes: &[u8]) -> Option<(&[u8], &[u8])>
+    ensures parts { option_map (λ parts. (parts.0.now, parts.1.now)) result ≡ cut 10 bytes.now }
+    ensures shorter { IfSome result (λ parts. length parts.1.now < length bytes.now) }
+{
+    match line_end(bytes) {
+        None => None,
+        Some(end) => Some((&bytes[..end], &bytes[end + 1..])),
+    }
+}
+
+/// Answers the line that the session's part and the piece make together.
+fn end_line(
+    alloc: Global,
+    session: &mut Session,
+    out: &mut Vec<u8>,
+    piece: &[u8],
+) -> Result<(), Refusal>
+    ensures text { OnOk result (out.new.items ≡ out.old.items ++ line_text session.old.cluster (grown session.old.line.items piece.now)) }
+    ensures after { OnOk result (session.new.cluster ≡ after_line session.old.cluster (grown session.old.line.items piece.now)) }
+    ensures line { OnOk result (session.new.line.items ≡ []) }
+    ensures memory { IfErr result (λ e. e ≡ Refusal.Memory) }
+{
+    grow(&mut session.line, piece)?;
+    answer_line(alloc, &mut session.cluster, out, session.line.as_slice())?;
+    session.line.clear();
+    Ok(())
+}
+
+/// Answers each line that the chunk ends, and keeps what follows the last of them.
+pub fn feed(
+    alloc: Global,
+    session: &mut Session,
+    out: &mut Vec<u8>,
+    chunk: &[u8],
+) -> Result<(), Refusal>
+    ensures ok { OnOk result ((more : List ℕ) → out.old.items ++ text_from session.old.cluster session.old.line.items (chunk.now ++ more)
+        ≡ out.new.items ++ text_from session.new.cluster session.new.line.items more) }
+    ensures memory { IfErr result (λ e. e ≡ Refusal.Memory) }
+{
+    let mut left = chunk;
+    while let Some((piece, after)) = cut_line(left) {
+        end_line(alloc, session, out, piece)?;
+        left = after;
+    }
+    grow(&mut session.line, left)?;
+    Ok(())
+}
+
+/// Answers the last line, which no line feed ends.
+pub fn finish(alloc: Global, session: &mut Session, out: &mut Vec<u8>) -> Result<(), Refusal>
+    ensures ok { OnOk result (out.new.items ≡ out.old.items ++ text_from session.old.cluster session.old.line.items []) }
+    ensures memory { IfErr result (λ e. e ≡ Refusal.Memory) }
+{
+    answer_line(alloc, &mut session.cluster, out, session.line.as_slice())?;
+    Ok(())
+}

@@ -1,0 +1,69 @@
+//! Steps of a history over numbered replicas.
+ghost use Rattle.std.specs.Prelude.{◌≡◌};
+ghost use Rattle.std.specs.String.{string_bytes};
+
+use std::marker::Model;
+use table_model::{BatchName, RowName, Rows};
+
+/// The text of a query. Contracts see it as its bytes.
+#[derive(Drop)]
+pub struct Sql {
+    text: String,
+}
+
+impl Model for Sql {
+    ghost use Rattle.std.specs.Prelude.{List, ℕ};
+    ghost use Rattle.std.specs.String.{string_bytes};
+
+    ghost Value = { List ℕ };
+
+    ghost view = { λ sql. string_bytes sql.text };
+}
+
+impl Sql {
+    /// The query of this text. It takes no memory.
+    pub fn from_string(text: String) -> Sql
+        ensures { result ≡ string_bytes text }
+    {
+        Sql { text }
+    }
+
+    /// The text.
+    pub fn as_str(&self) -> &str
+        ensures { result.now ≡ self.now }
+    {
+        self.text.as_str()
+    }
+}
+
+/// What a replica is asked to do. Replicas are numbered from 1.
+#[derive(Drop)]
+pub enum Step {
+    /// Adds a batch of these rows under a new name of the replica's own origin.
+    Append {
+        replica: u32,
+        rows: Rows,
+    },
+    /// Adds a batch of these rows under the name that is given.
+    Insert {
+        replica: u32,
+        name: BatchName,
+        rows: Rows,
+    },
+    /// Deletes the rows of one batch from the first's ordinal to the last.
+    Delete {
+        replica: u32,
+        first: RowName,
+        last: u16,
+    },
+    /// Adds to the replica what the other one has.
+    Merge {
+        replica: u32,
+        other: u32,
+    },
+    /// Asks the replica for the answer of a query.
+    Query {
+        replica: u32,
+        sql: Sql,
+    },
+}

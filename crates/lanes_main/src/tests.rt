@@ -1,0 +1,148 @@
+//! Scripts and the texts that they give, worked out by hand from the rules of lines and steps.
+use crate::script;
+use std::alloc::Global;
+use std::io;
+use std::io::{Read, Write};
+use std::test::Fail;
+use table_model::{Counted, Refusal};
+
+/// What a script writes: its text, or the refusal that ended it.
+fn text_of(alloc: Global, input: &[u8]) -> Result<Vec<u8>, Refusal> {
+    let mut reader = Counted::new(input);
+    let mut writer = Counted::new(Vec::new(alloc));
+    script(alloc, &mut reader, &mut writer)?;
+    Ok(writer.into_inner())
+}
+
+const SCRIPTS: [(&str, &str); 12] = [
+    (
+        "table 2 T A SMALLINT\nappend 1 (7)\nmerge 2 1\nquery 2 SELECT COUNT(*) FROM T\nquery 2 SELECT COUNT(*) FROM U\n",
+        "ok\nok 1.1\nok\nok 1\nCOUNT(*)\n1\nrefused BadLine\n",
+    ),
+    (
+        "table 2 T A SMALLINT\ndelete 1 2.1 0 0\nappend 2 (1),(2),(3)\ndelete 2 2.1 9 9\nmerge 1 2\nmerge 2 1\nquery 1 SELECT COUNT(*) FROM T\n",
+        "ok\nok\nok 2.1\nok\nok\nok\nok 1\nCOUNT(*)\n2\n",
+    ),
+    (
+        "table 2 T A SMALLINT\ninsert 1 1.1 (1)\ninsert 2 1.1 (2)\nmerge 1 2\ninsert 1 1.1 (1)\n",
+        "ok\nok new\nok new\nrefused Conflict 1.1\nok already\n",
+    ),
+    (
+        "table 2 T A SMALLINT\ninsert 1 1.4294967295 (1)\nappend 1 (2)\n",
+        "ok\nok new\nrefused NumbersSpent\n",
+    ),
+    (
+        "table 2 T A SMALLINT\nappend 1 (1,2)\nappend 1 (32768)\nmerge 3 1\nmerge 0 0\nappend 1 7\ndelete 1 0.1 0 0\ndelete 1 1.1 5 4\n",
+        "ok\nrefused WrongArity 0\nrefused OutOfType 0 0\nrefused NoSuchReplica\nrefused NoSuchReplica\nrefused BadLine\nrefused BadName\nrefused BadRange 0\n",
+    ),
+    // Before a table each other line is BadLine; a refused table makes nothing; a second one is BadLine.
+    (
+        "merge 1 1\ntable 65 T A SMALLINT\ntable 1 T A TINYINT\ntable 1 1T A SMALLINT\ntable 1 T A SMALLINT\ntable 1 T A SMALLINT\nmerge 1 1\n",
+        "refused BadLine\nrefused BadLine\nrefused BadLine\nrefused BadSchema\nok\nrefused BadLine\nok\n",
+    ),
+    // An empty line has no reply, and a last line without a line feed counts.
+    ("\n\ntable 1 T A SMALLINT\n\nmerge 1 1", "ok\nok\n"),
+    // Empty words and bytes outside 20 to 7E are BadLine; leading zeros are taken, and a minus zero is zero.
+    (
+        "table 1 T A SMALLINT\nmerge  1 1\nmerge 1 1 \n merge 1 1\nmerge\t1 1\nmerge 01 0000000001\nappend 1 (-0),(NULL),(007)\nappend 1 (+1)\nappend 1 (null)\n",
+        "ok\nrefused BadLine\nrefused BadLine\nrefused BadLine\nrefused BadLine\nok\nok 1.1\nrefused BadLine\nrefused BadLine\n",
+    ),
+    // Numbers of 11 digits, ordinals of 6 and values of 31 are BadLine, and so is a number past its limit.
+    (
+        "table 1 T A SMALLINT\nmerge 1 00000000001\nmerge 1 4294967296\ndelete 1 1.1 0 000001\ndelete 1 1.1 0 65536\nappend 1 (0000000000000000000000000000001)\nappend 1 (000000000000000000000000000001)\n",
+        "ok\nrefused BadLine\nrefused BadLine\nrefused BadLine\nrefused BadLine\nrefused BadLine\nok 1.1\n",
+    ),
+    // Rows are values in parentheses, joined by commas, without spaces.
+    (
+        "table 1 T A SMALLINT B BIGINT\nappend 1 (1,2),(3,4)\nappend 1 (1,2)(3,4)\nappend 1 (1,2),\nappend 1 ()\nappend 1 (1,,2)\nappend 1 (1, 2)\nquery 1 SELECT COUNT(*) FROM T\n",
+        "ok\nok 1.1\nrefused BadLine\nrefused BadLine\nrefused BadLine\nrefused BadLine\nrefused BadLine\nok 1\nCOUNT(*)\n2\n",
+    ),
+    // The order of a query's refusals: its text before its replica.
+    (
+        "table 1 t A SMALLINT\nquery 9 SELECT COUNT(*) FROM U\nquery 9 SELECT COUNT(*) FROM T\nquery 1 \nquery 1\nask 1\n",
+        "ok\nrefused BadLine\nrefused NoSuchReplica\nrefused BadLine\nrefused BadLine\nrefused BadLine\n",
+    ),
+    ("", ""),
+];
+
+#[test]
+fn a_script_has_the_reply_to_each_line(rt: HostRuntime) -> Result<(), Fail> {
+    for (input, want) in SCRIPTS {
+        let text = text_of(rt.alloc(), input.as_bytes())?;
+        assert!(rt; text.as_slice() == want.as_bytes(), "at {input}");
+    }
+    Ok(())
+}
+
+#[test]
+fn a_line_of_more_than_its_limit_is_too_long_and_skipped(rt: HostRuntime) -> Result<(), Fail> {
+    let mut input = vec![in rt.alloc(); b'a'; 1_048_577]?;
+    input.extend_from_slice(b"\ntable 1 T A SMALLINT\n")?;
+    let text = text_of(rt.alloc(), input.as_slice())?;
+    assert!(rt; text.as_slice() == b"refused LineTooLong\nok\n".as_slice());
+    let text = text_of(rt.alloc(), &input[1..])?;
+    assert!(rt; text.as_slice() == b"refused BadLine\nok\n".as_slice());
+    Ok(())
+}
+
+/// Gives one piece of a script, and then fails.
+#[derive(Drop)]
+struct Broken {
+    reads: usize,
+}
+
+impl Read for Broken {
+    fn read(&mut self, buf: &mut [u8]) -> io::Result<usize> {
+        self.reads = self.reads.saturating_add(1);
+        if self.reads > 1 {
+            return Err(io::Error::from(io::ErrorKind::BrokenPipe));
+        }
+        let text = b"table 1 T A SMALLINT\nmerge 1 1\nmerge 1";
+        let count = text.len().min(buf.len());
+        buf[..count].copy_from_slice(&text[..count]);
+        Ok(count)
+    }
+}
+
+#[test]
+fn after_a_failed_read_the_whole_lines_are_answered(rt: HostRuntime) -> Result<(), Fail> {
+    let mut reader = Counted::new(Broken { reads: 0 });
+    let mut writer = Counted::new(Vec::new(rt.alloc()));
+    let outcome = script(rt.alloc(), &mut reader, &mut writer);
+    assert!(rt; outcome == Err(Refusal::ReadFault));
+    assert!(rt; reader.failures() == 1);
+    assert!(rt; writer.into_inner().as_slice() == b"ok\nok\n".as_slice());
+    Ok(())
+}
+
+/// Takes two bytes, and then none.
+#[derive(Drop)]
+struct Full {
+    taken: usize,
+}
+
+impl Write for Full {
+    fn write(&mut self, buf: &[u8]) -> io::Result<usize> {
+        if self.taken >= 2 {
+            return Ok(0);
+        }
+        let count = buf.len().min(2);
+        self.taken = self.taken.saturating_add(count);
+        Ok(count)
+    }
+
+    fn flush(&mut self) -> io::Result<()> {
+        Ok(())
+    }
+}
+
+#[test]
+fn a_write_that_takes_nothing_ends_a_script(rt: HostRuntime) -> Result<(), Fail> {
+    let mut reader = Counted::new(b"table 1 T A SMALLINT\n".as_slice());
+    let mut writer = Counted::new(Full { taken: 0 });
+    let outcome = script(rt.alloc(), &mut reader, &mut writer);
+    assert!(rt; outcome == Err(Refusal::WriteFault));
+    assert!(rt; writer.failures() == 1);
+    assert!(rt; writer.into_inner().taken == 2);
+    Ok(())
+}
