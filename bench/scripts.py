@@ -1,0 +1,72 @@
+#!/usr/bin/env python3
+"""Runs scripts through ./lanes and prints, for each, the size, seconds, MB of script text a second and peak memory."""
+import os, resource, subprocess, sys, tempfile, time
+
+TOP = os.path.dirname(os.path.dirname(os.path.abspath(__file__)))
+
+
+def small_batches(count):
+    """One replica takes so many batches of one row each."""
+    yield "table 1 T A SMALLINT\n"
+    for i in range(count):
+        yield f"append 1 ({i % 30000})\n"
+    yield "query 1 SELECT COUNT(*) FROM T\n"
+
+
+def long_lines(count, rows):
+    """One replica takes batches of so many rows each, a line a batch."""
+    yield "table 1 T A INTEGER\n"
+    row = ",".join(f"({i % 90000})" for i in range(rows))
+    for _ in range(count):
+        yield f"append 1 {row}\n"
+    yield "query 1 SELECT COUNT(*) FROM T\n"
+
+
+def scattered_deletes(count):
+    """Two replicas delete so many single rows each, no two side by side, and merge."""
+    yield "table 2 T A SMALLINT\n"
+    for i in range(count):
+        yield f"delete 1 1.{i // 16384 + 1} {i % 16384 * 4} {i % 16384 * 4}\n"
+    for i in range(count):
+        yield f"delete 2 1.{i // 16384 + 1} {i % 16384 * 4 + 2} {i % 16384 * 4 + 2}\n"
+    yield "merge 1 2\n"
+
+
+def merged_batches(count):
+    """Two replicas append so many batches each, and merge."""
+    yield "table 2 T A SMALLINT\n"
+    for i in range(count):
+        yield f"append 1 ({i % 30000})\n"
+        yield f"append 2 ({i % 30000})\n"
+    yield "merge 1 2\nmerge 2 1\nquery 2 SELECT COUNT(*) FROM T\n"
+
+
+def run(name, lines):
+    with tempfile.NamedTemporaryFile("w", suffix=".lanes", delete=False) as script:
+        script.writelines(lines)
+    size = os.path.getsize(script.name)
+    start = time.monotonic()
+    with open(script.name) as text:
+        child = subprocess.Popen([os.path.join(TOP, "lanes"), "run"], stdin=text, stdout=subprocess.PIPE)
+        last = ""
+        for line in child.stdout:
+            last = line
+        _, status, usage = os.wait4(child.pid, 0)
+    seconds = time.monotonic() - start
+    os.unlink(script.name)
+    print(f"{name:34} {size / 1e6:8.2f} MB {seconds:8.2f} s {size / 1e6 / seconds:8.2f} MB/s {usage.ru_maxrss / 1024:8.1f} MiB peak  status {status >> 8}  last reply {last.decode().strip()}", flush=True)
+
+
+def main():
+    subprocess.run([os.path.join(TOP, "lanes"), "--help"], stdout=subprocess.DEVNULL, check=True)
+    for count in (16384, 32768, 65536):
+        run(f"{count} batches of one row", small_batches(count))
+    run("64 batches of 65,536 rows", long_lines(64, 65536))
+    for count in (16384, 32768):
+        run(f"merge {count} batches with as many", merged_batches(count))
+    for count in (16384, 32768, 65536):
+        run(f"merge {count} scattered deletes", scattered_deletes(count))
+
+
+if __name__ == "__main__":
+    sys.exit(main())
