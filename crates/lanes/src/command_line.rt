@@ -1,9 +1,13 @@
 //! The command line, read by `clap`.
+ghost use Rattle.std.specs.Prelude.{◌≡◌, IfErr};
+ghost use Rattle.std.specs.IoError.{error_kind};
+ghost use Rattle.lanes.specs.Outcome.{IsUnread};
 
 use crate::fault::Fault;
-use clap::Command;
+use clap::{Command, error};
 use std::alloc::{AllocError, Global};
 use std::env;
+use std::io::{self, ErrorKind};
 use std::rt::Env;
 use table_model::Refusal;
 
@@ -14,17 +18,35 @@ pub enum Request {
     Run,
 }
 
-/// What the program's arguments ask for.
-pub fn read_request<R: Env + AllocGlobal>(rt: &R) -> Result<Request, Fault> {
-    let mut words = Vec::new(rt.alloc());
-    let Ok(arguments) = env::args(rt) else {
-        return Err(Fault::Refused(Refusal::ReadFault));
+/// What the program's arguments ask for; otherwise memory lacks, or the command line has a fault or asks for help.
+pub fn read_request<R: Env + AllocGlobal>(rt: &R) -> Result<Request, Fault>
+    ensures { IfErr result IsUnread }
+{
+    let mut commands = commands(rt.alloc())?;
+    let arguments = match env::args(rt) {
+        Ok(arguments) => arguments,
+        Err(error) => return Err(unread(&error, &mut commands)),
     };
+    let mut words = Vec::new(rt.alloc());
     for argument in arguments {
         words.push(argument).map_err(AllocError::from)?;
     }
-    commands(rt.alloc())?.try_get_matches_from(words.as_slice())?;
+    commands.try_get_matches_from(words.as_slice())?;
     Ok(Request::Run)
+}
+
+/// Why the arguments aren't there: memory lacks for them, or one of them isn't UTF-8.
+fn unread(failure: &io::Error, commands: &mut Command<'_>) -> Fault
+    ensures told { IsUnread result }
+    ensures memory { error_kind failure.now ≡ ErrorKind.OutOfMemory → result ≡ Fault.Refused Refusal.Memory }
+{
+    if failure.kind() == ErrorKind::OutOfMemory {
+        return Fault::Refused(Refusal::Memory);
+    }
+    match commands.error(error::ErrorKind::InvalidValue, "an argument is not UTF-8") {
+        Ok(fault) => Fault::from(fault),
+        Err(lacking) => Fault::from(lacking),
+    }
 }
 
 /// The program's commands.
