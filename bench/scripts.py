@@ -5,40 +5,44 @@ import os, resource, subprocess, sys, tempfile, time
 TOP = os.path.dirname(os.path.dirname(os.path.abspath(__file__)))
 
 
+def batches(replicas, kind, count, rows, last):
+    """Each replica appends so many batches, the rows of turn i being rows(i); the script ends with `last`."""
+    yield f"table {replicas} T A {kind}\n"
+    for i in range(count):
+        for replica in range(1, replicas + 1):
+            yield f"append {replica} {rows(i)}\n"
+    yield last
+
+
+def one_row(i):
+    return f"({i % 30000})"
+
+
 def small_batches(count):
     """One replica takes so many batches of one row each."""
-    yield "table 1 T A SMALLINT\n"
-    for i in range(count):
-        yield f"append 1 ({i % 30000})\n"
-    yield "query 1 SELECT COUNT(*) FROM T\n"
+    return batches(1, "SMALLINT", count, one_row, "query 1 SELECT COUNT(*) FROM T\n")
 
 
 def long_lines(count, rows):
     """One replica takes batches of so many rows each, a line a batch."""
-    yield "table 1 T A INTEGER\n"
     row = ",".join(f"({i % 90000})" for i in range(rows))
-    for _ in range(count):
-        yield f"append 1 {row}\n"
-    yield "query 1 SELECT COUNT(*) FROM T\n"
+    return batches(1, "INTEGER", count, lambda _: row, "query 1 SELECT COUNT(*) FROM T\n")
+
+
+def merged_batches(count):
+    """Two replicas append so many batches each, and merge."""
+    last = "merge 1 2\nmerge 2 1\nquery 2 SELECT COUNT(*) FROM T\n"
+    return batches(2, "SMALLINT", count, one_row, last)
 
 
 def scattered_deletes(count):
     """Two replicas delete so many single rows each, no two side by side, and merge."""
     yield "table 2 T A SMALLINT\n"
-    for i in range(count):
-        yield f"delete 1 1.{i // 16384 + 1} {i % 16384 * 4} {i % 16384 * 4}\n"
-    for i in range(count):
-        yield f"delete 2 1.{i // 16384 + 1} {i % 16384 * 4 + 2} {i % 16384 * 4 + 2}\n"
+    for replica, first in ((1, 0), (2, 2)):
+        for i in range(count):
+            row = i % 16384 * 4 + first
+            yield f"delete {replica} 1.{i // 16384 + 1} {row} {row}\n"
     yield "merge 1 2\n"
-
-
-def merged_batches(count):
-    """Two replicas append so many batches each, and merge."""
-    yield "table 2 T A SMALLINT\n"
-    for i in range(count):
-        yield f"append 1 ({i % 30000})\n"
-        yield f"append 2 ({i % 30000})\n"
-    yield "merge 1 2\nmerge 2 1\nquery 2 SELECT COUNT(*) FROM T\n"
 
 
 def run(name, lines):
