@@ -1,10 +1,12 @@
 //! Scripts and the texts that they give, worked out by hand from the rules of lines and steps.
-use crate::script;
+use crate::{Cluster, Command, Reply, Sql, Step, parse_line, reply_text, run, script};
 use std::alloc::Global;
 use std::io;
 use std::io::{Read, Write};
 use std::test::Fail;
-use table_model::{Counted, Refusal};
+use table_model::{
+    BatchName, ColType, Counted, Number, Origin, Refusal, Row, RowName, Rows, Schema,
+};
 
 /// What a script writes: its text, or the refusal that ended it.
 fn text_of(alloc: Global, input: &[u8]) -> Result<Vec<u8>, Refusal> {
@@ -144,5 +146,117 @@ fn a_write_that_takes_nothing_ends_a_script(rt: HostRuntime) -> Result<(), Fail>
     assert!(rt; outcome == Err(Refusal::WriteFault));
     assert!(rt; writer.failures() == 1);
     assert!(rt; writer.into_inner().taken == 2);
+    Ok(())
+}
+
+// A line may hold more rows than a batch: here `(1)` 65,537 times and 65,536 times.
+#[test]
+fn a_line_of_more_rows_than_a_batch_is_too_long(rt: HostRuntime) -> Result<(), Fail> {
+    let mut input = Vec::from_slice(rt.alloc(), b"table 1 T A SMALLINT\nappend 1 (1)".as_slice())?;
+    for _ in 0..65_536 {
+        input.extend_from_slice(b",(1)")?;
+    }
+    let text = text_of(rt.alloc(), input.as_slice())?;
+    assert!(rt; text.as_slice() == b"ok\nrefused BatchTooLong\n".as_slice());
+    let shorter = input.len().saturating_sub(4);
+    let text = text_of(rt.alloc(), &input[..shorter])?;
+    assert!(rt; text.as_slice() == b"ok\nok 1.1\n".as_slice());
+    Ok(())
+}
+
+/// Rows of one cell each, which are all 7.
+fn sevens(alloc: Global, count: usize) -> Result<Rows, Refusal> {
+    let mut rows = Vec::with_capacity(alloc, count)?;
+    for _ in 0..count {
+        rows.push(Row::from_cells(Vec::from_slice(alloc, &[Some(7)])?))?;
+    }
+    Ok(Rows::from_vec(rows))
+}
+
+/// One step of each kind, and two that are refused.
+fn steps_of_each_kind(alloc: Global) -> Result<Vec<Step>, Refusal> {
+    let name = BatchName {
+        origin: Origin(9),
+        number: Number(2),
+    };
+    let first = RowName {
+        batch: name,
+        ordinal: 1,
+    };
+    let sql = String::from_str(alloc, "SELECT COUNT(*) FROM T")?;
+    let mut steps = Vec::new(alloc);
+    steps.push(Step::Append {
+        replica: 1,
+        rows: sevens(alloc, 2)?,
+    })?;
+    steps.push(Step::Append {
+        replica: 1,
+        rows: sevens(alloc, 0)?,
+    })?;
+    steps.push(Step::Delete {
+        replica: 1,
+        first,
+        last: 8,
+    })?;
+    steps.push(Step::Insert {
+        replica: 2,
+        name,
+        rows: sevens(alloc, 3)?,
+    })?;
+    steps.push(Step::Insert {
+        replica: 2,
+        name,
+        rows: sevens(alloc, 2)?,
+    })?;
+    steps.push(Step::Merge {
+        replica: 1,
+        other: 2,
+    })?;
+    steps.push(Step::Query {
+        replica: 1,
+        sql: Sql::from_string(sql),
+    })?;
+    Ok(steps)
+}
+
+/// The texts of all replies, one after another.
+fn texts_of(alloc: Global, replies: &[Reply]) -> Result<Vec<u8>, Refusal> {
+    let mut texts = Vec::new(alloc);
+    for reply in replies {
+        let text = reply_text(alloc, reply)?;
+        texts.extend_from_slice(text.as_slice())?;
+    }
+    Ok(texts)
+}
+
+#[test]
+fn a_run_has_the_reply_to_each_step(rt: HostRuntime) -> Result<(), Fail> {
+    let schema = Schema::new(rt.alloc(), "T", &[("A", ColType::BigInt)])?;
+    let mut cluster = Cluster::new(rt.alloc(), &schema, 2)?;
+    let steps = steps_of_each_kind(rt.alloc())?;
+    let replies = run(rt.alloc(), &mut cluster, steps.as_slice())?;
+    let text = texts_of(rt.alloc(), replies.as_slice())?;
+    let want =
+        b"ok 1.1\nrefused EmptyBatch\nok\nok new\nrefused Conflict 9.2\nok\nok 1\nCOUNT(*)\n3\n";
+    assert!(rt; text.as_slice() == want.as_slice());
+    assert!(rt; cluster.stores().len() == 2 && cluster.stores()[0].live_count() == 3);
+    Ok(())
+}
+
+#[test]
+fn a_line_is_a_table_or_a_step(rt: HostRuntime) -> Result<(), Fail> {
+    match parse_line(rt.alloc(), b"table 3 t a INTEGER b BIGINT")? {
+        Command::Table(table) => {
+            assert!(rt; table.replicas() == 3 && table.table() == "t");
+            assert!(rt;
+                table.columns() == [("a", ColType::Integer), ("b", ColType::BigInt)].as_slice()
+            );
+        }
+        Command::Act(_) => assert!(rt; false, "a table is no step"),
+    }
+    match parse_line(rt.alloc(), b"merge 2 1")? {
+        Command::Act(Step::Merge { replica, other }) => assert!(rt; replica == 2 && other == 1),
+        _ => assert!(rt; false, "a merge is a step"),
+    }
     Ok(())
 }

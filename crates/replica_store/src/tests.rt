@@ -300,7 +300,7 @@ fn full_store(alloc: Global) -> Result<Store, Refusal> {
     Ok(store)
 }
 
-// A name that is held is answered before the limit of 65,536 batches.
+// A name that is held is answered before the limit of 65,536 batches; one more batch under a new name is too many.
 #[test]
 fn a_store_of_65_536_batches_is_full(rt: HostRuntime) -> Result<(), Fail> {
     let mut store = full_store(rt.alloc())?;
@@ -313,6 +313,118 @@ fn a_store_of_65_536_batches_is_full(rt: HostRuntime) -> Result<(), Fail> {
         let answer = insert(rt.alloc(), &mut store, (origin, number, &[value]));
         assert!(rt; answer == want, "answered {answer:?}");
     }
+    let rows = rows_of(rt.alloc(), &[3])?;
+    let answer = store.append(rt.alloc(), rows.as_slice());
+    assert!(rt; answer == Err(Refusal::Full), "answered {answer:?}");
     assert!(rt; store.batches() == 65_536 && store.live_count() == 65_536);
+    Ok(())
+}
+
+// Rows are refused before a name is given; the longest batch is named, and the store is as before after a refusal.
+#[test]
+fn an_append_has_1_to_65_536_rows(rt: HostRuntime) -> Result<(), Fail> {
+    let mut store = store_of(rt.alloc(), 4)?;
+    let cases = [
+        (0, Err(Refusal::EmptyBatch), 0),
+        (65_537, Err(Refusal::BatchTooLong), 0),
+        (65_536, Ok(name(4, 1)), 65_536),
+        (1, Ok(name(4, 2)), 65_537),
+    ];
+    for (count, want, live) in cases {
+        let rows = many_rows(rt.alloc(), count)?;
+        let answer = store.append(rt.alloc(), rows.as_slice());
+        assert!(rt;
+            answer == want && store.live_count() == live,
+            "answered {answer:?}"
+        );
+    }
+    Ok(())
+}
+
+// The tables T(A SMALLINT) and T(A BIGINT).
+#[test]
+fn stores_of_different_tables_are_not_merged(rt: HostRuntime) -> Result<(), Fail> {
+    let mut ours = store_with(rt.alloc(), 1, ColType::SmallInt)?;
+    let mut theirs = store_with(rt.alloc(), 2, ColType::BigInt)?;
+    let _ = insert(rt.alloc(), &mut theirs, (2, 1, &[5]))?;
+    let answer = ours.merge(rt.alloc(), &theirs);
+    assert!(rt;
+        answer == Err(Refusal::SchemaDiffers),
+        "answered {answer:?}"
+    );
+    assert!(rt; is_state(&ours, &[], &[], 0));
+    Ok(())
+}
+
+/// The three stores, of which each was told a part, merged from the left: the first with the second, and both with the third.
+fn merged_from_the_left(alloc: Global, parts: [&[Told]; 3]) -> Result<Store, Refusal> {
+    let mut store = told_store(alloc, 1, parts[0])?;
+    let second = told_store(alloc, 2, parts[1])?;
+    store.merge(alloc, &second)?;
+    let third = told_store(alloc, 3, parts[2])?;
+    store.merge(alloc, &third)?;
+    Ok(store)
+}
+
+/// The same from the right, and the last merge twice.
+fn merged_from_the_right(alloc: Global, parts: [&[Told]; 3]) -> Result<Store, Refusal> {
+    let mut second = told_store(alloc, 2, parts[1])?;
+    let third = told_store(alloc, 3, parts[2])?;
+    second.merge(alloc, &third)?;
+    let mut store = told_store(alloc, 1, parts[0])?;
+    store.merge(alloc, &second)?;
+    store.merge(alloc, &second)?;
+    Ok(store)
+}
+
+const FIRST: Told = Told::Batch(1, 1, &[10, 11]);
+
+const SECOND: Told = Told::Batch(1, 2, &[12]);
+
+const THIRD: Told = Told::Batch(3, 1, &[30, 31, 32]);
+
+const EARLY: Told = Told::Deletion(3, 1, 1, 1);
+
+const LATE: Told = Told::Deletion(3, 1, 2, 9);
+
+const UNSEEN: Told = Told::Deletion(2, 1, 4, 4);
+
+/// Whether a store has the six operations above: batches of two, one and three rows, of which two are deleted.
+fn has_all(store: &Store) -> bool {
+    let batches: [OneColumn<'_>; 3] = [(1, 1, &[10, 11]), (1, 2, &[12]), (3, 1, &[30, 31, 32])];
+    is_state(store, &batches, &[(2, 1, 4, 4), (3, 1, 1, 9)], 4)
+}
+
+// Three replicas take the same in different orders, with repeats, and with deletions before and after their rows.
+#[test]
+fn neither_order_nor_repeats_nor_lateness_matter(rt: HostRuntime) -> Result<(), Fail> {
+    let orders: [&[Told]; 3] = [
+        &[FIRST, SECOND, THIRD, EARLY, LATE, UNSEEN],
+        &[UNSEEN, LATE, EARLY, EARLY, THIRD, SECOND, FIRST, THIRD],
+        &[EARLY, SECOND, UNSEEN, THIRD, LATE, SECOND, FIRST, LATE],
+    ];
+    for order in orders {
+        let store = told_store(rt.alloc(), 5, order)?;
+        assert!(rt; has_all(&store));
+    }
+    Ok(())
+}
+
+// Three replicas that each took a part, some of it the same, merged in both bracketings and every turn.
+#[test]
+fn neither_order_nor_bracketing_of_merges_matters(rt: HostRuntime) -> Result<(), Fail> {
+    let one: &[Told] = &[FIRST, LATE, EARLY];
+    let two: &[Told] = &[UNSEEN, THIRD, FIRST];
+    let three: &[Told] = &[SECOND, THIRD, LATE];
+    for parts in [
+        [one, two, three],
+        [two, three, one],
+        [three, one, two],
+        [three, two, one],
+    ] {
+        let left = merged_from_the_left(rt.alloc(), parts)?;
+        let right = merged_from_the_right(rt.alloc(), parts)?;
+        assert!(rt; has_all(&left) && has_all(&right));
+    }
     Ok(())
 }
