@@ -5,7 +5,7 @@ use Rattle.std.specs.Fmt.{decimal}
 use Rattle.std.proofs.Common.{refl, sym, ap, ◌∙◌, append_assoc, arith}
 use Rattle.std.proofs.lemmas.Fmt.{length-decimal-le}
 use Rattle.std.proofs.lemmas.List.{drop-replicate}
-use Rattle.table_model.specs.Answer.{joined, line_of, rows_text, field_text, six_digits}
+use Rattle.table_model.specs.Answer.{joined, line_of, rows_text, field_text}
 use Rattle.table_model.specs.declared.answer.Field.{Field}
 
 -- a text with a comma before it

@@ -1,9 +1,9 @@
 -- Two places of a list that is split between them: a write at the one leaves the other.
-use Rattle.std.specs.Prelude.{◌≡◌, ◌≢◌, ◌⊎◌, ℕ, ◌+◌, ◌-◌, ◌<◌, ◌≤◌, Bool, true, false, cond, ◌==◌, List, [], ◌∷◌, ◌++◌, length, take, drop, slice_get, slice_set, Option, Some, None, Result, Ok, Err, IsOk}
-use Rattle.std.proofs.Common.{refl, sym, ap, ◌∙◌, arith, inl, inr, get_or, subst}
+use Rattle.std.specs.Prelude.{◌≡◌, ◌≢◌, ◌⊎◌, ℕ, ◌+◌, ◌-◌, ◌<◌, Bool, true, false, cond, ◌==◌, List, [], ◌++◌, length, take, drop, slice_get, slice_set, Option, Some, None, Result, Ok, Err, IsOk}
+use Rattle.std.proofs.Common.{refl, sym, ap, ◌∙◌, arith, inl, inr, get_or}
 use Rattle.std.proofs.Math.Seq.{take-append_seam}
 use Rattle.std.proofs.lemmas.Bool.Decides.{nat_tests}
-use Rattle.std.proofs.lemmas.List.{set-get_or, set-append_left, set-append_right, get_or_append_left, get_or-append_right, length-append, drop_all, append-nil}
+use Rattle.std.proofs.lemmas.List.{set-get_or, set-append_left, set-append_right, get_or_append_left, get_or-append_right, length-append, drop_all}
 use Rattle.std.proofs.lemmas.Option.{slice_get_read, get_or_from_slice_get}
 use Rattle.table_model.specs.Table.{Table}
 use Rattle.table_model.specs.Outcome.{Acts}

@@ -1,10 +1,9 @@
 -- What a call makes of one replica, it makes of the cluster at that replica's place.
-use Rattle.std.specs.Prelude.{◌≡◌, ◌⊎◌, ℕ, zero, suc, ◌+◌, ◌<◌, List, [], ◌∷◌, ◌++◌, length, slice_get, slice_set, Option, Some, None, Result, Ok, Err, IsOk}
+use Rattle.std.specs.Prelude.{◌≡◌, ◌⊎◌, ℕ, zero, suc, ◌+◌, ◌<◌, List, [], ◌∷◌, ◌++◌, length, slice_get, slice_set, Some, None, Result, Ok, Err, IsOk}
 use Rattle.std.proofs.Common.{refl, sym, ap, ◌∙◌, arith, inl, inr, add-one, get_or, subst}
 use Rattle.std.proofs.lemmas.List.{set-get_or}
 use Rattle.std.proofs.lemmas.Option.{slice_get_read}
 use Rattle.table_model.specs.Table.{Table}
-use Rattle.table_model.specs.Outcome.{Acts}
 use Rattle.table_model.specs.declared.refusal.Refusal.{Refusal}
 use Rattle.table_model.specs.declared.refusal.Refusal.TheVariants.{Memory, NoSuchReplica}
 use Rattle.replica_store.specs.Replica.{Replica}

@@ -1,12 +1,11 @@
 -- What was read of a row or of rows, before what the rest of the text gives, stays what the whole text gives.
-use Rattle.std.specs.Prelude.{◌≡◌, ◌⊎◌, ℕ, Bool, true, false, cond, ◌==◌, List, [], ◌∷◌, ◌++◌, length, Option, Some, None, option_map, ℤ, Err}
+use Rattle.std.specs.Prelude.{◌≡◌, ◌⊎◌, ℕ, true, false, cond, ◌==◌, List, [], ◌∷◌, ◌++◌, length, Option, Some, None, option_map, ℤ}
 use Rattle.std.proofs.Common.{refl, sym, ap, ◌∙◌, append_assoc, inl, inr, arith}
 use Rattle.std.proofs.lemmas.Bool.Decides.{nat_tests}
 use Rattle.table_model.specs.State.{Cells, Batch}
 use Rattle.table_model.specs.declared.refusal.Refusal.{Refusal}
 use Rattle.table_model.specs.declared.refusal.Refusal.TheVariants.{Memory, BadLine}
-use Rattle.lanes_main.specs.Reading.{Reads}
-use Rattle.lanes_main.specs.Word.{◌>>=◌, cut, longer, pieces, onto_first, without, each_of, cell_of, cells_of, opened_cells, rows_from, rows_of}
+use Rattle.lanes_main.specs.Word.{◌>>=◌, cut, pieces, onto_first, without, each_of, cell_of, cells_of, opened_cells, rows_from, rows_of}
 use Rattle.lanes_main.proofs.Cuts.{pieces_at, pieces_cut}
 
 -- a list before what is given, if anything is

@@ -1,5 +1,5 @@
 -- A run grows by one step at its end.
-use Rattle.std.specs.Prelude.{◌≡◌, ◌⊎◌, ℕ, ◌+◌, ◌<◌, List, [], ◌∷◌, ◌++◌, length, take}
+use Rattle.std.specs.Prelude.{◌≡◌, ℕ, ◌+◌, ◌<◌, List, [], ◌∷◌, ◌++◌, length, take}
 use Rattle.std.proofs.Common.{refl, sym, ap, ◌∙◌, subst, get_or}
 use Rattle.std.proofs.lemmas.List.{take_more}
 use Rattle.lanes_main.specs.Cluster.{ClusterParts}

@@ -1,27 +1,27 @@
 -- What each call makes of a replica that is the state of what it took: the state of that and what it takes besides.
-use Rattle.std.specs.Prelude.{◌≡◌, ◌⊎◌, ◌↔◌, ℕ, zero, suc, ◌+◌, Bool, true, false, cond, not, ◌&&◌, ◌||◌, ◌==◌, nat_lt, List, [], ◌∷◌, ◌++◌, map, length, Option, Some, None, Result, Ok, Err}
-use Rattle.std.proofs.Common.{refl, sym, ap, subst, ◌∙◌, inl, inr, arith}
+use Rattle.std.specs.Prelude.{◌≡◌, ◌⊎◌, ℕ, Bool, true, false, cond, not, ◌||◌, nat_lt, List, [], ◌∷◌, ◌++◌, map, Option, Some, None, Result, Ok, Err}
+use Rattle.std.proofs.Common.{refl, sym, ap, ◌∙◌, inl, inr}
 use Rattle.std.specs.List.{list_any}
 use Rattle.std.specs.Ordering.{eq_by_cmp}
 use Rattle.std.specs.FinMap as map
 use Rattle.std.specs.FinSet as set
 use Rattle.std.proofs.lemmas.List.Folds.{list_any-append}
 use Rattle.table_model.specs.Name.{name_cmp, row_name_cmp, is_proper_name}
-use Rattle.table_model.specs.State.{State, Batch, Agree, union_of, join, same_rows}
+use Rattle.table_model.specs.State.{State, Batch, Agree, join, same_rows}
 use Rattle.table_model.specs.Table.{Table, rows_fault, same_table}
-use Rattle.table_model.specs.Operation.{Operation, Insert as Inserts, Delete as Deletes, Among, AreAgreeing, SameOperations, inserts_of, deletes_of, state_of}
+use Rattle.table_model.specs.Operation.{Operation, Insert as Inserts, Delete as Deletes, Among, AreAgreeing, inserts_of, deletes_of, state_of}
 use Rattle.table_model.specs.declared.names.BatchName.{BatchName}
 use Rattle.table_model.specs.declared.names.RowName.{RowName}
 use Rattle.table_model.specs.declared.refusal.Refusal.{Refusal}
 use Rattle.table_model.specs.declared.refusal.Refusal.TheVariants.{Conflict, Full, BadName, SchemaDiffers}
-use Rattle.table_model.proofs.NameOrder.{names_total, row_names_total, exact_names, exact_row_names}
+use Rattle.table_model.proofs.NameOrder.{names_total, row_names_total, exact_row_names}
 use Rattle.table_model.proofs.Joins.{or_else, find-append, get-union, same_states, same_batches}
 use Rattle.table_model.proofs.Operations.{Among-find, found-Among, same_name, state_of-same}
 use Rattle.table_model.proofs.SameRows.{one_batch}
 use Rattle.replica_store.specs.declared.inserted.Inserted.{Inserted}
 use Rattle.replica_store.specs.declared.inserted.Inserted.TheVariants.{New, Already}
-use Rattle.replica_store.specs.Replica.{Replica, appended, then_added, next_name, inserted, then_placed, place_for, place_beside, where_room, unless_fault, with_batch, with_deleted, with_join, deleted_rows, delete_fault, rows_between, differs, conflict_with, conflict_or_full, merge_fault, merged, entries_of}
-use Rattle.replica_store.proofs.Limits.{IsFree, IsFree-next_name, IsFree-place_for}
+use Rattle.replica_store.specs.Replica.{Replica, appended, then_added, next_name, inserted, then_placed, place_for, place_beside, unless_fault, with_batch, with_deleted, with_join, deleted_rows, delete_fault, rows_between, differs, conflict_with, conflict_or_full, merge_fault, merged, entries_of}
+use Rattle.replica_store.proofs.Limits.{IsFree-next_name, IsFree-place_for}
 use Rattle.lanes_main.specs.History.{replica_of}
 
 -- a call made this replica of one that took ops before, and takes more besides

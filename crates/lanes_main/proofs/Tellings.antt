@@ -1,15 +1,15 @@
 -- What was told so far, told further by each chunk that is read, answered and written.
-use Rattle.std.specs.Prelude.{◌≡◌, ◌≢◌, ◌⊎◌, ℕ, ◌+◌, ◌<◌, Bool, true, false, cond, ◌&&◌, ◌==◌, not, Ok, List, [], ◌∷◌, ◌++◌, length, Option, Some, None, ⊤}
+use Rattle.std.specs.Prelude.{◌≡◌, ◌≢◌, ℕ, ◌+◌, ◌<◌, Bool, false, cond, ◌&&◌, ◌==◌, not, List, [], ◌++◌, length, Option, Some, None}
 use Rattle.std.specs.Io.KnownBytes.{Appends, Consumes, Keeps, IsAtEnd}
 use Rattle.std.proofs.Common.{refl, sym, ap, ◌∙◌, arith, append_assoc, subst, inl, inr}
 use Rattle.std.proofs.lemmas.List.{length-append, append-nil}
 use Rattle.std.proofs.lemmas.Bool.Decides.{nat_tests}
-use Rattle.table_model.specs.Counted.{one_more, after_write}
+use Rattle.table_model.specs.Counted.{one_more}
 use Rattle.lanes_main.specs.Cluster.{ClusterParts}
 use Rattle.lanes_main.specs.Script.{script_text, text_from}
 use Rattle.table_model.specs.declared.refusal.Refusal.{Refusal}
 use Rattle.table_model.specs.declared.refusal.Refusal.TheVariants.{Memory, ReadFault, WriteFault}
-use Rattle.lanes_main.specs.Told.{Sofar, AppendsFront, ToldFront, ToldAll, Reached, GaveMore, GoesOn, EndsEarly, Failed, read_limit}
+use Rattle.lanes_main.specs.Told.{Sofar, AppendsFront, ToldFront, ToldAll, GaveMore, GoesOn, EndsEarly, Failed, read_limit}
 use Rattle.lanes_main.proofs.Feeds.{script_start}
 
 -- nothing was written

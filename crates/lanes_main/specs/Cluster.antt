@@ -1,11 +1,10 @@
 -- Clusters: a table at replicas that are numbered from 1, and what each step makes of one.
-use Rattle.std.specs.Prelude.{◌≡◌, ℕ, zero, suc, ◌+◌, ◌-◌, Bool, cond, ◌&&◌, ◌==◌, nat_le, List, [], ◌∷◌, ◌++◌, length, codes, slice_get, slice_set, Option, Some, None, option_map, Result, Ok, Err, pos, refl}
+use Rattle.std.specs.Prelude.{ℕ, zero, suc, ◌+◌, ◌-◌, cond, ◌&&◌, ◌==◌, nat_le, List, [], ◌∷◌, ◌++◌, length, codes, slice_get, slice_set, Option, Some, None, Result, Ok, Err, pos, refl}
 use Rattle.std.specs.Coded.{Coded, code_by, coded×, coded_list}
 use Rattle.std.specs.Str.{bytes_eq}
 use Rattle.table_model.specs.Answer.{AnswerParts}
 use Rattle.table_model.specs.State.{Batch, empty_state}
 use Rattle.table_model.specs.Table.{Table, coded_table}
-use Rattle.table_model.specs.declared.answer.Field.{Field}
 use Rattle.table_model.specs.declared.answer.Field.TheVariants.{Whole}
 use Rattle.table_model.specs.declared.names.BatchName.{BatchName}
 use Rattle.table_model.specs.declared.names.RowName.{RowName}

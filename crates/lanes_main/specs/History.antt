@@ -6,7 +6,7 @@ use Rattle.replica_store.specs.Replica.{Replica, rows_between, live_count}
 use Rattle.lanes_main.specs.Cluster.{ClusterParts, new_cluster, place_of, count_answer}
 use Rattle.lanes_main.specs.Run.{Run}
 use Rattle.lanes_main.specs.declared.reply.Reply.{Reply}
-use Rattle.lanes_main.specs.declared.reply.Reply.TheVariants.{Done, Named, Put, Answered, Refused}
+use Rattle.lanes_main.specs.declared.reply.Reply.TheVariants.{Done, Named, Put}
 use Rattle.lanes_main.specs.declared.step.Step.{Step}
 use Rattle.lanes_main.specs.declared.step.Step.TheVariants.{Append, Insert, Delete, Merge, Query}
 

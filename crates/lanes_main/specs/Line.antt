@@ -1,5 +1,5 @@
 -- The lines of a script: which are commands, and which steps they ask for.
-use Rattle.std.specs.Prelude.{ℕ, suc, length, Bool, cond, ◌&&◌, nat_le, List, [], ◌∷◌, codes, Option, Some, None, option_map, Result, Ok, Err}
+use Rattle.std.specs.Prelude.{ℕ, suc, length, Bool, cond, ◌&&◌, nat_le, List, [], ◌∷◌, codes, Option, Some, None, option_map, Result}
 use Rattle.std.specs.List.{list_all}
 use Rattle.std.specs.Option.{ok_or}
 use Rattle.std.specs.Str.{bytes_eq}

@@ -1,5 +1,5 @@
 -- How a reply is written: `ok` and what the step gives, or `refused` and the refusal, each line with its line feed.
-use Rattle.std.specs.Prelude.{ℕ, List, [], ◌∷◌, ◌++◌, codes, length}
+use Rattle.std.specs.Prelude.{ℕ, List, ◌++◌, codes, length}
 use Rattle.std.specs.Fmt.{decimal}
 use Rattle.table_model.specs.Name.{name_text}
 use Rattle.table_model.specs.RefusalText.{refusal_text}

@@ -4,6 +4,7 @@ ghost use Rattle.std.specs.Io.KnownBytes.{Appends, Consumes, IsAtEnd, Keeps};
 ghost use Rattle.table_model.specs.Counted.{one_more};
 ghost use Rattle.lanes_main.specs.Told.{Sofar, AppendsFront, ToldFront, ToldAll, Reached, GaveMore, Failed, GoesOn, EndsEarly, StaysTold};
 
+use crate::line_part::LinePart;
 use crate::session::{Session, feed, finish};
 use std::alloc::Global;
 use std::io::{Read, Write};
@@ -49,12 +50,12 @@ fn round<R: Read, W: Write>(
 ) -> Result<usize, Refusal>
     requires { 0 < length buffer.old }
     ensures told { IfOk result (λ n. GoesOn (R.remaining reader.old.0) (R.remaining reader.new.0) (W.contents writer.old.0) (W.contents writer.new.0)
-        session.old.cluster session.old.line.items session.new.cluster session.new.line.items n) }
+        session.old.cluster session.old.line session.new.cluster session.new.line n) }
     ensures bound { IfOk result (λ n. n ≤ length buffer.old) }
     ensures end { IfOk result (λ n. n ≡ 0 → IsAtEnd (R.remaining reader.new.0)) }
-    ensures early { OnErr result (EndsEarly (R.remaining reader.old.0) (W.contents writer.old.0) (W.contents writer.new.0) session.old.cluster session.old.line.items) }
+    ensures early { OnErr result (EndsEarly (R.remaining reader.old.0) (W.contents writer.old.0) (W.contents writer.new.0) session.old.cluster session.old.line) }
     ensures reached { IfErr result (λ e. e ≡ Refusal.ReadFault → StaysTold (R.remaining reader.old.0) (R.remaining reader.new.0) (W.contents writer.old.0) (W.contents writer.new.0)
-        session.old.cluster session.old.line.items) }
+        session.old.cluster session.old.line) }
     ensures kept { OnOk result ((reader.new.1 ≡ reader.old.1) × (writer.new.1 ≡ writer.old.1)) }
     ensures fault { IfErr result (λ e. Failed ⊥ e reader.old.1 reader.new.1 writer.old.1 writer.new.1) }
 {
@@ -79,7 +80,7 @@ fn rounds<R: Read, W: Write>(
     requires limit { length buffer.old ≤ 65536 }
     ensures end { OnOk result (IsAtEnd (R.remaining reader.new.0)) }
     ensures told { IfOk result (λ session. (total : ℕ) × Sofar (R.remaining reader.old.0) (R.remaining reader.new.0) (W.contents writer.old.0) (W.contents writer.new.0)
-        session.cluster session.line.items total) }
+        session.cluster session.line total) }
     ensures early { OnErr result (ToldFront (R.remaining reader.old.0) (W.contents writer.old.0) (W.contents writer.new.0)) }
     ensures reached { IfErr result (λ e. e ≡ Refusal.ReadFault → Reached (R.remaining reader.old.0) (R.remaining reader.new.0) (W.contents writer.old.0) (W.contents writer.new.0)) }
     ensures kept { OnOk result ((reader.new.1 ≡ reader.old.1) × (writer.new.1 ≡ writer.old.1)) }
@@ -87,7 +88,7 @@ fn rounds<R: Read, W: Write>(
 {
     let mut session = Session {
         cluster: None,
-        line: Vec::new(alloc),
+        line: LinePart::new(alloc),
     };
     let mut total: u64 = 0;
     for _turn in 0..ROUNDS {
@@ -108,7 +109,7 @@ fn rounds<R: Read, W: Write>(
 /// `Memory`, `ReadFault` and `WriteFault` end it with that refusal. After `ReadFault` the replies of all lines that were read
 /// whole are written; after each of them what was written is a front of the script's text. `ReadFault` is answered only where the
 /// reader's count of failures rose or it gave more than 2^48 bytes, and `WriteFault` only where the writer's rose. Of its input it
-/// holds one line at most, and a buffer.
+/// holds one line at most, and a buffer of 65,536 bytes.
 pub fn script<R: Read, W: Write>(
     alloc: Global,
     reader: &mut Counted<R>,

@@ -8,6 +8,7 @@ mod command;
 mod interpreter;
 mod laws;
 mod line;
+mod line_part;
 mod reply;
 mod reply_format;
 mod rows;

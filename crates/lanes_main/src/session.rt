@@ -10,20 +10,18 @@ ghost use Rattle.lanes_main.specs.Script.{founded, first_answer, later_answer, l
 use crate::cluster::Cluster;
 use crate::command::{Command, TableCommand};
 use crate::line::parse_line;
+use crate::line_part::{LINE_LIMIT, LinePart};
 use crate::reply::Reply;
 use crate::reply_format::write_reply;
 use crate::step::Step;
-use std::alloc::{AllocError, Global};
+use std::alloc::Global;
 use table_model::{Refusal, Schema};
-
-/// The greatest number of bytes of a line, without its line feed.
-const LINE_LIMIT: usize = 1_048_576;
 
 /// What a script has made so far: the cluster, once there is a table, and the part of a line that was read last.
 #[derive(Drop)]
 pub struct Session {
     pub cluster: Option<Cluster>,
-    pub line: Vec<u8>,
+    pub line: LinePart,
 }
 
 /// A refusal as a reply, unless memory lacked: that ends a script.
@@ -139,15 +137,6 @@ fn answer_line(
     Ok(())
 }
 
-/// Adds more of a line to its part, which stops growing one byte past the limit.
-fn grow(line: &mut Vec<u8>, more: &[u8]) -> Result<(), AllocError>
-    ensures { OnOk result (line.new.items ≡ grown line.old.items more.now) }
-{
-    let room = (LINE_LIMIT + 1).saturating_sub(line.len());
-    let kept = room.min(more.len());
-    line.extend_from_slice(&more[..kept])
-}
-
 /// Where the first line feed stands.
 fn line_end(bytes: &[u8]) -> Option<usize>
     ensures { result ≡ position (λ byte. byte == 10) bytes.now }
@@ -173,12 +162,12 @@ fn end_line(
     out: &mut Vec<u8>,
     piece: &[u8],
 ) -> Result<(), Refusal>
-    ensures text { OnOk result (out.new.items ≡ out.old.items ++ line_text session.old.cluster (grown session.old.line.items piece.now)) }
-    ensures after { OnOk result (session.new.cluster ≡ after_line session.old.cluster (grown session.old.line.items piece.now)) }
-    ensures line { OnOk result (session.new.line.items ≡ []) }
+    ensures text { OnOk result (out.new.items ≡ out.old.items ++ line_text session.old.cluster (grown session.old.line piece.now)) }
+    ensures after { OnOk result (session.new.cluster ≡ after_line session.old.cluster (grown session.old.line piece.now)) }
+    ensures line { OnOk result (session.new.line ≡ []) }
     ensures memory { IfErr result (λ e. e ≡ Refusal.Memory) }
 {
-    grow(&mut session.line, piece)?;
+    session.line.grow(piece)?;
     answer_line(alloc, &mut session.cluster, out, session.line.as_slice())?;
     session.line.clear();
     Ok(())
@@ -191,8 +180,8 @@ pub fn feed(
     out: &mut Vec<u8>,
     chunk: &[u8],
 ) -> Result<(), Refusal>
-    ensures ok { OnOk result ((more : List ℕ) → out.old.items ++ text_from session.old.cluster session.old.line.items (chunk.now ++ more)
-        ≡ out.new.items ++ text_from session.new.cluster session.new.line.items more) }
+    ensures ok { OnOk result ((more : List ℕ) → out.old.items ++ text_from session.old.cluster session.old.line (chunk.now ++ more)
+        ≡ out.new.items ++ text_from session.new.cluster session.new.line more) }
     ensures memory { IfErr result (λ e. e ≡ Refusal.Memory) }
 {
     let mut left = chunk;
@@ -200,13 +189,13 @@ pub fn feed(
         end_line(alloc, session, out, piece)?;
         left = after;
     }
-    grow(&mut session.line, left)?;
+    session.line.grow(left)?;
     Ok(())
 }
 
 /// Answers the last line, which no line feed ends.
 pub fn finish(alloc: Global, session: &mut Session, out: &mut Vec<u8>) -> Result<(), Refusal>
-    ensures ok { OnOk result (out.new.items ≡ out.old.items ++ text_from session.old.cluster session.old.line.items []) }
+    ensures ok { OnOk result (out.new.items ≡ out.old.items ++ text_from session.old.cluster session.old.line []) }
     ensures memory { IfErr result (λ e. e ≡ Refusal.Memory) }
 {
     answer_line(alloc, &mut session.cluster, out, session.line.as_slice())?;

@@ -1,5 +1,4 @@
-use Rattle.replica_store.specs.Replica.{Replica}
-use Rattle.std.proofs.Common.{List, ap, get_or, arith, ◌<◌, ◌≤◌, ◌≢◌}
+use Rattle.std.proofs.Common.{ap, get_or, arith, ◌≢◌}
 use Rattle.lanes_main.proofs.Apart.{merged_front, merged_back}
 use Rattle.lanes_main.proofs.cluster.merge_apart.Goals as goal
 

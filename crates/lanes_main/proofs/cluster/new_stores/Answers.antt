@@ -1,4 +1,4 @@
-use Rattle.std.proofs.Common.{◌≡◌, ◌∙◌, ◌+◌, ◌++◌, ◌∷◌, [], List, ℕ, ap, sym, arith}
+use Rattle.std.proofs.Common.{◌≡◌, ◌∙◌, ◌+◌, ◌++◌, ◌∷◌, [], List, ap, sym, arith}
 use Rattle.replica_store.specs.Replica.{Replica}
 use Rattle.lanes_main.specs.Cluster.{empty_replica, new_replicas}
 use Rattle.lanes_main.proofs.Placed.{new_replicas_more}

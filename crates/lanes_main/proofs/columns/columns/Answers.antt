@@ -1,4 +1,4 @@
-use Rattle.std.proofs.Common.{◌≡◌, sym, ◌∙◌, rules, ap, map, option_map, List, ◌++◌, ◌∷◌, [], ℕ, Bor, Some, Option}
+use Rattle.std.proofs.Common.{◌≡◌, sym, ◌∙◌, rules, ap, map, option_map, List, ◌++◌, ◌∷◌, [], ℕ, Bor, Option}
 use Rattle.std.proofs.lemmas.List.{map-append}
 use Rattle.table_model.specs.declared.schema.ColType.{ColType}
 use Rattle.lanes_main.specs.Line.{columns_of, words_left}

@@ -1,4 +1,4 @@
-use Rattle.std.proofs.Common.{◌≡◌, map, option_map, List, ℕ, ◌∷◌, []}
+use Rattle.std.proofs.Common.{◌≡◌, map, option_map}
 use Rattle.lanes_main.specs.Word.{pieces}
 use Rattle.lanes_main.specs.Line.{columns_of, words_left, left_len}
 use Rattle.lanes_main.proofs.RowLaws.{after_all}

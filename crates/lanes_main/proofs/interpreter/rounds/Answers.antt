@@ -14,7 +14,7 @@ returns-in_err-count-clause-reached g c =
     let p = err_from_is_err_and c.from_residual.result c.from_residual.ensures.1 in
     rw (p.1, p.2) (λ is. (
       c.loop-turn.session.cluster,
-      c.loop-turn.session.line.items,
+      c.loop-turn.session.line,
       c.loop-turn.total,
       c.in_err-count.ensures.reached is (g.R.Read.remaining c.args.reader.now.0) (g.W.Write.contents c.args.writer.now.0) c.loop-turn.total c.loop-turn.invariant.told,
     ))
@@ -46,17 +46,17 @@ loop-turn-preserved g c = record {
 
 pub returns-then-total-gt-READ_LIMIT-clause-early : goal.returns-then-total-gt-READ_LIMIT-clause-early
 returns-then-total-gt-READ_LIMIT-clause-early g c =
-    told_front (g.R.Read.remaining c.args.reader.now.0) (g.R.Read.remaining c.round.new.reader.0) (g.W.Write.contents c.args.writer.now.0) (g.W.Write.contents c.round.new.writer.0) c.round.new.session.cluster c.round.new.session.line.items (c.loop-turn.total + c.in_ok-count.count)
+    told_front (g.R.Read.remaining c.args.reader.now.0) (g.R.Read.remaining c.round.new.reader.0) (g.W.Write.contents c.args.writer.now.0) (g.W.Write.contents c.round.new.writer.0) c.round.new.session.cluster c.round.new.session.line (c.loop-turn.total + c.in_ok-count.count)
     (c.in_ok-count.ensures.told (g.R.Read.remaining c.args.reader.now.0) (g.W.Write.contents c.args.writer.now.0) c.loop-turn.total c.loop-turn.invariant.told)
 
 pub returns-then-total-gt-READ_LIMIT-clause-reached : goal.returns-then-total-gt-READ_LIMIT-clause-reached
 returns-then-total-gt-READ_LIMIT-clause-reached g c = λ is.
-    (c.round.new.session.cluster, c.round.new.session.line.items, c.loop-turn.total + c.in_ok-count.count, c.in_ok-count.ensures.told (g.R.Read.remaining c.args.reader.now.0) (g.W.Write.contents c.args.writer.now.0) c.loop-turn.total c.loop-turn.invariant.told)
+    (c.round.new.session.cluster, c.round.new.session.line, c.loop-turn.total + c.in_ok-count.count, c.in_ok-count.ensures.told (g.R.Read.remaining c.args.reader.now.0) (g.W.Write.contents c.args.writer.now.0) c.loop-turn.total c.loop-turn.invariant.told)
 
 pub returns-then-total-gt-READ_LIMIT-clause-fault : goal.returns-then-total-gt-READ_LIMIT-clause-fault
 returns-then-total-gt-READ_LIMIT-clause-fault g c = (
   inr (
-    gave_more (g.R.Read.remaining c.args.reader.now.0) (g.R.Read.remaining c.round.new.reader.0) (g.W.Write.contents c.args.writer.now.0) (g.W.Write.contents c.round.new.writer.0) c.round.new.session.cluster c.round.new.session.line.items (c.loop-turn.total + c.in_ok-count.count)
+    gave_more (g.R.Read.remaining c.args.reader.now.0) (g.R.Read.remaining c.round.new.reader.0) (g.W.Write.contents c.args.writer.now.0) (g.W.Write.contents c.round.new.writer.0) c.round.new.session.cluster c.round.new.session.line (c.loop-turn.total + c.in_ok-count.count)
         (c.in_ok-count.ensures.told (g.R.Read.remaining c.args.reader.now.0) (g.W.Write.contents c.args.writer.now.0) c.loop-turn.total c.loop-turn.invariant.told) (omega arith),
     c.in_ok-count.ensures.kept.0 ∙ c.loop-turn.invariant.reader,
   ),
@@ -76,7 +76,7 @@ pub loop-turn-init : goal.loop-turn-init
 loop-turn-init g c =
     let P : List ℕ → Type 0 = λ part. Sofar (g.R.Read.remaining c.args.reader.now.0) (g.R.Read.remaining c.args.reader.now.0) (g.W.Write.contents c.args.writer.now.0) (g.W.Write.contents c.args.writer.now.0) None part 0 in
     record {
-      told = subst P (sym c.new.ensures.items) (told_start (g.R.Read.remaining c.args.reader.now.0) (g.W.Write.contents c.args.writer.now.0));
+      told = subst P (sym c.new.ensures) (told_start (g.R.Read.remaining c.args.reader.now.0) (g.W.Write.contents c.args.writer.now.0));
       some = omega arith;
       limit = omega arith;
       reader = refl;

@@ -1,10 +1,10 @@
-use Rattle.std.proofs.Common.{◌≡◌, ◌≤◌, List, ℕ}
+use Rattle.std.proofs.Common.{◌≡◌, ◌≤◌}
 use Rattle.lanes_main.specs.Told.{Sofar, read_limit}
 use Rattle.lanes_main.proofs.interpreter.rounds.Given as goal
 
 abbrev pub invariant-loop-turn : goal.invariant-loop-turn
 invariant-loop-turn g l = record {
-  told : Sofar (g.R.Read.remaining l.initial.reader.0) (g.R.Read.remaining l.reader.0) (g.W.Write.contents l.initial.writer.0) (g.W.Write.contents l.writer.0) l.session.cluster l.session.line.items l.total;
+  told : Sofar (g.R.Read.remaining l.initial.reader.0) (g.R.Read.remaining l.reader.0) (g.W.Write.contents l.initial.writer.0) (g.W.Write.contents l.writer.0) l.session.cluster l.session.line l.total;
   some : l._turn ≤ l.total;
   limit : l.total ≤ read_limit;
   reader : l.reader.1 ≡ l.initial.reader.1;

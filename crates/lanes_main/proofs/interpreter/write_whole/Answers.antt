@@ -1,4 +1,4 @@
-use Rattle.std.proofs.Common.{◌≡◌, ◌∙◌, ◌++◌, List, ℕ, take, drop, ap, sym, append_assoc, rules}
+use Rattle.std.proofs.Common.{◌≡◌, ◌∙◌, ◌++◌, List, ℕ, take, ap, sym, append_assoc, rules}
 use Rattle.lanes_main.proofs.Tellings.{appends_both, took_some}
 use Rattle.lanes_main.proofs.interpreter.write_whole.Goals as goal
 

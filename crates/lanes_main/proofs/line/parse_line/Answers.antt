@@ -1,4 +1,4 @@
-use Rattle.std.proofs.Common.{◌≡◌, true, inl, refl, rules}
+use Rattle.std.proofs.Common.{◌≡◌, true, rules}
 use Rattle.std.specs.List.{list_all}
 use Rattle.lanes_main.specs.Line.{is_printable}
 use Rattle.lanes_main.proofs.Printable.{IsUtf8-printable}

@@ -1,4 +1,4 @@
-use Rattle.std.proofs.Common.{◌≡◌, sym, ◌∙◌, rules, inl, refl, ap, Some, None, List, ◌++◌, ◌∷◌, []}
+use Rattle.std.proofs.Common.{◌≡◌, sym, ◌∙◌, rules, inl, refl, ap, Some, None, ◌++◌, ◌∷◌, []}
 use Rattle.lanes_main.specs.Word.{cell_of, cells_of, cut}
 use Rattle.lanes_main.proofs.RowLaws.{cells_more, cells_bad, cells_all, cells_all_bad, after_all}
 use Rattle.lanes_main.proofs.rows.cells.Goals as goal

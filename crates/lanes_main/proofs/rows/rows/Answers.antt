@@ -1,6 +1,6 @@
-use Rattle.std.proofs.Common.{◌≡◌, sym, ◌∙◌, rules, inl, inr, refl, ap, Some, None, List, ◌++◌, ◌∷◌, []}
+use Rattle.std.proofs.Common.{◌≡◌, sym, ◌∙◌, rules, inl, refl, ap, Some, None, ◌++◌, ◌∷◌, []}
 use Rattle.std.proofs.lemmas.Result.{err_from_is_err_and}
-use Rattle.lanes_main.specs.Word.{rows_of, opened_cells, without, cut}
+use Rattle.lanes_main.specs.Word.{rows_of, without, cut}
 use Rattle.lanes_main.proofs.RowLaws.{rows_more, rows_all, rows_none, rows_no_more, rows_unread, after_all}
 use Rattle.lanes_main.proofs.rows.rows.Goals as goal
 

@@ -1,4 +1,4 @@
-use Rattle.std.proofs.Common.{◌≡◌, ◌∙◌, ◌+◌, ◌-◌, List, ℕ, Some, Option, take, drop, length, arith, length-drop}
+use Rattle.std.proofs.Common.{◌≡◌, ◌∙◌, ◌+◌, ◌-◌, List, ℕ, Some, take, drop, length, arith, length-drop}
 use Rattle.std.proofs.lemmas.List.{take_all}
 use Rattle.lanes_main.proofs.Feeds.{position_none, position_some}
 use Rattle.lanes_main.proofs.session.cut_line.Goals as goal

@@ -6,5 +6,5 @@ use Rattle.lanes_main.proofs.session.finish.Goals as goal
 pub returns-clause-ok : goal.returns-clause-ok
 returns-clause-ok c =
     c.in_ok-answer_line.ensures.text
-    ∙ ap (λ (line : List ℕ). c.args.out.now.items ++ line_text c.args.session.now.cluster line) c.as_slice.ensures.value
-    ∙ ap (λ (text : List ℕ). c.args.out.now.items ++ text) (sym (text_end c.args.session.now.cluster c.args.session.now.line.items))
+    ∙ ap (λ (line : List ℕ). c.args.out.now.items ++ line_text c.args.session.now.cluster line) c.as_slice.ensures
+    ∙ ap (λ (text : List ℕ). c.args.out.now.items ++ text) (sym (text_end c.args.session.now.cluster c.args.session.now.line))

@@ -1,4 +1,4 @@
-use Rattle.std.proofs.Common.{◌≡◌, ◌≢◌, ◌∙◌, refl, inl, rules, length, arith}
+use Rattle.std.proofs.Common.{◌≡◌, ◌≢◌, refl, inl, rules, length}
 use Rattle.std.proofs.lemmas.Result.{err_from_is_err_and}
 use Rattle.lanes_main.proofs.Apart.{merge_no_first, merge_no_second, merge_itself, merge_done, merge_refused}
 use Rattle.lanes_main.proofs.cluster.Cluster.merge.Goals as goal
