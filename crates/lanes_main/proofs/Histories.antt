@@ -1,8 +1,9 @@
 -- One step keeps it: the cluster is that of what each replica took. So a run does, and the state depends on the members alone.
-use Rattle.std.specs.Prelude.{◌≡◌, ℕ, zero, suc, ◌+◌, Bool, true, false, cond, ◌==◌, List, [], ◌∷◌, ◌++◌, map, length, slice_get, slice_set, slice_index_or, Option, Some, None, Result, Ok, Err}
+use Rattle.std.specs.Prelude.{◌≡◌, ℕ, zero, suc, ◌+◌, ◌-◌, ◌<◌, ◌&&◌, nat_le, Bool, true, false, cond, ◌==◌, List, [], ◌∷◌, ◌++◌, map, length, slice_get, slice_set, slice_index_or, Option, Some, None, Result, Ok, Err}
 use Rattle.std.proofs.Common.{refl, sym, ap, subst, ◌∙◌, inl, inr, arith}
 use Rattle.std.specs.Str.{bytes_eq}
 use Rattle.std.proofs.lemmas.Bool.Decides.{nat_tests}
+use Rattle.std.proofs.lemmas.Option.{slice_get_within}
 use Rattle.table_model.specs.Operation.{Operation, Insert as Inserts, Delete as Deletes, AreAgreeing, state_of}
 use Rattle.table_model.specs.Table.{Table}
 use Rattle.table_model.specs.declared.refusal.Refusal.{Refusal}
@@ -11,7 +12,7 @@ use Rattle.table_model.proofs.Operations.{state_of-same}
 use Rattle.replica_store.specs.Replica.{Replica, appended, inserted, deleted_rows, merged, rows_between, live_count}
 use Rattle.lanes_main.specs.Cluster.{ClusterParts, new_cluster, new_replicas, place_of, at_replica, at_place, held_at, placed, done_reply, append_step, insert_step, delete_step, merge_step, merge_places, merge_reply, merged_in, merged_pair, stored, query_step, count_place, count_at, count_query, count_answer, step_of}
 use Rattle.lanes_main.specs.Run.{Run, StepTo, answered}
-use Rattle.lanes_main.specs.History.{Taken, new_taken, taken_at, with_taken, taken_after, taken_by, replica_of, replicas_of, cluster_of, AllAgree, HistoryLaws}
+use Rattle.lanes_main.specs.History.{Taken, new_taken, taken_at, with_taken, taken_after, taken_by, replica_of, replicas_of, cluster_of, AllAgree, StartsEmpty, RepliesFollow, query_reply, SameAreAlike, HistoryLaws}
 use Rattle.lanes_main.specs.declared.reply.Reply.{Reply}
 use Rattle.lanes_main.specs.declared.reply.Reply.TheVariants.{Done, Named, Put, Answered, Refused}
 use Rattle.lanes_main.specs.declared.step.Step.{Step}
@@ -215,11 +216,23 @@ new_agree : (count : ℕ) → AllAgree (new_taken count)
 new_agree zero = tt
 new_agree (suc count) = ((λ n a b g h. absurd g), new_agree count)
 
-from_new : (table : Table) (count : ℕ) (steps : List Step) (replies : List Reply) (new : ClusterParts) → Run (new_cluster table count) steps replies new → Kept table (taken_by (new_taken count) steps replies) new
+start : StartsEmpty
 unfolding new_cluster
+start table count = (ap (λ (stores : List Replica). record { schema = table; stores = stores }) (new_is table 1 count), new_agree count)
+
+from_new : (table : Table) (count : ℕ) (steps : List Step) (replies : List Reply) (new : ClusterParts) → Run (new_cluster table count) steps replies new → Kept table (taken_by (new_taken count) steps replies) new
 from_new table count steps replies new r =
-    run_keeps table (new_taken count) steps replies new (new_agree count)
-    (subst (λ (stores : List Replica). Run (record { schema = table; stores = stores }) steps replies new) (new_is table 1 count) r)
+    let is = start table count in
+    run_keeps table (new_taken count) steps replies new is.1 (subst (λ (c : ClusterParts). Run c steps replies new) is.0 r)
+
+follow : RepliesFollow
+follow table taken [] later [] later_replies new agree same r = r
+follow table taken [] later (reply ∷ replies) later_replies new agree same r = absurd (omega arith)
+follow table taken (step ∷ steps) later [] later_replies new agree same r = absurd (omega arith)
+follow table taken (step ∷ steps) later (reply ∷ replies) later_replies new agree same r =
+    let kept = step_keeps table taken step reply r.0 agree r.1 in
+    follow table (taken_after taken step reply) steps later replies later_replies new kept.1 (omega arith)
+    (subst (λ (c : ClusterParts). Run c (steps ++ later) (replies ++ later_replies) new) kept.0 r.2)
 
 state_at : (table : Table) (taken : Taken) (c : ClusterParts) (at : ℕ) (r : Replica) → c ≡ cluster_of table taken → slice_get c.stores at ≡ Some r → r.state ≡ state_of (slice_index_or taken at [])
 state_at table taken c at r is has =
@@ -228,16 +241,46 @@ state_at table taken c at r is has =
 same_count : (r other : Replica) → r.state ≡ other.state → count_answer (live_count r) ≡ count_answer (live_count other)
 same_count r other same = ap (λ s. count_answer (live_count (record { schema = r.schema; own = r.own; state = s }))) same
 
+-- a replica that stands at a place has the number of the place after it
+place_at : (count at : ℕ) → at < count → place_of count (suc at) ≡ Some at
+place_at count at below =
+    let low : nat_le 1 (suc at) ≡ true = grind (arith, nat_tests) in
+    let high : nat_le (suc at) count ≡ true = grind (arith, nat_tests) in
+    let before : suc at - 1 ≡ at = omega arith in
+    ap (λ (b : Bool). cond (b && nat_le (suc at) count) (Some (suc at - 1)) None) low
+    ∙ ap (λ (b : Bool). cond (true && b) (Some (suc at - 1)) None) high
+    ∙ ap Some before
+
+abbrev reply_of : ClusterParts → Result (Reply × ClusterParts) Refusal → Reply
+reply_of c made = (answered made c).0
+
+reply_at : (c : ClusterParts) (at : ℕ) (r : Replica) (sql : List ℕ) → slice_get c.stores at ≡ Some r →
+    query_reply c at sql ≡ cond (bytes_eq sql (count_query c.schema)) (Answered (count_answer (live_count r))) (Refused BadLine)
+unfolding query_step
+reply_at c at r sql has =
+    let place : count_place c (place_of (length c.stores) (suc at)) ≡ count_at c (Some r) =
+    ap (count_place c) (place_at (length c.stores) at (slice_get_within c.stores at r has)) ∙ ap (count_at c) has in
+    ap (λ made. reply_of c (cond (bytes_eq sql (count_query c.schema)) made (Err BadLine))) place ∙ at_test (bytes_eq sql (count_query c.schema))
+  where
+    at_test : (b : Bool) → reply_of c (cond b (count_at c (Some r)) (Err BadLine)) ≡ cond b (Answered (count_answer (live_count r))) (Refused BadLine)
+    at_test true = refl
+    at_test false = refl
+
+alike : SameAreAlike
+alike table count other_count steps other_steps replies other_replies new other_new at other_at r other run other_run here there same =
+    let kept = from_new table count steps replies new run in
+    let other_kept = from_new table other_count other_steps other_replies other_new other_run in
+    let states : r.state ≡ other.state =
+    state_at table (taken_by (new_taken count) steps replies) new at r kept.0 here
+    ∙ state_of-same (slice_index_or (taken_by (new_taken count) steps replies) at []) (slice_index_or (taken_by (new_taken other_count) other_steps other_replies) other_at []) (agree_at (taken_by (new_taken count) steps replies) at kept.1) same
+    ∙ sym (state_at table (taken_by (new_taken other_count) other_steps other_replies) other_new other_at other other_kept.0 there) in
+    let tables : new.schema ≡ other_new.schema = ap (λ (c : ClusterParts). c.schema) kept.0 ∙ sym (ap (λ (c : ClusterParts). c.schema) other_kept.0) in (
+      states,
+      λ sql.
+          reply_at new at r sql here
+          ∙ (λ i. cond (bytes_eq sql (count_query (tables i))) (Answered (same_count r other states i)) (Refused BadLine))
+          ∙ sym (reply_at other_new other_at other sql there),
+    )
+
 pub histories : HistoryLaws
-histories = record {
-  cluster = λ table count steps replies new r. (from_new table count steps replies new r).0;
-  agree = λ table count steps replies new r. (from_new table count steps replies new r).1;
-  alike = λ table count other_count steps other_steps replies other_replies new other_new at other_at r other run other_run here there same.
-      let kept = from_new table count steps replies new run in
-      let other_kept = from_new table other_count other_steps other_replies other_new other_run in
-      let states : r.state ≡ other.state =
-      state_at table (taken_by (new_taken count) steps replies) new at r kept.0 here
-      ∙ state_of-same (slice_index_or (taken_by (new_taken count) steps replies) at []) (slice_index_or (taken_by (new_taken other_count) other_steps other_replies) other_at []) (agree_at (taken_by (new_taken count) steps replies) at kept.1) same
-      ∙ sym (state_at table (taken_by (new_taken other_count) other_steps other_replies) other_new other_at other other_kept.0 there) in
-      (states, same_count r other states);
-}
+histories = record { start = start; cluster = run_keeps; replies = follow; alike = alike }

@@ -1,5 +1,5 @@
 -- What was told so far, told further by each chunk that is read, answered and written.
-use Rattle.std.specs.Prelude.{◌≡◌, ◌≢◌, ℕ, ◌+◌, ◌<◌, Bool, false, cond, ◌&&◌, ◌==◌, not, List, [], ◌++◌, length, Option, Some, None}
+use Rattle.std.specs.Prelude.{◌≡◌, ◌≢◌, ℕ, ◌+◌, ◌<◌, ◌≤◌, Bool, false, cond, ◌&&◌, ◌==◌, not, List, [], ◌++◌, length, Option, Some, None}
 use Rattle.std.specs.Io.KnownBytes.{Appends, Consumes, Keeps, IsAtEnd}
 use Rattle.std.proofs.Common.{refl, sym, ap, ◌∙◌, arith, append_assoc, subst, inl, inr}
 use Rattle.std.proofs.lemmas.List.{length-append, append-nil}
@@ -9,7 +9,7 @@ use Rattle.lanes_main.specs.Cluster.{ClusterParts}
 use Rattle.lanes_main.specs.Script.{script_text, text_from}
 use Rattle.table_model.specs.declared.refusal.Refusal.{Refusal}
 use Rattle.table_model.specs.declared.refusal.Refusal.TheVariants.{Memory, ReadFault, WriteFault}
-use Rattle.lanes_main.specs.Told.{Sofar, AppendsFront, ToldFront, ToldAll, GaveMore, GoesOn, EndsEarly, Failed, read_limit}
+use Rattle.lanes_main.specs.Told.{Sofar, AppendsFront, ToldFront, ToldAll, GaveMore, IsWithin, GoesOn, EndsEarly, Failed, read_limit}
 use Rattle.lanes_main.proofs.Feeds.{script_start}
 
 -- nothing was written
@@ -138,6 +138,15 @@ gave_more None rest before now cluster part total h past = tt
 gave_more (Some xs) None before now cluster part total h past = absurd h
 gave_more (Some xs) (Some ys) before now cluster part total h past =
     let lengths : length xs ≡ length h.0 + length ys = ap length h.2 ∙ length-append h.0 ys in omega (arith, h.3)
+
+-- at the end all was read, and it isn't more than a call reads
+pub gave_within : (input rest before now : Option (List ℕ)) (cluster : Option ClusterParts) (part : List ℕ) (total : ℕ) → Sofar input rest before now cluster part total → IsAtEnd rest → total ≤ read_limit → IsWithin input
+gave_within None rest before now cluster part total h end within = tt
+gave_within (Some xs) None before now cluster part total h end within = absurd h
+gave_within (Some xs) (Some ys) before now cluster part total h end within =
+    let lengths : length xs ≡ length h.0 + length ys = ap length h.2 ∙ length-append h.0 ys in
+    let none : length ys ≡ 0 = ap length end in
+    omega (arith, h.3)
 
 -- a reader that failed has what it had
 pub told_kept : (input rest rest' before now : Option (List ℕ)) (cluster : Option ClusterParts) (part : List ℕ) (total : ℕ) → Sofar input rest before now cluster part total → Keeps rest rest' → Sofar input rest' before now cluster part total

@@ -2,9 +2,9 @@
 use Rattle.std.specs.Prelude.{◌≡◌, ℕ, zero, suc, ◌+◌, List, [], ◌∷◌, ◌++◌, map, length, slice_get, slice_set, slice_index_or, Option, Some, None}
 use Rattle.table_model.specs.Operation.{Operation, Insert as Inserts, Delete as Deletes, AreAgreeing, SameOperations, state_of}
 use Rattle.table_model.specs.Table.{Table}
-use Rattle.replica_store.specs.Replica.{Replica, rows_between, live_count}
-use Rattle.lanes_main.specs.Cluster.{ClusterParts, new_cluster, place_of, count_answer}
-use Rattle.lanes_main.specs.Run.{Run}
+use Rattle.replica_store.specs.Replica.{Replica, rows_between}
+use Rattle.lanes_main.specs.Cluster.{ClusterParts, new_cluster, place_of, query_step}
+use Rattle.lanes_main.specs.Run.{Run, answered}
 use Rattle.lanes_main.specs.declared.reply.Reply.{Reply}
 use Rattle.lanes_main.specs.declared.reply.Reply.TheVariants.{Done, Named, Put}
 use Rattle.lanes_main.specs.declared.step.Step.{Step}
@@ -65,18 +65,38 @@ abbrev pub AllAgree : Taken → Type 0
 AllAgree [] = Unit {0}
 AllAgree (ops ∷ taken) = AreAgreeing ops × AllAgree taken
 
+-- a new cluster is that of replicas that took nothing
+abbrev pub StartsEmpty : Type 0
+StartsEmpty = (table : Table) (count : ℕ) → (new_cluster table count ≡ cluster_of table (new_taken count)) × AllAgree (new_taken count)
+
+-- a run from the cluster of what was taken, by earlier runs or by none, ends with that of what is taken then, and that agrees
+abbrev pub GoesOnFrom : Type 0
+GoesOnFrom = (table : Table) (taken : Taken) (steps : List Step) (replies : List Reply) (new : ClusterParts) →
+    AllAgree taken → Run (cluster_of table taken) steps replies new →
+    (new ≡ cluster_of table (taken_by taken steps replies)) × AllAgree (taken_by taken steps replies)
+
+-- a later part of a run is a run from the cluster of what was taken before it: so each reply is that of its step there
+abbrev pub RepliesFollow : Type 0
+RepliesFollow = (table : Table) (taken : Taken) (steps later : List Step) (replies later_replies : List Reply) (new : ClusterParts) →
+    AllAgree taken → length steps ≡ length replies → Run (cluster_of table taken) (steps ++ later) (replies ++ later_replies) new →
+    Run (cluster_of table (taken_by taken steps replies)) later later_replies new
+
+-- the reply to a query of the replica at a place
+abbrev pub query_reply : ClusterParts → ℕ → List ℕ → Reply
+query_reply c at sql = (answered (query_step c (suc at) sql) c).0
+
+-- in any two histories of one table, from new clusters, replicas that took the same have equal states, and answer each query alike
+abbrev pub SameAreAlike : Type 0
+SameAreAlike = (table : Table) (count other_count : ℕ) (steps other_steps : List Step) (replies other_replies : List Reply) (new other_new : ClusterParts)
+    (at other_at : ℕ) (r other : Replica) →
+    Run (new_cluster table count) steps replies new → Run (new_cluster table other_count) other_steps other_replies other_new →
+    slice_get new.stores at ≡ Some r → slice_get other_new.stores other_at ≡ Some other →
+    SameOperations (taken_at (taken_by (new_taken count) steps replies) (Some at)) (taken_at (taken_by (new_taken other_count) other_steps other_replies) (Some other_at)) →
+    (r.state ≡ other.state) × ((sql : List ℕ) → query_reply new at sql ≡ query_reply other_new other_at sql)
+
 -- what histories keep
 pub record HistoryLaws : Type 0 where
-  -- after any run the cluster is that of what each replica took, so each reply is the one that this gives
-  pub cluster : (table : Table) (count : ℕ) (steps : List Step) (replies : List Reply) (new : ClusterParts) →
-      Run (new_cluster table count) steps replies new → new ≡ cluster_of table (taken_by (new_taken count) steps replies)
-  -- and what each took agrees
-  pub agree : (table : Table) (count : ℕ) (steps : List Step) (replies : List Reply) (new : ClusterParts) →
-      Run (new_cluster table count) steps replies new → AllAgree (taken_by (new_taken count) steps replies)
-  -- in any two histories of one table, replicas that took the same have equal states, and answer COUNT(*) alike
-  pub alike : (table : Table) (count other_count : ℕ) (steps other_steps : List Step) (replies other_replies : List Reply) (new other_new : ClusterParts)
-      (at other_at : ℕ) (r other : Replica) →
-      Run (new_cluster table count) steps replies new → Run (new_cluster table other_count) other_steps other_replies other_new →
-      slice_get new.stores at ≡ Some r → slice_get other_new.stores other_at ≡ Some other →
-      SameOperations (taken_at (taken_by (new_taken count) steps replies) (Some at)) (taken_at (taken_by (new_taken other_count) other_steps other_replies) (Some other_at)) →
-      (r.state ≡ other.state) × (count_answer (live_count r) ≡ count_answer (live_count other))
+  pub start : StartsEmpty
+  pub cluster : GoesOnFrom
+  pub replies : RepliesFollow
+  pub alike : SameAreAlike

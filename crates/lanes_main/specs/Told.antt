@@ -1,5 +1,5 @@
 -- What a script has told its writer of what its reader gave, where readers and writers tell their bytes.
-use Rattle.std.specs.Prelude.{◌≡◌, ◌⊎◌, ℕ, ◌+◌, ◌<◌, List, ◌++◌, length, Option, Some, None}
+use Rattle.std.specs.Prelude.{◌≡◌, ◌⊎◌, ℕ, ◌+◌, ◌<◌, ◌≤◌, List, ◌++◌, length, Option, Some, None}
 use Rattle.std.specs.Io.KnownBytes.{Appends}
 use Rattle.table_model.specs.Counted.{one_more}
 use Rattle.table_model.specs.declared.refusal.Refusal.{Refusal}
@@ -50,6 +50,11 @@ Reached input rest before now = (cluster : Option ClusterParts) × (part : List 
 -- the most that one call reads
 abbrev pub read_limit : ℕ
 read_limit = 281474976710656
+
+-- what the reader has isn't more than a call reads
+abbrev pub IsWithin : Option (List ℕ) → Type 0
+IsWithin None = Unit {0}
+IsWithin (Some input) = length input ≤ read_limit
 
 -- the reader gave more than a call reads
 abbrev pub GaveMore : Option (List ℕ) → Option (List ℕ) → Type 0

@@ -2,7 +2,7 @@
 ghost use Rattle.std.specs.Prelude.{◌≡◌, ◌⊎◌, ◌<◌, ◌≤◌, [], length, Option, List, ℕ, MatchResult, IfOk, IfErr, OnOk, OnErr};
 ghost use Rattle.std.specs.Io.KnownBytes.{Appends, Consumes, IsAtEnd, Keeps};
 ghost use Rattle.table_model.specs.Counted.{one_more};
-ghost use Rattle.lanes_main.specs.Told.{Sofar, AppendsFront, ToldFront, ToldAll, Reached, GaveMore, Failed, GoesOn, EndsEarly, StaysTold};
+ghost use Rattle.lanes_main.specs.Told.{Sofar, AppendsFront, ToldFront, ToldAll, Reached, GaveMore, Failed, GoesOn, IsWithin, EndsEarly, StaysTold};
 
 use crate::line_part::LinePart;
 use crate::session::{Session, feed, finish};
@@ -79,6 +79,7 @@ fn rounds<R: Read, W: Write>(
     requires some { 0 < length buffer.old }
     requires limit { length buffer.old ≤ 65536 }
     ensures end { OnOk result (IsAtEnd (R.remaining reader.new.0)) }
+    ensures within { OnOk result (IsWithin (R.remaining reader.old.0)) }
     ensures told { IfOk result (λ session. (total : ℕ) × Sofar (R.remaining reader.old.0) (R.remaining reader.new.0) (W.contents writer.old.0) (W.contents writer.new.0)
         session.cluster session.line total) }
     ensures early { OnErr result (ToldFront (R.remaining reader.old.0) (W.contents writer.old.0) (W.contents writer.new.0)) }
@@ -117,6 +118,8 @@ pub fn script<R: Read, W: Write>(
 ) -> Result<(), Refusal>
     ensures text { MatchResult result (λ _. ToldAll (R.remaining reader.old.0) (W.contents writer.old.0) (W.contents writer.new.0))
         (λ _. ToldFront (R.remaining reader.old.0) (W.contents writer.old.0) (W.contents writer.new.0)) }
+    ensures end { OnOk result (IsAtEnd (R.remaining reader.new.0)) }
+    ensures within { OnOk result (IsWithin (R.remaining reader.old.0)) }
     ensures reached { IfErr result (λ e. e ≡ Refusal.ReadFault → Reached (R.remaining reader.old.0) (R.remaining reader.new.0) (W.contents writer.old.0) (W.contents writer.new.0)) }
     ensures kept { OnOk result ((reader.new.1 ≡ reader.old.1) × (writer.new.1 ≡ writer.old.1)) }
     ensures fault { IfErr result (λ e. Failed (GaveMore (R.remaining reader.old.0) (R.remaining reader.new.0)) e reader.old.1 reader.new.1 writer.old.1 writer.new.1) }

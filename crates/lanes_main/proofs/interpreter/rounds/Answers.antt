@@ -1,7 +1,7 @@
 use Rattle.std.proofs.Common.{◌∙◌, ◌+◌, arith, inr, refl, sym, subst, List, ℕ, None}
 use Rattle.std.proofs.lemmas.Result.{err_from_is_err_and}
 use Rattle.lanes_main.specs.Told.{GaveMore, Sofar}
-use Rattle.lanes_main.proofs.Tellings.{told_start, told_front, gave_more, failed_since}
+use Rattle.lanes_main.proofs.Tellings.{told_start, told_front, gave_within, gave_more, failed_since}
 use Rattle.lanes_main.proofs.interpreter.rounds.Goals as goal
 
 pub returns-in_err-count-clause-early : goal.returns-in_err-count-clause-early
@@ -28,6 +28,12 @@ returns-in_err-count-clause-fault g c =
 pub returns-then-count-eq0-clause-told : goal.returns-then-count-eq0-clause-told
 returns-then-count-eq0-clause-told g c =
     (c.loop-turn.total + c.in_ok-count.count, c.in_ok-count.ensures.told (g.R.Read.remaining c.args.reader.now.0) (g.W.Write.contents c.args.writer.now.0) c.loop-turn.total c.loop-turn.invariant.told)
+
+pub returns-then-count-eq0-clause-within : goal.returns-then-count-eq0-clause-within
+returns-then-count-eq0-clause-within g c =
+    gave_within (g.R.Read.remaining c.args.reader.now.0) (g.R.Read.remaining c.round.new.reader.0) (g.W.Write.contents c.args.writer.now.0) (g.W.Write.contents c.round.new.writer.0) c.round.new.session.cluster c.round.new.session.line (c.loop-turn.total + c.in_ok-count.count)
+    (c.in_ok-count.ensures.told (g.R.Read.remaining c.args.reader.now.0) (g.W.Write.contents c.args.writer.now.0) c.loop-turn.total c.loop-turn.invariant.told)
+    (c.in_ok-count.ensures.end (omega arith)) (omega (arith, c.loop-turn.invariant.limit))
 
 pub returns-then-count-eq0-clause-kept : goal.returns-then-count-eq0-clause-kept
 returns-then-count-eq0-clause-kept g c = (c.in_ok-count.ensures.kept.0 ∙ c.loop-turn.invariant.reader, c.in_ok-count.ensures.kept.1 ∙ c.loop-turn.invariant.writer)
