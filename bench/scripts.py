@@ -45,6 +45,36 @@ def scattered_deletes(count):
     yield "merge 1 2\n"
 
 
+def descending_deletes(count):
+    """One replica deletes so many single rows, each before all that it deleted earlier."""
+    yield "table 1 T A SMALLINT\n"
+    for i in reversed(range(count)):
+        row = i % 16384 * 4
+        yield f"delete 1 1.{i // 16384 + 1} {row} {row}\n"
+
+
+def batches_below(count):
+    """One replica takes as many batches from another, and appends so many that stand before them."""
+    yield "table 2 T A SMALLINT\n"
+    for i in range(count):
+        yield f"append 2 {one_row(i)}\n"
+    yield "merge 1 2\n"
+    for i in range(count):
+        yield f"append 1 {one_row(i)}\n"
+
+
+def scripts():
+    """The name of each script, and its lines."""
+    yield "64 batches of 65,536 rows", long_lines(64, 65536)
+    for count in (16384, 32768, 65536):
+        yield f"{count} batches of one row", small_batches(count)
+        yield f"merge {count} scattered deletes", scattered_deletes(count)
+        yield f"{count} deletes in descending order", descending_deletes(count)
+    for count in (8192, 16384, 32768):
+        yield f"merge {count} batches with as many", merged_batches(count)
+        yield f"{count} batches below as many", batches_below(count)
+
+
 def run(name, lines):
     with tempfile.NamedTemporaryFile("w", suffix=".lanes", delete=False) as script:
         script.writelines(lines)
@@ -63,13 +93,8 @@ def run(name, lines):
 
 def main():
     subprocess.run([os.path.join(TOP, "lanes"), "--help"], stdout=subprocess.DEVNULL, check=True)
-    for count in (16384, 32768, 65536):
-        run(f"{count} batches of one row", small_batches(count))
-    run("64 batches of 65,536 rows", long_lines(64, 65536))
-    for count in (16384, 32768):
-        run(f"merge {count} batches with as many", merged_batches(count))
-    for count in (16384, 32768, 65536):
-        run(f"merge {count} scattered deletes", scattered_deletes(count))
+    for name, lines in scripts():
+        run(name, lines)
 
 
 if __name__ == "__main__":

@@ -50,7 +50,7 @@ fn unread(failure: &io::Error, commands: &mut Command<'_>) -> Fault
 }
 
 /// The program's commands.
-fn commands<'a>(alloc: Global) -> Result<Command<'a>, AllocError> {
+pub(crate) fn commands<'a>(alloc: Global) -> Result<Command<'a>, AllocError> {
     let run = Command::new(alloc, "run").about(
         "Runs a script from standard input to standard output",
     );

@@ -3,6 +3,8 @@
 
 mod command_line;
 mod fault;
+#[cfg(test)]
+mod tests;
 
 use crate::command_line::Request;
 use crate::fault::Fault;

@@ -1,0 +1,68 @@
+//! The texts of help, of faults of the command line and of refusals, as a user sees them.
+
+use crate::command_line::commands;
+use crate::fault::Fault;
+use std::alloc::Global;
+use std::test::Fail;
+use table_model::{BatchName, Number, Origin, Refusal};
+
+/// What the command line of these words prints where it runs nothing.
+fn text_of(alloc: Global, words: &[&str]) -> Result<String, Fault> {
+    match commands(alloc)?.try_get_matches_from(words) {
+        Ok(_) => Ok(String::new(alloc)),
+        Err(error) => Ok(Fault::from(error).to_string(alloc)?),
+    }
+}
+
+const PROGRAM_HELP: &str =
+    "A replicated column store for one table of nullable integer columns\n\nUsage: lanes <COMMAND>\n\nCommands:\n  run   Runs a script from standard input to standard output\n  help  Print this message or the help of the given subcommand(s)\n\nOptions:\n  -h, --help  Print help\n";
+
+const RUN_HELP: &str =
+    "Runs a script from standard input to standard output\n\nUsage: lanes run\n\nOptions:\n  -h, --help  Print help\n";
+
+// Help names each command; a fault names what is wrong, the usage, and where help is.
+const TEXTS: [(&[&str], &str); 7] = [
+    (&["lanes", "--help"], PROGRAM_HELP),
+    (&["lanes", "help"], PROGRAM_HELP),
+    (&["lanes", "run", "--help"], RUN_HELP),
+    (
+        &["lanes"],
+        "error: 'lanes' requires a subcommand but one was not provided\n  [subcommands: run, help]\n\nUsage: lanes <COMMAND>\n\nFor more information, try '--help'.\n",
+    ),
+    (
+        &["lanes", "run", "x"],
+        "error: unexpected argument 'x' found\n\nUsage: lanes run\n\nFor more information, try '--help'.\n",
+    ),
+    (
+        &["lanes", "bogus"],
+        "error: unrecognized subcommand 'bogus'\n\nUsage: lanes <COMMAND>\n\nFor more information, try '--help'.\n",
+    ),
+    (&["lanes", "run"], ""),
+];
+
+#[test]
+fn help_and_faults_of_the_command_line_have_their_texts(rt: HostRuntime) -> Result<(), Fail> {
+    for (words, want) in TEXTS {
+        let text = text_of(rt.alloc(), words)?;
+        assert!(rt; text.as_str() == want, "printed {text}");
+    }
+    Ok(())
+}
+
+#[test]
+fn a_refusal_is_one_line(rt: HostRuntime) -> Result<(), Fail> {
+    let name = BatchName {
+        origin: Origin(1),
+        number: Number(2),
+    };
+    for (refusal, want) in [
+        (Refusal::Memory, "refused Memory"),
+        (Refusal::ReadFault, "refused ReadFault"),
+        (Refusal::WriteFault, "refused WriteFault"),
+        (Refusal::Conflict(name), "refused Conflict 1.2"),
+    ] {
+        let text = Fault::from(refusal).to_string(rt.alloc())?;
+        assert!(rt; text.as_str() == want, "printed {text}");
+    }
+    Ok(())
+}

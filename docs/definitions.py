@@ -1,0 +1,61 @@
+#!/usr/bin/env python3
+"""Writes docs/DEFINITIONS.md anew: each public definition of the crates' specs, with the comment above it."""
+import pathlib, re
+
+TOP = pathlib.Path(__file__).resolve().parent.parent
+HEAD = """# Definitions
+
+Each definition that contracts cite, with its plain meaning, by crate and file. A definition lives once, in the lowest crate that needs it. Names that share a comment share a line. `python3 docs/definitions.py` writes this page.
+"""
+DEFINED = re.compile(r"\s*(?:abbrev |unfoldable )?pub (?:record |data )?(?!mod |use |module )(\S+)")
+FIELD = re.compile(r"\s+pub \S+ :")
+
+
+def meaning(comment):
+    """The comment as a sentence's beginning, but for a variable's name at its head."""
+    text = " ".join(comment).rstrip(".").replace("|", "\\|")
+    if re.match(r"[a-z]{2}|a [a-z]{2}", text):
+        text = text[0].upper() + text[1:]
+    return text
+
+
+def groups(lines):
+    """The names under each comment, and the comment. A name with a hyphen is a lemma's, and left out."""
+    found, comment, fresh, inside = [], [], False, False
+    for line in lines:
+        words = line.strip()
+        defined = DEFINED.match(line)
+        if words.startswith("-- "):
+            comment, fresh = (comment if fresh else []) + [words[3:]], True
+        elif defined and not (inside and FIELD.match(line)):
+            if fresh or not found:
+                found.append(([], comment))
+            if "-" not in defined[1]:
+                found[-1][0].append(defined[1])
+            fresh, inside = False, "record " in line
+        elif words:
+            fresh = False
+            inside = inside and line.startswith(" ")
+    return [(names, comment) for names, comment in found if names]
+
+
+def section(crate):
+    rows = []
+    for file in sorted((TOP / "crates" / crate / "specs").rglob("*.antt")):
+        if file.name == "Lib.antt":
+            continue
+        place = file.relative_to(TOP / "crates" / crate / "specs")
+        for names, comment in groups(file.read_text().splitlines()):
+            shown = ", ".join(f"`{name}`" for name in names)
+            rows.append(f"| {shown} | {meaning(comment)} | `{place}` |")
+    return [f"\n## `{crate}`\n", "| Definition | Meaning | File in `specs/` |", "|---|---|---|", *rows] if rows else []
+
+
+def main():
+    crates = [line.split(":")[0].split()[0] for line in (TOP / "crates.txt").read_text().splitlines() if line and line[0] != "#"]
+    page = HEAD + "\n".join(line for crate in crates for line in section(crate)) + "\n"
+    (TOP / "docs" / "DEFINITIONS.md").write_text(page)
+
+
+if __name__ == "__main__":
+    main()
