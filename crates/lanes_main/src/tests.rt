@@ -173,41 +173,43 @@ fn sevens(alloc: Global, count: usize) -> Result<Rows, Refusal> {
     Ok(Rows::from_vec(rows))
 }
 
+const NAME: BatchName = BatchName {
+    origin: Origin(9),
+    number: Number(2),
+};
+
+/// An append of so many rows at replica 1.
+fn append(alloc: Global, count: usize) -> Result<Step, Refusal> {
+    let rows = sevens(alloc, count)?;
+    Ok(Step::Append { replica: 1, rows })
+}
+
+/// An insert of so many rows at replica 2, under one name.
+fn insert(alloc: Global, count: usize) -> Result<Step, Refusal> {
+    let rows = sevens(alloc, count)?;
+    Ok(Step::Insert {
+        replica: 2,
+        name: NAME,
+        rows,
+    })
+}
+
 /// One step of each kind, and two that are refused.
 fn steps_of_each_kind(alloc: Global) -> Result<Vec<Step>, Refusal> {
-    let name = BatchName {
-        origin: Origin(9),
-        number: Number(2),
-    };
-    let first = RowName {
-        batch: name,
-        ordinal: 1,
-    };
     let sql = String::from_str(alloc, "SELECT COUNT(*) FROM T")?;
     let mut steps = Vec::new(alloc);
-    steps.push(Step::Append {
-        replica: 1,
-        rows: sevens(alloc, 2)?,
-    })?;
-    steps.push(Step::Append {
-        replica: 1,
-        rows: sevens(alloc, 0)?,
-    })?;
+    steps.push(append(alloc, 2)?)?;
+    steps.push(append(alloc, 0)?)?;
     steps.push(Step::Delete {
         replica: 1,
-        first,
+        first: RowName {
+            batch: NAME,
+            ordinal: 1,
+        },
         last: 8,
     })?;
-    steps.push(Step::Insert {
-        replica: 2,
-        name,
-        rows: sevens(alloc, 3)?,
-    })?;
-    steps.push(Step::Insert {
-        replica: 2,
-        name,
-        rows: sevens(alloc, 2)?,
-    })?;
+    steps.push(insert(alloc, 3)?)?;
+    steps.push(insert(alloc, 2)?)?;
     steps.push(Step::Merge {
         replica: 1,
         other: 2,

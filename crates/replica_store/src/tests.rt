@@ -152,61 +152,65 @@ type Merge<'a> = (
 
 // The first case conflicts under 2.1 and 3.1, and nothing comes; in the second a deletion comes before its batch; in the
 // last the states are made of the same operations in another order, with repeats.
+const MERGES: [Merge<'static>; 4] = [
+    (
+        &[
+            Told::Batch(3, 1, &[3]),
+            Told::Batch(2, 1, &[2]),
+            Told::Batch(1, 2, &[1]),
+        ],
+        &[
+            Told::Batch(1, 1, &[9]),
+            Told::Batch(3, 1, &[8]),
+            Told::Batch(2, 1, &[2, 2]),
+            Told::Deletion(1, 2, 0, 0),
+        ],
+        Err(Refusal::Conflict(BatchName {
+            origin: Origin(2),
+            number: Number(1),
+        })),
+        &[(1, 2, &[1]), (2, 1, &[2]), (3, 1, &[3])],
+        &[],
+        3,
+    ),
+    (
+        &[Told::Deletion(2, 1, 1, 9)],
+        &[Told::Batch(2, 1, &[20, 21, 22])],
+        Ok(()),
+        &[(2, 1, &[20, 21, 22])],
+        &[(2, 1, 1, 9)],
+        1,
+    ),
+    (
+        &[Told::Deletion(1, 1, 0, 4), Told::Deletion(1, 2, 7, 7)],
+        &[Told::Deletion(1, 1, 5, 9), Told::Deletion(1, 2, 5, 5)],
+        Ok(()),
+        &[],
+        &[(1, 1, 0, 9), (1, 2, 5, 5), (1, 2, 7, 7)],
+        0,
+    ),
+    (
+        &[
+            Told::Batch(1, 1, &[10, 11]),
+            Told::Deletion(3, 1, 1, 2),
+            Told::Batch(3, 1, &[30, 31]),
+        ],
+        &[
+            Told::Batch(3, 1, &[30, 31]),
+            Told::Deletion(3, 1, 2, 2),
+            Told::Batch(1, 1, &[10, 11]),
+            Told::Deletion(3, 1, 1, 1),
+        ],
+        Ok(()),
+        &[(1, 1, &[10, 11]), (3, 1, &[30, 31])],
+        &[(3, 1, 1, 2)],
+        3,
+    ),
+];
+
 #[test]
 fn a_merge_joins_states_or_names_the_least_conflict(rt: HostRuntime) -> Result<(), Fail> {
-    let cases: [Merge<'_>; 4] = [
-        (
-            &[
-                Told::Batch(3, 1, &[3]),
-                Told::Batch(2, 1, &[2]),
-                Told::Batch(1, 2, &[1]),
-            ],
-            &[
-                Told::Batch(1, 1, &[9]),
-                Told::Batch(3, 1, &[8]),
-                Told::Batch(2, 1, &[2, 2]),
-                Told::Deletion(1, 2, 0, 0),
-            ],
-            Err(Refusal::Conflict(name(2, 1))),
-            &[(1, 2, &[1]), (2, 1, &[2]), (3, 1, &[3])],
-            &[],
-            3,
-        ),
-        (
-            &[Told::Deletion(2, 1, 1, 9)],
-            &[Told::Batch(2, 1, &[20, 21, 22])],
-            Ok(()),
-            &[(2, 1, &[20, 21, 22])],
-            &[(2, 1, 1, 9)],
-            1,
-        ),
-        (
-            &[Told::Deletion(1, 1, 0, 4), Told::Deletion(1, 2, 7, 7)],
-            &[Told::Deletion(1, 1, 5, 9), Told::Deletion(1, 2, 5, 5)],
-            Ok(()),
-            &[],
-            &[(1, 1, 0, 9), (1, 2, 5, 5), (1, 2, 7, 7)],
-            0,
-        ),
-        (
-            &[
-                Told::Batch(1, 1, &[10, 11]),
-                Told::Deletion(3, 1, 1, 2),
-                Told::Batch(3, 1, &[30, 31]),
-            ],
-            &[
-                Told::Batch(3, 1, &[30, 31]),
-                Told::Deletion(3, 1, 2, 2),
-                Told::Batch(1, 1, &[10, 11]),
-                Told::Deletion(3, 1, 1, 1),
-            ],
-            Ok(()),
-            &[(1, 1, &[10, 11]), (3, 1, &[30, 31])],
-            &[(3, 1, 1, 2)],
-            3,
-        ),
-    ];
-    for (ours, theirs, want, batches, deleted, live) in cases {
+    for (ours, theirs, want, batches, deleted, live) in MERGES {
         let (answer, store) = merged_store(rt.alloc(), ours, theirs)?;
         assert!(rt;
             answer == want && is_state(&store, batches, deleted, live),

@@ -58,58 +58,59 @@ fn rows_of(alloc: Global, rows: &[&[Option<i128>]]) -> Result<Vec<Row>, AllocErr
 
 // The columns are A SMALLINT, B INTEGER, C BIGINT, whose ranges end at 2^15, 2^31 and 2^63. Faults are sought row by row,
 // a row's number of cells before its cells, and these from the left.
+const FAULTS: [(&[&[Option<i128>]], Result<(), Refusal>); 14] = [
+    (&[], Err(Refusal::EmptyBatch)),
+    (&[&[Some(1), Some(2), Some(3)]], Ok(())),
+    (&[&[None, None, None]], Ok(())),
+    (
+        &[&[
+            Some(32_767),
+            Some(2_147_483_647),
+            Some(9_223_372_036_854_775_807),
+        ]],
+        Ok(()),
+    ),
+    (
+        &[&[
+            Some(-32_768),
+            Some(-2_147_483_648),
+            Some(-9_223_372_036_854_775_808),
+        ]],
+        Ok(()),
+    ),
+    (
+        &[&[Some(32_768), None, None]],
+        Err(Refusal::OutOfType(0, 0)),
+    ),
+    (
+        &[&[Some(-32_769), None, None]],
+        Err(Refusal::OutOfType(0, 0)),
+    ),
+    (
+        &[&[None, Some(2_147_483_648), Some(9_223_372_036_854_775_808)]],
+        Err(Refusal::OutOfType(0, 1)),
+    ),
+    (
+        &[&[None, None, Some(-9_223_372_036_854_775_809)]],
+        Err(Refusal::OutOfType(0, 2)),
+    ),
+    (&[&[None, None]], Err(Refusal::WrongArity(0))),
+    (&[&[None, None, None, None]], Err(Refusal::WrongArity(0))),
+    (&[&[]], Err(Refusal::WrongArity(0))),
+    (
+        &[&[None, None, None], &[Some(32_768)]],
+        Err(Refusal::WrongArity(1)),
+    ),
+    (
+        &[&[None, Some(2_147_483_648), None], &[]],
+        Err(Refusal::OutOfType(0, 1)),
+    ),
+];
+
 #[test]
 fn the_first_fault_of_a_batch_is_named(rt: HostRuntime) -> Result<(), Fail> {
     let schema = Schema::new(rt.alloc(), "T", &COLUMNS[..3])?;
-    let cases: [(&[&[Option<i128>]], Result<(), Refusal>); 14] = [
-        (&[], Err(Refusal::EmptyBatch)),
-        (&[&[Some(1), Some(2), Some(3)]], Ok(())),
-        (&[&[None, None, None]], Ok(())),
-        (
-            &[&[
-                Some(32_767),
-                Some(2_147_483_647),
-                Some(9_223_372_036_854_775_807),
-            ]],
-            Ok(()),
-        ),
-        (
-            &[&[
-                Some(-32_768),
-                Some(-2_147_483_648),
-                Some(-9_223_372_036_854_775_808),
-            ]],
-            Ok(()),
-        ),
-        (
-            &[&[Some(32_768), None, None]],
-            Err(Refusal::OutOfType(0, 0)),
-        ),
-        (
-            &[&[Some(-32_769), None, None]],
-            Err(Refusal::OutOfType(0, 0)),
-        ),
-        (
-            &[&[None, Some(2_147_483_648), Some(9_223_372_036_854_775_808)]],
-            Err(Refusal::OutOfType(0, 1)),
-        ),
-        (
-            &[&[None, None, Some(-9_223_372_036_854_775_809)]],
-            Err(Refusal::OutOfType(0, 2)),
-        ),
-        (&[&[None, None]], Err(Refusal::WrongArity(0))),
-        (&[&[None, None, None, None]], Err(Refusal::WrongArity(0))),
-        (&[&[]], Err(Refusal::WrongArity(0))),
-        (
-            &[&[None, None, None], &[Some(32_768)]],
-            Err(Refusal::WrongArity(1)),
-        ),
-        (
-            &[&[None, Some(2_147_483_648), None], &[]],
-            Err(Refusal::OutOfType(0, 1)),
-        ),
-    ];
-    for (rows, want) in cases {
+    for (rows, want) in FAULTS {
         let rows = rows_of(rt.alloc(), rows)?;
         assert_eq!(rt; check_rows(&schema, rows.as_slice()), want);
     }
@@ -141,17 +142,19 @@ fn refused(alloc: Global, name: &str) -> (Option<Refusal>, Option<Refusal>) {
 // Letters are those of ASCII, so a letter with an accent is none; a name has at most 64 bytes, and no keyword is one.
 #[test]
 fn a_table_and_its_columns_have_identifiers_for_names(rt: HostRuntime) -> Result<(), Fail> {
-    for name in "T t1 T_ tab_1 SELECTED WHER A234567890_234567890_234567890_234567890_234567890_234567890_234".split(
-        ' ',
-    ) {
+    let bad = Some(Refusal::BadSchema);
+    let names =
+        "T t1 T_ tab_1 SELECTED WHER A234567890_234567890_234567890_234567890_234567890_234567890_234";
+    let others =
+        " 1T _T T-1 T.A É TÉ WHERE wHeRe A234567890_234567890_234567890_234567890_234567890_234567890_2345";
+    for name in names.split(' ') {
         assert!(rt; refused(rt.alloc(), name) == (None, None));
     }
-    let bad = Some(Refusal::BadSchema);
-    for name in " 1T _T T-1 T.A É TÉ WHERE wHeRe A234567890_234567890_234567890_234567890_234567890_234567890_2345".split(
-        ' ',
-    ) {
-        assert!(rt; refused(rt.alloc(), name) == (bad, bad));
-    }
+    assert!(rt;
+        others
+            .split(' ')
+            .all(|name| refused(rt.alloc(), name) == (bad, bad))
+    );
     Ok(())
 }
 
@@ -289,49 +292,53 @@ const REFUSALS: &str = "\
 37 NoSuchMessage
 ";
 
+const ALL_REFUSALS: [Refusal; 37] = [
+    Refusal::Memory,
+    Refusal::Conflict(BatchName {
+        origin: Origin(4_294_967_295),
+        number: Number(7),
+    }),
+    Refusal::Full,
+    Refusal::EmptyBatch,
+    Refusal::BatchTooLong,
+    Refusal::WrongArity(0),
+    Refusal::OutOfType(0, 1),
+    Refusal::SchemaDiffers,
+    Refusal::NumbersSpent,
+    Refusal::NoSuchVector,
+    Refusal::BadName,
+    Refusal::BadSchema,
+    Refusal::Truncated(41),
+    Refusal::BadMagic,
+    Refusal::BadVersion,
+    Refusal::BadOrder(19),
+    Refusal::BadCount(13),
+    Refusal::BadWidth(29),
+    Refusal::BadTag(28),
+    Refusal::BadMask(27),
+    Refusal::BadDictionary(34),
+    Refusal::BadCode(35),
+    Refusal::BadRange(0),
+    Refusal::TrailingBytes(42),
+    Refusal::NotCanonical(18_446_744_073_709_551_615),
+    Refusal::Syntax(28),
+    Refusal::NoSuchTable,
+    Refusal::NoSuchColumn(13),
+    Refusal::NotGrouped(7),
+    Refusal::NumberTooLarge(31),
+    Refusal::TooDeep,
+    Refusal::LineTooLong,
+    Refusal::ReadFault,
+    Refusal::WriteFault,
+    Refusal::BadLine,
+    Refusal::NoSuchReplica,
+    Refusal::NoSuchMessage,
+];
+
 #[test]
 fn refusals_have_their_numbers_and_texts(rt: HostRuntime) -> Result<(), Fail> {
-    let refusals = [
-        Refusal::Memory,
-        Refusal::Conflict(name_of(4_294_967_295, 7)),
-        Refusal::Full,
-        Refusal::EmptyBatch,
-        Refusal::BatchTooLong,
-        Refusal::WrongArity(0),
-        Refusal::OutOfType(0, 1),
-        Refusal::SchemaDiffers,
-        Refusal::NumbersSpent,
-        Refusal::NoSuchVector,
-        Refusal::BadName,
-        Refusal::BadSchema,
-        Refusal::Truncated(41),
-        Refusal::BadMagic,
-        Refusal::BadVersion,
-        Refusal::BadOrder(19),
-        Refusal::BadCount(13),
-        Refusal::BadWidth(29),
-        Refusal::BadTag(28),
-        Refusal::BadMask(27),
-        Refusal::BadDictionary(34),
-        Refusal::BadCode(35),
-        Refusal::BadRange(0),
-        Refusal::TrailingBytes(42),
-        Refusal::NotCanonical(18_446_744_073_709_551_615),
-        Refusal::Syntax(28),
-        Refusal::NoSuchTable,
-        Refusal::NoSuchColumn(13),
-        Refusal::NotGrouped(7),
-        Refusal::NumberTooLarge(31),
-        Refusal::TooDeep,
-        Refusal::LineTooLong,
-        Refusal::ReadFault,
-        Refusal::WriteFault,
-        Refusal::BadLine,
-        Refusal::NoSuchReplica,
-        Refusal::NoSuchMessage,
-    ];
     let mut text = String::new(rt.alloc());
-    for refusal in refusals {
+    for refusal in ALL_REFUSALS {
         let number = refusal.number();
         text.push_str(format!(in rt.alloc(); "{number} {refusal}\n")?.as_str())?;
     }
