@@ -4,7 +4,7 @@ ghost use Rattle.std.specs.Int.{int_wrap};
 ghost use Rattle.transpose_order.specs.Place.{IsLaneWidth};
 ghost use Rattle.bit_interleave.specs.Arithmetic.{integer_width, least_width};
 
-/// The number modulo two to the power of `lane_width`, read as signed.
+/// The number modulo two to the power of `lane_width`, which is 8, 16, 32 or 64, read as signed.
 pub fn wrap(lane_width: usize, number: u64) -> i64
     requires { IsLaneWidth lane_width }
     ensures { result ≡ int_wrap (integer_width lane_width) (pos number) }
@@ -16,7 +16,7 @@ pub fn wrap(lane_width: usize, number: u64) -> i64
         .cast_signed()
 }
 
-/// The sum modulo two to the power of `lane_width`, read as signed.
+/// The sum modulo two to the power of `lane_width`, which is 8, 16, 32 or 64, read as signed.
 pub fn wrapping_sum(lane_width: usize, a: i64, b: i64) -> i64
     requires { IsLaneWidth lane_width }
     ensures { result ≡ int_wrap (integer_width lane_width) (a +ℤ b) }
@@ -24,7 +24,8 @@ pub fn wrapping_sum(lane_width: usize, a: i64, b: i64) -> i64
     wrap(lane_width, a.wrapping_add(b).cast_unsigned())
 }
 
-/// The sum with a packed number, modulo two to the power of `lane_width`, read as signed.
+/// The sum with a packed number, which is unsigned, modulo two to the power of `lane_width`, which is 8, 16, 32 or 64,
+/// read as signed.
 pub fn wrapping_sum_with(lane_width: usize, a: i64, number: u64) -> i64
     requires { IsLaneWidth lane_width }
     ensures { result ≡ int_wrap (integer_width lane_width) (a +ℤ pos number) }
@@ -32,7 +33,7 @@ pub fn wrapping_sum_with(lane_width: usize, a: i64, number: u64) -> i64
     wrap(lane_width, a.cast_unsigned().wrapping_add(number))
 }
 
-/// The difference modulo two to the power of `lane_width`, read as signed.
+/// The difference modulo two to the power of `lane_width`, which is 8, 16, 32 or 64, read as signed.
 pub fn wrapping_difference(lane_width: usize, a: i64, b: i64) -> i64
     requires { IsLaneWidth lane_width }
     ensures { result ≡ int_wrap (integer_width lane_width) (a -ℤ b) }
@@ -40,7 +41,7 @@ pub fn wrapping_difference(lane_width: usize, a: i64, b: i64) -> i64
     wrap(lane_width, a.wrapping_sub(b).cast_unsigned())
 }
 
-/// The least width that holds every number up to `max`.
+/// The least width in bits, 0 to 64, that holds every number up to `max`.
 pub fn width_of(max: u64) -> usize
     ensures value { result ≡ least_width max }
     ensures holds { max < 2 ^ result }

@@ -5,26 +5,27 @@ ghost use Rattle.transpose_order.specs.Place.{IsLaneWidth};
 
 use std::simd::prelude::*;
 
-/// A word of a lane: one of the unsigned integers of 8, 16, 32 and 64 bits.
+/// A word of a lane: one of the unsigned integers of 8, 16, 32 and 64 bits. A vector has `1024 / BITS` lanes of them.
 pub trait LaneWord: Copy {
     ghost BITS: { ℕ };
 
-    /// How many bits the word has, which is the lane width.
+    /// How many bits the word has, which is the lane width: 8, 16, 32 or 64.
     const BITS: usize;
 
     ghost number: { Self → ℕ };
 
-    /// The number that the word is.
+    /// The number that the word is, below two to the power of `BITS`.
     fn to_u64(self) -> u64
         ensures kept { result ≡ number self }
         ensures fits { result < 2 ^ BITS };
 
-    /// The word that is this number, which fits its bits.
+    /// The word that is this number, which is below two to the power of `BITS`.
     fn from_u64(n: u64) -> Self
         requires { n < 2 ^ BITS }
         ensures { number result ≡ n };
 
-    /// The numbers of the sixteen words from place `at` on.
+    /// The numbers of the sixteen words from index `at` on, which is at most `words.len() - 16`: element i is the word
+    /// at `at + i`.
     fn load(words: &[Self], at: usize) -> Simd<u64, 16>
         requires { at + 16 ≤ length words.now }
         ensures numbers { result ≡ map number (chunk at 16 words.now) }

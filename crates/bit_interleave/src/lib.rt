@@ -1,4 +1,8 @@
-//! Bit-packing of vectors of 1024 numbers in interleaved lanes.
+//! Bit-packing of vectors of 1024 numbers in interleaved lanes (FastLanes, VLDB 2023, interleaved bit-packing).
+//!
+//! A lane of words of T bits, T being 8, 16, 32 or 64, holds the values of T rows one after another, at a width of 0 to
+//! T bits each, lowest bit first. There are 1024 / T lanes, and word `w` of lane `l` is word `w * (1024 / T) + l` of
+//! the vector, so that a vector takes `width * (1024 / T)` words.
 #![tactic(auto)]
 
 mod arithmetic;

@@ -8,6 +8,7 @@ use crate::lane_word::LaneWord;
 use transpose_order::row_at;
 
 /// Word `word` of a lane.
+#[inline(always)]
 fn word_of<V: LaneWord>(
     lane_width: usize,
     width: usize,
@@ -35,6 +36,7 @@ fn word_of<V: LaneWord>(
 }
 
 /// Writes word `word` of each lane.
+#[inline(always)]
 fn pack_word<V: LaneWord, U: LaneWord>(
     width: usize,
     values: &[V; 1024],
@@ -56,19 +58,52 @@ fn pack_word<V: LaneWord, U: LaneWord>(
     }
 }
 
-/// The words that pack 1024 values of `width` bits in row order, given in words of any type.
+/// The words that pack 1024 values of `W` bits in row order, given in words of any type. With the width known, the compiler
+/// unrolls the loop over the values in a word.
+fn pack_constant<V: LaneWord, U: LaneWord, const W: usize>(values: &[V; 1024], words: &mut [U])
+    requires width { W ≤ U.BITS }
+    requires fit { All (λ v. V.number v < 2 ^ W) values.now }
+    requires words { length words.old ≡ W * (1024 / U.BITS) }
+    ensures { map U.number words.new ≡ packed U.BITS W (map V.number values.now) }
+{
+    // By what is required this never is so; the compiler leaves out what follows where a lane hasn't so many bits.
+    if W > U::BITS {
+        return;
+    }
+    for word in 0..W {
+        pack_word(W, values, word, words);
+    }
+}
+
+/// The words that pack 1024 values of `width` bits, 0 to `U::BITS`, in row order, given in words of any type: there are
+/// `width * (1024 / U::BITS)` of them. The width is looked up once, among those that are known when it is compiled.
 pub(crate) fn pack_from<V: LaneWord, U: LaneWord>(width: usize, values: &[V; 1024], words: &mut [U])
     requires width { width ≤ U.BITS }
     requires fit { All (λ v. V.number v < 2 ^ width) values.now }
     requires words { length words.old ≡ width * (1024 / U.BITS) }
     ensures { map U.number words.new ≡ packed U.BITS width (map V.number values.now) }
 {
-    for word in 0..width {
-        pack_word(width, values, word, words);
+    macro_rules! at_constant_width {
+        ($($w:literal)*) => {
+            match width {
+                $($w => pack_constant::<V, U, $w>(values, words),)*
+                _ => pack_constant::<V, U, 64>(values, words),
+            }
+        };
     }
+    at_constant_width!(
+        0 1 2 3 4 5 6 7 8 9 10 11 12 13 14 15
+        16 17 18 19 20 21 22 23 24 25 26 27 28 29 30 31
+        32 33 34 35 36 37 38 39 40 41 42 43 44 45 46 47
+        48 49 50 51 52 53 54 55 56 57 58 59 60 61 62 63
+    );
 }
 
-/// The words that pack 1024 values of `width` bits in row order.
+/// The words that pack 1024 values of `width` bits in row order (FastLanes, VLDB 2023, the unified transposed layout and
+/// interleaved bit-packing).
+///
+/// The width is 0 to `U::BITS`, and each value is below two to the power of `width`. There are `width * lanes` words for
+/// `lanes = 1024 / U::BITS` lanes; word `w` of lane `l` is word `w * lanes + l`. At width 0 there are no words.
 pub fn pack_at<U: LaneWord>(width: usize, values: &[U; 1024], words: &mut [U])
     requires width { width ≤ U.BITS }
     requires fit { All (λ v. U.number v < 2 ^ width) values.now }
@@ -79,11 +114,14 @@ pub fn pack_at<U: LaneWord>(width: usize, values: &[U; 1024], words: &mut [U])
 }
 
 /// The words that pack 1024 values of `W` bits in row order.
+///
+/// `W` is 0 to `U::BITS`, and each value is below two to the power of `W`. There are `W * lanes` words for
+/// `lanes = 1024 / U::BITS` lanes; word `w` of lane `l` is word `w * lanes + l`. At width 0 there are no words.
 pub fn pack<U: LaneWord, const W: usize>(values: &[U; 1024], words: &mut [U])
     requires width { W ≤ U.BITS }
     requires fit { All (λ v. U.number v < 2 ^ W) values.now }
     requires words { length words.old ≡ W * (1024 / U.BITS) }
     ensures { map U.number words.new ≡ packed U.BITS W (map U.number values.now) }
 {
-    pack_from(W, values, words);
+    pack_constant::<U, U, W>(values, words);
 }

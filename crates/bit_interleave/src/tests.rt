@@ -1,5 +1,6 @@
-//! Packing at values worked out by hand from the definition: bit b of word w of a lane is bit (w * T + b) mod W of the
-//! value at step (w * T + b) div W.
+//! Packing at values worked out from the definition. At lane width T row n stands at step n mod T of lane
+//! 16 * g + n div 64, where g is n mod 64 div T with its bits in reverse. Bit b of word w of lane l is bit
+//! (w * T + b) mod W of the lane's value at step (w * T + b) div W, and that word has the index w * (1024 / T) + l.
 ghost use Rattle.std.specs.Prelude.{◌<◌, ◌≤◌, ◌^◌};
 ghost use Rattle.std.specs.List.{All};
 ghost use Rattle.transpose_order.specs.Place.{IsLaneWidth};
@@ -8,6 +9,115 @@ use super::*;
 use std::alloc::Global;
 use std::process::Abort;
 use std::test::Fail;
+
+/// The numbers 0 to 7 with their three bits in reverse.
+const REVERSED: [usize; 8] = [0, 4, 2, 6, 1, 5, 3, 7];
+
+/// The index of the word, and the bit of it, that hold a bit of the value at a row.
+fn standing(
+    rt: &impl Abort,
+    lane_width: usize,
+    width: usize,
+    row: usize,
+    bit: usize,
+) -> (usize, usize)
+    requires lane_width { IsLaneWidth lane_width }
+    requires width { width ≤ lane_width }
+    requires row { row < 1024 }
+    requires bit { bit < width }
+    ensures word { result.0 < 1024 }
+    ensures bit { result.1 < lane_width }
+{
+    // There are 64 / lane_width parts, and the reverse of three bits has a zero at its end for each bit that these lack.
+    let lane = 16 * (REVERSED[row % 64 / lane_width] / (lane_width / 8)) + row / 64;
+    let counted = row % lane_width * width + bit;
+    let word = counted / lane_width * (1024 / lane_width) + lane;
+    assert!(rt; word < 1024);
+    (word, counted % lane_width)
+}
+
+/// The value at a row of packed words, bit by bit.
+fn value_at<U: LaneWord>(rt: &impl Abort, width: usize, words: &[U], row: usize) -> u64
+    requires width { width ≤ U.BITS }
+    requires row { row < 1024 }
+{
+    let bits = U::BITS;
+    let mut value = 0;
+    for bit in 0..width {
+        let (word, place) = standing(rt, bits, width, row, bit);
+        assert!(rt; word < words.len());
+        value |= (words[word].to_u64() >> place & 1) << bit;
+    }
+    value
+}
+
+/// Each row's value is the one that its bits in the words make.
+fn values_are_in_words<U: LaneWord>(rt: &impl Abort, width: usize, words: &[U], values: &[U; 1024])
+    requires width { width ≤ U.BITS }
+{
+    for row in 0..1024 {
+        let expected = value_at(rt, width, words, row);
+        assert_eq!(rt;
+            values[row].to_u64(),
+            expected,
+            "row {row} at width {width}"
+        );
+    }
+}
+
+/// The two slices have the same words.
+fn are_same_words<U: LaneWord>(rt: &impl Abort, words: &[U], others: &[U]) {
+    for i in 0..words.len() {
+        assert!(rt; i < others.len());
+        assert_eq!(rt; words[i].to_u64(), others[i].to_u64(), "word {i}");
+    }
+}
+
+/// So many words of all bits, without a pattern.
+fn scrambled<U: LaneWord>(alloc: Global, count: usize) -> Result<Vec<U>, Fail> {
+    let bits = U::BITS;
+    let mut words = Vec::with_capacity(alloc, count)?;
+    let mut seed = 12345u64;
+    for _ in 0..count {
+        seed = seed
+            .wrapping_mul(6364136223846793005)
+            .wrapping_add(1442695040888963407);
+        words.push(U::from_u64(seed >> (64 - bits)))?;
+    }
+    Ok(words)
+}
+
+/// Words unpack to the values that their bits make, which are written over `values`, and these pack to the words.
+fn follows_the_definition<U: LaneWord>(
+    rt: &impl Abort,
+    alloc: Global,
+    width: usize,
+    values: &mut [U; 1024],
+) -> Result<(), Fail>
+    requires { width ≤ U.BITS }
+{
+    let count = width * (1024 / U::BITS);
+    let words = scrambled::<U>(alloc, count)?;
+    assert_eq!(rt; words.len(), count);
+    unpack_at(width, words.as_slice(), values);
+    values_are_in_words(rt, width, words.as_slice(), values);
+    let mut again = vec![in alloc; U::from_u64(0); count]?;
+    pack_at(width, values, again.as_mut_slice());
+    are_same_words(rt, words.as_slice(), again.as_slice());
+    Ok(())
+}
+
+/// Words follow the definition at every width, from 0 to the lane width.
+fn follows_at_every_width<U: LaneWord>(
+    rt: &impl Abort,
+    alloc: Global,
+    values: &mut [U; 1024],
+) -> Result<(), Fail> {
+    for width in 0..U::BITS + 1 {
+        follows_the_definition(rt, alloc, width, values)?;
+    }
+    Ok(())
+}
 
 /// The greatest number of `width` bits where it is asked for, and else 0.
 fn greatest_if(asked: bool, width: usize) -> u64
@@ -45,7 +155,55 @@ fn counting() -> [u64; 1024]
     values
 }
 
-/// The words that are not 0 stand at the places `low` and `high`, and the vector comes back.
+/// The words that are 0 but for the bits of one row's value, which are all set.
+fn words_of_row(rt: &impl Abort, lane_width: usize, width: usize, row: usize) -> [u64; 1024]
+    requires lane_width { IsLaneWidth lane_width }
+    requires width { width ≤ lane_width }
+    requires row { row < 1024 }
+{
+    let mut words = [0; 1024];
+    for bit in 0..width {
+        let (word, place) = standing(rt, lane_width, width, row, bit);
+        words[word] |= 1 << place;
+    }
+    words
+}
+
+/// The words have these numbers, followed by zeros alone.
+fn have_numbers(rt: &impl Abort, words: &Words, numbers: &[u64; 1024]) {
+    for i in 0..1024 {
+        if i < words.len() {
+            assert_eq!(rt; words.word(i), numbers[i], "word {i}");
+        } else {
+            assert_eq!(rt; numbers[i], 0, "no word {i}");
+        }
+    }
+}
+
+/// A vector with one row that isn't 0 packs to words that are 0 but for that row's bits, and comes back.
+fn stands_and_comes_back(
+    rt: &impl Abort,
+    alloc: Global,
+    lane_width: usize,
+    width: usize,
+    row: usize,
+) -> Result<(), Fail>
+    requires lane_width { IsLaneWidth lane_width }
+    requires positive { 0 < width }
+    requires width { width ≤ lane_width }
+    requires row { row < 1024 }
+{
+    let values = greatest_at(width, row);
+    let words = Words::pack(alloc, lane_width, width, &values)?;
+    assert_eq!(rt; words.len(), width * (1024 / lane_width));
+    have_numbers(rt, &words, &words_of_row(rt, lane_width, width, row));
+    let mut back = [1; 1024];
+    words.unpack(width, &mut back);
+    assert_eq!(rt; back.as_slice(), values.as_slice());
+    Ok(())
+}
+
+/// The words of a vector with one row that isn't 0 are 0 but for those at the places `low` and `high`.
 fn stands_at(
     rt: &impl Abort,
     alloc: Global,
@@ -58,48 +216,20 @@ fn stands_at(
     requires lane_width { IsLaneWidth lane_width }
     requires positive { 0 < width }
     requires width { width ≤ lane_width }
+    requires low { low.0 < 1024 }
+    requires high { high.0 < 1024 }
 {
-    let values = greatest_at(width, row);
-    let words = Words::pack(alloc, lane_width, width, &values)?;
-    for i in 0..words.len() {
-        let mut expected = 0;
-        if i == low.0 {
-            expected = low.1;
-        }
-        if i == high.0 {
-            expected = high.1;
-        }
-        assert_eq!(rt;
-            words.word(i),
-            expected,
-            "word {i} at {lane_width} and {width}"
-        );
-    }
+    let words = Words::pack(alloc, lane_width, width, &greatest_at(width, row))?;
+    assert_eq!(rt; words.len(), width * (1024 / lane_width));
+    let mut expected = [0; 1024];
+    expected[low.0] = low.1;
+    expected[high.0] = high.1;
+    have_numbers(rt, &words, &expected);
     Ok(())
 }
 
-/// A vector with one row that isn't 0 comes back.
-fn comes_back(
-    rt: &impl Abort,
-    alloc: Global,
-    lane_width: usize,
-    width: usize,
-    row: usize,
-) -> Result<(), Fail>
-    requires lane_width { IsLaneWidth lane_width }
-    requires positive { 0 < width }
-    requires width { width ≤ lane_width }
-{
-    let values = greatest_at(width, row);
-    let words = Words::pack(alloc, lane_width, width, &values)?;
-    let mut back = [1; 1024];
-    words.unpack(width, &mut back);
-    assert_eq!(rt; back.as_slice(), values.as_slice());
-    Ok(())
-}
-
-// The row's lane and step: row 8 at 8 bits is lane 64, step 0; row 17 at 16 bits lane 32, step 1; row 33 at 32 bits lane
-// 16, step 1; row 65 at 64 bits lane 1, step 1.
+// The row's lane and step: row 8 at 8 bits is lane 64, step 0; row 17 at 16 bits lane 32, step 1; row 33 at 32 bits
+// lane 16, step 1; row 65 at 64 bits lane 1, step 1.
 #[test]
 fn a_row_stands_in_the_words_of_its_lane(rt: HostRuntime) -> Result<(), Fail> {
     let alloc = rt.alloc();
@@ -118,24 +248,44 @@ fn a_row_stands_in_the_words_of_its_lane(rt: HostRuntime) -> Result<(), Fail> {
     stands_at(&rt, alloc, 64, 64, 65, (17, u64::MAX), (17, u64::MAX))
 }
 
+// Every row of a vector in turn, at 16 bits and width 3.
+#[test]
+fn every_row_stands_at_its_bits_and_comes_back(rt: HostRuntime) -> Result<(), Fail> {
+    for row in 0..1024 {
+        stands_and_comes_back(&rt, rt.alloc(), 16, 3, row)?;
+    }
+    stands_and_comes_back(&rt, rt.alloc(), 8, 8, 9)?;
+    stands_and_comes_back(&rt, rt.alloc(), 32, 31, 33)?;
+    stands_and_comes_back(&rt, rt.alloc(), 64, 63, 65)
+}
+
+#[test]
+fn every_type_and_width_follows_the_definition(rt: HostRuntime) -> Result<(), Fail> {
+    follows_at_every_width(&rt, rt.alloc(), &mut [1u8; 1024])?;
+    follows_at_every_width(&rt, rt.alloc(), &mut [1u16; 1024])?;
+    follows_at_every_width(&rt, rt.alloc(), &mut [1u32; 1024])?;
+    follows_at_every_width(&rt, rt.alloc(), &mut [1u64; 1024])
+}
+
 // Row n is lane n / 64, step n % 64, and each value is one word: word w of lane l has index 16 * w + l.
 #[test]
-fn a_literal_width_packs_as_a_run_time_width(rt: HostRuntime) -> Result<(), Fail> {
+fn a_literal_width_packs_as_a_run_time_width(rt: HostRuntime) {
     let values = counting();
     let mut words = [0; 1024];
     pack::<u64, 64>(&values, &mut words);
     assert_eq!(rt; (words[1], words[16], words[17]), (64, 1, 65));
-    let lanes = step::<u64, 64>(&words, 0, 63).to_array();
-    assert_eq!(rt; (lanes[0], lanes[1], lanes[15]), (63, 127, 1023));
+    assert_eq!(rt;
+        step::<u64, 64>(&words, 0, 63).to_array(),
+        [
+            63, 127, 191, 255, 319, 383, 447, 511, 575, 639, 703, 767, 831, 895, 959, 1023
+        ]
+    );
     let mut back = [1; 1024];
     unpack::<u64, 64>(&words, &mut back);
     assert_eq!(rt; back.as_slice(), values.as_slice());
     let mut again = [0; 1024];
     pack_at(64, &values, &mut again);
     assert_eq!(rt; again.as_slice(), words.as_slice());
-    unpack_at(64, &again, &mut back);
-    assert_eq!(rt; back[1023], 1023);
-    Ok(())
 }
 
 // Row 5 is lane 0, step 5, so its bits are 15 to 17 of the lane: the top one of word 0, the low two of word 1.
@@ -144,29 +294,41 @@ fn a_step_reads_a_value_across_two_words(rt: HostRuntime) {
     let mut words = [0u16; 192];
     words[0] = 32768;
     words[64] = 3;
-    let lanes = step_at(3, &words, 0, 5).to_array();
-    assert_eq!(rt; (lanes[0], lanes[1], lanes[15]), (7, 0, 0));
+    let mut expected = [0; 16];
+    expected[0] = 7;
+    assert_eq!(rt; step::<u16, 3>(&words, 0, 5).to_array(), expected);
+    assert_eq!(rt; step_at(3, &words, 0, 5).to_array(), expected);
     let mut values = [1u16; 1024];
     unpack_at(3, &words, &mut values);
     assert_eq!(rt; (values[4], values[5], values[6]), (0, 7, 0));
 }
 
-// Every row of a vector in turn, at 16 bits and width 3.
 #[test]
-fn every_row_comes_back(rt: HostRuntime) -> Result<(), Fail> {
-    for row in 0..1024 {
-        comes_back(&rt, rt.alloc(), 16, 3, row)?;
-    }
-    comes_back(&rt, rt.alloc(), 8, 8, 9)?;
-    comes_back(&rt, rt.alloc(), 32, 31, 33)?;
-    comes_back(&rt, rt.alloc(), 64, 63, 65)
+fn width_zero_has_no_words_and_the_value_zero(rt: HostRuntime) {
+    let mut words = [0u8; 0];
+    pack::<u8, 0>(&[0; 1024], &mut words);
+    let mut values = [1u8; 1024];
+    unpack::<u8, 0>(&words, &mut values);
+    assert_eq!(rt; values.as_slice(), [0; 1024].as_slice());
 }
 
+// At 8 bits and width 8 each value is a word: row 9 is lane 64, step 1, so word 128 + 64, in group 4.
 #[test]
-fn width_zero_has_no_words_and_the_value_zero(rt: HostRuntime) -> Result<(), Fail> {
-    let mut values = [1u8; 1024];
-    unpack::<u8, 0>(&[], &mut values);
-    assert_eq!(rt; values.as_slice(), [0; 1024].as_slice());
+fn words_are_made_of_numbers_and_copied(rt: HostRuntime) -> Result<(), Fail> {
+    let numbers = [1, 2, 65535];
+    let words = Words::from_numbers(rt.alloc(), 16, &numbers)?;
+    let copy = words.copy(rt.alloc())?;
+    assert_eq!(rt; (copy.lane_width(), copy.len()), (16, 3));
+    assert_eq!(rt; (copy.word(0), copy.word(1), copy.word(2)), (1, 2, 65535));
+    assert!(rt; !copy.is_empty());
+    assert!(rt; Words::from_numbers(rt.alloc(), 64, &[])?.is_empty());
+    let values = greatest_at(8, 9);
+    let packed = Words::pack(rt.alloc(), 8, 8, &values)?;
+    let mut expected = [0; 16];
+    expected[0] = 255;
+    assert_eq!(rt; packed.step(8, 4, 1).to_array(), expected);
+    unpacking_undoes_packing();
+    packing_undoes_unpacking();
     Ok(())
 }
 
@@ -182,6 +344,7 @@ fn numbers_wrap_at_their_width(rt: HostRuntime) {
         (wrap(8, 255), wrap(16, 32768), wrap(32, 1 << 32)),
         (-1, -32768, 0)
     );
+    assert_eq!(rt; wrap(64, u64::MAX), -1);
     assert_eq!(rt; wrapping_sum(16, 32767, 1), -32768);
     assert_eq!(rt; wrapping_sum_with(16, 32767, 1), -32768);
     assert_eq!(rt; wrapping_difference(32, -2147483648, 1), 2147483647);

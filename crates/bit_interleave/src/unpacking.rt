@@ -39,7 +39,11 @@ fn across_words(
     (low >> Simd::splat(shift as u64) | high << Simd::splat(kept as u64)) & mask
 }
 
-/// Element i is the value at lane `16 * group + i` and this step of words packed at `width` bits.
+/// Sixteen of the values that words pack at `width` bits, 0 to `U::BITS` (FastLanes, VLDB 2023, interleaved
+/// bit-packing): element i is the value at lane `16 * group + i` and this step.
+///
+/// There are `width * lanes` words for `lanes = 1024 / U::BITS` lanes; word `w` of lane `l` is word `w * lanes + l`.
+/// The group is below `lanes / 16`, and the step below `U::BITS`.
 pub fn step_at<U: LaneWord>(width: usize, words: &[U], group: usize, step: usize) -> Simd<u64, 16>
     requires width { width ≤ U.BITS }
     requires words { length words.now ≡ width * (1024 / U.BITS) }
@@ -64,7 +68,11 @@ pub fn step_at<U: LaneWord>(width: usize, words: &[U], group: usize, step: usize
     across_words(low, high, shift, bits - shift, width)
 }
 
-/// Element i is the value at lane `16 * group + i` and this step of words packed at `W` bits.
+/// Sixteen of the values that words pack at `W` bits, 0 to `U::BITS`: element i is the value at lane `16 * group + i`
+/// and this step.
+///
+/// There are `W * lanes` words for `lanes = 1024 / U::BITS` lanes; word `w` of lane `l` is word `w * lanes + l`.
+/// The group is below `lanes / 16`, and the step below `U::BITS`.
 pub fn step<U: LaneWord, const W: usize>(words: &[U], group: usize, step: usize) -> Simd<u64, 16>
     requires width { W ≤ U.BITS }
     requires words { length words.now ≡ W * (1024 / U.BITS) }
@@ -109,7 +117,11 @@ pub(crate) fn unpack_into<U: LaneWord, V: LaneWord>(
     }
 }
 
-/// The 1024 values in row order of words packed at `width` bits.
+/// The 1024 values in row order of words packed at `width` bits, 0 to `U::BITS` (FastLanes, VLDB 2023, the unified
+/// transposed layout and interleaved bit-packing).
+///
+/// There are `width * lanes` words for `lanes = 1024 / U::BITS` lanes; word `w` of lane `l` is word `w * lanes + l`.
+/// At width 0 there are no words, and every value is 0.
 pub fn unpack_at<U: LaneWord>(width: usize, words: &[U], values: &mut [U; 1024])
     requires width { width ≤ U.BITS }
     requires words { length words.now ≡ width * (1024 / U.BITS) }
@@ -118,7 +130,10 @@ pub fn unpack_at<U: LaneWord>(width: usize, words: &[U], values: &mut [U; 1024])
     unpack_into(width, words, values);
 }
 
-/// The 1024 values in row order of words packed at `W` bits.
+/// The 1024 values in row order of words packed at `W` bits, 0 to `U::BITS`.
+///
+/// There are `W * lanes` words for `lanes = 1024 / U::BITS` lanes; word `w` of lane `l` is word `w * lanes + l`.
+/// At width 0 there are no words, and every value is 0.
 pub fn unpack<U: LaneWord, const W: usize>(words: &[U], values: &mut [U; 1024])
     requires width { W ≤ U.BITS }
     requires words { length words.now ≡ W * (1024 / U.BITS) }

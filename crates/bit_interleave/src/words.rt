@@ -13,7 +13,8 @@ use std::alloc::{AllocError, Global};
 use std::marker::Model;
 use std::simd::prelude::*;
 
-/// Words of one lane width, 8, 16, 32 or 64 bits, that pack a vector of 1024 values.
+/// Words of one lane width, 8, 16, 32 or 64 bits. Those that pack a vector of 1024 values of `width` bits are
+/// `width * lanes` for `lanes = 1024 / lane_width`, and word `w` of lane `l` is word `w * lanes + l`.
 #[derive(Drop)]
 pub struct Words {
     stored: Stored,
@@ -52,7 +53,7 @@ impl Stored {
     }
 }
 
-/// The words that pack 1024 values of `width` bits in row order, with no room to spare.
+/// The words that pack 1024 values of `width` bits in row order, or AllocError where memory is refused.
 fn packed_vec<U: LaneWord>(
     alloc: Global,
     width: usize,
@@ -69,7 +70,7 @@ fn packed_vec<U: LaneWord>(
     Ok(words)
 }
 
-/// The words with these numbers, with no room to spare.
+/// The words with these numbers, or AllocError where memory is refused.
 fn vec_of<U: LaneWord>(alloc: Global, numbers: &[u64]) -> Result<Vec<U>, AllocError>
     requires { All (λ n. n < 2 ^ U.BITS) numbers.now }
     ensures numbers { IfOk result (λ words. map U.number words.items ≡ numbers.now) }
@@ -83,7 +84,11 @@ fn vec_of<U: LaneWord>(alloc: Global, numbers: &[u64]) -> Result<Vec<U>, AllocEr
 }
 
 impl Words {
-    /// The words that pack 1024 values of `width` bits in row order.
+    /// The `width * lanes` words that pack 1024 values of `width` bits in row order, for `lanes = 1024 / lane_width`
+    /// (FastLanes, VLDB 2023, the unified transposed layout and interleaved bit-packing), or AllocError where memory is
+    /// refused.
+    ///
+    /// The lane width is 8, 16, 32 or 64, and the width 0 to `lane_width`. At width 0 there are no words.
     pub fn pack(
         alloc: Global,
         lane_width: usize,
@@ -103,7 +108,8 @@ impl Words {
         }
     }
 
-    /// Words of this width with these numbers.
+    /// Words of `lane_width` bits, 8, 16, 32 or 64, with these numbers, which fit them, or AllocError where memory is
+    /// refused.
     pub fn from_numbers(
         alloc: Global,
         lane_width: usize,
@@ -121,7 +127,7 @@ impl Words {
         }
     }
 
-    /// The words' width in bits.
+    /// The words' width in bits: 8, 16, 32 or 64.
     pub fn lane_width(&self) -> usize
         ensures value { result ≡ self.now.lane_width }
         ensures width { IsLaneWidth result }
@@ -134,7 +140,7 @@ impl Words {
         }
     }
 
-    /// How many words there are.
+    /// How many words there are: `width * (1024 / lane_width)` where they pack values of `width` bits.
     pub fn len(&self) -> usize
         ensures value { result ≡ length self.now.numbers }
         ensures fit { FitLanes self.now }
@@ -154,7 +160,7 @@ impl Words {
         self.len() == 0
     }
 
-    /// The number of word `i`.
+    /// The number of word `i`, which is below `len()`.
     pub fn word(&self, i: usize) -> u64
         requires { i < length self.now.numbers }
         ensures value { result ≡ slice_index self.now.numbers i }
@@ -168,7 +174,8 @@ impl Words {
         }
     }
 
-    /// The 1024 values of `width` bits in row order.
+    /// The 1024 values in row order that the words pack at `width` bits, 0 to the lane width. There are
+    /// `width * (1024 / lane_width)` words. At width 0 every value is 0.
     pub fn unpack(&self, width: usize, values: &mut [u64; 1024])
         requires { HasWidth self.now width }
         ensures values { values.new ≡ unpacked self.now.lane_width width self.now.numbers }
@@ -182,7 +189,11 @@ impl Words {
         }
     }
 
-    /// Element i is the value of `width` bits at lane `16 * group + i` and this step.
+    /// Sixteen of the values that the words pack at `width` bits: element i is the value at lane `16 * group + i` and
+    /// this step.
+    ///
+    /// There are `width * lanes` words for `lanes = 1024 / lane_width`. The group is below `lanes / 16`, and the step
+    /// below the lane width.
     pub fn step(&self, width: usize, group: usize, step: usize) -> Simd<u64, 16>
         requires width { HasWidth self.now width }
         requires group { 16 * group < 1024 / self.now.lane_width }
@@ -198,7 +209,7 @@ impl Words {
         }
     }
 
-    /// The same words again.
+    /// The same words again, or AllocError where memory is refused.
     pub fn copy(&self, alloc: Global) -> Result<Self, AllocError>
         ensures { IfOk result (λ words. words ≡ self.now) }
     {
