@@ -1,4 +1,5 @@
 pub mod Arithmetic
+pub mod Range
 pub mod Packing
 pub mod PackedWords
 pub mod StoredWords

@@ -17,7 +17,7 @@ use Rattle.bit_interleave.specs.Packing.{packed_value, packed}
 use Rattle.bit_interleave.specs.PackedWords.{PackedWords, words_packing}
 use Rattle.bit_interleave.proofs.ValueLemmas.{HasWidth-words_packing}
 use Rattle.bit_interleave.proofs.WrapLemmas.{int_wrap-mod, int_wrap-bits}
-use Rattle.frame_delta.specs.Extremes.{value_at, FitColumn}
+use Rattle.bit_interleave.specs.Range.{AreInRange, value_at}
 use Rattle.frame_delta.specs.Delta.{DeltaCoded, sum_to, delta_at, delta_values, is_later, difference_at, least_difference, greatest_difference, delta_width, later_gaps, bases_of, least_delta, IsDelta}
 use Rattle.frame_delta.proofs.GapLemmas.{gap_back}
 use Rattle.frame_delta.proofs.FramedLemmas.{least_of, greatest_of, least_is_low, least_not_above, least_is_at, range_in_lane, width_in_lane, gap_has_width}
@@ -119,7 +119,7 @@ unfolding bases_of
 value_at-bases_of t r values lane h =
     get_or-map-range_with_len (λ l. int_wrap (integer_width t) (value_at values (row_at t l 0) -ℤ r)) 0 (1024 / t) lane lane (pos 0) h (omega arith)
 
-pub bases_of_fit : (t : ℕ) (r : ℤ) (values : List ℤ) → FitColumn t (bases_of t r values)
+pub bases_of_fit : (t : ℕ) (r : ℤ) (values : List ℤ) → AreInRange t (bases_of t r values)
 bases_of_fit t r values =
     All-from_get_or (λ v. FitsSigned (integer_width t) v) (bases_of t r values) (pos 0)
     (λ n h. subst (λ (z : ℤ). FitsSigned (integer_width t) z) (sym (value_at-bases_of t r values n (omega (arith, length-bases_of t r values)))) (SFits-int_wrap (integer_width t) (value_at values (row_at t n 0) -ℤ r)))
@@ -196,7 +196,7 @@ lane_sums t values lane (suc step) width long h k =
     difference_is : (t : ℕ) (values : List ℤ) (n : ℕ) → difference_at t values n ≡ int_wrap (integer_width t) (value_at values n -ℤ value_at values (n - 1))
     difference_is t values n = refl
 
-delta_at-least_delta : (t : ℕ) (values : List ℤ) (n : ℕ) → IsLaneWidth t → length values ≡ 1024 → FitColumn t values → n < 1024 → delta_at (least_delta t values) (lane_of t n) (step_of t n) ≡ value_at values n
+delta_at-least_delta : (t : ℕ) (values : List ℤ) (n : ℕ) → IsLaneWidth t → length values ≡ 1024 → AreInRange t values → n < 1024 → delta_at (least_delta t values) (lane_of t n) (step_of t n) ≡ value_at values n
 unfolding delta_at least_delta
 delta_at-least_delta t values n width long fit h =
     let place = row_at-lane_of t n width h in
@@ -204,7 +204,7 @@ delta_at-least_delta t values n width long fit h =
     ∙ ap (λ m. int_wrap (integer_width t) (value_at values m)) place.2
     ∙ int_wrap_fits (integer_width t) (value_at values n) (column_fits t values n (omega arith) fit)
 
-pub delta_values-least_delta : (t : ℕ) (values : List ℤ) → IsLaneWidth t → length values ≡ 1024 → FitColumn t values → delta_values (least_delta t values) ≡ values
+pub delta_values-least_delta : (t : ℕ) (values : List ℤ) → IsLaneWidth t → length values ≡ 1024 → AreInRange t values → delta_values (least_delta t values) ≡ values
 unfolding delta_values least_delta
 delta_values-least_delta t values width long fit =
     sym (rows_of-same (λ n. delta_at (least_delta t values) (lane_of t n) (step_of t n)) values (pos 0) long (λ n h. sym (delta_at-least_delta t values n width long fit h)))

@@ -72,13 +72,13 @@ least_among-bound p f first zero =
 least_among-bound p f first (suc k) =
     rw (least_among-suc p f first k) (least_step p f first k (least_among p f first k) (p k) refl (least_among-bound p f first k))
 
-min_is_one : (x y : ℤ) (b : Bool) → (cond b y x ≡ x) ⊎ (cond b y x ≡ y)
-min_is_one x y true = inr refl
-min_is_one x y false = inl refl
+either_one : (x y : ℤ) (b : Bool) → (cond b y x ≡ x) ⊎ (cond b y x ≡ y)
+either_one x y true = inr refl
+either_one x y false = inl refl
 
 least_one_step : (p : ℕ → Bool) (f : ℕ → ℤ) (first : ℤ) (k : ℕ) (x : ℤ) (b : Bool) → p k ≡ b → IsOne p f first k x → IsOne p f first (suc k) (cond b (int_min x (f k)) x)
 least_one_step p f first k x false e one = IsOne-more p f first k x one
-least_one_step p f first k x true e one = pick (min_is_one x (f k) (int_lt (f k) x))
+least_one_step p f first k x true e one = pick (either_one x (f k) (int_lt (f k) x))
   where
     pick : (int_min x (f k) ≡ x) ⊎ (int_min x (f k) ≡ f k) → IsOne p f first (suc k) (int_min x (f k))
     pick (inl old) = subst (λ (y : ℤ). IsOne p f first (suc k) y) (sym old) (IsOne-more p f first k x one)
@@ -141,13 +141,9 @@ greatest_among-bound p f first zero =
 greatest_among-bound p f first (suc k) =
     rw (greatest_among-suc p f first k) (greatest_step p f first k (greatest_among p f first k) (p k) refl (greatest_among-bound p f first k))
 
-max_is_one : (x y : ℤ) (b : Bool) → (cond b y x ≡ x) ⊎ (cond b y x ≡ y)
-max_is_one x y true = inr refl
-max_is_one x y false = inl refl
-
 greatest_one_step : (p : ℕ → Bool) (f : ℕ → ℤ) (first : ℤ) (k : ℕ) (x : ℤ) (b : Bool) → p k ≡ b → IsOne p f first k x → IsOne p f first (suc k) (cond b (int_max x (f k)) x)
 greatest_one_step p f first k x false e one = IsOne-more p f first k x one
-greatest_one_step p f first k x true e one = pick (max_is_one (f k) x (int_lt (f k) x))
+greatest_one_step p f first k x true e one = pick (either_one (f k) x (int_lt (f k) x))
   where
     pick : (int_max x (f k) ≡ f k) ⊎ (int_max x (f k) ≡ x) → IsOne p f first (suc k) (int_max x (f k))
     pick (inr old) = subst (λ (y : ℤ). IsOne p f first (suc k) y) (sym old) (IsOne-more p f first k x one)

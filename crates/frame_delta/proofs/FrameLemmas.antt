@@ -12,7 +12,7 @@ use Rattle.bit_interleave.specs.Packing.{packed_value, packed}
 use Rattle.bit_interleave.proofs.RoundTrip.{unpacked-packed}
 use Rattle.bit_interleave.specs.PackedWords.{PackedWords, words_packing}
 use Rattle.bit_interleave.proofs.ValueLemmas.{get_or-unpacked, HasWidth-words_packing}
-use Rattle.frame_delta.specs.Extremes.{value_at, FitColumn}
+use Rattle.bit_interleave.specs.Range.{AreInRange, value_at}
 use Rattle.frame_delta.specs.Frame.{FrameCoded, frame_value, frame_values, least_value, greatest_value, frame_width, gaps_above, least_frame, IsFrame}
 use Rattle.frame_delta.proofs.GapLemmas.{gap_back}
 use Rattle.frame_delta.proofs.FramedLemmas.{least_of, greatest_of, least_is_low, range_in_lane, width_in_lane, gap_has_width, least_not_above, least_is_at}
@@ -25,7 +25,7 @@ pub greatest_value_is : (values : List ℤ) → greatest_value values ≡ greate
 unfolding greatest_value greatest_of
 greatest_value_is values = refl
 
-pub column_fits : (t : ℕ) (values : List ℤ) (n : ℕ) → n < length values → FitColumn t values → FitsSigned (integer_width t) (value_at values n)
+pub column_fits : (t : ℕ) (values : List ℤ) (n : ℕ) → n < length values → AreInRange t values → FitsSigned (integer_width t) (value_at values n)
 column_fits t values n h fit = All-get_or (λ v. FitsSigned (integer_width t) v) values n (pos 0) h fit
 
 -- the least value is not above any
@@ -37,7 +37,7 @@ pub least_value_not_above : (values : List ℤ) → least_value values ≤ℤ gr
 least_value_not_above values =
     rw (least_value_is values, greatest_value_is values) (least_not_above (λ _. true) (value_at values) 0)
 
-pub range_fits : (t : ℕ) (values : List ℤ) → IsLaneWidth t → length values ≡ 1024 → FitColumn t values → int_gap (least_value values) (greatest_value values) < 2 ^ t
+pub range_fits : (t : ℕ) (values : List ℤ) → IsLaneWidth t → length values ≡ 1024 → AreInRange t values → int_gap (least_value values) (greatest_value values) < 2 ^ t
 range_fits t values width long fit =
     rw (least_value_is values, greatest_value_is values)
     (range_in_lane t (λ _. true) (value_at values) 0 width refl (omega arith) (λ n h _. column_fits t values n (omega arith) fit))
@@ -46,7 +46,7 @@ pub frame_width_is : (values : List ℤ) → frame_width values ≡ least_width 
 unfolding frame_width
 frame_width_is values = refl
 
-pub frame_width_in_lane : (t : ℕ) (values : List ℤ) → IsLaneWidth t → length values ≡ 1024 → FitColumn t values → frame_width values ≤ t
+pub frame_width_in_lane : (t : ℕ) (values : List ℤ) → IsLaneWidth t → length values ≡ 1024 → AreInRange t values → frame_width values ≤ t
 frame_width_in_lane t values width long fit =
     rw (frame_width_is values) (width_in_lane t (int_gap (least_value values) (greatest_value values)) width (range_fits t values width long fit))
 
@@ -59,7 +59,7 @@ unfolding gaps_above
 length-gaps_above r values = length-rows_of (λ k. int_gap r (value_at values k))
 
 -- each gap has the width
-pub gaps_have_width : (t : ℕ) (values : List ℤ) → IsLaneWidth t → length values ≡ 1024 → FitColumn t values → All (λ v. v < 2 ^ frame_width values) (gaps_above (least_value values) values)
+pub gaps_have_width : (t : ℕ) (values : List ℤ) → IsLaneWidth t → length values ≡ 1024 → AreInRange t values → All (λ v. v < 2 ^ frame_width values) (gaps_above (least_value values) values)
 gaps_have_width t values width long fit =
     All-from_get_or (λ v. v < 2 ^ frame_width values) (gaps_above (least_value values) values) 0
     (λ n h.
@@ -86,7 +86,7 @@ packed_back t w numbers n width long fit h =
     sym (get_or-unpacked t w (packed t w numbers) n 0 h) ∙ ap (λ xs. get_or xs n 0) (unpacked-packed t w numbers width long fit)
 
 -- the least form decodes to its values
-frame_value-least_frame : (t : ℕ) (values : List ℤ) (n : ℕ) → IsLaneWidth t → length values ≡ 1024 → FitColumn t values → n < 1024 → frame_value (least_frame t values) n ≡ value_at values n
+frame_value-least_frame : (t : ℕ) (values : List ℤ) (n : ℕ) → IsLaneWidth t → length values ≡ 1024 → AreInRange t values → n < 1024 → frame_value (least_frame t values) n ≡ value_at values n
 unfolding frame_value least_frame
 frame_value-least_frame t values n width long fit h =
     let gap = packed_back t (frame_width values) (gaps_above (least_value values) values) n width (length-gaps_above (least_value values) values) (gaps_have_width t values width long fit) h ∙ gaps_above_is (least_value values) values n 0 h in
@@ -95,18 +95,18 @@ frame_value-least_frame t values n width long fit h =
     ∙ ap (int_wrap (integer_width t)) sum
     ∙ int_wrap_fits (integer_width t) (value_at values n) (column_fits t values n (omega arith) fit)
 
-pub frame_values-least_frame : (t : ℕ) (values : List ℤ) → IsLaneWidth t → length values ≡ 1024 → FitColumn t values → frame_values (least_frame t values) ≡ values
+pub frame_values-least_frame : (t : ℕ) (values : List ℤ) → IsLaneWidth t → length values ≡ 1024 → AreInRange t values → frame_values (least_frame t values) ≡ values
 unfolding frame_values
 frame_values-least_frame t values width long fit =
     sym (rows_of-same (frame_value (least_frame t values)) values (pos 0) long (λ n h. sym (frame_value-least_frame t values n width long fit h)))
 
 -- ---- the parts of the least form
-pub least_value_fits : (t : ℕ) (values : List ℤ) → length values ≡ 1024 → FitColumn t values → FitsSigned (integer_width t) (least_value values)
+pub least_value_fits : (t : ℕ) (values : List ℤ) → length values ≡ 1024 → AreInRange t values → FitsSigned (integer_width t) (least_value values)
 least_value_fits t values long fit =
     let at = least_is_at (λ _. true) (value_at values) 0 refl (omega arith) in
     subst (λ (z : ℤ). FitsSigned (integer_width t) z) (sym (least_value_is values ∙ at.is)) (column_fits t values at.place (omega (arith, at.within)) fit)
 
-pub IsFrame-least : (t w : ℕ) (numbers : List ℕ) (values : List ℤ) → IsLaneWidth t → w ≤ t → length values ≡ 1024 → FitColumn t values → IsFrame (words_packing t w numbers) w (least_value values)
+pub IsFrame-least : (t w : ℕ) (numbers : List ℕ) (values : List ℤ) → IsLaneWidth t → w ≤ t → length values ≡ 1024 → AreInRange t values → IsFrame (words_packing t w numbers) w (least_value values)
 IsFrame-least t w numbers values width within long fit =
     record { lanes = width; has_width = HasWidth-words_packing t w numbers within; fits = least_value_fits t values long fit }
 

@@ -15,8 +15,10 @@ use Rattle.bit_interleave.specs.Arithmetic.{integer_width, least_width}
 use Rattle.bit_interleave.specs.Packing.{packed_value, unpacked, packed}
 use Rattle.bit_interleave.specs.PackedWords.{PackedWords}
 use Rattle.bit_interleave.proofs.RoundTrip.{unpacked-packed}
+use Rattle.bit_interleave.proofs.StepLemmas.{positive_width}
 use Rattle.bit_interleave.proofs.ValueLemmas.{get_or-unpacked, length-unpacked, All-unpacked}
-use Rattle.frame_delta.specs.Extremes.{value_at, FitColumn, IsSpread, IsTightFrame}
+use Rattle.bit_interleave.specs.Range.{AreInRange, value_at}
+use Rattle.frame_delta.specs.Extremes.{IsSpread, IsTightFrame}
 use Rattle.frame_delta.specs.Delta.{DeltaCoded, sum_to, delta_at, delta_values, is_later, difference_at, least_difference, greatest_difference, delta_width, later_gaps, bases_of, least_delta}
 use Rattle.frame_delta.proofs.FramedLemmas.{IsFramed, IsTight, least_of, greatest_of, tight_least, tight_range, tight_gaps, least_form_is_tight, no_smaller_width}
 use Rattle.frame_delta.proofs.FrameLemmas.{column_fits}
@@ -139,7 +141,7 @@ base_is c lane width h fits none =
     let t = c.lane_width in
     let b = value_at c.bases lane in
     let n = row_at t lane 0 in
-    let there = lane_of-row_at t lane 0 width h (positive t width) in
+    let there = lane_of-row_at t lane 0 width h (positive_width t width) in
     let zero_there : packed_value t c.width c.words lane 0 ≡ 0 =
     sym (ap (λ l. packed_value t c.width c.words l (step_of t n)) there.1 ∙ ap (packed_value t c.width c.words lane) there.2) ∙ sym (number_at c n there.0) ∙ none in
     let first : value_at (delta_values c) n ≡ int_wrap (integer_width t) (b +ℤ c.least) =
@@ -152,9 +154,6 @@ base_is c lane width h fits none =
     ∙ ap (int_wrap (integer_width t)) (cancel b c.least)
     ∙ int_wrap_fits (integer_width t) b fits)
   where
-    positive : (t : ℕ) → IsLaneWidth t → 0 < t
-    positive t width = at_widths (λ t. 0 < t) (omega arith) (omega arith) (omega arith) (omega arith) t width
-
     plain : (b r : ℤ) → b +ℤ (pos 0 +ℤ (r +ℤ pos 0)) ≡ b +ℤ r
     plain b r = omega (arith, ints)
 
@@ -166,13 +165,10 @@ base_is c lane width h fits none =
 
 first_row_is_first : (t lane : ℕ) → IsLaneWidth t → lane < 1024 / t → (row_at t lane 0 < 1024) × (is_later t (row_at t lane 0) ≡ false)
 first_row_is_first t lane width h =
-    let there = lane_of-row_at t lane 0 width h (positive t width) in
+    let there = lane_of-row_at t lane 0 width h (positive_width t width) in
     (there.0, ap (λ m. not (m == 0)) there.2)
-  where
-    positive : (t : ℕ) → IsLaneWidth t → 0 < t
-    positive t width = at_widths (λ t. 0 < t) (omega arith) (omega arith) (omega arith) (omega arith) t width
 
-bases_are_firsts : (c : DeltaCoded) → IsLaneWidth c.lane_width → length c.bases ≡ 1024 / c.lane_width → FitColumn c.lane_width c.bases → ((n : ℕ) → n < 1024 → is_later c.lane_width n ≡ false → get_or (numbers_of_delta c) n 0 ≡ 0) → c.bases ≡ bases_of c.lane_width c.least (delta_values c)
+bases_are_firsts : (c : DeltaCoded) → IsLaneWidth c.lane_width → length c.bases ≡ 1024 / c.lane_width → AreInRange c.lane_width c.bases → ((n : ℕ) → n < 1024 → is_later c.lane_width n ≡ false → get_or (numbers_of_delta c) n 0 ≡ 0) → c.bases ≡ bases_of c.lane_width c.least (delta_values c)
 unfolding bases_of
 bases_are_firsts c width count fit zeros =
     fill_by_all (λ lane. int_wrap (integer_width c.lane_width) (value_at (delta_values c) (row_at c.lane_width lane 0) -ℤ c.least)) c.bases (1024 / c.lane_width) (pos 0) count
@@ -183,7 +179,7 @@ bases_are_firsts c width count fit zeros =
 words_at : ℕ → List ℕ → PackedWords
 words_at t ns = record { lane_width = t; numbers = ns }
 
-pub tight_is_least : (c : DeltaCoded) (low high : ℕ) → IsLaneWidth c.lane_width → c.width ≤ c.lane_width → FitsSigned (integer_width c.lane_width) c.least → length c.bases ≡ 1024 / c.lane_width → FitColumn c.lane_width c.bases → c.words ≡ packed c.lane_width c.width (numbers_of_delta c) → ((n : ℕ) → n < 1024 → is_later c.lane_width n ≡ false → get_or (numbers_of_delta c) n 0 ≡ 0) → IsSpread (is_later c.lane_width) (λ n. get_or (numbers_of_delta c) n 0) low high → IsTightFrame c.lane_width c.width c.least low high → c ≡ least_delta c.lane_width (delta_values c)
+pub tight_is_least : (c : DeltaCoded) (low high : ℕ) → IsLaneWidth c.lane_width → c.width ≤ c.lane_width → FitsSigned (integer_width c.lane_width) c.least → length c.bases ≡ 1024 / c.lane_width → AreInRange c.lane_width c.bases → c.words ≡ packed c.lane_width c.width (numbers_of_delta c) → ((n : ℕ) → n < 1024 → is_later c.lane_width n ≡ false → get_or (numbers_of_delta c) n 0 ≡ 0) → IsSpread (is_later c.lane_width) (λ n. get_or (numbers_of_delta c) n 0) low high → IsTightFrame c.lane_width c.width c.least low high → c ≡ least_delta c.lane_width (delta_values c)
 unfolding words_at
 tight_is_least c low high width within fits count bases_fit back zeros spread tight =
     let t = c.lane_width in

@@ -12,7 +12,8 @@ use Rattle.bit_interleave.specs.Packing.{unpacked, packed}
 use Rattle.bit_interleave.specs.PackedWords.{PackedWords}
 use Rattle.bit_interleave.proofs.RoundTrip.{unpacked-packed}
 use Rattle.bit_interleave.proofs.ValueLemmas.{get_or-unpacked, length-unpacked, All-unpacked}
-use Rattle.frame_delta.specs.Extremes.{value_at, FitColumn, IsSpread, IsTightFrame}
+use Rattle.bit_interleave.specs.Range.{AreInRange, value_at}
+use Rattle.frame_delta.specs.Extremes.{IsSpread, IsTightFrame}
 use Rattle.frame_delta.specs.Frame.{FrameCoded, frame_value, frame_values, least_value, greatest_value, frame_width, gaps_above, least_frame}
 use Rattle.frame_delta.proofs.FramedLemmas.{IsFramed, IsTight, least_of, greatest_of, tight_least, tight_range, tight_gaps, least_form_is_tight, no_smaller_width}
 use Rattle.frame_delta.proofs.FrameLemmas.{least_value_is, greatest_value_is, frame_width_is, value_at-frame_values, length-frame_values, frame_from_parts, gaps_above_is, length-gaps_above, gaps_have_width}
@@ -29,8 +30,8 @@ unfolding frame_value numbers_of_frame
 frame_value_is c n h =
     ap (λ g. int_wrap (integer_width c.lane_width) (c.reference +ℤ pos g)) (sym (get_or-unpacked c.lane_width c.width c.words n 0 h))
 
-pub FitColumn-frame_values : (c : FrameCoded) → FitColumn c.lane_width (frame_values c)
-FitColumn-frame_values c =
+pub AreInRange-frame_values : (c : FrameCoded) → AreInRange c.lane_width (frame_values c)
+AreInRange-frame_values c =
     All-from_get_or (λ v. FitsSigned (integer_width c.lane_width) v) (frame_values c) (pos 0)
     (λ n h.
     let near : n < 1024 = omega (arith, length-frame_values c) in
@@ -114,7 +115,7 @@ least_numbers c width is =
     let t = c.lane_width in
     let values = frame_values c in
     let long = length-frame_values c in
-    let fit = FitColumn-frame_values c in
+    let fit = AreInRange-frame_values c in
     ap (λ (w : ℕ). unpacked t w c.words) (ap (λ (d : FrameCoded). d.width) is ∙ least_width_of_frame t values)
     ∙ ap (unpacked t (frame_width values)) (ap (λ (d : FrameCoded). d.words) is ∙ least_words t values)
     ∙ unpacked-packed t (frame_width values) (gaps_above (least_value values) values) width (length-gaps_above (least_value values) values) (gaps_have_width t values width long fit)

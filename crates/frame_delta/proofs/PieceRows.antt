@@ -11,7 +11,7 @@ use Rattle.transpose_order.specs.MaskWords.{rows_of-same}
 use Rattle.bit_interleave.specs.Arithmetic.{integer_width}
 use Rattle.bit_interleave.proofs.PieceLemmas.{place_of-place_of, places_apart, piece_of_row}
 use Rattle.bit_interleave.proofs.WrapLemmas.{int_wrap-mod, int_wrap-bits}
-use Rattle.frame_delta.specs.Extremes.{value_at}
+use Rattle.bit_interleave.specs.Range.{value_at}
 
 -- one more piece
 pub pieces_more : (t piece : ℕ) (f : ℕ → ℕ → ℤ) (old new : List ℤ) → IsLaneWidth t → piece < 64 → ((q i : ℕ) → q < piece → i < 16 → value_at old (64 * i + place_of t q) ≡ f (16 * (q / t) + i) (q % t)) → ((i : ℕ) → i < 16 → value_at new (64 * i + place_of t piece) ≡ f (16 * (piece / t) + i) (piece % t)) → ((n : ℕ) → n % 64 ≢ place_of t piece → value_at new n ≡ value_at old n) → (q : ℕ) → q < piece + 1 → (i : ℕ) → i < 16 → value_at new (64 * i + place_of t q) ≡ f (16 * (q / t) + i) (q % t)

@@ -8,7 +8,8 @@ use Rattle.transpose_order.specs.Mask.{rows_of}
 use Rattle.bit_interleave.specs.Arithmetic.{integer_width, least_width}
 use Rattle.bit_interleave.specs.Packing.{packed_value, packed}
 use Rattle.bit_interleave.specs.PackedWords.{PackedWords, HasWidth}
-use Rattle.frame_delta.specs.Extremes.{least_among, greatest_among, value_at, FitColumn}
+use Rattle.bit_interleave.specs.Range.{AreInRange, value_at}
+use Rattle.frame_delta.specs.Extremes.{least_among, greatest_among}
 
 -- the parts of a vector that is coded by deltas; the bases stand in lane order
 pub record DeltaCoded : Type 0 where
@@ -42,11 +43,12 @@ is_later t n = not (n % t == 0)
 unfoldable pub difference_at : ℕ → List ℤ → ℕ → ℤ
 difference_at t values n = int_wrap (integer_width t) (value_at values n -ℤ value_at values (n - 1))
 
--- the least and the greatest of the later differences
+-- the least of the later differences
 unfoldable pub least_difference : ℕ → List ℤ → ℤ
 least_difference t values =
     least_among (is_later t) (difference_at t values) (difference_at t values 1) 1024
 
+-- the greatest of the later differences
 unfoldable pub greatest_difference : ℕ → List ℤ → ℤ
 greatest_difference t values =
     greatest_among (is_later t) (difference_at t values) (difference_at t values 1) 1024
@@ -85,12 +87,12 @@ pub record IsDelta (words : PackedWords) (width : ℕ) (least : ℤ) (bases : Li
   pub has_width : HasWidth words width
   pub fits : FitsSigned (integer_width words.lane_width) least
   pub base_count : length bases ≡ 1024 / words.lane_width
-  pub bases_fit : FitColumn words.lane_width bases
+  pub bases_fit : AreInRange words.lane_width bases
 
 -- the least form of some values decodes to them
 abbrev pub DeltaGivesBackItsValues : Type 0
 DeltaGivesBackItsValues =
-    (t : ℕ) (values : List ℤ) → IsLaneWidth t → length values ≡ 1024 → FitColumn t values → delta_values (least_delta t values) ≡ values
+    (t : ℕ) (values : List ℤ) → IsLaneWidth t → length values ≡ 1024 → AreInRange t values → delta_values (least_delta t values) ≡ values
 
 -- of all forms whose least delta is above no later difference of their values, none has a smaller width than the least form
 -- of those values

@@ -1,8 +1,6 @@
 -- The least and the greatest of the numbers that pass a test.
-use Rattle.std.specs.Prelude.{◌≡◌, ◌<◌, ◌≤◌, true, ℕ, zero, suc, ℤ, pos, ◌+ℤ◌, ◌≤ℤ◌, Bool, cond, List, slice_index_or}
+use Rattle.std.specs.Prelude.{◌≡◌, ◌<◌, ◌≤◌, true, ℕ, zero, suc, ℤ, pos, ◌+ℤ◌, ◌≤ℤ◌, Bool, cond}
 use Rattle.std.specs.Int.{int_min, int_max, int_wrap}
-use Rattle.std.specs.Int.RustNames.{FitsSigned}
-use Rattle.std.specs.List.{All}
 use Rattle.bit_interleave.specs.Arithmetic.{integer_width, least_width}
 
 -- the least of `first` and the f n of the n below k that pass p
@@ -15,14 +13,6 @@ unfoldable pub greatest_among : (ℕ → Bool) → (ℕ → ℤ) → ℤ → ℕ
 greatest_among p f first zero = first
 greatest_among p f first (suc k) = cond (p k) (int_max (greatest_among p f first k) (f k)) (greatest_among p f first k)
 
--- the value at row n of a vector
-abbrev pub value_at : List ℤ → ℕ → ℤ
-value_at values n = slice_index_or values n (pos 0)
-
--- each value of a vector is in the range of t bits, signed
-abbrev pub FitColumn : ℕ → List ℤ → Type 0
-FitColumn t values = All (λ v. FitsSigned (integer_width t) v) values
-
 -- low and high are the least and the greatest of the g n of the n below 1024 that pass p
 pub record IsSpread (p : ℕ → Bool) (g : ℕ → ℕ) (low high : ℕ) : Type 0 where
   pub low_bound : (n : ℕ) → n < 1024 → p n ≡ true → low ≤ g n
@@ -30,8 +20,8 @@ pub record IsSpread (p : ℕ → Bool) (g : ℕ → ℕ) (low high : ℕ) : Type
   pub low_reached : (n : ℕ) × (n < 1024) × (p n ≡ true) × (low ≡ g n)
   pub high_reached : (n : ℕ) × (n < 1024) × (p n ≡ true) × (high ≡ g n)
 
--- no number is packed wider than it must be, and none below 0: some number is 0, the width is the least for the greatest
--- number, and the reference plus that one doesn't wrap
+-- packed numbers from low to high, both reached, are the least form over a reference: some number is 0, the width is the
+-- least that holds the greatest number, and the reference plus that one doesn't wrap
 pub record IsTightFrame (t width : ℕ) (reference : ℤ) (low high : ℕ) : Type 0 where
   pub zero : low ≡ 0
   pub least : width ≡ least_width high

@@ -7,7 +7,8 @@ use Rattle.transpose_order.specs.Place.{IsLaneWidth, lane_of, step_of}
 use Rattle.transpose_order.specs.Mask.{rows_of}
 use Rattle.bit_interleave.specs.Arithmetic.{integer_width, least_width}
 use Rattle.bit_interleave.specs.Packing.{packed_value, packed}
-use Rattle.frame_delta.specs.Extremes.{least_among, greatest_among, value_at, FitColumn}
+use Rattle.bit_interleave.specs.Range.{AreInRange, value_at}
+use Rattle.frame_delta.specs.Extremes.{least_among, greatest_among}
 
 -- the parts of a vector that is coded by frame of reference
 pub record FrameCoded : Type 0 where
@@ -26,10 +27,11 @@ frame_value c n =
 unfoldable pub frame_values : FrameCoded → List ℤ
 frame_values c = rows_of (frame_value c)
 
--- the least and the greatest of 1024 values
+-- the least of 1024 values
 unfoldable pub least_value : List ℤ → ℤ
 least_value values = least_among (λ _. true) (value_at values) (value_at values 0) 1024
 
+-- the greatest of 1024 values
 unfoldable pub greatest_value : List ℤ → ℤ
 greatest_value values = greatest_among (λ _. true) (value_at values) (value_at values 0) 1024
 
@@ -63,7 +65,7 @@ pub record IsFrame (words : PackedWords) (width : ℕ) (reference : ℤ) : Type 
 -- the least form of some values decodes to them
 abbrev pub FrameGivesBackItsValues : Type 0
 FrameGivesBackItsValues =
-    (t : ℕ) (values : List ℤ) → IsLaneWidth t → length values ≡ 1024 → FitColumn t values → frame_values (least_frame t values) ≡ values
+    (t : ℕ) (values : List ℤ) → IsLaneWidth t → length values ≡ 1024 → AreInRange t values → frame_values (least_frame t values) ≡ values
 
 -- of all forms whose reference is above none of their values, none has a smaller width than the least form of those values
 abbrev pub NoFrameIsNarrower : Type 0

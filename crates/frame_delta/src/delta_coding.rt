@@ -1,11 +1,12 @@
 //! Vectors coded by deltas.
-ghost use Rattle.std.specs.Prelude.{◌≡◌, ◌≢◌, ℕ, ◌+◌, ◌*◌, ◌/◌, ◌%◌, ◌<◌, ◌≤◌, ◌≤ℤ◌, ◌-ℤ◌, ◌↔◌, if◌then◌else◌, ◌==◌, false, length, slice_index, IsTrue, IfOk};
+ghost use Rattle.std.specs.Prelude.{◌≡◌, ◌≢◌, ℕ, ◌+◌, ◌*◌, ◌/◌, ◌%◌, ◌<◌, ◌≤◌, ◌≤ℤ◌, ◌-ℤ◌, ◌↔◌, if◌then◌else◌, ◌==◌, false, length, slice_index, vec_capacity, IsTrue, IfOk};
 ghost use Rattle.std.specs.Int.{w64, cast_unsigned, int_min, int_max, int_gap, int_wrap};
 ghost use Rattle.std.specs.Int.RustNames.{FitsSigned};
 ghost use Rattle.transpose_order.specs.Place.{IsLaneWidth, row_at};
 ghost use Rattle.bit_interleave.specs.Arithmetic.{integer_width};
 ghost use Rattle.bit_interleave.specs.PackedWords.{PackedWords, HasWidth};
-ghost use Rattle.frame_delta.specs.Extremes.{FitColumn, value_at, IsSpread};
+ghost use Rattle.bit_interleave.specs.Range.{AreInRange, value_at};
+ghost use Rattle.frame_delta.specs.Extremes.{IsSpread};
 ghost use Rattle.frame_delta.specs.Delta.{DeltaCoded, is_later, difference_at, least_difference, greatest_difference, delta_width, later_gaps, bases_of, delta_values, least_delta, delta_bytes};
 
 use crate::extremes::{Spread, gap};
@@ -16,8 +17,8 @@ use std::marker::Model;
 use std::simd::prelude::*;
 use transpose_order::{place_in_word, row_at};
 
-/// A vector of 1024 integers, in each lane a base and the differences of neighbours, each the least delta plus a packed
-/// number (FastLanes, VLDB 2023, delta coding).
+/// A vector of 1024 signed integers of 8, 16, 32 or 64 bits, in each lane a base and the differences of neighbours, each the
+/// least delta plus a packed number, modulo two to the power of the lane width (FastLanes, VLDB 2023, delta coding).
 #[derive(Drop)]
 pub struct Delta {
     width: usize,
@@ -125,7 +126,7 @@ fn base_at(lane_width: usize, least: i64, values: &[i64; 1024], lane: usize) -> 
     wrapping_difference(lane_width, values[row_at(lane_width, lane, 0)], least)
 }
 
-/// Each lane's first value less the least delta, with no room to spare.
+/// Each lane's first value less the least delta, in lane order, with no room to spare.
 fn bases_of(
     alloc: Global,
     lane_width: usize,
@@ -133,12 +134,13 @@ fn bases_of(
     values: &[i64; 1024],
 ) -> Result<Vec<i64>, AllocError>
     requires { IsLaneWidth lane_width }
-    ensures { IfOk result (λ bases. bases.items ≡ bases_of lane_width least values.now) }
+    ensures items { IfOk result (λ bases. bases.items ≡ bases_of lane_width least values.now) }
+    ensures exact { IfOk result (λ bases. vec_capacity bases ≡ 1024 / lane_width) }
 {
     let lanes = 1024 / lane_width;
     let mut bases = Vec::with_capacity(alloc, lanes)?;
     for lane in 0..lanes {
-        bases.push(base_at(lane_width, least, values, lane))?;
+        bases.push_reserved(base_at(lane_width, least, values, lane));
     }
     Ok(bases)
 }
@@ -229,24 +231,26 @@ impl Slope {
 }
 
 impl Delta {
-    /// The bytes of the least form of 1024 values in the range of `lane_width` bits.
+    /// The bytes that `encode` would take for the payload: the least delta, 128 bytes of bases, and 128 bytes for each bit of the
+    /// width. The 1024 values, in row order, are in the range of `lane_width` bits, signed, which are 8, 16, 32 or 64.
     pub fn size(values: &[i64; 1024], lane_width: usize) -> u16
         requires lane_width { IsLaneWidth lane_width }
-        requires fit { FitColumn lane_width values.now }
+        requires fit { AreInRange lane_width values.now }
         ensures { result ≡ delta_bytes (least_delta lane_width values.now) }
     {
         let slope = Slope::of(values, lane_width);
         (lane_width / 8 + 128 + 128 * slope.width) as u16
     }
 
-    /// The least form of 1024 values in the range of `lane_width` bits.
+    /// The least form of 1024 values: the least difference of neighbours within a lane, and the least width. The values, in row
+    /// order, are in the range of `lane_width` bits, signed, which are 8, 16, 32 or 64. Where memory is refused, an `AllocError`.
     pub fn encode(
         alloc: Global,
         values: &[i64; 1024],
         lane_width: usize,
     ) -> Result<Self, AllocError>
         requires lane_width { IsLaneWidth lane_width }
-        requires fit { FitColumn lane_width values.now }
+        requires fit { AreInRange lane_width values.now }
         ensures { IfOk result (λ coded. coded ≡ least_delta lane_width values.now) }
     {
         let Slope { least, width } = Slope::of(values, lane_width);
@@ -261,7 +265,9 @@ impl Delta {
         })
     }
 
-    /// The vector with these parts.
+    /// The vector with these parts: words of `lane_width` bits, `width * (1024 / lane_width)` of them with `width` at most
+    /// `lane_width`, and a least delta and `1024 / lane_width` bases in lane order, all in the range of `lane_width` bits, signed.
+    /// It need not be the least form.
     pub fn from_parts(
         lane_width: usize,
         width: usize,
@@ -273,7 +279,7 @@ impl Delta {
         requires width { HasWidth words width }
         requires least { FitsSigned (integer_width lane_width) least }
         requires base_count { length bases.items ≡ 1024 / lane_width }
-        requires bases { FitColumn lane_width bases.items }
+        requires bases { AreInRange lane_width bases.items }
         ensures { result ≡ record { lane_width = lane_width; width = width; least = least; bases = bases.items; words = words.numbers } }
     {
         let _ = lane_width;
@@ -285,7 +291,7 @@ impl Delta {
         }
     }
 
-    /// The 1024 values in row order.
+    /// Writes the 1024 values in row order, each in the range of the lane width.
     pub fn decode(&self, values: &mut [i64; 1024])
         ensures { values.new ≡ delta_values self.now }
     {
@@ -302,7 +308,7 @@ impl Delta {
         }
     }
 
-    /// Whether this is the least form of its values.
+    /// Whether this is the least form of the values that it decodes to, part for part.
     pub fn is_least(&self) -> bool
         ensures { IsTrue result ↔ (self.now ≡ least_delta self.now.lane_width (delta_values self.now)) }
     {
@@ -315,14 +321,15 @@ impl Delta {
         later_spread(lane_width, &numbers).is_tight(lane_width, self.width, self.least)
     }
 
-    /// The lane width in bits.
+    /// The lane width in bits: 8, 16, 32 or 64.
     pub fn lane_width(&self) -> usize
-        ensures { result ≡ self.now.lane_width }
+        ensures value { result ≡ self.now.lane_width }
+        ensures lanes { IsLaneWidth result }
     {
         self.words.lane_width()
     }
 
-    /// The width of the packed numbers in bits.
+    /// The width of the packed numbers in bits, from 0 to the lane width.
     pub fn width(&self) -> usize
         ensures value { result ≡ self.now.width }
         ensures bound { result ≤ self.now.lane_width }
@@ -330,7 +337,7 @@ impl Delta {
         self.width
     }
 
-    /// The least delta, in the range of the lane width.
+    /// The least delta, in the range of the lane width, signed.
     pub fn least(&self) -> i64
         ensures value { result ≡ self.now.least }
         ensures fits { FitsSigned (integer_width self.now.lane_width) result }
@@ -338,30 +345,31 @@ impl Delta {
         self.least
     }
 
-    /// The bases in lane order, one a lane, each in the range of the lane width.
+    /// The bases in lane order, one a lane of the `1024 / lane_width`, each in the range of the lane width, signed.
     pub fn bases(&self) -> &[i64]
         ensures value { result.now ≡ self.now.bases }
         ensures count { length result.now ≡ 1024 / self.now.lane_width }
-        ensures fit { FitColumn self.now.lane_width result.now }
+        ensures fit { AreInRange self.now.lane_width result.now }
     {
         self.bases.as_slice()
     }
 
-    /// The packed words.
+    /// The packed words, `width * (1024 / lane_width)` of them, each of the lane width.
     pub fn words(&self) -> &Words
-        ensures { result.now ≡ record { lane_width = self.now.lane_width; numbers = self.now.words } }
+        ensures value { result.now ≡ record { lane_width = self.now.lane_width; numbers = self.now.words } }
+        ensures width { HasWidth result.now self.now.width }
     {
         &self.words
     }
 
-    /// The payload's bytes.
+    /// The payload's bytes: the least delta, 128 bytes of bases, and 128 bytes for each bit of the width.
     pub fn bytes_len(&self) -> u16
         ensures { result ≡ delta_bytes self.now }
     {
         (self.words.lane_width() / 8 + 128 + 128 * self.width) as u16
     }
 
-    /// The same vector again.
+    /// The same vector in memory of its own. Where memory is refused, an `AllocError`.
     pub fn copy(&self, alloc: Global) -> Result<Self, AllocError>
         ensures { IfOk result (λ coded. coded ≡ self.now) }
     {

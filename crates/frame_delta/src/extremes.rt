@@ -1,7 +1,8 @@
 //! The least and the greatest of a vector's values, and distances above the least.
 ghost use Rattle.std.specs.Prelude.{◌≡◌, ℕ, ◌<◌, ◌≤ℤ◌, ◌↔◌, true, slice_index, IsTrue};
 ghost use Rattle.std.specs.Int.{int_gap};
-ghost use Rattle.frame_delta.specs.Extremes.{value_at, IsSpread, IsTightFrame};
+ghost use Rattle.bit_interleave.specs.Range.{value_at};
+ghost use Rattle.frame_delta.specs.Extremes.{IsSpread, IsTightFrame};
 ghost use Rattle.transpose_order.specs.Place.{IsLaneWidth};
 ghost use Rattle.frame_delta.specs.Frame.{least_value, greatest_value, gaps_above};
 

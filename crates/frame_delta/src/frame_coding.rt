@@ -4,7 +4,7 @@ ghost use Rattle.std.specs.Int.RustNames.{FitsSigned};
 ghost use Rattle.transpose_order.specs.Place.{IsLaneWidth};
 ghost use Rattle.bit_interleave.specs.Arithmetic.{integer_width};
 ghost use Rattle.bit_interleave.specs.PackedWords.{PackedWords, HasWidth};
-ghost use Rattle.frame_delta.specs.Extremes.{FitColumn};
+ghost use Rattle.bit_interleave.specs.Range.{AreInRange};
 ghost use Rattle.frame_delta.specs.Frame.{FrameCoded, frame_values, least_frame, frame_bytes, least_value, frame_width};
 
 use crate::extremes::{gap, gaps_above, range_of, spread_of};
@@ -14,7 +14,8 @@ use std::alloc::{AllocError, Global};
 use std::marker::Model;
 use transpose_order::place_in_word;
 
-/// A vector of 1024 integers, each a reference plus a packed number (FastLanes, VLDB 2023, frame of reference).
+/// A vector of 1024 signed integers of 8, 16, 32 or 64 bits, each a reference plus a packed number, modulo two to the power of
+/// the lane width (FastLanes, VLDB 2023, frame of reference).
 #[derive(Drop)]
 pub struct For {
     width: usize,
@@ -42,7 +43,7 @@ struct Frame {
 impl Frame {
     fn of(values: &[i64; 1024], lane_width: usize) -> Self
         requires lane_width { IsLaneWidth lane_width }
-        requires fit { FitColumn lane_width values.now }
+        requires fit { AreInRange lane_width values.now }
         ensures reference { result.reference ≡ least_value values.now }
         ensures width { result.width ≡ frame_width values.now }
         ensures bound { result.width ≤ lane_width }
@@ -56,24 +57,26 @@ impl Frame {
 }
 
 impl For {
-    /// The bytes of the least form of 1024 values in the range of `lane_width` bits.
+    /// The bytes that `encode` would take for the payload: the reference, and 128 bytes for each bit of the width. The 1024
+    /// values, in row order, are in the range of `lane_width` bits, signed, which are 8, 16, 32 or 64.
     pub fn size(values: &[i64; 1024], lane_width: usize) -> u16
         requires lane_width { IsLaneWidth lane_width }
-        requires fit { FitColumn lane_width values.now }
+        requires fit { AreInRange lane_width values.now }
         ensures { result ≡ frame_bytes (least_frame lane_width values.now) }
     {
         let frame = Frame::of(values, lane_width);
         (lane_width / 8 + 128 * frame.width) as u16
     }
 
-    /// The least form of 1024 values in the range of `lane_width` bits.
+    /// The least form of 1024 values: the least value as the reference, and the least width. The values, in row order, are in
+    /// the range of `lane_width` bits, signed, which are 8, 16, 32 or 64. Where memory is refused, an `AllocError`.
     pub fn encode(
         alloc: Global,
         values: &[i64; 1024],
         lane_width: usize,
     ) -> Result<Self, AllocError>
         requires lane_width { IsLaneWidth lane_width }
-        requires fit { FitColumn lane_width values.now }
+        requires fit { AreInRange lane_width values.now }
         ensures { IfOk result (λ coded. coded ≡ least_frame lane_width values.now) }
     {
         let Frame { reference, width } = Frame::of(values, lane_width);
@@ -86,7 +89,8 @@ impl For {
         })
     }
 
-    /// The vector with these parts.
+    /// The vector with these parts: words of `lane_width` bits, `width * (1024 / lane_width)` of them with `width` at most
+    /// `lane_width`, and a reference in the range of `lane_width` bits, signed. It need not be the least form.
     pub fn from_parts(lane_width: usize, width: usize, reference: i64, words: Words) -> Self
         requires lane_width { lane_width ≡ words.lane_width }
         requires width { HasWidth words width }
@@ -101,7 +105,7 @@ impl For {
         }
     }
 
-    /// The 1024 values in row order.
+    /// Writes the 1024 values in row order, each in the range of the lane width.
     pub fn decode(&self, values: &mut [i64; 1024])
         ensures { values.new ≡ frame_values self.now }
     {
@@ -116,7 +120,7 @@ impl For {
         }
     }
 
-    /// Whether this is the least form of its values.
+    /// Whether this is the least form of the values that it decodes to, part for part.
     pub fn is_least(&self) -> bool
         ensures { IsTrue result ↔ (self.now ≡ least_frame self.now.lane_width (frame_values self.now)) }
     {
@@ -125,14 +129,15 @@ impl For {
         spread_of(&numbers).is_tight(self.words.lane_width(), self.width, self.reference)
     }
 
-    /// The lane width in bits.
+    /// The lane width in bits: 8, 16, 32 or 64.
     pub fn lane_width(&self) -> usize
-        ensures { result ≡ self.now.lane_width }
+        ensures value { result ≡ self.now.lane_width }
+        ensures lanes { IsLaneWidth result }
     {
         self.words.lane_width()
     }
 
-    /// The width of the packed numbers in bits.
+    /// The width of the packed numbers in bits, from 0 to the lane width.
     pub fn width(&self) -> usize
         ensures value { result ≡ self.now.width }
         ensures bound { result ≤ self.now.lane_width }
@@ -140,7 +145,7 @@ impl For {
         self.width
     }
 
-    /// The reference, in the range of the lane width.
+    /// The reference, in the range of the lane width, signed.
     pub fn reference(&self) -> i64
         ensures value { result ≡ self.now.reference }
         ensures fits { FitsSigned (integer_width self.now.lane_width) result }
@@ -148,21 +153,22 @@ impl For {
         self.reference
     }
 
-    /// The packed words.
+    /// The packed words, `width * (1024 / lane_width)` of them, each of the lane width.
     pub fn words(&self) -> &Words
-        ensures { result.now ≡ record { lane_width = self.now.lane_width; numbers = self.now.words } }
+        ensures value { result.now ≡ record { lane_width = self.now.lane_width; numbers = self.now.words } }
+        ensures width { HasWidth result.now self.now.width }
     {
         &self.words
     }
 
-    /// The payload's bytes.
+    /// The payload's bytes: the reference, and 128 bytes for each bit of the width.
     pub fn bytes_len(&self) -> u16
         ensures { result ≡ frame_bytes self.now }
     {
         (self.words.lane_width() / 8 + 128 * self.width) as u16
     }
 
-    /// The same vector again.
+    /// The same vector in memory of its own. Where memory is refused, an `AllocError`.
     pub fn copy(&self, alloc: Global) -> Result<Self, AllocError>
         ensures { IfOk result (λ coded. coded ≡ self.now) }
     {

@@ -3,7 +3,7 @@ ghost use Rattle.std.specs.Prelude.{◌≡◌, ◌≢◌, ℕ, ◌+◌, ◌*◌,
 ghost use Rattle.std.specs.Int.{int_wrap};
 ghost use Rattle.transpose_order.specs.Place.{IsLaneWidth};
 ghost use Rattle.bit_interleave.specs.Arithmetic.{integer_width};
-ghost use Rattle.frame_delta.specs.Extremes.{value_at};
+ghost use Rattle.bit_interleave.specs.Range.{value_at};
 
 use bit_interleave::wrap;
 use std::simd::prelude::*;

@@ -2,7 +2,7 @@
 ghost use Rattle.std.specs.Prelude.{◌<◌, ◌^◌};
 ghost use Rattle.std.specs.List.{All};
 ghost use Rattle.transpose_order.specs.Place.{IsLaneWidth};
-ghost use Rattle.frame_delta.specs.Extremes.{FitColumn};
+ghost use Rattle.bit_interleave.specs.Range.{AreInRange};
 
 use super::*;
 use bit_interleave::{Words, wrap};
@@ -10,12 +10,13 @@ use std::alloc::Global;
 use std::process::Abort;
 use std::test::Fail;
 
-/// What a test's vector holds.
+/// What a test's vector holds: multiples of a step, one number, two in turn, or one up to a row and another from it on.
 #[derive(Clone, Copy)]
 enum Pattern {
     Ramp(u64),
     All(u64),
     Alternating(u64, u64),
+    ChangedAt(usize, u64, u64),
 }
 
 fn bits_at(pattern: Pattern, row: usize) -> u64 {
@@ -23,13 +24,14 @@ fn bits_at(pattern: Pattern, row: usize) -> u64 {
         Pattern::Ramp(step) => step.wrapping_mul(row as u64),
         Pattern::All(bits) => bits,
         Pattern::Alternating(even, odd) => { if row % 2 == 0 { even } else { odd } }
+        Pattern::ChangedAt(change, before, after) => { if row < change { before } else { after } }
     }
 }
 
 /// The vector of a pattern, each value cut to `lane_width` bits.
 fn column(lane_width: usize, pattern: Pattern) -> [i64; 1024]
     requires { IsLaneWidth lane_width }
-    ensures { FitColumn lane_width result }
+    ensures { AreInRange lane_width result }
 {
     let mut values = [0; 1024];
     for row in 0..1024 {
@@ -38,148 +40,166 @@ fn column(lane_width: usize, pattern: Pattern) -> [i64; 1024]
     values
 }
 
-/// One where it is asked for, and else 0.
-fn one_if(asked: bool) -> u64
+/// A number where it is asked for, and else 0.
+fn number_if(asked: bool, number: u64) -> u64
+    requires { number < 2 ^ 16 }
     ensures { result < 2 ^ 16 }
 {
-    if asked { 1 } else { 0 }
+    if asked { number } else { 0 }
 }
 
-/// Words of which the first is 1 and the others are 0.
-fn one_then_zeros() -> [u64; 64]
+/// Words of which the first is a number and the others are 0.
+fn first_then_zeros(first: u64) -> [u64; 64]
+    requires { first < 2 ^ 16 }
     ensures { All (λ n. n < 2 ^ 16) result }
 {
     let mut numbers = [0; 64];
     for n in 0..64 {
-        numbers[n] = one_if(n == 0);
+        numbers[n] = number_if(n == 0, first);
     }
     numbers
 }
 
-/// A vector's least frame has `bytes` bytes, is the least, and it and its copy decode to the vector.
-fn for_comes_back(
+/// Whether words are of one width and have the same numbers.
+fn are_same(left: &Words, right: &Words) -> bool {
+    if left.lane_width() != right.lane_width() || left.len() != right.len() {
+        return false;
+    }
+    for i in 0..left.len() {
+        if left.word(i) != right.word(i) {
+            return false;
+        }
+    }
+    true
+}
+
+/// A vector's least frame has `bytes` bytes and is the least, and its copy has its parts and decodes to the vector.
+fn frame_comes_back(
     rt: &impl Abort,
     alloc: Global,
     lane_width: usize,
-    pattern: Pattern,
+    values: &[i64; 1024],
     bytes: u16,
 ) -> Result<(), Fail>
-    requires { IsLaneWidth lane_width }
+    requires lane_width { IsLaneWidth lane_width }
+    requires range { AreInRange lane_width values.now }
 {
-    let values = column(lane_width, pattern);
-    let coded = For::encode(alloc, &values, lane_width)?;
+    let coded = For::encode(alloc, values, lane_width)?;
     assert_eq!(rt;
-        (For::size(&values, lane_width), coded.bytes_len()),
-        (bytes, bytes)
+        (
+            For::size(values, lane_width),
+            coded.bytes_len(),
+            coded.is_least()
+        ),
+        (bytes, bytes, true)
     );
-    assert!(rt; coded.is_least());
     let copy = coded.copy(alloc)?;
+    assert_eq!(rt;
+        (copy.lane_width(), copy.width(), copy.reference()),
+        (lane_width, coded.width(), coded.reference())
+    );
+    assert!(rt; are_same(copy.words(), coded.words()));
     let mut back = [1; 1024];
     copy.decode(&mut back);
     assert_eq!(rt; back.as_slice(), values.as_slice());
-    assert_eq!(rt;
-        (copy.lane_width(), copy.width()),
-        (lane_width, coded.width())
-    );
-    assert_eq!(rt; copy.reference(), coded.reference());
-    assert_eq!(rt; copy.words().len(), coded.words().len());
     Ok(())
 }
 
-/// A vector's least deltas have `bytes` bytes, are the least, and they and their copy decode to the vector.
+/// A vector's least deltas have `bytes` bytes and are the least, and their copy has their parts and decodes to the vector.
 fn delta_comes_back(
     rt: &impl Abort,
     alloc: Global,
     lane_width: usize,
-    pattern: Pattern,
+    values: &[i64; 1024],
     bytes: u16,
+) -> Result<(), Fail>
+    requires lane_width { IsLaneWidth lane_width }
+    requires range { AreInRange lane_width values.now }
+{
+    let coded = Delta::encode(alloc, values, lane_width)?;
+    assert_eq!(rt;
+        (
+            Delta::size(values, lane_width),
+            coded.bytes_len(),
+            coded.is_least()
+        ),
+        (bytes, bytes, true)
+    );
+    let copy = coded.copy(alloc)?;
+    assert_eq!(rt;
+        (copy.lane_width(), copy.width(), copy.least()),
+        (lane_width, coded.width(), coded.least())
+    );
+    assert_eq!(rt; copy.bases(), coded.bases());
+    assert!(rt; are_same(copy.words(), coded.words()));
+    let mut back = [1; 1024];
+    copy.decode(&mut back);
+    assert_eq!(rt; back.as_slice(), values.as_slice());
+    Ok(())
+}
+
+/// A vector comes back from both codings, of which the first has `bytes[0]` bytes and the second `bytes[1]`.
+fn comes_back(
+    rt: &impl Abort,
+    alloc: Global,
+    lane_width: usize,
+    pattern: Pattern,
+    bytes: [u16; 2],
 ) -> Result<(), Fail>
     requires { IsLaneWidth lane_width }
 {
     let values = column(lane_width, pattern);
-    let coded = Delta::encode(alloc, &values, lane_width)?;
-    assert_eq!(rt;
-        (Delta::size(&values, lane_width), coded.bytes_len()),
-        (bytes, bytes)
-    );
-    assert!(rt; coded.is_least());
-    let copy = coded.copy(alloc)?;
-    let mut back = [1; 1024];
-    copy.decode(&mut back);
-    assert_eq!(rt; back.as_slice(), values.as_slice());
-    assert_eq!(rt;
-        (copy.lane_width(), copy.width()),
-        (lane_width, coded.width())
-    );
-    assert_eq!(rt; copy.least(), coded.least());
-    assert_eq!(rt; copy.bases(), coded.bases());
-    assert_eq!(rt; copy.words().len(), coded.words().len());
-    Ok(())
+    frame_comes_back(rt, alloc, lane_width, &values, bytes[0])?;
+    delta_comes_back(rt, alloc, lane_width, &values, bytes[1])
 }
 
-// The range of a ramp of 3s is 3069, of twelve bits; one less than the range of a width has that width.
-#[test]
-fn a_frame_has_the_width_of_its_range(rt: HostRuntime) -> Result<(), Fail> {
-    let alloc = rt.alloc();
-    for_comes_back(&rt, alloc, 32, Pattern::Ramp(3), 1540)?;
-    for_comes_back(&rt, alloc, 16, Pattern::All(7), 2)?;
-    for_comes_back(&rt, alloc, 16, Pattern::Ramp(1), 2 + 128 * 10)?;
-    for_comes_back(&rt, alloc, 16, Pattern::Alternating(0, 255), 2 + 128 * 8)?;
-    for_comes_back(&rt, alloc, 16, Pattern::Alternating(0, 256), 2 + 128 * 9)?;
-    for_comes_back(
-        &rt,
-        alloc,
-        16,
-        Pattern::Alternating(32768, 32767),
-        2 + 128 * 16,
-    )?;
-    for_comes_back(
-        &rt,
-        alloc,
-        32,
-        Pattern::Alternating(1 << 31, (1 << 31) - 1),
-        4 + 128 * 32,
-    )?;
-    for_comes_back(
-        &rt,
-        alloc,
-        64,
-        Pattern::Alternating(1 << 63, (1 << 63) - 1),
-        8 + 128 * 64,
-    )?;
-    for_comes_back(&rt, alloc, 64, Pattern::All(1 << 63), 8)
+/// The least value alone, the greatest alone, the two in turn, and 1024 values, each with its bytes.
+fn extremes_come_back(
+    rt: &impl Abort,
+    alloc: Global,
+    lane_width: usize,
+    bytes: [[u16; 2]; 4],
+) -> Result<(), Fail>
+    requires { IsLaneWidth lane_width }
+{
+    let least = 1 << (lane_width - 1);
+    let greatest = least - 1;
+    comes_back(rt, alloc, lane_width, Pattern::All(least), bytes[0])?;
+    comes_back(rt, alloc, lane_width, Pattern::All(greatest), bytes[1])?;
+    let both = Pattern::Alternating(least, greatest);
+    comes_back(rt, alloc, lane_width, both, bytes[2])?;
+    comes_back(rt, alloc, lane_width, Pattern::Ramp(1), bytes[3])
 }
 
-// A ramp has one difference. Between the least and the greatest number the differences are -1 and 1 modulo a power of two,
-// whose distance has two bits.
+// The bytes are T / 8 + 128 * width, and 128 more for the bases. A range of 255 has eight bits, of 256 nine; 32767 has fifteen,
+// and the differences between -32767 and 32767 have sixteen.
 #[test]
-fn deltas_have_the_width_of_their_range(rt: HostRuntime) -> Result<(), Fail> {
+fn vectors_have_their_bytes(rt: HostRuntime) -> Result<(), Fail> {
     let alloc = rt.alloc();
-    delta_comes_back(&rt, alloc, 32, Pattern::Ramp(3), 132)?;
-    delta_comes_back(&rt, alloc, 16, Pattern::Ramp(1), 130)?;
-    delta_comes_back(&rt, alloc, 16, Pattern::All(32767), 130)?;
-    delta_comes_back(
-        &rt,
-        alloc,
-        16,
-        Pattern::Alternating(32768, 32767),
-        130 + 128 * 2,
-    )?;
-    delta_comes_back(
-        &rt,
-        alloc,
-        32,
-        Pattern::Alternating(1 << 31, (1 << 31) - 1),
-        132 + 128 * 2,
-    )?;
-    delta_comes_back(
-        &rt,
-        alloc,
-        64,
-        Pattern::Alternating(1 << 63, (1 << 63) - 1),
-        136 + 128 * 2,
-    )?;
-    delta_comes_back(&rt, alloc, 64, Pattern::All(1 << 63), 136)
+    for (pattern, bytes) in [
+        (Pattern::All(7), [2, 130]),
+        (Pattern::Ramp(1), [1282, 130]),
+        (Pattern::ChangedAt(500, 0, 32767), [1922, 2050]),
+        (Pattern::Alternating(0, 32767), [1922, 2178]),
+        (Pattern::Alternating(0, 255), [1026, 1282]),
+        (Pattern::Alternating(0, 256), [1154, 1410]),
+    ] {
+        comes_back(&rt, alloc, 16, pattern, bytes)?;
+    }
+    comes_back(&rt, alloc, 32, Pattern::Ramp(3), [1540, 132])
+}
+
+// The range of the least and the greatest is as wide as a lane. Their differences are -1 and 1 modulo a power of two, whose
+// distance has two bits. The range of 1024 neighbours has ten bits.
+#[test]
+fn extreme_values_come_back(rt: HostRuntime) -> Result<(), Fail> {
+    let alloc = rt.alloc();
+    let bytes = [[2, 130], [2, 130], [2050, 386], [1282, 130]];
+    extremes_come_back(&rt, alloc, 16, bytes)?;
+    let bytes = [[4, 132], [4, 132], [4100, 388], [1284, 132]];
+    extremes_come_back(&rt, alloc, 32, bytes)?;
+    let bytes = [[8, 136], [8, 136], [8200, 392], [1288, 136]];
+    extremes_come_back(&rt, alloc, 64, bytes)
 }
 
 // Lane 0 begins at row 0, lane 1 at row 64, lane 16 at row 32: 0, 192 and 96, less the least delta 3.
@@ -196,12 +216,43 @@ fn bases_stand_in_lane_order(rt: HostRuntime) -> Result<(), Fail> {
 // Row 0 is lane 0, step 0: bit 0 of word 0. 32767 and 1 wrap to -32768.
 #[test]
 fn a_reference_and_a_packed_number_wrap(rt: HostRuntime) -> Result<(), Fail> {
-    let numbers = one_then_zeros();
-    let words = Words::from_numbers(rt.alloc(), 16, &numbers)?;
+    let words = Words::from_numbers(rt.alloc(), 16, &first_then_zeros(1))?;
     let coded = For::from_parts(16, 1, 32767, words);
     let mut values = [0; 1024];
     coded.decode(&mut values);
     assert_eq!(rt; (values[0], values[1]), (-32768, 32767));
+    assert!(rt; !coded.is_least());
+    Ok(())
+}
+
+/// Deltas of 2 from bases of 5 at 16 bits, with packed numbers of one bit, all in the first word.
+fn delta_of_one_bit(alloc: Global, first: u64) -> Result<Delta, Fail>
+    requires { first < 2 ^ 16 }
+{
+    let words = Words::from_numbers(alloc, 16, &first_then_zeros(first))?;
+    Ok(Delta::from_parts(16, 1, 2, vec![in alloc; 5; 64]?, words))
+}
+
+// Each lane is 7, 9 and so on up to 37, whose least form needs no bit.
+#[test]
+fn a_delta_wider_than_the_least_decodes(rt: HostRuntime) -> Result<(), Fail> {
+    let coded = delta_of_one_bit(rt.alloc(), 0)?;
+    let mut values = [0; 1024];
+    coded.decode(&mut values);
+    assert_eq!(rt; (values[0], values[1], values[15]), (7, 9, 37));
+    assert_eq!(rt; (values[16], values[1023]), (7, 37));
+    assert_eq!(rt; (coded.is_least(), coded.bytes_len()), (false, 258));
+    Ok(())
+}
+
+// The first bit is of row 0, step 0 of its lane, and raises that lane alone.
+#[test]
+fn a_delta_with_a_packed_number_at_step_0_decodes(rt: HostRuntime) -> Result<(), Fail> {
+    let coded = delta_of_one_bit(rt.alloc(), 1)?;
+    let mut values = [0; 1024];
+    coded.decode(&mut values);
+    assert_eq!(rt; (values[0], values[1], values[15]), (8, 10, 38));
+    assert_eq!(rt; (values[16], values[64]), (7, 7));
     assert!(rt; !coded.is_least());
     Ok(())
 }

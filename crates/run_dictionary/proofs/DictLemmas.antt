@@ -23,9 +23,9 @@ use Rattle.bit_interleave.proofs.ValueLemmas.{length-unpacked, get_or-unpacked, 
 use Rattle.bit_interleave.proofs.WordsLemmas.{All-packed}
 use Rattle.bit_interleave.proofs.RoundTrip.{unpacked-packed}
 use Rattle.bit_interleave.proofs.LeastWidthLemmas.{least_width-holds, least_width-least}
-use Rattle.run_dictionary.specs.Range.{value_of, AreInRange}
+use Rattle.bit_interleave.specs.Range.{value_at, AreInRange}
 use Rattle.run_dictionary.specs.Dict.{DictForm, IsDictForm, IsAscending, distinct, code_at, code_of, dict_value, least_dict}
-use Rattle.run_dictionary.proofs.OrderLemmas.{Has, Has-get_or, place_of_member, Ascends, Ascends-distinct, Has-distinct, Has-from_distinct, distinct_is, length-le_from_members, length-distinct}
+use Rattle.run_dictionary.proofs.OrderLemmas.{Has, Has-get_or, place_of_member, Ascends, Ascends-distinct, Has-distinct, Has-from_distinct, distinct_is, length-le_from_members, length-distinct, less_not_equal, less_from_test}
 
 -- ---- ascending by neighbours and by members
 pub Ascends-from_neighbours : (xs : List ℤ) → IsAscending xs → Ascends xs
@@ -57,16 +57,13 @@ less_at (x ∷ xs) a (suc i) (suc j) l h = less_at xs a.1 i j (omega arith) (ome
 pub neighbours-from_Ascends : (xs : List ℤ) → Ascends xs → IsAscending xs
 neighbours-from_Ascends xs a k h = less_at xs a k (k + 1) (omega arith) h
 
-differ_if_less : (x y : ℤ) → x <ℤ y → x ≡ y → ⊥
-differ_if_less x y l e = omega (arith, ints)
-
 -- two places of one value are one place
 pub same_place : (xs : List ℤ) → Ascends xs → (i j : ℕ) → i < length xs → j < length xs → get_or xs i (pos 0) ≡ get_or xs j (pos 0) → i ≡ j
 same_place xs a i j h l e = by_order (cases_lt i j) (cases_lt j i)
   where
     by_order : (i < j) ⊎ (j ≤ i) → (j < i) ⊎ (i ≤ j) → i ≡ j
-    by_order (inl m) _ = absurd (differ_if_less _ _ (less_at xs a i j m l) e)
-    by_order (inr m) (inl n) = absurd (differ_if_less _ _ (less_at xs a j i n h) (sym e))
+    by_order (inl m) _ = absurd (less_not_equal _ _ (less_at xs a i j m l) e)
+    by_order (inr m) (inl n) = absurd (less_not_equal _ _ (less_at xs a j i n h) (sym e))
     by_order (inr m) (inr n) = omega arith
 
 -- ---- the place of a value
@@ -74,7 +71,7 @@ pub code_of_place : (xs : List ℤ) → Ascends xs → (k : ℕ) → k < length 
 unfolding code_of
 code_of_place xs a k h =
     position_or_len_is (λ x. int_eq x (get_or xs k (pos 0))) xs k (pos 0) (omega arith)
-    (λ i l. false_from_ne_true _ (λ t. differ_if_less _ _ (less_at xs a i k l h) ((Decides-int_eq (get_or xs i (pos 0)) (get_or xs k (pos 0))).0 t)))
+    (λ i l. false_from_ne_true _ (λ t. less_not_equal _ _ (less_at xs a i k l h) ((Decides-int_eq (get_or xs i (pos 0)) (get_or xs k (pos 0))).0 t)))
     (λ l. (Decides-int_eq (get_or xs k (pos 0)) (get_or xs k (pos 0))).1 refl)
 
 pub code_of_member : (xs : List ℤ) (z : ℤ) → Ascends xs → Has z xs → (code_of xs z < length xs) × (get_or xs (code_of xs z) (pos 0) ≡ z)
@@ -91,13 +88,13 @@ codes_in values = map (code_of (distinct values)) values
 abbrev least_code_width : List ℤ → ℕ
 least_code_width values = least_width (length (distinct values) - 1)
 
-pub distinct_code : (values : List ℤ) (n : ℕ) → n < length values → (code_of (distinct values) (value_of values n) < length (distinct values)) × (value_of (distinct values) (code_of (distinct values) (value_of values n)) ≡ value_of values n)
-distinct_code values n h = code_of_member (distinct values) (value_of values n) (Ascends-distinct values) (Has-distinct (value_of values n) values (Has-get_or values n h))
+pub distinct_code : (values : List ℤ) (n : ℕ) → n < length values → (code_of (distinct values) (value_at values n) < length (distinct values)) × (value_at (distinct values) (code_of (distinct values) (value_at values n)) ≡ value_at values n)
+distinct_code values n h = code_of_member (distinct values) (value_at values n) (Ascends-distinct values) (Has-distinct (value_at values n) values (Has-get_or values n h))
 
-pub get_or-map_zero : (f : ℤ → ℕ) (values : List ℤ) (n : ℕ) → n < length values → get_or (map f values) n 0 ≡ f (value_of values n)
+pub get_or-map_zero : (f : ℤ → ℕ) (values : List ℤ) (n : ℕ) → n < length values → get_or (map f values) n 0 ≡ f (value_at values n)
 get_or-map_zero f values n h = get_or_default (map f values) n 0 (f (pos 0)) (omega (arith, length-map values f)) ∙ get_or-map f values n (pos 0)
 
-get_or-codes : (values : List ℤ) (n : ℕ) → n < length values → get_or (codes_in values) n 0 ≡ code_of (distinct values) (value_of values n)
+get_or-codes : (values : List ℤ) (n : ℕ) → n < length values → get_or (codes_in values) n 0 ≡ code_of (distinct values) (value_at values n)
 get_or-codes values n h = get_or-map_zero (code_of (distinct values)) values n h
 
 some_distinct : (values : List ℤ) → 0 < length values → 0 < length (distinct values)
@@ -125,12 +122,12 @@ pub code_at-unpacked : (form : DictForm) (n : ℕ) → n < 1024 → get_or (unpa
 unfolding code_at
 code_at-unpacked form n h = get_or-unpacked 16 form.width form.codes.numbers n 0 h
 
-pub code_at-least : (t : ℕ) (values : List ℤ) (n : ℕ) → length values ≡ 1024 → n < 1024 → code_at (least_dict t values) n ≡ code_of (distinct values) (value_of values n)
+pub code_at-least : (t : ℕ) (values : List ℤ) (n : ℕ) → length values ≡ 1024 → n < 1024 → code_at (least_dict t values) n ≡ code_of (distinct values) (value_at values n)
 code_at-least t values n l h =
     sym (code_at-unpacked (least_dict t values) n h) ∙ ap (λ xs. get_or xs n 0) (codes_come_back values l) ∙ get_or-codes values n (omega (arith, l))
 
-pub dict_value-least : (t : ℕ) (values : List ℤ) (n : ℕ) → length values ≡ 1024 → n < 1024 → dict_value (least_dict t values) n ≡ value_of values n
-dict_value-least t values n l h = ap (value_of (distinct values)) (code_at-least t values n l h) ∙ (distinct_code values n (omega (arith, l))).1
+pub dict_value-least : (t : ℕ) (values : List ℤ) (n : ℕ) → length values ≡ 1024 → n < 1024 → dict_value (least_dict t values) n ≡ value_at values n
+dict_value-least t values n l h = ap (value_at (distinct values)) (code_at-least t values n l h) ∙ (distinct_code values n (omega (arith, l))).1
 
 pub IsDictForm-least : (t : ℕ) (values : List ℤ) → IsLaneWidth t → length values ≡ 1024 → AreInRange t values → IsDictForm (least_dict t values)
 IsDictForm-least t values w l range = record {
@@ -253,9 +250,6 @@ index_cases false false false false f g = omega arith
 
 test_from_less : (x y : ℤ) → x <ℤ y → int_lt x y ≡ true
 test_from_less x y l = grind (arith, ints)
-
-less_from_test : (x y : ℤ) → int_lt x y ≡ true → x <ℤ y
-less_from_test x y e = grind (arith, ints)
 
 through_left : (x y v : ℤ) → x ≤ℤ y → y <ℤ v → x <ℤ v
 through_left x y v l m = omega (arith, ints)

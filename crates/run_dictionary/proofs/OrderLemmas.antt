@@ -8,7 +8,7 @@ use Rattle.std.proofs.lemmas.Bool.{cases_Bool, cases_lt, both_ways}
 use Rattle.std.proofs.lemmas.Bool.Decides.{Decides-int_eq}
 use Rattle.std.proofs.lemmas.List.{get_or_default}
 use Rattle.std.proofs.lemmas.List.Sorted.{Contains-permutation, IsPermutation-sym}
-use Rattle.run_dictionary.specs.Range.{value_of}
+use Rattle.bit_interleave.specs.Range.{value_at}
 use Rattle.run_dictionary.specs.Runs.{changes_at, changed_values}
 use Rattle.run_dictionary.specs.Dict.{with_value, distinct}
 use Rattle.run_dictionary.proofs.RunLemmas.{changed_values-none, changed_values-one, changes_at-same, changed_values-yes, changed_values-no, get_or-changed_values, length-changed_values}
@@ -53,7 +53,7 @@ abbrev pub Ascends : List ℤ → Type 0
 Ascends [] = Unit {0}
 Ascends (x ∷ xs) = ((z : ℤ) → Has z xs → x <ℤ z) × Ascends xs
 
-less_not_equal : (x y : ℤ) → x <ℤ y → x ≡ y → ⊥
+pub less_not_equal : (x y : ℤ) → x <ℤ y → x ≡ y → ⊥
 less_not_equal x y l e = omega (arith, ints)
 
 less_not_greater : (x y : ℤ) → x <ℤ y → y <ℤ x → ⊥
@@ -115,8 +115,8 @@ Ascends-push (x ∷ xs) y a f =
     by_part z (inr (inr h)) = elim h [ ]
 
 -- ---- the distinct values of a list
-lt_from_test : (v x : ℤ) → int_lt v x ≡ true → v <ℤ x
-lt_from_test v x e = grind (arith, ints)
+pub less_from_test : (v x : ℤ) → int_lt v x ≡ true → v <ℤ x
+less_from_test v x e = grind (arith, ints)
 
 gt_from_tests : (v x : ℤ) → int_lt v x ≡ false → int_eq v x ≡ false → x <ℤ v
 gt_from_tests v x e f =
@@ -163,7 +163,7 @@ Has-from_with_value v z (x ∷ xs) h = by_tests (int_lt v x) (int_eq v x) h (λ 
 
 Ascends-with_value : (v : ℤ) (xs : List ℤ) → Ascends xs → Ascends (with_value v xs)
 Ascends-with_value v [] a = ((λ z h. elim h [ ]), tt)
-Ascends-with_value v (x ∷ xs) a = by_tests (int_lt v x) (int_eq v x) (lt_from_test v x) (gt_from_tests v x) (Ascends-with_value v xs a.1)
+Ascends-with_value v (x ∷ xs) a = by_tests (int_lt v x) (int_eq v x) (less_from_test v x) (gt_from_tests v x) (Ascends-with_value v xs a.1)
   where
     after : (z : ℤ) → x <ℤ v → (z ≡ v) ⊎ Has z xs → x <ℤ z
     after z l (inl e) = subst (λ (z : ℤ). x <ℤ z) (sym e) l
@@ -292,15 +292,15 @@ rises_from_sorted x y e = by_test (cases_Bool (int_lt y x))
     by_test (inl l) = absurd (both_ways _ e (ap (λ b. is_lt (cond b Less (cond (int_lt x y) Greater Equal))) l))
     by_test (inr l) = grind (arith, ints)
 
-pub changed_values-sorted : (values sorted : List ℤ) → length sorted ≡ 1024 → IsPermutation values sorted → IsSorted int_cmp sorted → changed_values (value_of sorted) 1024 ≡ distinct values
+pub changed_values-sorted : (values sorted : List ℤ) → length sorted ≡ 1024 → IsPermutation values sorted → IsSorted int_cmp sorted → changed_values (value_at sorted) 1024 ≡ distinct values
 changed_values-sorted values sorted l p s =
-    distinct_is values (changed_values (value_of sorted) 1024)
-    (Ascends-changed_values (value_of sorted) 1024 (λ i h. rises_from_sorted _ _ (ap (λ k. is_lt (int_cmp (value_of sorted k) (value_of sorted i))) (let e : suc i ≡ i + 1 = omega arith in e) ∙ s i (pos 0) (omega arith) (omega arith))))
+    distinct_is values (changed_values (value_at sorted) 1024)
+    (Ascends-changed_values (value_at sorted) 1024 (λ i h. rises_from_sorted _ _ (ap (λ k. is_lt (int_cmp (value_at sorted k) (value_at sorted i))) (let e : suc i ≡ i + 1 = omega arith in e) ∙ s i (pos 0) (omega arith) (omega arith))))
     (λ z h.
     let c = Contains-permutation values sorted z p (Contains-from_member values z h) in
     let r = place_of_member z sorted (member_from_Contains sorted z c) in
-    subst (λ (x : ℤ). Has x (changed_values (value_of sorted) 1024)) r.2 (Has-changed_values (value_of sorted) 1024 r.0 (omega (arith, r.1, l))))
+    subst (λ (x : ℤ). Has x (changed_values (value_at sorted) 1024)) r.2 (Has-changed_values (value_at sorted) 1024 r.0 (omega (arith, r.1, l))))
     (λ z h.
-    let r = row_of_changed (value_of sorted) 1024 z h in
+    let r = row_of_changed (value_at sorted) 1024 z h in
     let m : Has z sorted = subst (λ (x : ℤ). Has x sorted) r.2 (Has-get_or sorted r.0 (omega (arith, r.1, l))) in
     member_from_Contains values z (Contains-permutation sorted values z (IsPermutation-sym values sorted p) (Contains-from_member sorted z m)))

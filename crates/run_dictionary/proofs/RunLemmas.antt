@@ -11,7 +11,7 @@ use Rattle.transpose_order.specs.Place.{IsLaneWidth}
 use Rattle.transpose_order.specs.Mask.{rows_of, has, count_below}
 use Rattle.transpose_order.specs.MaskWords.{has-rows_of, rows_of-same, get_or-rows_of, length-rows_of}
 use Rattle.transpose_order.proofs.MaskLemmas.{count_below-zero, count_below-same}
-use Rattle.run_dictionary.specs.Range.{value_of, AreInRange}
+use Rattle.bit_interleave.specs.Range.{value_at, AreInRange}
 use Rattle.bit_interleave.specs.Arithmetic.{integer_width}
 use Rattle.run_dictionary.specs.Runs.{RunForm, IsRunForm, run_of, run_value, changes_at, changed_values, least_runs}
 use Rattle.run_dictionary.proofs.CountLemmas.{count_below-yes, count_below-no, count_below-rises, count_below-implies, count_below-reached}
@@ -122,10 +122,10 @@ pub run_of-changes : (v : ℕ → ℤ) (n : ℕ) → n < 1024 → run_of (rows_o
 run_of-changes v n h =
     count_below-same (λ i. has (rows_of (changes_at v)) (suc i)) (λ i. changes_at v (suc i)) n (λ i l. has-rows_of (changes_at v) (suc i) (omega arith))
 
-pub run_value-least : (t : ℕ) (values : List ℤ) (n : ℕ) → n < 1024 → run_value (least_runs t values) n ≡ value_of values n
+pub run_value-least : (t : ℕ) (values : List ℤ) (n : ℕ) → n < 1024 → run_value (least_runs t values) n ≡ value_at values n
 run_value-least t values n h =
-    ap (λ k. get_or (changed_values (value_of values) 1024) k (pos 0)) (run_of-changes (value_of values) n h)
-    ∙ get_or-changed_values (value_of values) 1024 n h
+    ap (λ k. get_or (changed_values (value_at values) 1024) k (pos 0)) (run_of-changes (value_at values) n h)
+    ∙ get_or-changed_values (value_at values) 1024 n h
 
 -- each run begins at some row
 pub row_of_run : (p : ℕ → Bool) (m k : ℕ) → k < count_below p m + 1 → (n : ℕ) × (n ≤ m) × (count_below p n ≡ k)
@@ -137,26 +137,26 @@ row_of_run p m (suc k) h =
 pub IsRunForm-least : (t : ℕ) (values : List ℤ) → IsLaneWidth t → length values ≡ 1024 → AreInRange t values → IsRunForm (least_runs t values)
 IsRunForm-least t values w l range = record {
   width = w;
-  rows = length-rows_of (changes_at (value_of values));
-  first = has-rows_of (changes_at (value_of values)) 0 (omega arith) ∙ changes_at-first (value_of values);
-  count = length-changed_values (value_of values) 1023 ∙ ap (λ k. k + 1) (sym (run_of-changes (value_of values) 1023 (omega arith)));
-  range = All-from_get_or (λ z. FitsSigned (integer_width t) z) (changed_values (value_of values) 1024) (pos 0)
+  rows = length-rows_of (changes_at (value_at values));
+  first = has-rows_of (changes_at (value_at values)) 0 (omega arith) ∙ changes_at-first (value_at values);
+  count = length-changed_values (value_at values) 1023 ∙ ap (λ k. k + 1) (sym (run_of-changes (value_at values) 1023 (omega arith)));
+  range = All-from_get_or (λ z. FitsSigned (integer_width t) z) (changed_values (value_at values) 1024) (pos 0)
       (λ k h.
-      let row = row_of_run (λ i. changes_at (value_of values) (suc i)) 1023 k (omega (arith, length-changed_values (value_of values) 1023)) in
-      let value : get_or (changed_values (value_of values) 1024) k (pos 0) ≡ value_of values row.0 =
-      ap (λ j. get_or (changed_values (value_of values) 1024) j (pos 0)) (sym row.2) ∙ get_or-changed_values (value_of values) 1024 row.0 (omega (arith, row.1)) in
+      let row = row_of_run (λ i. changes_at (value_at values) (suc i)) 1023 k (omega (arith, length-changed_values (value_at values) 1023)) in
+      let value : get_or (changed_values (value_at values) 1024) k (pos 0) ≡ value_at values row.0 =
+      ap (λ j. get_or (changed_values (value_at values) 1024) j (pos 0)) (sym row.2) ∙ get_or-changed_values (value_at values) 1024 row.0 (omega (arith, row.1)) in
       subst (λ (z : ℤ). FitsSigned (integer_width t) z) (sym value) (range row.0 (pos 0) (omega (arith, row.1, l))));
 }
 
 -- ---- forms of the same values
 -- the rows that a form stands for
 abbrev rows_in : RunForm → ℕ → ℤ
-rows_in form = value_of (rows_of (run_value form))
+rows_in form = value_at (rows_of (run_value form))
 
 rows_in-is : (form : RunForm) (n : ℕ) → n < 1024 → rows_in form n ≡ run_value form n
 rows_in-is form n h = get_or-rows_of (run_value form) n (pos 0) h
 
-run_of-within : (form : RunForm) → IsRunForm form → (n : ℕ) → n < 1024 → run_of form.starts n < length form.values
+pub run_of-within : (form : RunForm) → IsRunForm form → (n : ℕ) → n < 1024 → run_of form.starts n < length form.values
 run_of-within form f n h = omega (arith, f.count, count_below-rises (λ i. has form.starts (suc i)) n 1023 (omega arith))
 
 -- within a run the value stays
@@ -220,7 +220,3 @@ differ-from_least form f e k h same =
 pub changes_at-is : (v : ℕ → ℤ) (n : ℕ) → changes_at v n ≡ not (int_eq (v n) (v (n - 1)))
 changes_at-is v zero = changes_at-first v ∙ sym (not_from_true _ ((Decides-int_eq (v 0) (v 0)).1 refl))
 changes_at-is v (suc n) = changes_at-suc v n ∙ ap (λ m. not (int_eq (v (suc n)) (v m))) (let e : n ≡ suc n - 1 = omega arith in e)
-
--- a form's values at all rows
-pub run_value-end : (form : RunForm) → IsRunForm form → (n : ℕ) → n < 1024 → run_of form.starts n < length form.values
-run_value-end form f n h = run_of-within form f n h

@@ -7,7 +7,7 @@ use Rattle.transpose_order.specs.Place.{IsLaneWidth, lane_of, step_of}
 use Rattle.bit_interleave.specs.Arithmetic.{least_width}
 use Rattle.bit_interleave.specs.Packing.{packed_value}
 use Rattle.bit_interleave.specs.PackedWords.{PackedWords, FitLanes, HasWidth, words_packing}
-use Rattle.run_dictionary.specs.Range.{AreInRange, value_of}
+use Rattle.bit_interleave.specs.Range.{AreInRange, value_at}
 
 -- a value put into its place in an ascending list, once
 abbrev pub with_value : ℤ → List ℤ → List ℤ
@@ -21,7 +21,7 @@ distinct (v ∷ vs) = with_value v (distinct vs)
 
 -- each value is less than the next
 abbrev pub IsAscending : List ℤ → Type 0
-IsAscending values = (k : ℕ) → k + 1 < length values → value_of values k <ℤ value_of values (k + 1)
+IsAscending values = (k : ℕ) → k + 1 < length values → value_at values k <ℤ value_at values (k + 1)
 
 -- a dictionary form: the lane width, the bits of a code, the values of the dictionary, and the codes packed in lanes of 16 bits
 pub record DictForm : Type 0 where
@@ -36,7 +36,7 @@ code_at form n = packed_value 16 form.width form.codes.numbers (lane_of 16 n) (s
 
 -- the value at row n is the dictionary's value at the row's code
 abbrev pub dict_value : DictForm → ℕ → ℤ
-dict_value form n = value_of form.values (code_at form n)
+dict_value form n = value_at form.values (code_at form n)
 
 -- a form that stands for 1024 values: the dictionary ascends, and each code is a place in it
 pub record IsDictForm (form : DictForm) : Type 0 where
@@ -69,7 +69,7 @@ dict_bytes form = length form.values * form.lane_width / 8 + 128 * form.width
 -- the least form of 1024 values stands for them
 abbrev pub LeastDictGivesBack : Type 0
 LeastDictGivesBack =
-    (t n : ℕ) (values : List ℤ) → length values ≡ 1024 → n < 1024 → dict_value (least_dict t values) n ≡ value_of values n
+    (t n : ℕ) (values : List ℤ) → length values ≡ 1024 → n < 1024 → dict_value (least_dict t values) n ≡ value_at values n
 
 -- of all forms that stand for the same values the least one has the fewest values, and no form's width is too small for them
 abbrev pub LeastDictIsFewest : Type 0

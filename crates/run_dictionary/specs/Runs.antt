@@ -4,7 +4,7 @@ use Rattle.std.specs.List.{range_with_len}
 use Rattle.std.specs.Ordering.{int_eq}
 use Rattle.transpose_order.specs.Mask.{rows_of, has, count_below}
 use Rattle.transpose_order.specs.Place.{IsLaneWidth}
-use Rattle.run_dictionary.specs.Range.{AreInRange, value_of}
+use Rattle.bit_interleave.specs.Range.{AreInRange, value_at}
 
 -- a run-length form: the lane width, the rows where a run starts after row 0, and the values of the runs in order
 pub record RunForm : Type 0 where
@@ -40,8 +40,8 @@ changed_values value n = map value (filter (λ row. (row == 0) || changes_at val
 abbrev pub least_runs : ℕ → List ℤ → RunForm
 least_runs t values = record {
   lane_width = t;
-  starts = rows_of (changes_at (value_of values));
-  values = changed_values (value_of values) 1024;
+  starts = rows_of (changes_at (value_at values));
+  values = changed_values (value_at values) 1024;
 }
 
 -- the bytes of a form's payload: the start mask and the values of the runs
@@ -51,7 +51,7 @@ run_bytes form = 128 + length form.values * form.lane_width / 8
 -- the least form of 1024 values stands for them
 abbrev pub LeastRunsGiveBack : Type 0
 LeastRunsGiveBack =
-    (t n : ℕ) (values : List ℤ) → length values ≡ 1024 → n < 1024 → run_value (least_runs t values) n ≡ value_of values n
+    (t n : ℕ) (values : List ℤ) → length values ≡ 1024 → n < 1024 → run_value (least_runs t values) n ≡ value_at values n
 
 -- of all forms that stand for the same values the least one has the fewest runs
 abbrev pub LeastRunsAreFewest : Type 0

@@ -2,7 +2,7 @@
 ghost use Rattle.std.specs.Prelude.{◌≡◌, ◌↔◌, ℕ, ◌<◌, ◌≤◌, true, false, IsTrue, map, take, length, slice_index, slice_index_or, Contains};
 ghost use Rattle.std.specs.List.{All};
 ghost use Rattle.transpose_order.specs.Mask.{rows_of};
-ghost use Rattle.run_dictionary.specs.Range.{value_of};
+ghost use Rattle.bit_interleave.specs.Range.{value_at};
 ghost use Rattle.run_dictionary.specs.Dict.{distinct, IsAscending, code_of};
 
 use crate::run_words::{count_changes, write_changed};
@@ -44,7 +44,7 @@ fn place_of(dictionary: &[i64], value: i64) -> usize
 /// Writes the place of each row's value in a dictionary that has it.
 pub(crate) fn write_codes(dictionary: &[i64], values: &[i64; 1024], into: &mut [u64; 1024])
     requires rises { IsAscending dictionary.now }
-    requires members { (n : ℕ) → n < 1024 → Contains dictionary.now (value_of values.now n) }
+    requires members { (n : ℕ) → n < 1024 → Contains dictionary.now (value_at values.now n) }
     ensures codes { into.new ≡ map (code_of dictionary.now) values.now }
     ensures bound { (n : ℕ) → n < 1024 → slice_index into.new n < length dictionary.now }
 {
@@ -56,7 +56,7 @@ pub(crate) fn write_codes(dictionary: &[i64], values: &[i64; 1024], into: &mut [
 /// Writes the dictionary's value at each row's code.
 pub(crate) fn write_values(dictionary: &[i64], codes: &[u64; 1024], into: &mut [i64; 1024])
     requires { (n : ℕ) → n < 1024 → slice_index codes.now n < length dictionary.now }
-    ensures { into.new ≡ rows_of (λ n. value_of dictionary.now (slice_index codes.now n)) }
+    ensures { into.new ≡ rows_of (λ n. value_at dictionary.now (slice_index codes.now n)) }
 {
     for row in 0..1024 {
         into[row] = dictionary[codes[row] as usize];

@@ -3,7 +3,7 @@ ghost use Rattle.std.specs.Prelude.{◌≡◌, ℕ, ◌<◌, ◌≤◌, ◌↔�
 ghost use Rattle.transpose_order.specs.Mask.{rows_of};
 ghost use Rattle.transpose_order.specs.Place.{IsLaneWidth};
 ghost use Rattle.bit_interleave.specs.PackedWords.{HasWidth};
-ghost use Rattle.run_dictionary.specs.Range.{AreInRange};
+ghost use Rattle.bit_interleave.specs.Range.{AreInRange};
 ghost use Rattle.run_dictionary.specs.Dict.{IsDictForm, IsAscending, code_at, dict_value, least_dict, dict_bytes, LeastDictGivesBack, LeastDictIsFewest};
 
 use crate::codes::{all_used, count_distinct, write_codes, write_distinct, write_values};
@@ -12,7 +12,8 @@ use std::alloc::{AllocError, Global};
 use std::marker::Model;
 use transpose_order::place;
 
-/// 1024 values as a dictionary of ascending values and the place of each row's value in it, packed in lanes of 16 bits.
+/// A vector of 1024 signed integers of 8, 16, 32 or 64 bits as a dictionary of ascending values, and the place of each row's
+/// value in it, packed in lanes of 16 bits whatever the lane width is (FastLanes, VLDB 2023, dictionary coding).
 #[derive(Drop)]
 pub struct Dict {
     lane_width: usize,
@@ -32,7 +33,8 @@ impl Model for Dict {
 }
 
 impl Dict {
-    /// The bytes of the payload of the values' least form.
+    /// The bytes that `encode` would take for the payload: `lane_width / 8` for each distinct value, and 128 for each bit of a
+    /// code. The 1024 values, in row order, are in the range of `lane_width` bits, signed, which are 8, 16, 32 or 64.
     pub fn size(values: &[i64; 1024], lane_width: usize) -> u16
         requires width { IsLaneWidth lane_width }
         requires range { AreInRange lane_width values.now }
@@ -42,7 +44,8 @@ impl Dict {
         (count * lane_width / 8 + 128 * width_of(count as u64 - 1)) as u16
     }
 
-    /// The least form of 1024 values: their distinct values, and the least width for the greatest code.
+    /// The least form of 1024 values: their distinct values, and the least width for the greatest code. The values, in row order,
+    /// are in the range of `lane_width` bits, signed, which are 8, 16, 32 or 64. Where memory is refused, an `AllocError`.
     pub fn encode(
         alloc: Global,
         values: &[i64; 1024],
@@ -66,7 +69,9 @@ impl Dict {
         })
     }
 
-    /// The dictionary of these parts: the values ascend, and each row's code is a place among them.
+    /// The vector with these parts: at most 1024 values, which ascend and are in the range of `lane_width` bits, signed, and
+    /// `64 * width` words of 16 bits of which each row's code is a place among the values. A value may have no row, so it need not
+    /// be the least form.
     pub fn from_parts(lane_width: usize, width: usize, values: Vec<i64>, codes: Words) -> Self
         requires lane_width { IsLaneWidth lane_width }
         requires words { codes.lane_width ≡ 16 }
@@ -87,7 +92,7 @@ impl Dict {
         }
     }
 
-    /// Writes the values of the 1024 rows.
+    /// Writes the 1024 values in row order, each in the range of the lane width.
     pub fn decode(&self, values: &mut [i64; 1024])
         ensures { values.new ≡ rows_of (dict_value self.now) }
     {
@@ -106,14 +111,14 @@ impl Dict {
         self.values[codes[lane % 16] as usize]
     }
 
-    /// The bytes of the payload.
+    /// The payload's bytes: `lane_width / 8` for each value of the dictionary, and 128 for each bit of a code.
     pub fn bytes_len(&self) -> u16
         ensures { result ≡ dict_bytes self.now }
     {
         (self.values.len() * self.lane_width / 8 + 128 * self.width) as u16
     }
 
-    /// Whether this is the least form of the values that it stands for.
+    /// Whether this is the least form of the values that it decodes to, part for part.
     pub fn is_least(&self) -> bool
         ensures { IsTrue result ↔ (self.now ≡ least_dict self.now.lane_width (rows_of (dict_value self.now))) }
     {
@@ -123,7 +128,7 @@ impl Dict {
         self.width == width_of(count as u64 - 1) && all_used(&codes, count)
     }
 
-    /// The same dictionary and codes in memory of their own.
+    /// The same vector in memory of its own. Where memory is refused, an `AllocError`.
     pub fn copy(&self, alloc: Global) -> Result<Self, AllocError>
         ensures { IfOk result (λ d. d ≡ self.now) }
     {
@@ -135,7 +140,7 @@ impl Dict {
         })
     }
 
-    /// The bits of a lane of the column's values.
+    /// The lane width of the vector's values in bits: 8, 16, 32 or 64.
     pub fn lane_width(&self) -> usize
         ensures value { result ≡ self.now.lane_width }
         ensures form { IsDictForm self.now }
@@ -143,21 +148,21 @@ impl Dict {
         self.lane_width
     }
 
-    /// The bits of a code.
+    /// The width of a code in bits, from 0 to 16.
     pub fn width(&self) -> usize
         ensures { result ≡ self.now.width }
     {
         self.width
     }
 
-    /// The values of the dictionary in ascending order.
+    /// The values of the dictionary in ascending order, from 1 to 1024 of them, each in the range of the lane width, signed.
     pub fn values(&self) -> &[i64]
         ensures { result.now ≡ self.now.values }
     {
         &self.values
     }
 
-    /// The codes packed in lanes of 16 bits.
+    /// The codes packed in lanes of 16 bits, in `64 * width` words.
     pub fn codes(&self) -> &Words
         ensures { result.now ≡ self.now.codes }
     {

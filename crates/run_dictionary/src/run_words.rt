@@ -2,7 +2,7 @@
 ghost use Rattle.std.specs.Prelude.{◌≡◌, ◌≢◌, ◌==◌, ◌↔◌, ℕ, suc, ◌+◌, ◌*◌, ◌<◌, ◌≤◌, true, false, IsTrue, take, length, slice_index_or, ℤ, pos};
 ghost use Rattle.std.specs.Int.{bit_at};
 ghost use Rattle.transpose_order.specs.Mask.{rows_of, has, count_below};
-ghost use Rattle.run_dictionary.specs.Range.{value_of};
+ghost use Rattle.bit_interleave.specs.Range.{value_at};
 ghost use Rattle.run_dictionary.specs.Runs.{changes_at, changed_values, run_of};
 
 use transpose_order::Mask;
@@ -10,14 +10,14 @@ use transpose_order::Mask;
 /// Whether a row's value differs from that of the row before.
 fn differs(values: &[i64; 1024], row: usize) -> bool
     requires { row < 1024 }
-    ensures { result ≡ changes_at (value_of values.now) row }
+    ensures { result ≡ changes_at (value_at values.now) row }
 {
     values[row] != values[row.saturating_sub(1)]
 }
 
 /// How many of 1024 values differ from the one before.
 pub(crate) fn count_changes(values: &[i64; 1024]) -> usize
-    ensures value { result ≡ count_below (λ i. changes_at (value_of values.now) (suc i)) 1023 }
+    ensures value { result ≡ count_below (λ i. changes_at (value_at values.now) (suc i)) 1023 }
     ensures bound { result < 1024 }
 {
     let mut count = 0;
@@ -32,7 +32,7 @@ pub(crate) fn count_changes(values: &[i64; 1024]) -> usize
 /// The bits of the 64 rows of word `j` whose value differs from the one before.
 fn changes_in_word(values: &[i64; 1024], j: usize) -> u64
     requires { j < 16 }
-    ensures { (p : ℕ) → p < 64 → (bit_at result p == 1) ≡ changes_at (value_of values.now) (64 * j + p) }
+    ensures { (p : ℕ) → p < 64 → (bit_at result p == 1) ≡ changes_at (value_at values.now) (64 * j + p) }
 {
     let mut word = 0u64;
     for p in 0..64 {
@@ -45,7 +45,7 @@ fn changes_in_word(values: &[i64; 1024], j: usize) -> u64
 
 /// The rows of 1024 values that differ from the one before.
 pub(crate) fn changes(values: &[i64; 1024]) -> Mask
-    ensures { result ≡ rows_of (changes_at (value_of values.now)) }
+    ensures { result ≡ rows_of (changes_at (value_at values.now)) }
 {
     let mut words = [0; 16];
     for j in 0..16 {
@@ -57,7 +57,7 @@ pub(crate) fn changes(values: &[i64; 1024]) -> Mask
 /// Writes the value of each run in turn, and answers how many there are.
 pub(crate) fn write_changed(values: &[i64; 1024], into: &mut [i64; 1024]) -> usize
     ensures bound { result ≤ 1024 }
-    ensures written { take result into.new ≡ changed_values (value_of values.now) 1024 }
+    ensures written { take result into.new ≡ changed_values (value_at values.now) 1024 }
 {
     into[0] = values[0];
     let mut count = 1;

@@ -1,71 +1,49 @@
 //! Runs and dictionaries at values worked out by hand from the definitions of the codings.
 ghost use Rattle.transpose_order.specs.Place.{IsLaneWidth};
-ghost use Rattle.run_dictionary.specs.Range.{AreInRange};
+ghost use Rattle.bit_interleave.specs.Range.{AreInRange};
 
 use super::*;
-use bit_interleave::Words;
+use bit_interleave::{Words, wrap};
 use std::alloc::Global;
 use std::process::Abort;
 use std::test::Fail;
 use transpose_order::Mask;
 
-/// 1024 values of 16 bits.
-fn of_16_bits<F: Fn(usize) -> i16>(value: F) -> [i64; 1024]
-    requires { F.IsAlwaysCallable value }
-    ensures { AreInRange 16 result }
+/// What a test's vector holds: multiples of a step, one number, two in turn, or one up to a row and another from it on.
+#[derive(Clone, Copy)]
+enum Pattern {
+    Ramp(u64),
+    All(u64),
+    Alternating(u64, u64),
+    ChangedAt(usize, u64, u64),
+}
+
+fn bits_at(pattern: Pattern, row: usize) -> u64 {
+    match pattern {
+        Pattern::Ramp(step) => step.wrapping_mul(row as u64),
+        Pattern::All(bits) => bits,
+        Pattern::Alternating(even, odd) => { if row % 2 == 0 { even } else { odd } }
+        Pattern::ChangedAt(change, before, after) => { if row < change { before } else { after } }
+    }
+}
+
+/// The vector of a pattern, each value cut to `lane_width` bits.
+fn column(lane_width: usize, pattern: Pattern) -> [i64; 1024]
+    requires { IsLaneWidth lane_width }
+    ensures { AreInRange lane_width result }
 {
     let mut values = [0; 1024];
     for row in 0..1024 {
-        values[row] = i64::from(value(row));
+        values[row] = wrap(lane_width, bits_at(pattern, row));
     }
     values
-}
-
-/// 1024 values of 32 bits.
-fn of_32_bits<F: Fn(usize) -> i32>(value: F) -> [i64; 1024]
-    requires { F.IsAlwaysCallable value }
-    ensures { AreInRange 32 result }
-{
-    let mut values = [0; 1024];
-    for row in 0..1024 {
-        values[row] = i64::from(value(row));
-    }
-    values
-}
-
-/// 1024 values of 64 bits.
-fn of_64_bits<F: Fn(usize) -> i64>(value: F) -> [i64; 1024]
-    requires { F.IsAlwaysCallable value }
-    ensures { AreInRange 64 result }
-{
-    let mut values = [0; 1024];
-    for row in 0..1024 {
-        values[row] = value(row);
-    }
-    values
-}
-
-/// 500 times 0, then 524 times 32767.
-fn two_runs() -> [i64; 1024]
-    ensures { AreInRange 16 result }
-{
-    of_16_bits(|row| if row < 500 { 0 } else { 32767 })
-}
-
-/// 0, 32767, 0, 32767 and so on.
-fn alternating() -> [i64; 1024]
-    ensures { AreInRange 16 result }
-{
-    of_16_bits(|row| if row % 2 == 0 { 0 } else { 32767 })
 }
 
 // Row 500 is bit 4 of byte 62, so bit 52 of word 7.
 #[test]
 fn two_runs_take_a_mask_with_one_start(rt: HostRuntime) -> Result<(), Fail> {
-    let values = two_runs();
+    let values = column(16, Pattern::ChangedAt(500, 0, 32767));
     let runs = Runs::encode(rt.alloc(), &values, 16)?;
-    assert_eq!(rt; Runs::size(&values, 16), 132);
-    assert_eq!(rt; runs.bytes_len(), 132);
     for j in 0..16 {
         let word = if j == 7 { 1 << 52 } else { 0 };
         assert_eq!(rt; runs.starts().words()[j], word);
@@ -75,17 +53,14 @@ fn two_runs_take_a_mask_with_one_start(rt: HostRuntime) -> Result<(), Fail> {
         (runs.lane_width(), runs.value(499), runs.value(500)),
         (16, 0, 32767)
     );
-    assert_eq!(rt; Dict::size(&values, 16), 132);
     Ok(())
 }
 
 // A lane has sixteen neighbouring rows, so each word of codes has its odd bits set.
 #[test]
 fn alternating_values_take_codes_of_one_bit(rt: HostRuntime) -> Result<(), Fail> {
-    let values = alternating();
+    let values = column(16, Pattern::Alternating(0, 32767));
     let dict = Dict::encode(rt.alloc(), &values, 16)?;
-    assert_eq!(rt; Dict::size(&values, 16), 132);
-    assert_eq!(rt; dict.bytes_len(), 132);
     assert_eq!(rt; (dict.lane_width(), dict.width()), (16, 1));
     assert_eq!(rt; dict.values(), [0, 32767].as_slice());
     assert_eq!(rt; (dict.value(0), dict.value(1023)), (0, 32767));
@@ -96,109 +71,141 @@ fn alternating_values_take_codes_of_one_bit(rt: HostRuntime) -> Result<(), Fail>
     Ok(())
 }
 
-// One value takes no code at all: 2 bytes at 16 bits.
-#[test]
-fn one_value_takes_codes_of_no_bit(rt: HostRuntime) -> Result<(), Fail> {
-    let values = of_16_bits(|_| 7);
-    let dict = Dict::encode(rt.alloc(), &values, 16)?;
-    assert_eq!(rt;
-        (Dict::size(&values, 16), dict.bytes_len(), dict.width()),
-        (2, 2, 0)
-    );
-    assert_eq!(rt;
-        (dict.values(), dict.codes().is_empty()),
-        ([7].as_slice(), true)
-    );
-    assert_eq!(rt; Runs::size(&values, 16), 130);
-    Ok(())
+/// Whether words are of one width and have the same numbers.
+fn are_same(left: &Words, right: &Words) -> bool {
+    if left.lane_width() != right.lane_width() || left.len() != right.len() {
+        return false;
+    }
+    for i in 0..left.len() {
+        if left.word(i) != right.word(i) {
+            return false;
+        }
+    }
+    true
 }
 
-/// That both codings of the values come back, are least, have the size foretold, and copy.
-fn check(
-    alloc: Global,
+/// A vector's least runs have `bytes` bytes and are the least, and their copy has their parts and decodes to the vector.
+fn runs_come_back(
     rt: &impl Abort,
-    values: &[i64; 1024],
+    alloc: Global,
     lane_width: usize,
-    runs_len: u16,
-    dict_len: u16,
+    values: &[i64; 1024],
+    bytes: u16,
 ) -> Result<(), Fail>
-    requires width { IsLaneWidth lane_width }
+    requires lane_width { IsLaneWidth lane_width }
     requires range { AreInRange lane_width values.now }
 {
-    let mut back = [0; 1024];
-    let runs = Runs::encode(alloc, values, lane_width)?.copy(alloc)?;
-    runs.decode(&mut back);
-    assert!(rt; back == *values && runs.is_least());
+    let runs = Runs::encode(alloc, values, lane_width)?;
     assert_eq!(rt;
-        (runs.bytes_len(), Runs::size(values, lane_width)),
-        (runs_len, runs_len)
+        (
+            Runs::size(values, lane_width),
+            runs.bytes_len(),
+            runs.is_least()
+        ),
+        (bytes, bytes, true)
     );
-    let mut back = [0; 1024];
-    let dict = Dict::encode(alloc, values, lane_width)?.copy(alloc)?;
-    dict.decode(&mut back);
-    assert!(rt; back == *values && dict.is_least());
-    assert_eq!(rt;
-        (dict.bytes_len(), Dict::size(values, lane_width)),
-        (dict_len, dict_len)
-    );
+    let copy = runs.copy(alloc)?;
+    assert_eq!(rt; copy.lane_width(), lane_width);
+    assert_eq!(rt; copy.starts().words(), runs.starts().words());
+    assert_eq!(rt; copy.values(), runs.values());
+    let mut back = [1; 1024];
+    copy.decode(&mut back);
+    assert_eq!(rt; back.as_slice(), values.as_slice());
     Ok(())
 }
 
-// The table: values, lane width, 128 + runs * T / 8, distinct values * T / 8 + 128 * least width.
+/// A vector's least dictionary has `bytes` bytes and is the least, and its copy has its parts and decodes to the vector.
+fn dict_comes_back(
+    rt: &impl Abort,
+    alloc: Global,
+    lane_width: usize,
+    values: &[i64; 1024],
+    bytes: u16,
+) -> Result<(), Fail>
+    requires lane_width { IsLaneWidth lane_width }
+    requires range { AreInRange lane_width values.now }
+{
+    let dict = Dict::encode(alloc, values, lane_width)?;
+    assert_eq!(rt;
+        (
+            Dict::size(values, lane_width),
+            dict.bytes_len(),
+            dict.is_least()
+        ),
+        (bytes, bytes, true)
+    );
+    let copy = dict.copy(alloc)?;
+    assert_eq!(rt;
+        (copy.lane_width(), copy.width()),
+        (lane_width, dict.width())
+    );
+    assert_eq!(rt; copy.values(), dict.values());
+    assert!(rt; are_same(copy.codes(), dict.codes()));
+    let mut back = [1; 1024];
+    copy.decode(&mut back);
+    assert_eq!(rt; back.as_slice(), values.as_slice());
+    Ok(())
+}
+
+/// A vector comes back from both codings, of which the first has `bytes[0]` bytes and the second `bytes[1]`.
+fn comes_back(
+    rt: &impl Abort,
+    alloc: Global,
+    lane_width: usize,
+    pattern: Pattern,
+    bytes: [u16; 2],
+) -> Result<(), Fail>
+    requires { IsLaneWidth lane_width }
+{
+    let values = column(lane_width, pattern);
+    runs_come_back(rt, alloc, lane_width, &values, bytes[0])?;
+    dict_comes_back(rt, alloc, lane_width, &values, bytes[1])
+}
+
+/// The least value alone, the greatest alone, the two in turn, and 1024 values, each with its bytes.
+fn extremes_come_back(
+    rt: &impl Abort,
+    alloc: Global,
+    lane_width: usize,
+    bytes: [[u16; 2]; 4],
+) -> Result<(), Fail>
+    requires { IsLaneWidth lane_width }
+{
+    let least = 1 << (lane_width - 1);
+    let greatest = least - 1;
+    comes_back(rt, alloc, lane_width, Pattern::All(least), bytes[0])?;
+    comes_back(rt, alloc, lane_width, Pattern::All(greatest), bytes[1])?;
+    let both = Pattern::Alternating(least, greatest);
+    comes_back(rt, alloc, lane_width, both, bytes[2])?;
+    comes_back(rt, alloc, lane_width, Pattern::Ramp(1), bytes[3])
+}
+
+// The bytes are 128 + runs * T / 8, and distinct values * T / 8 + 128 * width. A step of 2 ^ 64 - 1 is -1.
+#[test]
+fn vectors_have_their_bytes(rt: HostRuntime) -> Result<(), Fail> {
+    let alloc = rt.alloc();
+    for (pattern, bytes) in [
+        (Pattern::All(7), [130, 2]),
+        (Pattern::Ramp(1), [2176, 3328]),
+        (Pattern::Ramp(u64::MAX), [2176, 3328]),
+        (Pattern::ChangedAt(500, 0, 32767), [132, 132]),
+        (Pattern::Alternating(0, 32767), [2176, 132]),
+    ] {
+        comes_back(&rt, alloc, 16, pattern, bytes)?;
+    }
+    Ok(())
+}
+
+// One run or 1024; one value, two or 1024, of which the codes have no bit, one or ten.
 #[test]
 fn extreme_values_come_back(rt: HostRuntime) -> Result<(), Fail> {
-    check(rt.alloc(), &rt, &of_16_bits(|_| i16::MIN), 16, 130, 2)?;
-    check(rt.alloc(), &rt, &of_16_bits(|_| i16::MAX), 16, 130, 2)?;
-    check(
-        rt.alloc(),
-        &rt,
-        &of_16_bits(|row| if row % 2 == 0 { i16::MIN } else { i16::MAX }),
-        16,
-        2176,
-        132,
-    )?;
-    check(
-        rt.alloc(),
-        &rt,
-        &of_16_bits(|row| 512 - (row % 1024) as i16),
-        16,
-        2176,
-        3328,
-    )?;
-    check(rt.alloc(), &rt, &of_32_bits(|_| i32::MIN), 32, 132, 4)?;
-    check(
-        rt.alloc(),
-        &rt,
-        &of_32_bits(|row| if row % 2 == 0 { i32::MIN } else { i32::MAX }),
-        32,
-        4224,
-        136,
-    )?;
-    check(
-        rt.alloc(),
-        &rt,
-        &of_32_bits(|row| (row % 1024) as i32 * 1000),
-        32,
-        4224,
-        5376,
-    )?;
-    check(rt.alloc(), &rt, &of_64_bits(|_| i64::MIN), 64, 136, 8)?;
-    check(
-        rt.alloc(),
-        &rt,
-        &of_64_bits(|row| if row % 2 == 0 { i64::MIN } else { i64::MAX }),
-        64,
-        8320,
-        144,
-    )?;
-    check(
-        rt.alloc(),
-        &rt,
-        &of_64_bits(|row| (row % 1024) as i64 - 512),
-        64,
-        8320,
-        9472,
-    )
+    let alloc = rt.alloc();
+    let bytes = [[130, 2], [130, 2], [2176, 132], [2176, 3328]];
+    extremes_come_back(&rt, alloc, 16, bytes)?;
+    let bytes = [[132, 4], [132, 4], [4224, 136], [4224, 5376]];
+    extremes_come_back(&rt, alloc, 32, bytes)?;
+    let bytes = [[136, 8], [136, 8], [8320, 144], [8320, 9472]];
+    extremes_come_back(&rt, alloc, 64, bytes)
 }
 
 /// The runs of parts that stood in bytes, where they agree.

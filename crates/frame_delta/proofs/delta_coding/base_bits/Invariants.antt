@@ -1,7 +1,7 @@
 -- The bits of the bases so far.
 use Rattle.std.proofs.Common.{◌≡◌, ℕ, ◌+◌, ◌<◌, length, slice_index}
 use Rattle.std.specs.Int.{w64, cast_unsigned}
-use Rattle.frame_delta.specs.Extremes.{value_at}
+use Rattle.bit_interleave.specs.Range.{value_at}
 use Rattle.frame_delta.proofs.delta_coding.base_bits.Given as goal
 
 abbrev pub invariant-loop-i : goal.invariant-loop-i

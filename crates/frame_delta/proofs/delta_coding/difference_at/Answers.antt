@@ -3,7 +3,7 @@ use Rattle.std.proofs.Common.{◌-◌, pos, ◌-ℤ◌, slice_index_or, of_z, to
 use Rattle.std.specs.Int.{w64, int_wrap}
 use Rattle.std.proofs.lemmas.Int.{to_z-of_z}
 use Rattle.bit_interleave.specs.Arithmetic.{integer_width}
-use Rattle.frame_delta.specs.Extremes.{value_at}
+use Rattle.bit_interleave.specs.Range.{value_at}
 use Rattle.frame_delta.specs.Delta.{difference_at}
 use Rattle.frame_delta.proofs.delta_coding.difference_at.Goals as goal
 

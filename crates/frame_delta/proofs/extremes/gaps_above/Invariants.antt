@@ -1,7 +1,7 @@
 -- The gaps so far.
 use Rattle.std.proofs.Common.{◌≡◌, ℕ, ◌<◌, length, slice_index}
 use Rattle.std.specs.Int.{int_gap}
-use Rattle.frame_delta.specs.Extremes.{value_at}
+use Rattle.bit_interleave.specs.Range.{value_at}
 use Rattle.frame_delta.proofs.extremes.gaps_above.Given as goal
 
 abbrev pub invariant-loop-n : goal.invariant-loop-n

@@ -2,7 +2,8 @@
 use Rattle.std.proofs.Common.{◌≡◌, pos, slice_index_or, of_z, to_z, rules, arith, sym, ap, ◌∙◌, true, FitsSigned, add-one}
 use Rattle.std.specs.Int.{w64, int_min, int_max}
 use Rattle.std.proofs.lemmas.Int.{to_z-of_z}
-use Rattle.frame_delta.specs.Extremes.{value_at, least_among, greatest_among}
+use Rattle.bit_interleave.specs.Range.{value_at}
+use Rattle.frame_delta.specs.Extremes.{least_among, greatest_among}
 use Rattle.frame_delta.specs.Frame.{least_value, greatest_value}
 use Rattle.frame_delta.proofs.ExtremeLemmas.{least_among-zero, least_among-suc, greatest_among-zero, greatest_among-suc}
 use Rattle.frame_delta.proofs.extremes.range_of.Goals as goal

@@ -1,6 +1,7 @@
 -- The least and the greatest of the values so far.
 use Rattle.std.proofs.Common.{◌≡◌, true}
-use Rattle.frame_delta.specs.Extremes.{least_among, greatest_among, value_at}
+use Rattle.bit_interleave.specs.Range.{value_at}
+use Rattle.frame_delta.specs.Extremes.{least_among, greatest_among}
 use Rattle.frame_delta.proofs.extremes.range_of.Given as goal
 
 abbrev pub invariant-loop-n : goal.invariant-loop-n

@@ -2,7 +2,7 @@
 use Rattle.std.proofs.Common.{◌≡◌, ◌≢◌, ℕ, ◌+◌, ◌*◌, ◌%◌, ◌<◌, pos, length, slice_index}
 use Rattle.std.specs.Int.{int_wrap}
 use Rattle.bit_interleave.specs.Arithmetic.{integer_width}
-use Rattle.frame_delta.specs.Extremes.{value_at}
+use Rattle.bit_interleave.specs.Range.{value_at}
 use Rattle.frame_delta.proofs.pieces.put_wrapped.Given as goal
 
 abbrev pub invariant-loop-i : goal.invariant-loop-i

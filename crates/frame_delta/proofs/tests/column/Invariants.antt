@@ -2,7 +2,7 @@
 use Rattle.std.proofs.Common.{◌≡◌, ℕ, ◌<◌, length}
 use Rattle.std.specs.Int.RustNames.{FitsSigned}
 use Rattle.bit_interleave.specs.Arithmetic.{integer_width}
-use Rattle.frame_delta.specs.Extremes.{value_at}
+use Rattle.bit_interleave.specs.Range.{value_at}
 use Rattle.frame_delta.proofs.tests.column.Given as goal
 
 abbrev pub invariant-loop-row : goal.invariant-loop-row

@@ -5,7 +5,7 @@ use Rattle.std.proofs.lemmas.Int.{to_z-of_z}
 use Rattle.std.proofs.lemmas.List.{length-map}
 use Rattle.std.proofs.lemmas.List.Edits.{fill_by_more}
 use Rattle.std.proofs.lemmas.Grind.{same_number_lists}
-use Rattle.run_dictionary.specs.Range.{value_of}
+use Rattle.bit_interleave.specs.Range.{value_at}
 use Rattle.run_dictionary.specs.Dict.{code_of}
 use Rattle.run_dictionary.proofs.OrderLemmas.{member_from_Contains}
 use Rattle.run_dictionary.proofs.DictLemmas.{Ascends-from_neighbours, code_of_member, get_or-map_zero}
@@ -13,20 +13,20 @@ use Rattle.run_dictionary.proofs.codes.write_codes.Goals as goal
 
 pub place_of-requires-clause-member : goal.place_of-requires-clause-member
 place_of-requires-clause-member c =
-    let value = value_of c.args.values.now c.loop-row.row in
+    let value = value_at c.args.values.now c.loop-row.row in
     let fits : FitsSigned w64 value = search rules in
     subst (λ (z : ℤ). Contains c.args.dictionary.now z) (sym (to_z-of_z w64 value fits)) (c.requires.members c.loop-row.row c.loop-row-test.true)
 
 pub loop-row-preserved : goal.loop-row-preserved
 loop-row-preserved c =
-    let value = value_of c.args.values.now c.loop-row.row in
+    let value = value_at c.args.values.now c.loop-row.row in
     let fits : FitsSigned w64 value = search rules in
     let place : c.place_of.result ≡ code_of c.args.dictionary.now value = c.place_of.ensures.place ∙ ap (code_of c.args.dictionary.now) (to_z-of_z w64 value fits) in
     record {
       long = search rules;
       written = λ n h.
           ap (λ x. slice_index (set c.loop-row.into c.loop-row.row x) n) place
-          ∙ fill_by_more (λ n. code_of c.args.dictionary.now (value_of c.args.values.now n)) c.loop-row.into c.loop-row.row 0 (omega (arith, c.loop-row.invariant.long)) c.loop-row.invariant.written n h;
+          ∙ fill_by_more (λ n. code_of c.args.dictionary.now (value_at c.args.values.now n)) c.loop-row.into c.loop-row.row 0 (omega (arith, c.loop-row.invariant.long)) c.loop-row.invariant.written n h;
     }
 
 pub returns-clause-codes : goal.returns-clause-codes
@@ -38,6 +38,6 @@ returns-clause-codes c =
 
 pub returns-clause-bound : goal.returns-clause-bound
 returns-clause-bound c = λ n h.
-    let value = value_of c.args.values.now n in
+    let value = value_at c.args.values.now n in
     let code = code_of_member c.args.dictionary.now value (Ascends-from_neighbours c.args.dictionary.now c.requires.rises) (member_from_Contains c.args.dictionary.now value (c.requires.members n h)) in
     omega (arith, c.loop-row.invariant.written n (omega arith), code.0)

@@ -2,14 +2,14 @@
 use Rattle.std.proofs.Common.{rules, ◌+◌, FitsSigned, take, set, sym, ap, ◌∙◌, arith}
 use Rattle.std.specs.Int.{w64}
 use Rattle.std.proofs.lemmas.Int.{to_z-of_z}
-use Rattle.run_dictionary.specs.Range.{value_of}
+use Rattle.bit_interleave.specs.Range.{value_at}
 use Rattle.run_dictionary.proofs.StepLemmas.{changed_values-stay, changed_values-push, changed_values-first}
 use Rattle.run_dictionary.proofs.run_words.write_changed.Goals as goal
 use Rattle.run_dictionary.proofs.run_words.write_changed.Goals.{then-differs, else-differs}
 
 pub loop-row-init : goal.loop-row-init
 loop-row-init c =
-    let v = value_of c.args.values.now in
+    let v = value_at c.args.values.now in
     let fits : FitsSigned w64 (v 0) = search rules in
     record {
       long = search rules;
@@ -19,7 +19,7 @@ loop-row-init c =
 
 pub loop-row-preserved : goal.loop-row-preserved
 loop-row-preserved c =
-    let v = value_of c.args.values.now in
+    let v = value_at c.args.values.now in
     let row = c.loop-row.row in
     elim c.if-differs.branch [
       | then-differs w ↦

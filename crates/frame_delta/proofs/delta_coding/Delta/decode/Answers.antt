@@ -6,7 +6,7 @@ use Rattle.std.proofs.lemmas.Bool.{cases_lt}
 use Rattle.bit_interleave.specs.Arithmetic.{integer_width}
 use Rattle.bit_interleave.specs.Packing.{packed_value}
 use Rattle.bit_interleave.proofs.SixteenLemmas.{get_or-sixteen_of}
-use Rattle.frame_delta.specs.Extremes.{value_at}
+use Rattle.bit_interleave.specs.Range.{value_at}
 use Rattle.frame_delta.specs.Delta.{DeltaCoded, sum_to, delta_at, delta_values}
 use Rattle.frame_delta.proofs.PieceRows.{pieces_more, rows_from_pieces}
 use Rattle.frame_delta.proofs.DeltaLemmas.{sums_step, sums_start, next_piece, group_is_there, wide_fits}

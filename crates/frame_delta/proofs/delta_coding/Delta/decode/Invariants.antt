@@ -4,7 +4,7 @@ use Rattle.std.specs.Int.{int_wrap}
 use Rattle.transpose_order.specs.Place.{place_of}
 use Rattle.bit_interleave.specs.Arithmetic.{integer_width}
 use Rattle.bit_interleave.specs.Packing.{packed_value}
-use Rattle.frame_delta.specs.Extremes.{value_at}
+use Rattle.bit_interleave.specs.Range.{value_at}
 use Rattle.frame_delta.specs.Delta.{sum_to}
 use Rattle.frame_delta.proofs.delta_coding.Delta.decode.Given as goal
 

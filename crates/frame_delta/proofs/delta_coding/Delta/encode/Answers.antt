@@ -24,7 +24,7 @@ invariant_of-result c =
     let values = c.args.values.now in
     let fits : FitsSigned w64 c.of-least.result.least = search rules in
     let least = to_z-of_z w64 c.of-least.result.least fits ∙ c.of-least.ensures.least in
-    let bases = c.in_ok-bases.ensures ∙ ap (λ r. bases_of t r values) least in
+    let bases = c.in_ok-bases.ensures.items ∙ ap (λ r. bases_of t r values) least in
     subst (λ (z : ℤ). IsDelta c.in_ok-words.words c.of-least.result.width z c.in_ok-bases.bases.items) (sym least)
     (subst (λ (bs : List ℤ). IsDelta c.in_ok-words.words c.of-least.result.width (least_difference t values) bs) (sym bases)
     (subst (λ (p : PackedWords). IsDelta p c.of-least.result.width (least_difference t values) (bases_of t (least_difference t values) values)) (sym c.in_ok-words.ensures)
@@ -34,4 +34,4 @@ pub returns : goal.returns
 returns c =
     let fits : FitsSigned w64 c.of-least.result.least = search rules in
     delta_from_parts c.args.lane_width c.args.values.now c.in_ok-words.words c.of-least.result.width (to_z w64 (of_z w64 c.of-least.result.least)) c.in_ok-bases.bases.items c.later_gaps-gaps.result c.in_ok-words.ensures c.of-least.ensures.width
-    (to_z-of_z w64 c.of-least.result.least fits ∙ c.of-least.ensures.least) c.in_ok-bases.ensures c.later_gaps-gaps.ensures
+    (to_z-of_z w64 c.of-least.result.least fits ∙ c.of-least.ensures.least) c.in_ok-bases.ensures.items c.later_gaps-gaps.ensures

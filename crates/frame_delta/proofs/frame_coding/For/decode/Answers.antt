@@ -5,7 +5,7 @@ use Rattle.std.proofs.lemmas.Int.{to_z-of_z}
 use Rattle.bit_interleave.specs.Arithmetic.{integer_width}
 use Rattle.bit_interleave.specs.Packing.{packed_value}
 use Rattle.bit_interleave.proofs.SixteenLemmas.{get_or-sixteen_of}
-use Rattle.frame_delta.specs.Extremes.{value_at}
+use Rattle.bit_interleave.specs.Range.{value_at}
 use Rattle.frame_delta.specs.Frame.{FrameCoded, frame_value, frame_values}
 use Rattle.frame_delta.proofs.PieceRows.{pieces_more, rows_from_pieces, wrapped_sum}
 use Rattle.frame_delta.proofs.frame_coding.For.decode.Goals as goal

@@ -4,7 +4,7 @@ use Rattle.std.specs.List.{All}
 use Rattle.std.proofs.lemmas.List.{length-take}
 use Rattle.bit_interleave.specs.Arithmetic.{least_width}
 use Rattle.bit_interleave.specs.PackedWords.{words_packing}
-use Rattle.run_dictionary.specs.Range.{value_of}
+use Rattle.bit_interleave.specs.Range.{value_at}
 use Rattle.run_dictionary.specs.Dict.{DictForm, IsDictForm, IsAscending, distinct, code_of, least_dict}
 use Rattle.run_dictionary.proofs.OrderLemmas.{Has-get_or, Ascends-distinct, Has-distinct, Contains-from_member}
 use Rattle.run_dictionary.proofs.DictLemmas.{neighbours-from_Ascends, IsDictForm-least, least_code_width-le, code_fits}
@@ -16,7 +16,7 @@ write_codes-requires-clause-rises c =
 
 pub write_codes-requires-clause-members : goal.write_codes-requires-clause-members
 write_codes-requires-clause-members c = λ n h.
-    let value = value_of c.args.values.now n in
+    let value = value_at c.args.values.now n in
     subst (λ (xs : List ℤ). Contains xs value) (sym c.write_distinct-count.ensures.written)
     (Contains-from_member (distinct c.args.values.now) value (Has-distinct value c.args.values.now (Has-get_or c.args.values.now n (omega (arith, c.told-values)))))
 

@@ -2,7 +2,7 @@
 use Rattle.std.proofs.Common.{rules, FitsSigned, pos, ap, ◌∙◌, arith}
 use Rattle.std.specs.Int.{w64}
 use Rattle.std.proofs.lemmas.Int.{to_z-of_z}
-use Rattle.run_dictionary.specs.Range.{value_of}
+use Rattle.bit_interleave.specs.Range.{value_at}
 use Rattle.run_dictionary.specs.Dict.{DictForm, dict_value}
 use Rattle.run_dictionary.proofs.DictLemmas.{code_in_step}
 use Rattle.run_dictionary.proofs.dicts.Dict.value.Goals as goal
@@ -20,4 +20,4 @@ returns c =
     let fits : FitsSigned w64 c.index.result.now = search rules in
     to_z-of_z w64 c.index.result.now fits
     ∙ get_or_read form.values _ c.index.result.now (omega (arith, code, c.self.invariant.codes c.args.row c.requires)) c.index.ensures (pos 0)
-    ∙ ap (value_of form.values) code ∙ ap (λ f. dict_value f c.args.row) c.self.view_is
+    ∙ ap (value_at form.values) code ∙ ap (λ f. dict_value f c.args.row) c.self.view_is

@@ -1,6 +1,6 @@
 -- Each number so far has 16 bits.
 use Rattle.std.proofs.Common.{◌≡◌, ℕ, ◌<◌, ◌^◌, length, slice_index}
-use Rattle.frame_delta.proofs.tests.one_then_zeros.Given as goal
+use Rattle.frame_delta.proofs.tests.first_then_zeros.Given as goal
 
 abbrev pub invariant-loop-n : goal.invariant-loop-n
 invariant-loop-n l = record {

@@ -1,12 +1,12 @@
--- The values of a vector, and the values that a column of some width can hold.
+-- The values of a vector, and those that a column of so many bits can hold.
 use Rattle.std.specs.Prelude.{ℕ, ℤ, pos, FitsSigned, List, slice_index_or}
 use Rattle.std.specs.List.{All}
 use Rattle.bit_interleave.specs.Arithmetic.{integer_width}
 
--- every value of a list is a signed number of t bits
+-- each value of a list is in the range of t bits, signed
 abbrev pub AreInRange : ℕ → List ℤ → Type 0
 AreInRange t values = All (λ value. FitsSigned (integer_width t) value) values
 
--- the value at row n
-abbrev pub value_of : List ℤ → ℕ → ℤ
-value_of values n = slice_index_or values n (pos 0)
+-- the value at row n of a vector
+abbrev pub value_at : List ℤ → ℕ → ℤ
+value_at values n = slice_index_or values n (pos 0)

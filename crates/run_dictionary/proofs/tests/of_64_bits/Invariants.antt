@@ -1,7 +1,0 @@
--- the values so far have 64 bits
-use Rattle.std.proofs.Common.{◌≡◌, ℕ, ◌<◌, slice_index_or, length, pos, FitsSigned}
-use Rattle.std.specs.Int.{w64}
-use Rattle.run_dictionary.proofs.tests.of_64_bits.Given as goal
-
-abbrev pub invariant-loop-row : goal.invariant-loop-row
-invariant-loop-row g l = (length l.values ≡ 1024) × ((k : ℕ) → k < l.row → FitsSigned w64 (slice_index_or l.values k (pos 0)))
