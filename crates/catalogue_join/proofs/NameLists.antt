@@ -1,5 +1,6 @@
 -- The names of runs ascend: each has a rank, and the ranks climb.
 use Rattle.std.proofs.Common.{◌≡◌, ℕ, zero, suc, ◌+◌, ◌-◌, ◌*◌, ◌<◌, ◌≤◌, inl, inr, Bool, true, false, cond, not, Some, ◌&&◌, ◌||◌, eqb, leb, List, [], ◌∷◌, ◌++◌, length, take, drop, get_or, refl, sym, ap, ◌∙◌, arith}
+use Rattle.std.proofs.Math.Bool.{and-false}
 use Rattle.std.proofs.lemmas.Bool.{and_parts, leb-true, cond_both, or_from, and_right, cases_lt, cond-true, cond-false}
 use Rattle.std.proofs.lemmas.Bool.Decides.{nat_tests}
 use Rattle.std.proofs.lemmas.List.{length-append, append_assoc, append-nil, take-append-drop, take_more, drop_more}
@@ -19,7 +20,6 @@ use Rattle.catalogue_join.specs.Run.{name_at, names_from, run_length, names_of, 
 use Rattle.catalogue_join.specs.RunShape.{HasBounds, bounds_of}
 use Rattle.catalogue_join.specs.Held.{IsListOf, IsNameAt, lacks}
 use Rattle.catalogue_join.proofs.NameSets.{is_bounded, bounded_from, same_name, same_name_parts, contains-names_in}
-use Rattle.catalogue_join.proofs.RowSets.{and_false}
 use Rattle.catalogue_join.proofs.Spans.{rises_at, covers_within}
 
 -- a name's rank among all names
@@ -263,7 +263,7 @@ found_holds rs origin n s r small h fits =
     )
 
 pub missed_lacks : (rs : List Run) (q : BatchName) → Rises run_shape 0 rs → among run_shape rs (name_place q.origin q.number.0) ≡ false → lacks (names_in rs) q ≡ true
-missed_lacks rs q r none = ap not (contains-names_in rs q r ∙ ap (λ b. is_bounded q && b) none ∙ sym (and_false (is_bounded q)))
+missed_lacks rs q r none = ap not (contains-names_in rs q r ∙ ap (λ b. is_bounded q && b) none ∙ and-false (is_bounded q))
 
 -- the run that a read past the end of a list would give
 abbrev pub no_run : Run

@@ -1,5 +1,6 @@
 -- A name is in the set of a list of runs exactly where its place is among theirs.
 use Rattle.std.proofs.Common.{◌≡◌, ℕ, zero, suc, ◌+◌, ◌-◌, ◌*◌, ◌<◌, Bool, true, false, Option, None, Some, is_some, MatchOption, ◌&&◌, ◌||◌, eqb, ltb, leb, List, [], ◌∷◌, refl, sym, ap, ◌∙◌, arith}
+use Rattle.std.proofs.Math.Bool.{and-false, or_comm}
 use Rattle.std.proofs.lemmas.Bool.{and_parts, and_from, lt-ltb, leb-true}
 use Rattle.std.proofs.lemmas.Bool.Decides.{nat_tests}
 use Rattle.std.proofs.lemmas.List.Folds.{list_any-append}
@@ -15,7 +16,7 @@ use Rattle.catalogue_join.specs.declared.run.Run.{Run}
 use Rattle.catalogue_join.specs.Run.{name_at, names_from, run_length, names_of, names_listed, names_in, name_place, is_named_run, run_shape}
 use Rattle.catalogue_join.specs.RunShape.{bounds_of}
 use Rattle.catalogue_join.specs.Held.{IsFront}
-use Rattle.catalogue_join.proofs.RowSets.{and_over_or, and_false}
+use Rattle.catalogue_join.proofs.RowSets.{and_over_or}
 use Rattle.catalogue_join.proofs.Spans.{covers_within}
 
 -- names of batches that are the same by their order
@@ -54,7 +55,7 @@ names_of_any r q named =
     go o f l o' x ho hf hl = grind (arith, nat_tests)
 
 names_listed_any : (rs : List Run) (n : ℕ) (q : BatchName) → Rises run_shape n rs → list_any (same_name q) (names_listed rs) ≡ (is_bounded q && among run_shape rs (spot q))
-names_listed_any [] n q r = and_false (is_bounded q)
+names_listed_any [] n q r = sym (and-false (is_bounded q))
 names_listed_any (s ∷ rs) n q r =
     list_any-append (same_name q) (names_of s) (names_listed rs)
     ∙ ap (λ b. b || list_any (same_name q) (names_listed rs)) (names_of_any s q r.2)
@@ -80,12 +81,6 @@ one_place o n o' n' ho hn = grind (arith, nat_tests)
 pub same_name_parts : (q p : BatchName) → same_name q p ≡ (eqb q.origin.0 p.origin.0 && eqb q.number.0 p.number.0)
 same_name_parts q p = grind (arith, nat_tests)
 
-pub or_flip : (a b : Bool) → (a || b) ≡ (b || a)
-or_flip true true = refl
-or_flip true false = refl
-or_flip false true = refl
-or_flip false false = refl
-
 -- the set after a name came in
 pub names_in-put : (rs new : List Run) (name : BatchName) → Rises run_shape 0 rs → Rises run_shape 0 new → name.origin.0 < 4294967296 → name.number.0 < 4294967296
     → ((p : ℕ) → among run_shape new p ≡ (among run_shape rs p || covers run_shape (record { first = name; last = name.number }) p)) → names_in new ≡ set.insert (names_in rs) name
@@ -98,7 +93,7 @@ names_in-put rs new name rising risen origin number places =
     ∙ sym (and_over_or (is_bounded q) (among run_shape rs (spot q)) (covers run_shape one (spot q)))
     ∙ ap (λ b. b || (is_bounded q && covers run_shape one (spot q))) (sym (contains-names_in rs q rising))
     ∙ ap (λ b. set.contains (names_in rs) q || b) (one_place name.origin.0 name.number.0 q.origin.0 q.number.0 origin number ∙ sym (same_name_parts q name))
-    ∙ or_flip (set.contains (names_in rs) q) (same_name q name)
+    ∙ or_comm (set.contains (names_in rs) q) (same_name q name)
     ∙ sym (set.contains-insert names_total (names_in rs) name q))
 
 -- the set of two lists of runs that were joined
@@ -134,7 +129,7 @@ front_found rs origin s r small h =
       next_lacks =
           contains-names_in rs (name_at origin (s.last.0 + 1)) r
           ∙ ap (λ b. is_bounded (name_at origin (s.last.0 + 1)) && b) (ap (among run_shape rs) (next same) ∙ h.beyond)
-          ∙ sym (and_false (is_bounded (name_at origin (s.last.0 + 1))));
+          ∙ and-false (is_bounded (name_at origin (s.last.0 + 1)));
     }
   where
     next : s.first.origin.0 ≡ origin.0 → name_place origin (s.last.0 + 1) ≡ run_shape.high s + 1
@@ -143,5 +138,5 @@ front_found rs origin s r small h =
 pub front_missed : (rs : List Run) (origin : Origin) → Rises run_shape 0 rs → among run_shape rs (name_place origin 1) ≡ false → IsFront (names_in rs) origin 0
 front_missed rs origin r lacks = record {
   all_before = λ n one le. absurd (omega arith);
-  next_lacks = contains-names_in rs (name_at origin 1) r ∙ ap (λ b. is_bounded (name_at origin 1) && b) lacks ∙ sym (and_false (is_bounded (name_at origin 1)));
+  next_lacks = contains-names_in rs (name_at origin 1) r ∙ ap (λ b. is_bounded (name_at origin 1) && b) lacks ∙ and-false (is_bounded (name_at origin 1));
 }

@@ -1,5 +1,6 @@
 -- A row is in the set of a list of ranges exactly where its place is among theirs.
 use Rattle.std.proofs.Common.{◌≡◌, ℕ, zero, suc, ◌+◌, ◌-◌, ◌*◌, ◌/◌, ◌%◌, ◌<◌, ◌≤◌, inl, inr, Bool, true, false, Option, None, Some, is_some, MatchOption, ◌&&◌, ◌||◌, eqb, ltb, leb, List, [], ◌∷◌, refl, sym, ap, ◌∙◌, arith}
+use Rattle.std.proofs.Math.Bool.{and-false}
 use Rattle.std.proofs.lemmas.Bool.{and_parts, and_from, or_from, cases_Bool, false≢true, leb-true, lt-ltb, ltb-true}
 use Rattle.std.proofs.lemmas.Bool.Decides.{nat_tests}
 use Rattle.std.proofs.lemmas.List.Folds.{list_any-append}
@@ -71,12 +72,8 @@ pub and_over_or : (a b c : Bool) → ((a && b) || (a && c)) ≡ (a && (b || c))
 and_over_or true b c = refl
 and_over_or false b c = refl
 
-pub and_false : (a : Bool) → false ≡ (a && false)
-and_false true = refl
-and_false false = refl
-
 rows_listed_any : (rs : List RowRange) (n : ℕ) (q : RowName) → Rises row_range_shape n rs → list_any (same_row q) (rows_listed rs) ≡ (is_bounded q && among row_range_shape rs (spot q))
-rows_listed_any [] n q r = and_false (is_bounded q)
+rows_listed_any [] n q r = sym (and-false (is_bounded q))
 rows_listed_any (s ∷ rs) n q r =
     list_any-append (same_row q) (rows_between s.0 s.1) (rows_listed rs)
     ∙ ap (λ b. b || list_any (same_row q) (rows_listed rs)) (rows_between_any s q ∙ in_range_covers s q r.2)

@@ -1,14 +1,11 @@
 -- Ranges that rise are told apart by plain arithmetic on their places; each law is an induction on the list.
 use Rattle.std.proofs.Common.{◌≡◌, ℕ, suc, zero, ◌+◌, ◌-◌, ◌<◌, ◌≤◌, inl, inr, Bool, true, false, not, ◌||◌, leb, List, [], ◌∷◌, ◌++◌, length, get_or, take, drop, min, max, refl, sym, ap, ◌∙◌, subst, add-zero, arith}
+use Rattle.std.proofs.Math.Bool.{or_assoc, or_comm}
 use Rattle.std.proofs.lemmas.Bool.{cases_lt, or_from, or_left, or_right, cond_both, leb-true, leb-false, ltb-true, ltb-false, le-ltb, lt-leb, false≢true, not-true, not_from_false}
 use Rattle.std.proofs.lemmas.List.{take-append-drop, drop_more, get_or-drop, get_or-take, length-drop, length-take, drop-drop, take_more, get_or_read}
 use Rattle.std.proofs.lemmas.Bool.Decides.{nat_tests}
 use Rattle.std.specs.List.Sorted.{IsNonDecreasingBy, IsPartitionedBy}
 use Rattle.catalogue_join.specs.Span.{Shape, IsShape, apart, covers, among, Rises, Ascends, merge, bridged_from, bridged, IsPlace, IsRangeAt, IsOverlap}
-
-pub or_assoc : (a b c : Bool) → (a || (b || c)) ≡ ((a || b) || c)
-or_assoc true b c = refl
-or_assoc false b c = refl
 
 pub or_first : (a b : Bool) → a ≡ false → (a || b) ≡ b
 or_first true b e = cc
@@ -17,12 +14,6 @@ or_first false b e = refl
 pub or_second : (a b : Bool) → b ≡ false → (a || b) ≡ a
 or_second true b e = refl
 or_second false b e = e
-
-pub or_comm : (a b : Bool) → (a || b) ≡ (b || a)
-or_comm true true = refl
-or_comm true false = refl
-or_comm false true = refl
-or_comm false false = refl
 
 module _ {S : Type 0} (shape : Shape S) where
   -- a place before a range, or past it, is not in it
@@ -43,7 +34,7 @@ module _ {S : Type 0} (shape : Shape S) where
 
   pub among-append : (ss ts : List S) (p : ℕ) → among shape (ss ++ ts) p ≡ (among shape ss p || among shape ts p)
   among-append [] ts p = refl
-  among-append (s ∷ ss) ts p = ap (λ b. covers shape s p || b) (among-append ss ts p) ∙ or_assoc (covers shape s p) (among shape ss p) (among shape ts p)
+  among-append (s ∷ ss) ts p = ap (λ b. covers shape s p || b) (among-append ss ts p) ∙ sym (or_assoc (covers shape s p) (among shape ss p) (among shape ts p))
 
   pub rises_lower : (ss : List S) (n m : ℕ) → Rises shape n ss → m ≤ n → Rises shape m ss
   rises_lower [] n m r h = tt
@@ -355,7 +346,7 @@ module _ {S : Type 0} (shape : Shape S) where
   among-merge (s ∷ ss) [] p = sym (or_second (among shape (s ∷ ss) p) false refl)
   among-merge (s ∷ ss) (t ∷ ts) p =
       cond_both (leb (shape.low s) (shape.low t)) (s ∷ merge shape ss (t ∷ ts)) (t ∷ merge shape (s ∷ ss) ts) (λ (xs : List S). among shape xs p ≡ (among shape (s ∷ ss) p || among shape (t ∷ ts) p))
-      (λ e. ap (λ b. covers shape s p || b) (among-merge ss (t ∷ ts) p) ∙ or_assoc (covers shape s p) (among shape ss p) (among shape (t ∷ ts) p))
+      (λ e. ap (λ b. covers shape s p || b) (among-merge ss (t ∷ ts) p) ∙ sym (or_assoc (covers shape s p) (among shape ss p) (among shape (t ∷ ts) p)))
       (λ e. ap (λ b. covers shape t p || b) (among-merge (s ∷ ss) ts p) ∙ or_swap (covers shape t p) (among shape (s ∷ ss) p) (among shape ts p))
     where
       or_swap : (a b c : Bool) → (a || (b || c)) ≡ (b || (a || c))
@@ -401,7 +392,7 @@ module _ {S : Type 0} (shape : Shape S) where
       (λ e. ap (λ b. covers shape s p || b) (among-bridged_from law ts t r.1 r.2 r.3 p))
       (λ e. let h = hull_of law s t named r.2 range r.1 r.0 e in
       among-bridged_from law ts (shape.hull s t) (omega (arith, h.low, h.high)) h.named (ascends_lower ts (shape.low t) (shape.low (shape.hull s t)) r.3 (omega (arith, h.low))) p
-      ∙ ap (λ b. b || among shape ts p) (h.places p) ∙ sym (or_assoc (covers shape s p) (covers shape t p) (among shape ts p)))
+      ∙ ap (λ b. b || among shape ts p) (h.places p) ∙ or_assoc (covers shape s p) (covers shape t p) (among shape ts p))
 
   -- the join of two lists of ranges rises, and has the places of both
   pub Rises-joined : IsShape shape → (ss ts : List S) → Rises shape 0 ss → Rises shape 0 ts → Rises shape 0 (bridged shape (merge shape ss ts))

@@ -132,7 +132,8 @@ impl Held {
         Ok(missing)
     }
 
-    // Appends the names of a run that this set lacks, in one step for each of them and for each run of this set.
+    // Appends the names of a run that this set lacks, by a binary search for each of them and for each run of this set that
+    // has a name of the run.
     fn push_lacking(&self, run: Run, names: &mut Vec<BatchName>) -> Result<(), AllocError>
         ensures { OnOk result (names.new.items ≡ names.old.items ++ filter (lacks self.now) (names_of run)) }
     {

@@ -12,7 +12,7 @@ mod span;
 mod tombs;
 
 pub use held::Held;
-pub use laws::names_have_one_order;
+pub use laws::{names_have_one_order, rows_have_one_list_of_ranges};
 pub use tombs::Tombs;
 
 #[cfg(test)]

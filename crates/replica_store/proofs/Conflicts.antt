@@ -1,31 +1,28 @@
 -- A conflict is at the first entry whose rows differ; entries are in order, so each lesser name is before it, and its rows agree.
-use Rattle.std.specs.Prelude.{◌≡◌, ◌≢◌, Bool, true, false, cond, not, T, List, [], ◌∷◌, Option, Some, None}
+use Rattle.std.specs.Prelude.{◌≡◌, ◌≢◌, true, false, cond, not, T, List, [], ◌∷◌, Option, Some, None}
 use Rattle.std.proofs.Common.{refl, sym, ap, subst, ◌∙◌, Less}
+use Rattle.std.proofs.lemmas.Bool.{not-false}
 use Rattle.std.specs.Ordering.{is_eq, eq_by_cmp}
-use Rattle.std.specs.Cmp.{tied_itself}
 use Rattle.std.specs.FinMap as map
 use Rattle.std.specs.FinMap.Entries.{is_sorted, below_all}
 use Rattle.table_model.specs.Name.{name_cmp}
 use Rattle.table_model.specs.State.{Batch, Agree, same_rows}
 use Rattle.table_model.specs.declared.names.BatchName.{BatchName}
 use Rattle.table_model.proofs.NameOrder.{names_total}
+use Rattle.table_model.proofs.Operations.{same_name, itself}
 use Rattle.table_model.proofs.SameRows.{one_batch, itself_batch}
 use Rattle.replica_store.specs.Replica.{Replica, entries_of, differs, conflict_with}
 use Rattle.replica_store.specs.MergeLaws.{IsLesser, conflict_of, AgreeAt, DifferAt, ConflictLaws}
 use Rattle.replica_store.proofs.Maps.{Entry, Sorted}
-use Rattle.replica_store.proofs.Merges.{one_name, below_from}
+use Rattle.replica_store.proofs.Merges.{below_from}
 use Rattle.replica_store.proofs.Places.{first_of_both, second_of_both, less_is, find_below, T_from_true}
-
-not_false : (b : Bool) → not b ≡ false → b ≡ true
-not_false true e = refl
-not_false false e = cc
 
 -- what doesn't differ from the rows is the rows
 same_held : (o : Option Batch) (rows a : Batch) → differs o rows ≡ false → o ≡ Some a → a ≡ rows
 same_held None rows a e is = cc
 same_held (Some held) rows a e is =
     let same : held ≡ a = cc in
-    let test = not_false (same_rows held rows) e in
+    let test = not-false (same_rows held rows) e in
     sym same ∙ one_batch held rows test
 
 -- rows differ where others are held
@@ -41,9 +38,6 @@ other_held (Some held) rows e = (
   ),
 )
 
-tied : (q : BatchName) → eq_by_cmp name_cmp q q ≡ true
-tied q = ap is_eq (tied_itself names_total q)
-
 tail_sorted : (e : Entry) (es : List Entry) → Sorted (e ∷ es) → Sorted es
 tail_sorted e es h = second_of_both (below_all name_cmp e.0 es) (is_sorted name_cmp es) h
 
@@ -55,7 +49,7 @@ found_later : (e : Entry) (es : List Entry) (q : BatchName) (v : Batch) → Sort
 found_later e es q v h found =
     elim (eq_by_cmp name_cmp q e.0) as (λ b. eq_by_cmp name_cmp q e.0 ≡ b → cond b (Some e.1) (map.find name_cmp q es) ≡ Some v) [
       | true ↦ λ t.
-          let none : map.find name_cmp q es ≡ None = ap (λ n. map.find name_cmp n es) (one_name q e.0 t) ∙ find_below name_cmp names_total e.0 es (head_below e es h) in cc
+          let none : map.find name_cmp q es ≡ None = ap (λ n. map.find name_cmp n es) (same_name q e.0 t) ∙ find_below name_cmp names_total e.0 es (head_below e es h) in cc
       | false ↦ λ t. found
     ] refl
 
@@ -68,7 +62,7 @@ conflict_at m (x ∷ es) name h e =
     (v : Batch) × ((map.find name_cmp name (x ∷ es) ≡ Some v) × (differs (map.get m name) v ≡ true))) [
       | true ↦ λ t is.
           let same : x.0 ≡ name = cc in
-          (x.1, (ap (λ n. map.find name_cmp n (x ∷ es)) (sym same) ∙ ap (λ b. cond b (Some x.1) (map.find name_cmp x.0 es)) (tied x.0), ap (λ n. differs (map.get m n) x.1) (sym same) ∙ t))
+          (x.1, (ap (λ n. map.find name_cmp n (x ∷ es)) (sym same) ∙ ap (λ b. cond b (Some x.1) (map.find name_cmp x.0 es)) (itself x.0), ap (λ n. differs (map.get m n) x.1) (sym same) ∙ t))
       | false ↦ λ t is.
           let later = conflict_at m es name (tail_sorted x es h) is in
           (later.0, (found_later x es name later.0 h later.1.0, later.1.1))
@@ -83,7 +77,7 @@ same_without m (x ∷ es) e q a b has found =
       | false ↦ λ t is. elim (eq_by_cmp name_cmp q x.0) as (λ d. eq_by_cmp name_cmp q x.0 ≡ d → cond d (Some x.1) (map.find name_cmp q es) ≡ Some b → a ≡ b) [
         | true ↦ λ at here.
             let rows : x.1 ≡ b = cc in
-            same_held (map.get m x.0) x.1 a t (ap (map.get m) (sym (one_name q x.0 at)) ∙ has) ∙ rows
+            same_held (map.get m x.0) x.1 a t (ap (map.get m) (sym (same_name q x.0 at)) ∙ has) ∙ rows
         | false ↦ λ at here. same_without m es is q a b has here
       ] refl found
     ] refl e
@@ -102,7 +96,7 @@ same_below m (x ∷ es) name h e q a b less has found =
       | false ↦ λ t is. elim (eq_by_cmp name_cmp q x.0) as (λ d. eq_by_cmp name_cmp q x.0 ≡ d → cond d (Some x.1) (map.find name_cmp q es) ≡ Some b → a ≡ b) [
         | true ↦ λ at here.
             let rows : x.1 ≡ b = cc in
-            same_held (map.get m x.0) x.1 a t (ap (map.get m) (sym (one_name q x.0 at)) ∙ has) ∙ rows
+            same_held (map.get m x.0) x.1 a t (ap (map.get m) (sym (same_name q x.0 at)) ∙ has) ∙ rows
         | false ↦ λ at here. same_below m es name (tail_sorted x es h) is q a b less has here
       ] refl found
     ] refl e

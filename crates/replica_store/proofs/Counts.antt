@@ -21,7 +21,7 @@ Deleted = set.FinSet row_name_cmp
 
 pub AllShort-fit : (t : Table) (es : List Entry) → AllFit t es → AllShort es
 AllShort-fit t [] h = tt
-AllShort-fit t (e ∷ es) h = let fit = h.0 in (fit.limit, AllShort-fit t es h.1)
+AllShort-fit t (e ∷ es) h = let here = h.0 in (here.fits.limit, AllShort-fit t es h.1)
 
 pub live_total-le : (d : Deleted) (es : List Entry) → AllShort es → live_total d es ≤ 65536 * length es
 live_total-le d [] h = omega arith

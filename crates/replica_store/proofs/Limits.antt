@@ -1,9 +1,9 @@
 -- The limits of a replica are kept: by a batch that goes in, and by a union; and what was decided before a batch goes in.
-use Rattle.std.specs.Prelude.{◌≡◌, ℕ, ◌+◌, ◌<◌, ◌≤◌, Bool, true, false, cond, ◌==◌, nat_lt, List, [], ◌∷◌, length, Option, Some, None, is_some, Result, Ok, Err}
+use Rattle.std.specs.Prelude.{◌≡◌, ℕ, zero, suc, ◌+◌, ◌<◌, ◌≤◌, Bool, true, false, cond, ◌==◌, nat_lt, List, [], ◌∷◌, length, Option, Some, None, is_some, Result, Ok, Err}
 use Rattle.std.proofs.Common.{refl, sym, ap, subst, ◌∙◌, arith, Less, Equal, Greater}
-use Rattle.std.specs.Ordering.{is_lt, is_eq, eq_by_cmp}
-use Rattle.std.specs.declared.cmp.Ordering.{Ordering}
+use Rattle.std.specs.Ordering.{is_lt, eq_by_cmp}
 use Rattle.std.specs.FinMap as map
+use Rattle.std.specs.List.{slice_get}
 use Rattle.std.specs.FinMap.Entries.{by_order}
 use Rattle.std.proofs.lemmas.Bool.Decides.{nat_tests, Decides-eqb}
 use Rattle.table_model.specs.Outcome.{unless}
@@ -15,22 +15,23 @@ use Rattle.table_model.specs.declared.names.BatchName.{BatchName}
 use Rattle.table_model.specs.declared.names.RowName.{RowName}
 use Rattle.table_model.specs.declared.refusal.Refusal.{Refusal}
 use Rattle.table_model.specs.declared.refusal.Refusal.TheVariants.{Conflict, Full, SchemaDiffers, NumbersSpent, BadName, BadRange, EmptyBatch, BatchTooLong}
-use Rattle.table_model.proofs.NameOrder.{names_total, exact_names}
+use Rattle.table_model.proofs.NameOrder.{names_total}
 use Rattle.table_model.proofs.Batches.{IsBatch-fault}
+use Rattle.table_model.proofs.Operations.{same_name}
 use Rattle.table_model.proofs.SameTable.{one_table}
 use Rattle.replica_store.specs.declared.inserted.Inserted.{Inserted}
 use Rattle.replica_store.specs.declared.inserted.Inserted.TheVariants.{New, Already}
 use Rattle.replica_store.specs.Entries.{merge}
-use Rattle.replica_store.specs.Replica.{Replica, AllFit, IsWithinLimits, entries_of, greatest_number, unless_fault, where_room, number_after, next_name, own_name, place_beside, place_for, lacked_by, merge_fault, conflict_or_full, conflict_with, delete_fault}
+use Rattle.replica_store.specs.Replica.{Replica, IsEntry, AllFit, IsWithinLimits, entries_of, greatest_number, unless_fault, where_room, number_after, next_name, own_name, place_beside, place_for, lacked_by, merge_fault, conflict_or_full, conflict_with, delete_fault}
 use Rattle.replica_store.proofs.Maps.{Entry, as_map, entries-as_map}
 use Rattle.replica_store.proofs.Merges.{as_map-merge, Sorted-union}
 
-AllFit-put : (t : Table) (q : BatchName) (v : Batch) (es : List Entry) → AllFit t es → IsBatch t v → AllFit t (map.put name_cmp q v es)
+AllFit-put : (t : Table) (q : BatchName) (v : Batch) (es : List Entry) → AllFit t es → IsEntry t (q, v) → AllFit t (map.put name_cmp q v es)
 AllFit-put t q v [] h fit = (fit, tt)
 AllFit-put t q v (e ∷ es) h fit =
     elim (name_cmp q e.0) as (λ r. AllFit t (by_order r ((q, v) ∷ e ∷ es) ((e.0, v) ∷ es) (e ∷ map.put name_cmp q v es))) [
       | Less ↦ (fit, h)
-      | Equal ↦ (fit, h.1)
+      | Equal ↦ let here = h.0 in (record { proper = here.proper; fits = fit.fits }, h.1)
       | Greater ↦ (h.0, AllFit-put t q v es h.1 fit)
     ]
 
@@ -51,6 +52,12 @@ AllFit-lacked t m (f ∷ fs) h =
       | false ↦ (h.0, AllFit-lacked t m fs h.1)
     ]
 
+-- the batch at a place
+pub IsEntry-at : (t : Table) (es : List Entry) (i : ℕ) (e : Entry) → AllFit t es → slice_get es i ≡ Some e → IsEntry t e
+IsEntry-at t [] i e h is = cc
+IsEntry-at t (x ∷ es) zero e h is = let here : x ≡ e = cc in subst (IsEntry t) here h.0
+IsEntry-at t (x ∷ es) (suc i) e h is = IsEntry-at t es i e h.1 is
+
 no_entries : (es : List Entry) → length es ≡ 0 → es ≡ []
 no_entries [] e = refl
 no_entries (x ∷ es) e = absurd (omega arith)
@@ -66,7 +73,7 @@ same_length : (m : map.FinMap name_cmp Batch) (q : BatchName) (v : Batch) → ma
 same_length m q v none = map.len-insert names_total m q v ∙ ap (λ (o : Option Batch). cond (is_some o) (map.len m) (map.len m + 1)) none
 
 -- a batch that goes in keeps the limits
-pub IsWithinLimits-insert : (t : Table) (m : map.FinMap name_cmp Batch) (q : BatchName) (v : Batch) → IsWithinLimits t m → map.get m q ≡ None → map.len m < 65536 → IsBatch t v → IsWithinLimits t (map.insert m q v)
+pub IsWithinLimits-insert : (t : Table) (m : map.FinMap name_cmp Batch) (q : BatchName) (v : Batch) → IsWithinLimits t m → map.get m q ≡ None → map.len m < 65536 → IsEntry t (q, v) → IsWithinLimits t (map.insert m q v)
 IsWithinLimits-insert t m q v h none room fit =
     let more = same_length m q v none in
     record { limit = omega (arith, more); fits = subst (AllFit t) (sym (map.entries-insert names_total m q v)) (AllFit-put t q v (map.entries m) h.fits fit) }
@@ -95,11 +102,6 @@ IsBatch-none t rows e =
       ] refl is
     ] refl e
 
-tied_is : (r : Ordering) → is_eq r ≡ true → r ≡ Equal
-tied_is Less e = cc
-tied_is Equal e = refl
-tied_is Greater e = cc
-
 -- a number past the greatest isn't held
 pub past_greatest : (own : Origin) (k : ℕ) (es : List Entry) → greatest_number own es < k → map.find name_cmp (record { origin = own; number = record { 0 = k } }) es ≡ None
 past_greatest own k [] less = refl
@@ -108,7 +110,7 @@ past_greatest own k (e ∷ es) less =
     let rest = past_greatest own k es (omega arith) in
     elim (eq_by_cmp name_cmp name e.0) as (λ b. eq_by_cmp name_cmp name e.0 ≡ b → cond b (Some e.1) (map.find name_cmp name es) ≡ None) [
       | true ↦ λ t.
-          let same = exact_names name e.0 (tied_is _ t) in
+          let same = same_name name e.0 t in
           let of_own : (e.0.origin.0 == own.0) ≡ true = (Decides-eqb e.0.origin.0 own.0).1 (sym (ap (λ (n : BatchName). n.origin.0) same)) in
           let number : e.0.number.0 ≡ k = sym (ap (λ (n : BatchName). n.number.0) same) in
           let counted : cond (e.0.origin.0 == own.0) e.0.number.0 0 ≡ e.0.number.0 = ap (λ b. cond b e.0.number.0 0) of_own in

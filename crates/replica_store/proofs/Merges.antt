@@ -3,15 +3,15 @@ use Rattle.std.specs.Prelude.{◌≡◌, suc, ◌+◌, Bool, true, false, cond, 
 use Rattle.std.proofs.Common.{refl, sym, ap, subst, ◌∙◌, arith, append-nil, Less, Equal, Greater}
 use Rattle.std.specs.Option.{option_to_list}
 use Rattle.std.specs.Ordering.{is_lt, is_eq, eq_by_cmp, ordering_reverse}
-use Rattle.std.specs.declared.cmp.Ordering.{Ordering}
 use Rattle.std.specs.FinMap as map
 use Rattle.std.specs.FinMap.Entries.{find, is_sorted, below_all}
 use Rattle.std.proofs.lemmas.List.{reverse-append}
 use Rattle.table_model.specs.Name.{name_cmp}
 use Rattle.table_model.specs.State.{Batch, union_of}
 use Rattle.table_model.specs.declared.names.BatchName.{BatchName}
-use Rattle.table_model.proofs.NameOrder.{names_total, exact_names}
+use Rattle.table_model.proofs.NameOrder.{names_total}
 use Rattle.table_model.proofs.Joins.{or_else, get-union, same_batches}
+use Rattle.table_model.proofs.Operations.{same_name}
 use Rattle.replica_store.specs.Entries.{merge, takes_first}
 use Rattle.replica_store.specs.Replica.{lacked_by}
 use Rattle.replica_store.proofs.Maps.{Entry, Sorted, as_map, entries-as_map, get-as_map, len-as_map}
@@ -85,14 +85,6 @@ Sorted-merge (e ∷ es) (f ∷ fs) g h apart =
           (Sorted-merge (e ∷ es) fs g (second_of_both (below_all name_cmp f.0 fs) (is_sorted name_cmp fs) h) apart.1)
     ] refl
 
-tied_is : (r : Ordering) → is_eq r ≡ true → r ≡ Equal
-tied_is Less e = cc
-tied_is Equal e = refl
-tied_is Greater e = cc
-
-pub one_name : (a b : BatchName) → eq_by_cmp name_cmp a b ≡ true → a ≡ b
-one_name a b e = exact_names a b (tied_is _ e)
-
 first_later : (b : Bool) (v : Batch) (a o p : Option Batch) → p ≡ or_else a o → (b ≡ true → a ≡ None) → cond b (Some v) p ≡ or_else a (cond b (Some v) o)
 first_later true v a o p is none = sym (ap (λ x. or_else x (Some v)) (none refl))
 first_later false v a o p is none = is
@@ -105,7 +97,7 @@ find-merge q (e ∷ es) (f ∷ fs) apart =
       | true ↦ let rest = find-merge q es (f ∷ fs) (Apart-tail e es (f ∷ fs) apart) in
           elim (eq_by_cmp name_cmp q e.0) as (λ b. cond b (Some e.1) (map.find name_cmp q (merge name_cmp es (f ∷ fs))) ≡ or_else (cond b (Some e.1) (map.find name_cmp q es)) (map.find name_cmp q (f ∷ fs))) [ true ↦ refl | false ↦ rest ]
       | false ↦ first_later (eq_by_cmp name_cmp q f.0) f.1 (map.find name_cmp q (e ∷ es)) (map.find name_cmp q fs) (map.find name_cmp q (merge name_cmp (e ∷ es) fs)) (find-merge q (e ∷ es) fs apart.1)
-          (λ tied. ap (λ n. map.find name_cmp n (e ∷ es)) (one_name q f.0 tied) ∙ apart.0)
+          (λ tied. ap (λ n. map.find name_cmp n (e ∷ es)) (same_name q f.0 tied) ∙ apart.0)
     ]
 
 length-merge : (es fs : List Entry) → length (merge name_cmp es fs) ≡ length es + length fs
@@ -155,7 +147,7 @@ find-lacked m q (f ∷ fs) none =
     let rest = find-lacked m q fs none in
     elim (map.contains_key m f.0) as (λ b. map.contains_key m f.0 ≡ b → map.find name_cmp q (cond b (lacked_by m fs) (f ∷ lacked_by m fs)) ≡ cond (eq_by_cmp name_cmp q f.0) (Some f.1) (map.find name_cmp q fs)) [
       | true ↦ λ t. elim (eq_by_cmp name_cmp q f.0) as (λ b. eq_by_cmp name_cmp q f.0 ≡ b → map.find name_cmp q (lacked_by m fs) ≡ cond b (Some f.1) (map.find name_cmp q fs)) [
-        | true ↦ λ tied. let held : map.contains_key m q ≡ true = ap (map.contains_key m) (one_name q f.0 tied) ∙ t in let lost : map.contains_key m q ≡ false = ap is_some none in cc
+        | true ↦ λ tied. let held : map.contains_key m q ≡ true = ap (map.contains_key m) (same_name q f.0 tied) ∙ t in let lost : map.contains_key m q ≡ false = ap is_some none in cc
         | false ↦ λ tied. rest
       ] refl
       | false ↦ λ t. ap (cond (eq_by_cmp name_cmp q f.0) (Some f.1)) rest

@@ -16,7 +16,7 @@ use Rattle.table_model.specs.declared.names.BatchName.{BatchName}
 use Rattle.table_model.proofs.NameOrder.{names_total}
 use Rattle.replica_store.specs.Replica.{greatest_number}
 use Rattle.replica_store.proofs.Maps.{Entry, Sorted}
-use Rattle.replica_store.proofs.Places.{first_of_both, second_of_both, less_is, sorted_at}
+use Rattle.replica_store.proofs.Places.{first_of_both, second_of_both, less_is, sorted_at, cases_le}
 
 less_parts : (r t : Ordering) → ordering_then r t ≡ Less → (r ≡ Less) ⊎ ((r ≡ Equal) × (t ≡ Less))
 less_parts Less t e = inl refl
@@ -70,9 +70,6 @@ greatest-append own (x ∷ xs) ys = let rest = greatest-append own xs ys in omeg
 -- whether an entry's origin isn't greater
 abbrev pub is_up_to : Origin → Entry → Bool
 is_up_to own e = nat_le e.0.origin.0 own.0
-
-cases_le : (i j : ℕ) → i ≤ j → (i < j) ⊎ (i ≡ j)
-cases_le i j le = elim (cases_lt i j) as (λ _. (i < j) ⊎ (i ≡ j)) [ inl lt ↦ inl lt | inr ge ↦ inr (omega arith) ]
 
 -- what a binary search asks
 pub parted_by_origin : (own : Origin) (es : List Entry) → Sorted es → IsPartitionedBy (is_up_to own) es

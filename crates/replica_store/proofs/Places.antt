@@ -8,6 +8,7 @@ use Rattle.std.specs.Cmp.{IsTotalOrder}
 use Rattle.std.specs.declared.cmp.Ordering.{Ordering}
 use Rattle.std.specs.FinMap.Entries.{find, put, is_sorted, below_all, by_order}
 use Rattle.std.proofs.lemmas.Bool.{cases_lt}
+pub use Rattle.table_model.proofs.Operations.{first_of_both, second_of_both}
 use Rattle.replica_store.specs.Entries.{count_below}
 
 pub true_from_T : (b : Bool) → T b → b ≡ true
@@ -16,14 +17,6 @@ true_from_T false h = absurd h
 
 pub T_from_true : (b : Bool) → b ≡ true → T b
 T_from_true b e = subst T (sym e) tt
-
-pub first_of_both : (a b : Bool) → T (a && b) → T a
-first_of_both true b h = tt
-first_of_both false b h = h
-
-pub second_of_both : (a b : Bool) → T (a && b) → T b
-second_of_both true b h = h
-second_of_both false b h = absurd h
 
 pub both_of : (a b : Bool) → T a → T b → T (a && b)
 both_of true b g h = h
@@ -45,7 +38,7 @@ not_below Greater e = inr refl
 turned : {K : Type 0} {R : K → K → Ordering} → IsTotalOrder R → (x y : K) (r : Ordering) → R x y ≡ r → R y x ≡ ordering_reverse r
 turned o x y r e = o.antisymm y x ∙ ap ordering_reverse e
 
-cases_le : (i j : ℕ) → i ≤ j → (i < j) ⊎ (i ≡ j)
+pub cases_le : (i j : ℕ) → i ≤ j → (i < j) ⊎ (i ≡ j)
 cases_le i j le = elim (cases_lt i j) as (λ _. (i < j) ⊎ (i ≡ j)) [ inl lt ↦ inl lt | inr ge ↦ inr (omega arith) ]
 
 module _ {K X : Type 0} (R : K → K → Ordering) where

@@ -1,5 +1,5 @@
 -- A replica as its callers see it, and what each call makes of it: a table's schema, an own origin and a state.
-use Rattle.std.specs.Prelude.{◌≡◌, ℕ, ◌+◌, ◌≤◌, max, Bool, false, not, cond, ◌==◌, nat_lt, List, [], ◌∷◌, length, Option, Some, None, Result, Ok, Err, T, refl}
+use Rattle.std.specs.Prelude.{◌≡◌, ℕ, ◌+◌, ◌≤◌, max, Bool, false, not, cond, ◌==◌, nat_lt, List, [], ◌∷◌, length, Option, Some, None, Result, Ok, Err, T, IsTrue, refl}
 use Rattle.std.specs.Coded.{Coded, code_by, coded×, coded_ℕ}
 use Rattle.std.specs.FinMap as map
 use Rattle.std.specs.FinSet as set
@@ -54,12 +54,17 @@ batch_limit = 65536
 abbrev pub with_batch : Replica → BatchName → Batch → Replica
 with_batch r name rows = record { schema = r.schema; own = r.own; state = record { batches = map.insert r.state.batches name rows; deleted = r.state.deleted } }
 
--- each batch has rows that fit the schema
+-- a batch that a replica may have: its name is proper, and its rows fit the schema
+pub record IsEntry (table : Table) (e : BatchName × Batch) : Type 0 where
+  pub proper : IsTrue (is_proper_name e.0)
+  pub fits : IsBatch table e.1
+
+-- each batch has a proper name, and rows that fit the schema
 abbrev pub AllFit : Table → List (BatchName × Batch) → Type 0
 AllFit table [] = Unit {0}
-AllFit table (e ∷ es) = IsBatch table e.1 × AllFit table es
+AllFit table (e ∷ es) = IsEntry table e × AllFit table es
 
--- a replica is within the limits: not too many batches, and each batch's rows fit the schema
+-- a replica is within the limits: not too many batches, and each has a proper name and rows that fit the schema
 pub record IsWithinLimits (table : Table) (batches : map.FinMap name_cmp Batch) : Type 0 where
   pub limit : map.len batches ≤ batch_limit
   pub fits : AllFit table (map.entries batches)

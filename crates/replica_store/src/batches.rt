@@ -105,7 +105,8 @@ impl Batches {
         self.len() > limit || count_lacked(self, other.entries()) > limit - self.len()
     }
 
-    /// Takes in copies of the other's batches whose names aren't here. It takes as many steps as there are batches on both sides.
+    /// Takes in copies of the other's batches whose names aren't here. It takes as many steps as there are batches on both
+    /// sides, and for each of the other's a search among the runs of names.
     pub fn join(&mut self, alloc: Global, other: &Batches) -> Result<(), AllocError>
         ensures ok { OnOk result (self.new ≡ union_of self.old other.now) }
         ensures err { OnErr result (self.new ≡ self.old) }

@@ -76,14 +76,16 @@ impl Store {
 
     /// The origin of the batches that are appended here.
     pub fn own(&self) -> Origin
-        ensures { result ≡ self.now.own }
+        ensures value { result ≡ self.now.own }
+        ensures proper { 1 ≤ result.0 }
     {
         self.own
     }
 
     /// How many batches there are.
     pub fn batches(&self) -> usize
-        ensures { result ≡ map.len self.now.state.batches }
+        ensures value { result ≡ map.len self.now.state.batches }
+        ensures limit { result ≤ 65536 }
     {
         self.batches.len()
     }
@@ -91,7 +93,9 @@ impl Store {
     /// The batch at this place, in ascending order of name and from 0.
     pub fn batch(&self, index: usize) -> (BatchName, &[Row])
         requires { index < map.len self.now.state.batches }
-        ensures { slice_get (entries_of self.now) index ≡ Some (result.0, result.1.now) }
+        ensures value { slice_get (entries_of self.now) index ≡ Some (result.0, result.1.now) }
+        ensures proper { IsTrue (is_proper_name result.0) }
+        ensures fits { IsBatch self.now.schema result.1.now }
     {
         let (name, rows) = &self.batches.entries()[index];
         (*name, rows.as_slice())

@@ -2,14 +2,11 @@
 use Rattle.std.specs.Prelude.{◌≡◌, ℕ, suc, ◌≤◌, Bool, true, false, cond, ◌&&◌, ◌==◌, List, [], ◌∷◌, length, Option, Some, None, ℤ, int_le, T}
 use Rattle.std.proofs.Common.{refl, sym, ap, ◌∙◌, arith, subst}
 use Rattle.std.specs.Int.Signed.{le_z_yes}
+use Rattle.std.proofs.lemmas.Bool.{and_parts}
 use Rattle.std.proofs.lemmas.Bool.Decides.{nat_tests}
 use Rattle.table_model.specs.State.{Cells, Batch}
 use Rattle.table_model.specs.Table.{Table, ColumnShape, least_of, greatest_of, fits, cells_fault, row_fault, first_fault, or_else, Fits, IsRow, AreRows, IsBatch}
 use Rattle.table_model.specs.declared.refusal.Refusal.TheVariants.{WrongArity, OutOfType}
-
-two_true : (a b : Bool) → (a && b) ≡ true → (a ≡ true) × (b ≡ true)
-two_true true b e = (refl, e)
-two_true false b e = cc
 
 holds_true : {b : Bool} → b ≡ true → T b
 holds_true e = subst T (sym e) tt
@@ -22,7 +19,7 @@ two_hold false b h g = absurd h
 Fits-fits : (c : ColumnShape) (v : Option ℤ) → fits c v ≡ true → Fits c v
 Fits-fits c None e = tt
 Fits-fits c (Some z) e =
-    let both = two_true (int_le (least_of c.column_type) z) (int_le z (greatest_of c.column_type)) e in
+    let both = and_parts (int_le (least_of c.column_type) z) (int_le z (greatest_of c.column_type)) e in
     (le_z_yes (holds_true both.0), le_z_yes (holds_true both.1))
 
 fits-Fits : (c : ColumnShape) (v : Option ℤ) → Fits c v → fits c v ≡ true

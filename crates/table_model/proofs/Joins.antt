@@ -1,18 +1,15 @@
 -- What a union of maps has at a name is what the first has there, else what the second has; so the laws are those of a choice.
 use Rattle.std.specs.Prelude.{◌≡◌, List, [], ◌∷◌, ◌++◌, Option, Some, None, Bool, true, false, cond, ◌||◌}
 use Rattle.std.proofs.Common.{refl, sym, ap, ◌∙◌}
+use Rattle.std.proofs.Math.Bool.{or_assoc, or_comm, or_self}
 use Rattle.std.specs.Ordering.{eq_by_cmp}
 use Rattle.std.specs.FinMap as map
 use Rattle.std.specs.FinSet as set
 use Rattle.table_model.specs.Name.{name_cmp, row_name_cmp}
 use Rattle.table_model.specs.State.{State, Batch, Agree, union_of, join, JoinLaws}
+pub use Rattle.table_model.specs.Table.{or_else}
 use Rattle.table_model.specs.declared.names.BatchName.{BatchName}
 use Rattle.table_model.proofs.NameOrder.{names_total, row_names_total, exact_names, exact_row_names}
-
--- what the first has, else what the second has
-abbrev pub or_else : {X : Type 0} → Option X → Option X → Option X
-or_else (Some x) o = Some x
-or_else None o = o
 
 pub find-append : (es fs : List (BatchName × Batch)) (q : BatchName) → map.find name_cmp q (es ++ fs) ≡ or_else (map.find name_cmp q es) (map.find name_cmp q fs)
 find-append [] fs q = refl
@@ -56,38 +53,24 @@ same_states s t e f = λ i. record { batches = e i; deleted = f i }
 pub same_batches : (m n : map.FinMap name_cmp Batch) → ((q : BatchName) → map.get m q ≡ map.get n q) → m ≡ n
 same_batches m n alike = map.same_map names_total exact_names m n alike
 
-or-commutes : (a b : Bool) → (a || b) ≡ (b || a)
-or-commutes true true = refl
-or-commutes true false = refl
-or-commutes false true = refl
-or-commutes false false = refl
-
-or-associative : (a b c : Bool) → ((a || b) || c) ≡ (a || (b || c))
-or-associative true b c = refl
-or-associative false b c = refl
-
-or-idempotent : (a : Bool) → (a || a) ≡ a
-or-idempotent true = refl
-or-idempotent false = refl
-
 or-again : (a b : Bool) → ((a || b) || b) ≡ (a || b)
 or-again true b = refl
-or-again false b = or-idempotent b
+or-again false b = or_self b
 
 module _ (s t u : set.FinSet row_name_cmp) where
   union-commutes : set.union s t ≡ set.union t s
   union-commutes = set.same_set row_names_total exact_row_names _ _ (λ q.
-      set.contains-union row_names_total s t q ∙ or-commutes (set.contains s q) (set.contains t q) ∙ sym (set.contains-union row_names_total t s q))
+      set.contains-union row_names_total s t q ∙ or_comm (set.contains s q) (set.contains t q) ∙ sym (set.contains-union row_names_total t s q))
 
   union-associative : set.union (set.union s t) u ≡ set.union s (set.union t u)
   union-associative = set.same_set row_names_total exact_row_names _ _ (λ q.
       set.contains-union row_names_total (set.union s t) u q
       ∙ ap (λ b. b || set.contains u q) (set.contains-union row_names_total s t q)
-      ∙ or-associative (set.contains s q) (set.contains t q) (set.contains u q)
+      ∙ or_assoc (set.contains s q) (set.contains t q) (set.contains u q)
       ∙ sym (set.contains-union row_names_total s (set.union t u) q ∙ ap (λ b. set.contains s q || b) (set.contains-union row_names_total t u q)))
 
   union-idempotent : set.union s s ≡ s
-  union-idempotent = set.same_set row_names_total exact_row_names _ _ (λ q. set.contains-union row_names_total s s q ∙ or-idempotent _)
+  union-idempotent = set.same_set row_names_total exact_row_names _ _ (λ q. set.contains-union row_names_total s s q ∙ or_self _)
 
   union-again : set.union (set.union s t) t ≡ set.union s t
   union-again = set.same_set row_names_total exact_row_names _ _ (λ q.

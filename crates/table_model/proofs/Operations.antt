@@ -3,11 +3,10 @@ use Rattle.std.specs.Prelude.{◌≡◌, List, [], ◌∷◌, ◌++◌, map, Opt
 use Rattle.std.proofs.Common.{refl, sym, ap, subst, ◌∙◌, inl, inr, Less, Equal, Greater}
 use Rattle.std.specs.List.{list_any}
 use Rattle.std.specs.Ordering.{eq_by_cmp, is_eq, is_lt}
-use Rattle.std.specs.Cmp.{tied_itself}
+use Rattle.std.specs.Cmp.{Equal-is, tied_itself}
 use Rattle.std.specs.FinMap as map
 use Rattle.std.specs.FinSet as set
 use Rattle.std.specs.FinMap.Entries.{below_all, is_sorted}
-use Rattle.std.specs.declared.cmp.Ordering.{Ordering}
 use Rattle.table_model.specs.Name.{name_cmp, row_name_cmp}
 use Rattle.table_model.specs.State.{State, Batch}
 use Rattle.table_model.specs.Operation.{Operation, Insert, Delete, Among, AreAgreeing, SameOperations, inserts_of, deletes_of, state_of, operations_of, OperationLaws}
@@ -19,17 +18,12 @@ use Rattle.table_model.proofs.Joins.{same_states, same_batches}
 abbrev in_names : BatchName → List (BatchName × Batch) → Option Batch
 in_names = map.find name_cmp
 
-tied : (r : Ordering) → is_eq r ≡ true → r ≡ Equal
-tied Less e = cc
-tied Equal e = refl
-tied Greater e = cc
-
 -- names that a search takes for one are one
 pub same_name : (a b : BatchName) → eq_by_cmp name_cmp a b ≡ true → a ≡ b
-same_name a b e = exact_names a b (tied _ e)
+same_name a b e = exact_names a b ((Equal-is _).0 e)
 
 pub same_row_name : (a b : RowName) → eq_by_cmp row_name_cmp a b ≡ true → a ≡ b
-same_row_name a b e = exact_row_names a b (tied _ e)
+same_row_name a b e = exact_row_names a b ((Equal-is _).0 e)
 
 pub itself : (a : BatchName) → eq_by_cmp name_cmp a a ≡ true
 itself a = ap is_eq (tied_itself names_total a)
@@ -160,11 +154,11 @@ below_missed x (e ∷ es) h =
       | Greater ↦ λ none. absurd none
     ] h
 
-first_of_both : (a b : Bool) → T (a && b) → T a
+pub first_of_both : (a b : Bool) → T (a && b) → T a
 first_of_both true b h = tt
 first_of_both false b h = h
 
-second_of_both : (a b : Bool) → T (a && b) → T b
+pub second_of_both : (a b : Bool) → T (a && b) → T b
 second_of_both true b h = h
 second_of_both false b h = absurd h
 

@@ -1,16 +1,13 @@
 -- The test of equality of schemas tells it.
 use Rattle.std.specs.Prelude.{◌≡◌, ◌≢◌, ℕ, suc, Bool, true, false, ◌&&◌, ◌==◌, List, [], ◌∷◌, length}
 use Rattle.std.proofs.Common.{refl, ap, ◌∙◌}
+use Rattle.std.proofs.Math.Bool.{and-false}
+use Rattle.std.proofs.lemmas.Bool.{and_parts}
 use Rattle.std.proofs.lemmas.Bool.Decides.{Decides-eqb}
 use Rattle.table_model.specs.Identifier.{same_text}
 use Rattle.table_model.specs.Table.{Table, ColumnShape, same_type, same_columns, same_table}
 use Rattle.table_model.specs.declared.schema.ColType.{ColType}
 use Rattle.table_model.specs.declared.schema.ColType.TheVariants.{SmallInt, Integer, BigInt}
-use Rattle.table_model.proofs.SameRows.{two_true}
-
-and_false : (b : Bool) → (b && false) ≡ false
-and_false true = refl
-and_false false = refl
 
 abbrev same_column : ColumnShape → ColumnShape → Bool
 same_column c d = same_text c.name d.name && same_type c.column_type d.column_type
@@ -19,14 +16,14 @@ pub same_columns-lengths : (xs ys : List ColumnShape) → length xs ≢ length y
 same_columns-lengths [] [] apart = absurd (apart refl)
 same_columns-lengths [] (y ∷ ys) apart = refl
 same_columns-lengths (x ∷ xs) [] apart = refl
-same_columns-lengths (x ∷ xs) (y ∷ ys) apart = ap (λ b. same_column x y && b) (same_columns-lengths xs ys (λ e. apart (ap suc e))) ∙ and_false _
+same_columns-lengths (x ∷ xs) (y ∷ ys) apart = ap (λ b. same_column x y && b) (same_columns-lengths xs ys (λ e. apart (ap suc e))) ∙ and-false _
 
 pub one_text : (xs ys : List ℕ) → same_text xs ys ≡ true → xs ≡ ys
 one_text [] [] e = refl
 one_text [] (y ∷ ys) e = cc
 one_text (x ∷ xs) [] e = cc
 one_text (x ∷ xs) (y ∷ ys) e =
-    let both = two_true (x == y) (same_text xs ys) e in
+    let both = and_parts (x == y) (same_text xs ys) e in
     let here = (Decides-eqb x y).0 both.0 in
     let rest = one_text xs ys both.1 in λ i. here i ∷ rest i
 
@@ -55,8 +52,8 @@ one_list [] [] e = refl
 one_list [] (y ∷ ys) e = cc
 one_list (x ∷ xs) [] e = cc
 one_list (x ∷ xs) (y ∷ ys) e =
-    let both = two_true (same_column x y) (same_columns xs ys) e in
-    let parts = two_true (same_text x.name y.name) (same_type x.column_type y.column_type) both.0 in
+    let both = and_parts (same_column x y) (same_columns xs ys) e in
+    let parts = and_parts (same_text x.name y.name) (same_type x.column_type y.column_type) both.0 in
     let name = one_text x.name y.name parts.0 in
     let of = one_type x.column_type y.column_type parts.1 in
     let rest = one_list xs ys both.1 in λ i. record { name = name i; column_type = of i } ∷ rest i
@@ -69,7 +66,7 @@ itself_list (x ∷ xs) = (λ i. (itself_text x.name i && itself_type x.column_ty
 pub one_table : (s t : Table) → same_table s t ≡ true → s ≡ t
 unfolding same_table
 one_table s t e =
-    let both = two_true (same_text s.name t.name) (same_columns s.columns t.columns) e in
+    let both = and_parts (same_text s.name t.name) (same_columns s.columns t.columns) e in
     let name = one_text s.name t.name both.0 in
     let columns = one_list s.columns t.columns both.1 in λ i. record { name = name i; columns = columns i }
 

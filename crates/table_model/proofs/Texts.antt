@@ -1,22 +1,19 @@
 -- Texts that are the same have the same length.
-use Rattle.std.specs.Prelude.{◌≡◌, ◌≢◌, ℕ, suc, Bool, true, false, not, ◌&&◌, ◌||◌, ◌==◌, List, [], ◌∷◌, length, map}
+use Rattle.std.specs.Prelude.{◌≡◌, ◌≢◌, ℕ, suc, Bool, false, not, ◌&&◌, ◌||◌, ◌==◌, List, [], ◌∷◌, length, map}
 use Rattle.std.specs.Char.{to_ascii_uppercase}
 use Rattle.std.specs.List.{list_any}
 use Rattle.std.proofs.Common.{refl, sym, ap, ◌∙◌}
+use Rattle.std.proofs.Math.Bool.{and-false}
 use Rattle.std.proofs.lemmas.List.{length-map}
 use Rattle.table_model.specs.Identifier.{folded, same_text}
 use Rattle.table_model.specs.Table.{has_name, name_of, are_distinct}
 use Rattle.table_model.specs.declared.schema.ColType.{ColType}
 
-and_false : (b : Bool) → (b && false) ≡ false
-and_false true = refl
-and_false false = refl
-
 pub same_text-lengths : (xs ys : List ℕ) → length xs ≢ length ys → same_text xs ys ≡ false
 same_text-lengths [] [] apart = absurd (apart refl)
 same_text-lengths [] (y ∷ ys) apart = refl
 same_text-lengths (x ∷ xs) [] apart = refl
-same_text-lengths (x ∷ xs) (y ∷ ys) apart = ap (λ b. (x == y) && b) (same_text-lengths xs ys (λ e. apart (ap suc e))) ∙ and_false _
+same_text-lengths (x ∷ xs) (y ∷ ys) apart = ap (λ b. (x == y) && b) (same_text-lengths xs ys (λ e. apart (ap suc e))) ∙ and-false _
 
 pub same_folded-lengths : (xs ys : List ℕ) → length xs ≢ length ys → false ≡ same_text (folded xs) (folded ys)
 same_folded-lengths xs ys apart = sym (same_text-lengths (folded xs) (folded ys) (λ e. apart (sym (length-map xs to_ascii_uppercase) ∙ e ∙ length-map ys to_ascii_uppercase)))

@@ -5,5 +5,6 @@ pub mod Name
 pub mod Operation
 pub mod Outcome
 pub mod RefusalText
+pub mod Sameness
 pub mod State
 pub mod Table

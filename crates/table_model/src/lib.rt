@@ -15,7 +15,7 @@ pub use answer::{Answer, AnswerRow, Field, Op, Truth};
 pub use check::check_rows;
 pub use counted::Counted;
 pub use identifier::{is_identifier, is_keyword, is_word, same_word};
-pub use laws::{join_laws, operation_laws};
+pub use laws::{join_laws, operation_laws, sameness_laws};
 pub use names::{BatchName, Number, Origin, RowName};
 pub use refusal::Refusal;
 pub use row::{Row, Rows, same_rows};

@@ -22,5 +22,5 @@ invariant_of-self-2 c =
     record {
       own_proper = c.self.invariant.own_proper;
       within = subst (λ (m : map.FinMap name_cmp Batch). IsWithinLimits c.self.inside.schema m) (sym c.in_ok-insert.ensures.ok)
-          (IsWithinLimits-insert c.self.inside.schema c.self.inside.batches c.args.name c.in_ok-copied.copied c.self.invariant.within none room fit);
+          (IsWithinLimits-insert c.self.inside.schema c.self.inside.batches c.args.name c.in_ok-copied.copied c.self.invariant.within none room (record { proper = c.requires.proper; fits = fit }));
     }
