@@ -1,8 +1,13 @@
 #!/usr/bin/env python3
-"""Runs scripts through ./lanes and prints, for each, the size, seconds, MB of script text a second and peak memory."""
+"""Runs scripts through the program and prints, for each, the size, seconds, MB of script text a second and peak memory.
+
+A peak of less than about 20 MiB is not seen: it is what this program itself takes when it starts the other.
+"""
 import os, resource, subprocess, sys, tempfile, time
 
 TOP = os.path.dirname(os.path.dirname(os.path.abspath(__file__)))
+# What the command ./lanes runs, once it has built it.
+PROGRAM = os.path.join(TOP, "crates", "lanes", "out", "lanes")
 
 
 def batches(replicas, kind, count, rows, last):
@@ -81,7 +86,7 @@ def run(name, lines):
     size = os.path.getsize(script.name)
     start = time.monotonic()
     with open(script.name) as text:
-        child = subprocess.Popen([os.path.join(TOP, "lanes"), "run"], stdin=text, stdout=subprocess.PIPE)
+        child = subprocess.Popen([PROGRAM, "run"], stdin=text, stdout=subprocess.PIPE)
         last = ""
         for line in child.stdout:
             last = line
