@@ -4,58 +4,101 @@ ghost use Rattle.std.specs.IoError.{error_kind};
 ghost use Rattle.lanes.specs.Outcome.{IsUnread};
 
 use crate::fault::Fault;
-use clap::{Command, error};
+use clap::{Arg, ArgMatches, Command, error};
 use std::alloc::{AllocError, Global};
 use std::env;
 use std::io::{self, ErrorKind};
 use std::rt::Env;
 use table_model::Refusal;
 
-/// What the command line asks for.
+/// The program's version.
+const VERSION: &str = "0.1.0";
+
+/// What stands below the help of `lanes run`.
+const SCRIPT_HELP: &str =
+    "A script is lines such as these, each of which has a reply:\n  table 2 T A SMALLINT\n  append 1 (7),(NULL)\n  query 1 SELECT COUNT(*) FROM T\nAll lines and replies are in docs/FORMATS.md, and examples/ has scripts to run.";
+
+/// Where a script is read from.
 #[derive(Clone, Copy, Debug, PartialEq, Eq)]
-pub enum Request {
-    /// `lanes run`: a script from standard input to standard output.
-    Run,
+pub enum Source<'a> {
+    /// Standard input.
+    Input,
+    /// The file of this name.
+    File(&'a str),
 }
 
-/// What the program's arguments ask for; otherwise memory lacks, or the command line has a fault or asks for help.
-pub fn read_request<R: Env + AllocGlobal>(rt: &R) -> Result<Request, Fault>
+/// What the command line asks for.
+#[derive(Clone, Copy, Debug, PartialEq, Eq)]
+pub enum Request<'a> {
+    /// `lanes run [FILE]`: a script's replies, written to standard output.
+    Run(Source<'a>),
+}
+
+/// The program's arguments; otherwise memory lacks for them, or one of them isn't UTF-8.
+pub fn arguments<R: Env + AllocGlobal>(rt: &R) -> Result<Vec<String>, Fault>
     ensures { IfErr result IsUnread }
 {
-    let mut commands = commands(rt.alloc())?;
-    let arguments = match env::args(rt) {
-        Ok(arguments) => arguments,
-        Err(error) => return Err(unread(&error, &mut commands)),
+    let given = match env::args(rt) {
+        Ok(given) => given,
+        Err(error) => return Err(unread(rt.alloc(), &error)),
     };
     let mut words = Vec::new(rt.alloc());
-    for argument in arguments {
+    for argument in given {
         words.push(argument).map_err(AllocError::from)?;
     }
-    commands.try_get_matches_from(words.as_slice())?;
-    Ok(Request::Run)
+    Ok(words)
+}
+
+/// What the arguments ask for; otherwise memory lacks, or the command line has a fault or asks for help.
+pub fn read_request<'a>(alloc: Global, words: &'a [String]) -> Result<Request<'a>, Fault>
+    ensures { IfErr result IsUnread }
+{
+    let matches = commands(alloc)?.try_get_matches_from(words)?;
+    Ok(Request::Run(source_of(&matches)))
+}
+
+/// Where the script of `lanes run` comes from: a file, or standard input where none is named or its name is `-`.
+fn source_of<'a>(matches: &ArgMatches<'a>) -> Source<'a> {
+    match matches.subcommand() {
+        Some((_run, given)) => match given.get_str("FILE") {
+            Some("-") | None => Source::Input,
+            Some(name) => Source::File(name),
+        },
+        None => Source::Input,
+    }
 }
 
 /// Why the arguments aren't there: memory lacks for them, or one of them isn't UTF-8.
-fn unread(failure: &io::Error, commands: &mut Command<'_>) -> Fault
+fn unread(alloc: Global, failure: &io::Error) -> Fault
     ensures told { IsUnread result }
     ensures memory { error_kind failure.now ≡ ErrorKind.OutOfMemory → result ≡ Fault.Refused Refusal.Memory }
 {
     if failure.kind() == ErrorKind::OutOfMemory {
         return Fault::Refused(Refusal::Memory);
     }
-    match commands.error(error::ErrorKind::InvalidValue, "an argument is not UTF-8") {
+    match not_utf8(alloc) {
         Ok(fault) => Fault::from(fault),
         Err(lacking) => Fault::from(lacking),
     }
 }
 
+/// The fault of an argument that isn't UTF-8.
+fn not_utf8(alloc: Global) -> Result<clap::Error, AllocError> {
+    commands(alloc)?.error(error::ErrorKind::InvalidValue, "an argument is not UTF-8")
+}
+
 /// The program's commands.
 pub(crate) fn commands<'a>(alloc: Global) -> Result<Command<'a>, AllocError> {
-    let run = Command::new(alloc, "run").about(
-        "Runs a script from standard input to standard output",
+    let file = Arg::new(alloc, "FILE").help(
+        "The script's file, or - for standard input, as where none is named",
     );
+    let run = Command::new(alloc, "run")
+        .about("Runs a script and writes its replies to standard output")
+        .after_help(SCRIPT_HELP)
+        .arg(file)?;
     Command::new(alloc, "lanes")
         .about("A replicated column store for one table of nullable integer columns")
+        .version(VERSION)
         .subcommand_required(true)
         .subcommand(run)
 }
