@@ -1,11 +1,11 @@
 #!/usr/bin/env python3
 """Writes docs/DEFINITIONS.md anew: each public definition of the crates' specs, with the comment above it."""
-import pathlib, re
+import pathlib, re, sys
 
 TOP = pathlib.Path(__file__).resolve().parent.parent
 HEAD = """# Definitions
 
-Each definition that contracts cite, with its plain meaning, by crate and file. A definition lives once, in the lowest crate that needs it. Names that share a comment share a line. `python3 docs/definitions.py` writes this page.
+Each definition that contracts cite, with its plain meaning, by crate and file. A definition lives once, in the lowest crate that needs it. `python3 docs/definitions.py` writes this page.
 """
 DEFINED = re.compile(r"\s*(?:abbrev |unfoldable )?pub (?:record |data )?(?!mod |use |module )(\S+)")
 FIELD = re.compile(r"\s+pub \S+ :")
@@ -19,24 +19,22 @@ def meaning(comment):
     return text
 
 
-def groups(lines):
-    """The names under each comment, and the comment. A name with a hyphen is a lemma's, and left out."""
-    found, comment, fresh, inside = [], [], False, False
+def definitions(lines):
+    """Each name that is defined, with the comment right above it. A name with a hyphen is a lemma's, and left out."""
+    found, comment, inside = [], [], False
     for line in lines:
         words = line.strip()
         defined = DEFINED.match(line)
         if words.startswith("-- "):
-            comment, fresh = (comment if fresh else []) + [words[3:]], True
+            comment = comment + [words[3:]]
         elif defined and not (inside and FIELD.match(line)):
-            if fresh or not found:
-                found.append(([], comment))
             if "-" not in defined[1]:
-                found[-1][0].append(defined[1])
-            fresh, inside = False, "record " in line
-        elif words:
-            fresh = False
+                found.append((defined[1], comment))
+            comment, inside = [], "record " in line
+        elif words or not inside:
+            comment = []
             inside = inside and line.startswith(" ")
-    return [(names, comment) for names, comment in found if names]
+    return found
 
 
 def section(crate):
@@ -45,9 +43,10 @@ def section(crate):
         if file.name == "Lib.antt":
             continue
         place = file.relative_to(TOP / "crates" / crate / "specs")
-        for names, comment in groups(file.read_text().splitlines()):
-            shown = ", ".join(f"`{name}`" for name in names)
-            rows.append(f"| {shown} | {meaning(comment)} | `{place}` |")
+        for name, comment in definitions(file.read_text().splitlines()):
+            if not comment:
+                sys.exit(f"{crate}: {name} of {place} has no comment that says what it means")
+            rows.append(f"| `{name}` | {meaning(comment)} | `{place}` |")
     return [f"\n## `{crate}`\n", "| Definition | Meaning | File in `specs/` |", "|---|---|---|", *rows] if rows else []
 
 

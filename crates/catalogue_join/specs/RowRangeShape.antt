@@ -14,6 +14,7 @@ pub record HasBounds (r : RowRange) : Type 0 where
   pub first : r.0.ordinal < 65536
   pub last : r.1 < 65536
 
+-- a range that is named so is within these bounds
 pub bounds_of : (r : RowRange) → is_named_range r ≡ true → HasBounds r
 bounds_of r named =
     let a = and_parts (is_proper_name r.0.batch) (nat_lt r.0.batch.origin.0 4294967296 && (nat_lt r.0.batch.number.0 4294967296 && (nat_lt r.0.ordinal 65536 && nat_lt r.1 65536))) named in
@@ -28,6 +29,7 @@ bounds_of r named =
       last = ltb-true r.1 65536 d.1;
     }
 
+-- a range within these bounds is named so
 pub named_from : (r : RowRange) → HasBounds r → is_named_range r ≡ true
 named_from r b =
     and_from (is_proper_name r.0.batch) (nat_lt r.0.batch.origin.0 4294967296 && (nat_lt r.0.batch.number.0 4294967296 && (nat_lt r.0.ordinal 65536 && nat_lt r.1 65536))) b.proper

@@ -15,6 +15,7 @@ pub record HasBounds (r : Run) : Type 0 where
   pub number : r.first.number.0 < 4294967296
   pub last : r.last.0 < 4294967296
 
+-- a run that is named so is within these bounds
 pub bounds_of : (r : Run) → is_named_run r ≡ true → HasBounds r
 bounds_of r named =
     let a = and_parts (is_proper_name r.first) (nat_lt r.first.origin.0 4294967296 && (nat_lt r.first.number.0 4294967296 && nat_lt r.last.0 4294967296)) named in
@@ -27,6 +28,7 @@ bounds_of r named =
       last = ltb-true r.last.0 4294967296 c.1;
     }
 
+-- a run within these bounds is named so
 pub named_from : (r : Run) → HasBounds r → is_named_run r ≡ true
 named_from r b =
     and_from (is_proper_name r.first) (nat_lt r.first.origin.0 4294967296 && (nat_lt r.first.number.0 4294967296 && nat_lt r.last.0 4294967296)) b.proper

@@ -59,6 +59,15 @@ impl Held {
         self.runs.insert(run_of(name))
     }
 
+    /// The same set in memory of its own.
+    pub fn copy(&self, alloc: Global) -> Result<Held, AllocError>
+        ensures { IfOk result (λ copied. copied ≡ self.now) }
+    {
+        Ok(Held {
+            runs: self.runs.copy(alloc)?,
+        })
+    }
+
     /// The names of both sets.
     pub fn joined(&self, other: &Held) -> Result<Held, AllocError>
         ensures { IfOk result (λ both. both ≡ set.union self.now other.now) }

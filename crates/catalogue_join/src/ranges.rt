@@ -48,6 +48,15 @@ impl<S: Span> Ranges<S> {
         *self.ranges.allocator()
     }
 
+    /// The same set in memory of its own.
+    pub fn copy(&self, alloc: Global) -> Result<Ranges<S>, AllocError>
+        ensures { IfOk result (λ copied. copied ≡ self.now) }
+    {
+        Ok(Ranges {
+            ranges: Vec::from_slice(alloc, &self.ranges)?,
+        })
+    }
+
     /// The range that has the first name of `at`.
     pub fn find(&self, at: S) -> Option<S>
         ensures { MatchOption result

@@ -83,7 +83,8 @@ fn a_join_has_the_names_of_both(rt: HostRuntime) -> Result<(), Fail> {
     let other = held_of(alloc, &[2, 1])?;
     let both = held.joined(&other)?;
     held.join(&other)?;
-    for joined in [&both, &held] {
+    let copied = held.copy(alloc)?;
+    for joined in [&both, &held, &copied] {
         let numbers = numbers_of(alloc, joined)?;
         assert_eq!(rt; numbers.as_slice(), [1, 2, 3].as_slice());
     }
@@ -115,6 +116,7 @@ fn ranges_that_touch_are_one(rt: HostRuntime) -> Result<(), Fail> {
         tombs.join(&other)?;
         let found = ordinals_of(alloc, &tombs)?;
         assert!(rt; found.as_slice() == ranges && both.ranges() == tombs.ranges());
+        assert!(rt; tombs.copy(alloc)?.ranges() == tombs.ranges());
         assert!(rt; both.holds(row(1, ranges[0].1)) && !both.holds(row(2, ranges[0].1)));
     }
     Ok(())

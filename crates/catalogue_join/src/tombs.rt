@@ -60,6 +60,15 @@ impl Tombs {
         self.ranges.insert((first, last))
     }
 
+    /// The same set in memory of its own.
+    pub fn copy(&self, alloc: Global) -> Result<Tombs, AllocError>
+        ensures { IfOk result (λ copied. copied ≡ self.now) }
+    {
+        Ok(Tombs {
+            ranges: self.ranges.copy(alloc)?,
+        })
+    }
+
     /// The rows of both sets.
     pub fn joined(&self, other: &Tombs) -> Result<Tombs, AllocError>
         ensures { IfOk result (λ both. both ≡ set.union self.now other.now) }

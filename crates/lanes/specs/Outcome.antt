@@ -13,6 +13,7 @@ abbrev pub fault_of_kind : ErrorKind → Error → Fault
 fault_of_kind kinds.OutOfMemory error = Refused Memory
 fault_of_kind kind error = CommandLine error
 
+-- what the program fails with where `clap` answers an error
 abbrev pub fault_of : Error → Fault
 fault_of error = fault_of_kind (kind_of error) error
 
