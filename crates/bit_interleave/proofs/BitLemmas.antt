@@ -1,12 +1,9 @@
 -- One bit of what shifts and masks make.
 use Rattle.std.proofs.Common.{◌≡◌, ℕ, ◌-◌, ◌*◌, ◌/◌, ◌%◌, ◌^◌, ◌<◌, ◌≤◌, bit_and, sym, ap, ◌∙◌, arith}
 use Rattle.std.specs.Int.{bit_at}
-use Rattle.std.proofs.lemmas.Nat.{and_mask, shr_split, pow_pos}
+use Rattle.std.proofs.lemmas.Nat.{and_mask, pow_pos}
+use Rattle.transpose_order.proofs.BitLemmas.{bit_at-mod}
 use Rattle.std.proofs.lemmas.Nat.Bits.{bit_at_cat_low, bit_at_cat_high, bit_at-zero, ones_shr}
-
-pub bit_at-mod : (x m i : ℕ) → i < m → bit_at (x % 2 ^ m) i ≡ bit_at x i
-bit_at-mod x m i h =
-    sym (bit_at_cat_low (x / 2 ^ m) m (x % 2 ^ m) i h) ∙ ap (λ y. bit_at y i) (shr_split x m)
 
 -- a shift to the left brings zeros in
 pub bit_at-shl_low : (x k i : ℕ) → i < k → i < 64 → bit_at (x * 2 ^ k % 2 ^ 64) i ≡ 0

@@ -9,3 +9,4 @@ pub mod PieceLemmas
 pub mod RoundTrip
 pub mod WordsLemmas
 pub mod ValueLemmas
+pub mod WordBytesLemmas

@@ -11,9 +11,9 @@ use Rattle.transpose_order.specs.Place.{row_at, IsLaneWidth}
 use Rattle.transpose_order.proofs.PlaceLemmas.{lane_of-row_at}
 use Rattle.transpose_order.specs.Mask.{number_of_bits}
 use Rattle.transpose_order.specs.MaskWords.{number_of_bits_is}
-use Rattle.transpose_order.proofs.BitLemmas.{bit_at-shr}
+use Rattle.transpose_order.proofs.BitLemmas.{bit_at-shr, bit_at-mod}
 use Rattle.bit_interleave.specs.Packing.{value_bit}
-use Rattle.bit_interleave.proofs.BitLemmas.{bit_at-mod, bit_at-shl_low, bit_at-shl_high, low_ones}
+use Rattle.bit_interleave.proofs.BitLemmas.{bit_at-shl_low, bit_at-shl_high, low_ones}
 
 pub value_bit_at : (t w : ℕ) (values : List ℕ) (lane b s r : ℕ) → r < w → b ≡ s * w + r → value_bit t w values lane b ≡ bit_at (get_or values (row_at t lane s) 0) r
 unfolding value_bit

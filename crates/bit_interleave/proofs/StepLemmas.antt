@@ -10,10 +10,10 @@ use Rattle.transpose_order.specs.Place.{IsLaneWidth}
 use Rattle.transpose_order.specs.Mask.{number_of_bits}
 use Rattle.transpose_order.proofs.WidthLemmas.{at_widths}
 use Rattle.transpose_order.specs.MaskWords.{number_of_bits_is, number_of_bits-below, number_of_bits-zero}
-use Rattle.transpose_order.proofs.BitLemmas.{bit_at-shr}
+use Rattle.transpose_order.proofs.BitLemmas.{bit_at-shr, bit_at-mod}
 use Rattle.bit_interleave.specs.Packing.{sixteen_of, lane_bit, packed_value}
 use Rattle.bit_interleave.proofs.SixteenLemmas.{length-sixteen_of, get_or-sixteen_of, sixteen_of-like, Each1-sixteen_of, map-sixteen_of, zip2-sixteen_of, replicate_is_sixteen_of}
-use Rattle.bit_interleave.proofs.BitLemmas.{bit_at-mod, bit_at-shl_low, bit_at-shl_high}
+use Rattle.bit_interleave.proofs.BitLemmas.{bit_at-shl_low, bit_at-shl_high}
 
 -- bit r of word k of a lane
 pub lane_bit_at : (t : ℕ) (words : List ℕ) (lane b k r : ℕ) → r < t → b ≡ k * t + r → lane_bit t words lane b ≡ bit_at (get_or words (k * (1024 / t) + lane) 0) r
@@ -98,12 +98,15 @@ step_across t w words group step low high result positive narrow within loads mo
     ∙ across_two_words t w words (16 * group + i) step positive narrow within (subst (λ (n : ℕ). n < 2 ^ t) first below))
 
 -- at width 0 each value is 0
-pub step_of_nothing : (t w : ℕ) (words : List ℕ) (group step : ℕ) → w ≡ 0 → replicate 16 0 ≡ sixteen_of (λ i. packed_value t w words (16 * group + i) step)
+pub value_of_nothing : (t w : ℕ) (words : List ℕ) (lane step : ℕ) → w ≡ 0 → 0 ≡ packed_value t w words lane step
 unfolding packed_value
+value_of_nothing t w words lane step none =
+    sym (ap (λ n. number_of_bits n (λ c. lane_bit t words lane (step * w + c))) none ∙ number_of_bits-zero (λ c. lane_bit t words lane (step * w + c)))
+
+pub step_of_nothing : (t w : ℕ) (words : List ℕ) (group step : ℕ) → w ≡ 0 → replicate 16 0 ≡ sixteen_of (λ i. packed_value t w words (16 * group + i) step)
 step_of_nothing t w words group step none =
     replicate_is_sixteen_of 0
-    ∙ sixteen_of-like (λ _. 0) (λ i. number_of_bits w (λ c. lane_bit t words (16 * group + i) (step * w + c))) 0
-    (λ i _. sym (ap (λ n. number_of_bits n (λ c. lane_bit t words (16 * group + i) (step * w + c))) none ∙ number_of_bits-zero (λ c. lane_bit t words (16 * group + i) (step * w + c))))
+    ∙ sixteen_of-like (λ _. 0) (λ i. packed_value t w words (16 * group + i) step) 0 (λ i _. value_of_nothing t w words (16 * group + i) step none)
 
 pub step_fits : (t w : ℕ) (words : List ℕ) (group step : ℕ) (result : List ℕ) → result ≡ sixteen_of (λ i. packed_value t w words (16 * group + i) step) → Each1 (λ n. n < 2 ^ w) result
 step_fits t w words group step result made =
@@ -118,6 +121,16 @@ word_is_there t w group bit width =
 pub next_word_is_there : (t w group bit : ℕ) → IsLaneWidth t → bit + w ≤ t * w → t < bit % t + w → 16 * group < 1024 / t → bit / t * (1024 / t) + 16 * group + 1024 / t + 16 ≤ w * (1024 / t)
 next_word_is_there t w group bit width =
     at_widths (λ t. bit + w ≤ t * w → t < bit % t + w → 16 * group < 1024 / t → bit / t * (1024 / t) + 16 * group + 1024 / t + 16 ≤ w * (1024 / t))
+    (λ a b c. omega arith) (λ a b c. omega arith) (λ a b c. omega arith) (λ a b c. omega arith) t width
+
+pub word_of_lane_is_there : (t w lane bit : ℕ) → IsLaneWidth t → bit < t * w → lane < 1024 / t → bit / t * (1024 / t) + lane < w * (1024 / t)
+word_of_lane_is_there t w lane bit width =
+    at_widths (λ t. bit < t * w → lane < 1024 / t → bit / t * (1024 / t) + lane < w * (1024 / t))
+    (λ a b. omega arith) (λ a b. omega arith) (λ a b. omega arith) (λ a b. omega arith) t width
+
+pub next_word_of_lane_is_there : (t w lane bit : ℕ) → IsLaneWidth t → bit + w ≤ t * w → t < bit % t + w → lane < 1024 / t → bit / t * (1024 / t) + lane + 1024 / t < w * (1024 / t)
+next_word_of_lane_is_there t w lane bit width =
+    at_widths (λ t. bit + w ≤ t * w → t < bit % t + w → lane < 1024 / t → bit / t * (1024 / t) + lane + 1024 / t < w * (1024 / t))
     (λ a b c. omega arith) (λ a b c. omega arith) (λ a b c. omega arith) (λ a b c. omega arith) t width
 
 pub positive_width : (t : ℕ) → IsLaneWidth t → 0 < t

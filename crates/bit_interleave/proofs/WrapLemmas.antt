@@ -67,3 +67,13 @@ int_wrap-int_wrap t (pos n) width =
 int_wrap-int_wrap t (negsuc n) width =
     sym (int_wrap-bits t (int_wrap w64 (negsuc n)) width (SFits-int_wrap w64 (negsuc n)))
     ∙ rw (int_wrap_negsuc w64 n, of_z-to_z w64 (2 ^ 64 - 1 - n % 2 ^ 64) (omega arith)) (low_complement t n width)
+
+-- a number in the range of t bits is in that of 64
+pub fits_wide : (t : ℕ) (z : ℤ) → IsLaneWidth t → FitsSigned (integer_width t) z → FitsSigned w64 z
+fits_wide t z width =
+    at_widths (λ t. FitsSigned (integer_width t) z → FitsSigned w64 z)
+    (λ f. record { sfits = grind (arith, ints) }) (λ f. record { sfits = grind (arith, ints) }) (λ f. record { sfits = grind (arith, ints) }) (λ f. f) t width
+
+pub int_wrap-wide : (t : ℕ) (z : ℤ) → IsLaneWidth t → FitsSigned w64 (int_wrap (integer_width t) z)
+int_wrap-wide t z width =
+    fits_wide t (int_wrap (integer_width t) z) width (SFits-int_wrap (integer_width t) z)

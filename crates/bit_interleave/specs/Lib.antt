@@ -3,3 +3,4 @@ pub mod Range
 pub mod Packing
 pub mod PackedWords
 pub mod StoredWords
+pub mod PackedBytes

@@ -1,8 +1,11 @@
 //! Arithmetic modulo a power of two, read as signed, and the least width of a number.
-ghost use Rattle.std.specs.Prelude.{◌≡◌, ℕ, ◌+◌, ◌<◌, ◌≤◌, ◌^◌, pos, ◌+ℤ◌, ◌-ℤ◌};
+ghost use Rattle.std.specs.Prelude.{◌≡◌, ℕ, ◌+◌, ◌<◌, ◌≤◌, ◌^◌, pos, ◌+ℤ◌, ◌-ℤ◌, length, slice_index};
 ghost use Rattle.std.specs.Int.{int_wrap};
 ghost use Rattle.transpose_order.specs.Place.{IsLaneWidth};
 ghost use Rattle.bit_interleave.specs.Arithmetic.{integer_width, least_width};
+ghost use Rattle.bit_interleave.specs.Packing.{sixteen_of};
+
+use std::simd::prelude::*;
 
 /// The number modulo two to the power of `lane_width`, which is 8, 16, 32 or 64, read as signed.
 pub fn wrap(lane_width: usize, number: u64) -> i64
@@ -14,6 +17,21 @@ pub fn wrap(lane_width: usize, number: u64) -> i64
     (number.wrapping_add(half) & mask)
         .wrapping_sub(half)
         .cast_signed()
+}
+
+/// Each of sixteen numbers modulo two to the power of `lane_width`, which is 8, 16, 32 or 64, read as signed.
+#[inline(always)]
+pub fn wrap_lanes(lane_width: usize, lanes: Simd<u64, 16>) -> Simd<i64, 16>
+    requires lane_width { IsLaneWidth lane_width }
+    requires lanes { length lanes ≡ 16 }
+    ensures { result ≡ sixteen_of (λ i. int_wrap (integer_width lane_width) (pos (slice_index lanes i))) }
+{
+    let numbers = lanes.to_array();
+    let mut wrapped = [0; 16];
+    for i in 0..16 {
+        wrapped[i] = wrap(lane_width, numbers[i]);
+    }
+    Simd::from_array(wrapped)
 }
 
 /// The sum modulo two to the power of `lane_width`, which is 8, 16, 32 or 64, read as signed.

@@ -99,8 +99,7 @@ pub(crate) fn pack_from<V: LaneWord, U: LaneWord>(width: usize, values: &[V; 102
     );
 }
 
-/// The words that pack 1024 values of `width` bits in row order (FastLanes, VLDB 2023, the unified transposed layout and
-/// interleaved bit-packing).
+/// The words that pack 1024 values of `width` bits in row order.
 ///
 /// The width is 0 to `U::BITS`, and each value is below two to the power of `width`. There are `width * lanes` words for
 /// `lanes = 1024 / U::BITS` lanes; word `w` of lane `l` is word `w * lanes + l`. At width 0 there are no words.

@@ -6,8 +6,10 @@ ghost use Rattle.std.specs.List.{All};
 ghost use Rattle.transpose_order.specs.Place.{IsLaneWidth};
 
 use super::*;
+use crate::unpacking::value_at as value_in;
 use std::alloc::Global;
 use std::process::Abort;
+use std::simd::prelude::*;
 use std::test::Fail;
 
 /// The numbers 0 to 7 with their three bits in reverse.
@@ -332,6 +334,39 @@ fn words_are_made_of_numbers_and_copied(rt: HostRuntime) -> Result<(), Fail> {
     Ok(())
 }
 
+// At 16 bits and width 3 the value at step 5 has bit 0 in bit 15 of its lane's word 0, and bits 1 and 2 in bits 0 and 1 of
+// word 1, which is 64 words on.
+#[test]
+fn a_value_is_read_across_two_words(rt: HostRuntime) {
+    let mut words = [0u16; 192];
+    words[2] = 0x8000;
+    words[66] = 2;
+    assert_eq!(rt; value_in(3, &words, 2, 5), 5);
+    assert_eq!(rt;
+        (value_in(3, &words, 2, 4), value_in(3, &words, 3, 5)),
+        (0, 0)
+    );
+}
+
+// A word of 16 bits is two bytes, the low one first; 128 bytes are 64 of them.
+#[test]
+fn words_are_read_from_bytes_and_written(rt: HostRuntime) -> Result<(), Fail> {
+    let mut bytes = [0; 128];
+    bytes[0] = 2;
+    bytes[1] = 1;
+    bytes[127] = 128;
+    let words = Words::from_le_bytes(rt.alloc(), 16, &bytes)?;
+    assert_eq!(rt; words.len(), 64);
+    assert_eq!(rt; (words.word(0), words.word(63)), (0x0102, 0x8000));
+    assert_eq!(rt; words.words_16().len(), 64);
+    let mut written = [7; 128];
+    words.le_bytes_at(0, &mut written);
+    assert_eq!(rt; written.as_slice(), bytes.as_slice());
+    words_and_bytes_come_back();
+    packed_vectors_are_blocks_of_bytes();
+    Ok(())
+}
+
 // 256 needs nine bits; half of 2 ^ 16 is read as the least number of 16 bits.
 #[test]
 fn numbers_wrap_at_their_width(rt: HostRuntime) {
@@ -345,6 +380,8 @@ fn numbers_wrap_at_their_width(rt: HostRuntime) {
         (-1, -32768, 0)
     );
     assert_eq!(rt; wrap(64, u64::MAX), -1);
+    let wrapped = wrap_lanes(16, Simd::splat(65535)).to_array();
+    assert_eq!(rt; (wrapped[0], wrapped[15]), (-1, -1));
     assert_eq!(rt; wrapping_sum(16, 32767, 1), -32768);
     assert_eq!(rt; wrapping_sum_with(16, 32767, 1), -32768);
     assert_eq!(rt; wrapping_difference(32, -2147483648, 1), 2147483647);

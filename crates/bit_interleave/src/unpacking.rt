@@ -39,8 +39,7 @@ fn across_words(
     (low >> Simd::splat(shift as u64) | high << Simd::splat(kept as u64)) & mask
 }
 
-/// Sixteen of the values that words pack at `width` bits, 0 to `U::BITS` (FastLanes, VLDB 2023, interleaved
-/// bit-packing): element i is the value at lane `16 * group + i` and this step.
+/// Sixteen of the values that words pack at `width` bits, 0 to `U::BITS`: element i is the value at lane `16 * group + i` and this step.
 ///
 /// There are `width * lanes` words for `lanes = 1024 / U::BITS` lanes; word `w` of lane `l` is word `w * lanes + l`.
 /// The group is below `lanes / 16`, and the step below `U::BITS`.
@@ -84,6 +83,32 @@ pub fn step<U: LaneWord, const W: usize>(words: &[U], group: usize, step: usize)
     step_at(W, words, group, step)
 }
 
+/// The value that words pack at `width` bits, 0 to `U::BITS`, at a lane and a step.
+pub(crate) fn value_at<U: LaneWord>(width: usize, words: &[U], lane: usize, step: usize) -> u64
+    requires width { width ≤ U.BITS }
+    requires words { length words.now ≡ width * (1024 / U.BITS) }
+    requires lane { lane < 1024 / U.BITS }
+    requires step { step < U.BITS }
+    ensures value { result ≡ packed_value U.BITS width (map U.number words.now) lane step }
+    ensures fits { result < 2 ^ width }
+{
+    if width == 0 {
+        return 0;
+    }
+    let bits = U::BITS;
+    let lanes = 1024 / bits;
+    let bit = step * width;
+    let shift = bit % bits;
+    let at = bit / bits * lanes + lane;
+    let mask = u64::MAX >> (64 - width);
+    let low = words[at].to_u64();
+    if shift + width <= bits {
+        return low >> shift & mask;
+    }
+    let high = words[at + lanes].to_u64();
+    (low >> shift | high << (bits - shift)) & mask
+}
+
 /// Writes the sixteen lanes of a piece to its rows, which stand at one place of each 64.
 fn put_piece<V: LaneWord>(lanes: Simd<u64, 16>, place: usize, values: &mut [V; 1024])
     requires lanes { length lanes ≡ 16 }
@@ -117,8 +142,7 @@ pub(crate) fn unpack_into<U: LaneWord, V: LaneWord>(
     }
 }
 
-/// The 1024 values in row order of words packed at `width` bits, 0 to `U::BITS` (FastLanes, VLDB 2023, the unified
-/// transposed layout and interleaved bit-packing).
+/// The 1024 values in row order of words packed at `width` bits, 0 to `U::BITS`.
 ///
 /// There are `width * lanes` words for `lanes = 1024 / U::BITS` lanes; word `w` of lane `l` is word `w * lanes + l`.
 /// At width 0 there are no words, and every value is 0.

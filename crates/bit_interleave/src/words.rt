@@ -1,14 +1,16 @@
 //! Packed words whose lane width is known when the program runs.
-ghost use Rattle.std.specs.Prelude.{◌≡◌, ℕ, ◌+◌, ◌*◌, ◌/◌, ◌<◌, ◌≤◌, ◌^◌, ◌↔◌, map, length, slice_index, IsTrue, IfOk};
+ghost use Rattle.std.specs.Prelude.{◌≡◌, ℕ, ◌+◌, ◌*◌, ◌/◌, ◌<◌, ◌≤◌, ◌^◌, ◌↔◌, map, length, slice_index, slice_range, ◌%◌, IsTrue, IfOk};
 ghost use Rattle.std.specs.List.{All};
 ghost use Rattle.std.specs.Simd.Lanes.{Each1};
 ghost use Rattle.transpose_order.specs.Place.{IsLaneWidth};
 ghost use Rattle.bit_interleave.specs.Packing.{sixteen_of, packed_value, unpacked, packed};
 ghost use Rattle.bit_interleave.specs.PackedWords.{PackedWords, words_packing, HasWidth, FitLanes};
+ghost use Rattle.bit_interleave.specs.PackedBytes.{bytes_of, words_of_bytes};
 
 use crate::lane_word::LaneWord;
 use crate::packing::pack_from;
-use crate::unpacking::{step_at, unpack_into};
+use crate::unpacking::{step_at, unpack_into, value_at};
+use crate::word_bytes::{put_words, words_of};
 use std::alloc::{AllocError, Global};
 use std::marker::Model;
 use std::simd::prelude::*;
@@ -84,9 +86,8 @@ fn vec_of<U: LaneWord>(alloc: Global, numbers: &[u64]) -> Result<Vec<U>, AllocEr
 }
 
 impl Words {
-    /// The `width * lanes` words that pack 1024 values of `width` bits in row order, for `lanes = 1024 / lane_width`
-    /// (FastLanes, VLDB 2023, the unified transposed layout and interleaved bit-packing), or AllocError where memory is
-    /// refused.
+    /// The `width * lanes` words that pack 1024 values of `width` bits in row order, for `lanes = 1024 / lane_width`, or
+    /// AllocError where memory is refused.
     ///
     /// The lane width is 8, 16, 32 or 64, and the width 0 to `lane_width`. At width 0 there are no words.
     pub fn pack(
@@ -124,6 +125,36 @@ impl Words {
             16 => Ok(Stored::U16(vec_of(alloc, numbers)?).into_words()),
             32 => Ok(Stored::U32(vec_of(alloc, numbers)?).into_words()),
             _ => Ok(Stored::U64(vec_of(alloc, numbers)?).into_words()),
+        }
+    }
+
+    /// The words of `lane_width` bits, 8, 16, 32 or 64, that bytes are, each lowest byte first, or AllocError where memory
+    /// is refused. The bytes are a whole number of words.
+    pub fn from_le_bytes(alloc: Global, lane_width: usize, bytes: &[u8]) -> Result<Self, AllocError>
+        requires lane_width { IsLaneWidth lane_width }
+        requires whole { length bytes.now % (lane_width / 8) ≡ 0 }
+        ensures value { IfOk result (λ words. words ≡ words_of_bytes lane_width bytes.now) }
+        ensures back { IfOk result (λ words. bytes_of words ≡ bytes.now) }
+    {
+        match lane_width {
+            8 => Ok(Stored::U8(words_of(alloc, bytes)?).into_words()),
+            16 => Ok(Stored::U16(words_of(alloc, bytes)?).into_words()),
+            32 => Ok(Stored::U32(words_of(alloc, bytes)?).into_words()),
+            _ => Ok(Stored::U64(words_of(alloc, bytes)?).into_words()),
+        }
+    }
+
+    /// Writes 128 of the words' bytes, from byte `128 * block` on. A packed vector of 1024 values of `width` bits has
+    /// `width` blocks at every lane width.
+    pub fn le_bytes_at(&self, block: usize, bytes: &mut [u8; 128])
+        requires { 128 * block + 128 ≤ length (bytes_of self.now) }
+        ensures { bytes.new ≡ slice_range (bytes_of self.now) (128 * block) (128 * block + 128) }
+    {
+        match &self.stored {
+            Stored::U8(words) => put_words(words.as_slice(), block, bytes),
+            Stored::U16(words) => put_words(words.as_slice(), block, bytes),
+            Stored::U32(words) => put_words(words.as_slice(), block, bytes),
+            Stored::U64(words) => put_words(words.as_slice(), block, bytes),
         }
     }
 
@@ -206,6 +237,68 @@ impl Words {
             Stored::U16(words) => step_at(width, words.as_slice(), group, step),
             Stored::U32(words) => step_at(width, words.as_slice(), group, step),
             Stored::U64(words) => step_at(width, words.as_slice(), group, step),
+        }
+    }
+
+    /// The value that the words pack at `width` bits at a lane, below `1024 / lane_width`, and a step, below the lane width.
+    ///
+    /// There are `width * lanes` words for `lanes = 1024 / lane_width`.
+    pub fn value(&self, width: usize, lane: usize, step: usize) -> u64
+        requires width { HasWidth self.now width }
+        requires lane { lane < 1024 / self.now.lane_width }
+        requires step { step < self.now.lane_width }
+        ensures value { result ≡ packed_value self.now.lane_width width self.now.numbers lane step }
+        ensures fits { result < 2 ^ width }
+    {
+        match &self.stored {
+            Stored::U8(words) => value_at(width, words.as_slice(), lane, step),
+            Stored::U16(words) => value_at(width, words.as_slice(), lane, step),
+            Stored::U32(words) => value_at(width, words.as_slice(), lane, step),
+            Stored::U64(words) => value_at(width, words.as_slice(), lane, step),
+        }
+    }
+
+    /// The words, which are of 8 bits.
+    pub fn words_8(&self) -> &[u8]
+        requires { self.now.lane_width ≡ 8 }
+        ensures { result.now ≡ self.now.numbers }
+    {
+        match &self.stored {
+            Stored::U8(words) => words.as_slice(),
+            _ => &[],
+        }
+    }
+
+    /// The words, which are of 16 bits.
+    pub fn words_16(&self) -> &[u16]
+        requires { self.now.lane_width ≡ 16 }
+        ensures { result.now ≡ self.now.numbers }
+    {
+        match &self.stored {
+            Stored::U16(words) => words.as_slice(),
+            _ => &[],
+        }
+    }
+
+    /// The words, which are of 32 bits.
+    pub fn words_32(&self) -> &[u32]
+        requires { self.now.lane_width ≡ 32 }
+        ensures { result.now ≡ self.now.numbers }
+    {
+        match &self.stored {
+            Stored::U32(words) => words.as_slice(),
+            _ => &[],
+        }
+    }
+
+    /// The words, which are of 64 bits.
+    pub fn words_64(&self) -> &[u64]
+        requires { self.now.lane_width ≡ 64 }
+        ensures { result.now ≡ self.now.numbers }
+    {
+        match &self.stored {
+            Stored::U64(words) => words.as_slice(),
+            _ => &[],
         }
     }
 

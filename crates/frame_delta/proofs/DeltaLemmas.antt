@@ -1,25 +1,28 @@
 -- Deltas are a frame over the later differences, and a lane's sums give its values back.
-use Rattle.std.proofs.Common.{◌≡◌, ◌≢◌, ℕ, zero, suc, ◌+◌, ◌-◌, ◌*◌, ◌/◌, ◌%◌, ◌^◌, ◌<◌, ◌≤◌, ℤ, pos, ◌+ℤ◌, ◌-ℤ◌, ◌≤ℤ◌, Bool, true, false, not, cond, ◌==◌, List, length, get_or, refl, sym, ap, ◌∙◌, subst, arith, ne_eqb}
+use Rattle.std.proofs.Common.{◌≡◌, ◌≢◌, ℕ, zero, suc, ◌+◌, ◌-◌, ◌*◌, ◌/◌, ◌%◌, ◌^◌, ◌<◌, ◌≤◌, ◌⊎◌, inl, inr, ℤ, pos, ◌+ℤ◌, ◌-ℤ◌, ◌≤ℤ◌, Bool, true, false, not, cond, ◌==◌, List, length, get_or, refl, sym, ap, ◌∙◌, subst, arith, ne_eqb}
 use Rattle.std.specs.Int.{w64, int_wrap, int_gap, cast_unsigned}
 use Rattle.std.specs.Int.RustNames.{FitsSigned}
 use Rattle.std.specs.List.{All}
+use Rattle.std.proofs.lemmas.Bool.{cases_lt}
 use Rattle.std.proofs.lemmas.Bool.Decides.{nat_tests}
 use Rattle.std.proofs.lemmas.Nat.{pow_pos}
 use Rattle.std.proofs.lemmas.List.Elements.{All-from_get_or}
 use Rattle.std.proofs.lemmas.List.FromFn.{get_or-map-range_with_len, length-map-range_with_len}
 use Rattle.std.proofs.lemmas.Int.{ints, int_wrap_fits, int_wrap-add_right, int_wrap-add_same, SFits-int_wrap}
-use Rattle.transpose_order.specs.Place.{IsLaneWidth, lane_of, step_of, row_at}
+use Rattle.transpose_order.specs.Place.{IsLaneWidth, lane_of, step_of, row_at, place_of}
 use Rattle.transpose_order.specs.MaskWords.{length-rows_of, get_or-rows_of, rows_of-same}
 use Rattle.transpose_order.proofs.WidthLemmas.{at_widths}
 use Rattle.transpose_order.proofs.PlaceLemmas.{row_at-lane_of, lane_of-row_at}
 use Rattle.bit_interleave.specs.Arithmetic.{integer_width, least_width}
 use Rattle.bit_interleave.specs.Packing.{packed_value, packed}
-use Rattle.bit_interleave.specs.PackedWords.{PackedWords, words_packing}
+use Rattle.bit_interleave.proofs.WordsLemmas.{All-packed}
+use Rattle.bit_interleave.specs.PackedWords.{words_packing}
 use Rattle.bit_interleave.proofs.ValueLemmas.{HasWidth-words_packing}
 use Rattle.bit_interleave.proofs.WrapLemmas.{int_wrap-mod, int_wrap-bits}
 use Rattle.bit_interleave.specs.Range.{AreInRange, value_at}
-use Rattle.frame_delta.specs.Delta.{DeltaCoded, sum_to, delta_at, delta_values, is_later, difference_at, least_difference, greatest_difference, delta_width, later_gaps, bases_of, least_delta, IsDelta}
+use Rattle.frame_delta.specs.Delta.{DeltaForm, sum_to, delta_of, delta_at, delta_value, delta_values, is_later, difference_at, least_difference, greatest_difference, delta_width, later_gaps, bases_of, least_delta, IsDeltaForm, AreSums}
 use Rattle.frame_delta.proofs.GapLemmas.{gap_back}
+use Rattle.frame_delta.proofs.PieceRows.{row_of_piece}
 use Rattle.frame_delta.proofs.FramedLemmas.{least_of, greatest_of, least_is_low, least_not_above, least_is_at, range_in_lane, width_in_lane, gap_has_width}
 use Rattle.frame_delta.proofs.FrameLemmas.{column_fits, packed_back}
 
@@ -142,6 +145,18 @@ sum_wraps_on t b v k f h =
     ap (λ z. int_wrap (integer_width t) (b +ℤ z)) (sum_to-suc k f) ∙ ap (int_wrap (integer_width t)) (regroup b (sum_to k f) (f k))
     ∙ int_wrap-add_same (integer_width t) (b +ℤ sum_to k f) v (f k) h
 
+pub deltas_add_up : (form : DeltaForm) (lane step : ℕ) → (delta_at form lane 0 ≡ int_wrap (integer_width form.lane_width) (value_at form.bases lane +ℤ delta_of form lane 0)) × (delta_at form lane (suc step) ≡ int_wrap (integer_width form.lane_width) (delta_at form lane step +ℤ delta_of form lane (suc step)))
+unfolding delta_at
+deltas_add_up form lane step =
+    let t = form.lane_width in
+    let base = value_at form.bases lane in
+    let f = delta_of form lane in
+    let sum = base +ℤ sum_to (suc step) f in
+    let start : base +ℤ sum_to 0 f ≡ base = ap (λ z. base +ℤ z) (sum_to-zero f) ∙ omega (arith, ints) in (
+      sum_wraps_on t base base 0 f (ap (int_wrap (integer_width t)) start),
+      sum_wraps_on t base (int_wrap (integer_width t) sum) (suc step) f (sym (int_wrap_fits (integer_width t) (int_wrap (integer_width t) sum) (SFits-int_wrap (integer_width t) sum))),
+    )
+
 -- ---- the least form decodes to its values
 -- what the packed number of a lane and a step stands for
 packed_at : (t : ℕ) (values : List ℤ) (lane step : ℕ) → IsLaneWidth t → lane < 1024 / t → step < t → packed_value t (delta_width t values) (packed t (delta_width t values) (later_gaps t (least_difference t values) values)) lane step ≡ get_or (later_gaps t (least_difference t values) values) (row_at t lane step) 0
@@ -205,31 +220,33 @@ delta_at-least_delta t values n width long fit h =
     ∙ int_wrap_fits (integer_width t) (value_at values n) (column_fits t values n (omega arith) fit)
 
 pub delta_values-least_delta : (t : ℕ) (values : List ℤ) → IsLaneWidth t → length values ≡ 1024 → AreInRange t values → delta_values (least_delta t values) ≡ values
-unfolding delta_values least_delta
+unfolding delta_values delta_value least_delta
 delta_values-least_delta t values width long fit =
-    sym (rows_of-same (λ n. delta_at (least_delta t values) (lane_of t n) (step_of t n)) values (pos 0) long (λ n h. sym (delta_at-least_delta t values n width long fit h)))
+    sym (rows_of-same (delta_value (least_delta t values)) values (pos 0) long (λ n h. sym (delta_at-least_delta t values n width long fit h)))
 
 -- ---- the parts of the least form
-pub IsDelta-least : (t w : ℕ) (numbers : List ℕ) (values : List ℤ) → IsLaneWidth t → w ≤ t → IsDelta (words_packing t w numbers) w (least_difference t values) (bases_of t (least_difference t values) values)
-IsDelta-least t w numbers values width within = record {
-  lanes = width;
-  has_width = HasWidth-words_packing t w numbers within;
-  fits = least_difference_fits t values width;
-  base_count = length-bases_of t (least_difference t values) values;
-  bases_fit = bases_of_fit t (least_difference t values) values;
-}
-
-abbrev made_of : ℕ → ℕ → ℤ → List ℤ → List ℕ → DeltaCoded
-made_of t w r bases words = record { lane_width = t; width = w; least = r; bases = bases; words = words }
-
-pub delta_from_parts : (t : ℕ) (values : List ℤ) (words : PackedWords) (w : ℕ) (r : ℤ) (bases : List ℤ) (numbers : List ℕ) → words ≡ words_packing t w numbers → w ≡ delta_width t values → r ≡ least_difference t values → bases ≡ bases_of t r values → numbers ≡ later_gaps t r values → made_of words.lane_width w r bases words.numbers ≡ least_delta t values
+pub least_delta_is_a_form : (t : ℕ) (values : List ℤ) → IsLaneWidth t → IsDeltaForm (least_delta t values)
 unfolding least_delta
-delta_from_parts t values words w r bases numbers packs has_width least from gaps =
-    ap (λ (p : PackedWords). made_of p.lane_width w r bases p.numbers) packs
-    ∙ ap (λ (v : ℕ). made_of t v r bases (packed t v numbers)) has_width
-    ∙ ap (λ (xs : List ℕ). made_of t (delta_width t values) r bases (packed t (delta_width t values) xs)) gaps
-    ∙ ap (λ (bs : List ℤ). made_of t (delta_width t values) r bs (packed t (delta_width t values) (later_gaps t r values))) from
-    ∙ ap (λ (z : ℤ). made_of t (delta_width t values) z (bases_of t z values) (packed t (delta_width t values) (later_gaps t z values))) least
+least_delta_is_a_form t values width =
+    let r = least_difference t values in
+    record {
+      lane_width = width;
+      words = refl;
+      packed = HasWidth-words_packing t (delta_width t values) (later_gaps t r values) (delta_width_in_lane t values width);
+      fit = All-packed t (delta_width t values) (later_gaps t r values);
+      least = least_difference_fits t values width;
+      base_count = length-bases_of t r values;
+      bases = bases_of_fit t r values;
+    }
+
+-- a form with the parts of the least form is the least form
+pub delta_from_parts : (form : DeltaForm) (t : ℕ) (values : List ℤ) (numbers : List ℕ) → form.lane_width ≡ t → form.words ≡ words_packing t form.width numbers → form.width ≡ delta_width t values → form.least ≡ least_difference t values → form.bases ≡ bases_of t form.least values → numbers ≡ later_gaps t form.least values → form ≡ least_delta t values
+unfolding least_delta
+delta_from_parts form t values numbers lanes packs wide least from gaps =
+    let words : form.words ≡ words_packing t (delta_width t values) (later_gaps t (least_difference t values) values) =
+    packs ∙ ap (λ w. words_packing t w numbers) wide ∙ ap (words_packing t (delta_width t values)) (gaps ∙ ap (λ r. later_gaps t r values) least) in
+    let bases : form.bases ≡ bases_of t (least_difference t values) values = from ∙ ap (λ r. bases_of t r values) least in
+    λ i. record { lane_width = lanes i; width = wide i; least = least i; bases = bases i; words = words i }
 
 -- ---- decoding by steps
 -- what the next sums wrap to
@@ -261,6 +278,14 @@ sums_start t base f width fits =
     let plain : base ≡ base +ℤ pos 0 = omega (arith, ints) in
     int_wrap-bits t base width fits ∙ ap (int_wrap (integer_width t)) plain ∙ ap (λ z. int_wrap (integer_width t) (base +ℤ z)) (sym (sum_to-zero f))
 
+-- a step is the first or a later one
+pub at_start_or_on : (s : ℕ) (P : Type 0) → (s ≡ 0 → P) → (s ≢ 0 → P) → P
+at_start_or_on s P start on = by_case (cases_lt 0 s)
+  where
+    by_case : (0 < s) ⊎ (s ≤ 0) → P
+    by_case (inl h) = on (λ e. omega arith)
+    by_case (inr h) = start (omega arith)
+
 -- the piece after one that doesn't end its lanes is at the next step of the same lanes
 pub next_piece : (t q : ℕ) → IsLaneWidth t → (q + 1) % t ≢ 0 → ((q + 1) / t ≡ q / t) × ((q + 1) % t ≡ suc (q % t))
 next_piece t q width =
@@ -272,8 +297,30 @@ pub group_is_there : (t q : ℕ) → IsLaneWidth t → q < 64 → 16 * (q / t) +
 group_is_there t q width =
     at_widths (λ t. q < 64 → 16 * (q / t) + 16 ≤ 1024 / t) (λ h. omega arith) (λ h. omega arith) (λ h. omega arith) (λ h. omega arith) t width
 
--- a number of t bits is one of 64
-pub wide_fits : (t : ℕ) (z : ℤ) → IsLaneWidth t → FitsSigned (integer_width t) z → FitsSigned w64 z
-wide_fits t z width =
-    at_widths (λ t. FitsSigned (integer_width t) z → FitsSigned w64 z)
-    (λ f. record { sfits = grind (arith, ints) }) (λ f. record { sfits = grind (arith, ints) }) (λ f. record { sfits = grind (arith, ints) }) (λ f. f) t width
+-- ---- decoded values
+pub length-delta_values : (c : DeltaForm) → length (delta_values c) ≡ 1024
+unfolding delta_values
+length-delta_values c = length-rows_of (delta_value c)
+
+pub value_at-delta_values : (c : DeltaForm) (n : ℕ) → n < 1024 → value_at (delta_values c) n ≡ delta_value c n
+unfolding delta_values
+value_at-delta_values c n h = get_or-rows_of (delta_value c) n (pos 0) h
+
+pub delta_value_fits : (c : DeltaForm) (n : ℕ) → FitsSigned (integer_width c.lane_width) (delta_value c n)
+unfolding delta_value delta_at
+delta_value_fits c n =
+    SFits-int_wrap (integer_width c.lane_width) (value_at c.bases (lane_of c.lane_width n) +ℤ sum_to (suc (step_of c.lane_width n)) (λ s. c.least +ℤ pos (packed_value c.lane_width c.width c.words.numbers (lane_of c.lane_width n) s)))
+
+pub AreInRange-delta_values : (c : DeltaForm) → AreInRange c.lane_width (delta_values c)
+AreInRange-delta_values c =
+    All-from_get_or (λ v. FitsSigned (integer_width c.lane_width) v) (delta_values c) (pos 0)
+    (λ n h. subst (λ (z : ℤ). FitsSigned (integer_width c.lane_width) z) (sym (value_at-delta_values c n (omega (arith, length-delta_values c)))) (delta_value_fits c n))
+
+pub sums_give_their_rows : (form : DeltaForm) (q : ℕ) (sums : List ℕ) → IsLaneWidth form.lane_width → q < 64 → AreSums form q sums → (i : ℕ) → i < 16 → int_wrap (integer_width form.lane_width) (pos (get_or sums i 0)) ≡ delta_value form (64 * i + place_of form.lane_width q)
+unfolding delta_value
+sums_give_their_rows form q sums width h are i near =
+    let t = form.lane_width in
+    let row = row_of_piece t q i width h near in
+    are.lanes i near
+    ∙ ap (λ l. delta_at form l (q % t)) (sym row.1)
+    ∙ ap (delta_at form (lane_of t (64 * i + place_of t q))) (sym row.2)

@@ -1,9 +1,9 @@
 -- The least of some numbers is below each of them and is one of them, and nothing else is.
-use Rattle.std.proofs.Common.{◌≡◌, ℕ, zero, suc, ◌<◌, ◌≤◌, ℤ, ◌≤ℤ◌, int_lt, Bool, true, false, cond, ◌⊎◌, inl, inr, refl, sym, ap, ◌∙◌, subst, arith}
+use Rattle.std.proofs.Common.{◌≡◌, ℕ, zero, suc, ◌<◌, ◌≤◌, ℤ, ◌≤ℤ◌, int_lt, ◌↔◌, Bool, true, false, cond, ◌⊎◌, inl, inr, refl, sym, ap, ◌∙◌, subst, arith}
 use Rattle.std.specs.Int.{int_min, int_max}
 use Rattle.std.proofs.lemmas.Int.{ints, clamps}
 use Rattle.std.proofs.lemmas.Bool.{false≢true, cases_lt}
-use Rattle.frame_delta.specs.Extremes.{least_among, greatest_among}
+use Rattle.frame_delta.specs.Extremes.{least_among, greatest_among, IsLeastAmong, IsGreatestAmong}
 
 pub least_among-zero : (p : ℕ → Bool) (f : ℕ → ℤ) (first : ℤ) → least_among p f first 0 ≡ first
 unfolding least_among
@@ -162,3 +162,32 @@ greatest_among-unique p f first k x low one =
     one_bound : (y z : ℤ) → IsHigh p f first k y → IsOne p f first k z → z ≤ℤ y
     one_bound y z low (inl e) = subst (λ (v : ℤ). v ≤ℤ y) (sym e) low.first_bound
     one_bound y z low (inr w) = subst (λ (v : ℤ). v ≤ℤ y) (sym w.3) (low.each_bound w.0 w.1 w.2)
+
+-- ---- the laws
+some_one : (p : ℕ → Bool) (f : ℕ → ℤ) (m k : ℕ) (x : ℤ) → m < k → p m ≡ true → IsOne p f (f m) k x → (n : ℕ) × (n < k) × (p n ≡ true) × (x ≡ f n)
+some_one p f m k x within pass (inl e) = (m, within, pass, e)
+some_one p f m k x within pass (inr w) = w
+
+least_is : (p : ℕ → Bool) (f : ℕ → ℤ) (m k : ℕ) → m < k → p m ≡ true → IsLeastAmong p f k (least_among p f (f m) k)
+least_is p f m k within pass = record {
+  bound = (least_among-bound p f (f m) k).each_bound;
+  reached = some_one p f m k (least_among p f (f m) k) within pass (least_among-one p f (f m) k);
+}
+
+pub least_among_is_least : (p : ℕ → Bool) (f : ℕ → ℤ) (m k : ℕ) → m < k → p m ≡ true → (x : ℤ) → (x ≡ least_among p f (f m) k) ↔ IsLeastAmong p f k x
+least_among_is_least p f m k within pass x = (
+  λ e. subst (λ (z : ℤ). IsLeastAmong p f k z) (sym e) (least_is p f m k within pass),
+  λ h. sym (least_among-unique p f (f m) k x (record { first_bound = h.bound m within pass; each_bound = h.bound }) (inr h.reached)),
+)
+
+greatest_is : (p : ℕ → Bool) (f : ℕ → ℤ) (m k : ℕ) → m < k → p m ≡ true → IsGreatestAmong p f k (greatest_among p f (f m) k)
+greatest_is p f m k within pass = record {
+  bound = (greatest_among-bound p f (f m) k).each_bound;
+  reached = some_one p f m k (greatest_among p f (f m) k) within pass (greatest_among-one p f (f m) k);
+}
+
+pub greatest_among_is_greatest : (p : ℕ → Bool) (f : ℕ → ℤ) (m k : ℕ) → m < k → p m ≡ true → (x : ℤ) → (x ≡ greatest_among p f (f m) k) ↔ IsGreatestAmong p f k x
+greatest_among_is_greatest p f m k within pass x = (
+  λ e. subst (λ (z : ℤ). IsGreatestAmong p f k z) (sym e) (greatest_is p f m k within pass),
+  λ h. sym (greatest_among-unique p f (f m) k x (record { first_bound = h.bound m within pass; each_bound = h.bound }) (inr h.reached)),
+)

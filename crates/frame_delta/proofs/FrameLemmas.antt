@@ -9,11 +9,12 @@ use Rattle.transpose_order.specs.Place.{IsLaneWidth, lane_of, step_of}
 use Rattle.transpose_order.specs.MaskWords.{length-rows_of, get_or-rows_of, rows_of-same}
 use Rattle.bit_interleave.specs.Arithmetic.{integer_width, least_width}
 use Rattle.bit_interleave.specs.Packing.{packed_value, packed}
+use Rattle.bit_interleave.proofs.WordsLemmas.{All-packed}
 use Rattle.bit_interleave.proofs.RoundTrip.{unpacked-packed}
-use Rattle.bit_interleave.specs.PackedWords.{PackedWords, words_packing}
+use Rattle.bit_interleave.specs.PackedWords.{words_packing}
 use Rattle.bit_interleave.proofs.ValueLemmas.{get_or-unpacked, HasWidth-words_packing}
 use Rattle.bit_interleave.specs.Range.{AreInRange, value_at}
-use Rattle.frame_delta.specs.Frame.{FrameCoded, frame_value, frame_values, least_value, greatest_value, frame_width, gaps_above, least_frame, IsFrame}
+use Rattle.frame_delta.specs.Frame.{FrameForm, frame_value, frame_values, least_value, greatest_value, frame_width, gaps_above, least_frame, IsFrameForm}
 use Rattle.frame_delta.proofs.GapLemmas.{gap_back}
 use Rattle.frame_delta.proofs.FramedLemmas.{least_of, greatest_of, least_is_low, range_in_lane, width_in_lane, gap_has_width, least_not_above, least_is_at}
 
@@ -72,11 +73,11 @@ gaps_have_width t values width long fit =
         (gap_has_width t (λ _. true) (value_at values) 0 n width (range_in_lane t (λ _. true) (value_at values) 0 width refl (omega arith) (λ k h _. column_fits t values k (omega arith) fit)) near refl)
 
 -- ---- decoding
-pub value_at-frame_values : (c : FrameCoded) (n : ℕ) → n < 1024 → value_at (frame_values c) n ≡ frame_value c n
+pub value_at-frame_values : (c : FrameForm) (n : ℕ) → n < 1024 → value_at (frame_values c) n ≡ frame_value c n
 unfolding frame_values
 value_at-frame_values c n h = get_or-rows_of (frame_value c) n (pos 0) h
 
-pub length-frame_values : (c : FrameCoded) → length (frame_values c) ≡ 1024
+pub length-frame_values : (c : FrameForm) → length (frame_values c) ≡ 1024
 unfolding frame_values
 length-frame_values c = length-rows_of (frame_value c)
 
@@ -106,17 +107,21 @@ least_value_fits t values long fit =
     let at = least_is_at (λ _. true) (value_at values) 0 refl (omega arith) in
     subst (λ (z : ℤ). FitsSigned (integer_width t) z) (sym (least_value_is values ∙ at.is)) (column_fits t values at.place (omega (arith, at.within)) fit)
 
-pub IsFrame-least : (t w : ℕ) (numbers : List ℕ) (values : List ℤ) → IsLaneWidth t → w ≤ t → length values ≡ 1024 → AreInRange t values → IsFrame (words_packing t w numbers) w (least_value values)
-IsFrame-least t w numbers values width within long fit =
-    record { lanes = width; has_width = HasWidth-words_packing t w numbers within; fits = least_value_fits t values long fit }
-
-abbrev made_of : ℕ → ℕ → ℤ → List ℕ → FrameCoded
-made_of t w r words = record { lane_width = t; width = w; reference = r; words = words }
-
-pub frame_from_parts : (t : ℕ) (values : List ℤ) (words : PackedWords) (w : ℕ) (r : ℤ) (numbers : List ℕ) → words ≡ words_packing t w numbers → w ≡ frame_width values → r ≡ least_value values → numbers ≡ gaps_above r values → made_of words.lane_width w r words.numbers ≡ least_frame t values
+pub least_frame_is_a_form : (t : ℕ) (values : List ℤ) → IsLaneWidth t → length values ≡ 1024 → AreInRange t values → IsFrameForm (least_frame t values)
 unfolding least_frame
-frame_from_parts t values words w r numbers packs has_width least gaps =
-    ap (λ (p : PackedWords). made_of p.lane_width w r p.numbers) packs
-    ∙ ap (λ (v : ℕ). made_of t v r (packed t v numbers)) has_width
-    ∙ ap (λ (xs : List ℕ). made_of t (frame_width values) r (packed t (frame_width values) xs)) gaps
-    ∙ ap (λ (z : ℤ). made_of t (frame_width values) z (packed t (frame_width values) (gaps_above z values))) least
+least_frame_is_a_form t values width long fit =
+    record {
+      lane_width = width;
+      words = refl;
+      packed = HasWidth-words_packing t (frame_width values) (gaps_above (least_value values) values) (frame_width_in_lane t values width long fit);
+      fit = All-packed t (frame_width values) (gaps_above (least_value values) values);
+      reference = least_value_fits t values long fit;
+    }
+
+-- a form with the parts of the least form is the least form
+pub frame_from_parts : (form : FrameForm) (t : ℕ) (values : List ℤ) (numbers : List ℕ) → form.lane_width ≡ t → form.words ≡ words_packing t form.width numbers → form.width ≡ frame_width values → form.reference ≡ least_value values → numbers ≡ gaps_above form.reference values → form ≡ least_frame t values
+unfolding least_frame
+frame_from_parts form t values numbers lanes packs wide least gaps =
+    let words : form.words ≡ words_packing t (frame_width values) (gaps_above (least_value values) values) =
+    packs ∙ ap (λ w. words_packing t w numbers) wide ∙ ap (words_packing t (frame_width values)) (gaps ∙ ap (λ r. gaps_above r values) least) in
+    λ i. record { lane_width = lanes i; width = wide i; reference = least i; words = words i }

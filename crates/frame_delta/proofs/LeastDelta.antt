@@ -8,53 +8,49 @@ use Rattle.std.proofs.lemmas.List.FromFn.{fill_by_all}
 use Rattle.std.proofs.lemmas.Int.{ints, int_wrap_fits, int_wrap-add_left, int_wrap-sub_right}
 use Rattle.std.proofs.Math.Nat.{pow-le-pow_right}
 use Rattle.transpose_order.specs.Place.{IsLaneWidth, lane_of, step_of, row_at}
-use Rattle.transpose_order.specs.MaskWords.{length-rows_of, get_or-rows_of, rows_of-same}
+use Rattle.transpose_order.specs.MaskWords.{rows_of-same}
 use Rattle.transpose_order.proofs.WidthLemmas.{at_widths}
 use Rattle.transpose_order.proofs.PlaceLemmas.{lane_of-row_at}
 use Rattle.bit_interleave.specs.Arithmetic.{integer_width, least_width}
-use Rattle.bit_interleave.specs.Packing.{packed_value, unpacked, packed}
-use Rattle.bit_interleave.specs.PackedWords.{PackedWords}
+use Rattle.bit_interleave.specs.Packing.{packed_value, unpacked}
+use Rattle.bit_interleave.specs.PackedWords.{PackedWords, words_packing}
 use Rattle.bit_interleave.proofs.RoundTrip.{unpacked-packed}
 use Rattle.bit_interleave.proofs.StepLemmas.{positive_width}
 use Rattle.bit_interleave.proofs.ValueLemmas.{get_or-unpacked, length-unpacked, All-unpacked}
 use Rattle.bit_interleave.specs.Range.{AreInRange, value_at}
 use Rattle.frame_delta.specs.Extremes.{IsSpread, IsTightFrame}
-use Rattle.frame_delta.specs.Delta.{DeltaCoded, sum_to, delta_at, delta_values, is_later, difference_at, least_difference, greatest_difference, delta_width, later_gaps, bases_of, least_delta}
+use Rattle.frame_delta.specs.Delta.{DeltaForm, sum_to, delta_at, delta_value, delta_values, is_later, difference_at, least_difference, greatest_difference, delta_width, later_gaps, bases_of, least_delta, IsDeltaForm}
 use Rattle.frame_delta.proofs.FramedLemmas.{IsFramed, IsTight, least_of, greatest_of, tight_least, tight_range, tight_gaps, least_form_is_tight, no_smaller_width}
 use Rattle.frame_delta.proofs.FrameLemmas.{column_fits}
-use Rattle.frame_delta.proofs.DeltaLemmas.{later_was, row_one_is_later, least_difference_is, greatest_difference_is, delta_width_is, length-later_gaps, first_gap, later_gap, later_gaps_have_width, sum_to-zero, sum_to-suc, regroup, delta_from_parts}
+use Rattle.frame_delta.proofs.DeltaLemmas.{later_was, row_one_is_later, least_difference_is, greatest_difference_is, delta_width_is, length-later_gaps, first_gap, later_gap, later_gaps_have_width, sum_to-zero, sum_to-suc, regroup, delta_from_parts, value_at-delta_values}
 
-unfoldable pub numbers_of_delta : DeltaCoded → List ℕ
-numbers_of_delta c = unpacked c.lane_width c.width c.words
+unfoldable pub numbers_of_delta : DeltaForm → List ℕ
+numbers_of_delta c = unpacked c.lane_width c.width c.words.numbers
 
-length-numbers_of_delta : (c : DeltaCoded) → length (numbers_of_delta c) ≡ 1024
+length-numbers_of_delta : (c : DeltaForm) → length (numbers_of_delta c) ≡ 1024
 unfolding numbers_of_delta
-length-numbers_of_delta c = length-unpacked c.lane_width c.width c.words
+length-numbers_of_delta c = length-unpacked c.lane_width c.width c.words.numbers
 
-number_at : (c : DeltaCoded) (n : ℕ) → n < 1024 → get_or (numbers_of_delta c) n 0 ≡ packed_value c.lane_width c.width c.words (lane_of c.lane_width n) (step_of c.lane_width n)
+number_at : (c : DeltaForm) (n : ℕ) → n < 1024 → get_or (numbers_of_delta c) n 0 ≡ packed_value c.lane_width c.width c.words.numbers (lane_of c.lane_width n) (step_of c.lane_width n)
 unfolding numbers_of_delta
-number_at c n h = get_or-unpacked c.lane_width c.width c.words n 0 h
+number_at c n h = get_or-unpacked c.lane_width c.width c.words.numbers n 0 h
 
-number_below : (c : DeltaCoded) (n : ℕ) → n < 1024 → get_or (numbers_of_delta c) n 0 < 2 ^ c.width
+number_below : (c : DeltaForm) (n : ℕ) → n < 1024 → get_or (numbers_of_delta c) n 0 < 2 ^ c.width
 unfolding numbers_of_delta
 number_below c n h =
-    All-get_or (λ v. v < 2 ^ c.width) (unpacked c.lane_width c.width c.words) n 0 (omega (arith, length-unpacked c.lane_width c.width c.words)) (All-unpacked c.lane_width c.width c.words)
+    All-get_or (λ v. v < 2 ^ c.width) (unpacked c.lane_width c.width c.words.numbers) n 0 (omega (arith, length-unpacked c.lane_width c.width c.words.numbers)) (All-unpacked c.lane_width c.width c.words.numbers)
 
 -- what a lane adds at a step
-unfoldable deltas_of : DeltaCoded → ℕ → ℕ → ℤ
-deltas_of c lane s = c.least +ℤ pos (packed_value c.lane_width c.width c.words lane s)
+unfoldable deltas_of : DeltaForm → ℕ → ℕ → ℤ
+deltas_of c lane s = c.least +ℤ pos (packed_value c.lane_width c.width c.words.numbers lane s)
 
-delta_at_is : (c : DeltaCoded) (lane step : ℕ) → delta_at c lane step ≡ int_wrap (integer_width c.lane_width) (value_at c.bases lane +ℤ sum_to (suc step) (deltas_of c lane))
+delta_at_is : (c : DeltaForm) (lane step : ℕ) → delta_at c lane step ≡ int_wrap (integer_width c.lane_width) (value_at c.bases lane +ℤ sum_to (suc step) (deltas_of c lane))
 unfolding delta_at deltas_of
 delta_at_is c lane step = refl
 
-pub value_at-delta_values : (c : DeltaCoded) (n : ℕ) → n < 1024 → value_at (delta_values c) n ≡ delta_at c (lane_of c.lane_width n) (step_of c.lane_width n)
-unfolding delta_values
-value_at-delta_values c n h = get_or-rows_of (λ k. delta_at c (lane_of c.lane_width k) (step_of c.lane_width k)) n (pos 0) h
-
-pub length-delta_values : (c : DeltaCoded) → length (delta_values c) ≡ 1024
-unfolding delta_values
-length-delta_values c = length-rows_of (λ k. delta_at c (lane_of c.lane_width k) (step_of c.lane_width k))
+delta_here : (c : DeltaForm) (n : ℕ) → n < 1024 → value_at (delta_values c) n ≡ delta_at c (lane_of c.lane_width n) (step_of c.lane_width n)
+unfolding delta_value
+delta_here c n h = value_at-delta_values c n h
 
 -- the row before a later row is the step before
 row_before : (t n : ℕ) → IsLaneWidth t → n < 1024 → n % t ≢ 0 → (lane_of t (n - 1) ≡ lane_of t n) × (step_of t n ≡ suc (step_of t (n - 1)))
@@ -73,7 +69,7 @@ wrapped_difference t a d =
     ∙ ap (int_wrap (integer_width t)) rest
 
 -- a later difference is the least delta and the packed number
-later_difference : (c : DeltaCoded) (n : ℕ) → IsLaneWidth c.lane_width → n < 1024 → n % c.lane_width ≢ 0 → difference_at c.lane_width (delta_values c) n ≡ int_wrap (integer_width c.lane_width) (c.least +ℤ pos (get_or (numbers_of_delta c) n 0))
+later_difference : (c : DeltaForm) (n : ℕ) → IsLaneWidth c.lane_width → n < 1024 → n % c.lane_width ≢ 0 → difference_at c.lane_width (delta_values c) n ≡ int_wrap (integer_width c.lane_width) (c.least +ℤ pos (get_or (numbers_of_delta c) n 0))
 unfolding difference_at deltas_of
 later_difference c n width h later =
     let t = c.lane_width in
@@ -83,18 +79,18 @@ later_difference c n width h later =
     let a = value_at c.bases l +ℤ sum_to (suc s) (deltas_of c l) in
     let d = deltas_of c l (suc s) in
     let here : value_at (delta_values c) n ≡ int_wrap (integer_width t) (a +ℤ d) =
-    value_at-delta_values c n h ∙ ap (delta_at c l) back.1 ∙ delta_at_is c l (suc s)
+    delta_here c n h ∙ ap (delta_at c l) back.1 ∙ delta_at_is c l (suc s)
     ∙ ap (λ z. int_wrap (integer_width t) (value_at c.bases l +ℤ z)) (sum_to-suc (suc s) (deltas_of c l))
     ∙ ap (int_wrap (integer_width t)) (regroup (value_at c.bases l) (sum_to (suc s) (deltas_of c l)) d) in
     let before : value_at (delta_values c) (n - 1) ≡ int_wrap (integer_width t) a =
-    value_at-delta_values c (n - 1) (omega arith) ∙ ap (λ m. delta_at c m s) back.0 ∙ delta_at_is c l s in
+    delta_here c (n - 1) (omega arith) ∙ ap (λ m. delta_at c m s) back.0 ∙ delta_at_is c l s in
     ap (λ z. int_wrap (integer_width t) (z -ℤ value_at (delta_values c) (n - 1))) here
     ∙ ap (λ z. int_wrap (integer_width t) (int_wrap (integer_width t) (a +ℤ d) -ℤ z)) before
     ∙ wrapped_difference t a d
-    ∙ ap (λ m. int_wrap (integer_width t) (c.least +ℤ pos (packed_value t c.width c.words l m))) (sym back.1)
+    ∙ ap (λ m. int_wrap (integer_width t) (c.least +ℤ pos (packed_value t c.width c.words.numbers l m))) (sym back.1)
     ∙ ap (λ g. int_wrap (integer_width t) (c.least +ℤ pos g)) (sym (number_at c n h))
 
-delta_is_framed : (c : DeltaCoded) → IsLaneWidth c.lane_width → c.width ≤ c.lane_width → FitsSigned (integer_width c.lane_width) c.least → IsFramed c.lane_width (is_later c.lane_width) (difference_at c.lane_width (delta_values c)) c.least (λ n. get_or (numbers_of_delta c) n 0) 1
+delta_is_framed : (c : DeltaForm) → IsLaneWidth c.lane_width → c.width ≤ c.lane_width → FitsSigned (integer_width c.lane_width) c.least → IsFramed c.lane_width (is_later c.lane_width) (difference_at c.lane_width (delta_values c)) c.least (λ n. get_or (numbers_of_delta c) n 0) 1
 delta_is_framed c width within fits =
     let base : 0 < 2 = omega arith in
     record {
@@ -106,7 +102,7 @@ delta_is_framed c width within fits =
       within = omega arith;
     }
 
-tight_delta : (c : DeltaCoded) (low high : ℕ) → IsSpread (is_later c.lane_width) (λ n. get_or (numbers_of_delta c) n 0) low high → IsTightFrame c.lane_width c.width c.least low high → IsTight c.lane_width (is_later c.lane_width) c.least (λ n. get_or (numbers_of_delta c) n 0) high
+tight_delta : (c : DeltaForm) (low high : ℕ) → IsSpread (is_later c.lane_width) (λ n. get_or (numbers_of_delta c) n 0) low high → IsTightFrame c.lane_width c.width c.least low high → IsTight c.lane_width (is_later c.lane_width) c.least (λ n. get_or (numbers_of_delta c) n 0) high
 tight_delta c low high spread tight = record {
   bound = spread.high_bound;
   reached_at = spread.high_reached.0;
@@ -121,7 +117,7 @@ tight_delta c low high spread tight = record {
 }
 
 -- each packed number is its gap
-numbers_are_gaps : (c : DeltaCoded) (high : ℕ) → IsLaneWidth c.lane_width → c.width ≤ c.lane_width → FitsSigned (integer_width c.lane_width) c.least → ((n : ℕ) → n < 1024 → is_later c.lane_width n ≡ false → get_or (numbers_of_delta c) n 0 ≡ 0) → IsTight c.lane_width (is_later c.lane_width) c.least (λ n. get_or (numbers_of_delta c) n 0) high → numbers_of_delta c ≡ later_gaps c.lane_width c.least (delta_values c)
+numbers_are_gaps : (c : DeltaForm) (high : ℕ) → IsLaneWidth c.lane_width → c.width ≤ c.lane_width → FitsSigned (integer_width c.lane_width) c.least → ((n : ℕ) → n < 1024 → is_later c.lane_width n ≡ false → get_or (numbers_of_delta c) n 0 ≡ 0) → IsTight c.lane_width (is_later c.lane_width) c.least (λ n. get_or (numbers_of_delta c) n 0) high → numbers_of_delta c ≡ later_gaps c.lane_width c.least (delta_values c)
 unfolding later_gaps
 numbers_are_gaps c high width within fits zeros whole =
     rows_of-same (λ n. cond (n % c.lane_width == 0) 0 (int_gap c.least (difference_at c.lane_width (delta_values c) n))) (numbers_of_delta c) 0 (length-numbers_of_delta c)
@@ -135,18 +131,18 @@ numbers_are_gaps c high width within fits zeros whole =
         ∙ ap (λ z. int_gap z (difference_at c.lane_width (delta_values c) n)) (tight_least c.lane_width (is_later c.lane_width) (difference_at c.lane_width (delta_values c)) c.least (λ k. get_or (numbers_of_delta c) k 0) 1 high framed whole)
 
 -- where a lane starts at 0, its base is its first value less the least delta
-base_is : (c : DeltaCoded) (lane : ℕ) → IsLaneWidth c.lane_width → lane < 1024 / c.lane_width → FitsSigned (integer_width c.lane_width) (value_at c.bases lane) → get_or (numbers_of_delta c) (row_at c.lane_width lane 0) 0 ≡ 0 → value_at c.bases lane ≡ int_wrap (integer_width c.lane_width) (value_at (delta_values c) (row_at c.lane_width lane 0) -ℤ c.least)
+base_is : (c : DeltaForm) (lane : ℕ) → IsLaneWidth c.lane_width → lane < 1024 / c.lane_width → FitsSigned (integer_width c.lane_width) (value_at c.bases lane) → get_or (numbers_of_delta c) (row_at c.lane_width lane 0) 0 ≡ 0 → value_at c.bases lane ≡ int_wrap (integer_width c.lane_width) (value_at (delta_values c) (row_at c.lane_width lane 0) -ℤ c.least)
 unfolding deltas_of
 base_is c lane width h fits none =
     let t = c.lane_width in
     let b = value_at c.bases lane in
     let n = row_at t lane 0 in
     let there = lane_of-row_at t lane 0 width h (positive_width t width) in
-    let zero_there : packed_value t c.width c.words lane 0 ≡ 0 =
-    sym (ap (λ l. packed_value t c.width c.words l (step_of t n)) there.1 ∙ ap (packed_value t c.width c.words lane) there.2) ∙ sym (number_at c n there.0) ∙ none in
+    let zero_there : packed_value t c.width c.words.numbers lane 0 ≡ 0 =
+    sym (ap (λ l. packed_value t c.width c.words.numbers l (step_of t n)) there.1 ∙ ap (packed_value t c.width c.words.numbers lane) there.2) ∙ sym (number_at c n there.0) ∙ none in
     let first : value_at (delta_values c) n ≡ int_wrap (integer_width t) (b +ℤ c.least) =
-    value_at-delta_values c n there.0 ∙ ap (λ l. delta_at c l (step_of t n)) there.1 ∙ ap (delta_at c lane) there.2 ∙ delta_at_is c lane 0
-    ∙ ap (λ z. int_wrap (integer_width t) (b +ℤ z)) (sum_to-suc 0 (deltas_of c lane) ∙ ap (λ z. z +ℤ (c.least +ℤ pos (packed_value t c.width c.words lane 0))) (sum_to-zero (deltas_of c lane)) ∙ ap (λ g. pos 0 +ℤ (c.least +ℤ pos g)) zero_there)
+    delta_here c n there.0 ∙ ap (λ l. delta_at c l (step_of t n)) there.1 ∙ ap (delta_at c lane) there.2 ∙ delta_at_is c lane 0
+    ∙ ap (λ z. int_wrap (integer_width t) (b +ℤ z)) (sum_to-suc 0 (deltas_of c lane) ∙ ap (λ z. z +ℤ (c.least +ℤ pos (packed_value t c.width c.words.numbers lane 0))) (sum_to-zero (deltas_of c lane)) ∙ ap (λ g. pos 0 +ℤ (c.least +ℤ pos g)) zero_there)
     ∙ ap (int_wrap (integer_width t)) (plain b c.least) in
     sym (ap (λ z. int_wrap (integer_width t) (z -ℤ c.least)) first
     ∙ ap (int_wrap (integer_width t)) (minus (int_wrap (integer_width t) (b +ℤ c.least)) c.least)
@@ -168,7 +164,7 @@ first_row_is_first t lane width h =
     let there = lane_of-row_at t lane 0 width h (positive_width t width) in
     (there.0, ap (λ m. not (m == 0)) there.2)
 
-bases_are_firsts : (c : DeltaCoded) → IsLaneWidth c.lane_width → length c.bases ≡ 1024 / c.lane_width → AreInRange c.lane_width c.bases → ((n : ℕ) → n < 1024 → is_later c.lane_width n ≡ false → get_or (numbers_of_delta c) n 0 ≡ 0) → c.bases ≡ bases_of c.lane_width c.least (delta_values c)
+bases_are_firsts : (c : DeltaForm) → IsLaneWidth c.lane_width → length c.bases ≡ 1024 / c.lane_width → AreInRange c.lane_width c.bases → ((n : ℕ) → n < 1024 → is_later c.lane_width n ≡ false → get_or (numbers_of_delta c) n 0 ≡ 0) → c.bases ≡ bases_of c.lane_width c.least (delta_values c)
 unfolding bases_of
 bases_are_firsts c width count fit zeros =
     fill_by_all (λ lane. int_wrap (integer_width c.lane_width) (value_at (delta_values c) (row_at c.lane_width lane 0) -ℤ c.least)) c.bases (1024 / c.lane_width) (pos 0) count
@@ -176,11 +172,7 @@ bases_are_firsts c width count fit zeros =
     let first = first_row_is_first c.lane_width lane width h in
     base_is c lane width h (column_fits c.lane_width c.bases lane (omega arith) fit) (zeros (row_at c.lane_width lane 0) first.0 first.1))
 
-words_at : ℕ → List ℕ → PackedWords
-words_at t ns = record { lane_width = t; numbers = ns }
-
-pub tight_is_least : (c : DeltaCoded) (low high : ℕ) → IsLaneWidth c.lane_width → c.width ≤ c.lane_width → FitsSigned (integer_width c.lane_width) c.least → length c.bases ≡ 1024 / c.lane_width → AreInRange c.lane_width c.bases → c.words ≡ packed c.lane_width c.width (numbers_of_delta c) → ((n : ℕ) → n < 1024 → is_later c.lane_width n ≡ false → get_or (numbers_of_delta c) n 0 ≡ 0) → IsSpread (is_later c.lane_width) (λ n. get_or (numbers_of_delta c) n 0) low high → IsTightFrame c.lane_width c.width c.least low high → c ≡ least_delta c.lane_width (delta_values c)
-unfolding words_at
+pub tight_is_least : (c : DeltaForm) (low high : ℕ) → IsLaneWidth c.lane_width → c.width ≤ c.lane_width → FitsSigned (integer_width c.lane_width) c.least → length c.bases ≡ 1024 / c.lane_width → AreInRange c.lane_width c.bases → c.words ≡ words_packing c.lane_width c.width (numbers_of_delta c) → ((n : ℕ) → n < 1024 → is_later c.lane_width n ≡ false → get_or (numbers_of_delta c) n 0 ≡ 0) → IsSpread (is_later c.lane_width) (λ n. get_or (numbers_of_delta c) n 0) low high → IsTightFrame c.lane_width c.width c.least low high → c ≡ least_delta c.lane_width (delta_values c)
 tight_is_least c low high width within fits count bases_fit back zeros spread tight =
     let t = c.lane_width in
     let values = delta_values c in
@@ -189,7 +181,7 @@ tight_is_least c low high width within fits count bases_fit back zeros spread ti
     let least : c.least ≡ least_difference t values = sym (least_difference_is t values ∙ tight_least t (is_later t) (difference_at t values) c.least (λ n. get_or (numbers_of_delta c) n 0) 1 high framed whole) in
     let range : int_gap (least_difference t values) (greatest_difference t values) ≡ high = rw (least_difference_is t values, greatest_difference_is t values) (tight_range t (is_later t) (difference_at t values) c.least (λ n. get_or (numbers_of_delta c) n 0) 1 high framed whole) in
     let wide : c.width ≡ delta_width t values = tight.least ∙ sym (delta_width_is t values ∙ ap least_width range) in
-    delta_from_parts t values (record { lane_width = t; numbers = c.words }) c.width c.least c.bases (numbers_of_delta c) (ap (λ (ns : List ℕ). words_at t ns) back) wide least (bases_are_firsts c width count bases_fit zeros) (numbers_are_gaps c high width within fits zeros whole)
+    delta_from_parts c t values (numbers_of_delta c) refl back wide least (bases_are_firsts c width count bases_fit zeros) (numbers_are_gaps c high width within fits zeros whole)
 
 -- ---- the least form is tight
 least_of_form : (t : ℕ) (values : List ℤ) → (least_delta t values).least ≡ least_difference t values
@@ -200,35 +192,35 @@ width_of_form : (t : ℕ) (values : List ℤ) → (least_delta t values).width �
 unfolding least_delta
 width_of_form t values = refl
 
-words_of_form : (t : ℕ) (values : List ℤ) → (least_delta t values).words ≡ packed t (delta_width t values) (later_gaps t (least_difference t values) values)
+words_of_form : (t : ℕ) (values : List ℤ) → (least_delta t values).words ≡ words_packing t (delta_width t values) (later_gaps t (least_difference t values) values)
 unfolding least_delta
 words_of_form t values = refl
 
 -- its packed numbers are the gaps
-least_numbers : (c : DeltaCoded) → IsLaneWidth c.lane_width → c ≡ least_delta c.lane_width (delta_values c) → numbers_of_delta c ≡ later_gaps c.lane_width (least_difference c.lane_width (delta_values c)) (delta_values c)
+least_numbers : (c : DeltaForm) → IsLaneWidth c.lane_width → c ≡ least_delta c.lane_width (delta_values c) → numbers_of_delta c ≡ later_gaps c.lane_width (least_difference c.lane_width (delta_values c)) (delta_values c)
 unfolding numbers_of_delta
 least_numbers c width is =
     let t = c.lane_width in
     let values = delta_values c in
-    ap (λ (w : ℕ). unpacked t w c.words) (ap (λ (d : DeltaCoded). d.width) is ∙ width_of_form t values)
-    ∙ ap (unpacked t (delta_width t values)) (ap (λ (d : DeltaCoded). d.words) is ∙ words_of_form t values)
+    ap (λ (w : ℕ). unpacked t w c.words.numbers) (ap (λ (d : DeltaForm). d.width) is ∙ width_of_form t values)
+    ∙ ap (λ (p : PackedWords). unpacked t (delta_width t values) p.numbers) (ap (λ (d : DeltaForm). d.words) is ∙ words_of_form t values)
     ∙ unpacked-packed t (delta_width t values) (later_gaps t (least_difference t values) values) width (length-later_gaps t (least_difference t values) values) (later_gaps_have_width t values width)
 
-pub least_starts_at_zero : (c : DeltaCoded) → IsLaneWidth c.lane_width → c ≡ least_delta c.lane_width (delta_values c) → (n : ℕ) → n < 1024 → is_later c.lane_width n ≡ false → get_or (numbers_of_delta c) n 0 ≡ 0
+pub least_starts_at_zero : (c : DeltaForm) → IsLaneWidth c.lane_width → c ≡ least_delta c.lane_width (delta_values c) → (n : ℕ) → n < 1024 → is_later c.lane_width n ≡ false → get_or (numbers_of_delta c) n 0 ≡ 0
 least_starts_at_zero c width is n h first =
     ap (λ xs. get_or xs n 0) (least_numbers c width is) ∙ first_gap c.lane_width (least_difference c.lane_width (delta_values c)) (delta_values c) n h (was_first (n % c.lane_width) first)
   where
     was_first : (m : ℕ) → not (m == 0) ≡ false → m ≡ 0
     was_first m e = grind (arith, nat_tests)
 
-pub least_is_tight : (c : DeltaCoded) (low high : ℕ) → IsLaneWidth c.lane_width → c.width ≤ c.lane_width → FitsSigned (integer_width c.lane_width) c.least → IsSpread (is_later c.lane_width) (λ n. get_or (numbers_of_delta c) n 0) low high → c ≡ least_delta c.lane_width (delta_values c) → IsTightFrame c.lane_width c.width c.least low high
+pub least_is_tight : (c : DeltaForm) (low high : ℕ) → IsLaneWidth c.lane_width → c.width ≤ c.lane_width → FitsSigned (integer_width c.lane_width) c.least → IsSpread (is_later c.lane_width) (λ n. get_or (numbers_of_delta c) n 0) low high → c ≡ least_delta c.lane_width (delta_values c) → IsTightFrame c.lane_width c.width c.least low high
 least_is_tight c low high width within fits spread is =
     let t = c.lane_width in
     let values = delta_values c in
     let p = is_later t in
     let f = difference_at t values in
-    let least : c.least ≡ least_difference t values = ap (λ (d : DeltaCoded). d.least) is ∙ least_of_form t values in
-    let wide : c.width ≡ delta_width t values = ap (λ (d : DeltaCoded). d.width) is ∙ width_of_form t values in
+    let least : c.least ≡ least_difference t values = ap (λ (d : DeltaForm). d.least) is ∙ least_of_form t values in
+    let wide : c.width ≡ delta_width t values = ap (λ (d : DeltaForm). d.width) is ∙ width_of_form t values in
     let whole = least_form_is_tight t p f c.least (λ n. get_or (numbers_of_delta c) n 0) 1 (delta_is_framed c width within fits) (least ∙ least_difference_is t values)
     (λ n h later. ap (λ xs. get_or xs n 0) (least_numbers c width is) ∙ later_gap t (least_difference t values) values n h (later_was t n later) ∙ ap (λ z. int_gap z (f n)) (least_difference_is t values)) in
     let range = int_gap (least_of p f 1) (greatest_of p f 1) in
@@ -239,9 +231,10 @@ least_is_tight c low high width within fits spread is =
       stays = subst (λ (g : ℕ). c.least ≤ℤ int_wrap (integer_width t) (c.least +ℤ pos g)) (sym top) whole.stays;
     }
 
-pub no_delta_is_narrower : (c : DeltaCoded) → IsLaneWidth c.lane_width → c.width ≤ c.lane_width → FitsSigned (integer_width c.lane_width) c.least → ((n : ℕ) → n < 1024 → is_later c.lane_width n ≡ true → c.least ≤ℤ difference_at c.lane_width (delta_values c) n) → (least_delta c.lane_width (delta_values c)).width ≤ c.width
-no_delta_is_narrower c width within fits above =
+pub least_delta_is_narrowest : (c : DeltaForm) → IsDeltaForm c → ((n : ℕ) → n < 1024 → is_later c.lane_width n ≡ true → c.least ≤ℤ difference_at c.lane_width (delta_values c) n) → (least_delta c.lane_width (delta_values c)).width ≤ c.width
+least_delta_is_narrowest c is above =
     let t = c.lane_width in
     let values = delta_values c in
+    let within : c.width ≤ t = omega (arith, is.packed.fits, is.words) in
     rw (width_of_form t values, delta_width_is t values, least_difference_is t values, greatest_difference_is t values)
-    (no_smaller_width t (is_later t) (difference_at t values) c.least (λ n. get_or (numbers_of_delta c) n 0) 1 c.width (delta_is_framed c width within fits) above (λ n h _. number_below c n h) within)
+    (no_smaller_width t (is_later t) (difference_at t values) c.least (λ n. get_or (numbers_of_delta c) n 0) 1 c.width (delta_is_framed c is.lane_width within is.least) above (λ n h _. number_below c n h) within)

@@ -6,3 +6,4 @@ pub mod PieceRows
 pub mod LeastFrame
 pub mod DeltaLemmas
 pub mod LeastDelta
+pub mod DifferenceLemmas

@@ -1,14 +1,17 @@
 -- A vector that is written piece by piece holds each row's value in the end, as each row is one lane of one piece.
-use Rattle.std.proofs.Common.{◌≡◌, ◌≢◌, ℕ, ◌+◌, ◌*◌, ◌/◌, ◌%◌, ◌<◌, ◌^◌, ℤ, pos, ◌+ℤ◌, List, length, get_or, replicate, sym, ap, ◌∙◌, arith, below_more}
+use Rattle.std.proofs.Common.{◌≡◌, ◌≢◌, ℕ, ◌+◌, ◌*◌, ◌/◌, ◌%◌, ◌<◌, ◌^◌, ℤ, pos, ◌+ℤ◌, to_z, List, map, length, get_or, replicate, sym, ap, ◌∙◌, arith, below_more}
 use Rattle.std.specs.Int.{w64, int_wrap, cast_unsigned}
 use Rattle.std.specs.Int.RustNames.{FitsSigned}
 use Rattle.std.specs.Simd.Lanes.{zip2}
-use Rattle.std.proofs.lemmas.Int.{int_wrap-add_same}
+use Rattle.std.proofs.lemmas.Int.{int_wrap-add_same, to_z-of_z}
 use Rattle.std.proofs.lemmas.Simd.{get_or-zip2, get_or-replicate, length-replicate}
 use Rattle.transpose_order.specs.Place.{IsLaneWidth, lane_of, step_of, place_of}
+use Rattle.transpose_order.proofs.WidthLemmas.{at_widths}
 use Rattle.transpose_order.specs.Mask.{rows_of}
 use Rattle.transpose_order.specs.MaskWords.{rows_of-same}
 use Rattle.bit_interleave.specs.Arithmetic.{integer_width}
+use Rattle.bit_interleave.specs.Packing.{sixteen_of}
+use Rattle.bit_interleave.proofs.SixteenLemmas.{sixteen_of-like, map-sixteen_of}
 use Rattle.bit_interleave.proofs.PieceLemmas.{place_of-place_of, places_apart, piece_of_row}
 use Rattle.bit_interleave.proofs.WrapLemmas.{int_wrap-mod, int_wrap-bits}
 use Rattle.bit_interleave.specs.Range.{value_at}
@@ -46,3 +49,18 @@ pub lane_of_sum : (n i x : ℕ) (lanes : List ℕ) → length lanes ≡ n → i 
 lane_of_sum n i x lanes long h =
     get_or-zip2 (λ a b. (a + b) % 2 ^ 64) lanes (replicate n x) i 0 0 0 (omega arith) (omega (arith, length-replicate n x))
     ∙ ap (λ y. (get_or lanes i 0 + y) % 2 ^ 64) (get_or-replicate n i x 0 h)
+
+-- the lane and the step of a row of a piece
+pub row_of_piece : (t q i : ℕ) → IsLaneWidth t → q < 64 → i < 16 → (64 * i + place_of t q < 1024) × (lane_of t (64 * i + place_of t q) ≡ 16 * (q / t) + i) × (step_of t (64 * i + place_of t q) ≡ q % t)
+row_of_piece t q i width =
+    at_widths (λ t. q < 64 → i < 16 → (64 * i + place_of t q < 1024) × (lane_of t (64 * i + place_of t q) ≡ 16 * (q / t) + i) × (step_of t (64 * i + place_of t q) ≡ q % t))
+    (λ h l. (omega arith, omega arith, omega arith)) (λ h l. (omega arith, omega arith, omega arith))
+    (λ h l. (omega arith, omega arith, omega arith)) (λ h l. (omega arith, omega arith, omega arith)) t width
+
+-- signed lanes that fit are read back from their bits
+pub read_back : (f : ℕ → ℤ) (xs : List ℤ) → xs ≡ sixteen_of f → ((i : ℕ) → i < 16 → FitsSigned w64 (f i)) → map (to_z w64) (map (cast_unsigned w64) xs) ≡ sixteen_of f
+read_back f xs is fits =
+    ap (λ l. map (to_z w64) (map (cast_unsigned w64) l)) is
+    ∙ ap (map (to_z w64)) (map-sixteen_of (cast_unsigned w64) f)
+    ∙ map-sixteen_of (to_z w64) (λ i. cast_unsigned w64 (f i))
+    ∙ sixteen_of-like (λ i. to_z w64 (cast_unsigned w64 (f i))) f (pos 0) (λ i h. to_z-of_z w64 (f i) (fits i h))

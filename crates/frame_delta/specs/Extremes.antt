@@ -1,5 +1,5 @@
 -- The least and the greatest of the numbers that pass a test.
-use Rattle.std.specs.Prelude.{◌≡◌, ◌<◌, ◌≤◌, true, ℕ, zero, suc, ℤ, pos, ◌+ℤ◌, ◌≤ℤ◌, Bool, cond}
+use Rattle.std.specs.Prelude.{◌≡◌, ◌<◌, ◌≤◌, true, ℕ, zero, suc, ℤ, pos, ◌+ℤ◌, ◌≤ℤ◌, ◌↔◌, Bool, cond}
 use Rattle.std.specs.Int.{int_min, int_max, int_wrap}
 use Rattle.bit_interleave.specs.Arithmetic.{integer_width, least_width}
 
@@ -12,6 +12,26 @@ least_among p f first (suc k) = cond (p k) (int_min (least_among p f first k) (f
 unfoldable pub greatest_among : (ℕ → Bool) → (ℕ → ℤ) → ℤ → ℕ → ℤ
 greatest_among p f first zero = first
 greatest_among p f first (suc k) = cond (p k) (int_max (greatest_among p f first k) (f k)) (greatest_among p f first k)
+
+-- x is one of the f n of the n below k that pass p, and is above none of them
+pub record IsLeastAmong (p : ℕ → Bool) (f : ℕ → ℤ) (k : ℕ) (x : ℤ) : Type 0 where
+  pub bound : (n : ℕ) → n < k → p n ≡ true → x ≤ℤ f n
+  pub reached : (n : ℕ) × (n < k) × (p n ≡ true) × (x ≡ f n)
+
+-- x is one of the f n of the n below k that pass p, and is below none of them
+pub record IsGreatestAmong (p : ℕ → Bool) (f : ℕ → ℤ) (k : ℕ) (x : ℤ) : Type 0 where
+  pub bound : (n : ℕ) → n < k → p n ≡ true → f n ≤ℤ x
+  pub reached : (n : ℕ) × (n < k) × (p n ≡ true) × (x ≡ f n)
+
+-- where some m below k passes, `least_among` from f m on is the least of those that pass, and nothing else is
+abbrev pub LeastAmongIsLeast : Type 0
+LeastAmongIsLeast =
+    (p : ℕ → Bool) (f : ℕ → ℤ) (m k : ℕ) → m < k → p m ≡ true → (x : ℤ) → (x ≡ least_among p f (f m) k) ↔ IsLeastAmong p f k x
+
+-- where some m below k passes, `greatest_among` from f m on is the greatest of those that pass, and nothing else is
+abbrev pub GreatestAmongIsGreatest : Type 0
+GreatestAmongIsGreatest =
+    (p : ℕ → Bool) (f : ℕ → ℤ) (m k : ℕ) → m < k → p m ≡ true → (x : ℤ) → (x ≡ greatest_among p f (f m) k) ↔ IsGreatestAmong p f k x
 
 -- low and high are the least and the greatest of the g n of the n below 1024 that pass p
 pub record IsSpread (p : ℕ → Bool) (g : ℕ → ℕ) (low high : ℕ) : Type 0 where

@@ -2,30 +2,30 @@
 use Rattle.std.specs.Prelude.{◌≡◌, ◌<◌, ◌≤◌, ◌≤ℤ◌, length, ℕ, ◌+◌, ◌*◌, ◌/◌, ℤ, pos, ◌+ℤ◌, true, List}
 use Rattle.std.specs.Int.{int_wrap, int_gap}
 use Rattle.std.specs.Int.RustNames.{FitsSigned}
-use Rattle.bit_interleave.specs.PackedWords.{PackedWords, HasWidth}
 use Rattle.transpose_order.specs.Place.{IsLaneWidth, lane_of, step_of}
 use Rattle.transpose_order.specs.Mask.{rows_of}
 use Rattle.bit_interleave.specs.Arithmetic.{integer_width, least_width}
-use Rattle.bit_interleave.specs.Packing.{packed_value, packed}
+use Rattle.bit_interleave.specs.Packing.{packed_value}
+use Rattle.bit_interleave.specs.PackedWords.{PackedWords, FitLanes, HasWidth, words_packing}
 use Rattle.bit_interleave.specs.Range.{AreInRange, value_at}
 use Rattle.frame_delta.specs.Extremes.{least_among, greatest_among}
 
--- the parts of a vector that is coded by frame of reference
-pub record FrameCoded : Type 0 where
+-- a frame: the lane width, the bits of a packed number, the reference, and the packed numbers' words
+pub record FrameForm : Type 0 where
   pub lane_width : ℕ
   pub width : ℕ
   pub reference : ℤ
-  pub words : List ℕ
+  pub words : PackedWords
 
 -- the value at row n: the reference plus the packed number, modulo two to the power of the lane width, read as signed
-unfoldable pub frame_value : FrameCoded → ℕ → ℤ
-frame_value c n =
-    int_wrap (integer_width c.lane_width)
-    (c.reference +ℤ pos (packed_value c.lane_width c.width c.words (lane_of c.lane_width n) (step_of c.lane_width n)))
+unfoldable pub frame_value : FrameForm → ℕ → ℤ
+frame_value form n =
+    int_wrap (integer_width form.lane_width)
+    (form.reference +ℤ pos (packed_value form.lane_width form.width form.words.numbers (lane_of form.lane_width n) (step_of form.lane_width n)))
 
 -- the 1024 values in row order
-unfoldable pub frame_values : FrameCoded → List ℤ
-frame_values c = rows_of (frame_value c)
+unfoldable pub frame_values : FrameForm → List ℤ
+frame_values form = rows_of (frame_value form)
 
 -- the least of 1024 values
 unfoldable pub least_value : List ℤ → ℤ
@@ -44,30 +44,38 @@ unfoldable pub gaps_above : ℤ → List ℤ → List ℕ
 gaps_above reference values = rows_of (λ n. int_gap reference (value_at values n))
 
 -- the least form: the least value as the reference, and the least width
-unfoldable pub least_frame : ℕ → List ℤ → FrameCoded
+unfoldable pub least_frame : ℕ → List ℤ → FrameForm
 least_frame t values = record {
   lane_width = t;
   width = frame_width values;
   reference = least_value values;
-  words = packed t (frame_width values) (gaps_above (least_value values) values);
+  words = words_packing t (frame_width values) (gaps_above (least_value values) values);
 }
 
 -- the payload's bytes: the reference, and 128 bytes for each bit of the width
-abbrev pub frame_bytes : FrameCoded → ℕ
-frame_bytes c = c.lane_width / 8 + 128 * c.width
+abbrev pub frame_bytes : FrameForm → ℕ
+frame_bytes form = form.lane_width / 8 + 128 * form.width
 
--- words and a reference make a vector: the words have their width, and the reference is in the range of the lane width
-pub record IsFrame (words : PackedWords) (width : ℕ) (reference : ℤ) : Type 0 where
-  pub lanes : IsLaneWidth words.lane_width
-  pub has_width : HasWidth words width
-  pub fits : FitsSigned (integer_width words.lane_width) reference
+-- a frame that stands for 1024 values: its words are of its lane width and have its width, and the reference is in the range
+-- of the lane width
+pub record IsFrameForm (form : FrameForm) : Type 0 where
+  pub lane_width : IsLaneWidth form.lane_width
+  pub words : form.words.lane_width ≡ form.lane_width
+  pub packed : HasWidth form.words form.width
+  pub fit : FitLanes form.words
+  pub reference : FitsSigned (integer_width form.lane_width) form.reference
 
 -- the least form of some values decodes to them
-abbrev pub FrameGivesBackItsValues : Type 0
-FrameGivesBackItsValues =
+abbrev pub LeastFrameGivesBack : Type 0
+LeastFrameGivesBack =
     (t : ℕ) (values : List ℤ) → IsLaneWidth t → length values ≡ 1024 → AreInRange t values → frame_values (least_frame t values) ≡ values
 
--- of all forms whose reference is above none of their values, none has a smaller width than the least form of those values
-abbrev pub NoFrameIsNarrower : Type 0
-NoFrameIsNarrower =
-    (c : FrameCoded) → IsLaneWidth c.lane_width → c.width ≤ c.lane_width → FitsSigned (integer_width c.lane_width) c.reference → ((n : ℕ) → n < 1024 → c.reference ≤ℤ value_at (frame_values c) n) → (least_frame c.lane_width (frame_values c)).width ≤ c.width
+-- the least form of values in the range of the lane width is a frame
+abbrev pub LeastFrameIsAForm : Type 0
+LeastFrameIsAForm =
+    (t : ℕ) (values : List ℤ) → IsLaneWidth t → length values ≡ 1024 → AreInRange t values → IsFrameForm (least_frame t values)
+
+-- of all frames whose reference is above none of their values, none has a smaller width than the least form of those values
+abbrev pub LeastFrameIsNarrowest : Type 0
+LeastFrameIsNarrowest =
+    (form : FrameForm) → IsFrameForm form → ((n : ℕ) → n < 1024 → form.reference ≤ℤ value_at (frame_values form) n) → (least_frame form.lane_width (frame_values form)).width ≤ form.width

@@ -1,24 +1,25 @@
 //! Vectors coded by deltas.
-ghost use Rattle.std.specs.Prelude.{◌≡◌, ◌≢◌, ℕ, ◌+◌, ◌*◌, ◌/◌, ◌%◌, ◌<◌, ◌≤◌, ◌≤ℤ◌, ◌-ℤ◌, ◌↔◌, if◌then◌else◌, ◌==◌, false, length, slice_index, vec_capacity, IsTrue, IfOk};
-ghost use Rattle.std.specs.Int.{w64, cast_unsigned, int_min, int_max, int_gap, int_wrap};
+ghost use Rattle.std.specs.Prelude.{◌≡◌, ◌≢◌, ℕ, ◌+◌, ◌-◌, ◌*◌, ◌/◌, ◌%◌, ◌<◌, ◌≤◌, ◌↔◌, map, length, slice_index, IsTrue, IfOk};
+ghost use Rattle.std.specs.Int.{w64, cast_unsigned};
 ghost use Rattle.std.specs.Int.RustNames.{FitsSigned};
-ghost use Rattle.transpose_order.specs.Place.{IsLaneWidth, row_at};
+ghost use Rattle.transpose_order.specs.Place.{IsLaneWidth};
 ghost use Rattle.bit_interleave.specs.Arithmetic.{integer_width};
-ghost use Rattle.bit_interleave.specs.PackedWords.{PackedWords, HasWidth};
+ghost use Rattle.bit_interleave.specs.PackedWords.{HasWidth};
 ghost use Rattle.bit_interleave.specs.Range.{AreInRange, value_at};
-ghost use Rattle.frame_delta.specs.Extremes.{IsSpread};
-ghost use Rattle.frame_delta.specs.Delta.{DeltaCoded, is_later, difference_at, least_difference, greatest_difference, delta_width, later_gaps, bases_of, delta_values, least_delta, delta_bytes};
+ghost use Rattle.frame_delta.specs.Delta.{IsDeltaForm, AreSums, delta_value, delta_values, least_delta, delta_bytes};
 
-use crate::extremes::{Spread, gap};
+use crate::differences::{bases_of, differences_within, fill_first_steps, starts_at_zero};
+use crate::extremes::{Frame, gaps_above, spread_of};
 use crate::pieces::{added, put_wrapped, raised};
-use bit_interleave::{Words, width_of, wrapping_difference};
+use bit_interleave::{LaneWord, Words, step_at, wrap};
 use std::alloc::{AllocError, Global};
 use std::marker::Model;
 use std::simd::prelude::*;
-use transpose_order::{place_in_word, row_at};
+use transpose_order::{place, place_in_word};
 
 /// A vector of 1024 signed integers of 8, 16, 32 or 64 bits, in each lane a base and the differences of neighbours, each the
-/// least delta plus a packed number, modulo two to the power of the lane width (FastLanes, VLDB 2023, delta coding).
+/// least delta plus a packed number, modulo two to the power of the lane width. Coded in the manner of FastLanes (VLDB 2023),
+/// delta coding; the order of rows, the least delta below the packed numbers and the payload are our own.
 #[derive(Drop)]
 pub struct Delta {
     width: usize,
@@ -28,121 +29,13 @@ pub struct Delta {
 }
 
 impl Model for Delta {
-    ghost use Rattle.frame_delta.specs.Delta.{DeltaCoded, IsDelta};
+    ghost use Rattle.frame_delta.specs.Delta.{DeltaForm, IsDeltaForm};
 
-    ghost Value = { DeltaCoded };
+    ghost Value = { DeltaForm };
 
-    ghost view = { λ c. record { lane_width = c.words.lane_width; width = c.width; least = c.least; bases = c.bases.items; words = c.words.numbers } };
+    ghost view = { λ c. record { lane_width = c.words.lane_width; width = c.width; least = c.least; bases = c.bases.items; words = c.words } };
 
-    ghost invariant = { λ c. IsDelta c.words c.width c.least c.bases.items };
-}
-
-/// Whether a row is at step 1 or later of its lane.
-fn is_later(lane_width: usize, row: usize) -> bool
-    requires { IsLaneWidth lane_width }
-    ensures { result ≡ is_later lane_width row }
-{
-    row & (lane_width - 1) != 0
-}
-
-/// The difference of a row's value from the row before.
-fn difference_at(lane_width: usize, values: &[i64; 1024], row: usize) -> i64
-    requires lane_width { IsLaneWidth lane_width }
-    requires positive { 0 < row }
-    requires row { row < 1024 }
-    ensures { result ≡ difference_at lane_width values.now row }
-{
-    wrapping_difference(lane_width, values[row], values[row - 1])
-}
-
-/// The lesser of two numbers where the second counts.
-fn lesser(counts: bool, least: i64, difference: i64) -> i64
-    ensures { result ≡ (if counts then int_min least difference else least) }
-{
-    if counts { least.min(difference) } else { least }
-}
-
-/// The greater of two numbers where the second counts.
-fn greater(counts: bool, greatest: i64, difference: i64) -> i64
-    ensures { result ≡ (if counts then int_max greatest difference else greatest) }
-{
-    if counts {
-        greatest.max(difference)
-    } else {
-        greatest
-    }
-}
-
-/// The least and the greatest difference within the lanes.
-fn slopes_of(values: &[i64; 1024], lane_width: usize) -> (i64, i64)
-    requires { IsLaneWidth lane_width }
-    ensures least { result.0 ≡ least_difference lane_width values.now }
-    ensures greatest { result.1 ≡ greatest_difference lane_width values.now }
-{
-    let first = difference_at(lane_width, values, 1);
-    let mut least = first;
-    let mut greatest = first;
-    for row in 1..1024 {
-        let counts = is_later(lane_width, row);
-        let difference = difference_at(lane_width, values, row);
-        least = lesser(counts, least, difference);
-        greatest = greater(counts, greatest, difference);
-    }
-    (least, greatest)
-}
-
-/// How far a later difference is above the least, or 0 at step 0.
-fn later_gap(lane_width: usize, least: i64, values: &[i64; 1024], row: usize) -> u64
-    requires lane_width { IsLaneWidth lane_width }
-    requires least { least ≡ least_difference lane_width values.now }
-    requires row { row < 1024 }
-    ensures { result ≡ (if row % lane_width == 0 then 0 else int_gap least (difference_at lane_width values.now row)) }
-{
-    if !is_later(lane_width, row) {
-        return 0;
-    }
-    gap(least, difference_at(lane_width, values, row))
-}
-
-/// How far each later difference is above the least, and 0 at step 0.
-fn later_gaps(lane_width: usize, least: i64, values: &[i64; 1024]) -> [u64; 1024]
-    requires lane_width { IsLaneWidth lane_width }
-    requires least { least ≡ least_difference lane_width values.now }
-    ensures { result ≡ later_gaps lane_width least values.now }
-{
-    let mut gaps = [0; 1024];
-    for row in 0..1024 {
-        gaps[row] = later_gap(lane_width, least, values, row);
-    }
-    gaps
-}
-
-/// A lane's first value less the least delta.
-fn base_at(lane_width: usize, least: i64, values: &[i64; 1024], lane: usize) -> i64
-    requires lane_width { IsLaneWidth lane_width }
-    requires lane { lane < 1024 / lane_width }
-    ensures { result ≡ int_wrap (integer_width lane_width) (value_at values.now (row_at lane_width lane 0) -ℤ least) }
-{
-    wrapping_difference(lane_width, values[row_at(lane_width, lane, 0)], least)
-}
-
-/// Each lane's first value less the least delta, in lane order, with no room to spare.
-fn bases_of(
-    alloc: Global,
-    lane_width: usize,
-    least: i64,
-    values: &[i64; 1024],
-) -> Result<Vec<i64>, AllocError>
-    requires { IsLaneWidth lane_width }
-    ensures items { IfOk result (λ bases. bases.items ≡ bases_of lane_width least values.now) }
-    ensures exact { IfOk result (λ bases. vec_capacity bases ≡ 1024 / lane_width) }
-{
-    let lanes = 1024 / lane_width;
-    let mut bases = Vec::with_capacity(alloc, lanes)?;
-    for lane in 0..lanes {
-        bases.push_reserved(base_at(lane_width, least, values, lane));
-    }
-    Ok(bases)
+    ghost invariant = { λ c. IsDeltaForm (record { lane_width = c.words.lane_width; width = c.width; least = c.least; bases = c.bases.items; words = c.words }) };
 }
 
 /// The bits of sixteen bases from place `at` on.
@@ -172,61 +65,30 @@ fn lanes_before(step: usize, sums: Simd<u64, 16>, bases: &[i64], at: usize) -> S
     base_bits(bases, at)
 }
 
-/// Whether each packed number at step 0 is 0.
-fn starts_at_zero(lane_width: usize, numbers: &[u64; 1024]) -> bool
-    requires { IsLaneWidth lane_width }
-    ensures { IsTrue result ↔ ((n : ℕ) → n < 1024 → is_later lane_width n ≡ false → slice_index numbers.now n ≡ 0) }
-{
-    for row in 0..1024 {
-        if !is_later(lane_width, row) && numbers[row] != 0 {
-            return false;
-        }
-    }
-    true
-}
-
-/// A number where it counts, and else another.
-fn counted(counts: bool, number: u64, other: u64) -> u64
-    ensures { result ≡ (if counts then number else other) }
-{
-    if counts { number } else { other }
-}
-
-/// The least and the greatest of the packed numbers at steps 1 and later.
-fn later_spread(lane_width: usize, numbers: &[u64; 1024]) -> Spread
-    requires { IsLaneWidth lane_width }
-    ensures { IsSpread (is_later lane_width) (slice_index numbers.now) result.least result.greatest }
-{
-    let first = numbers[1];
-    let mut least = first;
-    let mut greatest = first;
-    for row in 0..1024 {
-        let number = counted(is_later(lane_width, row), numbers[row], first);
-        least = least.min(number);
-        greatest = greatest.max(number);
-    }
-    Spread { least, greatest }
-}
-
-/// The least difference and the least width of a vector.
-#[derive(Drop)]
-struct Slope {
-    least: i64,
+/// Writes the 1024 values in row order of bases, a least delta and words that pack numbers of `width` bits.
+fn write_sums<U: LaneWord>(
     width: usize,
-}
-
-impl Slope {
-    fn of(values: &[i64; 1024], lane_width: usize) -> Self
-        requires { IsLaneWidth lane_width }
-        ensures least { result.least ≡ least_difference lane_width values.now }
-        ensures width { result.width ≡ delta_width lane_width values.now }
-        ensures bound { result.width ≤ lane_width }
-    {
-        let (least, greatest) = slopes_of(values, lane_width);
-        Slope {
-            least,
-            width: width_of(gap(least, greatest)),
-        }
+    least: i64,
+    bases: &[i64],
+    words: &[U],
+    values: &mut [i64; 1024],
+)
+    requires width { width ≤ U.BITS }
+    requires base_count { length bases.now ≡ 1024 / U.BITS }
+    requires bases { AreInRange U.BITS bases.now }
+    requires words { length words.now ≡ width * (1024 / U.BITS) }
+    ensures values { values.new ≡ delta_values (record { lane_width = U.BITS; width = width; least = least; bases = bases.now; words = record { lane_width = U.BITS; numbers = map U.number words.now } }) }
+    ensures fit { AreInRange U.BITS values.new }
+{
+    let bits = U::BITS;
+    let by = least.cast_unsigned();
+    let mut sums = Simd::splat(0);
+    for piece in 0..64 {
+        let group = piece / bits;
+        let step = piece % bits;
+        let before = lanes_before(step, sums, bases, 16 * group);
+        sums = added(raised(before, by), step_at(width, words, group, step));
+        put_wrapped(bits, sums, place_in_word(bits, piece), values);
     }
 }
 
@@ -238,8 +100,8 @@ impl Delta {
         requires fit { AreInRange lane_width values.now }
         ensures { result ≡ delta_bytes (least_delta lane_width values.now) }
     {
-        let slope = Slope::of(values, lane_width);
-        (lane_width / 8 + 128 + 128 * slope.width) as u16
+        let frame = Frame::of(&differences_within(lane_width, values), lane_width);
+        (lane_width / 8 + 128 + 128 * frame.width) as u16
     }
 
     /// The least form of 1024 values: the least difference of neighbours within a lane, and the least width. The values, in row
@@ -253,8 +115,10 @@ impl Delta {
         requires fit { AreInRange lane_width values.now }
         ensures { IfOk result (λ coded. coded ≡ least_delta lane_width values.now) }
     {
-        let Slope { least, width } = Slope::of(values, lane_width);
-        let gaps = later_gaps(lane_width, least, values);
+        let mut differences = differences_within(lane_width, values);
+        let Frame { least, width } = Frame::of(&differences, lane_width);
+        fill_first_steps(lane_width, least, &mut differences);
+        let gaps = gaps_above(least, &differences);
         let bases = bases_of(alloc, lane_width, least, values)?;
         let words = Words::pack(alloc, lane_width, width, &gaps)?;
         Ok(Delta {
@@ -280,9 +144,10 @@ impl Delta {
         requires least { FitsSigned (integer_width lane_width) least }
         requires base_count { length bases.items ≡ 1024 / lane_width }
         requires bases { AreInRange lane_width bases.items }
-        ensures { result ≡ record { lane_width = lane_width; width = width; least = least; bases = bases.items; words = words.numbers } }
+        ensures { result ≡ record { lane_width = lane_width; width = width; least = least; bases = bases.items; words = words } }
     {
-        let _ = lane_width;
+        // `len` ensures that the words fit their lanes, which a form's rule names.
+        let _ = (lane_width, words.len());
         Delta {
             width,
             least,
@@ -293,19 +158,51 @@ impl Delta {
 
     /// Writes the 1024 values in row order, each in the range of the lane width.
     pub fn decode(&self, values: &mut [i64; 1024])
-        ensures { values.new ≡ delta_values self.now }
+        ensures values { values.new ≡ delta_values self.now }
+        ensures fit { AreInRange self.now.lane_width values.new }
+    {
+        let (width, least, words) = (self.width, self.least, &self.words);
+        let bases = self.bases.as_slice();
+        match words.lane_width() {
+            8 => write_sums(width, least, bases, words.words_8(), values),
+            16 => write_sums(width, least, bases, words.words_16(), values),
+            32 => write_sums(width, least, bases, words.words_32(), values),
+            _ => write_sums(width, least, bases, words.words_64(), values),
+        }
+    }
+
+    /// The value of a row, 0 to 1023, in the range of the lane width: the sum of its lane's steps up to its own.
+    pub fn value(&self, row: usize) -> i64
+        requires { row < 1024 }
+        ensures value { result ≡ delta_value self.now row }
+        ensures fits { FitsSigned (integer_width self.now.lane_width) result }
     {
         let lane_width = self.words.lane_width();
+        let (lane, last) = place(lane_width, row);
         let least = self.least.cast_unsigned();
-        let mut sums = Simd::splat(0);
-        for piece in 0..64 {
-            let group = piece / lane_width;
-            let step = piece % lane_width;
-            let before = lanes_before(step, sums, self.bases.as_slice(), 16 * group);
-            let numbers = self.words.step(self.width, group, step);
-            sums = added(raised(before, least), numbers);
-            put_wrapped(lane_width, sums, place_in_word(lane_width, piece), values);
+        let mut sum = self.bases[lane].cast_unsigned();
+        for step in 0..last + 1 {
+            let number = self.words.value(self.width, lane, step);
+            sum = sum.wrapping_add(least).wrapping_add(number);
         }
+        wrap(lane_width, sum)
+    }
+
+    /// The sums of piece `piece`, 0 to 63, from those of the piece before, which count only where both pieces are of the same
+    /// lanes, that is where `piece` is no multiple of the lane width. Element i, modulo two to the power of the lane width and
+    /// read as signed, is the value at row `64 * i + place_in_word(lane_width, piece)`.
+    pub fn sums(&self, piece: usize, before: Simd<u64, 16>) -> Simd<u64, 16>
+        requires piece { piece < 64 }
+        requires long { length before ≡ 16 }
+        requires before { piece % self.now.lane_width ≢ 0 → AreSums self.now (piece - 1) before }
+        ensures { AreSums self.now piece result }
+    {
+        let lane_width = self.words.lane_width();
+        let group = piece / lane_width;
+        let step = piece % lane_width;
+        let from = lanes_before(step, before, self.bases.as_slice(), 16 * group);
+        let numbers = self.words.step(self.width, group, step);
+        added(raised(from, self.least.cast_unsigned()), numbers)
     }
 
     /// Whether this is the least form of the values that it decodes to, part for part.
@@ -318,13 +215,16 @@ impl Delta {
         if !starts_at_zero(lane_width, &numbers) {
             return false;
         }
-        later_spread(lane_width, &numbers).is_tight(lane_width, self.width, self.least)
+        let any = numbers[1];
+        fill_first_steps(lane_width, any, &mut numbers);
+        spread_of(&numbers).is_tight(lane_width, self.width, self.least)
     }
 
     /// The lane width in bits: 8, 16, 32 or 64.
     pub fn lane_width(&self) -> usize
         ensures value { result ≡ self.now.lane_width }
         ensures lanes { IsLaneWidth result }
+        ensures form { IsDeltaForm self.now }
     {
         self.words.lane_width()
     }
@@ -356,7 +256,7 @@ impl Delta {
 
     /// The packed words, `width * (1024 / lane_width)` of them, each of the lane width.
     pub fn words(&self) -> &Words
-        ensures value { result.now ≡ record { lane_width = self.now.lane_width; numbers = self.now.words } }
+        ensures value { result.now ≡ self.now.words }
         ensures width { HasWidth result.now self.now.width }
     {
         &self.words

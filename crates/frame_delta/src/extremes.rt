@@ -1,15 +1,15 @@
 //! The least and the greatest of a vector's values, and distances above the least.
-ghost use Rattle.std.specs.Prelude.{◌≡◌, ℕ, ◌<◌, ◌≤ℤ◌, ◌↔◌, true, slice_index, IsTrue};
+ghost use Rattle.std.specs.Prelude.{◌≡◌, ℕ, ◌<◌, ◌≤◌, ◌≤ℤ◌, ◌↔◌, true, slice_index, IsTrue};
 ghost use Rattle.std.specs.Int.{int_gap};
-ghost use Rattle.bit_interleave.specs.Range.{value_at};
+ghost use Rattle.bit_interleave.specs.Range.{AreInRange, value_at};
 ghost use Rattle.frame_delta.specs.Extremes.{IsSpread, IsTightFrame};
 ghost use Rattle.transpose_order.specs.Place.{IsLaneWidth};
-ghost use Rattle.frame_delta.specs.Frame.{least_value, greatest_value, gaps_above};
+ghost use Rattle.frame_delta.specs.Frame.{least_value, greatest_value, frame_width, gaps_above};
 
 use bit_interleave::{width_of, wrapping_sum_with};
 
 /// How far `value` is above `least`.
-pub(crate) fn gap(least: i64, value: i64) -> u64
+fn gap(least: i64, value: i64) -> u64
     requires { least ≤ℤ value }
     ensures { result ≡ int_gap least value }
 {
@@ -17,7 +17,7 @@ pub(crate) fn gap(least: i64, value: i64) -> u64
 }
 
 /// The least and the greatest of 1024 values.
-pub(crate) fn range_of(values: &[i64; 1024]) -> (i64, i64)
+fn range_of(values: &[i64; 1024]) -> (i64, i64)
     ensures least { result.0 ≡ least_value values.now }
     ensures greatest { result.1 ≡ greatest_value values.now }
 {
@@ -28,6 +28,30 @@ pub(crate) fn range_of(values: &[i64; 1024]) -> (i64, i64)
         greatest = greatest.max(values[n]);
     }
     (least, greatest)
+}
+
+/// The least of 1024 values, and the least width that holds how far each is above it.
+#[derive(Drop)]
+pub(crate) struct Frame {
+    pub(crate) least: i64,
+    pub(crate) width: usize,
+}
+
+impl Frame {
+    /// That of values in the range of `lane_width` bits.
+    pub(crate) fn of(values: &[i64; 1024], lane_width: usize) -> Self
+        requires lane_width { IsLaneWidth lane_width }
+        requires fit { AreInRange lane_width values.now }
+        ensures least { result.least ≡ least_value values.now }
+        ensures width { result.width ≡ frame_width values.now }
+        ensures bound { result.width ≤ lane_width }
+    {
+        let (least, greatest) = range_of(values);
+        Frame {
+            least,
+            width: width_of(gap(least, greatest)),
+        }
+    }
 }
 
 /// How far each of 1024 values is above a reference that is above none of them.

@@ -1,21 +1,23 @@
 //! Vectors coded by frame of reference.
-ghost use Rattle.std.specs.Prelude.{◌≡◌, ℕ, ◌+◌, ◌*◌, ◌/◌, ◌<◌, ◌≤◌, ◌↔◌, IsTrue, IfOk};
+ghost use Rattle.std.specs.Prelude.{◌≡◌, ◌+◌, ◌*◌, ◌/◌, ◌<◌, ◌≤◌, ◌↔◌, map, length, IsTrue, IfOk};
 ghost use Rattle.std.specs.Int.RustNames.{FitsSigned};
-ghost use Rattle.transpose_order.specs.Place.{IsLaneWidth};
+ghost use Rattle.transpose_order.specs.Place.{IsLaneWidth, place_of};
 ghost use Rattle.bit_interleave.specs.Arithmetic.{integer_width};
-ghost use Rattle.bit_interleave.specs.PackedWords.{PackedWords, HasWidth};
+ghost use Rattle.bit_interleave.specs.Packing.{sixteen_of};
+ghost use Rattle.bit_interleave.specs.PackedWords.{HasWidth};
 ghost use Rattle.bit_interleave.specs.Range.{AreInRange};
-ghost use Rattle.frame_delta.specs.Frame.{FrameCoded, frame_values, least_frame, frame_bytes, least_value, frame_width};
+ghost use Rattle.frame_delta.specs.Frame.{IsFrameForm, frame_value, frame_values, least_frame, frame_bytes};
 
-use crate::extremes::{gap, gaps_above, range_of, spread_of};
+use crate::extremes::{Frame, gaps_above, spread_of};
 use crate::pieces::{put_wrapped, raised};
-use bit_interleave::{Words, width_of};
+use bit_interleave::{LaneWord, Words, step_at, wrap_lanes, wrapping_sum_with};
 use std::alloc::{AllocError, Global};
 use std::marker::Model;
-use transpose_order::place_in_word;
+use std::simd::prelude::*;
+use transpose_order::{place, place_in_word};
 
 /// A vector of 1024 signed integers of 8, 16, 32 or 64 bits, each a reference plus a packed number, modulo two to the power of
-/// the lane width (FastLanes, VLDB 2023, frame of reference).
+/// the lane width. Coded in the manner of FastLanes (VLDB 2023), frame of reference; the order of rows and the payload are our own.
 #[derive(Drop)]
 pub struct For {
     width: usize,
@@ -24,35 +26,32 @@ pub struct For {
 }
 
 impl Model for For {
-    ghost use Rattle.frame_delta.specs.Frame.{FrameCoded, IsFrame};
+    ghost use Rattle.frame_delta.specs.Frame.{FrameForm, IsFrameForm};
 
-    ghost Value = { FrameCoded };
+    ghost Value = { FrameForm };
 
-    ghost view = { λ c. record { lane_width = c.words.lane_width; width = c.width; reference = c.reference; words = c.words.numbers } };
+    ghost view = { λ c. record { lane_width = c.words.lane_width; width = c.width; reference = c.reference; words = c.words } };
 
-    ghost invariant = { λ c. IsFrame c.words c.width c.reference };
+    ghost invariant = { λ c. IsFrameForm (record { lane_width = c.words.lane_width; width = c.width; reference = c.reference; words = c.words }) };
 }
 
-/// The least value and the least width of a vector.
-#[derive(Drop)]
-struct Frame {
-    reference: i64,
-    width: usize,
-}
-
-impl Frame {
-    fn of(values: &[i64; 1024], lane_width: usize) -> Self
-        requires lane_width { IsLaneWidth lane_width }
-        requires fit { AreInRange lane_width values.now }
-        ensures reference { result.reference ≡ least_value values.now }
-        ensures width { result.width ≡ frame_width values.now }
-        ensures bound { result.width ≤ lane_width }
-    {
-        let (least, greatest) = range_of(values);
-        Frame {
-            reference: least,
-            width: width_of(gap(least, greatest)),
-        }
+/// Writes the 1024 values in row order of words that pack numbers of `width` bits above a reference.
+fn write_values<U: LaneWord>(width: usize, reference: i64, words: &[U], values: &mut [i64; 1024])
+    requires width { width ≤ U.BITS }
+    requires words { length words.now ≡ width * (1024 / U.BITS) }
+    ensures values { values.new ≡ frame_values (record { lane_width = U.BITS; width = width; reference = reference; words = record { lane_width = U.BITS; numbers = map U.number words.now } }) }
+    ensures fit { AreInRange U.BITS values.new }
+{
+    let bits = U::BITS;
+    let above = reference.cast_unsigned();
+    for piece in 0..64 {
+        let lanes = step_at(width, words, piece / bits, piece % bits);
+        put_wrapped(
+            bits,
+            raised(lanes, above),
+            place_in_word(bits, piece),
+            values,
+        );
     }
 }
 
@@ -79,7 +78,10 @@ impl For {
         requires fit { AreInRange lane_width values.now }
         ensures { IfOk result (λ coded. coded ≡ least_frame lane_width values.now) }
     {
-        let Frame { reference, width } = Frame::of(values, lane_width);
+        let Frame {
+            least: reference,
+            width,
+        } = Frame::of(values, lane_width);
         let gaps = gaps_above(reference, values);
         let words = Words::pack(alloc, lane_width, width, &gaps)?;
         Ok(For {
@@ -95,9 +97,10 @@ impl For {
         requires lane_width { lane_width ≡ words.lane_width }
         requires width { HasWidth words width }
         requires reference { FitsSigned (integer_width lane_width) reference }
-        ensures { result ≡ record { lane_width = lane_width; width = width; reference = reference; words = words.numbers } }
+        ensures { result ≡ record { lane_width = lane_width; width = width; reference = reference; words = words } }
     {
-        let _ = lane_width;
+        // `len` ensures that the words fit their lanes, which a form's rule names.
+        let _ = (lane_width, words.len());
         For {
             width,
             reference,
@@ -107,17 +110,41 @@ impl For {
 
     /// Writes the 1024 values in row order, each in the range of the lane width.
     pub fn decode(&self, values: &mut [i64; 1024])
-        ensures { values.new ≡ frame_values self.now }
+        ensures values { values.new ≡ frame_values self.now }
+        ensures fit { AreInRange self.now.lane_width values.new }
+    {
+        let (width, reference, words) = (self.width, self.reference, &self.words);
+        match words.lane_width() {
+            8 => write_values(width, reference, words.words_8(), values),
+            16 => write_values(width, reference, words.words_16(), values),
+            32 => write_values(width, reference, words.words_32(), values),
+            _ => write_values(width, reference, words.words_64(), values),
+        }
+    }
+
+    /// The value of a row, 0 to 1023, in the range of the lane width.
+    pub fn value(&self, row: usize) -> i64
+        requires { row < 1024 }
+        ensures value { result ≡ frame_value self.now row }
+        ensures fits { FitsSigned (integer_width self.now.lane_width) result }
     {
         let lane_width = self.words.lane_width();
-        let reference = self.reference.cast_unsigned();
-        for piece in 0..64 {
-            let lanes = self
-                .words
-                .step(self.width, piece / lane_width, piece % lane_width);
-            let place = place_in_word(lane_width, piece);
-            put_wrapped(lane_width, raised(lanes, reference), place, values);
-        }
+        let (lane, step) = place(lane_width, row);
+        let number = self.words.value(self.width, lane, step);
+        wrapping_sum_with(lane_width, self.reference, number)
+    }
+
+    /// Sixteen values, those of piece `piece`, 0 to 63: element i is the value at row
+    /// `64 * i + place_in_word(lane_width, piece)`.
+    pub fn piece(&self, piece: usize) -> Simd<i64, 16>
+        requires { piece < 64 }
+        ensures { result ≡ sixteen_of (λ i. frame_value self.now (64 * i + place_of self.now.lane_width piece)) }
+    {
+        let lane_width = self.words.lane_width();
+        let numbers = self
+            .words
+            .step(self.width, piece / lane_width, piece % lane_width);
+        wrap_lanes(lane_width, raised(numbers, self.reference.cast_unsigned()))
     }
 
     /// Whether this is the least form of the values that it decodes to, part for part.
@@ -133,6 +160,7 @@ impl For {
     pub fn lane_width(&self) -> usize
         ensures value { result ≡ self.now.lane_width }
         ensures lanes { IsLaneWidth result }
+        ensures form { IsFrameForm self.now }
     {
         self.words.lane_width()
     }
@@ -155,7 +183,7 @@ impl For {
 
     /// The packed words, `width * (1024 / lane_width)` of them, each of the lane width.
     pub fn words(&self) -> &Words
-        ensures value { result.now ≡ record { lane_width = self.now.lane_width; numbers = self.now.words } }
+        ensures value { result.now ≡ self.now.words }
         ensures width { HasWidth result.now self.now.width }
     {
         &self.words

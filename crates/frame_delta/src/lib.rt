@@ -2,6 +2,7 @@
 #![tactic(auto)]
 
 mod delta_coding;
+mod differences;
 mod extremes;
 mod frame_coding;
 mod laws;
@@ -10,8 +11,9 @@ mod pieces;
 pub use delta_coding::Delta;
 pub use frame_coding::For;
 pub use laws::{
-    delta_gives_back_its_values, frame_gives_back_its_values, no_delta_is_narrower,
-    no_frame_is_narrower,
+    deltas_add_up, greatest_among_is_greatest, least_among_is_least, least_delta_gives_back,
+    least_delta_is_a_form, least_delta_is_narrowest, least_frame_gives_back, least_frame_is_a_form,
+    least_frame_is_narrowest, sums_give_their_rows,
 };
 
 #[cfg(test)]

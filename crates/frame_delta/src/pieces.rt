@@ -10,6 +10,7 @@ use std::simd::prelude::*;
 
 /// Writes the sixteen lanes of a piece, each modulo two to the power of `lane_width` and read as signed, to its rows,
 /// which stand at one place of each 64.
+#[inline(always)]
 pub(crate) fn put_wrapped(
     lane_width: usize,
     lanes: Simd<u64, 16>,
@@ -30,6 +31,7 @@ pub(crate) fn put_wrapped(
 }
 
 /// Each lane and a number, modulo two to the power of 64.
+#[inline(always)]
 pub(crate) fn raised(lanes: Simd<u64, 16>, by: u64) -> Simd<u64, 16>
     requires { length lanes ≡ 16 }
     ensures long { length result ≡ 16 }
@@ -39,6 +41,7 @@ pub(crate) fn raised(lanes: Simd<u64, 16>, by: u64) -> Simd<u64, 16>
 }
 
 /// The lanes of two pieces added, modulo two to the power of 64.
+#[inline(always)]
 pub(crate) fn added(a: Simd<u64, 16>, b: Simd<u64, 16>) -> Simd<u64, 16>
     requires left { length a ≡ 16 }
     requires right { length b ≡ 16 }

@@ -8,6 +8,7 @@ use super::*;
 use bit_interleave::{Words, wrap};
 use std::alloc::Global;
 use std::process::Abort;
+use std::simd::prelude::*;
 use std::test::Fail;
 
 /// What a test's vector holds: multiples of a step, one number, two in turn, or one up to a row and another from it on.
@@ -40,40 +41,17 @@ fn column(lane_width: usize, pattern: Pattern) -> [i64; 1024]
     values
 }
 
-/// A number where it is asked for, and else 0.
-fn number_if(asked: bool, number: u64) -> u64
-    requires { number < 2 ^ 16 }
-    ensures { result < 2 ^ 16 }
-{
-    if asked { number } else { 0 }
-}
-
 /// Words of which the first is a number and the others are 0.
 fn first_then_zeros(first: u64) -> [u64; 64]
     requires { first < 2 ^ 16 }
     ensures { All (λ n. n < 2 ^ 16) result }
 {
     let mut numbers = [0; 64];
-    for n in 0..64 {
-        numbers[n] = number_if(n == 0, first);
-    }
+    numbers[0] = first;
     numbers
 }
 
-/// Whether words are of one width and have the same numbers.
-fn are_same(left: &Words, right: &Words) -> bool {
-    if left.lane_width() != right.lane_width() || left.len() != right.len() {
-        return false;
-    }
-    for i in 0..left.len() {
-        if left.word(i) != right.word(i) {
-            return false;
-        }
-    }
-    true
-}
-
-/// A vector's least frame has `bytes` bytes and is the least, and its copy has its parts and decodes to the vector.
+/// A vector's least frame has `bytes` bytes and is the least, and its copy decodes to the vector, at once and row by row.
 fn frame_comes_back(
     rt: &impl Abort,
     alloc: Global,
@@ -84,28 +62,22 @@ fn frame_comes_back(
     requires lane_width { IsLaneWidth lane_width }
     requires range { AreInRange lane_width values.now }
 {
-    let coded = For::encode(alloc, values, lane_width)?;
+    let coded = For::encode(alloc, values, lane_width)?.copy(alloc)?;
     assert_eq!(rt;
-        (
-            For::size(values, lane_width),
-            coded.bytes_len(),
-            coded.is_least()
-        ),
-        (bytes, bytes, true)
+        (For::size(values, lane_width), coded.bytes_len()),
+        (bytes, bytes)
     );
-    let copy = coded.copy(alloc)?;
-    assert_eq!(rt;
-        (copy.lane_width(), copy.width(), copy.reference()),
-        (lane_width, coded.width(), coded.reference())
-    );
-    assert!(rt; are_same(copy.words(), coded.words()));
+    assert!(rt; coded.is_least());
     let mut back = [1; 1024];
-    copy.decode(&mut back);
+    coded.decode(&mut back);
     assert_eq!(rt; back.as_slice(), values.as_slice());
+    for row in 0..1024 {
+        assert_eq!(rt; coded.value(row), values[row]);
+    }
     Ok(())
 }
 
-/// A vector's least deltas have `bytes` bytes and are the least, and their copy has their parts and decodes to the vector.
+/// A vector's least deltas have `bytes` bytes and are the least, and their copy decodes to the vector, at once and row by row.
 fn delta_comes_back(
     rt: &impl Abort,
     alloc: Global,
@@ -116,25 +88,18 @@ fn delta_comes_back(
     requires lane_width { IsLaneWidth lane_width }
     requires range { AreInRange lane_width values.now }
 {
-    let coded = Delta::encode(alloc, values, lane_width)?;
+    let coded = Delta::encode(alloc, values, lane_width)?.copy(alloc)?;
     assert_eq!(rt;
-        (
-            Delta::size(values, lane_width),
-            coded.bytes_len(),
-            coded.is_least()
-        ),
-        (bytes, bytes, true)
+        (Delta::size(values, lane_width), coded.bytes_len()),
+        (bytes, bytes)
     );
-    let copy = coded.copy(alloc)?;
-    assert_eq!(rt;
-        (copy.lane_width(), copy.width(), copy.least()),
-        (lane_width, coded.width(), coded.least())
-    );
-    assert_eq!(rt; copy.bases(), coded.bases());
-    assert!(rt; are_same(copy.words(), coded.words()));
+    assert!(rt; coded.is_least());
     let mut back = [1; 1024];
-    copy.decode(&mut back);
+    coded.decode(&mut back);
     assert_eq!(rt; back.as_slice(), values.as_slice());
+    for row in 0..1024 {
+        assert_eq!(rt; coded.value(row), values[row]);
+    }
     Ok(())
 }
 
@@ -151,24 +116,6 @@ fn comes_back(
     let values = column(lane_width, pattern);
     frame_comes_back(rt, alloc, lane_width, &values, bytes[0])?;
     delta_comes_back(rt, alloc, lane_width, &values, bytes[1])
-}
-
-/// The least value alone, the greatest alone, the two in turn, and 1024 values, each with its bytes.
-fn extremes_come_back(
-    rt: &impl Abort,
-    alloc: Global,
-    lane_width: usize,
-    bytes: [[u16; 2]; 4],
-) -> Result<(), Fail>
-    requires { IsLaneWidth lane_width }
-{
-    let least = 1 << (lane_width - 1);
-    let greatest = least - 1;
-    comes_back(rt, alloc, lane_width, Pattern::All(least), bytes[0])?;
-    comes_back(rt, alloc, lane_width, Pattern::All(greatest), bytes[1])?;
-    let both = Pattern::Alternating(least, greatest);
-    comes_back(rt, alloc, lane_width, both, bytes[2])?;
-    comes_back(rt, alloc, lane_width, Pattern::Ramp(1), bytes[3])
 }
 
 // The bytes are T / 8 + 128 * width, and 128 more for the bases. A range of 255 has eight bits, of 256 nine; 32767 has fifteen,
@@ -189,17 +136,31 @@ fn vectors_have_their_bytes(rt: HostRuntime) -> Result<(), Fail> {
     comes_back(&rt, alloc, 32, Pattern::Ramp(3), [1540, 132])
 }
 
-// The range of the least and the greatest is as wide as a lane. Their differences are -1 and 1 modulo a power of two, whose
-// distance has two bits. The range of 1024 neighbours has ten bits.
+/// The least value alone, the greatest alone, the two in turn, and 1024 neighbours. The range of the two is as wide as a lane,
+/// and their differences are -1 and 1 modulo a power of two, whose distance has two bits. The range of 1024 neighbours has ten.
+fn extremes_come_back(rt: &impl Abort, alloc: Global, lane_width: usize) -> Result<(), Fail>
+    requires { IsLaneWidth lane_width }
+{
+    let least = 1 << (lane_width - 1);
+    let greatest = least - 1;
+    let one = (lane_width / 8) as u16;
+    for (pattern, frame_width, delta_width) in [
+        (Pattern::All(least), 0, 0),
+        (Pattern::All(greatest), 0, 0),
+        (Pattern::Alternating(least, greatest), lane_width as u16, 2),
+        (Pattern::Ramp(1), 10, 0),
+    ] {
+        let bytes = [one + 128 * frame_width, one + 128 + 128 * delta_width];
+        comes_back(rt, alloc, lane_width, pattern, bytes)?;
+    }
+    Ok(())
+}
+
 #[test]
 fn extreme_values_come_back(rt: HostRuntime) -> Result<(), Fail> {
-    let alloc = rt.alloc();
-    let bytes = [[2, 130], [2, 130], [2050, 386], [1282, 130]];
-    extremes_come_back(&rt, alloc, 16, bytes)?;
-    let bytes = [[4, 132], [4, 132], [4100, 388], [1284, 132]];
-    extremes_come_back(&rt, alloc, 32, bytes)?;
-    let bytes = [[8, 136], [8, 136], [8200, 392], [1288, 136]];
-    extremes_come_back(&rt, alloc, 64, bytes)
+    extremes_come_back(&rt, rt.alloc(), 16)?;
+    extremes_come_back(&rt, rt.alloc(), 32)?;
+    extremes_come_back(&rt, rt.alloc(), 64)
 }
 
 // Lane 0 begins at row 0, lane 1 at row 64, lane 16 at row 32: 0, 192 and 96, less the least delta 3.
@@ -210,6 +171,19 @@ fn bases_stand_in_lane_order(rt: HostRuntime) -> Result<(), Fail> {
     assert_eq!(rt; coded.bases().get(0).copied(), Some(-3));
     assert_eq!(rt; coded.bases().get(1).copied(), Some(189));
     assert_eq!(rt; coded.bases().get(16).copied(), Some(93));
+    Ok(())
+}
+
+// At 16 bits piece 17 is step 1 of the second sixteen lanes, whose rows begin at 32 of each 64: rows 33, 97 and so on.
+#[test]
+fn a_piece_has_one_row_of_each_64(rt: HostRuntime) -> Result<(), Fail> {
+    let values = column(16, Pattern::Ramp(1));
+    let piece = For::encode(rt.alloc(), &values, 16)?.piece(17).to_array();
+    assert_eq!(rt; (piece[0], piece[1], piece[15]), (33, 97, 993));
+    let deltas = Delta::encode(rt.alloc(), &values, 16)?;
+    let before = deltas.sums(16, Simd::splat(0));
+    let sums = deltas.sums(17, before).to_array();
+    assert_eq!(rt; (sums[0], sums[1], sums[15]), (33, 97, 993));
     Ok(())
 }
 

@@ -1,8 +1,8 @@
 -- A code is a place among ascending values, so packed and unpacked codes look up the values that they were made of.
-use Rattle.std.proofs.Common.{◌≡◌, ℕ, zero, suc, ◌+◌, ◌-◌, ◌*◌, ◌/◌, ◌%◌, ◌^◌, ◌<◌, ◌≤◌, Bool, true, false, cond, int_lt, ℤ, pos, FitsSigned, ◌<ℤ◌, ◌≤ℤ◌, List, [], ◌∷◌, map, length, take, replicate, get_or, Contains, ◌⊎◌, inl, inr, sym, ap, ◌∙◌, refl, subst, arith}
+use Rattle.std.proofs.Common.{◌≡◌, ℕ, zero, suc, ◌+◌, ◌-◌, ◌*◌, ◌/◌, ◌%◌, ◌^◌, ◌<◌, ◌≤◌, Bool, true, false, cond, int_lt, int_le, ℤ, pos, FitsSigned, ◌<ℤ◌, ◌≤ℤ◌, ◌↔◌, List, [], ◌∷◌, map, length, take, replicate, get_or, Contains, ◌⊎◌, inl, inr, sym, ap, ◌∙◌, refl, subst, arith}
 use Rattle.std.specs.List.{All}
 use Rattle.std.specs.Ordering.{int_eq, int_cmp, is_eq, ordering_index}
-use Rattle.std.specs.List.Sorted.{IsNonDecreasingBy, IsPartitionPoint}
+use Rattle.std.specs.List.Sorted.{IsNonDecreasingBy, IsPartitionedBy, IsPartitionPoint}
 use Rattle.std.specs.declared.cmp.Ordering.TheVariants.{Less, Equal, Greater}
 use Rattle.std.proofs.lemmas.Int.{ints}
 use Rattle.std.proofs.lemmas.Bool.{cases_lt, false_from_ne_true, false≢true}
@@ -12,19 +12,19 @@ use Rattle.std.proofs.Math.ListN.{get_or-map}
 use Rattle.std.proofs.lemmas.List.Elements.{All-from_get_or}
 use Rattle.std.proofs.lemmas.Grind.{same_number_lists}
 use Rattle.std.proofs.lemmas.List.Sums.{position_or_len_is}
-use Rattle.transpose_order.specs.Mask.{rows_of}
-use Rattle.transpose_order.specs.MaskWords.{get_or-rows_of, length-rows_of}
-use Rattle.transpose_order.specs.Place.{IsLaneWidth, lane_of, step_of}
+use Rattle.transpose_order.specs.MaskWords.{rows_of-same, get_or-rows_of, length-rows_of}
+use Rattle.transpose_order.specs.Place.{IsLaneWidth, lane_of, step_of, row_at, place_of}
+use Rattle.transpose_order.proofs.PlaceLemmas.{lane_of-row_at, row_at-piece}
 use Rattle.bit_interleave.specs.Arithmetic.{least_width, integer_width}
 use Rattle.bit_interleave.specs.Packing.{packed_value, packed, unpacked, sixteen_of}
 use Rattle.bit_interleave.proofs.SixteenLemmas.{get_or-sixteen_of}
-use Rattle.bit_interleave.specs.PackedWords.{words_packing}
+use Rattle.bit_interleave.specs.PackedWords.{PackedWords, words_packing}
 use Rattle.bit_interleave.proofs.ValueLemmas.{length-unpacked, get_or-unpacked, All-unpacked, HasWidth-words_packing}
 use Rattle.bit_interleave.proofs.WordsLemmas.{All-packed}
 use Rattle.bit_interleave.proofs.RoundTrip.{unpacked-packed}
 use Rattle.bit_interleave.proofs.LeastWidthLemmas.{least_width-holds, least_width-least}
 use Rattle.bit_interleave.specs.Range.{value_at, AreInRange}
-use Rattle.run_dictionary.specs.Dict.{DictForm, IsDictForm, IsAscending, distinct, code_at, code_of, dict_value, least_dict}
+use Rattle.run_dictionary.specs.Dict.{DictForm, IsDictForm, IsAscending, distinct, packed_code, code_at, code_of, dict_value, dict_values, least_dict}
 use Rattle.run_dictionary.proofs.OrderLemmas.{Has, Has-get_or, place_of_member, Ascends, Ascends-distinct, Has-distinct, Has-from_distinct, distinct_is, length-le_from_members, length-distinct, less_not_equal, less_from_test}
 
 -- ---- ascending by neighbours and by members
@@ -97,7 +97,7 @@ get_or-map_zero f values n h = get_or_default (map f values) n 0 (f (pos 0)) (om
 get_or-codes : (values : List ℤ) (n : ℕ) → n < length values → get_or (codes_in values) n 0 ≡ code_of (distinct values) (value_at values n)
 get_or-codes values n h = get_or-map_zero (code_of (distinct values)) values n h
 
-some_distinct : (values : List ℤ) → 0 < length values → 0 < length (distinct values)
+pub some_distinct : (values : List ℤ) → 0 < length values → 0 < length (distinct values)
 some_distinct values h = let c = distinct_code values 0 h in omega (arith, c.0)
 
 -- a code of the least form is below two to the power of its width
@@ -118,16 +118,23 @@ codes_come_back values l =
     unpacked-packed 16 (least_code_width values) (codes_in values) (inr (inl refl)) (length-map values (code_of (distinct values)) ∙ l) (code_fits values l)
 
 -- the code of a row in packed words
+pub packed_code-unpacked : (width : ℕ) (codes : PackedWords) (n : ℕ) → n < 1024 → get_or (unpacked 16 width codes.numbers) n 0 ≡ packed_code width codes n
+unfolding packed_code
+packed_code-unpacked width codes n h = get_or-unpacked 16 width codes.numbers n 0 h
+
 pub code_at-unpacked : (form : DictForm) (n : ℕ) → n < 1024 → get_or (unpacked 16 form.width form.codes.numbers) n 0 ≡ code_at form n
-unfolding code_at
-code_at-unpacked form n h = get_or-unpacked 16 form.width form.codes.numbers n 0 h
+code_at-unpacked form n h = packed_code-unpacked form.width form.codes n h
 
 pub code_at-least : (t : ℕ) (values : List ℤ) (n : ℕ) → length values ≡ 1024 → n < 1024 → code_at (least_dict t values) n ≡ code_of (distinct values) (value_at values n)
 code_at-least t values n l h =
     sym (code_at-unpacked (least_dict t values) n h) ∙ ap (λ xs. get_or xs n 0) (codes_come_back values l) ∙ get_or-codes values n (omega (arith, l))
 
-pub dict_value-least : (t : ℕ) (values : List ℤ) (n : ℕ) → length values ≡ 1024 → n < 1024 → dict_value (least_dict t values) n ≡ value_at values n
+dict_value-least : (t : ℕ) (values : List ℤ) (n : ℕ) → length values ≡ 1024 → n < 1024 → dict_value (least_dict t values) n ≡ value_at values n
 dict_value-least t values n l h = ap (value_at (distinct values)) (code_at-least t values n l h) ∙ (distinct_code values n (omega (arith, l))).1
+
+pub dict_values-least : (t : ℕ) (values : List ℤ) → length values ≡ 1024 → dict_values (least_dict t values) ≡ values
+unfolding dict_values
+dict_values-least t values l = sym (rows_of-same (dict_value (least_dict t values)) values (pos 0) l (λ n h. sym (dict_value-least t values n l h)))
 
 pub IsDictForm-least : (t : ℕ) (values : List ℤ) → IsLaneWidth t → length values ≡ 1024 → AreInRange t values → IsDictForm (least_dict t values)
 IsDictForm-least t values w l range = record {
@@ -145,29 +152,33 @@ IsDictForm-least t values w l range = record {
 }
 
 -- ---- forms of the same values
--- the rows that a form stands for
-abbrev rows_in : DictForm → List ℤ
-rows_in form = rows_of (dict_value form)
+length-dict_values : (form : DictForm) → length (dict_values form) ≡ 1024
+unfolding dict_values
+length-dict_values form = length-rows_of (dict_value form)
 
-row_of_member : (form : DictForm) (z : ℤ) → Has z (rows_in form) → (n : ℕ) × (n < 1024) × (dict_value form n ≡ z)
+get_or-dict_values : (form : DictForm) (n : ℕ) (d : ℤ) → n < 1024 → get_or (dict_values form) n d ≡ dict_value form n
+unfolding dict_values
+get_or-dict_values form n d h = get_or-rows_of (dict_value form) n d h
+
+row_of_member : (form : DictForm) (z : ℤ) → Has z (dict_values form) → (n : ℕ) × (n < 1024) × (dict_value form n ≡ z)
 row_of_member form z h =
-    let r = place_of_member z (rows_in form) h in
-    let within : r.0 < 1024 = omega (arith, r.1, length-rows_of (dict_value form)) in
-    (r.0, within, sym (get_or-rows_of (dict_value form) r.0 (pos 0) within) ∙ r.2)
+    let r = place_of_member z (dict_values form) h in
+    let within : r.0 < 1024 = omega (arith, r.1, length-dict_values form) in
+    (r.0, within, sym (get_or-dict_values form r.0 (pos 0) within) ∙ r.2)
 
-Has-rows_in : (form : DictForm) (n : ℕ) → n < 1024 → Has (dict_value form n) (rows_in form)
-Has-rows_in form n h =
-    subst (λ (z : ℤ). Has z (rows_in form)) (get_or-rows_of (dict_value form) n (pos 0) h) (Has-get_or (rows_in form) n (omega (arith, length-rows_of (dict_value form))))
+Has-dict_values : (form : DictForm) (n : ℕ) → n < 1024 → Has (dict_value form n) (dict_values form)
+Has-dict_values form n h =
+    subst (λ (z : ℤ). Has z (dict_values form)) (get_or-dict_values form n (pos 0) h) (Has-get_or (dict_values form) n (omega (arith, length-dict_values form)))
 
-Has-values : (form : DictForm) → IsDictForm form → (z : ℤ) → Has z (rows_in form) → Has z form.values
+Has-values : (form : DictForm) → IsDictForm form → (z : ℤ) → Has z (dict_values form) → Has z form.values
 Has-values form f z h =
     let r = row_of_member form z h in
     subst (λ (z : ℤ). Has z form.values) r.2 (Has-get_or form.values (code_at form r.0) (f.codes r.0 r.1))
 
-pub fewest_values : (form : DictForm) → IsDictForm form → length (distinct (rows_in form)) ≤ length form.values
+pub fewest_values : (form : DictForm) → IsDictForm form → length (distinct (dict_values form)) ≤ length form.values
 fewest_values form f =
-    length-le_from_members (distinct (rows_in form)) form.values (Ascends-distinct (rows_in form)) (Ascends-from_neighbours form.values f.rises)
-    (λ z h. Has-values form f z (Has-from_distinct z (rows_in form) h))
+    length-le_from_members (distinct (dict_values form)) form.values (Ascends-distinct (dict_values form)) (Ascends-from_neighbours form.values f.rises)
+    (λ z h. Has-values form f z (Has-from_distinct z (dict_values form) h))
 
 code_below : (form : DictForm) (n : ℕ) → n < 1024 → code_at form n < 2 ^ form.width
 code_below form n h =
@@ -184,12 +195,12 @@ Ascends-take n xs a =
     (subst (λ (z : ℤ). get_or xs k (pos 0) <ℤ z) (sym (get_or-take n xs (k + 1) (pos 0) (omega arith))) (less_at xs a k (k + 1) (omega arith) (omega arith))))
 
 -- the values that a form uses have codes of its width
-pub width_holds_values : (form : DictForm) → IsDictForm form → length (distinct (rows_in form)) ≤ 2 ^ form.width
+pub width_holds_values : (form : DictForm) → IsDictForm form → length (distinct (dict_values form)) ≤ 2 ^ form.width
 width_holds_values form f =
     let short : length (take (2 ^ form.width) form.values) ≤ 2 ^ form.width = omega (arith, length-take (2 ^ form.width) form.values) in
-    let fewer = length-le_from_members (distinct (rows_in form)) (take (2 ^ form.width) form.values) (Ascends-distinct (rows_in form))
+    let fewer = length-le_from_members (distinct (dict_values form)) (take (2 ^ form.width) form.values) (Ascends-distinct (dict_values form))
     (Ascends-take (2 ^ form.width) form.values (Ascends-from_neighbours form.values f.rises))
-    (λ z h. in_front z (row_of_member form z (Has-from_distinct z (rows_in form) h))) in
+    (λ z h. in_front z (row_of_member form z (Has-from_distinct z (dict_values form) h))) in
     omega (arith, fewer, short)
   where
     in_front : (z : ℤ) → ((n : ℕ) × (n < 1024) × (dict_value form n ≡ z)) → Has z (take (2 ^ form.width) form.values)
@@ -203,36 +214,36 @@ width_holds_values form f =
 abbrev pub AllCodesUsed : DictForm → Type 0
 AllCodesUsed form = (k : ℕ) → k < length form.values → (n : ℕ) × (n < 1024) × (code_at form n ≡ k)
 
-pub least-from_used : (form : DictForm) → IsDictForm form → form.width ≡ least_width (length form.values - 1) → AllCodesUsed form → form.codes ≡ words_packing 16 form.width (unpacked 16 form.width form.codes.numbers) → form ≡ least_dict form.lane_width (rows_in form)
+pub least-from_used : (form : DictForm) → IsDictForm form → form.width ≡ least_width (length form.values - 1) → AllCodesUsed form → form.codes ≡ words_packing 16 form.width (unpacked 16 form.width form.codes.numbers) → form ≡ least_dict form.lane_width (dict_values form)
 least-from_used form f narrow used back =
     let ascends = Ascends-from_neighbours form.values f.rises in
-    let values : form.values ≡ distinct (rows_in form) =
-    distinct_is (rows_in form) form.values ascends (λ z h. Has-values form f z h) (λ z h. in_rows z (place_of_member z form.values h)) in
-    let width : form.width ≡ least_code_width (rows_in form) = narrow ∙ ap (λ xs. least_width (length xs - 1)) values in
-    let codes : unpacked 16 form.width form.codes.numbers ≡ codes_in (rows_in form) =
-    same_number_lists _ _ (length-unpacked 16 form.width form.codes.numbers ∙ sym (length-map (rows_in form) (code_of (distinct (rows_in form))) ∙ length-rows_of (dict_value form)))
+    let values : form.values ≡ distinct (dict_values form) =
+    distinct_is (dict_values form) form.values ascends (λ z h. Has-values form f z h) (λ z h. in_rows z (place_of_member z form.values h)) in
+    let width : form.width ≡ least_code_width (dict_values form) = narrow ∙ ap (λ xs. least_width (length xs - 1)) values in
+    let codes : unpacked 16 form.width form.codes.numbers ≡ codes_in (dict_values form) =
+    same_number_lists _ _ (length-unpacked 16 form.width form.codes.numbers ∙ sym (length-map (dict_values form) (code_of (distinct (dict_values form))) ∙ length-dict_values form))
     (λ n h.
     let row : n < 1024 = omega (arith, length-unpacked 16 form.width form.codes.numbers) in
     code_at-unpacked form n row ∙ sym (code_of_place form.values ascends (code_at form n) (f.codes n row))
     ∙ ap (λ xs. code_of xs (dict_value form n)) values
-    ∙ ap (code_of (distinct (rows_in form))) (sym (get_or-rows_of (dict_value form) n (pos 0) row))
-    ∙ sym (get_or-codes (rows_in form) n (omega (arith, length-rows_of (dict_value form))))) in
-    let words : form.codes ≡ words_packing 16 (least_code_width (rows_in form)) (codes_in (rows_in form)) =
-    back ∙ ap (λ xs. words_packing 16 form.width xs) codes ∙ ap (λ w. words_packing 16 w (codes_in (rows_in form))) width in
+    ∙ ap (code_of (distinct (dict_values form))) (sym (get_or-dict_values form n (pos 0) row))
+    ∙ sym (get_or-codes (dict_values form) n (omega (arith, length-dict_values form)))) in
+    let words : form.codes ≡ words_packing 16 (least_code_width (dict_values form)) (codes_in (dict_values form)) =
+    back ∙ ap (λ xs. words_packing 16 form.width xs) codes ∙ ap (λ w. words_packing 16 w (codes_in (dict_values form))) width in
     λ i. record { lane_width = form.lane_width; width = width i; values = values i; codes = words i }
   where
-    in_rows : (z : ℤ) → ((k : ℕ) × (k < length form.values) × (get_or form.values k (pos 0) ≡ z)) → Has z (rows_in form)
+    in_rows : (z : ℤ) → ((k : ℕ) × (k < length form.values) × (get_or form.values k (pos 0) ≡ z)) → Has z (dict_values form)
     in_rows z r =
         let row = used r.0 r.1 in
-        subst (λ (z : ℤ). Has z (rows_in form)) (ap (λ k. get_or form.values k (pos 0)) row.2 ∙ r.2) (Has-rows_in form row.0 row.1)
+        subst (λ (z : ℤ). Has z (dict_values form)) (ap (λ k. get_or form.values k (pos 0)) row.2 ∙ r.2) (Has-dict_values form row.0 row.1)
 
-pub used-from_least : (form : DictForm) → IsDictForm form → form ≡ least_dict form.lane_width (rows_in form) → (form.width ≡ least_width (length form.values - 1)) × AllCodesUsed form
+pub used-from_least : (form : DictForm) → IsDictForm form → form ≡ least_dict form.lane_width (dict_values form) → (form.width ≡ least_width (length form.values - 1)) × AllCodesUsed form
 used-from_least form f e =
-    let values : form.values ≡ distinct (rows_in form) = ap (λ d. d.values) e in (
+    let values : form.values ≡ distinct (dict_values form) = ap (λ d. d.values) e in (
       ap (λ d. d.width) e ∙ ap (λ xs. least_width (length xs - 1)) (sym values),
       λ k h.
           let z = get_or form.values k (pos 0) in
-          let r = row_of_member form z (Has-from_distinct z (rows_in form) (subst (λ (xs : List ℤ). Has z xs) values (Has-get_or form.values k h))) in
+          let r = row_of_member form z (Has-from_distinct z (dict_values form) (subst (λ (xs : List ℤ). Has z xs) values (Has-get_or form.values k h))) in
           (r.0, r.1, same_place form.values (Ascends-from_neighbours form.values f.rises) (code_at form r.0) k (f.codes r.0 r.1) h r.2),
     )
 
@@ -296,21 +307,98 @@ none_marked zero k = refl
 none_marked (suc n) zero = refl
 none_marked (suc n) (suc k) = none_marked n k
 
--- the unpacked codes of a form
+-- unpacked codes, and those of a form
+pub packed_codes_read : (width : ℕ) (codes : PackedWords) (xs : List ℕ) → codes.lane_width ≡ 16 → xs ≡ unpacked codes.lane_width width codes.numbers → (n : ℕ) → n < 1024 → get_or xs n 0 ≡ packed_code width codes n
+packed_codes_read width codes xs sixteen is n h =
+    ap (λ xs. get_or xs n 0) (is ∙ ap (λ t. unpacked t width codes.numbers) sixteen) ∙ packed_code-unpacked width codes n h
+
 pub codes_read : (form : DictForm) → IsDictForm form → (xs : List ℕ) → xs ≡ unpacked form.codes.lane_width form.width form.codes.numbers → (n : ℕ) → n < 1024 → get_or xs n 0 ≡ code_at form n
-codes_read form f xs is n h =
-    ap (λ xs. get_or xs n 0) (is ∙ ap (λ t. unpacked t form.width form.codes.numbers) f.words) ∙ code_at-unpacked form n h
+codes_read form f xs is n h = packed_codes_read form.width form.codes xs f.words is n h
 
 pub words_read : (form : DictForm) → IsDictForm form → form.codes ≡ words_packing form.codes.lane_width form.width (unpacked form.codes.lane_width form.width form.codes.numbers) → form.codes ≡ words_packing 16 form.width (unpacked 16 form.width form.codes.numbers)
 words_read form f back = back ∙ ap (λ t. words_packing t form.width (unpacked t form.width form.codes.numbers)) f.words
 
--- the code of a row among the sixteen of its group and step
-pub code_in_step : (form : DictForm) → IsDictForm form → (row lane step : ℕ) (sixteen : List ℕ) → lane ≡ lane_of 16 row → step ≡ step_of 16 row → sixteen ≡ sixteen_of (λ i. packed_value form.codes.lane_width form.width form.codes.numbers (16 * (lane / 16) + i) step) → get_or sixteen (lane % 16) 0 ≡ code_at form row
-unfolding code_at
-code_in_step form f row lane step sixteen here there is =
-    let whole : 16 * (lane / 16) + lane % 16 ≡ lane = omega arith in
-    ap (λ xs. get_or xs (lane % 16) 0) is
-    ∙ get_or-sixteen_of (λ i. packed_value form.codes.lane_width form.width form.codes.numbers (16 * (lane / 16) + i) step) (lane % 16) 0 (omega arith)
-    ∙ ap (λ t. packed_value t form.width form.codes.numbers (16 * (lane / 16) + lane % 16) step) f.words
-    ∙ ap (λ l. packed_value 16 form.width form.codes.numbers l step) (whole ∙ here)
+-- the number packed at a row's lane and step
+pub code_in_place : (form : DictForm) → IsDictForm form → (row : ℕ) {lane step : ℕ} (code : ℕ) → code ≡ packed_value form.codes.lane_width form.width form.codes.numbers lane step → lane ≡ lane_of 16 row → step ≡ step_of 16 row → code ≡ code_at form row
+unfolding packed_code
+code_in_place form f row {lane} {step} code is here there =
+    is ∙ ap (λ t. packed_value t form.width form.codes.numbers lane step) f.words ∙ ap (λ l. packed_value 16 form.width form.codes.numbers l step) here
     ∙ ap (λ s. packed_value 16 form.width form.codes.numbers (lane_of 16 row) s) there
+
+-- the code of the row at a lane and a step
+pub code_at-row_at : (form : DictForm) (lane step : ℕ) → lane < 64 → step < 16 → code_at form (row_at 16 lane step) ≡ packed_value 16 form.width form.codes.numbers lane step
+unfolding packed_code
+code_at-row_at form lane step h l =
+    let place = lane_of-row_at 16 lane step (inr (inl refl)) h l in
+    ap (λ k. packed_value 16 form.width form.codes.numbers k (step_of 16 (row_at 16 lane step))) place.1
+    ∙ ap (λ s. packed_value 16 form.width form.codes.numbers lane s) place.2
+
+-- ---- the places of a range of values
+-- an earlier value isn't above a later one
+at_most_later : (xs : List ℤ) → IsAscending xs → (i j : ℕ) (d : ℤ) → i ≤ j → j < length xs → get_or xs i d ≤ℤ get_or xs j d
+at_most_later xs h i j d l m = by_order (cases_lt i j)
+  where
+    at_most : (x y : ℤ) → x <ℤ y → x ≤ℤ y
+    at_most x y l = omega (arith, ints)
+
+    itself : (x : ℤ) → x ≤ℤ x
+    itself x = omega (arith, ints)
+
+    by_order : (i < j) ⊎ (j ≤ i) → get_or xs i d ≤ℤ get_or xs j d
+    by_order (inr g) = let same : i ≡ j = omega arith in subst (λ (k : ℕ). get_or xs i d ≤ℤ get_or xs k d) same (itself (get_or xs i d))
+    by_order (inl g) =
+        at_most _ _ (subst (λ (z : ℤ). z <ℤ get_or xs j d) (get_or_default xs i (pos 0) d (omega arith))
+        (subst (λ (z : ℤ). get_or xs i (pos 0) <ℤ z) (get_or_default xs j (pos 0) d m) (less_at xs (Ascends-from_neighbours xs h) i j g m)))
+
+pub IsPartitionedBy-int_lt : (xs : List ℤ) (low : ℤ) → IsAscending xs → IsPartitionedBy (λ v. int_lt v low) xs
+IsPartitionedBy-int_lt xs low h i j d l m passes = below _ _ _ (at_most_later xs h i j d l m) passes
+  where
+    below : (x y low : ℤ) → x ≤ℤ y → int_lt y low ≡ true → int_lt x low ≡ true
+    below x y low l e = test_from_less x low (through_left x y low l (less_from_test y low e))
+
+pub IsPartitionedBy-int_le : (xs : List ℤ) (high : ℤ) → IsAscending xs → IsPartitionedBy (λ v. int_le v high) xs
+IsPartitionedBy-int_le xs high h i j d l m passes = below _ _ _ (at_most_later xs h i j d l m) passes
+  where
+    below : (x y high : ℤ) → x ≤ℤ y → int_le y high ≡ true → int_le x high ≡ true
+    below x y high l e = grind (arith, ints)
+
+pub not_less_from_test : (x low : ℤ) → int_lt x low ≡ false → low ≤ℤ x
+not_less_from_test x low e = grind (arith, ints)
+
+pub at_most_from_test : (x high : ℤ) → int_le x high ≡ true → x ≤ℤ high
+at_most_from_test x high e = grind (arith, ints)
+
+pub not_at_most_from_test : (x high : ℤ) → int_le x high ≡ false → high <ℤ x
+not_at_most_from_test x high e = grind (arith, ints)
+
+-- a value is in a range exactly where its place is between the first place in it and the first above it
+pub place-between : (xs : List ℤ) (low high : ℤ) (first end : ℕ) → ((k : ℕ) → k < first → value_at xs k <ℤ low) → ((k : ℕ) → first ≤ k → k < length xs → low ≤ℤ value_at xs k)
+    → ((k : ℕ) → k < end → value_at xs k ≤ℤ high) → ((k : ℕ) → end ≤ k → k < length xs → high <ℤ value_at xs k) → (k : ℕ) → k < length xs
+    → ((low ≤ℤ value_at xs k) × (value_at xs k ≤ℤ high)) ↔ ((first ≤ k) × (k < end))
+place-between xs low high first end before from within above k h = (
+  λ (l, m). (by_first (cases_lt k first) l, by_end (cases_lt k end) m),
+  λ (l, m). (from k l h, within k m),
+)
+  where
+    absurd_at : {X : Type 0} (x y : ℤ) → x <ℤ y → y ≤ℤ x → X
+    absurd_at x y l m = absurd (omega (arith, ints))
+
+    by_first : (k < first) ⊎ (first ≤ k) → low ≤ℤ value_at xs k → first ≤ k
+    by_first (inl l) m = absurd_at (value_at xs k) low (before k l) m
+    by_first (inr l) m = l
+
+    by_end : (k < end) ⊎ (end ≤ k) → value_at xs k ≤ℤ high → k < end
+    by_end (inl l) m = l
+    by_end (inr l) m = absurd_at high (value_at xs k) (above k l h) m
+
+-- the codes of a piece of lanes of 16 bits
+pub codes_in_piece : (form : DictForm) → IsDictForm form → (piece : ℕ) (codes : List ℕ) → piece < 64 → codes ≡ sixteen_of (λ i. packed_value form.codes.lane_width form.width form.codes.numbers (16 * (piece / 16) + i) (piece % 16)) → (i : ℕ) → i < 16 → (64 * i + place_of 16 piece < 1024) × (get_or codes i 0 ≡ code_at form (64 * i + place_of 16 piece))
+codes_in_piece form f piece codes h is i l =
+    let row = row_at-piece 16 piece i (inr (inl refl)) h l in
+    let within : 64 * i + place_of 16 piece < 1024 = omega (arith, row.0) in (
+      within,
+      ap (λ xs. get_or xs i 0) is
+          ∙ get_or-sixteen_of (λ i. packed_value form.codes.lane_width form.width form.codes.numbers (16 * (piece / 16) + i) (piece % 16)) i 0 l
+          ∙ ap (λ t. packed_value t form.width form.codes.numbers (16 * (piece / 16) + i) (piece % 16)) f.words
+          ∙ sym (code_at-row_at form (16 * (piece / 16) + i) (piece % 16) (omega arith) (omega arith)) ∙ ap (code_at form) row.1,
+    )

@@ -1,6 +1,10 @@
 pub mod CountLemmas
 pub mod RunLemmas
-pub mod StartLemmas
+pub mod EqualLemmas
 pub mod StepLemmas
 pub mod OrderLemmas
 pub mod DictLemmas
+pub mod RangeLemmas
+pub mod KeyLemmas
+pub mod SizeLemmas
+pub mod SightLemmas

@@ -1,5 +1,5 @@
 -- A strictly ascending list is known by its members, so the sorted values without repeats are the distinct values.
-use Rattle.std.proofs.Common.{◌≡◌, ℕ, zero, suc, ◌+◌, ◌<◌, ◌≤◌, Bool, true, false, cond, ℤ, pos, int_lt, ◌<ℤ◌, ◌≤ℤ◌, List, [], ◌∷◌, ◌++◌, length, get_or, Contains, IsPermutation, ◌⊎◌, inl, inr, sym, ap, ◌∙◌, refl, subst, arith, if◌then◌else◌}
+use Rattle.std.proofs.Common.{◌≡◌, ℕ, zero, suc, ◌+◌, ◌-◌, ◌<◌, ◌≤◌, Bool, true, false, cond, ℤ, pos, int_lt, ◌<ℤ◌, ◌≤ℤ◌, List, [], ◌∷◌, ◌++◌, length, get_or, Contains, IsPermutation, ◌⊎◌, inl, inr, sym, ap, ◌∙◌, refl, subst, arith, if◌then◌else◌}
 use Rattle.std.specs.Ordering.{int_eq, int_cmp, is_lt}
 use Rattle.std.specs.List.Sorted.{IsSorted}
 use Rattle.std.specs.declared.cmp.Ordering.TheVariants.{Less, Equal, Greater}
@@ -198,7 +198,7 @@ Has-from_distinct z (v ∷ vs) h = by_part (Has-from_with_value v z (distinct vs
     by_part (inl e) ih = inl e
     by_part (inr g) ih = inr (ih g)
 
-length-with_value : (v : ℤ) (xs : List ℤ) → length (with_value v xs) ≤ length xs + 1
+pub length-with_value : (v : ℤ) (xs : List ℤ) → length (with_value v xs) ≤ length xs + 1
 length-with_value v [] = omega arith
 length-with_value v (x ∷ xs) = by_tests (int_lt v x) (int_eq v x) (length-with_value v xs)
   where
@@ -292,15 +292,21 @@ rises_from_sorted x y e = by_test (cases_Bool (int_lt y x))
     by_test (inl l) = absurd (both_ways _ e (ap (λ b. is_lt (cond b Less (cond (int_lt x y) Greater Equal))) l))
     by_test (inr l) = grind (arith, ints)
 
-pub changed_values-sorted : (values sorted : List ℤ) → length sorted ≡ 1024 → IsPermutation values sorted → IsSorted int_cmp sorted → changed_values (value_at sorted) 1024 ≡ distinct values
-changed_values-sorted values sorted l p s =
-    distinct_is values (changed_values (value_at sorted) 1024)
-    (Ascends-changed_values (value_at sorted) 1024 (λ i h. rises_from_sorted _ _ (ap (λ k. is_lt (int_cmp (value_at sorted k) (value_at sorted i))) (let e : suc i ≡ i + 1 = omega arith in e) ∙ s i (pos 0) (omega arith) (omega arith))))
+pub changed_values-sorted : (values sorted : List ℤ) → IsPermutation values sorted → IsSorted int_cmp sorted → changed_values (value_at sorted) (length sorted) ≡ distinct values
+changed_values-sorted values sorted p s =
+    distinct_is values (changed_values (value_at sorted) (length sorted))
+    (Ascends-changed_values (value_at sorted) (length sorted) (λ i h. rises_from_sorted _ _ (ap (λ k. is_lt (int_cmp (value_at sorted k) (value_at sorted i))) (let e : suc i ≡ i + 1 = omega arith in e) ∙ s i (pos 0) (omega arith) (omega arith))))
     (λ z h.
     let c = Contains-permutation values sorted z p (Contains-from_member values z h) in
     let r = place_of_member z sorted (member_from_Contains sorted z c) in
-    subst (λ (x : ℤ). Has x (changed_values (value_at sorted) 1024)) r.2 (Has-changed_values (value_at sorted) 1024 r.0 (omega (arith, r.1, l))))
+    subst (λ (x : ℤ). Has x (changed_values (value_at sorted) (length sorted))) r.2 (Has-changed_values (value_at sorted) (length sorted) r.0 (omega (arith, r.1))))
     (λ z h.
-    let r = row_of_changed (value_at sorted) 1024 z h in
-    let m : Has z sorted = subst (λ (x : ℤ). Has x sorted) r.2 (Has-get_or sorted r.0 (omega (arith, r.1, l))) in
+    let r = row_of_changed (value_at sorted) (length sorted) z h in
+    let m : Has z sorted = subst (λ (x : ℤ). Has x sorted) r.2 (Has-get_or sorted r.0 (omega (arith, r.1))) in
     member_from_Contains values z (Contains-permutation sorted values z (IsPermutation-sym values sorted p) (Contains-from_member sorted z m)))
+
+-- the changes of some values are as many as their values less one
+pub length-changes : (xs : List ℤ) → 0 < length xs → count_below (λ i. changes_at (value_at xs) (suc i)) (length xs - 1) + 1 ≡ length (changed_values (value_at xs) (length xs))
+length-changes xs h =
+    let whole : suc (length xs - 1) ≡ length xs = omega arith in
+    sym (length-changed_values (value_at xs) (length xs - 1)) ∙ ap (λ n. length (changed_values (value_at xs) n)) whole

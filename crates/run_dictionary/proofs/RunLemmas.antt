@@ -13,7 +13,7 @@ use Rattle.transpose_order.specs.MaskWords.{has-rows_of, rows_of-same, get_or-ro
 use Rattle.transpose_order.proofs.MaskLemmas.{count_below-zero, count_below-same}
 use Rattle.bit_interleave.specs.Range.{value_at, AreInRange}
 use Rattle.bit_interleave.specs.Arithmetic.{integer_width}
-use Rattle.run_dictionary.specs.Runs.{RunForm, IsRunForm, run_of, run_value, changes_at, changed_values, least_runs}
+use Rattle.run_dictionary.specs.Runs.{RunForm, IsRunForm, run_of, run_value, run_values, changes_at, changed_values, least_runs}
 use Rattle.run_dictionary.proofs.CountLemmas.{count_below-yes, count_below-no, count_below-rises, count_below-implies, count_below-reached}
 
 -- ---- where values change
@@ -122,7 +122,7 @@ pub run_of-changes : (v : ℕ → ℤ) (n : ℕ) → n < 1024 → run_of (rows_o
 run_of-changes v n h =
     count_below-same (λ i. has (rows_of (changes_at v)) (suc i)) (λ i. changes_at v (suc i)) n (λ i l. has-rows_of (changes_at v) (suc i) (omega arith))
 
-pub run_value-least : (t : ℕ) (values : List ℤ) (n : ℕ) → n < 1024 → run_value (least_runs t values) n ≡ value_at values n
+run_value-least : (t : ℕ) (values : List ℤ) (n : ℕ) → n < 1024 → run_value (least_runs t values) n ≡ value_at values n
 run_value-least t values n h =
     ap (λ k. get_or (changed_values (value_at values) 1024) k (pos 0)) (run_of-changes (value_at values) n h)
     ∙ get_or-changed_values (value_at values) 1024 n h
@@ -134,9 +134,13 @@ row_of_run p m (suc k) h =
     let r = count_below-reached p m k (omega arith) in
     (suc r.0, omega (arith, r.1), omega (arith, count_below-yes p r.0 r.2, r.3))
 
+pub run_values-least : (t : ℕ) (values : List ℤ) → length values ≡ 1024 → run_values (least_runs t values) ≡ values
+unfolding run_values
+run_values-least t values l = sym (rows_of-same (run_value (least_runs t values)) values (pos 0) l (λ n h. sym (run_value-least t values n h)))
+
 pub IsRunForm-least : (t : ℕ) (values : List ℤ) → IsLaneWidth t → length values ≡ 1024 → AreInRange t values → IsRunForm (least_runs t values)
 IsRunForm-least t values w l range = record {
-  width = w;
+  lane_width = w;
   rows = length-rows_of (changes_at (value_at values));
   first = has-rows_of (changes_at (value_at values)) 0 (omega arith) ∙ changes_at-first (value_at values);
   count = length-changed_values (value_at values) 1023 ∙ ap (λ k. k + 1) (sym (run_of-changes (value_at values) 1023 (omega arith)));
@@ -149,12 +153,16 @@ IsRunForm-least t values w l range = record {
 }
 
 -- ---- forms of the same values
+pub get_or-run_values : (form : RunForm) (n : ℕ) (d : ℤ) → n < 1024 → get_or (run_values form) n d ≡ run_value form n
+unfolding run_values
+get_or-run_values form n d h = get_or-rows_of (run_value form) n d h
+
 -- the rows that a form stands for
 abbrev rows_in : RunForm → ℕ → ℤ
-rows_in form = value_at (rows_of (run_value form))
+rows_in form = value_at (run_values form)
 
 rows_in-is : (form : RunForm) (n : ℕ) → n < 1024 → rows_in form n ≡ run_value form n
-rows_in-is form n h = get_or-rows_of (run_value form) n (pos 0) h
+rows_in-is form n h = get_or-run_values form n (pos 0) h
 
 pub run_of-within : (form : RunForm) → IsRunForm form → (n : ℕ) → n < 1024 → run_of form.starts n < length form.values
 run_of-within form f n h = omega (arith, f.count, count_below-rises (λ i. has form.starts (suc i)) n 1023 (omega arith))
@@ -165,7 +173,7 @@ run_goes_on form n h e =
     changes_at-same (rows_in form) n
     (rows_in-is form (suc n) h ∙ ap (λ k. get_or form.values k (pos 0)) (count_below-no (λ i. has form.starts (suc i)) n e) ∙ sym (rows_in-is form n (omega arith)))
 
-pub length-least : (form : RunForm) → IsRunForm form → length (least_runs form.lane_width (rows_of (run_value form))).values ≤ length form.values
+pub length-least : (form : RunForm) → IsRunForm form → length (least_runs form.lane_width (run_values form)).values ≤ length form.values
 length-least form f =
     let fewer = count_below-implies (λ i. changes_at (rows_in form) (suc i)) (λ i. has form.starts (suc i)) 1023
     (λ i l e. true_from_ne_false _ (λ no. false≢true (sym (run_goes_on form i (omega arith) no) ∙ e))) in
@@ -192,7 +200,7 @@ pub same_values : (xs ys : List ℤ) → length xs ≡ length ys → ((k : ℕ) 
 same_values xs ys l h =
     same_lists xs ys l (λ k d w. get_or_default xs k d (pos 0) w ∙ h k w ∙ get_or_default ys k (pos 0) d (omega (arith, l)))
 
-pub least-from_differ : (form : RunForm) → IsRunForm form → NeighboursDiffer form.values → form ≡ least_runs form.lane_width (rows_of (run_value form))
+pub least-from_differ : (form : RunForm) → IsRunForm form → NeighboursDiffer form.values → form ≡ least_runs form.lane_width (run_values form)
 least-from_differ form f d =
     let same = starts_where_changes form f d in
     let counts : (n : ℕ) → n ≤ 1023 → count_below (λ i. changes_at (rows_in form) (suc i)) n ≡ run_of form.starts n =
@@ -207,7 +215,7 @@ least-from_differ form f d =
     ∙ ap (λ j. get_or (changed_values (rows_in form) 1024) j (pos 0)) (counts row.0 row.1 ∙ row.2)) in
     λ i. record { lane_width = form.lane_width; starts = starts i; values = values i }
 
-pub differ-from_least : (form : RunForm) → IsRunForm form → form ≡ least_runs form.lane_width (rows_of (run_value form)) → NeighboursDiffer form.values
+pub differ-from_least : (form : RunForm) → IsRunForm form → form ≡ least_runs form.lane_width (run_values form) → NeighboursDiffer form.values
 differ-from_least form f e k h same =
     let r = count_below-reached (λ i. has form.starts (suc i)) 1023 k (omega (arith, f.count)) in
     let change : changes_at (rows_in form) (suc r.0) ≡ true =

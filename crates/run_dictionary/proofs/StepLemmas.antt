@@ -1,17 +1,24 @@
 -- One step of each loop over the rows, words and runs of a vector.
-use Rattle.std.proofs.Common.{◌≡◌, ◌==◌, ℕ, zero, suc, ◌+◌, ◌-◌, ◌*◌, ◌/◌, ◌%◌, ◌^◌, ◌<◌, ◌≤◌, Bool, true, false, ℤ, pos, List, [], ◌∷◌, ◌++◌, length, take, set, slice_index_or, bit_or, ◌⊎◌, inl, inr, sym, ap, ◌∙◌, subst, arith}
+use Rattle.std.proofs.Common.{◌≡◌, ◌==◌, ℕ, zero, suc, ◌+◌, ◌-◌, ◌*◌, ◌/◌, ◌%◌, ◌^◌, ◌<◌, ◌≤◌, Bool, true, false, cond, ℤ, pos, List, [], ◌∷◌, ◌++◌, length, take, set, slice_index_or, bit_or, ◌⊎◌, inl, inr, refl, sym, ap, ◌∙◌, subst, arith}
 use Rattle.std.specs.Int.{bit_at, w64}
-use Rattle.std.proofs.lemmas.Bool.{cases_lt}
-use Rattle.std.proofs.lemmas.List.{take_more_set}
+use Rattle.std.proofs.lemmas.Bool.{cases_lt, cases_Bool}
+use Rattle.std.specs.Int.Bits.{or_zero_r}
+use mir.Val.{bool_byte}
+use Rattle.std.proofs.lemmas.List.{take_more_set, take-set}
 use Rattle.std.proofs.lemmas.Nat.Bits.{bit_at_set_same, bit_at_set_other}
 use Rattle.transpose_order.specs.Mask.{rows_of, has, count_below}
 use Rattle.transpose_order.specs.MaskWords.{rows_of-same}
 use Rattle.transpose_order.specs.Place.{IsLaneWidth}
 use Rattle.transpose_order.proofs.WidthLemmas.{at_widths}
-use Rattle.transpose_order.proofs.MaskLemmas.{count_below-zero, count_below-same, count_below-le, count_below-add}
+use Rattle.transpose_order.proofs.MaskLemmas.{count_below-zero, count_below-suc, count_below-same, count_below-le, count_below-add}
 use Rattle.run_dictionary.specs.Runs.{RunForm, IsRunForm, run_of, changes_at, changed_values}
 use Rattle.run_dictionary.proofs.CountLemmas.{count_below-yes, count_below-no, count_below-rises, count_below-stays}
 use Rattle.run_dictionary.proofs.RunLemmas.{changed_values-yes, changed_values-no, changed_values-one}
+
+-- a truth value as a number
+pub number_of_truth : (b : Bool) → bool_byte b ≡ cond b 1 0
+number_of_truth true = refl
+number_of_truth false = refl
 
 -- ---- a word made bit by bit
 abbrev pub HasBitsBelow : (ℕ → Bool) → ℕ → ℕ → Type 0
@@ -42,6 +49,18 @@ bit_skip_more f old new p h is off below above =
         let last : p ≡ q = omega arith in
         subst (λ (q : ℕ). (bit_at new q == 1) ≡ f q) last (ap (λ w. bit_at w p == 1) is ∙ ap (λ b. b == 1) (above p (omega arith) h) ∙ sym off)
 
+pub bit_more : (f : ℕ → Bool) (old bit p : ℕ) → p < 64 → bit ≡ cond (f p) 1 0 → HasBitsBelow f old p → HasNoBitsFrom old p → HasBitsBelow f (bit_or old (bit * 2 ^ p % 2 ^ 64)) (p + 1) × HasNoBitsFrom (bit_or old (bit * 2 ^ p % 2 ^ 64)) (p + 1)
+bit_more f old bit p h is below above = by_test (cases_Bool (f p))
+  where
+    by_test : (f p ≡ true) ⊎ (f p ≡ false) → HasBitsBelow f (bit_or old (bit * 2 ^ p % 2 ^ 64)) (p + 1) × HasNoBitsFrom (bit_or old (bit * 2 ^ p % 2 ^ 64)) (p + 1)
+    by_test (inl e) =
+        let one : bit ≡ 1 = is ∙ ap (λ b. cond b 1 0) e in
+        bit_set_more f old _ p h (ap (λ n. bit_or old (n * 2 ^ p % 2 ^ 64)) one) e below above
+    by_test (inr e) =
+        let none : bit ≡ 0 = is ∙ ap (λ b. cond b 1 0) e in
+        let nothing : 0 * 2 ^ p % 2 ^ 64 ≡ 0 = omega arith in
+        bit_skip_more f old _ p h (ap (λ n. bit_or old (n * 2 ^ p % 2 ^ 64)) none ∙ ap (bit_or old) nothing ∙ or_zero_r old) e below above
+
 -- ---- the values of the runs
 pub changed_values-stay : (v : ℕ → ℤ) (row : ℕ) → 0 < row → changes_at v row ≡ false → changed_values v (row + 1) ≡ changed_values v row
 changed_values-stay v zero h e = absurd (omega arith)
@@ -50,6 +69,23 @@ changed_values-stay v (suc n) h e = ap (changed_values v) (let s : suc n + 1 ≡
 pub changed_values-push : (v : ℕ → ℤ) (row count : ℕ) (into : List ℤ) → count < length into → changes_at v row ≡ true → take count into ≡ changed_values v row → take (count + 1) (set into count (v row)) ≡ changed_values v (row + 1)
 changed_values-push v row count into h e written =
     take_more_set into count (v row) h ∙ ap (λ xs. xs ++ v row ∷ []) written ∙ sym (changed_values-yes v row e) ∙ ap (changed_values v) (let s : suc row ≡ row + 1 = omega arith in s)
+
+-- a value that doesn't change is written beyond the values so far
+pub changed_values-more : (v : ℕ → ℤ) (row count one : ℕ) (into : List ℤ) → 0 < row → count < length into → one ≡ cond (changes_at v row) 1 0 → take count into ≡ changed_values v row → take (count + one) (set into count (v row)) ≡ changed_values v (row + 1)
+changed_values-more v row count one into some h is written = by_test (cases_Bool (changes_at v row))
+  where
+    by_test : (changes_at v row ≡ true) ⊎ (changes_at v row ≡ false) → take (count + one) (set into count (v row)) ≡ changed_values v (row + 1)
+    by_test (inl e) =
+        let more : count + one ≡ count + 1 = ap (λ n. count + n) (is ∙ ap (λ b. cond b 1 0) e) in
+        ap (λ n. take n (set into count (v row))) more ∙ changed_values-push v row count into h e written
+    by_test (inr e) =
+        let none : one ≡ 0 = is ∙ ap (λ b. cond b 1 0) e in
+        let stays : count + one ≡ count = omega (arith, none) in
+        ap (λ n. take n (set into count (v row))) stays ∙ take-set into count (v row) ∙ written ∙ sym (changed_values-stay v row some e)
+
+pub one_at_most : (b : Bool) → cond b 1 0 ≤ 1
+one_at_most true = omega arith
+one_at_most false = omega arith
 
 pub changed_values-first : (v : ℕ → ℤ) (into : List ℤ) → 0 < length into → take 1 (set into 0 (v 0)) ≡ changed_values v 1
 changed_values-first v into h = take_more_set into 0 (v 0) h ∙ sym (changed_values-one v)
@@ -78,6 +114,20 @@ run_of-count starts n first =
     let same : count_below (λ i. has starts (1 + i)) n ≡ run_of starts n =
     count_below-same (λ i. has starts (1 + i)) (λ i. has starts (suc i)) n (λ i _. ap (has starts) (let s : 1 + i ≡ suc i = omega arith in s)) in
     ap (count_below (has starts)) turned ∙ count_below-add (has starts) 1 n ∙ omega (arith, none, same)
+
+-- the starts after row 0 are all but the one of row 0
+pub run_of-all : (starts : List Bool) → count_below (has starts) 1024 ≡ count_below (has starts) 1 + run_of starts 1023
+run_of-all starts =
+    let same : count_below (λ i. has starts (1 + i)) 1023 ≡ run_of starts 1023 =
+    count_below-same (λ i. has starts (1 + i)) (λ i. has starts (suc i)) 1023 (λ i _. ap (has starts) (let s : 1 + i ≡ suc i = omega arith in s)) in
+    count_below-add (has starts) 1 1023 ∙ ap (λ k. count_below (has starts) 1 + k) same
+
+-- the starts before a row, and the row's own, are its run
+pub run_of-more : (starts : List Bool) (row run one : ℕ) → has starts 0 ≡ false → run ≡ count_below (has starts) row → one ≡ cond (has starts row) 1 0 → (run + one ≡ run_of starts row) × (run + one ≡ count_below (has starts) (row + 1))
+run_of-more starts row run one first is new =
+    let next : suc row ≡ row + 1 = omega arith in
+    let counted : run + one ≡ count_below (has starts) (row + 1) = ap (λ k. k + one) is ∙ ap (λ k. count_below (has starts) row + k) new ∙ sym (count_below-suc (has starts) row) ∙ ap (count_below (has starts)) next in
+    (counted ∙ run_of-count starts row first, counted)
 
 pub run_of-bound : (form : RunForm) → IsRunForm form → length form.values ≤ 1024
 run_of-bound form f = omega (arith, f.count, count_below-le (λ i. has form.starts (suc i)) 1023)

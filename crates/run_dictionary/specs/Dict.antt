@@ -3,7 +3,7 @@ use Rattle.std.specs.Prelude.{◌≡◌, ℕ, ◌+◌, ◌-◌, ◌*◌, ◌/◌
 use Rattle.std.specs.List.{position_or_len}
 use Rattle.std.specs.Ordering.{int_eq}
 use Rattle.transpose_order.specs.Mask.{rows_of}
-use Rattle.transpose_order.specs.Place.{IsLaneWidth, lane_of, step_of}
+use Rattle.transpose_order.specs.Place.{IsLaneWidth, lane_of, step_of, row_at}
 use Rattle.bit_interleave.specs.Arithmetic.{least_width}
 use Rattle.bit_interleave.specs.Packing.{packed_value}
 use Rattle.bit_interleave.specs.PackedWords.{PackedWords, FitLanes, HasWidth, words_packing}
@@ -30,13 +30,25 @@ pub record DictForm : Type 0 where
   pub values : List ℤ
   pub codes : PackedWords
 
--- the code of row n: codes stand in lanes of 16 bits whatever the column's lane width is
-unfoldable pub code_at : DictForm → ℕ → ℕ
-code_at form n = packed_value 16 form.width form.codes.numbers (lane_of 16 n) (step_of 16 n)
+-- the code of row n in packed words: codes stand in lanes of 16 bits whatever the column's lane width is
+unfoldable pub packed_code : ℕ → PackedWords → ℕ → ℕ
+packed_code width codes n = packed_value 16 width codes.numbers (lane_of 16 n) (step_of 16 n)
+
+-- the code of each of 1024 rows is below a count
+abbrev pub AreCodesBelow : ℕ → PackedWords → ℕ → Type 0
+AreCodesBelow width codes count = (n : ℕ) → n < 1024 → packed_code width codes n < count
+
+-- the code of row n of a form
+abbrev pub code_at : DictForm → ℕ → ℕ
+code_at form n = packed_code form.width form.codes n
 
 -- the value at row n is the dictionary's value at the row's code
 abbrev pub dict_value : DictForm → ℕ → ℤ
 dict_value form n = value_at form.values (code_at form n)
+
+-- the 1024 values in row order
+unfoldable pub dict_values : DictForm → List ℤ
+dict_values form = rows_of (dict_value form)
 
 -- a form that stands for 1024 values: the dictionary ascends, and each code is a place in it
 pub record IsDictForm (form : DictForm) : Type 0 where
@@ -46,7 +58,7 @@ pub record IsDictForm (form : DictForm) : Type 0 where
   pub fit : FitLanes form.codes
   pub many : length form.values ≤ 1024
   pub rises : IsAscending form.values
-  pub codes : (n : ℕ) → n < 1024 → code_at form n < length form.values
+  pub codes : AreCodesBelow form.width form.codes (length form.values)
   pub range : AreInRange form.lane_width form.values
 
 -- the place of a value in a dictionary
@@ -66,12 +78,22 @@ least_dict t values = record {
 abbrev pub dict_bytes : DictForm → ℕ
 dict_bytes form = length form.values * form.lane_width / 8 + 128 * form.width
 
+-- the code of the row at a lane and a step is the number packed there
+abbrev pub CodesStandInLanes : Type 0
+CodesStandInLanes =
+    (form : DictForm) (lane step : ℕ) → lane < 64 → step < 16 → code_at form (row_at 16 lane step) ≡ packed_value 16 form.width form.codes.numbers lane step
+
+-- the least form of 1024 values is a form
+abbrev pub LeastDictIsAForm : Type 0
+LeastDictIsAForm =
+    (t : ℕ) (values : List ℤ) → IsLaneWidth t → length values ≡ 1024 → AreInRange t values → IsDictForm (least_dict t values)
+
 -- the least form of 1024 values stands for them
 abbrev pub LeastDictGivesBack : Type 0
 LeastDictGivesBack =
-    (t n : ℕ) (values : List ℤ) → length values ≡ 1024 → n < 1024 → dict_value (least_dict t values) n ≡ value_at values n
+    (t : ℕ) (values : List ℤ) → length values ≡ 1024 → dict_values (least_dict t values) ≡ values
 
 -- of all forms that stand for the same values the least one has the fewest values, and no form's width is too small for them
 abbrev pub LeastDictIsFewest : Type 0
 LeastDictIsFewest =
-    (form : DictForm) → IsDictForm form → let least = length (least_dict form.lane_width (rows_of (dict_value form))).values in (least ≤ length form.values) × (least ≤ 2 ^ form.width)
+    (form : DictForm) → IsDictForm form → let least = length (least_dict form.lane_width (dict_values form)).values in (least ≤ length form.values) × (least ≤ 2 ^ form.width)

@@ -1,5 +1,5 @@
 -- Run-length forms: where runs start, and the value of each run.
-use Rattle.std.specs.Prelude.{◌≡◌, ℕ, suc, ◌+◌, ◌-◌, ◌*◌, ◌/◌, ◌<◌, ◌≤◌, ◌==◌, nat_lt, Bool, false, ◌&&◌, ◌||◌, not, ℤ, pos, List, map, filter, length, slice_index_or}
+use Rattle.std.specs.Prelude.{◌≡◌, ℕ, suc, ◌+◌, ◌-◌, ◌*◌, ◌/◌, ◌≤◌, ◌==◌, nat_lt, Bool, false, ◌&&◌, ◌||◌, not, ℤ, pos, List, map, filter, length, slice_index_or}
 use Rattle.std.specs.List.{range_with_len}
 use Rattle.std.specs.Ordering.{int_eq}
 use Rattle.transpose_order.specs.Mask.{rows_of, has, count_below}
@@ -20,9 +20,13 @@ run_of starts n = count_below (λ i. has starts (suc i)) n
 abbrev pub run_value : RunForm → ℕ → ℤ
 run_value form n = slice_index_or form.values (run_of form.starts n) (pos 0)
 
+-- the 1024 values in row order
+unfoldable pub run_values : RunForm → List ℤ
+run_values form = rows_of (run_value form)
+
 -- a form that stands for 1024 values: no run starts at row 0, and each start has its value
 pub record IsRunForm (form : RunForm) : Type 0 where
-  pub width : IsLaneWidth form.lane_width
+  pub lane_width : IsLaneWidth form.lane_width
   pub rows : length form.starts ≡ 1024
   pub first : has form.starts 0 ≡ false
   pub count : length form.values ≡ run_of form.starts 1023 + 1
@@ -48,12 +52,17 @@ least_runs t values = record {
 abbrev pub run_bytes : RunForm → ℕ
 run_bytes form = 128 + length form.values * form.lane_width / 8
 
+-- the least form of 1024 values is a form
+abbrev pub LeastRunsAreAForm : Type 0
+LeastRunsAreAForm =
+    (t : ℕ) (values : List ℤ) → IsLaneWidth t → length values ≡ 1024 → AreInRange t values → IsRunForm (least_runs t values)
+
 -- the least form of 1024 values stands for them
 abbrev pub LeastRunsGiveBack : Type 0
 LeastRunsGiveBack =
-    (t n : ℕ) (values : List ℤ) → length values ≡ 1024 → n < 1024 → run_value (least_runs t values) n ≡ value_at values n
+    (t : ℕ) (values : List ℤ) → length values ≡ 1024 → run_values (least_runs t values) ≡ values
 
 -- of all forms that stand for the same values the least one has the fewest runs
 abbrev pub LeastRunsAreFewest : Type 0
 LeastRunsAreFewest =
-    (form : RunForm) → IsRunForm form → length (least_runs form.lane_width (rows_of (run_value form))).values ≤ length form.values
+    (form : RunForm) → IsRunForm form → length (least_runs form.lane_width (run_values form)).values ≤ length form.values

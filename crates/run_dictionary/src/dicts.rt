@@ -1,19 +1,26 @@
 //! Dictionary coding: the distinct values of a vector, and a packed code for each row.
-ghost use Rattle.std.specs.Prelude.{◌≡◌, ℕ, ◌<◌, ◌≤◌, ◌↔◌, IsTrue, IfOk, length, vec_len};
-ghost use Rattle.transpose_order.specs.Mask.{rows_of};
-ghost use Rattle.transpose_order.specs.Place.{IsLaneWidth};
+ghost use Rattle.std.specs.Prelude.{◌≡◌, ℕ, ◌+◌, ◌*◌, ◌<◌, ◌≤◌, ◌≤ℤ◌, ◌↔◌, IsTrue, IsSome, IfSome, IfOk, length, vec_len, FitsSigned};
+ghost use Rattle.transpose_order.specs.Place.{IsLaneWidth, place_of};
 ghost use Rattle.bit_interleave.specs.PackedWords.{HasWidth};
+ghost use Rattle.bit_interleave.specs.Arithmetic.{integer_width};
+ghost use Rattle.bit_interleave.specs.Packing.{sixteen_of};
 ghost use Rattle.bit_interleave.specs.Range.{AreInRange};
-ghost use Rattle.run_dictionary.specs.Dict.{IsDictForm, IsAscending, code_at, dict_value, least_dict, dict_bytes, LeastDictGivesBack, LeastDictIsFewest};
+ghost use Rattle.run_dictionary.specs.Dict.{IsDictForm, IsAscending, AreCodesBelow, code_at, dict_value, dict_values, least_dict, dict_bytes, CodesStandInLanes, LeastDictIsAForm, LeastDictGivesBack, LeastDictIsFewest};
 
-use crate::codes::{all_used, count_distinct, write_codes, write_distinct, write_values};
+use crate::codes::{
+    all_used, are_below, first_above, first_from, values_at, write_codes, write_distinct,
+    write_values,
+};
+use crate::counting::{count_distinct_to, most_values, payload_bytes};
 use bit_interleave::{Words, width_of};
 use std::alloc::{AllocError, Global};
 use std::marker::Model;
+use std::simd::prelude::*;
 use transpose_order::place;
 
 /// A vector of 1024 signed integers of 8, 16, 32 or 64 bits as a dictionary of ascending values, and the place of each row's
-/// value in it, packed in lanes of 16 bits whatever the lane width is (FastLanes, VLDB 2023, dictionary coding).
+/// value in it, packed in lanes of 16 bits whatever the lane width is. It is in the manner of FastLanes (VLDB 2023), of its
+/// section on light-weight encodings; the order of rows and the payload are our own.
 #[derive(Drop)]
 pub struct Dict {
     lane_width: usize,
@@ -36,12 +43,24 @@ impl Dict {
     /// The bytes that `encode` would take for the payload: `lane_width / 8` for each distinct value, and 128 for each bit of a
     /// code. The 1024 values, in row order, are in the range of `lane_width` bits, signed, which are 8, 16, 32 or 64.
     pub fn size(values: &[i64; 1024], lane_width: usize) -> u16
-        requires width { IsLaneWidth lane_width }
-        requires range { AreInRange lane_width values.now }
+        requires lane_width { IsLaneWidth lane_width }
+        requires fit { AreInRange lane_width values.now }
         ensures { result ≡ dict_bytes (least_dict lane_width values.now) }
     {
-        let count = count_distinct(values);
-        (count * lane_width / 8 + 128 * width_of(count as u64 - 1)) as u16
+        Self::size_below(values, lane_width, u16::MAX).unwrap()
+    }
+
+    /// What `size` answers, where it is below a bound, and else `None`. Where there are more distinct values than a payload below
+    /// the bound has, it stops at the first that is too many; the values are sorted only where they span 65,536 numbers or more.
+    pub fn size_below(values: &[i64; 1024], lane_width: usize, bound: u16) -> Option<u16>
+        requires lane_width { IsLaneWidth lane_width }
+        requires fit { AreInRange lane_width values.now }
+        ensures size { IfSome result (λ size. size ≡ dict_bytes (least_dict lane_width values.now)) }
+        ensures below { IsSome result ↔ (dict_bytes (least_dict lane_width values.now) < bound) }
+    {
+        let count = count_distinct_to(values, most_values(lane_width, bound))?;
+        let size = payload_bytes(lane_width, count, width_of(count as u64 - 1));
+        if size < bound { Some(size) } else { None }
     }
 
     /// The least form of 1024 values: their distinct values, and the least width for the greatest code. The values, in row order,
@@ -51,9 +70,9 @@ impl Dict {
         values: &[i64; 1024],
         lane_width: usize,
     ) -> Result<Self, AllocError>
-        requires width { IsLaneWidth lane_width }
-        requires range { AreInRange lane_width values.now }
-        ensures { IfOk result (λ d. d ≡ least_dict lane_width values.now) }
+        requires lane_width { IsLaneWidth lane_width }
+        requires fit { AreInRange lane_width values.now }
+        ensures { IfOk result (λ coded. coded ≡ least_dict lane_width values.now) }
     {
         let mut distinct = [0; 1024];
         let count = write_distinct(values, &mut distinct);
@@ -69,6 +88,17 @@ impl Dict {
         })
     }
 
+    /// Whether the code of each of 1024 rows is below a count, in `64 * width` words of 16 bits that pack codes of `width` bits.
+    pub fn codes_fit(width: usize, codes: &Words, count: usize) -> bool
+        requires words { codes.now.lane_width ≡ 16 }
+        requires packed { HasWidth codes.now width }
+        ensures { IsTrue result ↔ AreCodesBelow width codes.now count }
+    {
+        let mut unpacked = [0; 1024];
+        codes.unpack(width, &mut unpacked);
+        are_below(&unpacked, count)
+    }
+
     /// The vector with these parts: at most 1024 values, which ascend and are in the range of `lane_width` bits, signed, and
     /// `64 * width` words of 16 bits of which each row's code is a place among the values. A value may have no row, so it need not
     /// be the least form.
@@ -78,12 +108,12 @@ impl Dict {
         requires packed { HasWidth codes width }
         requires many { vec_len values ≤ 1024 }
         requires rises { IsAscending values.items }
-        requires codes { (n : ℕ) → n < 1024
-            → code_at (record { lane_width = lane_width; width = width; values = values.items; codes = codes }) n < vec_len values }
-        requires range { AreInRange lane_width values.items }
+        requires codes { AreCodesBelow width codes (vec_len values) }
+        requires fit { AreInRange lane_width values.items }
         ensures { result ≡ record { lane_width = lane_width; width = width; values = values.items; codes = codes } }
     {
-        let _count = codes.len();
+        // What the words' numbers are below is in the contract of their calls.
+        let _ = codes.len();
         Dict {
             lane_width,
             width,
@@ -94,33 +124,57 @@ impl Dict {
 
     /// Writes the 1024 values in row order, each in the range of the lane width.
     pub fn decode(&self, values: &mut [i64; 1024])
-        ensures { values.new ≡ rows_of (dict_value self.now) }
+        ensures values { values.new ≡ dict_values self.now }
+        ensures fit { AreInRange self.now.lane_width values.new }
     {
         let mut codes = [0; 1024];
         self.codes.unpack(self.width, &mut codes);
         write_values(&self.values, &codes, values);
     }
 
-    /// The value of a row, 0 to 1023.
+    /// The value of a row, 0 to 1023, in the range of the lane width.
     pub fn value(&self, row: usize) -> i64
         requires { row < 1024 }
-        ensures { result ≡ dict_value self.now row }
+        ensures value { result ≡ dict_value self.now row }
+        ensures fits { FitsSigned (integer_width self.now.lane_width) result }
     {
         let (lane, step) = place(16, row);
-        let codes = self.codes.step(self.width, lane / 16, step).to_array();
-        self.values[codes[lane % 16] as usize]
+        self.values[self.codes.value(self.width, lane, step) as usize]
+    }
+
+    /// Sixteen of the values, each in the range of the lane width, for a piece from 0 to 63 of lanes of 16 bits: element i is
+    /// the value at row `64 * i + place_in_word(16, piece)`.
+    pub fn piece(&self, piece: usize) -> Simd<i64, 16>
+        requires { piece < 64 }
+        ensures { result ≡ sixteen_of (λ i. dict_value self.now (64 * i + place_of 16 piece)) }
+    {
+        let codes = self.codes.step(self.width, piece / 16, piece % 16);
+        values_at(&self.values, &codes.to_array())
+    }
+
+    /// The places in the dictionary of the values from `low` to `high`, both included: from the first that is answered up to
+    /// the second, which is not included.
+    pub fn places_between(&self, low: i64, high: i64) -> (usize, usize)
+        ensures within { result.1 ≤ length self.now.values }
+        ensures rows { (n : ℕ) → n < 1024 → ((low ≤ℤ dict_value self.now n) × (dict_value self.now n ≤ℤ high))
+            ↔ ((result.0 ≤ code_at self.now n) × (code_at self.now n < result.1)) }
+    {
+        (
+            first_from(&self.values, low),
+            first_above(&self.values, high),
+        )
     }
 
     /// The payload's bytes: `lane_width / 8` for each value of the dictionary, and 128 for each bit of a code.
     pub fn bytes_len(&self) -> u16
         ensures { result ≡ dict_bytes self.now }
     {
-        (self.values.len() * self.lane_width / 8 + 128 * self.width) as u16
+        payload_bytes(self.lane_width, self.values.len(), self.width)
     }
 
     /// Whether this is the least form of the values that it decodes to, part for part.
     pub fn is_least(&self) -> bool
-        ensures { IsTrue result ↔ (self.now ≡ least_dict self.now.lane_width (rows_of (dict_value self.now))) }
+        ensures { IsTrue result ↔ (self.now ≡ least_dict self.now.lane_width (dict_values self.now)) }
     {
         let mut codes = [0; 1024];
         self.codes.unpack(self.width, &mut codes);
@@ -130,7 +184,7 @@ impl Dict {
 
     /// The same vector in memory of its own. Where memory is refused, an `AllocError`.
     pub fn copy(&self, alloc: Global) -> Result<Self, AllocError>
-        ensures { IfOk result (λ d. d ≡ self.now) }
+        ensures { IfOk result (λ coded. coded ≡ self.now) }
     {
         Ok(Dict {
             lane_width: self.lane_width,
@@ -143,6 +197,7 @@ impl Dict {
     /// The lane width of the vector's values in bits: 8, 16, 32 or 64.
     pub fn lane_width(&self) -> usize
         ensures value { result ≡ self.now.lane_width }
+        ensures lanes { IsLaneWidth result }
         ensures form { IsDictForm self.now }
     {
         self.lane_width
@@ -150,25 +205,41 @@ impl Dict {
 
     /// The width of a code in bits, from 0 to 16.
     pub fn width(&self) -> usize
-        ensures { result ≡ self.now.width }
+        ensures value { result ≡ self.now.width }
+        ensures bound { result ≤ 16 }
     {
         self.width
     }
 
     /// The values of the dictionary in ascending order, from 1 to 1024 of them, each in the range of the lane width, signed.
     pub fn values(&self) -> &[i64]
-        ensures { result.now ≡ self.now.values }
+        ensures values { result.now ≡ self.now.values }
+        ensures some { 0 < length result.now }
+        ensures many { length result.now ≤ 1024 }
+        ensures fit { AreInRange self.now.lane_width result.now }
     {
         &self.values
     }
 
     /// The codes packed in lanes of 16 bits, in `64 * width` words.
     pub fn codes(&self) -> &Words
-        ensures { result.now ≡ self.now.codes }
+        ensures words { result.now ≡ self.now.codes }
+        ensures lanes { result.now.lane_width ≡ 16 }
+        ensures width { HasWidth result.now self.now.width }
     {
         &self.codes
     }
 }
+
+/// The law that a row's code is the packed number at the row's lane and step, of 16 bits.
+pub fn codes_stand_in_lanes()
+    ensures { CodesStandInLanes }
+{}
+
+/// The law that the least form of 1024 values is a form.
+pub fn least_dict_is_a_form()
+    ensures { LeastDictIsAForm }
+{}
 
 /// The law that the least form of 1024 values stands for them.
 pub fn least_dict_gives_back()

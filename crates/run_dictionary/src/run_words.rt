@@ -1,5 +1,5 @@
 //! Where the runs of 1024 values start, and what they have.
-ghost use Rattle.std.specs.Prelude.{◌≡◌, ◌≢◌, ◌==◌, ◌↔◌, ℕ, suc, ◌+◌, ◌*◌, ◌<◌, ◌≤◌, true, false, IsTrue, take, length, slice_index_or, ℤ, pos};
+ghost use Rattle.std.specs.Prelude.{◌≡◌, ◌≢◌, ◌==◌, ◌↔◌, ℕ, suc, ◌+◌, ◌-◌, ◌*◌, ◌<◌, ◌≤◌, true, false, IsTrue, take, length, slice_index_or, ℤ, pos};
 ghost use Rattle.std.specs.Int.{bit_at};
 ghost use Rattle.transpose_order.specs.Mask.{rows_of, has, count_below};
 ghost use Rattle.bit_interleave.specs.Range.{value_at};
@@ -7,21 +7,25 @@ ghost use Rattle.run_dictionary.specs.Runs.{changes_at, changed_values, run_of};
 
 use transpose_order::Mask;
 
+/// With more runs than this, of less than eight rows each, a vector is written row by row.
+const MANY_RUNS: usize = 128;
+
 /// Whether a row's value differs from that of the row before.
-fn differs(values: &[i64; 1024], row: usize) -> bool
-    requires { row < 1024 }
+fn differs(values: &[i64], row: usize) -> bool
+    requires { row < length values.now }
     ensures { result ≡ changes_at (value_at values.now) row }
 {
     values[row] != values[row.saturating_sub(1)]
 }
 
-/// How many of 1024 values differ from the one before.
-pub(crate) fn count_changes(values: &[i64; 1024]) -> usize
-    ensures value { result ≡ count_below (λ i. changes_at (value_at values.now) (suc i)) 1023 }
-    ensures bound { result < 1024 }
+/// How many of some values differ from the one before.
+pub(crate) fn count_changes(values: &[i64]) -> usize
+    requires { 0 < length values.now }
+    ensures value { result ≡ count_below (λ i. changes_at (value_at values.now) (suc i)) (length values.now - 1) }
+    ensures bound { result < length values.now }
 {
     let mut count = 0;
-    for row in 1..1024 {
+    for row in 1..values.len() {
         if differs(values, row) {
             count += 1;
         }
@@ -36,9 +40,7 @@ fn changes_in_word(values: &[i64; 1024], j: usize) -> u64
 {
     let mut word = 0u64;
     for p in 0..64 {
-        if differs(values, 64 * j + p) {
-            word |= 1 << p;
-        }
+        word |= u64::from(differs(values, 64 * j + p)) << p;
     }
     word
 }
@@ -55,43 +57,19 @@ pub(crate) fn changes(values: &[i64; 1024]) -> Mask
 }
 
 /// Writes the value of each run in turn, and answers how many there are.
-pub(crate) fn write_changed(values: &[i64; 1024], into: &mut [i64; 1024]) -> usize
+pub(crate) fn write_changed(values: &[i64], into: &mut [i64; 1024]) -> usize
+    requires some { 0 < length values.now }
+    requires many { length values.now ≤ 1024 }
     ensures bound { result ≤ 1024 }
-    ensures written { take result into.new ≡ changed_values (value_at values.now) 1024 }
+    ensures written { take result into.new ≡ changed_values (value_at values.now) (length values.now) }
 {
     into[0] = values[0];
     let mut count = 1;
-    for row in 1..1024 {
-        if differs(values, row) {
-            into[count] = values[row];
-            count += 1;
-        }
+    for row in 1..values.len() {
+        into[count] = values[row];
+        count += usize::from(differs(values, row));
     }
     count
-}
-
-/// The first row from `from` on where a run starts, or 1024.
-fn next_start(starts: &Mask, from: usize) -> usize
-    requires { from ≤ 1024 }
-    ensures order { from ≤ result }
-    ensures within { result ≤ 1024 }
-    ensures none { (n : ℕ) → from ≤ n → n < result → has starts.now n ≡ false }
-    ensures start { result < 1024 → has starts.now result ≡ true }
-{
-    if from == 1024 {
-        return 1024;
-    }
-    let words = starts.words();
-    let rest = words[from / 64] >> (from % 64);
-    if rest != 0 {
-        return from + rest.trailing_zeros() as usize;
-    }
-    for j in from / 64 + 1..16 {
-        if words[j] != 0 {
-            return 64 * j + words[j].trailing_zeros() as usize;
-        }
-    }
-    1024
 }
 
 /// Writes a value to the rows from `first` up to `end`, which is not included.
@@ -106,16 +84,42 @@ fn fill_rows(into: &mut [i64; 1024], first: usize, end: usize, value: i64)
     }
 }
 
-/// Writes the value of each row's run.
-pub(crate) fn write_rows(starts: &Mask, runs: &[i64], into: &mut [i64; 1024])
+/// Writes the value of each row's run, run by run.
+fn write_each_run(starts: &Mask, runs: &[i64], into: &mut [i64; 1024])
     requires { length runs.now ≡ run_of starts.now 1023 + 1 }
     ensures { into.new ≡ rows_of (λ n. slice_index_or runs.now (run_of starts.now n) (pos 0)) }
 {
     let mut row = 0;
     for value in runs {
-        let end = next_start(starts, row + 1);
+        let end = starts.next_true(row + 1);
         fill_rows(into, row, end, *value);
         row = end;
+    }
+}
+
+/// Writes the value of each row's run, row by row and with no jump.
+fn write_each_row(starts: &Mask, runs: &[i64], into: &mut [i64; 1024])
+    requires first { has starts.now 0 ≡ false }
+    requires count { length runs.now ≡ run_of starts.now 1023 + 1 }
+    ensures { into.new ≡ rows_of (λ n. slice_index_or runs.now (run_of starts.now n) (pos 0)) }
+{
+    let mut run = 0;
+    for row in 0..1024 {
+        run += usize::from(starts.get(row));
+        into[row] = runs[run];
+    }
+}
+
+/// Writes the value of each row's run. With many runs it goes by rows, which is the faster way then.
+pub(crate) fn write_rows(starts: &Mask, runs: &[i64], into: &mut [i64; 1024])
+    requires first { has starts.now 0 ≡ false }
+    requires count { length runs.now ≡ run_of starts.now 1023 + 1 }
+    ensures { into.new ≡ rows_of (λ n. slice_index_or runs.now (run_of starts.now n) (pos 0)) }
+{
+    if runs.len() > MANY_RUNS {
+        write_each_row(starts, runs, into);
+    } else {
+        write_each_run(starts, runs, into);
     }
 }
 

@@ -1,9 +1,10 @@
 //! Run-length coding: where runs of equal values start, and the value of each.
-ghost use Rattle.std.specs.Prelude.{◌≡◌, ℕ, ◌+◌, ◌<◌, ◌↔◌, IsTrue, IfOk, false, List, length, vec_len};
-ghost use Rattle.transpose_order.specs.Mask.{rows_of, has};
+ghost use Rattle.std.specs.Prelude.{◌≡◌, ℕ, ◌+◌, ◌<◌, ◌≤◌, ◌↔◌, IsTrue, IfOk, false, List, length, vec_len, FitsSigned};
+ghost use Rattle.transpose_order.specs.Mask.{has};
 ghost use Rattle.transpose_order.specs.Place.{IsLaneWidth};
+ghost use Rattle.bit_interleave.specs.Arithmetic.{integer_width};
 ghost use Rattle.bit_interleave.specs.Range.{AreInRange};
-ghost use Rattle.run_dictionary.specs.Runs.{IsRunForm, run_of, run_value, least_runs, run_bytes, LeastRunsGiveBack, LeastRunsAreFewest};
+ghost use Rattle.run_dictionary.specs.Runs.{IsRunForm, run_of, run_value, run_values, least_runs, run_bytes, LeastRunsAreAForm, LeastRunsGiveBack, LeastRunsAreFewest};
 
 use crate::run_words::{all_differ, changes, count_changes, write_changed, write_rows};
 use std::alloc::{AllocError, Global};
@@ -11,7 +12,8 @@ use std::marker::Model;
 use transpose_order::Mask;
 
 /// A vector of 1024 signed integers of 8, 16, 32 or 64 bits as runs of equal values: a mask of the rows after row 0 where a run
-/// starts, and the value of each run (FastLanes, VLDB 2023, run-length coding).
+/// starts, and the value of each run. It is in the manner of FastLanes (VLDB 2023), of its section on light-weight encodings;
+/// the payload, with a mask in row order, is our own.
 #[derive(Drop)]
 pub struct Runs {
     lane_width: usize,
@@ -33,8 +35,8 @@ impl Runs {
     /// The bytes that `encode` would take for the payload: 128 of the mask, and `lane_width / 8` for each run. The 1024 values,
     /// in row order, are in the range of `lane_width` bits, signed, which are 8, 16, 32 or 64.
     pub fn size(values: &[i64; 1024], lane_width: usize) -> u16
-        requires width { IsLaneWidth lane_width }
-        requires range { AreInRange lane_width values.now }
+        requires lane_width { IsLaneWidth lane_width }
+        requires fit { AreInRange lane_width values.now }
         ensures { result ≡ run_bytes (least_runs lane_width values.now) }
     {
         128 + ((count_changes(values) + 1) * lane_width / 8) as u16
@@ -47,9 +49,9 @@ impl Runs {
         values: &[i64; 1024],
         lane_width: usize,
     ) -> Result<Self, AllocError>
-        requires width { IsLaneWidth lane_width }
-        requires range { AreInRange lane_width values.now }
-        ensures { IfOk result (λ r. r ≡ least_runs lane_width values.now) }
+        requires lane_width { IsLaneWidth lane_width }
+        requires fit { AreInRange lane_width values.now }
+        ensures { IfOk result (λ coded. coded ≡ least_runs lane_width values.now) }
     {
         let mut runs = [0; 1024];
         let count = write_changed(values, &mut runs);
@@ -60,17 +62,27 @@ impl Runs {
         })
     }
 
+    /// How many runs a mask of starts makes, from 1 to 1024: one at row 0, which the mask may have or not, and one at each
+    /// later row of the mask.
+    pub fn count_for(starts: &Mask) -> usize
+        ensures runs { result ≡ run_of starts.now 1023 + 1 }
+        ensures many { result ≤ 1024 }
+    {
+        starts.count_below(1024) - starts.count_below(1) + 1
+    }
+
     /// The vector with these parts: a mask of 1024 rows without row 0, and in the order of their rows a value for row 0 and one
     /// for each row of the mask, in the range of `lane_width` bits, signed. Neighbouring runs may have one value, so it need not
     /// be the least form.
     pub fn from_parts(lane_width: usize, starts: Mask, values: Vec<i64>) -> Self
-        requires width { IsLaneWidth lane_width }
+        requires lane_width { IsLaneWidth lane_width }
         requires first { has starts 0 ≡ false }
         requires count { vec_len values ≡ run_of starts 1023 + 1 }
-        requires range { AreInRange lane_width values.items }
+        requires fit { AreInRange lane_width values.items }
         ensures { result ≡ record { lane_width = lane_width; starts = starts; values = values.items } }
     {
-        let _words = starts.words();
+        // That a mask has 1024 rows is in the contract of its calls.
+        let _ = starts.words();
         Runs {
             lane_width,
             starts,
@@ -80,17 +92,28 @@ impl Runs {
 
     /// Writes the 1024 values in row order, each in the range of the lane width.
     pub fn decode(&self, values: &mut [i64; 1024])
-        ensures { values.new ≡ rows_of (run_value self.now) }
+        ensures values { values.new ≡ run_values self.now }
+        ensures fit { AreInRange self.now.lane_width values.new }
     {
         write_rows(&self.starts, &self.values, values);
     }
 
-    /// The value of a row, 0 to 1023.
+    /// The place among the run values of the run of a row, 0 to 1023.
+    pub fn run_at(&self, row: usize) -> usize
+        requires { row < 1024 }
+        ensures run { result ≡ run_of self.now.starts row }
+        ensures within { result < length self.now.values }
+    {
+        self.starts.count_below(row + 1)
+    }
+
+    /// The value of a row, 0 to 1023, in the range of the lane width.
     pub fn value(&self, row: usize) -> i64
         requires { row < 1024 }
-        ensures { result ≡ run_value self.now row }
+        ensures value { result ≡ run_value self.now row }
+        ensures fits { FitsSigned (integer_width self.now.lane_width) result }
     {
-        self.values[self.starts.count_below(row + 1)]
+        self.values[self.run_at(row)]
     }
 
     /// The payload's bytes: 128 of the mask, and `lane_width / 8` for each run.
@@ -102,14 +125,14 @@ impl Runs {
 
     /// Whether this is the least form of the values that it decodes to, part for part.
     pub fn is_least(&self) -> bool
-        ensures { IsTrue result ↔ (self.now ≡ least_runs self.now.lane_width (rows_of (run_value self.now))) }
+        ensures { IsTrue result ↔ (self.now ≡ least_runs self.now.lane_width (run_values self.now)) }
     {
         all_differ(&self.values)
     }
 
     /// The same vector in memory of its own. Where memory is refused, an `AllocError`.
     pub fn copy(&self, alloc: Global) -> Result<Self, AllocError>
-        ensures { IfOk result (λ r. r ≡ self.now) }
+        ensures { IfOk result (λ coded. coded ≡ self.now) }
     {
         Ok(Runs {
             lane_width: self.lane_width,
@@ -121,6 +144,7 @@ impl Runs {
     /// The lane width in bits: 8, 16, 32 or 64.
     pub fn lane_width(&self) -> usize
         ensures value { result ≡ self.now.lane_width }
+        ensures lanes { IsLaneWidth result }
         ensures form { IsRunForm self.now }
     {
         self.lane_width
@@ -135,11 +159,19 @@ impl Runs {
 
     /// The values of the runs in order, from 1 to 1024 of them, each in the range of the lane width, signed.
     pub fn values(&self) -> &[i64]
-        ensures { result.now ≡ self.now.values }
+        ensures values { result.now ≡ self.now.values }
+        ensures some { 0 < length result.now }
+        ensures many { length result.now ≤ 1024 }
+        ensures fit { AreInRange self.now.lane_width result.now }
     {
         &self.values
     }
 }
+
+/// The law that the least form of 1024 values is a form.
+pub fn least_runs_are_a_form()
+    ensures { LeastRunsAreAForm }
+{}
 
 /// The law that the least form of 1024 values stands for them.
 pub fn least_runs_give_back()

@@ -1,4 +1,5 @@
 //! Runs and dictionaries at values worked out by hand from the definitions of the codings.
+ghost use Rattle.std.specs.Prelude.{◌<◌};
 ghost use Rattle.transpose_order.specs.Place.{IsLaneWidth};
 ghost use Rattle.bit_interleave.specs.Range.{AreInRange};
 
@@ -53,6 +54,7 @@ fn two_runs_take_a_mask_with_one_start(rt: HostRuntime) -> Result<(), Fail> {
         (runs.lane_width(), runs.value(499), runs.value(500)),
         (16, 0, 32767)
     );
+    assert_eq!(rt; (runs.run_at(499), runs.run_at(500)), (0, 1));
     Ok(())
 }
 
@@ -64,24 +66,12 @@ fn alternating_values_take_codes_of_one_bit(rt: HostRuntime) -> Result<(), Fail>
     assert_eq!(rt; (dict.lane_width(), dict.width()), (16, 1));
     assert_eq!(rt; dict.values(), [0, 32767].as_slice());
     assert_eq!(rt; (dict.value(0), dict.value(1023)), (0, 32767));
-    assert_eq!(rt; dict.codes().len(), 64);
-    for i in 0..dict.codes().len() {
-        assert_eq!(rt; dict.codes().word(i), 0xAAAA);
-    }
+    assert_eq!(rt; dict.codes().words_16(), [0xAAAA; 64].as_slice());
+    assert_eq!(rt; dict.piece(1).to_array(), [32767; 16]);
+    assert_eq!(rt; dict.places_between(1, 32767), (1, 2));
+    assert!(rt; Dict::codes_fit(1, dict.codes(), 2));
+    assert!(rt; !Dict::codes_fit(1, dict.codes(), 1));
     Ok(())
-}
-
-/// Whether words are of one width and have the same numbers.
-fn are_same(left: &Words, right: &Words) -> bool {
-    if left.lane_width() != right.lane_width() || left.len() != right.len() {
-        return false;
-    }
-    for i in 0..left.len() {
-        if left.word(i) != right.word(i) {
-            return false;
-        }
-    }
-    true
 }
 
 /// A vector's least runs have `bytes` bytes and are the least, and their copy has their parts and decodes to the vector.
@@ -140,7 +130,7 @@ fn dict_comes_back(
         (lane_width, dict.width())
     );
     assert_eq!(rt; copy.values(), dict.values());
-    assert!(rt; are_same(copy.codes(), dict.codes()));
+    assert_eq!(rt; copy.codes().words_16(), dict.codes().words_16());
     let mut back = [1; 1024];
     copy.decode(&mut back);
     assert_eq!(rt; back.as_slice(), values.as_slice());
@@ -212,7 +202,7 @@ fn extreme_values_come_back(rt: HostRuntime) -> Result<(), Fail> {
 fn read_runs(starts: Mask, values: Vec<i64>) -> Option<Runs>
     requires { AreInRange 64 values.items }
 {
-    if starts.get(0) || values.len() != starts.count_below(1024) + 1 {
+    if starts.get(0) || values.len() != Runs::count_for(&starts) {
         return None;
     }
     Some(Runs::from_parts(64, starts, values))
@@ -243,4 +233,26 @@ fn a_dictionary_may_have_a_value_without_a_row(rt: HostRuntime) -> Result<(), Fa
     assert_eq!(rt; values, [-4; 1024]);
     assert_eq!(rt; (dict.is_least(), dict.bytes_len()), (false, 144));
     Ok(())
+}
+
+// Values that span fewer than 65,536 numbers, and more; the bytes as in the tables above.
+#[test]
+fn a_size_is_known_only_below_the_bound(rt: HostRuntime) {
+    sizes_end_at(&rt, 16, Pattern::Alternating(0, 32767), 132);
+    sizes_end_at(&rt, 16, Pattern::Ramp(1), 3328);
+    sizes_end_at(&rt, 64, Pattern::Alternating(1 << 63, (1 << 63) - 1), 144);
+    sizes_end_at(&rt, 64, Pattern::Ramp(1 << 53), 9472);
+}
+
+/// The least dictionary of a vector has `bytes` bytes, which are not below `bytes`.
+fn sizes_end_at(rt: &impl Abort, lane_width: usize, pattern: Pattern, bytes: u16)
+    requires width { IsLaneWidth lane_width }
+    requires bytes { bytes < 65535 }
+{
+    let values = column(lane_width, pattern);
+    assert_eq!(rt; Dict::size_below(&values, lane_width, bytes), None);
+    assert_eq!(rt;
+        Dict::size_below(&values, lane_width, bytes + 1),
+        Some(bytes)
+    );
 }

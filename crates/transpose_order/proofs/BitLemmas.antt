@@ -2,9 +2,9 @@
 use Rattle.std.proofs.Common.{◌≡◌, ℕ, ◌+◌, ◌-◌, ◌*◌, ◌/◌, ◌%◌, ◌^◌, ◌<◌, ◌≤◌, Bool, true, false, not, ◌&&◌, ◌||◌, ◌==◌, min, max, nat_le, nat_lt, ◌⊎◌, inl, inr, bit_and, bit_or, refl, sym, ap, ◌∙◌, arith, if◌then◌else◌}
 use Rattle.std.specs.Int.{bit_at, bit_not, w64}
 use Rattle.std.proofs.lemmas.Bool.{cases_lt, lt-ltb, le-ltb, lt-leb, le-leb}
-use Rattle.std.proofs.lemmas.Nat.{shr-shr}
+use Rattle.std.proofs.lemmas.Nat.{shr-shr, shr_split}
 use Rattle.std.proofs.lemmas.Bool.Decides.{nat_tests}
-use Rattle.std.proofs.lemmas.Nat.Bits.{bit_at-lt, bit_at_and, bit_at_or, bit_at_not, bit_at_ones, bit_at_ones_above, bit_at_mask_inside, bit_at_mask_below, ones_shr, ones_shl}
+use Rattle.std.proofs.lemmas.Nat.Bits.{bit_at-lt, bit_at_and, bit_at_or, bit_at_not, bit_at_cat_low, bit_at_ones, bit_at_ones_above, bit_at_mask_inside, bit_at_mask_below, ones_shr, ones_shl}
 
 test_of_min : (x y : ℕ) → x < 2 → y < 2 → (min x y == 1) ≡ ((x == 1) && (y == 1))
 test_of_min x y h k = grind (arith, nat_tests)
@@ -66,3 +66,7 @@ chosen_and_not false y false e = refl
 
 pub bit_at-shr : (n j k : ℕ) → bit_at (n / 2 ^ j) k ≡ bit_at n (j + k)
 bit_at-shr n j k = ap (λ x. x % 2) (shr-shr n j k)
+
+pub bit_at-mod : (x m i : ℕ) → i < m → bit_at (x % 2 ^ m) i ≡ bit_at x i
+bit_at-mod x m i h =
+    sym (bit_at_cat_low (x / 2 ^ m) m (x % 2 ^ m) i h) ∙ ap (λ y. bit_at y i) (shr_split x m)

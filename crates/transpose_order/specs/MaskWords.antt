@@ -67,7 +67,7 @@ number_of_bits_is w v f b h =
     same_from_bits_below w v (number_of_bits w f) b (number_of_bits-below w f bits) (λ i l. h i l ∙ sym (bit_at-number_of_bits w f bits i l))
 
 -- ---- the words of a mask
-bit_from_test : (b : ℕ) → b < 2 → cond (b == 1) 1 0 ≡ b
+pub bit_from_test : (b : ℕ) → b < 2 → cond (b == 1) 1 0 ≡ b
 bit_from_test b h = grind (arith, nat_tests)
 
 pub truth_at-place : (words : List ℕ) (j p : ℕ) → p < 64 → truth_at words (64 * j + p) ≡ (bit_at (slice_index_or words j 0) p == 1)

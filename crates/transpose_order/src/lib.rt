@@ -1,11 +1,13 @@
 //! The transposed order of a vector of 1024 rows, and masks over its rows.
 #![tactic(auto)]
 
+mod bytes;
 mod masks;
 mod places;
 mod words;
 
-pub use masks::Mask;
+pub use bytes::{number_at, put_number};
+pub use masks::{Mask, counts_agree, masks_and_bytes_come_back};
 pub use places::{
     every_place_is_a_row, one_order_serves_every_width, pieces_stand_in_words, place,
     place_in_word, places_are_distinct, position, row_at,

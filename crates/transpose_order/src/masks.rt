@@ -1,11 +1,14 @@
 //! Masks: a truth value for each of the 1024 rows of a vector.
-ghost use Rattle.std.specs.Prelude.{◌≡◌, ◌==◌, ℕ, ◌/◌, ◌^◌, ◌<◌, ◌≤◌, if◌then◌else◌, nat_le, nat_lt, ◌&&◌, ◌||◌, not, true, false, count_by};
+ghost use Rattle.std.specs.Prelude.{◌≡◌, ◌==◌, ℕ, ◌/◌, ◌^◌, ◌<◌, ◌≤◌, if◌then◌else◌, nat_le, nat_lt, ◌&&◌, ◌||◌, not, true, false, count_by, IsTrue, ◌↔◌, length};
 ghost use Rattle.std.specs.Int.{bit_at};
 ghost use Rattle.transpose_order.specs.Mask.{rows_of, has, truth_at, count_below};
+ghost use Rattle.transpose_order.specs.MaskBytes.{mask_bytes, rows_of_bytes, MasksComeBack, MaskBytesComeBack, CountsAgree};
 ghost use Rattle.transpose_order.specs.Place.{IsLaneWidth, row_at as row_of_place};
+ghost use Rattle.transpose_order.specs.SameRows.{same_rows};
 
+use crate::bytes::{bytes_of_words, words_of_bytes};
 use crate::places::row_at;
-use crate::words::{combined, count_rows, set_rows};
+use crate::words::{combined, count_rows, next_row, set_rows};
 use std::marker::Model;
 
 /// A truth value for each of the 1024 rows of a vector, in sixteen words of 64 bits: bit `p` of word `j` is row
@@ -29,6 +32,29 @@ impl Model for Mask {
     ghost inverse = { λ rows. record { words = words_of rows } };
 
     ghost inverse_ok = { λ m h i. record { words = words_of-rows_of m.words h i } };
+}
+
+impl PartialEq for Mask {
+    ghost use Rattle.std.specs.Cmp.{partial_equiv_from_equiv};
+    ghost use Rattle.transpose_order.specs.SameRows.{same_rows-equivalence};
+
+    ghost eq = { λ a b. same_rows a b };
+
+    ghost laws = { partial_equiv_from_equiv same_rows-equivalence };
+
+    /// Whether the masks have the same rows.
+    fn eq(&self, other: &Mask) -> bool
+        ensures value { result ≡ same_rows self.now other.now }
+        ensures exact { IsTrue result ↔ (self.now ≡ other.now) }
+    {
+        self.words == other.words
+    }
+}
+
+impl Eq for Mask {
+    ghost use Rattle.transpose_order.specs.SameRows.{same_rows-equivalence};
+
+    ghost laws = { same_rows-equivalence };
 }
 
 impl Mask {
@@ -60,6 +86,23 @@ impl Mask {
         ensures { self.now ≡ rows_of (truth_at result.now) }
     {
         &self.words
+    }
+
+    /// The mask's 128 bytes: row `n` is bit `n % 8` of byte `n / 8`.
+    pub fn to_le_bytes(&self) -> [u8; 128]
+        ensures { result ≡ mask_bytes self.now }
+    {
+        bytes_of_words(&self.words)
+    }
+
+    /// The mask of 128 bytes: row `n` is bit `n % 8` of byte `n / 8`.
+    pub fn from_le_bytes(bytes: &[u8; 128]) -> Mask
+        ensures value { result ≡ rows_of_bytes bytes.now }
+        ensures back { mask_bytes result ≡ bytes.now }
+    {
+        Mask {
+            words: words_of_bytes(bytes),
+        }
     }
 
     /// The rows that are true in both masks.
@@ -111,6 +154,17 @@ impl Mask {
         count_rows(&self.words, end)
     }
 
+    /// The first true row at or after `from`, which is at most 1024, or 1024 where there is none.
+    pub fn next_true(&self, from: usize) -> usize
+        requires { from ≤ 1024 }
+        ensures order { from ≤ result }
+        ensures within { result ≤ 1024 }
+        ensures none { (n : ℕ) → from ≤ n → n < result → has self.now n ≡ false }
+        ensures here { result < 1024 → has self.now result ≡ true }
+    {
+        next_row(&self.words, from)
+    }
+
     /// The truth value of a row, 0 to 1023.
     pub fn get(&self, row: usize) -> bool
         requires { row < 1024 }
@@ -142,3 +196,14 @@ impl Mask {
         (self.words[first / 64] >> (first % 64)) & (u64::MAX >> (64 - lane_width))
     }
 }
+
+/// The law that a mask and its bytes give each other back.
+pub fn masks_and_bytes_come_back()
+    ensures masks { MasksComeBack }
+    ensures bytes { MaskBytesComeBack }
+{}
+
+/// The law that a mask's true rows are counted alike as a list and by their number.
+pub fn counts_agree()
+    ensures { CountsAgree }
+{}

@@ -30,8 +30,8 @@ fn reversed(bits: usize, number: usize) -> usize
     }
 }
 
-/// The lane and the step of a row, 0 to 1023, at a lane width of 8, 16, 32 or 64 bits (FastLanes, VLDB 2023, the
-/// unified transposed layout).
+/// The lane and the step of a row, 0 to 1023, at a lane width of 8, 16, 32 or 64 bits. The order is in the manner
+/// of FastLanes (VLDB 2023), of its section on the unified transposed layout; its exact index is our own.
 pub fn place(lane_width: usize, row: usize) -> (usize, usize)
     requires width { IsLaneWidth lane_width }
     requires within { row < 1024 }

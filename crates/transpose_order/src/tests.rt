@@ -85,8 +85,46 @@ fn pieces_are_the_lanes_rows(rt: HostRuntime) -> Result<(), Fail> {
     Ok(())
 }
 
+// Row 9 is bit 1 of byte 1, row 64 is bit 0 of byte 8, and row 1023 is bit 7 of byte 127.
+#[test]
+fn a_mask_is_128_bytes(rt: HostRuntime) -> Result<(), Fail> {
+    let mut mask = Mask::none();
+    mask.set_range(9, 10, true);
+    mask.set_range(64, 65, true);
+    mask.set_range(1023, 1024, true);
+    let bytes = mask.to_le_bytes();
+    assert_eq!(rt; (bytes[0], bytes[1], bytes[8], bytes[127]), (0, 2, 1, 128));
+    assert_eq!(rt; Mask::from_le_bytes(&bytes).words(), mask.words());
+    Ok(())
+}
+
+// Rows 9, 64 and 1023 are true.
+#[test]
+fn the_next_true_row_is_the_first_from_there_on(rt: HostRuntime) -> Result<(), Fail> {
+    let mut mask = Mask::none();
+    assert_eq!(rt; mask.next_true(0), 1024);
+    mask.set_range(9, 10, true);
+    mask.set_range(64, 65, true);
+    mask.set_range(1023, 1024, true);
+    assert_eq!(rt; (mask.next_true(0), mask.next_true(9)), (9, 9));
+    assert_eq!(rt; (mask.next_true(10), mask.next_true(65)), (64, 1023));
+    assert_eq!(rt; (mask.next_true(1023), mask.next_true(1024)), (1023, 1024));
+    Ok(())
+}
+
+#[test]
+fn masks_are_equal_where_their_rows_are(rt: HostRuntime) -> Result<(), Fail> {
+    let mut mask = Mask::none();
+    assert_eq!(rt; mask == Mask::none(), true);
+    mask.set_range(1023, 1024, true);
+    assert_eq!(rt; mask == Mask::none(), false);
+    Ok(())
+}
+
 #[test]
 fn the_laws_may_be_called() {
+    masks_and_bytes_come_back();
+    counts_agree();
     places_are_distinct();
     every_place_is_a_row();
     one_order_serves_every_width();

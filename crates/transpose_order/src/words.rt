@@ -1,5 +1,5 @@
 //! The sixteen words of a mask, 64 rows each.
-ghost use Rattle.std.specs.Prelude.{◌≡◌, ◌==◌, ℕ, ◌*◌, ◌^◌, ◌<◌, ◌≤◌, if◌then◌else◌, nat_le, nat_lt, ◌&&◌, Bool, slice_index_or};
+ghost use Rattle.std.specs.Prelude.{◌≡◌, ◌==◌, ℕ, ◌*◌, ◌^◌, ◌<◌, ◌≤◌, if◌then◌else◌, nat_le, nat_lt, ◌&&◌, false, true, slice_index_or};
 ghost use Rattle.std.specs.Int.{bit_at};
 ghost use Rattle.transpose_order.specs.Mask.{truth_at, count_below, AreMaskWords};
 
@@ -72,4 +72,27 @@ pub(crate) fn count_rows(words: &[u64; 16], end: usize) -> usize
     }
     let rest = words[end / 64] & (u64::MAX >> (64 - end % 64));
     count + rest.count_ones() as usize
+}
+
+/// The first true row at or after `from`, or 1024 where there is none.
+pub(crate) fn next_row(words: &[u64; 16], from: usize) -> usize
+    requires { from ≤ 1024 }
+    ensures order { from ≤ result }
+    ensures within { result ≤ 1024 }
+    ensures none { (n : ℕ) → from ≤ n → n < result → truth_at words.now n ≡ false }
+    ensures here { result < 1024 → truth_at words.now result ≡ true }
+{
+    if from == 1024 {
+        return 1024;
+    }
+    let rest = words[from / 64] >> (from % 64);
+    if rest != 0 {
+        return from + rest.trailing_zeros() as usize;
+    }
+    for j in from / 64 + 1..16 {
+        if words[j] != 0 {
+            return 64 * j + words[j].trailing_zeros() as usize;
+        }
+    }
+    1024
 }

@@ -1,6 +1,6 @@
 -- What wraps at a width fits it.
-use Rattle.std.proofs.Common.{◌≡◌, ◌≢◌, ℕ, ◌+◌, ◌<◌, ℤ, pos, List, length, get_or, set, of_z, to_z, sym, subst, ◌∙◌, arith, rules, below_more}
-use Rattle.std.specs.Int.{Width, w64, int_wrap}
+use Rattle.std.proofs.Common.{◌≢◌, ℕ, ◌+◌, ◌<◌, ℤ, pos, List, length, get_or, set, of_z, to_z, sym, subst, ◌∙◌, arith, rules, below_more}
+use Rattle.std.specs.Int.{Width, w64}
 use Rattle.std.specs.Int.RustNames.{FitsSigned}
 use Rattle.std.proofs.lemmas.Int.{to_z-of_z, SFits-int_wrap}
 use Rattle.std.proofs.lemmas.List.{get_or-set_same, get_or-set_other, length-set}

@@ -11,8 +11,8 @@ use Rattle.run_dictionary.proofs.OrderLemmas.{member_from_Contains}
 use Rattle.run_dictionary.proofs.DictLemmas.{Ascends-from_neighbours, code_of_member, get_or-map_zero}
 use Rattle.run_dictionary.proofs.codes.write_codes.Goals as goal
 
-pub place_of-requires-clause-member : goal.place_of-requires-clause-member
-place_of-requires-clause-member c =
+pub place_near-requires-clause-member : goal.place_near-requires-clause-member
+place_near-requires-clause-member c =
     let value = value_at c.args.values.now c.loop-row.row in
     let fits : FitsSigned w64 value = search rules in
     subst (λ (z : ℤ). Contains c.args.dictionary.now z) (sym (to_z-of_z w64 value fits)) (c.requires.members c.loop-row.row c.loop-row-test.true)
@@ -21,7 +21,7 @@ pub loop-row-preserved : goal.loop-row-preserved
 loop-row-preserved c =
     let value = value_at c.args.values.now c.loop-row.row in
     let fits : FitsSigned w64 value = search rules in
-    let place : c.place_of.result ≡ code_of c.args.dictionary.now value = c.place_of.ensures.place ∙ ap (code_of c.args.dictionary.now) (to_z-of_z w64 value fits) in
+    let place : c.place_near.result ≡ code_of c.args.dictionary.now value = c.place_near.ensures.place ∙ ap (code_of c.args.dictionary.now) (to_z-of_z w64 value fits) in
     record {
       long = search rules;
       written = λ n h.

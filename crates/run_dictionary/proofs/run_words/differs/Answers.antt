@@ -4,7 +4,7 @@ use Rattle.std.specs.Int.{w64}
 use Rattle.std.specs.Ordering.{int_eq}
 use Rattle.bit_interleave.specs.Range.{value_at}
 use Rattle.run_dictionary.proofs.RunLemmas.{changes_at-is}
-use Rattle.run_dictionary.proofs.StartLemmas.{eqb-bits}
+use Rattle.run_dictionary.proofs.EqualLemmas.{eqb-bits}
 use Rattle.run_dictionary.proofs.run_words.differs.Goals as goal
 
 pub returns : goal.returns

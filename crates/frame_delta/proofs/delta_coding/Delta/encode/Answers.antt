@@ -1,37 +1,63 @@
 -- The parts are those of the least form.
-use Rattle.std.proofs.Common.{ℕ, ◌^◌, ◌<◌, List, ℤ, of_z, to_z, rules, sym, ap, ◌∙◌, subst, FitsSigned}
+use Rattle.std.proofs.Common.{ℕ, ◌^◌, ◌<◌, ℤ, ◌≤ℤ◌, List, of_z, to_z, rules, sym, ap, ◌∙◌, subst, FitsSigned}
 use Rattle.std.specs.Int.{w64}
 use Rattle.std.specs.List.{All}
 use Rattle.std.proofs.lemmas.Int.{to_z-of_z}
 use Rattle.bit_interleave.specs.PackedWords.{PackedWords}
-use Rattle.frame_delta.specs.Delta.{least_difference, later_gaps, bases_of, IsDelta}
-use Rattle.frame_delta.proofs.DeltaLemmas.{later_gaps_have_width, delta_from_parts, IsDelta-least}
+use Rattle.bit_interleave.specs.Range.{AreInRange, value_at}
+use Rattle.frame_delta.specs.Frame.{frame_width, least_value, gaps_above}
+use Rattle.frame_delta.specs.Delta.{DeltaForm, least_difference, later_gaps, IsDeltaForm}
+use Rattle.frame_delta.proofs.DeltaLemmas.{later_gaps_have_width, delta_from_parts, least_delta_is_a_form}
+use Rattle.frame_delta.proofs.DifferenceLemmas.{AreInRange-differences_within, least_value-differences_within, frame_width-differences_within, is_filled, gaps_of_filled, least_below_filled}
 use Rattle.frame_delta.proofs.delta_coding.Delta.encode.Goals as goal
+
+pub of-least-requires-clause-fit : goal.of-least-requires-clause-fit
+of-least-requires-clause-fit c =
+    subst (λ (xs : List ℤ). AreInRange c.args.lane_width xs) (sym c.differences_within-differences.ensures) (AreInRange-differences_within c.args.lane_width c.args.values.now)
+
+pub gaps_above-gaps-requires : goal.gaps_above-gaps-requires
+gaps_above-gaps-requires c =
+    let t = c.args.lane_width in
+    let values = c.args.values.now in
+    let fits : FitsSigned w64 c.of-least.result.least = search rules in
+    let least = to_z-of_z w64 c.of-least.result.least fits ∙ c.of-least.ensures.least ∙ ap least_value c.differences_within-differences.ensures ∙ least_value-differences_within t values c.requires.lane_width in
+    let filled = is_filled t values c.differences_within-differences.result c.fill_first_steps.new.rows (to_z w64 (of_z w64 c.of-least.result.least)) c.differences_within-differences.ensures least c.fill_first_steps.ensures.first c.fill_first_steps.ensures.later in
+    λ n h. subst (λ (r : ℤ). r ≤ℤ value_at c.fill_first_steps.new.rows n) (sym least) (least_below_filled t values c.fill_first_steps.new.rows filled n h)
 
 pub pack-requires-clause-fit : goal.pack-requires-clause-fit
 pack-requires-clause-fit c =
     let t = c.args.lane_width in
     let values = c.args.values.now in
     let fits : FitsSigned w64 c.of-least.result.least = search rules in
-    let gaps = c.later_gaps-gaps.ensures ∙ ap (λ r. later_gaps t r values) (to_z-of_z w64 c.of-least.result.least fits ∙ c.of-least.ensures.least) in
+    let least = to_z-of_z w64 c.of-least.result.least fits ∙ c.of-least.ensures.least ∙ ap least_value c.differences_within-differences.ensures ∙ least_value-differences_within t values c.requires.lane_width in
+    let filled = is_filled t values c.differences_within-differences.result c.fill_first_steps.new.rows (to_z w64 (of_z w64 c.of-least.result.least)) c.differences_within-differences.ensures least c.fill_first_steps.ensures.first c.fill_first_steps.ensures.later in
+    let wide = c.of-least.ensures.width ∙ ap frame_width c.differences_within-differences.ensures ∙ frame_width-differences_within t values c.requires.lane_width in
+    let gaps = c.gaps_above-gaps.ensures ∙ ap (λ r. gaps_above r c.fill_first_steps.new.rows) least ∙ gaps_of_filled t values c.fill_first_steps.new.rows filled in
     subst (λ (xs : List ℕ). All (λ v. v < 2 ^ c.of-least.result.width) xs) (sym gaps)
-    (subst (λ (w : ℕ). All (λ v. v < 2 ^ w) (later_gaps t (least_difference t values) values)) (sym c.of-least.ensures.width)
-    (later_gaps_have_width t values c.requires.lane_width))
+    (subst (λ (w : ℕ). All (λ v. v < 2 ^ w) (later_gaps t (least_difference t values) values)) (sym wide) (later_gaps_have_width t values c.requires.lane_width))
 
 pub invariant_of-result : goal.invariant_of-result
 invariant_of-result c =
     let t = c.args.lane_width in
     let values = c.args.values.now in
     let fits : FitsSigned w64 c.of-least.result.least = search rules in
-    let least = to_z-of_z w64 c.of-least.result.least fits ∙ c.of-least.ensures.least in
-    let bases = c.in_ok-bases.ensures.items ∙ ap (λ r. bases_of t r values) least in
-    subst (λ (z : ℤ). IsDelta c.in_ok-words.words c.of-least.result.width z c.in_ok-bases.bases.items) (sym least)
-    (subst (λ (bs : List ℤ). IsDelta c.in_ok-words.words c.of-least.result.width (least_difference t values) bs) (sym bases)
-    (subst (λ (p : PackedWords). IsDelta p c.of-least.result.width (least_difference t values) (bases_of t (least_difference t values) values)) (sym c.in_ok-words.ensures)
-    (IsDelta-least t c.of-least.result.width c.later_gaps-gaps.result values c.requires.lane_width c.of-least.ensures.bound)))
+    let least = to_z-of_z w64 c.of-least.result.least fits ∙ c.of-least.ensures.least ∙ ap least_value c.differences_within-differences.ensures ∙ least_value-differences_within t values c.requires.lane_width in
+    let filled = is_filled t values c.differences_within-differences.result c.fill_first_steps.new.rows (to_z w64 (of_z w64 c.of-least.result.least)) c.differences_within-differences.ensures least c.fill_first_steps.ensures.first c.fill_first_steps.ensures.later in
+    let wide = c.of-least.ensures.width ∙ ap frame_width c.differences_within-differences.ensures ∙ frame_width-differences_within t values c.requires.lane_width in
+    let gaps = c.gaps_above-gaps.ensures ∙ ap (λ r. gaps_above r c.fill_first_steps.new.rows) least ∙ gaps_of_filled t values c.fill_first_steps.new.rows filled in
+    let form : DeltaForm = record { lane_width = c.in_ok-words.words.lane_width; width = c.of-least.result.width; least = to_z w64 (of_z w64 c.of-least.result.least); bases = c.in_ok-bases.bases.items; words = c.in_ok-words.words } in
+    subst IsDeltaForm
+    (sym (delta_from_parts form t values c.gaps_above-gaps.result (ap (λ (p : PackedWords). p.lane_width) c.in_ok-words.ensures) c.in_ok-words.ensures wide least c.in_ok-bases.ensures.items (gaps ∙ ap (λ r. later_gaps t r values) (sym least))))
+    (least_delta_is_a_form t values c.requires.lane_width)
 
 pub returns : goal.returns
 returns c =
+    let t = c.args.lane_width in
+    let values = c.args.values.now in
     let fits : FitsSigned w64 c.of-least.result.least = search rules in
-    delta_from_parts c.args.lane_width c.args.values.now c.in_ok-words.words c.of-least.result.width (to_z w64 (of_z w64 c.of-least.result.least)) c.in_ok-bases.bases.items c.later_gaps-gaps.result c.in_ok-words.ensures c.of-least.ensures.width
-    (to_z-of_z w64 c.of-least.result.least fits ∙ c.of-least.ensures.least) c.in_ok-bases.ensures.items c.later_gaps-gaps.ensures
+    let least = to_z-of_z w64 c.of-least.result.least fits ∙ c.of-least.ensures.least ∙ ap least_value c.differences_within-differences.ensures ∙ least_value-differences_within t values c.requires.lane_width in
+    let filled = is_filled t values c.differences_within-differences.result c.fill_first_steps.new.rows (to_z w64 (of_z w64 c.of-least.result.least)) c.differences_within-differences.ensures least c.fill_first_steps.ensures.first c.fill_first_steps.ensures.later in
+    let wide = c.of-least.ensures.width ∙ ap frame_width c.differences_within-differences.ensures ∙ frame_width-differences_within t values c.requires.lane_width in
+    let gaps = c.gaps_above-gaps.ensures ∙ ap (λ r. gaps_above r c.fill_first_steps.new.rows) least ∙ gaps_of_filled t values c.fill_first_steps.new.rows filled in
+    let form : DeltaForm = record { lane_width = c.in_ok-words.words.lane_width; width = c.of-least.result.width; least = to_z w64 (of_z w64 c.of-least.result.least); bases = c.in_ok-bases.bases.items; words = c.in_ok-words.words } in
+    delta_from_parts form t values c.gaps_above-gaps.result (ap (λ (p : PackedWords). p.lane_width) c.in_ok-words.ensures) c.in_ok-words.ensures wide least c.in_ok-bases.ensures.items (gaps ∙ ap (λ r. later_gaps t r values) (sym least))

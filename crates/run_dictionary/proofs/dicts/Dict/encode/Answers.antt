@@ -51,4 +51,4 @@ invariant_of-result c =
     let items : c.in_ok-from_slice.field-0.items ≡ distinct values = c.in_ok-from_slice.ensures.items ∙ c.write_distinct-count.ensures.written in
     let made : DictForm = record { lane_width = c.args.lane_width; width = c.width_of-width.result; values = c.in_ok-from_slice.field-0.items; codes = c.in_ok-pack.field-0 } in
     let is : made ≡ least_dict c.args.lane_width values = λ i. record { lane_width = c.args.lane_width; width = width i; values = items i; codes = words i } in
-    subst IsDictForm (sym is) (IsDictForm-least c.args.lane_width values c.requires.width c.told-values c.requires.range)
+    subst IsDictForm (sym is) (IsDictForm-least c.args.lane_width values c.requires.lane_width c.told-values c.requires.fit)

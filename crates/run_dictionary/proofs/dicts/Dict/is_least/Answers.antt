@@ -1,8 +1,7 @@
 -- A form is least where its width is least and each place is used.
 use Rattle.std.proofs.Common.{◌≡◌, ◌↔◌, ◌-◌, eqb, IsTrue, length, sym, ap, ◌∙◌, subst, arith}
-use Rattle.transpose_order.specs.Mask.{rows_of}
 use Rattle.bit_interleave.specs.Arithmetic.{least_width}
-use Rattle.run_dictionary.specs.Dict.{DictForm, dict_value, least_dict}
+use Rattle.run_dictionary.specs.Dict.{DictForm, dict_values, least_dict}
 use Rattle.run_dictionary.proofs.DictLemmas.{least-from_used, used-from_least, codes_read, words_read}
 use Rattle.run_dictionary.proofs.dicts.Dict.is_least.Goals as goal
 use Rattle.std.proofs.lemmas.Bool.{eqb-true}
@@ -13,7 +12,7 @@ all_used-requires-clause-below c = λ n h.
 
 pub returns-then-self-width_of : goal.returns-then-self-width_of
 returns-then-self-width_of c =
-    let claim : DictForm → Type 0 = λ form. IsTrue c.all_used.result ↔ (form ≡ least_dict form.lane_width (rows_of (dict_value form))) in
+    let claim : DictForm → Type 0 = λ form. IsTrue c.all_used.result ↔ (form ≡ least_dict form.lane_width (dict_values form)) in
     let count : c.len-count.result ≡ length c.self.inside.values.items = omega (arith, c.self.inside.values.ok.0) in
     let read = codes_read _ c.self.invariant c.unpack.new.values c.unpack.ensures.values in
     subst claim c.self.view_is (
@@ -26,7 +25,7 @@ returns-then-self-width_of c =
 
 pub returns-else-self-width_of : goal.returns-else-self-width_of
 returns-else-self-width_of c =
-    let claim : DictForm → Type 0 = λ form. IsTrue (eqb c.self.inside.width c.width_of.result) ↔ (form ≡ least_dict form.lane_width (rows_of (dict_value form))) in
+    let claim : DictForm → Type 0 = λ form. IsTrue (eqb c.self.inside.width c.width_of.result) ↔ (form ≡ least_dict form.lane_width (dict_values form)) in
     let count : c.len-count.result ≡ length c.self.inside.values.items = omega (arith, c.self.inside.values.ok.0) in
     subst claim c.self.view_is (
       λ t. absurd (c.if-self-width_of.false (eqb-true _ _ t)),

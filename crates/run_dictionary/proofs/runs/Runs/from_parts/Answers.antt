@@ -6,9 +6,9 @@ use Rattle.run_dictionary.proofs.runs.Runs.from_parts.Goals as goal
 
 pub invariant_of-result : goal.invariant_of-result
 invariant_of-result c = record {
-  width = c.requires.width;
-  rows = ap length c.words-words.ensures ∙ length-rows_of (truth_at c.words-words.result.now);
+  lane_width = c.requires.lane_width;
+  rows = ap length c.words.ensures ∙ length-rows_of (truth_at c.words.result.now);
   first = c.requires.first;
   count = omega (arith, c.args.values.ok.0, c.requires.count);
-  range = c.requires.range;
+  range = c.requires.fit;
 }

@@ -1,14 +1,13 @@
 -- Runs are least where neighbours differ.
 use Rattle.std.proofs.Common.{◌≡◌, ◌↔◌, IsTrue, ℤ, List, sym, subst}
-use Rattle.transpose_order.specs.Mask.{rows_of}
-use Rattle.run_dictionary.specs.Runs.{RunForm, run_value, least_runs}
+use Rattle.run_dictionary.specs.Runs.{RunForm, run_values, least_runs}
 use Rattle.run_dictionary.proofs.RunLemmas.{least-from_differ, differ-from_least}
 use Rattle.run_dictionary.proofs.runs.Runs.is_least.Goals as goal
 use Rattle.run_dictionary.proofs.RunLemmas.{NeighboursDiffer}
 
 pub returns : goal.returns
 returns c =
-    let claim : RunForm → Type 0 = λ form. IsTrue c.all_differ.result ↔ (form ≡ least_runs form.lane_width (rows_of (run_value form))) in
+    let claim : RunForm → Type 0 = λ form. IsTrue c.all_differ.result ↔ (form ≡ least_runs form.lane_width (run_values form)) in
     let differ : List ℤ → Type 0 = λ values. NeighboursDiffer values in
     subst claim c.self.view_is (
       λ t. least-from_differ _ c.self.invariant (subst differ c.deref.ensures.value (c.all_differ.ensures.0 t)),

@@ -1,25 +1,26 @@
--- The starts up to the row are its run.
-use Rattle.std.proofs.Common.{rules, FitsSigned, pos, get_or, ap, ◌∙◌, arith}
+-- The row's run has the row's value.
+use Rattle.std.proofs.Common.{ℤ, rules, FitsSigned, pos, get_or, length, sym, ap, ◌∙◌, subst, arith}
 use Rattle.std.specs.Int.{w64}
 use Rattle.std.proofs.lemmas.Int.{to_z-of_z}
-use Rattle.run_dictionary.specs.Runs.{run_value}
-use Rattle.run_dictionary.proofs.RunLemmas.{run_of-within}
-use Rattle.run_dictionary.proofs.StepLemmas.{run_of-count}
-use Rattle.run_dictionary.proofs.runs.Runs.value.Goals as goal
 use Rattle.std.proofs.lemmas.List.{get_or_read}
+use Rattle.bit_interleave.specs.Arithmetic.{integer_width}
+use Rattle.run_dictionary.specs.Runs.{RunForm, run_value}
+use Rattle.run_dictionary.proofs.RangeLemmas.{run_value-fits}
+use Rattle.run_dictionary.proofs.runs.Runs.value.Goals as goal
 
 pub index-requires : goal.index-requires
-index-requires c =
-    let run = run_of-count c.self.inside.starts c.args.row c.self.invariant.first in
-    let within = run_of-within _ c.self.invariant c.args.row c.requires in
-    omega (arith, run, within)
+index-requires c = omega (arith, c.run_at.ensures.within, ap (λ form. length form.values) c.self.view_is)
 
-pub returns : goal.returns
-returns c =
-    let run = run_of-count c.self.inside.starts c.args.row c.self.invariant.first in
-    let within = run_of-within _ c.self.invariant c.args.row c.requires in
+pub returns-clause-value : goal.returns-clause-value
+returns-clause-value c =
     let fits : FitsSigned w64 c.index.result.now = search rules in
     to_z-of_z w64 c.index.result.now fits
-    ∙ get_or_read c.self.inside.values.items c.count_below.result c.index.result.now (omega (arith, run, within)) c.index.ensures (pos 0)
-    ∙ ap (λ k. get_or c.self.inside.values.items k (pos 0)) (c.count_below.ensures ∙ run)
-    ∙ ap (λ form. run_value form c.args.row) c.self.view_is
+    ∙ get_or_read c.self.inside.values.items c.run_at.result c.index.result.now (omega (arith, c.run_at.ensures.within, ap (λ form. length form.values) c.self.view_is)) c.index.ensures (pos 0)
+    ∙ ap (λ xs. get_or xs c.run_at.result (pos 0)) (ap (λ form. form.values) c.self.view_is)
+    ∙ ap (λ k. get_or c.args.self.now.values k (pos 0)) c.run_at.ensures.run
+
+pub returns-clause-fits : goal.returns-clause-fits
+returns-clause-fits c =
+    let value = returns-clause-value c in
+    subst (λ (z : ℤ). FitsSigned (integer_width c.args.self.now.lane_width) z) (sym value)
+    (subst (λ (form : RunForm). FitsSigned (integer_width form.lane_width) (run_value form c.args.row)) c.self.view_is (run_value-fits _ c.self.invariant c.args.row c.requires))

@@ -1,6 +1,0 @@
--- The lemma of that name.
-use Rattle.frame_delta.proofs.DeltaLemmas.{delta_values-least_delta}
-use Rattle.frame_delta.proofs.laws.delta_gives_back_its_values.Goals as goal
-
-pub returns : goal.returns
-returns c = delta_values-least_delta

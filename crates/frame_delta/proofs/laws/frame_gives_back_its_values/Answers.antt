@@ -1,6 +1,0 @@
--- The lemma of that name.
-use Rattle.frame_delta.proofs.FrameLemmas.{frame_values-least_frame}
-use Rattle.frame_delta.proofs.laws.frame_gives_back_its_values.Goals as goal
-
-pub returns : goal.returns
-returns c = frame_values-least_frame

@@ -1,0 +1,6 @@
+-- no width so far has more values below the bound
+use Rattle.std.proofs.Common.{ℕ, ◌+◌, ◌-◌, ◌*◌, ◌/◌, ◌^◌, ◌<◌, ◌≤◌, min}
+use Rattle.run_dictionary.proofs.counting.most_values.Given as goal
+
+abbrev pub invariant-loop-width : goal.invariant-loop-width
+invariant-loop-width l = (w : ℕ) → w < l.width → min (2 ^ w) ((l.bound - (128 * w + 1)) / (l.lane_width / 8)) ≤ l.most
