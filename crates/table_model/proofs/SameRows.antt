@@ -1,6 +1,10 @@
 -- The tests of equality of rows tell it: each is true exactly where its two values are one.
 use Rattle.std.specs.Prelude.{◌≡◌, ◌≢◌, suc, true, false, ◌&&◌, [], ◌∷◌, length, Option, Some, None, ℤ}
-use Rattle.std.proofs.Common.{refl, ap, ◌∙◌}
+use Rattle.std.proofs.Common.{refl, ap, ◌∙◌, arith}
+use Rattle.std.specs.Cmp.Lexicographic.{pointwise}
+use Rattle.std.specs.Option.{option_eq}
+use Rattle.std.specs.Ordering.{int_eq}
+use Rattle.std.specs.List.{list_all, zip}
 use Rattle.std.proofs.Math.Bool.{and-false}
 use Rattle.std.proofs.lemmas.Bool.{and_parts}
 use Rattle.std.proofs.lemmas.Bool.Decides.{Decides-int_eq}
@@ -28,7 +32,8 @@ itself_cell : (x : Option ℤ) → same_cell x x ≡ true
 itself_cell None = refl
 itself_cell (Some x) = (Decides-int_eq x x).1 refl
 
-one_row : (xs ys : Cells) → same_cells xs ys ≡ true → xs ≡ ys
+-- rows that pass the test are one row
+pub one_row : (xs ys : Cells) → same_cells xs ys ≡ true → xs ≡ ys
 one_row [] [] e = refl
 one_row [] (y ∷ ys) e = cc
 one_row (x ∷ xs) [] e = cc
@@ -37,7 +42,8 @@ one_row (x ∷ xs) (y ∷ ys) e =
     let here = one_cell x y both.0 in
     let rest = one_row xs ys both.1 in λ i. here i ∷ rest i
 
-itself_row : (xs : Cells) → same_cells xs xs ≡ true
+-- a row passes the test beside itself
+pub itself_row : (xs : Cells) → same_cells xs xs ≡ true
 itself_row [] = refl
 itself_row (x ∷ xs) = ap (λ b. b && same_cells xs xs) (itself_cell x) ∙ itself_row xs
 
@@ -55,3 +61,23 @@ one_batch (x ∷ xs) (y ∷ ys) e =
 pub itself_batch : (xs : Batch) → same_rows xs xs ≡ true
 itself_batch [] = refl
 itself_batch (x ∷ xs) = ap (λ b. b && same_rows xs xs) (itself_row x) ∙ itself_batch xs
+
+-- the library's test of two rows
+pub same_cells-pointwise : (xs ys : Cells) → pointwise (option_eq int_eq) xs ys ≡ same_cells xs ys
+same_cells-pointwise [] [] = refl
+same_cells-pointwise [] (y ∷ ys) = refl
+same_cells-pointwise (x ∷ xs) [] = refl
+same_cells-pointwise (x ∷ xs) (y ∷ ys) = ap (λ b. b && pointwise (option_eq int_eq) xs ys) (cell x y) ∙ ap (λ b. same_cell x y && b) (same_cells-pointwise xs ys)
+  where
+    cell : (x y : Option ℤ) → option_eq int_eq x y ≡ same_cell x y
+    cell None None = refl
+    cell None (Some y) = refl
+    cell (Some x) None = refl
+    cell (Some x) (Some y) = refl
+
+-- rows are the same pair by pair
+pub same_rows-zip : (a b : Batch) → length a ≡ length b → list_all (λ pair. same_cells pair.0 pair.1) (zip a b) ≡ same_rows a b
+same_rows-zip [] [] same = refl
+same_rows-zip [] (y ∷ ys) same = absurd (omega (arith, same))
+same_rows-zip (x ∷ xs) [] same = absurd (omega (arith, same))
+same_rows-zip (x ∷ xs) (y ∷ ys) same = ap (λ b. same_cells x y && b) (same_rows-zip xs ys (omega (arith, same)))

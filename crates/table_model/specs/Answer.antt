@@ -1,5 +1,5 @@
 -- Answers and their text.
-use Rattle.std.specs.Prelude.{ℕ, ◌/◌, ◌%◌, List, [], ◌∷◌, ◌++◌, map, codes, pos, negsuc, suc, replicate, length, ◌-◌}
+use Rattle.std.specs.Prelude.{ℕ, ◌/◌, ◌%◌, List, [], ◌∷◌, ◌++◌, map, codes, pos, negsuc, suc, replicate, length, ◌-◌, ℤ, Option, Some, None}
 use Rattle.std.specs.Fmt.{decimal, signed_decimal}
 use Rattle.table_model.specs.declared.answer.Field.{Field}
 use Rattle.table_model.specs.declared.answer.Field.TheVariants.{Null, Whole, Millionths}
@@ -8,6 +8,16 @@ use Rattle.table_model.specs.declared.answer.Field.TheVariants.{Null, Whole, Mil
 pub record AnswerParts : Type 0 where
   pub heading : List (List ℕ)
   pub rows : List (List Field)
+
+-- a whole number or null as a field
+abbrev pub whole : Option ℤ → Field
+whole None = Null
+whole (Some z) = Whole z
+
+-- a number of millionths or null as a field
+abbrev pub millionths : Option ℤ → Field
+millionths None = Null
+millionths (Some z) = Millionths z
 
 -- six decimals of a number of millionths below a million
 abbrev pub six_digits : ℕ → List ℕ

@@ -1,32 +1,7 @@
-//! Answers of queries, the comparisons and the truth values that queries are made of.
+//! Answers of queries.
 ghost use Rattle.std.specs.Prelude.{◌≡◌, map};
 
 use std::marker::Model;
-
-/// A comparison (ISO/IEC 9075:1992, clause 8.2).
-#[derive(Clone, Copy, Debug, PartialEq, Eq)]
-pub enum Op {
-    /// `=`
-    Equal,
-    /// `<>`
-    NotEqual,
-    /// `<`
-    Less,
-    /// `<=`
-    LessOrEqual,
-    /// `>`
-    Greater,
-    /// `>=`
-    GreaterOrEqual,
-}
-
-/// A truth value (ISO/IEC 9075:1992, clause 8.12), in the order in which AND is the least and OR the greatest.
-#[derive(Clone, Copy, Debug, PartialEq, Eq, PartialOrd, Ord)]
-pub enum Truth {
-    False,
-    Unknown,
-    True,
-}
 
 /// A field of an answer's row.
 #[derive(Clone, Copy, Debug, PartialEq, Eq)]

@@ -53,7 +53,7 @@ fn row_fault(columns: &[Column], row: usize, cells: &[Option<i128>]) -> Option<R
     }
     for column in 0..cells.len() {
         if !fits(&columns[column], cells[column]) {
-            return Some(Refusal::OutOfType(row, column));
+            return Some(Refusal::OutOfType { row, column });
         }
     }
     None

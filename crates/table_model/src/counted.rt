@@ -1,12 +1,17 @@
 //! Readers and writers that count their failures.
-ghost use Rattle.std.specs.Prelude.{◌≡◌};
+ghost use Rattle.std.specs.Prelude.{◌≡◌, OnOk, OnErr, IfErr};
 ghost use Rattle.std.specs.Io.{ReadsAtMost, WritesAtMost};
-ghost use Rattle.std.specs.Io.KnownBytes.{ReadConsumes, WriteAppends};
-ghost use Rattle.table_model.specs.Counted.{after_read, after_write, write_fails};
+ghost use Rattle.std.specs.Io.KnownBytes.{Appends, ReadConsumes, WriteAppends};
+ghost use Rattle.table_model.specs.Counted.{after_read, after_write, one_more, write_fails};
+ghost use Rattle.table_model.specs.Faults.{AppendsFront};
 
+use crate::refusal::Refusal;
 use std::io;
 use std::io::{Read, Write};
 use std::marker::Model;
+
+/// The most bytes that one call reads: 2^48.
+pub const READ_LIMIT: u64 = 1 << 48;
 
 /// A reader or a writer, and how often it failed. Contracts see it as that pair.
 ///
@@ -76,6 +81,28 @@ impl<D: Write> Counted<D> {
             self.failures = self.failures.saturating_add(1);
         }
         outcome
+    }
+
+    /// Writes all bytes, in as many writes as it takes. Where a write fails, `WriteFault`; what was written is then a front of
+    /// the bytes.
+    pub fn write_whole(&mut self, bytes: &[u8]) -> Result<(), Refusal>
+        ensures ok { OnOk result (Appends (D.contents self.old.0) (D.contents self.new.0) bytes.now) }
+        ensures front { OnErr result (AppendsFront (D.contents self.old.0) (D.contents self.new.0) bytes.now) }
+        ensures kept { OnOk result (self.new.1 ≡ self.old.1) }
+        ensures fault { IfErr result (λ e. (e ≡ Refusal.WriteFault) × (self.new.1 ≡ one_more self.old.1)) }
+    {
+        let mut rest = bytes;
+        while !rest.is_empty() {
+            let Ok(taken) = self.write(rest) else {
+                return Err(Refusal::WriteFault);
+            };
+            if taken == 0 {
+                return Err(Refusal::WriteFault);
+            }
+            let (_, left) = rest.split_at(taken);
+            rest = left;
+        }
+        Ok(())
     }
 }
 

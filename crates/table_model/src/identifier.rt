@@ -38,30 +38,14 @@ const KEYWORDS: [&[u8]; 24] = [
 pub(crate) fn same_text(a: &[u8], b: &[u8]) -> bool
     ensures { result ≡ same_text a.now b.now }
 {
-    if a.len() != b.len() {
-        return false;
-    }
-    for i in 0..a.len() {
-        if a[i] != b[i] {
-            return false;
-        }
-    }
-    true
+    a == b
 }
 
 /// Whether two texts are the same without regard to case.
 pub fn same_word(a: &[u8], b: &[u8]) -> bool
     ensures { result ≡ same_text (folded a.now) (folded b.now) }
 {
-    if a.len() != b.len() {
-        return false;
-    }
-    for i in 0..a.len() {
-        if a[i].to_ascii_uppercase() != b[i].to_ascii_uppercase() {
-            return false;
-        }
-    }
-    true
+    a.eq_ignore_ascii_case(b)
 }
 
 /// Whether the text is a word: a letter, and then letters, digits and `_`, at most 64 bytes in all.

@@ -7,19 +7,33 @@ mod counted;
 mod identifier;
 mod laws;
 mod names;
+mod op;
+mod query;
 mod refusal;
 mod row;
 mod schema;
+mod stop;
+mod truth;
 
-pub use answer::{Answer, AnswerRow, Field, Op, Truth};
+pub use answer::{Answer, AnswerRow, Field};
 pub use check::check_rows;
-pub use counted::Counted;
+pub use counted::{Counted, READ_LIMIT};
 pub use identifier::{is_identifier, is_keyword, is_word, same_word};
-pub use laws::{join_laws, operation_laws, sameness_laws};
+pub use laws::{
+    answer_laws, group_laws, join_laws, operation_laws, predicate_laws, sameness_laws, sum_bounds,
+    truth_laws, value_laws, worked_answers,
+};
 pub use names::{BatchName, Number, Origin, RowName};
+pub use op::Op;
+pub use query::{
+    ColumnMention, Condition, Factor, Fold, IsTruth, Item, ItemValue, Literals, Name, Operand,
+    Predicate, Primary, Query, SetFunction, Term, Test,
+};
 pub use refusal::Refusal;
 pub use row::{Row, Rows, same_rows};
 pub use schema::{ColType, Column, Schema};
+pub use stop::Stop;
+pub use truth::Truth;
 
 #[cfg(test)]
 mod tests;

@@ -1,14 +1,15 @@
 //! The names of batches and of rows, and their orders.
 ghost use Rattle.std.specs.Prelude.{◌≡◌};
-ghost use Rattle.table_model.specs.Name.{is_proper_name, name_text};
+ghost use Rattle.table_model.specs.Name.{is_proper_name, name_cmp, name_text, row_name_cmp};
 
+use std::cmp::Ordering;
 use std::fmt;
 
-/// The site that numbers a batch: from 1 to 4,294,967,295 in a proper name.
+/// The site that numbers a batch: from 1 to `u32::MAX` in a proper name.
 #[derive(Clone, Copy, Debug, PartialEq, Eq, PartialOrd, Ord)]
 pub struct Origin(pub u32);
 
-/// A batch's number at its origin: from 1 to 4,294,967,295 in a proper name.
+/// A batch's number at its origin: from 1 to `u32::MAX` in a proper name.
 #[derive(Clone, Copy, Debug, PartialEq, Eq, PartialOrd, Ord)]
 pub struct Number(pub u32);
 
@@ -32,6 +33,22 @@ impl BatchName {
         ensures { result ≡ is_proper_name self }
     {
         self.origin.0 != 0 && self.number.0 != 0
+    }
+
+    /// How this name stands to another in the derived order: by origin, and then by number.
+    pub fn order(&self, other: &BatchName) -> Ordering
+        ensures { result ≡ name_cmp self.now other.now }
+    {
+        self.cmp(other)
+    }
+}
+
+impl RowName {
+    /// How this name stands to another in the derived order: by batch, and then by ordinal.
+    pub fn order(&self, other: &RowName) -> Ordering
+        ensures { result ≡ row_name_cmp self.now other.now }
+    {
+        self.cmp(other)
     }
 }
 

@@ -24,8 +24,8 @@ pub enum Refusal {
     BatchTooLong,
     /// A row that has not one cell for each column.
     WrongArity(usize),
-    /// A cell outside its column's type: its row and its column.
-    OutOfType(usize, usize),
+    /// A cell outside its column's type.
+    OutOfType { row: usize, column: usize },
     /// Two schemas that had to be equal.
     SchemaDiffers,
     /// The origin's greatest number is taken.
@@ -116,7 +116,7 @@ impl Refusal {
             Refusal::EmptyBatch => 4,
             Refusal::BatchTooLong => 5,
             Refusal::WrongArity(_) => 6,
-            Refusal::OutOfType(_, _) => 7,
+            Refusal::OutOfType { .. } => 7,
             Refusal::SchemaDiffers => 8,
             Refusal::NumbersSpent => 9,
             Refusal::NoSuchVector => 10,
@@ -166,7 +166,7 @@ impl fmt::Display for Refusal {
             Refusal::EmptyBatch => write!(f, "EmptyBatch"),
             Refusal::BatchTooLong => write!(f, "BatchTooLong"),
             Refusal::WrongArity(at) => write!(f, "WrongArity {at}"),
-            Refusal::OutOfType(row, column) => write!(f, "OutOfType {row} {column}"),
+            Refusal::OutOfType { row, column } => write!(f, "OutOfType {row} {column}"),
             Refusal::SchemaDiffers => write!(f, "SchemaDiffers"),
             Refusal::NumbersSpent => write!(f, "NumbersSpent"),
             Refusal::NoSuchVector => write!(f, "NoSuchVector"),

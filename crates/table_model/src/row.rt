@@ -1,6 +1,7 @@
 //! Rows: lists of optional whole numbers, one for each column.
 ghost use Rattle.std.specs.Prelude.{◌≡◌, length, IfOk};
-ghost use Rattle.table_model.specs.State.{same_cell, same_cells, same_rows};
+ghost use Rattle.std.specs.List.{list_all, zip};
+ghost use Rattle.table_model.specs.State.{same_cells, same_rows};
 
 use std::alloc::{AllocError, Global};
 use std::marker::Model;
@@ -102,39 +103,21 @@ impl Rows {
 pub fn same_rows(a: &[Row], b: &[Row]) -> bool
     ensures { result ≡ same_rows a.now b.now }
 {
-    if a.len() != b.len() {
-        return false;
-    }
-    for i in 0..a.len() {
-        if !same_cells(a[i].cells(), b[i].cells()) {
-            return false;
-        }
-    }
-    true
+    a.len() == b.len() && same_pairs(a, b)
+}
+
+/// Whether the rows at each place of two lists are the same, as far as both lists go.
+fn same_pairs(a: &[Row], b: &[Row]) -> bool
+    ensures { result ≡ list_all (λ pair. same_cells pair.0 pair.1) (zip a.now b.now) }
+{
+    a.iter()
+        .zip(b)
+        .all(|(row, other)| same_cells(row.cells(), other.cells()))
 }
 
 /// Whether two rows are the same, cell for cell.
 fn same_cells(cells: &[Option<i128>], others: &[Option<i128>]) -> bool
     ensures { result ≡ same_cells cells.now others.now }
 {
-    if cells.len() != others.len() {
-        return false;
-    }
-    for i in 0..cells.len() {
-        if !same_cell(cells[i], others[i]) {
-            return false;
-        }
-    }
-    true
-}
-
-/// Whether two cells are the same.
-fn same_cell(a: Option<i128>, b: Option<i128>) -> bool
-    ensures { result ≡ same_cell a b }
-{
-    match (a, b) {
-        (None, None) => true,
-        (Some(x), Some(y)) => x == y,
-        (None, Some(_)) | (Some(_), None) => false,
-    }
+    cells == others
 }

@@ -39,10 +39,9 @@ impl ColType {
         ensures { result ≡ is_in_range self value }
     {
         match self {
-            ColType::SmallInt => -32_768 <= value && value <= 32_767,
-            ColType::Integer => -2_147_483_648 <= value && value <= 2_147_483_647,
-            ColType::BigInt => -9_223_372_036_854_775_808 <= value
-                && value <= 9_223_372_036_854_775_807,
+            ColType::SmallInt => i128::from(i16::MIN) <= value && value <= i128::from(i16::MAX),
+            ColType::Integer => i128::from(i32::MIN) <= value && value <= i128::from(i32::MAX),
+            ColType::BigInt => i128::from(i64::MIN) <= value && value <= i128::from(i64::MAX),
         }
     }
 }

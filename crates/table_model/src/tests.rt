@@ -80,19 +80,19 @@ const FAULTS: [(&[&[Option<i128>]], Result<(), Refusal>); 14] = [
     ),
     (
         &[&[Some(32_768), None, None]],
-        Err(Refusal::OutOfType(0, 0)),
+        Err(Refusal::OutOfType { row: 0, column: 0 }),
     ),
     (
         &[&[Some(-32_769), None, None]],
-        Err(Refusal::OutOfType(0, 0)),
+        Err(Refusal::OutOfType { row: 0, column: 0 }),
     ),
     (
         &[&[None, Some(2_147_483_648), Some(9_223_372_036_854_775_808)]],
-        Err(Refusal::OutOfType(0, 1)),
+        Err(Refusal::OutOfType { row: 0, column: 1 }),
     ),
     (
         &[&[None, None, Some(-9_223_372_036_854_775_809)]],
-        Err(Refusal::OutOfType(0, 2)),
+        Err(Refusal::OutOfType { row: 0, column: 2 }),
     ),
     (&[&[None, None]], Err(Refusal::WrongArity(0))),
     (&[&[None, None, None, None]], Err(Refusal::WrongArity(0))),
@@ -103,7 +103,7 @@ const FAULTS: [(&[&[Option<i128>]], Result<(), Refusal>); 14] = [
     ),
     (
         &[&[None, Some(2_147_483_648), None], &[]],
-        Err(Refusal::OutOfType(0, 1)),
+        Err(Refusal::OutOfType { row: 0, column: 1 }),
     ),
 ];
 
@@ -302,7 +302,7 @@ const ALL_REFUSALS: [Refusal; 37] = [
     Refusal::EmptyBatch,
     Refusal::BatchTooLong,
     Refusal::WrongArity(0),
-    Refusal::OutOfType(0, 1),
+    Refusal::OutOfType { row: 0, column: 1 },
     Refusal::SchemaDiffers,
     Refusal::NumbersSpent,
     Refusal::NoSuchVector,
@@ -432,6 +432,28 @@ fn failed_writes_are_counted_and_each_write_is_passed_on(rt: HostRuntime) -> Res
     Ok(())
 }
 
+// Three bytes come or go, and then each call fails.
+#[test]
+fn a_reader_and_a_writer_stop_after_their_bytes(rt: HostRuntime) -> Result<(), Fail> {
+    let mut reader = Counted::new(Stop {
+        inner: b"abcde".as_slice(),
+        left: 3,
+    });
+    for (count, failures) in [(Some(2), 0), (Some(1), 0), (None, 1), (None, 2)] {
+        let mut buffer = *b"..";
+        assert!(rt; reader.read(&mut buffer).ok() == count && reader.failures() == failures);
+    }
+    let mut writer = Counted::new(Stop {
+        inner: Vec::new(rt.alloc()),
+        left: 3,
+    });
+    assert_eq!(rt; writer.write_whole(b"ab"), Ok(()));
+    assert_eq!(rt; writer.write_whole(b"cde"), Err(Refusal::WriteFault));
+    assert_eq!(rt; writer.failures(), 1);
+    assert_eq!(rt; writer.into_inner().inner.as_slice(), b"abc".as_slice());
+    Ok(())
+}
+
 #[test]
 fn rows_give_their_parts_back(rt: HostRuntime) -> Result<(), Fail> {
     let row = row_of(rt.alloc(), &[Some(7), None])?;
@@ -455,8 +477,98 @@ fn an_answer_gives_its_parts_back(rt: HostRuntime) -> Result<(), Fail> {
     assert!(rt; row.fields() == fields.as_slice());
     let answer = Answer::new(Vec::new(rt.alloc()), vec![in rt.alloc(); row]?);
     assert!(rt; answer.heading().is_empty() && answer.rows().len() == 1);
-    assert!(rt;
-        Truth::False < Truth::Unknown && Truth::Unknown < Truth::True && Op::Less != Op::LessOrEqual
-    );
     Ok(())
+}
+
+// Left, right, their AND and their OR: the tables of ISO/IEC 9075:1992, clause 8.12.
+const CONNECTIVES: [(Truth, Truth, Truth, Truth); 9] = [
+    (Truth::True, Truth::True, Truth::True, Truth::True),
+    (Truth::True, Truth::False, Truth::False, Truth::True),
+    (Truth::True, Truth::Unknown, Truth::Unknown, Truth::True),
+    (Truth::False, Truth::True, Truth::False, Truth::True),
+    (Truth::False, Truth::False, Truth::False, Truth::False),
+    (Truth::False, Truth::Unknown, Truth::False, Truth::Unknown),
+    (Truth::Unknown, Truth::True, Truth::Unknown, Truth::True),
+    (Truth::Unknown, Truth::False, Truth::False, Truth::Unknown),
+    (
+        Truth::Unknown,
+        Truth::Unknown,
+        Truth::Unknown,
+        Truth::Unknown,
+    ),
+];
+
+#[test]
+fn truth_values_are_joined_by_the_standards_tables(rt: HostRuntime) {
+    for (left, right, and, or) in CONNECTIVES {
+        assert_eq!(rt; (left.and(right), left.or(right)), (and, or));
+    }
+    let negated = [Truth::True, Truth::False, Truth::Unknown].map(|truth| truth.not());
+    assert!(rt; negated == [Truth::False, Truth::True, Truth::Unknown]);
+    assert!(rt; Truth::Unknown.is(Truth::Unknown) && !Truth::Unknown.is(Truth::False));
+}
+
+// An operator, whether it holds of 1 and 2, of 2 and 2, and of 2 and 1: ISO/IEC 9075:1992, clause 8.2.
+const COMPARISONS: [(Op, bool, bool, bool); 6] = [
+    (Op::Equal, false, true, false),
+    (Op::NotEqual, true, false, true),
+    (Op::Less, true, false, false),
+    (Op::LessOrEqual, true, true, false),
+    (Op::Greater, false, false, true),
+    (Op::GreaterOrEqual, false, true, true),
+];
+
+#[test]
+fn comparisons_are_known_unless_a_side_is_null(rt: HostRuntime) {
+    for (op, below, same, above) in COMPARISONS {
+        assert_eq!(rt;
+            (op.holds(1, 2), op.holds(2, 2), op.holds(2, 1)),
+            (below, same, above)
+        );
+        assert_eq!(rt; op.compare(Some(1), Some(2)), Truth::from_bool(below));
+        assert_eq!(rt;
+            (op.compare(None, Some(2)), op.compare(Some(1), None)),
+            (Truth::Unknown, Truth::Unknown)
+        );
+    }
+}
+
+// A mean of 7.25 is above 7 and not 7; nothing is known of a null.
+#[test]
+fn fields_are_compared_in_millionths_where_one_is_a_mean(rt: HostRuntime) {
+    let mean = Field::Millionths(7_250_000);
+    assert_eq!(rt;
+        Op::Greater.compare_fields(mean, Field::Whole(7)),
+        Truth::True
+    );
+    assert_eq!(rt;
+        Op::Equal.compare_fields(Field::Whole(7), mean),
+        Truth::False
+    );
+    assert_eq!(rt; Op::Equal.compare_fields(mean, mean), Truth::True);
+    assert_eq!(rt;
+        Op::Less.compare_fields(Field::Whole(7), Field::Whole(8)),
+        Truth::True
+    );
+    assert_eq!(rt; Op::Equal.compare_fields(mean, Field::Null), Truth::Unknown);
+}
+
+#[test]
+fn a_condition_is_asked_for_a_truth_value_or_for_its_absence(rt: HostRuntime) {
+    let unknown = IsTruth {
+        negated: false,
+        truth: Truth::Unknown,
+    };
+    let not_true = IsTruth {
+        negated: true,
+        truth: Truth::True,
+    };
+    assert_eq!(rt;
+        (unknown.asked(Truth::Unknown), unknown.asked(Truth::False)),
+        (Truth::True, Truth::False)
+    );
+    assert_eq!(rt;
+        (not_true.asked(Truth::Unknown), not_true.asked(Truth::True)),
+        (Truth::True, Truth::False)
+    );
 }

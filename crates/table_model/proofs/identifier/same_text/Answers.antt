@@ -1,7 +1,7 @@
--- Texts of different lengths differ.
-use Rattle.std.proofs.Common.{sym}
-use Rattle.table_model.proofs.Texts.{same_text-lengths}
+-- The library's test of two texts.
+use Rattle.std.proofs.Common.{◌∙◌}
+use Rattle.table_model.proofs.Texts.{same_text-pointwise}
 use Rattle.table_model.proofs.identifier.same_text.Goals as goal
 
-pub returns-then-a-b : goal.returns-then-a-b
-returns-then-a-b c = let h = c.if-a-b.true in sym (same_text-lengths _ _ h)
+pub returns : goal.returns
+returns c = c.eq.ensures ∙ same_text-pointwise c.args.a.now c.args.b.now

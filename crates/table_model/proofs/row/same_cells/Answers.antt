@@ -1,7 +1,7 @@
--- Rows of different lengths differ.
-use Rattle.std.proofs.Common.{sym}
-use Rattle.table_model.proofs.SameRows.{same_cells-lengths}
+-- The library's test of two rows.
+use Rattle.std.proofs.Common.{◌∙◌}
+use Rattle.table_model.proofs.SameRows.{same_cells-pointwise}
 use Rattle.table_model.proofs.row.same_cells.Goals as goal
 
-pub returns-then-cells-others : goal.returns-then-cells-others
-returns-then-cells-others c = let h = c.if-cells-others.true in sym (same_cells-lengths _ _ h)
+pub returns : goal.returns
+returns c = c.eq.ensures ∙ same_cells-pointwise c.args.cells.now c.args.others.now

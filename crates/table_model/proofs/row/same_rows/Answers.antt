@@ -1,9 +1,12 @@
--- Lists of different lengths differ.
-use Rattle.std.proofs.Common.{sym, arith}
-use Rattle.table_model.proofs.SameRows.{same_rows-lengths}
+-- Rows are the same pair by pair.
+use Rattle.std.proofs.Common.{sym, ◌∙◌}
+use Rattle.std.proofs.lemmas.Bool.{ne_eqb}
+use Rattle.table_model.proofs.SameRows.{same_rows-zip, same_rows-lengths}
 use Rattle.table_model.proofs.row.same_rows.Goals as goal
 
 pub returns-then-a-b : goal.returns-then-a-b
 returns-then-a-b c =
-    let apart = c.if-a-b.true in
-    sym (same_rows-lengths c.args.a.now c.args.b.now (λ same. grind (arith, apart, same)))
+    c.same_pairs.ensures ∙ same_rows-zip c.args.a.now c.args.b.now c.if-a-b.true
+
+pub returns-else-a-b : goal.returns-else-a-b
+returns-else-a-b c = ne_eqb _ _ c.if-a-b.false ∙ sym (same_rows-lengths c.args.a.now c.args.b.now c.if-a-b.false)
