@@ -1,0 +1,25 @@
+-- The parts so far and what is left give what the whole gives.
+use Rattle.std.proofs.Common.{arith}
+use Rattle.std.proofs.lemmas.Result.{err_from_is_err_and}
+use Rattle.query_parser.specs.declared.token.Sign.TheVariants as sign
+use Rattle.query_parser.specs.Descent.{one_more, read_item, read_items}
+use Rattle.query_parser.proofs.Many.{goes_on, fails_or, ends}
+use Rattle.query_parser.proofs.select.items.Goals as goal
+
+pub loop-next-preserved : goal.loop-next-preserved
+loop-next-preserved c = (
+  rw c.in_ok-push-2.ensures.items
+      (goes_on (read_item c.args.end) sign.Comma one_more c.loop-next.items.items c.loop-next.rest.now c.in-Some.next.now c.in_ok-item.left.now _ c.in_ok-item.item
+      c.loop-next.invariant.0 c.in-Some.ensures.reads c.in_ok-item.ensures.reads c.in_ok-item.ensures.shorter),
+  omega (arith, c.in-Some.ensures.shorter, c.in_ok-item.ensures.shorter),
+)
+
+pub returns-clause-reads : goal.returns-clause-reads
+unfolding read_items
+returns-clause-reads c = ends (read_item c.args.end) sign.Comma one_more c.loop-next.items.items c.loop-next.rest.now _ c.loop-next.invariant.0 c.in_default.ensures.reads
+
+pub returns-in_err-item-clause-reads : goal.returns-in_err-item-clause-reads
+unfolding read_items
+returns-in_err-item-clause-reads c =
+    let p = err_from_is_err_and c.from_residual-in_err-item.result c.from_residual-in_err-item.ensures.1 in
+    rw (p.1, p.2) (fails_or (read_item c.args.end) sign.Comma one_more c.loop-next.items.items c.loop-next.rest.now c.in-Some.next.now _ _ c.loop-next.invariant.0 c.in-Some.ensures.reads c.in_err-item.ensures.reads)

@@ -1,0 +1,5 @@
+pub mod Descent
+pub mod Grammar
+pub mod Resolve
+pub mod Stack
+pub mod Token

@@ -1,0 +1,19 @@
+//! Queries as texts: the tokens of a text, the query that the grammar gives for them or the text's first fault, and whether
+//! a query's names are those of a table.
+#![tactic(auto)]
+
+mod condition;
+mod cursor;
+mod lexer;
+mod names;
+mod number;
+mod predicate;
+mod query;
+mod select;
+mod token;
+
+pub use names::resolve;
+pub use query::parse;
+
+#[cfg(test)]
+mod tests;

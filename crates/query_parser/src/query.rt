@@ -1,0 +1,144 @@
+//! Whole queries.
+ghost use Rattle.std.specs.Prelude.{◌≡◌, IfOk, []};
+ghost use Rattle.query_parser.specs.Descent.{Reads, read_query, read_filter, read_having, read_grouping, read_columns, query_of};
+ghost use Rattle.query_parser.specs.Grammar.{IsQuery};
+ghost use Rattle.query_parser.specs.Stack.{Finds, text_fault};
+ghost use Rattle.query_parser.specs.Token.{tokens_of};
+
+use crate::condition::condition;
+use crate::cursor::{Read, after, expect, identifier, syntax};
+use crate::lexer::tokens_of;
+use crate::predicate::Clause;
+use crate::select::items;
+use crate::token::{Sign, Token};
+use std::alloc::Global;
+use table_model::{ColumnMention, Condition, Query, Refusal};
+
+/// The most parentheses that may be open at once round conditions.
+const MAX_DEPTH: usize = 64;
+
+/// The query that the text is.
+///
+/// The first fault is answered: `Syntax` names the first token that no query has there, or the text's length; `NumberTooLarge`
+/// the first digit of a literal of more than 30 digits after its leading zeros; `TooDeep` is the 65th parenthesis open at once
+/// round conditions. `Memory` may take a fault's place.
+pub fn parse(alloc: Global, text: &str) -> Result<Query, Refusal>
+    ensures reads { Reads (λ q. q) result (query_of text.now) }
+    ensures grammar { IfOk result (λ q. IsQuery q (tokens_of text.now) []) }
+    ensures first { Finds result (text_fault text.now) }
+{
+    read_text(alloc, text)
+}
+
+/// The query that the text is, read by descent.
+#[tactic(auto, unfolding(crate::specs::Descent::query_of, crate::specs::Descent::read_whole))]
+fn read_text(alloc: Global, text: &str) -> Result<Query, Refusal>
+    ensures { Reads (λ q. q) result (query_of text.now) }
+{
+    let tokens = tokens_of(alloc, text.as_bytes())?;
+    let end = text.len() as u64;
+    let (query, rest) = query(alloc, &tokens, end)?;
+    if rest.is_empty() {
+        Ok(query)
+    } else {
+        Err(syntax(rest, end))
+    }
+}
+
+/// The query that the tokens begin with.
+#[tactic(auto, unfolding(crate::specs::Descent::read_query))]
+fn query<'t, 'a>(alloc: Global, tokens: &'t [Token<'a>], end: u64) -> Read<'t, 'a, Query>
+    ensures { Reads (λ r. (r.0, r.1.now)) result (read_query end tokens.now) }
+{
+    let rest = expect(tokens, end, Sign::Select)?;
+    let (items, rest) = items(alloc, rest, end)?;
+    let rest = expect(rest, end, Sign::From)?;
+    let (table, rest) = identifier(alloc, rest, end)?;
+    let (filter, rest) = filter(alloc, rest, end)?;
+    let (grouping, rest) = grouping(alloc, rest, end)?;
+    let (having, rest) = having(alloc, rest, end)?;
+    Ok((
+        Query {
+            items,
+            table: table.name,
+            filter,
+            grouping,
+            having,
+        },
+        rest,
+    ))
+}
+
+/// `[WHERE cond]`
+#[tactic(auto, unfolding(crate::specs::Descent::read_filter))]
+fn filter<'t, 'a>(
+    alloc: Global,
+    tokens: &'t [Token<'a>],
+    end: u64,
+) -> Read<'t, 'a, Option<Condition>>
+    ensures { Reads (λ r. (r.0, r.1.now)) result (read_filter end tokens.now) }
+{
+    match after(tokens, Sign::Where) {
+        Some(rest) => {
+            let (condition, rest) = condition(alloc, Clause::Where, MAX_DEPTH, rest, end)?;
+            Ok((Some(condition), rest))
+        }
+        None => Ok((None, tokens)),
+    }
+}
+
+/// `[HAVING cond]`
+#[tactic(auto, unfolding(crate::specs::Descent::read_having))]
+fn having<'t, 'a>(
+    alloc: Global,
+    tokens: &'t [Token<'a>],
+    end: u64,
+) -> Read<'t, 'a, Option<Condition>>
+    ensures { Reads (λ r. (r.0, r.1.now)) result (read_having end tokens.now) }
+{
+    match after(tokens, Sign::Having) {
+        Some(rest) => {
+            let (condition, rest) = condition(alloc, Clause::Having, MAX_DEPTH, rest, end)?;
+            Ok((Some(condition), rest))
+        }
+        None => Ok((None, tokens)),
+    }
+}
+
+/// `[GROUP BY identifier {"," identifier}]`
+#[tactic(auto, unfolding(crate::specs::Descent::read_grouping))]
+fn grouping<'t, 'a>(
+    alloc: Global,
+    tokens: &'t [Token<'a>],
+    end: u64,
+) -> Read<'t, 'a, Vec<ColumnMention>>
+    ensures { Reads (λ r. (r.0.items, r.1.now)) result (read_grouping end tokens.now) }
+{
+    match after(tokens, Sign::Group) {
+        Some(rest) => {
+            let rest = expect(rest, end, Sign::By)?;
+            columns(alloc, rest, end)
+        }
+        None => Ok((Vec::new(alloc), tokens)),
+    }
+}
+
+/// `identifier {"," identifier}`
+#[tactic(auto, unfolding(crate::specs::Descent::read_columns, crate::specs::Descent::read_many))]
+fn columns<'t, 'a>(
+    alloc: Global,
+    tokens: &'t [Token<'a>],
+    end: u64,
+) -> Read<'t, 'a, Vec<ColumnMention>>
+    ensures { Reads (λ r. (r.0.items, r.1.now)) result (read_columns end tokens.now) }
+{
+    let mut columns = Vec::new(alloc);
+    let (first, mut rest) = identifier(alloc, tokens, end)?;
+    columns.push(first)?;
+    while let Some(next) = after(rest, Sign::Comma) {
+        let (column, left) = identifier(alloc, next, end)?;
+        columns.push(column)?;
+        rest = left;
+    }
+    Ok((columns, rest))
+}
