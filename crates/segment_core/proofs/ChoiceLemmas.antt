@@ -1,0 +1,127 @@
+-- The first coding of fewest bytes is found by comparing one after another.
+use Rattle.std.proofs.Common.{◌≡◌, ℕ, ◌<◌, ◌≤◌, ◌⊎◌, inl, inr, Bool, true, false, nat_lt, cond, Option, IsSome, is_some, ◌↔◌, refl, sym, ◌∙◌, ap, subst, arith}
+use Rattle.std.proofs.lemmas.Bool.Decides.{nat_tests}
+use Rattle.segment_core.specs.Choice.{fewer, first_fewest, place_in_order, IsFirstFewest}
+use Rattle.segment_core.specs.declared.coding.Coding.{Coding}
+use Rattle.segment_core.specs.declared.coding.Coding.TheVariants.{For, Delta, Runs, Dict}
+
+-- ---- one comparison
+pub record IsFewer (bytes : Coding → ℕ) (earlier later chosen : Coding) : Type 0 where
+  pub below_earlier : bytes chosen ≤ bytes earlier
+  pub below_later : bytes chosen ≤ bytes later
+  pub which : ((chosen ≡ earlier) × (bytes earlier ≤ bytes later)) ⊎ ((chosen ≡ later) × (bytes later < bytes earlier))
+
+fewer_at : (bytes : Coding → ℕ) (earlier later : Coding) (b : Bool) → nat_lt (bytes later) (bytes earlier) ≡ b → IsFewer bytes earlier later (cond b later earlier)
+fewer_at bytes earlier later true e = let h : bytes later < bytes earlier = grind (arith, nat_tests) in record { below_earlier = omega arith; below_later = omega arith; which = inr (refl, h) }
+fewer_at bytes earlier later false e = let h : bytes earlier ≤ bytes later = grind (arith, nat_tests) in record { below_earlier = omega arith; below_later = h; which = inl (refl, h) }
+
+pub fewer_is : (bytes : Coding → ℕ) (earlier later : Coding) → IsFewer bytes earlier later (fewer bytes earlier later)
+fewer_is bytes earlier later = fewer_at bytes earlier later (nat_lt (bytes later) (bytes earlier)) refl
+
+pub bytes_of_fewer : (bytes : Coding → ℕ) (earlier later : Coding) (b : Bool) → bytes (cond b later earlier) ≡ cond b (bytes later) (bytes earlier)
+bytes_of_fewer bytes earlier later true = refl
+bytes_of_fewer bytes earlier later false = refl
+
+-- ---- three comparisons
+abbrev of_two : (Coding → ℕ) → Coding
+of_two bytes = fewer bytes For Delta
+
+abbrev of_three : (Coding → ℕ) → Coding
+of_three bytes = fewer bytes (of_two bytes) Runs
+
+abbrev of_four : (Coding → ℕ) → Coding
+of_four bytes = fewer bytes (of_three bytes) Dict
+
+record Bounds (bytes : Coding → ℕ) (chosen : Coding) : Type 0 where
+  frame : bytes chosen ≤ bytes For
+  deltas : bytes chosen ≤ bytes Delta
+  runs : bytes chosen ≤ bytes Runs
+  dictionary : bytes chosen ≤ bytes Dict
+
+bounds : (bytes : Coding → ℕ) → Bounds bytes (of_four bytes)
+bounds bytes =
+    let a = fewer_is bytes For Delta in
+    let b = fewer_is bytes (of_two bytes) Runs in
+    let c = fewer_is bytes (of_three bytes) Dict in
+    record { frame = omega arith; deltas = omega arith; runs = omega arith; dictionary = c.below_later }
+
+fewest_of : (bytes : Coding → ℕ) (chosen : Coding) → Bounds bytes chosen → (other : Coding) → bytes chosen ≤ bytes other
+fewest_of bytes chosen b For = b.frame
+fewest_of bytes chosen b Delta = b.deltas
+fewest_of bytes chosen b Runs = b.runs
+fewest_of bytes chosen b Dict = b.dictionary
+
+-- each coding that comes before the chosen one takes more bytes
+abbrev IsFirst : (Coding → ℕ) → Coding → Type 0
+IsFirst bytes chosen = (other : Coding) → place_in_order other < place_in_order chosen → bytes chosen < bytes other
+
+still_first : (bytes : Coding → ℕ) (earlier later chosen : Coding) → IsFewer bytes earlier later chosen → IsFirst bytes earlier → ((other : Coding) → place_in_order other < place_in_order later → bytes earlier ≤ bytes other) → ((chosen ≡ earlier) × (bytes earlier ≤ bytes later)) ⊎ ((chosen ≡ later) × (bytes later < bytes earlier)) → IsFirst bytes chosen
+still_first bytes earlier later chosen h first below (inl w) = subst (λ (x : Coding). IsFirst bytes x) (sym w.0) first
+still_first bytes earlier later chosen h first below (inr w) =
+    subst (λ (x : Coding). IsFirst bytes x) (sym w.0) (λ other l. let b = below other l in let a = w.1 in omega arith)
+
+below_frame : (bytes : Coding → ℕ) (other : Coding) → place_in_order other < 1 → bytes For ≤ bytes other
+below_frame bytes For h = omega arith
+below_frame bytes Delta h = absurd (omega arith)
+below_frame bytes Runs h = absurd (omega arith)
+below_frame bytes Dict h = absurd (omega arith)
+
+below_two : (bytes : Coding → ℕ) (other : Coding) → place_in_order other < 2 → bytes (of_two bytes) ≤ bytes other
+below_two bytes For h = (fewer_is bytes For Delta).below_earlier
+below_two bytes Delta h = (fewer_is bytes For Delta).below_later
+below_two bytes Runs h = absurd (omega arith)
+below_two bytes Dict h = absurd (omega arith)
+
+below_three : (bytes : Coding → ℕ) (other : Coding) → place_in_order other < 3 → bytes (of_three bytes) ≤ bytes other
+below_three bytes For h = let a = fewer_is bytes For Delta in let b = fewer_is bytes (of_two bytes) Runs in omega arith
+below_three bytes Delta h = let a = fewer_is bytes For Delta in let b = fewer_is bytes (of_two bytes) Runs in omega arith
+below_three bytes Runs h = (fewer_is bytes (of_two bytes) Runs).below_later
+below_three bytes Dict h = absurd (omega arith)
+
+first_of_two : (bytes : Coding → ℕ) → IsFirst bytes (of_two bytes)
+first_of_two bytes =
+    let a = fewer_is bytes For Delta in
+    still_first bytes For Delta (of_two bytes) a (λ other h. absurd (omega arith)) (below_frame bytes) a.which
+
+first_of_three : (bytes : Coding → ℕ) → IsFirst bytes (of_three bytes)
+first_of_three bytes =
+    let a = fewer_is bytes (of_two bytes) Runs in
+    still_first bytes (of_two bytes) Runs (of_three bytes) a (first_of_two bytes) (below_two bytes) a.which
+
+first_of_four : (bytes : Coding → ℕ) → IsFirst bytes (of_four bytes)
+first_of_four bytes =
+    let a = fewer_is bytes (of_three bytes) Dict in
+    still_first bytes (of_three bytes) Dict (of_four bytes) a (first_of_three bytes) (below_three bytes) a.which
+
+pub first_fewest_is : (bytes : Coding → ℕ) → IsFirstFewest bytes (first_fewest bytes)
+unfolding first_fewest
+first_fewest_is bytes = record { fewest = fewest_of bytes (of_four bytes) (bounds bytes); first = first_of_four bytes }
+
+-- ---- a candidate with its bytes, compared with a later one
+pub record Holds (bytes : Coding → ℕ) (best : Coding) (count : ℕ) (wanted : Coding) : Type 0 where
+  pub coding : best ≡ wanted
+  pub count_is : count ≡ bytes wanted
+
+pub compared : (bytes : Coding → ℕ) (best wanted later made : Coding) (count more after : ℕ) → Holds bytes best count wanted → more ≡ bytes later → made ≡ cond (nat_lt more count) later best → after ≡ cond (nat_lt more count) more count → Holds bytes made after (fewer bytes wanted later)
+compared bytes best wanted later made count more after h m e f =
+    let test : nat_lt more count ≡ nat_lt (bytes later) (bytes wanted) = let i = h.count_is in cc in
+    record {
+      coding = e ∙ ap (λ b. cond b later best) test ∙ ap (λ (x : Coding). cond (nat_lt (bytes later) (bytes wanted)) later x) h.coding;
+      count_is = f ∙ (let i = h.count_is in let r : cond (nat_lt more count) more count ≡ cond (nat_lt (bytes later) (bytes wanted)) (bytes later) (bytes wanted) = cc in r) ∙ sym (bytes_of_fewer bytes wanted later (nat_lt (bytes later) (bytes wanted)));
+    }
+
+none_at : (found : Option ℕ) (more count : ℕ) → (IsSome found ↔ (more < count)) → is_some found ≡ false → (b : Bool) → nat_lt more count ≡ b → false ≡ b
+none_at found more count h e true f = absurd (let l : more < count = grind (arith, nat_tests) in let s = h.1 l in cc)
+none_at found more count h e false f = refl
+
+some_at : (found : Option ℕ) (more count : ℕ) (b : Bool) → (IsSome found ↔ (more < count)) → is_some found ≡ b → b ≡ nat_lt more count
+some_at found more count true h e = let l = h.0 e in grind (arith, nat_tests)
+some_at found more count false h e = none_at found more count h e (nat_lt more count) refl
+
+-- the dictionary is chosen exactly where its bytes are found to be fewer
+pub dictionary_is : (bytes : Coding → ℕ) (best : Coding) (count : ℕ) (chosen : Coding) (found : Option ℕ) → Holds bytes best count (of_three bytes) → chosen ≡ cond (is_some found) Dict best → (IsSome found ↔ (bytes Dict < count)) → chosen ≡ first_fewest bytes
+unfolding first_fewest
+dictionary_is bytes best count chosen found h e below =
+    e ∙ ap (λ b. cond b Dict best) (some_at found (bytes Dict) count (is_some found) below refl)
+    ∙ ap (λ n. cond (nat_lt (bytes Dict) n) Dict best) h.count_is
+    ∙ ap (λ (x : Coding). cond (nat_lt (bytes Dict) (bytes (of_three bytes))) Dict x) h.coding

@@ -1,0 +1,23 @@
+-- The canonical vectors of a batch are a segment, and stand for its rows.
+use Rattle.std.proofs.Common.{◌≡◌, List, length, sym, ◌∙◌, ap, subst}
+use Rattle.segment_core.specs.CodedVector.{VectorForm}
+use Rattle.segment_core.specs.Segment.{batch_of, canonical_forms, widths_of, widths_in, IsSegment}
+use Rattle.segment_core.proofs.BuildLemmas.{canonical_is_segment, canonical_rows}
+use Rattle.segment_core.proofs.WidthLemmas.{widths_in-canonical}
+use Rattle.segment_core.proofs.segment.Segment.build.Goals as goal
+
+pub invariant_of-result : goal.invariant_of-result
+invariant_of-result c =
+    subst (λ (forms : List (List VectorForm)). IsSegment (length c.args.rows.now) forms) (sym c.in_ok-columns.ensures.forms)
+    (canonical_is_segment c.args.schema.now c.args.rows.now c.canonical_columns.ensures.table c.requires)
+
+pub returns-clause-widths : goal.returns-clause-widths
+returns-clause-widths c =
+    ap widths_in c.in_ok-columns.ensures.forms ∙ widths_in-canonical (widths_of c.args.schema.now) c.args.rows.now c.requires.some
+
+pub returns-clause-value : goal.returns-clause-value
+returns-clause-value c =
+    let forms : c.in_ok-columns.columns.items ≡ canonical_forms (widths_of c.args.schema.now) c.args.rows.now = c.in_ok-columns.ensures.forms in
+    let rows : batch_of (length c.args.rows.now) c.in_ok-columns.columns.items ≡ c.args.rows.now =
+    ap (λ (f : List (List VectorForm)). batch_of (length c.args.rows.now) f) forms ∙ canonical_rows c.args.schema.now c.args.rows.now c.requires in
+    λ i. record { rows = rows i; forms = forms i }

@@ -1,0 +1,185 @@
+//! A batch's columns in bytes, at bytes and places worked out by hand from the format.
+use crate::coded::Coded;
+use crate::segment::Segment;
+use std::alloc::Global;
+use std::process::Abort;
+use std::test::Fail;
+use table_model::{ColType, Counted, Refusal, Schema};
+
+/// The schema of one SMALLINT column.
+fn one_column(alloc: Global) -> Result<Schema, Refusal> {
+    Schema::new(alloc, "T", &[("A", ColType::SmallInt)])
+}
+
+/// A front, then so many bytes that are 0, then what is left.
+fn joined(alloc: Global, front: &[u8], zeros: usize, back: &[u8]) -> Result<Vec<u8>, Fail> {
+    let mut bytes = Vec::from_slice(alloc, front)?;
+    for _ in 0..zeros {
+        bytes.push(0)?;
+    }
+    bytes.extend_from_slice(back)?;
+    Ok(bytes)
+}
+
+/// Reading one row of one SMALLINT column from such bytes is refused so.
+fn is_refused(
+    rt: &impl Abort,
+    alloc: Global,
+    front: &[u8],
+    zeros: usize,
+    fault: Refusal,
+) -> Result<(), Fail> {
+    let schema = one_column(alloc)?;
+    let bytes = joined(alloc, front, zeros, &[])?;
+    let read = Segment::read_bytes(alloc, &schema, 1, &bytes, 0);
+    assert_eq!(rt; read.err(), Some(fault), "after {front:?}");
+    Ok(())
+}
+
+// Flag 0, tag 0, width 0, count 0, reference 7.
+#[test]
+fn one_row_of_seven_takes_seven_bytes(rt: HostRuntime) -> Result<(), Fail> {
+    let alloc = rt.alloc();
+    let schema = one_column(alloc)?;
+    let bytes = [9, 9, 0, 0, 0, 0, 0, 7, 0, 5];
+    let (segment, next) = Segment::read_bytes(alloc, &schema, 1, &bytes, 2)?;
+    assert_eq!(rt; (segment.rows(), segment.columns(), next), (1, 1, 9));
+    let vector = segment.vector(0, 0);
+    assert_eq!(rt; (vector.rows(), vector.nulls().is_none()), (1, true));
+    match vector.coded() {
+        Coded::For(form) => assert_eq!(rt; form.value(0), 7),
+        _ => assert!(rt; false, "the tag is FOR's"),
+    }
+    Ok(())
+}
+
+// The null flag is byte 0, the tag 1, the width 2, the count 3 and 4, and the payload begins at 5.
+#[test]
+fn each_field_has_its_fault_at_its_place(rt: HostRuntime) -> Result<(), Fail> {
+    let alloc = rt.alloc();
+    is_refused(&rt, alloc, &[2], 0, Refusal::BadMask(0))?;
+    is_refused(&rt, alloc, &[0, 4], 0, Refusal::BadTag(1))?;
+    is_refused(&rt, alloc, &[0, 0, 17], 0, Refusal::BadWidth(2))?;
+    is_refused(&rt, alloc, &[0, 1, 17], 0, Refusal::BadWidth(2))?;
+    is_refused(&rt, alloc, &[0, 2, 0], 0, Refusal::BadWidth(2))?;
+    is_refused(&rt, alloc, &[0, 3, 17], 0, Refusal::BadWidth(2))?;
+    is_refused(&rt, alloc, &[0, 0, 16, 1, 0], 0, Refusal::BadCount(3))?;
+    is_refused(&rt, alloc, &[0, 1, 16, 0, 1], 0, Refusal::BadCount(3))?;
+    is_refused(&rt, alloc, &[0, 2, 1, 0, 0], 0, Refusal::BadCount(3))?;
+    is_refused(&rt, alloc, &[0, 2, 1, 1, 4], 0, Refusal::BadCount(3))?;
+    is_refused(&rt, alloc, &[0, 3, 16, 1, 4], 0, Refusal::BadCount(3))
+}
+
+// Row n is bit n % 8 of byte n / 8: a mask's first byte 1 is row 0, and 2 is row 1.
+#[test]
+fn masks_have_their_faults(rt: HostRuntime) -> Result<(), Fail> {
+    let alloc = rt.alloc();
+    is_refused(&rt, alloc, &[1], 128, Refusal::BadMask(1))?;
+    is_refused(&rt, alloc, &[1, 2], 127, Refusal::BadMask(1))?;
+    is_refused(&rt, alloc, &[1, 3], 127, Refusal::BadMask(1))?;
+    is_refused(&rt, alloc, &[1, 1], 127, Refusal::Truncated(129))?;
+    is_refused(&rt, alloc, &[0, 2, 1, 1, 0, 1], 127, Refusal::BadMask(5))?;
+    is_refused(&rt, alloc, &[0, 2, 1, 1, 0, 2], 127, Refusal::BadCount(3))?;
+    is_refused(
+        &rt,
+        alloc,
+        &[0, 2, 1, 2, 0, 2],
+        127,
+        Refusal::Truncated(133),
+    )?;
+    is_refused(
+        &rt,
+        alloc,
+        &[0, 2, 1, 2, 0, 2],
+        126,
+        Refusal::Truncated(132),
+    )
+}
+
+// A second value that is no greater comes before the end of the bytes. One bit set of a code of one bit makes it 1.
+#[test]
+fn dictionaries_have_their_faults(rt: HostRuntime) -> Result<(), Fail> {
+    let alloc = rt.alloc();
+    let same = [0, 3, 1, 2, 0, 7, 0, 7, 0];
+    is_refused(&rt, alloc, &same, 0, Refusal::BadDictionary(7))?;
+    let falling = [0, 3, 1, 3, 0, 7, 0, 255, 255, 9];
+    is_refused(&rt, alloc, &falling, 0, Refusal::BadDictionary(7))?;
+    let code = [0, 3, 1, 1, 0, 7, 0, 1];
+    is_refused(&rt, alloc, &code, 127, Refusal::BadCode(7))?;
+    is_refused(&rt, alloc, &code, 126, Refusal::Truncated(134))
+}
+
+/// The bytes of 1,025 rows of three columns: for each vector its bytes up to 128 that are 0, and the rest.
+fn three_columns(alloc: Global) -> Result<Vec<u8>, Fail> {
+    let mut bytes = Vec::new(alloc);
+    // SMALLINT: row 0 null, FOR of width 0, reference 7; then one row, DELTA of width 0, least delta 1, 64 bases of 0.
+    bytes.extend_from_slice(&joined(alloc, &[1, 1], 127, &[0, 0, 0, 0, 7, 0])?)?;
+    bytes.extend_from_slice(&joined(alloc, &[0, 1, 0, 0, 0, 1, 0], 128, &[])?)?;
+    // INTEGER: RLE of two runs, 7 and then 8 from row 1 on; then one row, null, RLE of one run.
+    bytes.extend_from_slice(&joined(alloc, &[0, 2, 1, 2, 0, 2], 127, &[7, 0, 0, 0, 8, 0, 0, 0])?)?;
+    bytes.extend_from_slice(&joined(alloc, &[1, 1], 127, &[2, 1, 1, 0])?)?;
+    bytes.extend_from_slice(&joined(alloc, &[], 128, &[255, 255, 255, 255])?)?;
+    // BIGINT: DICT of -1 and 2 with codes of one bit, all 0; then DICT of one value with codes of no bit.
+    let values = [
+        255, 255, 255, 255, 255, 255, 255, 255, 2, 0, 0, 0, 0, 0, 0, 0,
+    ];
+    bytes.extend_from_slice(&joined(alloc, &[0, 3, 1, 2, 0], 0, &values)?)?;
+    bytes.extend_from_slice(&joined(alloc, &[], 128, &[])?)?;
+    bytes.extend_from_slice(&joined(alloc, &[0, 3, 0, 1, 0], 7, &[128])?)?;
+    Ok(bytes)
+}
+
+#[test]
+fn every_proper_front_is_truncated_with_its_length(rt: HostRuntime) -> Result<(), Fail> {
+    let alloc = rt.alloc();
+    let types = [
+        ("A", ColType::SmallInt),
+        ("B", ColType::Integer),
+        ("C", ColType::BigInt),
+    ];
+    let schema = Schema::new(alloc, "T", &types)?;
+    let bytes = three_columns(alloc)?;
+    let (segment, next) = Segment::read_bytes(alloc, &schema, 1025, &bytes, 0)?;
+    assert_eq!(rt;
+        (segment.rows(), segment.columns(), next),
+        (1025, 3, bytes.len())
+    );
+    for end in 0..bytes.len() {
+        let front = Segment::read_bytes(alloc, &schema, 1025, &bytes[..end], 0);
+        assert_eq!(rt; front.err(), Some(Refusal::Truncated(end as u64)));
+    }
+    Ok(())
+}
+
+#[test]
+fn what_was_read_is_written_again(rt: HostRuntime) -> Result<(), Fail> {
+    let alloc = rt.alloc();
+    let types = [
+        ("A", ColType::SmallInt),
+        ("B", ColType::Integer),
+        ("C", ColType::BigInt),
+    ];
+    let schema = Schema::new(alloc, "T", &types)?;
+    let bytes = three_columns(alloc)?;
+    let (segment, _) = Segment::read_bytes(alloc, &schema, 1025, &bytes, 0)?;
+    let mut writer = Counted::new(Vec::new(alloc));
+    segment.write_bytes(&mut writer)?;
+    assert_eq!(rt; writer.failures(), 0);
+    let written = writer.into_inner();
+    assert_eq!(rt; written.as_slice(), bytes.as_slice());
+    Ok(())
+}
+
+// Six bytes have room for all but the last of the seven.
+#[test]
+fn a_full_writer_has_a_front_and_a_fault(rt: HostRuntime) -> Result<(), Fail> {
+    let alloc = rt.alloc();
+    let schema = one_column(alloc)?;
+    let (segment, _) = Segment::read_bytes(alloc, &schema, 1, &[0, 0, 0, 0, 0, 7, 0], 0)?;
+    let mut room = [1; 6];
+    let mut writer = Counted::new(room.as_mut_slice());
+    let outcome = segment.write_bytes(&mut writer);
+    assert_eq!(rt; (outcome, writer.failures()), (Err(Refusal::WriteFault), 1));
+    assert_eq!(rt; room, [0, 0, 0, 0, 0, 7]);
+    Ok(())
+}

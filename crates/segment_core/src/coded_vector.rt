@@ -1,0 +1,328 @@
+//! Coded vectors: up to 1024 rows of a column, with the rows that are null.
+ghost use Rattle.std.specs.Prelude.{◌≡◌, ◌<◌, ◌≤◌, ◌↔◌, ℕ, [], length, slice_index_or, IsTrue, IfOk};
+ghost use Rattle.std.specs.Option.{option_copied};
+ghost use Rattle.transpose_order.specs.Mask.{rows_of};
+ghost use Rattle.transpose_order.specs.Place.{IsLaneWidth};
+ghost use Rattle.segment_core.specs.Coded.{lane_width_of, coding_of};
+ghost use Rattle.segment_core.specs.CodedVector.{is_null, vector_cell, cells_of, null_rows, some_rows, canonical_vector, recoded_vector, IsVector, AreNulls, StandsFor};
+ghost use Rattle.segment_core.specs.Fill.{cell_or_null, filled, cells_under, AreCellsInRange};
+ghost use Rattle.segment_core.specs.Segment.{column_cells};
+ghost use Rattle.bit_interleave.specs.Range.{AreInRange};
+
+use crate::boxed::Boxed;
+use crate::build::cell_at;
+use crate::choice::choose;
+use crate::coded::Coded;
+use crate::coding::Coding;
+use crate::fill::fill;
+use std::alloc::{AllocError, Global};
+use std::marker::Model;
+use table_model::Row;
+use transpose_order::Mask;
+
+/// Up to 1024 rows of a column: how many they are, which of them are null, and their values, coded. At a row that is null,
+/// and past the rows, any value may stand.
+#[derive(Drop)]
+pub struct CodedVector {
+    coded: Coded,
+    nulls: Option<Boxed<Mask>>,
+    rows: u16,
+}
+
+/// A vector takes this many bytes at most beside its words, its values and its masks.
+const _: () = prove!(size_of::<CodedVector>() <= 96);
+
+impl Model for CodedVector {
+    ghost use Rattle.segment_core.specs.CodedVector.{VectorForm, IsVector};
+
+    ghost Value = { VectorForm };
+
+    ghost view = { λ v. record { rows = v.rows; nulls = v.nulls; coded = v.coded } };
+
+    ghost invariant = { λ v. IsVector (record { rows = v.rows; nulls = v.nulls; coded = v.coded }) };
+}
+
+impl CodedVector {
+    /// The vector with these parts: 1 to 1024 rows, a null mask exactly where a row is null, which has no row past them, and
+    /// any values.
+    pub fn from_parts(rows: u16, nulls: Option<Boxed<Mask>>, coded: Coded) -> CodedVector
+        requires some { 1 ≤ rows }
+        requires limit { rows ≤ 1024 }
+        requires nulls { AreNulls rows nulls }
+        ensures { result ≡ record { rows = rows; nulls = nulls; coded = coded } }
+    {
+        let _lane_width = coded.lane_width();
+        CodedVector { coded, nulls, rows }
+    }
+
+    /// How many rows it covers, from 1 to 1024.
+    pub fn rows(&self) -> usize
+        ensures value { result ≡ self.now.rows }
+        ensures form { IsVector self.now }
+    {
+        self.rows as usize
+    }
+
+    /// The rows that are null, if there is one.
+    pub fn nulls(&self) -> Option<&Mask>
+        ensures { option_copied result ≡ self.now.nulls }
+    {
+        match &self.nulls {
+            None => None,
+            Some(mask) => Some(mask.get()),
+        }
+    }
+
+    /// The values, coded.
+    pub fn coded(&self) -> &Coded
+        ensures { result.now ≡ self.now.coded }
+    {
+        &self.coded
+    }
+
+    /// Which of the four codings it has.
+    pub fn coding(&self) -> Coding
+        ensures { result ≡ coding_of self.now.coded }
+    {
+        self.coded.coding()
+    }
+
+    /// The lane width of the values in bits: 8, 16, 32 or 64.
+    pub fn lane_width(&self) -> usize
+        ensures value { result ≡ lane_width_of self.now.coded }
+        ensures lanes { IsLaneWidth result }
+    {
+        self.coded.lane_width()
+    }
+
+    /// The rows that are null, as a mask.
+    pub fn null_rows(&self) -> Mask
+        ensures { result ≡ rows_of (is_null self.now.nulls) }
+    {
+        match &self.nulls {
+            None => Mask::none(),
+            Some(mask) => *mask.get(),
+        }
+    }
+
+    /// The value of a row that it covers, or none where the row is null.
+    pub fn value(&self, row: usize) -> Option<i64>
+        requires { row < self.now.rows }
+        ensures { result ≡ vector_cell self.now row }
+    {
+        if is_null(&self.nulls, row) {
+            None
+        } else {
+            Some(self.coded.value(row))
+        }
+    }
+
+    /// Writes the filled vector, each value in the range of the lane width.
+    fn write_filled(&self, values: &mut [i64; 1024])
+        ensures values { values.new ≡ filled (cells_of self.now) }
+        ensures fit { AreInRange (lane_width_of self.now.coded) values.new }
+    {
+        self.coded.decode(values);
+        fill(values, self.rows as usize, &self.null_rows());
+    }
+
+    /// The canonical vector of 1 to 1024 rows, of which a mask has those that are null, and values stand at the others, in the
+    /// range of `lane_width` bits, signed, which are 8, 16, 32 or 64. Where memory is refused, an `AllocError`.
+    pub(crate) fn canonical(
+        alloc: Global,
+        lane_width: usize,
+        rows: u16,
+        nulls: &Mask,
+        values: &[i64; 1024],
+    ) -> Result<CodedVector, AllocError>
+        requires lane_width { IsLaneWidth lane_width }
+        requires some { 1 ≤ rows }
+        requires limit { rows ≤ 1024 }
+        requires nulls { nulls.now ≡ null_rows (cells_under rows nulls.now values.now) }
+        requires fit { AreCellsInRange lane_width (cells_under rows nulls.now values.now) }
+        ensures { IfOk result (λ vector. vector ≡ canonical_vector lane_width (cells_under rows nulls.now values.now)) }
+    {
+        let mut full = *values;
+        fill(&mut full, rows as usize, nulls);
+        let coded = Coded::encode(alloc, &full, lane_width, choose(&full, lane_width))?;
+        let nulls = some_rows(alloc, nulls)?;
+        Ok(CodedVector { coded, nulls, rows })
+    }
+
+    /// Whether this is the canonical vector of its cells. It takes no memory.
+    pub fn is_canonical(&self) -> bool
+        ensures { IsTrue result ↔ (self.now ≡ canonical_vector (lane_width_of self.now.coded) (cells_of self.now)) }
+    {
+        let mut values = [0; 1024];
+        self.coded.decode(&mut values);
+        let mut full = [0; 1024];
+        self.write_filled(&mut full);
+        if !same_values(&values, &full) {
+            return false;
+        }
+        if !self.coded.is_least() {
+            return false;
+        }
+        choose(&full, self.coded.lane_width()) == self.coded.coding()
+    }
+
+    /// Whether two vectors have the same cells, whatever their codings. It takes no memory.
+    pub fn same_cells(&self, other: &CodedVector) -> bool
+        ensures { IsTrue result ↔ (cells_of self.now ≡ cells_of other.now) }
+    {
+        if self.rows != other.rows {
+            return false;
+        }
+        let mut values = [0; 1024];
+        self.coded.decode(&mut values);
+        let mut others = [0; 1024];
+        other.coded.decode(&mut others);
+        let (nulls, other_nulls) = (self.null_rows(), other.null_rows());
+        are_same_cells(self.rows as usize, &nulls, &values, &other_nulls, &others)
+    }
+
+    /// Whether the vector's cells are those of a column of some rows. It takes no memory.
+    pub fn has_cells(&self, rows: &[Row], column: usize) -> bool
+        requires { (n : ℕ) → n < length rows.now → column < length (slice_index_or rows.now n []) }
+        ensures { IsTrue result ↔ (cells_of self.now ≡ column_cells rows.now column) }
+    {
+        if self.rows as usize != rows.len() {
+            return false;
+        }
+        let mut values = [0; 1024];
+        self.coded.decode(&mut values);
+        are_cells_of(&self.null_rows(), &values, rows, column)
+    }
+
+    /// The same rows in another coding: the least form that the coding has of the filled vector. Where memory is refused, an
+    /// `AllocError`.
+    pub fn recoded(&self, alloc: Global, coding: Coding) -> Result<CodedVector, AllocError>
+        ensures value { IfOk result (λ vector. vector ≡ recoded_vector coding self.now) }
+        ensures stands { IfOk result (λ vector. StandsFor vector self.now) }
+    {
+        let mut full = [0; 1024];
+        self.write_filled(&mut full);
+        let coded = Coded::encode(alloc, &full, self.coded.lane_width(), coding)?;
+        let nulls = copied_nulls(alloc, &self.nulls)?;
+        Ok(CodedVector {
+            coded,
+            nulls,
+            rows: self.rows,
+        })
+    }
+
+    /// The same vector in memory of its own. Where memory is refused, an `AllocError`.
+    pub fn copy(&self, alloc: Global) -> Result<CodedVector, AllocError>
+        ensures { IfOk result (λ vector. vector ≡ self.now) }
+    {
+        let nulls = copied_nulls(alloc, &self.nulls)?;
+        let coded = self.coded.copy(alloc)?;
+        Ok(CodedVector {
+            coded,
+            nulls,
+            rows: self.rows,
+        })
+    }
+}
+
+/// The same null mask in memory of its own. Where memory is refused, an `AllocError`.
+fn copied_nulls(
+    alloc: Global,
+    nulls: &Option<Boxed<Mask>>,
+) -> Result<Option<Boxed<Mask>>, AllocError>
+    ensures { IfOk result (λ copied. copied ≡ nulls.now) }
+{
+    match nulls {
+        None => Ok(None),
+        Some(mask) => Ok(Some(Boxed::new(alloc, *mask.get())?)),
+    }
+}
+
+/// Whether a row, 0 to 1023, is null.
+fn is_null(nulls: &Option<Boxed<Mask>>, row: usize) -> bool
+    requires { row < 1024 }
+    ensures { result ≡ is_null nulls.now row }
+{
+    match nulls {
+        None => false,
+        Some(mask) => mask.get().get(row),
+    }
+}
+
+/// The mask where it has a row, or none. Where memory is refused, an `AllocError`.
+fn some_rows(alloc: Global, mask: &Mask) -> Result<Option<Boxed<Mask>>, AllocError>
+    requires { length mask.now ≡ 1024 }
+    ensures { IfOk result (λ made. made ≡ some_rows mask.now) }
+{
+    if mask.next_true(0) == 1024 {
+        return Ok(None);
+    }
+    Ok(Some(Boxed::new(alloc, *mask)?))
+}
+
+/// Whether two vectors of 1024 values are the same, row for row.
+fn same_values(values: &[i64; 1024], others: &[i64; 1024]) -> bool
+    ensures { IsTrue result ↔ (values.now ≡ others.now) }
+{
+    for row in 0..1024 {
+        if values[row] != others[row] {
+            return false;
+        }
+    }
+    true
+}
+
+/// Whether the cells of so many rows, 1024 at most, are the same under two masks of nulls and among two vectors of values.
+fn are_same_cells(
+    rows: usize,
+    nulls: &Mask,
+    values: &[i64; 1024],
+    other_nulls: &Mask,
+    others: &[i64; 1024],
+) -> bool
+    requires { rows ≤ 1024 }
+    ensures { IsTrue result ↔ (cells_under rows nulls.now values.now ≡ cells_under rows other_nulls.now others.now) }
+{
+    for row in 0..rows {
+        let null = nulls.get(row);
+        if !same_cell(null, values[row], other_nulls.get(row), others[row]) {
+            return false;
+        }
+    }
+    true
+}
+
+/// Whether two cells are the same, each null or a value.
+fn same_cell(null: bool, value: i64, other_null: bool, other: i64) -> bool
+    ensures { IsTrue result ↔ (cell_or_null null value ≡ cell_or_null other_null other) }
+{
+    if null || other_null {
+        null && other_null
+    } else {
+        value == other
+    }
+}
+
+/// Whether the cells under a mask of nulls and among values are those of a column of at most 1024 rows.
+fn are_cells_of(nulls: &Mask, values: &[i64; 1024], rows: &[Row], column: usize) -> bool
+    requires limit { length rows.now ≤ 1024 }
+    requires there { (n : ℕ) → n < length rows.now → column < length (slice_index_or rows.now n []) }
+    ensures { IsTrue result ↔ (cells_under (length rows.now) nulls.now values.now ≡ column_cells rows.now column) }
+{
+    for row in 0..rows.len() {
+        if !is_cell(nulls.get(row), values[row], cell_at(&rows[row], column)) {
+            return false;
+        }
+    }
+    true
+}
+
+/// Whether a cell, null or a value, is a row's cell.
+fn is_cell(null: bool, value: i64, cell: Option<i128>) -> bool
+    ensures { IsTrue result ↔ (cell_or_null null value ≡ cell) }
+{
+    match cell {
+        None => null,
+        Some(wanted) => !null && value as i128 == wanted,
+    }
+}

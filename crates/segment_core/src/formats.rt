@@ -1,0 +1,99 @@
+//! Reading the parts of formats from the front of bytes: numbers, values, masks and packed words.
+ghost use Rattle.std.specs.Prelude.{◌≡◌, ℕ, ◌-◌, ◌*◌, ◌/◌, ◌^◌, ◌<◌, ◌≤◌, take, length, FitsSigned, IfOk, OnOk};
+ghost use Rattle.std.specs.List.{All};
+ghost use Rattle.transpose_order.specs.Place.{IsLaneWidth};
+ghost use Rattle.bit_interleave.specs.Arithmetic.{integer_width};
+ghost use Rattle.bit_interleave.specs.PackedWords.{HasWidth};
+ghost use Rattle.bit_interleave.specs.Range.{AreInRange};
+ghost use Rattle.segment_core.specs.Format.{Format, Reads, number, signed, all};
+ghost use Rattle.segment_core.specs.VectorBytes.{words};
+
+use bit_interleave::{Words, wrap};
+use byteorder::{ByteOrder, LittleEndian};
+use std::alloc::Global;
+use table_model::Refusal;
+
+/// The place of the first byte of what is left of an input of `total` bytes.
+pub(crate) fn place_of(total: usize, rest: &[u8]) -> u64
+    ensures { result ≡ total - length rest.now }
+{
+    total.saturating_sub(rest.len()) as u64
+}
+
+/// The number of `size` bytes, 1 to 8, the lowest first, at the front of what is left of an input of `total` bytes, and what
+/// stands after it. `Truncated` where there are fewer bytes.
+pub(crate) fn read_number(total: usize, bytes: &[u8], size: usize) -> Result<(u64, &[u8]), Refusal>
+    requires low { 1 ≤ size }
+    requires high { size ≤ 8 }
+    ensures read { Reads (λ x. (x.0, x.1.now)) result ((number size).read total bytes.now) }
+    ensures fits { IfOk result (λ x. x.0 < 256 ^ size) }
+{
+    if bytes.len() < size {
+        return Err(Refusal::Truncated(total as u64));
+    }
+    let (front, rest) = bytes.split_at(size);
+    Ok((LittleEndian::read_uint(front, size), rest))
+}
+
+/// The value of `lane_width` bits, 8, 16, 32 or 64, at the front of what is left of an input of `total` bytes, and what stands
+/// after it. `Truncated` where there are fewer bytes.
+pub(crate) fn read_value(
+    total: usize,
+    bytes: &[u8],
+    lane_width: usize,
+) -> Result<(i64, &[u8]), Refusal>
+    requires { IsLaneWidth lane_width }
+    ensures read { Reads (λ x. (x.0, x.1.now)) result ((signed lane_width).read total bytes.now) }
+    ensures fits { IfOk result (λ x. FitsSigned (integer_width lane_width) x.0) }
+{
+    let (number, rest) = read_number(total, bytes, lane_width / 8)?;
+    Ok((wrap(lane_width, number), rest))
+}
+
+/// Words of `lane_width` bits, 8, 16, 32 or 64, that pack 1024 values of `width` bits, at most the lane width, at the front of
+/// what is left of an input of `total` bytes, and what stands after them. `Truncated` where there are fewer bytes.
+#[tactic(auto, unfolding(crate::specs::VectorBytes::words))]
+pub(crate) fn read_words(
+    alloc: Global,
+    total: usize,
+    bytes: &[u8],
+    lane_width: usize,
+    width: usize,
+) -> Result<(Words, &[u8]), Refusal>
+    requires lane_width { IsLaneWidth lane_width }
+    requires width { width ≤ lane_width }
+    ensures read { Reads (λ x. (x.0, x.1.now)) result ((words lane_width width).read total bytes.now) }
+    ensures width { IfOk result (λ x. HasWidth x.0 width) }
+    ensures lanes { IfOk result (λ x. x.0.lane_width ≡ lane_width) }
+{
+    let size = 128 * width;
+    if bytes.len() < size {
+        return Err(Refusal::Truncated(total as u64));
+    }
+    let (front, rest) = bytes.split_at(size);
+    Ok((Words::from_le_bytes(alloc, lane_width, front)?, rest))
+}
+
+/// So many values of `lane_width` bits, 8, 16, 32 or 64, at the front of what is left of an input of `total` bytes, and what
+/// stands after them. `Truncated` where there are fewer bytes.
+pub(crate) fn read_values(
+    alloc: Global,
+    total: usize,
+    bytes: &[u8],
+    lane_width: usize,
+    count: usize,
+) -> Result<(Vec<i64>, &[u8]), Refusal>
+    requires { IsLaneWidth lane_width }
+    ensures read { Reads (λ x. (x.0.items, x.1.now)) result ((all count (λ _. signed lane_width)).read total bytes.now) }
+    ensures count { IfOk result (λ x. length x.0.items ≡ count) }
+    ensures fit { IfOk result (λ x. AreInRange lane_width x.0.items) }
+{
+    let mut values = Vec::new(alloc);
+    let mut rest = bytes;
+    for _ in 0..count {
+        let (value, after) = read_value(total, rest, lane_width)?;
+        values.push(value)?;
+        rest = after;
+    }
+    Ok((values, rest))
+}

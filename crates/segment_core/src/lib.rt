@@ -1,0 +1,31 @@
+//! Segments: the rows of a batch, column by column, in coded vectors of up to 1024 values.
+#![tactic(auto)]
+
+mod boxed;
+mod build;
+mod bytes_laws;
+mod choice;
+mod coded;
+mod coded_vector;
+mod coding;
+mod fill;
+mod formats;
+mod segment;
+mod segment_bytes;
+mod segment_writing;
+mod vector_bytes;
+mod vector_writing;
+mod vectors;
+mod writing;
+
+pub use boxed::Boxed;
+pub use bytes_laws::columns_and_bytes_come_back;
+pub use coded::{Coded, least_form_gives_back};
+pub use coded_vector::CodedVector;
+pub use coding::Coding;
+pub use segment::{Segment, forms_tell_rows};
+
+#[cfg(test)]
+mod bytes_tests;
+#[cfg(test)]
+mod tests;

@@ -1,0 +1,59 @@
+//! Writing segments to bytes: for each column, each of its vectors.
+ghost use Rattle.std.specs.Prelude.{◌≡◌, ◌≤◌, length};
+ghost use Rattle.std.specs.List.{All};
+ghost use Rattle.segment_core.specs.Segment.{IsColumn, width_in, widths_in};
+ghost use Rattle.segment_core.specs.Format.{Format, Writes};
+ghost use Rattle.segment_core.specs.SegmentBytes.{column, columns, segment_bytes};
+
+use crate::coded_vector::CodedVector;
+use crate::segment::Segment;
+use crate::vector_writing::write_vector;
+use crate::vectors::Vectors;
+use std::io::Write;
+use table_model::{Counted, Refusal};
+
+/// Writes the vectors of a column of so many rows.
+#[tactic(auto, unfolding(crate::specs::SegmentBytes::column))]
+fn write_column<W: Write>(
+    writer: &mut Counted<W>,
+    vectors: &[CodedVector],
+    rows: usize,
+) -> Result<(), Refusal>
+    requires { IsColumn rows vectors.now }
+    ensures { Writes result (W.contents writer.old.0) (W.contents writer.new.0) writer.old.1 writer.new.1
+        ((column (width_in vectors.now) rows).spell vectors.now) }
+{
+    let _ = rows;
+    for vector in vectors {
+        write_vector(writer, vector)?;
+    }
+    Ok(())
+}
+
+/// Writes the columns of so many rows.
+#[tactic(auto, unfolding(crate::specs::SegmentBytes::columns))]
+fn write_columns<W: Write>(
+    writer: &mut Counted<W>,
+    forms: &[Vectors],
+    rows: usize,
+) -> Result<(), Refusal>
+    requires { All (λ vectors. IsColumn rows vectors) forms.now }
+    ensures { Writes result (W.contents writer.old.0) (W.contents writer.new.0) writer.old.1 writer.new.1
+        ((columns (widths_in forms.now) rows).spell forms.now) }
+{
+    for vectors in forms {
+        write_column(writer, vectors.as_slice(), rows)?;
+    }
+    Ok(())
+}
+
+impl Segment {
+    /// Writes the bytes of the segment's columns, each vector in its present coding. Refused is only a write that fails
+    /// (`WriteFault`); a front of the bytes was written then. It takes no memory.
+    #[tactic(auto, unfolding(crate::specs::SegmentBytes::segment_bytes))]
+    pub fn write_bytes<W: Write>(&self, writer: &mut Counted<W>) -> Result<(), Refusal>
+        ensures { Writes result (W.contents writer.old.0) (W.contents writer.new.0) writer.old.1 writer.new.1 (segment_bytes self.now) }
+    {
+        write_columns(writer, self.column_list(), self.rows())
+    }
+}

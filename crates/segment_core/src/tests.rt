@@ -1,0 +1,193 @@
+//! Segments at values worked out by hand from the definitions of the codings and of the fill.
+use super::*;
+use std::alloc::{AllocError, Global};
+use std::process::Abort;
+use std::test::Fail;
+use table_model::{ColType, Refusal, Row, Schema, check_rows};
+
+/// What a test's column holds.
+#[derive(Clone, Copy)]
+enum Pattern {
+    All(i128),
+    Counting,
+    Alternating(i128, i128),
+    ChangedAt(usize, i128, i128),
+    Nulls,
+    NullAt(usize, i128),
+}
+
+fn cell_of(pattern: Pattern, row: usize) -> Option<i128> {
+    match pattern {
+        Pattern::All(value) => Some(value),
+        Pattern::Counting => Some(row as i128),
+        Pattern::Alternating(even, odd) => Some(if row % 2 == 0 { even } else { odd }),
+        Pattern::ChangedAt(change, before, after) => Some(if row < change {
+            before
+        } else {
+            after
+        }),
+        Pattern::Nulls => None,
+        Pattern::NullAt(null, value) => { if row == null { None } else { Some(value) } }
+    }
+}
+
+fn rows_of(alloc: Global, count: usize, pattern: Pattern) -> Result<Vec<Row>, AllocError> {
+    let mut rows = Vec::with_capacity(alloc, count)?;
+    for row in 0..count {
+        rows.push(Row::from_cells(Vec::from_slice(alloc, &[cell_of(pattern, row)])?))?;
+    }
+    Ok(rows)
+}
+
+/// The segment of a table with one column.
+fn segment_of(alloc: Global, column_type: ColType, rows: &[Row]) -> Result<Segment, Refusal> {
+    let schema = Schema::new(alloc, "T", &[("A", column_type)])?;
+    check_rows(&schema, rows)?;
+    Ok(Segment::build(alloc, &schema, rows)?)
+}
+
+/// The first vector of a segment.
+fn first<'a>(rt: &impl Abort, segment: &'a Segment) -> &'a CodedVector {
+    assert!(rt; segment.columns() > 0);
+    assert!(rt; segment.rows() > 0);
+    segment.vector(0, 0)
+}
+
+/// How many vectors, null rows in the first, the first one's coding, and its payload's bytes.
+type Seen = (usize, usize, Coding, u16);
+
+fn seen(rt: &impl Abort, segment: &Segment) -> Seen {
+    let vector = first(rt, segment);
+    (
+        segment.rows().div_ceil(1024),
+        vector.null_rows().count(),
+        vector.coding(),
+        vector.coded().bytes_len(),
+    )
+}
+
+// 1024 times 7: FOR of width 0 has 2 bytes, and so has DICT, which comes later. 0 to 1023: differences of 1, and 64 bases of 2
+// bytes. Two runs: a mask and two values, and as many bytes in DICT. In turn: two values and a bit a row. Nulls count as the
+// value before them: one null before or after equal values leaves 2 bytes.
+#[test]
+fn each_vector_takes_the_coding_of_fewest_bytes(rt: HostRuntime) -> Result<(), Fail> {
+    let cases = [
+        (1024, Pattern::All(7), (1, 0, Coding::For, 2)),
+        (1024, Pattern::Counting, (1, 0, Coding::Delta, 130)),
+        (
+            1024,
+            Pattern::ChangedAt(500, 0, 32767),
+            (1, 0, Coding::Runs, 132),
+        ),
+        (
+            1024,
+            Pattern::Alternating(0, 32767),
+            (1, 0, Coding::Dict, 132),
+        ),
+        (1024, Pattern::Nulls, (1, 1024, Coding::For, 2)),
+        (1, Pattern::All(-32768), (1, 0, Coding::For, 2)),
+        (3, Pattern::NullAt(0, 5), (1, 1, Coding::For, 2)),
+        (3, Pattern::NullAt(2, 5), (1, 1, Coding::For, 2)),
+        (1025, Pattern::All(0), (2, 0, Coding::For, 2)),
+        (65_536, Pattern::All(0), (64, 0, Coding::For, 2)),
+    ];
+    for (count, pattern, expected) in cases {
+        let rows = rows_of(rt.alloc(), count, pattern)?;
+        let segment = segment_of(rt.alloc(), ColType::SmallInt, &rows)?;
+        assert_eq!(rt; seen(&rt, &segment), expected);
+        assert!(rt; segment.canonical());
+        assert!(rt; segment.has_rows(&rows));
+    }
+    Ok(())
+}
+
+// The filled vector is 1, 1, 3, 3, ..: a run starts at row 2 alone, and the mask and two values of 2 bytes are 132 bytes.
+#[test]
+fn a_null_takes_the_value_before_it(rt: HostRuntime) -> Result<(), Fail> {
+    let mut rows = Vec::new(rt.alloc());
+    for cell in [Some(1), None, Some(3)] {
+        rows.push(Row::from_cells(Vec::from_slice(rt.alloc(), &[cell])?))?;
+    }
+    let segment = segment_of(rt.alloc(), ColType::SmallInt, &rows)?;
+    assert_eq!(rt; seen(&rt, &segment), (1, 1, Coding::Runs, 132));
+    let vector = first(&rt, &segment);
+    assert!(rt; vector.null_rows().get(1));
+    let Coded::Runs(runs) = vector.coded() else {
+        return Err("not runs".into());
+    };
+    assert_eq!(rt; runs.get().values(), [1, 3].as_slice());
+    assert_eq!(rt; runs.get().starts().words()[0], 4);
+    assert_eq!(rt; segment.rows(), 3);
+    assert_eq!(rt; segment.columns(), 1);
+    assert_eq!(rt;
+        (
+            segment.value(0, 0),
+            segment.value(1, 0),
+            segment.value(2, 0)
+        ),
+        (Some(1), None, Some(3))
+    );
+    Ok(())
+}
+
+// FOR of 0 to 1023 has width 10, DELTA width 0 and 64 bases, RLE 1024 runs and DICT 1024 values and width 10.
+#[test]
+fn recoding_changes_the_coding_and_no_row(rt: HostRuntime) -> Result<(), Fail> {
+    let rows = rows_of(rt.alloc(), 1024, Pattern::Counting)?;
+    let mut segment = segment_of(rt.alloc(), ColType::SmallInt, &rows)?;
+    let built = segment.copy(rt.alloc())?;
+    let cases = [
+        (Coding::For, 1282),
+        (Coding::Runs, 2176),
+        (Coding::Dict, 3328),
+        (Coding::Delta, 130),
+    ];
+    for (coding, bytes) in cases {
+        segment.recode(rt.alloc(), 0, 0, coding)?;
+        assert_eq!(rt; seen(&rt, &segment), (1, 0, coding, bytes));
+        assert!(rt; segment.same_rows(&built));
+        assert!(rt; segment.has_rows(&rows));
+        assert_eq!(rt; segment.canonical(), coding == Coding::Delta);
+    }
+    Ok(())
+}
+
+#[test]
+fn there_is_no_vector_past_the_last(rt: HostRuntime) -> Result<(), Fail> {
+    let rows = rows_of(rt.alloc(), 1025, Pattern::All(0))?;
+    let mut segment = segment_of(rt.alloc(), ColType::BigInt, &rows)?;
+    let cases = [
+        (0, 1, Ok(())),
+        (0, 2, Err(Refusal::NoSuchVector)),
+        (1, 0, Err(Refusal::NoSuchVector)),
+    ];
+    for (column, vector, expected) in cases {
+        assert_eq!(rt;
+            segment.recode(rt.alloc(), column, vector, Coding::Dict),
+            expected
+        );
+    }
+    Ok(())
+}
+
+// The second differs in a null, the third in a value of the second vector, the fourth in its length.
+#[test]
+fn segments_are_told_apart_by_their_rows(rt: HostRuntime) -> Result<(), Fail> {
+    let cases = [
+        (1500, Pattern::All(7), true),
+        (1500, Pattern::NullAt(3, 7), false),
+        (1500, Pattern::ChangedAt(1499, 7, 8), false),
+        (1499, Pattern::All(7), false),
+    ];
+    let sevens = rows_of(rt.alloc(), 1500, Pattern::All(7))?;
+    let segment = segment_of(rt.alloc(), ColType::Integer, &sevens)?;
+    for (count, pattern, same) in cases {
+        let rows = rows_of(rt.alloc(), count, pattern)?;
+        assert_eq!(rt;
+            segment.same_rows(&segment_of(rt.alloc(), ColType::Integer, &rows)?),
+            same
+        );
+        assert_eq!(rt; segment.has_rows(&rows), same);
+    }
+    Ok(())
+}

@@ -1,0 +1,132 @@
+//! The vectors of a column, from the first rows on.
+ghost use Rattle.std.specs.Prelude.{◌≡◌, ◌<◌, ◌≤◌, ◌↔◌, ℕ, [], length, slice_set, slice_index_or, IsTrue, IfOk};
+ghost use Rattle.segment_core.specs.Segment.{column_cells, vector_count, AreCanonical, HaveSameCells, HasCellsOf};
+
+use crate::build::rows_in;
+use crate::coded_vector::CodedVector;
+use std::alloc::{AllocError, Global};
+use std::marker::Model;
+use table_model::Row;
+
+/// The vectors of a column, from the first rows on. Contracts see them as that list.
+#[derive(Drop)]
+pub(crate) struct Vectors {
+    vectors: Vec<CodedVector>,
+}
+
+impl Model for Vectors {
+    ghost use Rattle.std.specs.Prelude.{List};
+    ghost use Rattle.segment_core.specs.CodedVector.{VectorForm};
+
+    ghost Value = { List VectorForm };
+
+    ghost view = { λ column. column.vectors.items };
+}
+
+impl Vectors {
+    /// The list of these vectors. It takes no memory.
+    pub fn from_vec(vectors: Vec<CodedVector>) -> Vectors
+        ensures { result ≡ vectors.items }
+    {
+        Vectors { vectors }
+    }
+
+    /// The vectors, from the first rows on.
+    pub fn as_slice(&self) -> &[CodedVector]
+        ensures { result.now ≡ self.now }
+    {
+        self.vectors.as_slice()
+    }
+
+    /// Puts a vector at a place that has one.
+    pub fn put(&mut self, place: usize, vector: CodedVector)
+        requires { place < length self.old }
+        ensures { self.new ≡ slice_set self.old place vector }
+    {
+        self.vectors[place] = vector;
+    }
+
+    /// Whether each vector is the canonical one of its cells. It takes no memory.
+    pub fn are_canonical(&self) -> bool
+        ensures { IsTrue result ↔ AreCanonical self.now }
+    {
+        are_canonical(self.vectors.as_slice())
+    }
+
+    /// Whether two columns have the same cells, vector by vector. It takes no memory.
+    pub fn same_cells(&self, other: &Vectors) -> bool
+        requires { length self.now ≡ length other.now }
+        ensures { IsTrue result ↔ HaveSameCells self.now other.now }
+    {
+        same_cells(self.vectors.as_slice(), other.as_slice())
+    }
+
+    /// Whether the column has the cells of a column of some rows, vector by vector. It takes no memory.
+    pub fn has_cells(&self, rows: &[Row], column: usize) -> bool
+        requires limit { length rows.now ≤ 65536 }
+        requires count { length self.now ≡ vector_count (length rows.now) }
+        requires there { (n : ℕ) → n < length rows.now → column < length (slice_index_or rows.now n []) }
+        ensures { IsTrue result ↔ HasCellsOf self.now (column_cells rows.now column) }
+    {
+        has_cells(self.vectors.as_slice(), rows, column)
+    }
+
+    /// The same vectors in memory of their own. Where memory is refused, an `AllocError`.
+    pub fn copy(&self, alloc: Global) -> Result<Vectors, AllocError>
+        ensures { IfOk result (λ column. column ≡ self.now) }
+    {
+        let vectors = copied_vectors(alloc, self.vectors.as_slice())?;
+        Ok(Vectors { vectors })
+    }
+}
+
+/// The same vectors in memory of their own. Where memory is refused, an `AllocError`.
+fn copied_vectors(alloc: Global, vectors: &[CodedVector]) -> Result<Vec<CodedVector>, AllocError>
+    ensures { IfOk result (λ copied. copied.items ≡ vectors.now) }
+{
+    let mut copied = Vec::with_capacity(alloc, vectors.len())?;
+    for vector in vectors {
+        copied.push(vector.copy(alloc)?)?;
+    }
+    Ok(copied)
+}
+
+/// Whether each vector is the canonical one of its cells.
+fn are_canonical(vectors: &[CodedVector]) -> bool
+    ensures { IsTrue result ↔ AreCanonical vectors.now }
+{
+    for k in 0..vectors.len() {
+        if !vectors[k].is_canonical() {
+            return false;
+        }
+    }
+    true
+}
+
+/// Whether two columns have the same cells, vector by vector.
+fn same_cells(vectors: &[CodedVector], others: &[CodedVector]) -> bool
+    requires { length vectors.now ≡ length others.now }
+    ensures { IsTrue result ↔ HaveSameCells vectors.now others.now }
+{
+    for k in 0..vectors.len() {
+        if !vectors[k].same_cells(&others[k]) {
+            return false;
+        }
+    }
+    true
+}
+
+/// Whether the vectors have the cells of a column of some rows, vector by vector.
+fn has_cells(vectors: &[CodedVector], rows: &[Row], column: usize) -> bool
+    requires limit { length rows.now ≤ 65536 }
+    requires count { length vectors.now ≡ vector_count (length rows.now) }
+    requires there { (n : ℕ) → n < length rows.now → column < length (slice_index_or rows.now n []) }
+    ensures { IsTrue result ↔ HasCellsOf vectors.now (column_cells rows.now column) }
+{
+    for k in 0..vectors.len() {
+        if !vectors[k].has_cells(rows_in(rows, k), column) {
+            return false;
+        }
+    }
+    true
+}
