@@ -1,0 +1,10 @@
+pub mod BoolLemmas
+pub mod PieceLemmas
+pub mod SeenLemmas
+pub mod MarkLemmas
+pub mod RangeLemmas
+pub mod FoldLemmas
+pub mod SumLemmas
+pub mod VectorLemmas
+pub mod CountLemmas
+pub mod ExtremeLemmas

@@ -1,0 +1,9 @@
+-- the greatest so far
+use Rattle.std.proofs.Common.{◌≡◌, ◌-◌, ◌^◌, negsuc}
+use Rattle.std.specs.Int.{int_max}
+use Rattle.bit_interleave.specs.Range.{value_at}
+use Rattle.fused_kernels.specs.Folds.{fold_to}
+use Rattle.fused_kernels.proofs.extremes.greatest_of.Given as goal
+
+abbrev pub invariant-loop-i : goal.invariant-loop-i
+invariant-loop-i l = l.greatest ≡ fold_to int_max (negsuc (2 ^ 63 - 1)) l.i (value_at l.numbers)

@@ -1,0 +1,21 @@
+-- One more number.
+use Rattle.std.proofs.Common.{rules, ◌-◌, ◌^◌, pos, FitsSigned, to_z, sym, ap, ◌∙◌}
+use Rattle.std.specs.Int.{w64, int_min}
+use Rattle.std.proofs.lemmas.Int.{to_z-of_z}
+use Rattle.bit_interleave.specs.Range.{value_at}
+use Rattle.fused_kernels.proofs.FoldLemmas.{fold_to-zero, fold_to-more}
+use Rattle.fused_kernels.proofs.extremes.least_of.Goals as goal
+
+pub loop-i-init : goal.loop-i-init
+loop-i-init c = sym (fold_to-zero int_min (pos (2 ^ 63 - 1)) (value_at c.args.numbers.now))
+
+pub loop-i-preserved : goal.loop-i-preserved
+loop-i-preserved c =
+    let i = c.loop-i.i in
+    let numbers = c.args.numbers.now in
+    let fits : FitsSigned w64 (value_at numbers i) = search rules in
+    let after : FitsSigned w64 c.min-least.result = search rules in
+    to_z-of_z w64 c.min-least.result after ∙ c.min-least.ensures.value
+    ∙ ap (int_min (to_z w64 c.loop-i.least-bits)) (to_z-of_z w64 (value_at numbers i) fits)
+    ∙ ap (λ x. int_min x (value_at numbers i)) c.loop-i.invariant
+    ∙ sym (fold_to-more int_min (pos (2 ^ 63 - 1)) i (value_at numbers))

@@ -1,0 +1,12 @@
+-- the lanes before lane i are taken in, the others are as they were
+use Rattle.std.proofs.Common.{◌≡◌, ◌==◌, ℕ, ◌<◌, ◌≤◌, cond, length, slice_index}
+use Rattle.std.specs.Int.{bit_at, int_min}
+use Rattle.bit_interleave.specs.Range.{value_at}
+use Rattle.fused_kernels.proofs.extremes.lower.Given as goal
+
+abbrev pub invariant-loop-i : goal.invariant-loop-i
+invariant-loop-i l = record {
+  long : length l.leasts ≡ 16;
+  done : (k : ℕ) → k < l.i → value_at l.leasts k ≡ cond (bit_at (slice_index l.words k) l.place == 1) (int_min (value_at l.fn.leasts k) (value_at l.numbers k)) (value_at l.fn.leasts k);
+  rest : (k : ℕ) → l.i ≤ k → value_at l.leasts k ≡ value_at l.fn.leasts k;
+}

@@ -1,0 +1,16 @@
+-- in each lane, the greatest of the rows looked at in the pieces so far
+use Rattle.std.proofs.Common.{◌≡◌, ℕ, ◌+◌, ◌*◌, ◌-◌, ◌^◌, ◌<◌, cond, negsuc, Some, None}
+use Rattle.transpose_order.specs.Place.{place_of}
+use Rattle.transpose_order.specs.Mask.{has}
+use Rattle.table_model.specs.Values.{greater}
+use Rattle.bit_interleave.specs.Range.{value_at}
+use Rattle.fused_kernels.specs.Folds.{fold_to}
+use Rattle.fused_kernels.specs.Seen.{given_of}
+use Rattle.fused_kernels.proofs.ExtremeLemmas.{or_else}
+use Rattle.fused_kernels.proofs.extremes.max.Given as goal
+
+abbrev pub invariant-loop-piece : goal.invariant-loop-piece
+invariant-loop-piece g l = record {
+  seen : g.L.Lanes.seen l.lanes ≡ given_of (g.L.Lanes.seen l.initial.lanes) l.piece;
+  greatests : (i : ℕ) → i < 16 → value_at l.greatests i ≡ or_else (negsuc (2 ^ 63 - 1)) (fold_to greater None l.piece (λ q. cond (has l.rows (64 * i + place_of l.lane_width q)) (Some (value_at (g.L.Lanes.seen l.initial.lanes).values (64 * i + place_of l.lane_width q))) None));
+}

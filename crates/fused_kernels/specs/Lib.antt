@@ -1,0 +1,4 @@
+pub mod Seen
+pub mod Passes
+pub mod Folds
+pub mod VectorSeen
