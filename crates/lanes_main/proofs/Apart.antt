@@ -1,19 +1,20 @@
 -- Two places of a list that is split between them: a write at the one leaves the other.
-use Rattle.std.specs.Prelude.{◌≡◌, ◌≢◌, ◌⊎◌, ℕ, ◌+◌, ◌-◌, ◌<◌, Bool, true, false, cond, ◌==◌, List, [], ◌++◌, length, take, drop, slice_get, slice_set, Option, Some, None, Result, Ok, Err, IsOk}
-use Rattle.std.proofs.Common.{refl, sym, ap, ◌∙◌, arith, inl, inr, get_or}
+use Rattle.std.specs.Prelude.{◌≡◌, ◌≢◌, ◌⊎◌, ℕ, ◌+◌, ◌-◌, ◌<◌, Bool, true, false, cond, ◌==◌, List, [], ◌∷◌, ◌++◌, length, take, drop, slice_get, slice_set, Option, Some, None, Result, Ok, Err, IsOk}
+use Rattle.std.proofs.Common.{refl, sym, ap, subst, ◌∙◌, arith, inl, inr, get_or}
 use Rattle.std.proofs.Math.Seq.{take-append_seam}
 use Rattle.std.proofs.lemmas.Bool.Decides.{nat_tests}
-use Rattle.std.proofs.lemmas.List.{set-get_or, set-append_left, set-append_right, get_or_append_left, get_or-append_right, length-append, drop_all}
+use Rattle.std.proofs.lemmas.List.{set-get_or, set-append_left, set-append_right, get_or_append_left, get_or-append_right, length-append, drop_all, map-set, get_or-map}
 use Rattle.std.proofs.lemmas.Option.{slice_get_read, get_or_from_slice_get}
 use Rattle.table_model.specs.Table.{Table}
 use Rattle.table_model.specs.Outcome.{Acts}
 use Rattle.table_model.specs.declared.refusal.Refusal.{Refusal}
 use Rattle.table_model.specs.declared.refusal.Refusal.TheVariants.{Memory, NoSuchReplica}
 use Rattle.replica_store.specs.Replica.{Replica, merged}
-use Rattle.lanes_main.specs.Cluster.{ClusterParts, place_of, stored, merged_pair, merged_in, merge_reply, merge_places, merge_step}
+use Rattle.replica_store.specs.Segments.{StoreForm}
+use Rattle.lanes_main.specs.Cluster.{ClusterParts, replicas_in, place_of, stored, merged_pair, merged_in, merge_reply, merge_places, merge_step}
 use Rattle.lanes_main.specs.declared.reply.Reply.{Reply}
 use Rattle.lanes_main.specs.declared.reply.Reply.TheVariants.{Done}
-use Rattle.lanes_main.proofs.Placed.{cluster_with}
+use Rattle.lanes_main.proofs.Placed.{cluster_with, length-replicas_in}
 
 abbrev unit : Unit {0} → Unit {0}
 unit u = u
@@ -53,7 +54,7 @@ at_seam front back i r is_len some is =
     slice_get_read (front ++ back) (length (front ++ back)) i r refl (omega (arith, length-append front back)) (is ∙ ap (λ k. get_or back k r) (sym none) ∙ sym (get_or-append_right front back i i r is_len (omega arith)))
 
 -- into the front, from the head of the back
-pub merged_front : (stores front back : List Replica) (place from : ℕ) (r other new : Replica) (result : Result (Unit {0}) Refusal)
+merged_front : (stores front back : List Replica) (place from : ℕ) (r other new : Replica) (result : Result (Unit {0}) Refusal)
     → stores ≡ front ++ back → length front ≡ from → place < from → from < length stores → r ≡ get_or front place r → other ≡ get_or back 0 other
     → Acts unit r result new (merged r other) → Acts unit stores result (slice_set front place new ++ back) (merged_in stores place from)
 merged_front stores front back place from r other new result parts is_len before within held lent acts =
@@ -65,7 +66,7 @@ merged_front stores front back place from r other new result parts is_len before
     acts
 
 -- into the head of the back, from the front
-pub merged_back : (stores front back : List Replica) (place from : ℕ) (r other new : Replica) (result : Result (Unit {0}) Refusal)
+merged_back : (stores front back : List Replica) (place from : ℕ) (r other new : Replica) (result : Result (Unit {0}) Refusal)
     → stores ≡ front ++ back → length front ≡ place → from < place → place < length stores → r ≡ get_or back 0 r → other ≡ get_or front from other
     → Acts unit r result new (merged r other) → Acts unit stores result (front ++ slice_set back 0 new) (merged_in stores place from)
 merged_back stores front back place from r other new result parts is_len before within held lent acts =
@@ -77,8 +78,41 @@ merged_back stores front back place from r other new result parts is_len before 
     (ap (λ k. front ++ slice_set back k new) none ∙ sym (set-append_right front back place place new is_len (omega arith)) ∙ ap (λ s. slice_set s place new) (sym parts))
     acts
 
+pub map-append : (front back : List StoreForm) → replicas_in (front ++ back) ≡ replicas_in front ++ replicas_in back
+map-append [] back = refl
+map-append (s ∷ front) back = ap (λ (rest : List Replica). s.replica ∷ rest) (map-append front back)
+
+replica_at : (stores : List StoreForm) (i : ℕ) (s : StoreForm) → i < length stores → s ≡ get_or stores i s → s.replica ≡ get_or (replicas_in stores) i s.replica
+replica_at stores i s below is = ap (λ (x : StoreForm). x.replica) is ∙ sym (get_or-map (λ (x : StoreForm). x.replica) stores i s s.replica below)
+
+-- into the front, from the head of the back
+pub stored_front : (stores front back : List StoreForm) (place from : ℕ) (s other new : StoreForm) (result : Result (Unit {0}) Refusal)
+    → stores ≡ front ++ back → length front ≡ from → place < from → from < length stores → s ≡ get_or front place s → other ≡ get_or back 0 other
+    → Acts unit s.replica result new.replica (merged s.replica other.replica) → Acts unit (replicas_in stores) result (replicas_in (slice_set front place new ++ back)) (merged_in (replicas_in stores) place from)
+stored_front stores front back place from s other new result parts is_len before within held lent acts =
+    let lengths : length stores ≡ length front + length back = ap length parts ∙ length-append front back in
+    let made : slice_set (replicas_in front) place new.replica ++ replicas_in back ≡ replicas_in (slice_set front place new ++ back) =
+    ap (λ (rs : List Replica). rs ++ replicas_in back) (sym (map-set (λ (x : StoreForm). x.replica) front place new)) ∙ sym (map-append (slice_set front place new) back) in
+    subst (λ (rs : List Replica). Acts unit (replicas_in stores) result rs (merged_in (replicas_in stores) place from)) made
+    (merged_front (replicas_in stores) (replicas_in front) (replicas_in back) place from s.replica other.replica new.replica result
+    (ap replicas_in parts ∙ map-append front back) (length-replicas_in front ∙ is_len) before (omega (arith, within, length-replicas_in stores))
+    (replica_at front place s (omega arith) held) (replica_at back 0 other (omega arith) lent) acts)
+
+-- into the head of the back, from the front
+pub stored_back : (stores front back : List StoreForm) (place from : ℕ) (s other new : StoreForm) (result : Result (Unit {0}) Refusal)
+    → stores ≡ front ++ back → length front ≡ place → from < place → place < length stores → s ≡ get_or back 0 s → other ≡ get_or front from other
+    → Acts unit s.replica result new.replica (merged s.replica other.replica) → Acts unit (replicas_in stores) result (replicas_in (front ++ slice_set back 0 new)) (merged_in (replicas_in stores) place from)
+stored_back stores front back place from s other new result parts is_len before within held lent acts =
+    let lengths : length stores ≡ length front + length back = ap length parts ∙ length-append front back in
+    let made : replicas_in front ++ slice_set (replicas_in back) 0 new.replica ≡ replicas_in (front ++ slice_set back 0 new) =
+    ap (λ (rs : List Replica). replicas_in front ++ rs) (sym (map-set (λ (x : StoreForm). x.replica) back 0 new)) ∙ sym (map-append front (slice_set back 0 new)) in
+    subst (λ (rs : List Replica). Acts unit (replicas_in stores) result rs (merged_in (replicas_in stores) place from)) made
+    (merged_back (replicas_in stores) (replicas_in front) (replicas_in back) place from s.replica other.replica new.replica result
+    (ap replicas_in parts ∙ map-append front back) (length-replicas_in front ∙ is_len) before (omega (arith, within, length-replicas_in stores))
+    (replica_at back 0 s (omega arith) held) (replica_at front from other (omega arith) lent) acts)
+
 -- a list that is written over one of the same length
-refill : (n : ℕ) (xs ws : List Replica) → n ≡ length xs → length ws ≡ length xs → take n (ws ++ drop (length ws) xs) ≡ ws
+refill : (n : ℕ) (xs ws : List StoreForm) → n ≡ length xs → length ws ≡ length xs → take n (ws ++ drop (length ws) xs) ≡ ws
 refill n xs ws is same =
     (λ i. take ((is ∙ sym same) i) (ws ++ drop_all (length ws) xs (omega arith) i)) ∙ take-append_seam ws []
 
@@ -107,31 +141,32 @@ merge_reply_ok : (c : ClusterParts) (made : Result (Unit {0} × List Replica) Re
 merge_reply_ok c (Ok done) ok = ok
 merge_reply_ok c (Err e) ok = ok
 
-pub merge_done : (c : ClusterParts) (schema : Table) (stores slice new : List Replica) (n replica other at from : ℕ) (u : Unit {0})
+pub merge_done : (c : ClusterParts) (schema : Table) (stores slice new : List StoreForm) (n replica other at from : ℕ) (u : Unit {0})
     → cluster_with schema stores ≡ c → slice ≡ stores → n ≡ length stores → length new ≡ length slice
-    → Some at ≡ place_of (length c.stores) replica → Some from ≡ place_of (length c.stores) other → at ≢ from → merged_in slice at from ≡ Ok (u, new)
+    → Some at ≡ place_of (length c.stores) replica → Some from ≡ place_of (length c.stores) other → at ≢ from → merged_in (replicas_in slice) at from ≡ Ok (u, replicas_in new)
     → merge_step c replica other ≡ Ok (Done, cluster_with schema (take n (new ++ drop (length new) stores)))
 merge_done c schema stores slice new n replica other at from u view is_slice is_len same_len is is_from apart made =
     merge_others c replica other at from is is_from apart
     ∙ (λ i. merge_reply c (merged_in (ap (λ (d : ClusterParts). d.stores) (sym view) i) at from))
-    ∙ ap (λ (s : List Replica). merge_reply c (merged_in s at from)) (sym is_slice)
+    ∙ ap (λ (s : List StoreForm). merge_reply c (merged_in (replicas_in s) at from)) (sym is_slice)
     ∙ ap (merge_reply c) made
     ∙ ap (λ (d : ClusterParts). let made : Result (Reply × ClusterParts) Refusal = Ok (Done, cluster_with d.schema new) in made) (sym view)
-    ∙ ap (λ (s : List Replica). let made : Result (Reply × ClusterParts) Refusal = Ok (Done, cluster_with schema s) in made) (sym (refill n stores new is_len (same_len ∙ ap length is_slice)))
+    ∙ ap (λ (s : List StoreForm). let made : Result (Reply × ClusterParts) Refusal = Ok (Done, cluster_with schema s) in made) (sym (refill n stores new is_len (same_len ∙ ap length is_slice)))
 
-pub merge_refused : (c : ClusterParts) (schema : Table) (stores slice new : List Replica) (n replica other at from : ℕ) (e : Refusal)
-    → cluster_with schema stores ≡ c → slice ≡ stores → n ≡ length stores
+pub merge_refused : (c : ClusterParts) (schema : Table) (stores slice new : List StoreForm) (n replica other at from : ℕ) (e : Refusal)
+    → cluster_with schema stores ≡ c → slice ≡ stores → n ≡ length stores → length new ≡ length slice
     → Some at ≡ place_of (length c.stores) replica → Some from ≡ place_of (length c.stores) other → at ≢ from
-    → (new ≡ slice) × ((merged_in slice at from ≡ Err e) ⊎ ((e ≡ Memory) × IsOk (merged_in slice at from)))
+    → (replicas_in new ≡ replicas_in slice) × ((merged_in (replicas_in slice) at from ≡ Err e) ⊎ ((e ≡ Memory) × IsOk (merged_in (replicas_in slice) at from)))
     → (cluster_with schema (take n (new ++ drop (length new) stores)) ≡ c) × ((merge_step c replica other ≡ Err e) ⊎ ((e ≡ Memory) × IsOk (merge_step c replica other)))
-merge_refused c schema stores slice new n replica other at from e view is_slice is_len is is_from apart acts =
-    let step : merge_step c replica other ≡ merge_reply c (merged_in slice at from) =
+merge_refused c schema stores slice new n replica other at from e view is_slice is_len same_len is is_from apart acts =
+    let step : merge_step c replica other ≡ merge_reply c (merged_in (replicas_in slice) at from) =
     merge_others c replica other at from is is_from apart
     ∙ (λ i. merge_reply c (merged_in (ap (λ (d : ClusterParts). d.stores) (sym view) i) at from))
-    ∙ ap (λ (s : List Replica). merge_reply c (merged_in s at from)) (sym is_slice) in (
-      ap (cluster_with schema) (refill n stores new is_len (ap length (acts.0 ∙ is_slice)) ∙ acts.0 ∙ is_slice) ∙ view,
+    ∙ ap (λ (s : List StoreForm). merge_reply c (merged_in (replicas_in s) at from)) (sym is_slice) in (
+      ap (cluster_with schema) (refill n stores new is_len (same_len ∙ ap length is_slice))
+          ∙ ap (λ (rs : List Replica). let made : ClusterParts = record { schema = schema; stores = rs } in made) (acts.0 ∙ ap replicas_in is_slice) ∙ view,
       elim acts.1 [
         | inl refused ↦ inl (step ∙ ap (merge_reply c) refused)
-        | inr lack ↦ inr (lack.0, rw step (merge_reply_ok c (merged_in slice at from) lack.1))
+        | inr lack ↦ inr (lack.0, rw step (merge_reply_ok c (merged_in (replicas_in slice) at from) lack.1))
       ],
     )

@@ -1,11 +1,11 @@
 -- A chunk is answered line by line: its lines come between line feeds, and a line past the limit is too long however long it is.
-use Rattle.std.specs.Prelude.{◌≡◌, ◌⊎◌, ℕ, ◌+◌, ◌-◌, ◌<◌, ◌≤◌, Bool, true, false, cond, ◌==◌, nat_lt, List, [], ◌∷◌, ◌++◌, length, take, drop, Option, Some, None, option_map, position}
+use Rattle.std.specs.Prelude.{◌≡◌, ◌⊎◌, ℕ, zero, suc, replicate, ◌+◌, ◌-◌, ◌<◌, ◌≤◌, Bool, true, false, cond, ◌==◌, nat_lt, List, [], ◌∷◌, ◌++◌, length, take, drop, Option, Some, None, option_map, position}
 use Rattle.std.specs.List.{position_or_len}
 use Rattle.std.proofs.Common.{refl, sym, ap, ◌∙◌, arith, inl, inr, append_assoc}
 use Rattle.std.proofs.lemmas.Bool.Decides.{nat_tests}
 use Rattle.std.proofs.lemmas.Bool.{cases_lt}
 use Rattle.std.proofs.lemmas.Option.{some_pair_parts}
-use Rattle.std.proofs.lemmas.List.{take_all, length-append, append-nil}
+use Rattle.std.proofs.lemmas.List.{take_all, length-append, length-replicate, append-nil}
 use Rattle.std.proofs.Math.ListN.{length-take}
 use Rattle.table_model.specs.declared.refusal.Refusal.TheVariants.{LineTooLong}
 use Rattle.lanes_main.specs.Cluster.{ClusterParts}
@@ -85,13 +85,13 @@ cut_more (b ∷ bs) rest piece after e =
           let both = some_pair_parts piece (b ∷ parts.0) after parts.1 h in
           ap (option_map (longer b)) (more parts.0 parts.1 (sym is)) ∙ (λ i. let ps : List ℕ × List ℕ = (sym both.0 i, sym both.1 i ++ rest) in Some ps)
 
-first_line : (bs : List ℕ) → (p : List ℕ) × (ps : List (List ℕ)) × (pieces 10 bs ≡ p ∷ ps)
+pub first_line : (bs : List ℕ) → (p : List ℕ) × (ps : List (List ℕ)) × (pieces 10 bs ≡ p ∷ ps)
 first_line bs = shape (cut 10 bs) (pieces_cut 10 bs) where
   shape : (o : Option (List ℕ × List ℕ)) → pieces 10 bs ≡ pieces_at 10 bs o → (p : List ℕ) × (ps : List (List ℕ)) × (pieces 10 bs ≡ p ∷ ps)
   shape None e = (bs, [], e)
   shape (Some parts) e = (parts.0, pieces 10 parts.1, e)
 
-onto_nothing : (bs : List ℕ) → onto_line [] (pieces 10 bs) ≡ pieces 10 bs
+pub onto_nothing : (bs : List ℕ) → onto_line [] (pieces 10 bs) ≡ pieces 10 bs
 onto_nothing bs = let p = first_line bs in ap (onto_line []) p.2 ∙ sym p.2
 
 -- what there is to come at the start of a script is its text
@@ -152,3 +152,17 @@ pub fed_part : (out : List ℕ) (cluster : Option ClusterParts) (part left rest 
     → out ++ text_from cluster part (left ++ more) ≡ out ++ text_from cluster rest more
 fed_part out cluster part left rest none kept more =
     ap (λ (t : List ℕ). out ++ t) (text_part cluster part left more none) ∙ ap (λ (p : List ℕ). out ++ text_from cluster p more) (sym kept)
+
+pieces_none : (n : ℕ) → pieces 10 (replicate n 120) ≡ replicate n 120 ∷ []
+pieces_none zero = refl
+pieces_none (suc n) = ap (onto_first 120) (pieces_none n)
+
+-- a line past the limit is refused, whatever came before it
+pub long_from : (cluster : Option ClusterParts) (part : List ℕ) (n : ℕ) → line_limit < n → text_from cluster part (replicate n 120) ≡ reply_text_of (Refused LineTooLong)
+unfolding text_from
+long_from cluster part n past =
+    let line : List ℕ = part ++ replicate n 120 in
+    let long : Long line = omega (arith, length-append part (replicate n 120), length-replicate {A = ℕ} n 120) in
+    ap (λ (ps : List (List ℕ)). lines_text cluster (onto_line part ps)) (pieces_none n)
+    ∙ append-nil (line_text cluster line)
+    ∙ (long_text cluster line long).0

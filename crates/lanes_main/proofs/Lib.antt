@@ -8,6 +8,9 @@ pub mod Placed
 pub mod Printable
 pub mod RowLaws
 pub mod Runs
+pub mod ScriptRuns
+pub mod Spellings
 pub mod Tellings
 pub mod Histories
 pub mod Takes
+pub mod WholeLines

@@ -1,13 +1,14 @@
 -- What a call makes of one replica, it makes of the cluster at that replica's place.
-use Rattle.std.specs.Prelude.{◌≡◌, ◌⊎◌, ℕ, zero, suc, ◌+◌, ◌<◌, List, [], ◌∷◌, ◌++◌, length, slice_get, slice_set, Some, None, Result, Ok, Err, IsOk}
+use Rattle.std.specs.Prelude.{◌≡◌, ◌⊎◌, ℕ, zero, suc, ◌+◌, ◌<◌, List, [], ◌∷◌, ◌++◌, length, slice_get, slice_set, Some, None, option_map, Result, Ok, Err, IsOk}
 use Rattle.std.proofs.Common.{refl, sym, ap, ◌∙◌, arith, inl, inr, add-one, get_or, subst}
-use Rattle.std.proofs.lemmas.List.{set-get_or}
-use Rattle.std.proofs.lemmas.Option.{slice_get_read}
+use Rattle.std.proofs.lemmas.List.{set-get_or, map-set}
+use Rattle.std.proofs.lemmas.Option.{slice_get_read, slice_get-map}
 use Rattle.table_model.specs.Table.{Table}
 use Rattle.table_model.specs.declared.refusal.Refusal.{Refusal}
 use Rattle.table_model.specs.declared.refusal.Refusal.TheVariants.{Memory, NoSuchReplica}
 use Rattle.replica_store.specs.Replica.{Replica}
-use Rattle.lanes_main.specs.Cluster.{ClusterParts, empty_replica, new_replicas, with_store, placed, held_at, at_place, place_of, at_replica}
+use Rattle.replica_store.specs.Segments.{StoreForm}
+use Rattle.lanes_main.specs.Cluster.{ClusterParts, replicas_in, empty_replica, new_replicas, with_store, placed, held_at, at_place, place_of, at_replica}
 use Rattle.lanes_main.specs.declared.reply.Reply.{Reply}
 
 -- one more new replica stands at the end
@@ -45,31 +46,37 @@ acts_refused reply c replica at call r e is held (inl refused) = inl (at_found r
 acts_refused {X = X} reply c replica at call r e is held (inr lack) =
     inr (lack.0, rw (at_found reply c replica at call r is held) (placed_ok reply c at (call r) lack.1))
 
-found : (stores : List Replica) (at : ℕ) (r : Replica) → at < length stores → r ≡ get_or stores at r → slice_get stores at ≡ Some r
-found stores at r below is = slice_get_read stores (length stores) at r refl below is
+found : (stores : List StoreForm) (at : ℕ) (s : StoreForm) → at < length stores → s ≡ get_or stores at s → slice_get (replicas_in stores) at ≡ Some s.replica
+found stores at s below is = slice_get-map (λ (x : StoreForm). x.replica) stores at ∙ ap (option_map (λ (x : StoreForm). x.replica)) (slice_get_read stores (length stores) at s refl below is)
+
+-- as many replicas as stores
+pub length-replicas_in : (stores : List StoreForm) → length (replicas_in stores) ≡ length stores
+length-replicas_in [] = refl
+length-replicas_in (s ∷ stores) = ap suc (length-replicas_in stores)
 
 -- the cluster of these parts
-abbrev pub cluster_with : Table → List Replica → ClusterParts
-cluster_with schema stores = record { schema = schema; stores = stores }
+abbrev pub cluster_with : Table → List StoreForm → ClusterParts
+cluster_with schema stores = record { schema = schema; stores = replicas_in stores }
 
 -- an answered call, seen in a cluster of known parts
-pub call_done : {X : Type 0} (reply : X → Reply) (c : ClusterParts) (schema : Table) (stores : List Replica) (replica at : ℕ) (call : Replica → Result (X × Replica) Refusal) (r new : Replica) (x : X)
-    → cluster_with schema stores ≡ c → Some at ≡ place_of (length c.stores) replica → at < length c.stores → r ≡ get_or stores at r → call r ≡ Ok (x, new)
+pub call_done : {X : Type 0} (reply : X → Reply) (c : ClusterParts) (schema : Table) (stores : List StoreForm) (replica at : ℕ) (call : Replica → Result (X × Replica) Refusal) (s new : StoreForm) (x : X)
+    → cluster_with schema stores ≡ c → Some at ≡ place_of (length c.stores) replica → at < length c.stores → s ≡ get_or stores at s → call s.replica ≡ Ok (x, new.replica)
     → at_replica reply c replica call ≡ Ok (reply x, cluster_with schema (slice_set stores at new))
-call_done {X = X} reply c schema stores replica at call r new x view is below held done =
+call_done {X = X} reply c schema stores replica at call s new x view is below held done =
     let Q : ClusterParts → Type 0 = λ c. Some at ≡ place_of (length c.stores) replica → at < length c.stores → at_replica reply c replica call ≡ Ok (reply x, cluster_with schema (slice_set stores at new)) in
-    subst Q view (λ is below. acts_done reply (cluster_with schema stores) replica at call r new x is (found stores at r below held) done) is below
+    subst Q view (λ is below. acts_done reply (cluster_with schema stores) replica at call s.replica new.replica x is (found stores at s (omega (arith, below, length-replicas_in stores)) held) done
+    ∙ ap (λ (rs : List Replica). let made : Result (Reply × ClusterParts) Refusal = Ok (reply x, record { schema = schema; stores = rs }) in made) (sym (map-set (λ (y : StoreForm). y.replica) stores at new))) is below
 
-same_store : (stores : List Replica) (at : ℕ) (r new : Replica) → r ≡ get_or stores at r → new ≡ r → slice_set stores at new ≡ stores
-same_store stores at r new held same = ap (slice_set stores at) (same ∙ held) ∙ set-get_or stores at r
+same_store : (stores : List StoreForm) (at : ℕ) (s new : StoreForm) → s ≡ get_or stores at s → new ≡ s → slice_set stores at new ≡ stores
+same_store stores at s new held same = ap (slice_set stores at) (same ∙ held) ∙ set-get_or stores at s
 
 -- a refused call leaves the cluster
-pub call_refused : {X : Type 0} (reply : X → Reply) (c : ClusterParts) (schema : Table) (stores : List Replica) (replica at : ℕ) (call : Replica → Result (X × Replica) Refusal) (r new : Replica) (e : Refusal)
-    → cluster_with schema stores ≡ c → Some at ≡ place_of (length c.stores) replica → at < length c.stores → r ≡ get_or stores at r
-    → (new ≡ r) × ((call r ≡ Err e) ⊎ ((e ≡ Memory) × IsOk (call r)))
+pub call_refused : {X : Type 0} (reply : X → Reply) (c : ClusterParts) (schema : Table) (stores : List StoreForm) (replica at : ℕ) (call : Replica → Result (X × Replica) Refusal) (s new : StoreForm) (e : Refusal)
+    → cluster_with schema stores ≡ c → Some at ≡ place_of (length c.stores) replica → at < length c.stores → s ≡ get_or stores at s
+    → new ≡ s → (new.replica ≡ s.replica) × ((call s.replica ≡ Err e) ⊎ ((e ≡ Memory) × IsOk (call s.replica)))
     → (cluster_with schema (slice_set stores at new) ≡ c) × ((at_replica reply c replica call ≡ Err e) ⊎ ((e ≡ Memory) × IsOk (at_replica reply c replica call)))
-call_refused {X = X} reply c schema stores replica at call r new e view is below held acts =
+call_refused {X = X} reply c schema stores replica at call s new e view is below held same acts =
     let Q : ClusterParts → Type 0 = λ c. Some at ≡ place_of (length c.stores) replica → at < length c.stores → (at_replica reply c replica call ≡ Err e) ⊎ ((e ≡ Memory) × IsOk (at_replica reply c replica call)) in (
-      ap (cluster_with schema) (same_store stores at r new held acts.0) ∙ view,
-      subst Q view (λ is below. acts_refused reply (cluster_with schema stores) replica at call r e is (found stores at r below held) acts.1) is below,
+      ap (cluster_with schema) (same_store stores at s new held same) ∙ view,
+      subst Q view (λ is below. acts_refused reply (cluster_with schema stores) replica at call s.replica e is (found stores at s (omega (arith, below, length-replicas_in stores)) held) acts.1) is below,
     )

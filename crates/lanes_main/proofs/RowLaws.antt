@@ -42,7 +42,7 @@ pub cells_all_bad : (xs : Cells) (rest : List ℕ) → None ≡ cut 44 rest → 
 cells_all_bad xs rest at is = ap (after_all xs) (cells_last rest at) ∙ each_bad xs rest [] is
 
 -- a row before what the rows after it are
-abbrev row_before : Option Cells → Option Batch → Option Batch
+abbrev pub row_before : Option Cells → Option Batch → Option Batch
 row_before o rows = o >>= (λ row. option_map (λ rs. row ∷ rs) rows)
 
 -- there is always a first piece
@@ -52,7 +52,7 @@ first_piece c text = shape (cut c text) (pieces_cut c text) where
   shape None e = (text, [], e)
   shape (Some parts) e = (parts.0, pieces c parts.1, e)
 
-rows_first : (rest row after : List ℕ) → Some (row, after) ≡ cut 41 rest → rows_of rest ≡ row_before (opened_cells row) (rows_from (pieces 41 after))
+pub rows_first : (rest row after : List ℕ) → Some (row, after) ≡ cut 41 rest → rows_of rest ≡ row_before (opened_cells row) (rows_from (pieces 41 after))
 rows_first rest row after at =
     let next = first_piece 41 after in
     ap (λ (ps : List (List ℕ)). rows_from (onto_first 44 ps)) (pieces_cut 41 rest ∙ ap (pieces_at 41 rest) (sym at))
@@ -63,7 +63,7 @@ pub rows_none : (rest : List ℕ) → None ≡ cut 41 rest → rows_of rest ≡ 
 rows_none rest at = ap (λ (ps : List (List ℕ)). rows_from (onto_first 44 ps)) (pieces_cut 41 rest ∙ ap (pieces_at 41 rest) (sym at))
 
 -- after a comma come rows
-rows_comma : (after next : List ℕ) → Some next ≡ without 44 after → rows_from (pieces 41 after) ≡ rows_of next
+pub rows_comma : (after next : List ℕ) → Some next ≡ without 44 after → rows_from (pieces 41 after) ≡ rows_of next
 rows_comma [] next e = cc
 rows_comma (c ∷ cs) next e =
     elim (c == 44) as (λ t. (c == 44) ≡ t → Some next ≡ cond t (Some cs) None → rows_from (pieces 41 (c ∷ cs)) ≡ rows_of next) [
@@ -71,7 +71,7 @@ rows_comma (c ∷ cs) next e =
       | false ↦ λ t is. cc
     ] refl e
 
-rows_no_comma : (c : ℕ) (cs : List ℕ) → None ≡ without 44 (c ∷ cs) → rows_from (pieces 41 (c ∷ cs)) ≡ None
+pub rows_no_comma : (c : ℕ) (cs : List ℕ) → None ≡ without 44 (c ∷ cs) → rows_from (pieces 41 (c ∷ cs)) ≡ None
 rows_no_comma c cs e =
     let next = first_piece 41 cs in
     elim (c == 41) as (λ t. rows_from (cond t ([] ∷ pieces 41 cs) (onto_first c (pieces 41 cs))) ≡ None) [

@@ -1,16 +1,20 @@
 -- What was told so far, told further by each chunk that is read, answered and written.
-use Rattle.std.specs.Prelude.{◌≡◌, ◌≢◌, ℕ, ◌+◌, ◌<◌, ◌≤◌, Bool, false, cond, ◌&&◌, ◌==◌, not, List, [], ◌++◌, length, Option, Some, None}
+use Rattle.std.specs.Prelude.{◌≡◌, ◌≢◌, ℕ, ◌+◌, ◌<◌, ◌≤◌, Bool, false, cond, ◌&&◌, ◌==◌, not, List, [], ◌++◌, length, replicate, Option, Some, None}
 use Rattle.std.specs.Io.KnownBytes.{Appends, Consumes, Keeps, IsAtEnd}
 use Rattle.std.proofs.Common.{refl, sym, ap, ◌∙◌, arith, append_assoc, subst, inl, inr}
-use Rattle.std.proofs.lemmas.List.{length-append, append-nil}
+use Rattle.std.proofs.lemmas.List.{length-append, append-nil, append_cancel_right}
 use Rattle.std.proofs.lemmas.Bool.Decides.{nat_tests}
 use Rattle.table_model.specs.Counted.{one_more}
 use Rattle.lanes_main.specs.Cluster.{ClusterParts}
-use Rattle.lanes_main.specs.Script.{script_text, text_from}
+use Rattle.lanes_main.specs.ReplyText.{reply_text_of}
+use Rattle.lanes_main.specs.Script.{line_limit, lines_text, after_lines, whole_lines, script_text, text_from}
+use Rattle.lanes_main.specs.Word.{pieces}
+use Rattle.lanes_main.specs.declared.reply.Reply.TheVariants.{Refused}
 use Rattle.table_model.specs.declared.refusal.Refusal.{Refusal}
-use Rattle.table_model.specs.declared.refusal.Refusal.TheVariants.{Memory, ReadFault, WriteFault}
-use Rattle.lanes_main.specs.Told.{Sofar, AppendsFront, ToldFront, ToldAll, GaveMore, IsWithin, GoesOn, EndsEarly, Failed, read_limit}
-use Rattle.lanes_main.proofs.Feeds.{script_start}
+use Rattle.table_model.specs.declared.refusal.Refusal.TheVariants.{Memory, ReadFault, WriteFault, LineTooLong}
+use Rattle.lanes_main.specs.Told.{Sofar, AppendsFront, ToldFront, ToldAll, GaveMore, IsWithin, GoesOn, EndsEarly, Reached, Failed, read_limit}
+use Rattle.lanes_main.proofs.Feeds.{script_start, long_from}
+use Rattle.lanes_main.proofs.WholeLines.{last_line, text_whole}
 
 -- nothing was written
 pub appends_none : (known : Option (List ℕ)) → Appends known known []
@@ -160,3 +164,19 @@ pub took_some : (taken n : ℕ) (piece : List ℕ) → taken ≢ 0 → cond (tak
 took_some taken n piece some =
     let test : (taken == 0) ≡ false = grind (arith, nat_tests) in
     ap (λ (t : Bool). cond (t && not (length piece == 0)) (one_more n) n) test
+
+-- whatever session it was read into, what was told is the replies to the whole lines: a line past the limit that follows is refused by all alike
+pinned : (read done : List ℕ) (cluster : Option ClusterParts) (part : List ℕ) (n : ℕ) → line_limit < n
+    → script_text (read ++ replicate n 120) ≡ done ++ text_from cluster part (replicate n 120) → done ≡ lines_text None (whole_lines read)
+pinned read done cluster part n past told =
+    let refusal : List ℕ = reply_text_of (Refused LineTooLong) in
+    append_cancel_right done (lines_text None (whole_lines read)) refusal
+    (sym (ap (λ (t : List ℕ). done ++ t) (long_from cluster part n past)) ∙ sym told ∙ text_whole read (replicate n 120)
+    ∙ ap (λ (t : List ℕ). lines_text None (whole_lines read) ++ t) (long_from (after_lines None (whole_lines read)) (last_line (pieces 10 read)) n past))
+
+pub told_reached : (input rest before now : Option (List ℕ)) (cluster : Option ClusterParts) (part : List ℕ) (total : ℕ) → Sofar input rest before now cluster part total → Reached input rest before now
+told_reached None rest before now cluster part total h = tt
+told_reached (Some xs) None before now cluster part total h = absurd h
+told_reached (Some xs) (Some ys) before now cluster part total h =
+    let P : List ℕ → Type 0 = λ t. Appends before now t in
+    (h.0, h.2, subst P (pinned h.0 h.1 cluster part (line_limit + 1) (omega arith) (h.5 (replicate (line_limit + 1) 120))) h.4)

@@ -1,5 +1,5 @@
 -- Clusters: a table at replicas that are numbered from 1, and what each step makes of one.
-use Rattle.std.specs.Prelude.{ℕ, zero, suc, ◌+◌, ◌-◌, cond, ◌&&◌, ◌==◌, nat_le, List, [], ◌∷◌, ◌++◌, length, codes, slice_get, slice_set, Option, Some, None, Result, Ok, Err, pos, refl}
+use Rattle.std.specs.Prelude.{ℕ, zero, suc, ◌+◌, ◌-◌, cond, ◌&&◌, ◌==◌, nat_le, List, [], ◌∷◌, ◌++◌, length, codes, map, slice_get, slice_set, Option, Some, None, Result, Ok, Err, pos, refl}
 use Rattle.std.specs.Coded.{Coded, code_by, coded×, coded_list}
 use Rattle.std.specs.Str.{bytes_eq}
 use Rattle.table_model.specs.Answer.{AnswerParts}
@@ -10,11 +10,12 @@ use Rattle.table_model.specs.declared.names.BatchName.{BatchName}
 use Rattle.table_model.specs.declared.names.RowName.{RowName}
 use Rattle.table_model.specs.declared.refusal.Refusal.{Refusal}
 use Rattle.table_model.specs.declared.refusal.Refusal.TheVariants.{NoSuchReplica, BadLine}
-use Rattle.replica_store.specs.Replica.{Replica, coded_replica, appended, inserted, deleted_rows, merged, live_count}
+use Rattle.replica_store.specs.Replica.{Replica, coded_replica, appended, inserted, deleted_rows, merged, recoded_rows, live_count}
+use Rattle.replica_store.specs.Segments.{StoreForm}
 use Rattle.lanes_main.specs.declared.reply.Reply.{Reply}
 use Rattle.lanes_main.specs.declared.reply.Reply.TheVariants.{Done, Named, Put, Answered}
 use Rattle.lanes_main.specs.declared.step.Step.{Step}
-use Rattle.lanes_main.specs.declared.step.Step.TheVariants.{Append, Insert, Delete, Merge, Query}
+use Rattle.lanes_main.specs.declared.step.Step.TheVariants.{Append, Insert, Delete, Merge, Recode, Query}
 
 -- a table's schema and its replicas, the first of them number 1
 pub record ClusterParts : Type 0 where
@@ -24,6 +25,10 @@ pub record ClusterParts : Type 0 where
 -- a cluster by its parts
 abbrev pub coded_cluster : Coded ClusterParts
 coded_cluster = code_by (Table × List Replica) (coded× coded_table (coded_list coded_replica)) (λ c. (c.schema, c.stores)) (λ p. record { schema = p.0; stores = p.1 }) (λ _. refl)
+
+-- the replicas that stores are
+abbrev pub replicas_in : List StoreForm → List Replica
+replicas_in stores = map (λ s. s.replica) stores
 
 -- a replica with nothing in it
 abbrev pub empty_replica : Table → ℕ → Replica
@@ -78,6 +83,10 @@ insert_step c replica name rows = at_replica Put c replica (λ r. inserted r nam
 unfoldable pub delete_step : ClusterParts → ℕ → RowName → ℕ → Result (Reply × ClusterParts) Refusal
 delete_step c replica first last = at_replica done_reply c replica (λ r. deleted_rows r first last)
 
+-- to put a vector of a batch at a replica into another coding leaves the replica
+unfoldable pub recode_step : ClusterParts → ℕ → BatchName → ℕ → ℕ → Result (Reply × ClusterParts) Refusal
+recode_step c replica name column vector = at_replica done_reply c replica (λ r. recoded_rows r name column vector)
+
 -- the replicas after a call of the one at a place
 abbrev pub stored : List Replica → ℕ → Result (Unit {0} × Replica) Refusal → Result (Unit {0} × List Replica) Refusal
 stored stores at (Ok done) = Ok (tt, slice_set stores at done.1)
@@ -130,4 +139,5 @@ step_of c (Append replica rows) = append_step c replica rows
 step_of c (Insert replica name rows) = insert_step c replica name rows
 step_of c (Delete replica first last) = delete_step c replica first last
 step_of c (Merge replica other) = merge_step c replica other
+step_of c (Recode replica name column vector coding) = recode_step c replica name column vector
 step_of c (Query replica sql) = query_step c replica sql

@@ -5,6 +5,8 @@ pub mod Reading
 pub mod ReplyText
 pub mod Run
 pub mod Script
+pub mod ScriptRun
+pub mod Spelled
 pub mod TableWords
 pub mod Told
 pub mod Word

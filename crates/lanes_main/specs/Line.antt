@@ -6,12 +6,12 @@ use Rattle.std.specs.Str.{bytes_eq}
 use Rattle.table_model.specs.declared.schema.ColType.{ColType}
 use Rattle.table_model.specs.declared.refusal.Refusal.{Refusal}
 use Rattle.table_model.specs.declared.refusal.Refusal.TheVariants.{BadLine}
-use Rattle.lanes_main.specs.Word.{◌>>=◌, cut, pieces, number_of, small_number, ordinal_of, name_of, rows_of, type_of, some_text}
+use Rattle.lanes_main.specs.Word.{◌>>=◌, cut, pieces, number_of, small_number, ordinal_of, name_of, rows_of, type_of, coding_of, some_text}
 use Rattle.lanes_main.specs.TableWords.{TableWords}
 use Rattle.lanes_main.specs.declared.step.Step.{Step}
-use Rattle.lanes_main.specs.declared.step.Step.TheVariants.{Append, Insert, Delete, Merge, Query}
+use Rattle.lanes_main.specs.declared.step.Step.TheVariants.{Append, Insert, Delete, Merge, Recode, Query}
 use Rattle.lanes_main.specs.declared.line.Verb.{Verb}
-use Rattle.lanes_main.specs.declared.line.Verb.TheVariants.{ToAppend, ToInsert, ToDelete, ToMerge, ToQuery}
+use Rattle.lanes_main.specs.declared.line.Verb.TheVariants.{ToAppend, ToInsert, ToDelete, ToMerge, ToRecode, ToQuery}
 use Rattle.lanes_main.specs.declared.command.Command.{Command}
 use Rattle.lanes_main.specs.declared.command.Command.TheVariants.{Table, Act}
 
@@ -52,6 +52,18 @@ merge_words replica text = do
   other ← small_number text
   Some (Merge replica other)
 
+-- recode R O.N COLUMN VECTOR CODING
+unfoldable pub recode_words : ℕ → List ℕ → Option Step
+recode_words replica text = do
+  batch ← cut 32 text
+  name ← name_of batch.0
+  columns ← cut 32 batch.1
+  column ← small_number columns.0
+  vectors ← cut 32 columns.1
+  vector ← small_number vectors.0
+  coding ← coding_of vectors.1
+  Some (Recode replica name column vector coding)
+
 -- query R SQL, where SQL is the rest of the line
 unfoldable pub query_words : ℕ → List ℕ → Option Step
 query_words replica text = do
@@ -65,7 +77,8 @@ verb_of word =
     (cond (bytes_eq word (codes "insert")) (Some ToInsert)
     (cond (bytes_eq word (codes "delete")) (Some ToDelete)
     (cond (bytes_eq word (codes "merge")) (Some ToMerge)
-    (cond (bytes_eq word (codes "query")) (Some ToQuery) None))))
+    (cond (bytes_eq word (codes "recode")) (Some ToRecode)
+    (cond (bytes_eq word (codes "query")) (Some ToQuery) None)))))
 
 -- the step of a verb and a replica, with the words that follow them
 abbrev pub step_words : Verb → ℕ → List ℕ → Option Step
@@ -73,6 +86,7 @@ step_words ToAppend replica text = append_words replica text
 step_words ToInsert replica text = insert_words replica text
 step_words ToDelete replica text = delete_words replica text
 step_words ToMerge replica text = merge_words replica text
+step_words ToRecode replica text = recode_words replica text
 step_words ToQuery replica text = query_words replica text
 
 -- the step of a line's first word and the words that follow it

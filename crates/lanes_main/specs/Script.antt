@@ -62,9 +62,24 @@ abbrev pub lines_text : Option ClusterParts → List (List ℕ) → List ℕ
 lines_text cluster [] = []
 lines_text cluster (line ∷ lines) = line_text cluster line ++ lines_text (after_line cluster line) lines
 
+-- what there is after lines
+abbrev pub after_lines : Option ClusterParts → List (List ℕ) → Option ClusterParts
+after_lines cluster [] = cluster
+after_lines cluster (line ∷ lines) = after_lines (after_line cluster line) lines
+
 -- the text of a script, whose lines stand between line feeds
 unfoldable pub script_text : List ℕ → List ℕ
 script_text input = lines_text None (pieces 10 input)
+
+-- all of a list but its last element
+abbrev pub all_but_last : {X : Type 0} → List X → List X
+all_but_last [] = []
+all_but_last (x ∷ []) = []
+all_but_last (x ∷ y ∷ xs) = x ∷ all_but_last (y ∷ xs)
+
+-- the whole lines of what was read: those that a line feed ends
+abbrev pub whole_lines : List ℕ → List (List ℕ)
+whole_lines read = all_but_last (pieces 10 read)
 
 -- the lines with a text before the first of them
 abbrev pub onto_line : List ℕ → List (List ℕ) → List (List ℕ)

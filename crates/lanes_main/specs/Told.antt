@@ -5,7 +5,7 @@ use Rattle.table_model.specs.Counted.{one_more}
 use Rattle.table_model.specs.declared.refusal.Refusal.{Refusal}
 use Rattle.table_model.specs.declared.refusal.Refusal.TheVariants.{Memory, ReadFault, WriteFault}
 use Rattle.lanes_main.specs.Cluster.{ClusterParts}
-use Rattle.lanes_main.specs.Script.{script_text, text_from}
+use Rattle.lanes_main.specs.Script.{lines_text, whole_lines, script_text, text_from}
 
 -- A part of the input with so many bytes was read, and what was written is what the script's text begins with, whatever bytes
 -- follow that part: what is still to come is the text from the part of a line that was read last.
@@ -43,9 +43,11 @@ abbrev pub StaysTold : Option (List ℕ) → Option (List ℕ) → Option (List 
 StaysTold rest rest' now now' cluster part =
     (input before : Option (List ℕ)) (total : ℕ) → Sofar input rest before now cluster part total → Sofar input rest' before now' cluster part total
 
--- all lines that were read whole are answered, and nothing else
+-- of the input a front was read, and what was written is the replies to the whole lines of that front, and nothing else
 abbrev pub Reached : Option (List ℕ) → Option (List ℕ) → Option (List ℕ) → Option (List ℕ) → Type 0
-Reached input rest before now = (cluster : Option ClusterParts) × (part : List ℕ) × (total : ℕ) × Sofar input rest before now cluster part total
+Reached None rest before now = Unit {0}
+Reached (Some input) None before now = ⊥
+Reached (Some input) (Some rest) before now = (read : List ℕ) × (input ≡ read ++ rest) × Appends before now (lines_text None (whole_lines read))
 
 -- the most that one call reads
 abbrev pub read_limit : ℕ

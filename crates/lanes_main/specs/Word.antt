@@ -7,6 +7,8 @@ use Rattle.std.specs.Str.Parse.{digits_value}
 use Rattle.table_model.specs.State.{Cells, Batch}
 use Rattle.table_model.specs.declared.names.BatchName.{BatchName}
 use Rattle.table_model.specs.declared.schema.ColType.{ColType}
+use Rattle.segment_core.specs.declared.coding.Coding.{Coding}
+use Rattle.segment_core.specs.declared.coding.Coding.TheVariants.{For, Delta, Runs, Dict}
 use Rattle.table_model.specs.declared.schema.ColType.TheVariants.{SmallInt, Integer, BigInt}
 
 infixl 10 ◌>>=◌
@@ -107,6 +109,14 @@ type_of text =
     cond (bytes_eq text (codes "SMALLINT")) (Some SmallInt)
     (cond (bytes_eq text (codes "INTEGER")) (Some Integer)
     (cond (bytes_eq text (codes "BIGINT")) (Some BigInt) None))
+
+-- the name of a coding
+abbrev pub coding_of : List ℕ → Option Coding
+coding_of text =
+    cond (bytes_eq text (codes "FOR")) (Some For)
+    (cond (bytes_eq text (codes "DELTA")) (Some Delta)
+    (cond (bytes_eq text (codes "RLE")) (Some Runs)
+    (cond (bytes_eq text (codes "DICT")) (Some Dict) None)))
 
 -- a text that isn't empty
 abbrev pub some_text : List ℕ → Option (List ℕ)

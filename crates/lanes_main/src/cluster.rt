@@ -2,12 +2,13 @@
 ghost use Rattle.std.specs.Prelude.{◌≡◌, ◌≢◌, ◌<◌, ◌≤◌, ◌++◌, codes, length, IfSome, IfOk, Ok};
 ghost use Rattle.std.specs.Str.{bytes_eq};
 ghost use Rattle.table_model.specs.Outcome.{Acts, Gives};
-ghost use Rattle.lanes_main.specs.Cluster.{new_cluster, new_replicas, empty_replica, place_of, append_step, insert_step, delete_step, merge_step, merged_in, count_answer, query_step, step_of};
+ghost use Rattle.lanes_main.specs.Cluster.{new_cluster, new_replicas, replicas_in, empty_replica, place_of, append_step, insert_step, delete_step, merge_step, recode_step, merged_in, count_answer, query_step, step_of};
 ghost use Rattle.lanes_main.specs.Run.{StepTo};
 
 use crate::reply::Reply;
 use crate::step::Step;
 use replica_store::Store;
+use segment_core::Coding;
 use std::alloc::{AllocError, Global};
 use std::marker::Model;
 use table_model::{Answer, AnswerRow, BatchName, Field, Origin, Refusal, Row, RowName, Schema};
@@ -20,13 +21,13 @@ pub struct Cluster {
 }
 
 impl Model for Cluster {
-    ghost use Rattle.lanes_main.specs.Cluster.{ClusterParts, coded_cluster};
+    ghost use Rattle.lanes_main.specs.Cluster.{ClusterParts, coded_cluster, replicas_in};
 
     ghost Value = { ClusterParts };
 
     ghost coded = { coded_cluster };
 
-    ghost view = { λ c. record { schema = c.schema; stores = c.stores.items } };
+    ghost view = { λ c. record { schema = c.schema; stores = replicas_in c.stores.items } };
 }
 
 impl Cluster {
@@ -51,7 +52,7 @@ impl Cluster {
 
     /// The replicas; number 1 stands first.
     pub fn stores(&self) -> &[Store]
-        ensures { result.now ≡ self.now.stores }
+        ensures { replicas_in result.now ≡ self.now.stores }
     {
         self.stores.as_slice()
     }
@@ -131,6 +132,25 @@ impl Cluster {
         Ok(Reply::Done)
     }
 
+    /// Puts a vector of a batch at a replica into another coding.
+    fn recode(
+        &mut self,
+        alloc: Global,
+        replica: u32,
+        name: BatchName,
+        column: u32,
+        vector: u32,
+        coding: Coding,
+    ) -> Result<Reply, Refusal>
+        ensures { Acts (λ reply. reply) self.old result self.new (recode_step self.old replica name column vector) }
+    {
+        let Some(place) = self.place_of(replica) else {
+            return Err(Refusal::NoSuchReplica);
+        };
+        self.stores[place].recode(alloc, name, column, vector, coding)?;
+        Ok(Reply::Done)
+    }
+
     /// The answer of a query at a replica.
     #[tactic(auto, unfolding(crate::specs::Cluster::query_step))]
     fn query(&self, alloc: Global, replica: u32, sql: &str) -> Result<Reply, Refusal>
@@ -163,6 +183,13 @@ impl Cluster {
                 last,
             } => self.delete(alloc, *replica, *first, *last),
             Step::Merge { replica, other } => self.merge(alloc, *replica, *other),
+            Step::Recode {
+                replica,
+                name,
+                column,
+                vector,
+                coding,
+            } => self.recode(alloc, *replica, *name, *column, *vector, *coding),
             Step::Query { replica, sql } => self.query(alloc, *replica, sql.as_str()),
         }
     }
@@ -181,7 +208,7 @@ impl Cluster {
 /// So many new replicas, replica i having own origin i.
 fn new_stores(alloc: Global, schema: &Schema, count: usize) -> Result<Vec<Store>, Refusal>
     requires { count ≤ 64 }
-    ensures { Gives (λ stores. stores.items) result (Ok (new_replicas schema.now 1 count)) }
+    ensures { Gives (λ stores. replicas_in stores.items) result (Ok (new_replicas schema.now 1 count)) }
 {
     let mut stores = Vec::with_capacity(alloc, count)?;
     for i in 0..count {
@@ -193,7 +220,7 @@ fn new_stores(alloc: Global, schema: &Schema, count: usize) -> Result<Vec<Store>
 /// A new replica with this own origin.
 fn new_store(alloc: Global, schema: &Schema, own: u32) -> Result<Store, Refusal>
     requires { 1 ≤ own }
-    ensures { Gives (λ store. store) result (Ok (empty_replica schema.now own)) }
+    ensures { Gives (λ store. store.replica) result (Ok (empty_replica schema.now own)) }
 {
     Store::new(alloc, schema, Origin(own))
 }
@@ -208,7 +235,8 @@ fn merge_apart(
     requires place { place < length stores.old }
     requires from { from < length stores.old }
     requires apart { place ≢ from }
-    ensures { Acts (λ done. done) stores.old result stores.new (merged_in stores.old place from) }
+    ensures acts { Acts (λ done. done) (replicas_in stores.old) result (replicas_in stores.new) (merged_in (replicas_in stores.old) place from) }
+    ensures count { length stores.new ≡ length stores.old }
 {
     if place < from {
         let (front, back) = stores.split_at_mut(from);

@@ -5,9 +5,10 @@ ghost use Rattle.table_model.specs.Counted.{one_more};
 ghost use Rattle.lanes_main.specs.Told.{Sofar, AppendsFront, ToldFront, ToldAll, Reached, GaveMore, Failed, GoesOn, IsWithin, EndsEarly, StaysTold};
 
 use crate::line_part::LinePart;
+use crate::notes::Notes;
 use crate::session::{Session, feed, finish};
 use std::alloc::Global;
-use std::io::{Read, Write};
+use std::io::{self, Read, Write};
 use table_model::{Counted, Refusal};
 
 /// The most bytes that one call reads.
@@ -41,10 +42,11 @@ fn write_whole<W: Write>(writer: &mut Counted<W>, bytes: &[u8]) -> Result<(), Re
 }
 
 /// Reads once, answers the lines that end in what came, and writes their replies; answers how many bytes came, 0 at the end.
-fn round<R: Read, W: Write>(
+fn round<R: Read, W: Write, N: Write>(
     alloc: Global,
     reader: &mut Counted<R>,
     writer: &mut Counted<W>,
+    notes: &mut N,
     session: &mut Session,
     buffer: &mut [u8],
 ) -> Result<usize, Refusal>
@@ -66,14 +68,16 @@ fn round<R: Read, W: Write>(
     let (chunk, _) = buffer.split_at(count);
     feed(alloc, session, &mut out, chunk)?;
     write_whole(writer, out.as_slice())?;
+    session.notes.tell(notes);
     Ok(count)
 }
 
 /// Reads to the end of the input; what is left is a part of a line that no line feed ended.
-fn rounds<R: Read, W: Write>(
+fn rounds<R: Read, W: Write, N: Write>(
     alloc: Global,
     reader: &mut Counted<R>,
     writer: &mut Counted<W>,
+    notes: &mut N,
     buffer: &mut [u8],
 ) -> Result<Session, Refusal>
     requires some { 0 < length buffer.old }
@@ -90,10 +94,11 @@ fn rounds<R: Read, W: Write>(
     let mut session = Session {
         cluster: None,
         line: LinePart::new(alloc),
+        notes: Notes::new(alloc),
     };
     let mut total: u64 = 0;
     for _turn in 0..ROUNDS {
-        let count = round(alloc, reader, writer, &mut session, buffer)?;
+        let count = round(alloc, reader, writer, notes, &mut session, buffer)?;
         if count == 0 {
             return Ok(session);
         }
@@ -124,10 +129,30 @@ pub fn script<R: Read, W: Write>(
     ensures kept { OnOk result ((reader.new.1 ≡ reader.old.1) × (writer.new.1 ≡ writer.old.1)) }
     ensures fault { IfErr result (λ e. Failed (GaveMore (R.remaining reader.old.0) (R.remaining reader.new.0)) e reader.old.1 reader.new.1 writer.old.1 writer.new.1) }
 {
+    script_with_notes(alloc, reader, writer, &mut io::sink())
+}
+
+/// As [`script`], and tells a third writer of each line that is refused: its number, counted from 1, its reply, and for
+/// `BadLine` what was expected there. What that writer doesn't take is dropped.
+pub fn script_with_notes<R: Read, W: Write, N: Write>(
+    alloc: Global,
+    reader: &mut Counted<R>,
+    writer: &mut Counted<W>,
+    notes: &mut N,
+) -> Result<(), Refusal>
+    ensures text { MatchResult result (λ _. ToldAll (R.remaining reader.old.0) (W.contents writer.old.0) (W.contents writer.new.0))
+        (λ _. ToldFront (R.remaining reader.old.0) (W.contents writer.old.0) (W.contents writer.new.0)) }
+    ensures end { OnOk result (IsAtEnd (R.remaining reader.new.0)) }
+    ensures within { OnOk result (IsWithin (R.remaining reader.old.0)) }
+    ensures reached { IfErr result (λ e. e ≡ Refusal.ReadFault → Reached (R.remaining reader.old.0) (R.remaining reader.new.0) (W.contents writer.old.0) (W.contents writer.new.0)) }
+    ensures kept { OnOk result ((reader.new.1 ≡ reader.old.1) × (writer.new.1 ≡ writer.old.1)) }
+    ensures fault { IfErr result (λ e. Failed (GaveMore (R.remaining reader.old.0) (R.remaining reader.new.0)) e reader.old.1 reader.new.1 writer.old.1 writer.new.1) }
+{
     let mut buffer = vec![in alloc; 0u8; CHUNK]?;
-    let mut session = rounds(alloc, reader, writer, buffer.as_mut_slice())?;
+    let mut session = rounds(alloc, reader, writer, notes, buffer.as_mut_slice())?;
     let mut out = Vec::new(alloc);
     finish(alloc, &mut session, &mut out)?;
     write_whole(writer, out.as_slice())?;
+    session.notes.tell(notes);
     Ok(())
 }

@@ -2,13 +2,13 @@
 ghost use Rattle.std.specs.Prelude.{◌≡◌, ◌<◌, ◌≤◌, option_map, IfSome};
 ghost use Rattle.std.specs.List.{list_all};
 ghost use Rattle.lanes_main.specs.Reading.{Reads};
-ghost use Rattle.lanes_main.specs.Line.{addressed, append_words, insert_words, delete_words, merge_words, query_words, verb_of, step_words, step_line, replicas_of, table_words, table_line, words_of, is_printable, command_of};
+ghost use Rattle.lanes_main.specs.Line.{addressed, append_words, insert_words, delete_words, merge_words, recode_words, query_words, verb_of, step_words, step_line, replicas_of, table_words, table_line, words_of, is_printable, command_of};
 
 use crate::columns::columns;
 use crate::command::{Command, TableCommand};
 use crate::rows::rows;
 use crate::step::{Sql, Step};
-use crate::words::{batch_name, cut, number, ordinal, small_number, some_text};
+use crate::words::{batch_name, coding, cut, number, ordinal, small_number, some_text};
 use std::alloc::Global;
 use table_model::{Refusal, RowName};
 
@@ -32,7 +32,7 @@ pub fn parse_line<'a>(alloc: Global, line: &'a [u8]) -> Result<Command<'a>, Refu
 }
 
 /// Whether each byte is from 20 to 7E, in hexadecimal.
-fn is_printable(line: &[u8]) -> bool
+pub(crate) fn is_printable(line: &[u8]) -> bool
     ensures { result ≡ list_all is_printable line.now }
 {
     line.iter().all(|c| b' ' <= *c && *c <= b'~')
@@ -78,7 +78,7 @@ fn table_words<'a>(text: &'a str) -> Option<(usize, &'a str, &'a str)>
 
 /// How many replicas a table has: 1 to 10 digits, from 1 to 64.
 #[tactic(auto, unfolding(crate::specs::Line::replicas_of))]
-fn replicas(text: &str) -> Option<usize>
+pub(crate) fn replicas(text: &str) -> Option<usize>
     ensures value { result ≡ replicas_of text.now }
     ensures bound { IfSome result (λ n. (1 ≤ n) × (n ≤ 64)) }
 {
@@ -97,6 +97,7 @@ enum Verb {
     ToInsert,
     ToDelete,
     ToMerge,
+    ToRecode,
     ToQuery,
 }
 
@@ -116,6 +117,9 @@ fn verb_of(word: &str) -> Option<Verb>
     }
     if word == "merge" {
         return Some(Verb::ToMerge);
+    }
+    if word == "recode" {
+        return Some(Verb::ToRecode);
     }
     if word == "query" {
         return Some(Verb::ToQuery);
@@ -156,6 +160,7 @@ fn step_words(alloc: Global, verb: Verb, replica: u32, text: &str) -> Result<Ste
         Verb::ToInsert => insert_words(alloc, replica, text),
         Verb::ToDelete => required(delete_words(replica, text)),
         Verb::ToMerge => required(merge_words(replica, text)),
+        Verb::ToRecode => required(recode_words(replica, text)),
         Verb::ToQuery => query_words(alloc, replica, text),
     }
 }
@@ -225,6 +230,27 @@ fn merge_words(replica: u32, text: &str) -> Option<Step>
 {
     let other = small_number(text)?;
     Some(Step::Merge { replica, other })
+}
+
+/// `recode R O.N COLUMN VECTOR CODING`
+#[tactic(auto, unfolding(crate::specs::Line::recode_words))]
+fn recode_words(replica: u32, text: &str) -> Option<Step>
+    ensures { result ≡ recode_words replica text.now }
+{
+    let (name, rest) = cut(text, ' ')?;
+    let name = batch_name(name)?;
+    let (column, rest) = cut(rest, ' ')?;
+    let column = small_number(column)?;
+    let (vector, rest) = cut(rest, ' ')?;
+    let vector = small_number(vector)?;
+    let coding = coding(rest)?;
+    Some(Step::Recode {
+        replica,
+        name,
+        column,
+        vector,
+        coding,
+    })
 }
 
 /// `query R SQL`

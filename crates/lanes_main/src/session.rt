@@ -11,17 +11,20 @@ use crate::cluster::Cluster;
 use crate::command::{Command, TableCommand};
 use crate::line::parse_line;
 use crate::line_part::{LINE_LIMIT, LinePart};
+use crate::notes::Notes;
 use crate::reply::Reply;
 use crate::reply_format::write_reply;
 use crate::step::Step;
 use std::alloc::Global;
 use table_model::{Refusal, Schema};
 
-/// What a script has made so far: the cluster, once there is a table, and the part of a line that was read last.
+/// What a script has made so far: the cluster, once there is a table, the part of a line that was read last, and the notes on
+/// refused lines that weren't told yet.
 #[derive(Drop)]
 pub struct Session {
     pub cluster: Option<Cluster>,
     pub line: LinePart,
+    pub notes: Notes,
 }
 
 /// A refusal as a reply, unless memory lacked: that ends a script.
@@ -118,10 +121,12 @@ fn line_reply(alloc: Global, cluster: &mut Option<Cluster>, line: &[u8]) -> Resu
     }
 }
 
-/// Answers a line: writes the text of its reply behind what is there. An empty line has none.
+/// Answers a line: writes the text of its reply behind what is there, and notes it where it is refused. An empty line has no
+/// reply.
 fn answer_line(
     alloc: Global,
     cluster: &mut Option<Cluster>,
+    notes: &mut Notes,
     out: &mut Vec<u8>,
     line: &[u8],
 ) -> Result<(), Refusal>
@@ -129,11 +134,16 @@ fn answer_line(
     ensures after { OnOk result (cluster.new ≡ after_line cluster.old line.now) }
     ensures memory { IfErr result (λ e. e ≡ Refusal.Memory) }
 {
+    notes.next_line();
     if line.is_empty() {
         return Ok(());
     }
+    let has_table = cluster.is_some();
     let reply = line_reply(alloc, cluster, line)?;
     write_reply(alloc, out, &reply)?;
+    if let Reply::Refused(refusal) = &reply {
+        notes.refused(alloc, line, has_table, *refusal)?;
+    }
     Ok(())
 }
 
@@ -168,7 +178,13 @@ fn end_line(
     ensures memory { IfErr result (λ e. e ≡ Refusal.Memory) }
 {
     session.line.grow(piece)?;
-    answer_line(alloc, &mut session.cluster, out, session.line.as_slice())?;
+    answer_line(
+        alloc,
+        &mut session.cluster,
+        &mut session.notes,
+        out,
+        session.line.as_slice(),
+    )?;
     session.line.clear();
     Ok(())
 }
@@ -198,6 +214,12 @@ pub fn finish(alloc: Global, session: &mut Session, out: &mut Vec<u8>) -> Result
     ensures ok { OnOk result (out.new.items ≡ out.old.items ++ text_from session.old.cluster session.old.line []) }
     ensures memory { IfErr result (λ e. e ≡ Refusal.Memory) }
 {
-    answer_line(alloc, &mut session.cluster, out, session.line.as_slice())?;
+    answer_line(
+        alloc,
+        &mut session.cluster,
+        &mut session.notes,
+        out,
+        session.line.as_slice(),
+    )?;
     Ok(())
 }

@@ -2,6 +2,7 @@
 ghost use Rattle.std.specs.Prelude.{◌≡◌};
 ghost use Rattle.std.specs.String.{string_bytes};
 
+use segment_core::Coding;
 use std::marker::Model;
 use table_model::{BatchName, RowName, Rows};
 
@@ -60,6 +61,14 @@ pub enum Step {
     Merge {
         replica: u32,
         other: u32,
+    },
+    /// Puts a vector of a batch at the replica into another coding; no row changes. Columns and vectors count from 0.
+    Recode {
+        replica: u32,
+        name: BatchName,
+        column: u32,
+        vector: u32,
+        coding: Coding,
     },
     /// Asks the replica for the answer of a query.
     Query {

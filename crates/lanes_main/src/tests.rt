@@ -1,5 +1,7 @@
 //! Scripts and the texts that they give, worked out by hand from the rules of lines and steps.
-use crate::{Cluster, Command, Reply, Sql, Step, parse_line, reply_text, run, script};
+use crate::{
+    Cluster, Command, Reply, Sql, Step, parse_line, reply_text, run, script, script_with_notes,
+};
 use std::alloc::Global;
 use std::io;
 use std::io::{Read, Write};
@@ -16,7 +18,7 @@ fn text_of(alloc: Global, input: &[u8]) -> Result<Vec<u8>, Refusal> {
     Ok(writer.into_inner())
 }
 
-const SCRIPTS: [(&str, &str); 12] = [
+const SCRIPTS: [(&str, &str); 14] = [
     (
         "table 2 T A SMALLINT\nappend 1 (7)\nmerge 2 1\nquery 2 SELECT COUNT(*) FROM T\nquery 2 SELECT COUNT(*) FROM U\n",
         "ok\nok 1.1\nok\nok 1\nCOUNT(*)\n1\nrefused BadLine\n",
@@ -64,6 +66,16 @@ const SCRIPTS: [(&str, &str); 12] = [
         "table 1 t A SMALLINT\nquery 9 SELECT COUNT(*) FROM U\nquery 9 SELECT COUNT(*) FROM T\nquery 1 \nquery 1\nask 1\n",
         "ok\nrefused BadLine\nrefused NoSuchReplica\nrefused BadLine\nrefused BadLine\nrefused BadLine\n",
     ),
+    // The codings of two replicas: a batch that was put into another coding is the same batch.
+    (
+        "table 2 T A SMALLINT\nappend 1 (7)\nmerge 2 1\nrecode 2 1.1 0 0 DICT\nmerge 1 2\nmerge 2 1\nquery 1 SELECT COUNT(*) FROM T\nquery 2 SELECT COUNT(*) FROM T\n",
+        "ok\nok 1.1\nok\nok\nok\nok\nok 1\nCOUNT(*)\n1\nok 1\nCOUNT(*)\n1\n",
+    ),
+    // No such batch, a replica that isn't there, origin 0, a column and a vector past the last, a coding in lower case.
+    (
+        "table 1 T A SMALLINT\nappend 1 (7)\nrecode 1 9.9 0 0 FOR\nrecode 0 1.1 0 0 FOR\nrecode 1 0.1 0 0 FOR\nrecode 1 1.1 1 0 FOR\nrecode 1 1.1 0 1 RLE\nrecode 1 1.1 0 0 for\nrecode 1 1.1 0 0 RLE \nrecode 1 1.1 0 0 DELTA\n",
+        "ok\nok 1.1\nrefused NoSuchVector\nrefused NoSuchReplica\nrefused NoSuchVector\nrefused NoSuchVector\nrefused NoSuchVector\nrefused BadLine\nrefused BadLine\nok\n",
+    ),
     ("", ""),
 ];
 
@@ -72,6 +84,61 @@ fn a_script_has_the_reply_to_each_line(rt: HostRuntime) -> Result<(), Fail> {
     for (input, want) in SCRIPTS {
         let text = text_of(rt.alloc(), input.as_bytes())?;
         assert!(rt; text.as_slice() == want.as_bytes(), "at {input}");
+    }
+    Ok(())
+}
+
+/// Scripts and the notes on their refused lines: the forms of lines are those of the page on the script language.
+const NOTED: [(&str, &str); 9] = [
+    ("table 1 T A SMALLINT\nappend 1 (1)\n", ""),
+    (
+        "merge 1 1\ntable 65 T A SMALLINT\ntable 1\ntable 1 T A TINYINT\ntable 1 1T A SMALLINT\n",
+        "line 1: refused BadLine: the first line makes the table: table N NAME COL TYPE [COL TYPE]..\nline 2: refused BadLine: a table has 1 to 64 replicas\nline 3: refused BadLine: a table is written table N NAME COL TYPE [COL TYPE]..\nline 4: refused BadLine: a column is a name and SMALLINT, INTEGER or BIGINT\nline 5: refused BadSchema\n",
+    ),
+    // Empty lines count.
+    (
+        "table 1 T A SMALLINT\n\nappend 2 (1)\nappend 1 7\nappend 1\nappend x (7)",
+        "line 3: refused NoSuchReplica\nline 4: refused BadLine: rows are written (V,..),(V,..)\nline 5: refused BadLine: an append is written append R (V,..),(V,..)\nline 6: refused BadLine: a replica is a number of 1 to 10 digits, at most 4294967295\n",
+    ),
+    (
+        "table 1 T A SMALLINT\ninsert 1 1.1\ninsert 1 11 (1)\ninsert 1 1.1 1\n",
+        "line 2: refused BadLine: an insert is written insert R O.N (V,..),(V,..)\nline 3: refused BadLine: a batch is named O.N, two numbers of 1 to 10 digits, each at most 4294967295\nline 4: refused BadLine: rows are written (V,..),(V,..)\n",
+    ),
+    (
+        "table 1 T A SMALLINT\ndelete 1 1.1 0\ndelete 1 1.1 0 65536\ndelete 1 1.1 5 4\n",
+        "line 2: refused BadLine: a delete is written delete R O.N FIRST LAST\nline 3: refused BadLine: an ordinal is a number of 1 to 5 digits, at most 65535\nline 4: refused BadRange 0\n",
+    ),
+    (
+        "table 1 T A SMALLINT\nmerge 1\nmerge 1 x\n",
+        "line 2: refused BadLine: a merge is written merge R Q\nline 3: refused BadLine: a replica is a number of 1 to 10 digits, at most 4294967295\n",
+    ),
+    (
+        "table 1 T A SMALLINT\nquery 1\nquery 1 SELECT A FROM T\n",
+        "line 2: refused BadLine: a query is written query R SQL\nline 3: refused BadLine: the query is SELECT COUNT(*) FROM and the table's name\n",
+    ),
+    (
+        "table 1 T A SMALLINT\nAPPEND 1 (1)\nmerge\t1 1\n",
+        "line 2: refused BadLine: a line begins with append, insert, delete, merge, recode or query, and words are separated by one space each\nline 3: refused BadLine: a line has printable ASCII characters alone\n",
+    ),
+    (
+        "table 1 T A SMALLINT\ntable 1 T A SMALLINT\n",
+        "line 2: refused BadLine: there is one table, and it is made already\n",
+    ),
+];
+
+#[test]
+fn a_refused_line_is_noted_and_the_replies_stay(rt: HostRuntime) -> Result<(), Fail> {
+    for (input, want) in NOTED {
+        let mut reader = Counted::new(input.as_bytes());
+        let mut writer = Counted::new(Vec::new(rt.alloc()));
+        let mut notes = Vec::new(rt.alloc());
+        script_with_notes(rt.alloc(), &mut reader, &mut writer, &mut notes)?;
+        assert!(rt; notes.as_slice() == want.as_bytes(), "at {input}");
+        let plain = text_of(rt.alloc(), input.as_bytes())?;
+        assert!(rt;
+            writer.into_inner().as_slice() == plain.as_slice(),
+            "at {input}"
+        );
     }
     Ok(())
 }

@@ -4,8 +4,9 @@ ghost use Rattle.std.specs.List.{list_all};
 ghost use Rattle.std.specs.Char.{is_ascii_digit};
 ghost use Rattle.std.specs.Str.Parse.{digits_value};
 ghost use Rattle.lanes_main.specs.Reading.{Reads};
-ghost use Rattle.lanes_main.specs.Word.{cut, without, is_numeral, number_of, small_number, ordinal_of, name_of, magnitude_of, integer_of, cell_of, cells_of, opened_cells, rows_of, type_of, some_text};
+ghost use Rattle.lanes_main.specs.Word.{cut, without, is_numeral, number_of, small_number, ordinal_of, name_of, magnitude_of, integer_of, cell_of, cells_of, opened_cells, rows_of, type_of, coding_of, some_text};
 
+use segment_core::Coding;
 use std::alloc::Global;
 use table_model::{BatchName, ColType, Number, Origin, Refusal, Row, Rows};
 
@@ -150,6 +151,25 @@ pub fn column_type(text: &str) -> Option<ColType>
     }
     if text == "BIGINT" {
         return Some(ColType::BigInt);
+    }
+    None
+}
+
+/// The coding that a word names.
+pub fn coding(text: &str) -> Option<Coding>
+    ensures { result ≡ coding_of text.now }
+{
+    if text == "FOR" {
+        return Some(Coding::For);
+    }
+    if text == "DELTA" {
+        return Some(Coding::Delta);
+    }
+    if text == "RLE" {
+        return Some(Coding::Runs);
+    }
+    if text == "DICT" {
+        return Some(Coding::Dict);
     }
     None
 }

@@ -7,3 +7,8 @@ pub mod Merges
 pub mod Names
 pub mod Numbers
 pub mod Places
+pub mod RowsIn
+pub mod Unions
+pub mod Recodes
+pub mod RowValues
+pub mod VectorPlaces

@@ -11,33 +11,35 @@ use Rattle.table_model.proofs.NameOrder.{names_total}
 use Rattle.replica_store.specs.Entries.{count_below}
 use Rattle.replica_store.proofs.Places.{insert-place}
 
+-- a batch of rows with its name
 abbrev pub Entry : Type 0
 Entry = BatchName × Batch
 
-abbrev pub Sorted : List Entry → Type 0
-Sorted es = T (map.is_sorted name_cmp es)
+module _ {X : Type 0} where
+  abbrev pub Sorted : List (BatchName × X) → Type 0
+  Sorted es = T (map.is_sorted name_cmp es)
 
-abbrev pub as_map : List Entry → map.FinMap name_cmp Batch
-as_map es = map.from_sorted es
+  abbrev pub as_map : List (BatchName × X) → map.FinMap name_cmp X
+  as_map es = map.from_sorted es
 
-pub entries-as_map : (es : List Entry) → Sorted es → map.entries (as_map es) ≡ es
-entries-as_map es h = map.entries-from_sorted name_cmp es h
+  pub entries-as_map : (es : List (BatchName × X)) → Sorted es → map.entries (as_map es) ≡ es
+  entries-as_map es h = map.entries-from_sorted name_cmp es h
 
-pub get-as_map : (es : List Entry) (q : BatchName) → Sorted es → map.get (as_map es) q ≡ map.find name_cmp q es
-get-as_map es q h = map.get-from_sorted name_cmp es q h
+  pub get-as_map : (es : List (BatchName × X)) (q : BatchName) → Sorted es → map.get (as_map es) q ≡ map.find name_cmp q es
+  get-as_map es q h = map.get-from_sorted name_cmp es q h
 
-pub len-as_map : (es : List Entry) → Sorted es → map.len (as_map es) ≡ length es
-len-as_map es h = map.len-entries (as_map es) ∙ ap length (entries-as_map es h)
+  pub len-as_map : (es : List (BatchName × X)) → Sorted es → map.len (as_map es) ≡ length es
+  len-as_map es h = map.len-entries (as_map es) ∙ ap length (entries-as_map es h)
 
-pub as_map-empty : as_map [] ≡ map.empty
-as_map-empty = map.empty_of_len (as_map []) (len-as_map [] tt)
+  pub as_map-empty : as_map [] ≡ map.empty
+  as_map-empty = map.empty_of_len (as_map []) (len-as_map [] tt)
 
-pub Sorted-insert : (q : BatchName) (v : Batch) (es : List Entry) → Sorted es → map.find name_cmp q es ≡ None → Sorted (insert es (count_below name_cmp q es) (q, v))
-Sorted-insert q v es h none = subst Sorted (sym (insert-place name_cmp names_total q v es h none)) (is_sorted-put name_cmp names_total q v es h)
+  pub Sorted-insert : (q : BatchName) (v : X) (es : List (BatchName × X)) → Sorted es → map.find name_cmp q es ≡ None → Sorted (insert es (count_below name_cmp q es) (q, v))
+  Sorted-insert q v es h none = subst Sorted (sym (insert-place name_cmp names_total q v es h none)) (is_sorted-put name_cmp names_total q v es h)
 
-pub as_map-insert : (q : BatchName) (v : Batch) (es : List Entry) → Sorted es → map.find name_cmp q es ≡ None → as_map (insert es (count_below name_cmp q es) (q, v)) ≡ map.insert (as_map es) q v
-as_map-insert q v es h none = map.same_entries_map _ _
-    (entries-as_map _ (Sorted-insert q v es h none)
-    ∙ insert-place name_cmp names_total q v es h none
-    ∙ ap (map.put name_cmp q v) (sym (entries-as_map es h))
-    ∙ sym (map.entries-insert names_total (as_map es) q v))
+  pub as_map-insert : (q : BatchName) (v : X) (es : List (BatchName × X)) → Sorted es → map.find name_cmp q es ≡ None → as_map (insert es (count_below name_cmp q es) (q, v)) ≡ map.insert (as_map es) q v
+  as_map-insert q v es h none = map.same_entries_map _ _
+      (entries-as_map _ (Sorted-insert q v es h none)
+      ∙ insert-place name_cmp names_total q v es h none
+      ∙ ap (map.put name_cmp q v) (sym (entries-as_map es h))
+      ∙ sym (map.entries-insert names_total (as_map es) q v))

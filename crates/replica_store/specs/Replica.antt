@@ -1,5 +1,5 @@
 -- A replica as its callers see it, and what each call makes of it: a table's schema, an own origin and a state.
-use Rattle.std.specs.Prelude.{◌≡◌, ℕ, ◌+◌, ◌≤◌, max, Bool, false, not, cond, ◌==◌, nat_lt, List, [], ◌∷◌, length, Option, Some, None, Result, Ok, Err, T, IsTrue, refl}
+use Rattle.std.specs.Prelude.{◌≡◌, ℕ, ◌+◌, ◌/◌, ◌≤◌, max, Bool, false, not, cond, ◌&&◌, ◌==◌, nat_lt, List, [], ◌∷◌, length, Option, Some, None, Result, Ok, Err, T, IsTrue, refl}
 use Rattle.std.specs.Coded.{Coded, code_by, coded×, coded_ℕ}
 use Rattle.std.specs.FinMap as map
 use Rattle.std.specs.FinSet as set
@@ -12,7 +12,7 @@ use Rattle.table_model.specs.declared.names.Origin.{Origin}
 use Rattle.table_model.specs.declared.names.BatchName.{BatchName}
 use Rattle.table_model.specs.declared.names.RowName.{RowName}
 use Rattle.table_model.specs.declared.refusal.Refusal.{Refusal}
-use Rattle.table_model.specs.declared.refusal.Refusal.TheVariants.{Conflict, Full, SchemaDiffers, NumbersSpent, BadName, BadRange}
+use Rattle.table_model.specs.declared.refusal.Refusal.TheVariants.{Conflict, Full, SchemaDiffers, NumbersSpent, NoSuchVector, BadName, BadRange}
 use Rattle.replica_store.specs.declared.inserted.Inserted.{Inserted}
 use Rattle.replica_store.specs.declared.inserted.Inserted.TheVariants.{New, Already}
 
@@ -38,11 +38,11 @@ abbrev pub entries_of : Replica → List (BatchName × Batch)
 entries_of r = map.entries r.state.batches
 
 -- the names of the batches of a map
-unfoldable pub names_of : map.FinMap name_cmp Batch → set.FinSet name_cmp
+unfoldable pub names_of : {X : Type 0} → map.FinMap name_cmp X → set.FinSet name_cmp
 names_of m = set.from_list (map.keys m)
 
 -- entries in ascending order of name, with the set of their names
-pub record AreKept (es : List (BatchName × Batch)) (held : set.FinSet name_cmp) : Type 0 where
+pub record AreKept {X : Type 0} (es : List (BatchName × X)) (held : set.FinSet name_cmp) : Type 0 where
   pub sorted : T (map.is_sorted name_cmp es)
   pub names : held ≡ names_of (map.from_sorted es)
 
@@ -80,7 +80,7 @@ unless_fault None next = next
 unless_fault (Some fault) next = Err fault
 
 -- the greatest number that is held of an origin, or 0
-abbrev pub greatest_number : Origin → List (BatchName × Batch) → ℕ
+abbrev pub greatest_number : {X : Type 0} → Origin → List (BatchName × X) → ℕ
 greatest_number own [] = 0
 greatest_number own (e ∷ es) = max (cond (e.0.origin.0 == own.0) e.0.number.0 0) (greatest_number own es)
 
@@ -137,13 +137,29 @@ delete_fault first last = cond (is_proper_name first.batch) (cond (nat_lt last f
 abbrev pub deleted_rows : Replica → RowName → ℕ → Result (Unit {0} × Replica) Refusal
 deleted_rows r first last = unless_fault (delete_fault first last) (Ok (tt, with_deleted r (rows_between first last)))
 
+-- how many vectors rows take
+abbrev pub vectors_of : Batch → ℕ
+vectors_of rows = (length rows + 1023) / 1024
+
+abbrev pub has_vector : Replica → ℕ → ℕ → Option Batch → Bool
+has_vector r column vector None = false
+has_vector r column vector (Some rows) = nat_lt column (length r.schema.columns) && nat_lt vector (vectors_of rows)
+
+-- why a vector isn't put into another coding: there is no such batch, or it has no such column or vector
+unfoldable pub recode_fault : Replica → BatchName → ℕ → ℕ → Option Refusal
+recode_fault r name column vector = cond (has_vector r column vector (map.get r.state.batches name)) None (Some NoSuchVector)
+
+-- recode: the replica stays as it is
+abbrev pub recoded_rows : Replica → BatchName → ℕ → ℕ → Result (Unit {0} × Replica) Refusal
+recoded_rows r name column vector = unless_fault (recode_fault r name column vector) (Ok (tt, r))
+
 -- whether a batch that is held has other rows
 abbrev pub differs : Option Batch → Batch → Bool
 differs None rows = false
 differs (Some held) rows = not (same_rows held rows)
 
 -- the batches of the list whose names the map lacks
-abbrev pub lacked_by : map.FinMap name_cmp Batch → List (BatchName × Batch) → List (BatchName × Batch)
+abbrev pub lacked_by : {X : Type 0} → map.FinMap name_cmp X → List (BatchName × X) → List (BatchName × X)
 lacked_by ours [] = []
 lacked_by ours (e ∷ es) = cond (map.contains_key ours e.0) (lacked_by ours es) (e ∷ lacked_by ours es)
 

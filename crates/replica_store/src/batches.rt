@@ -1,34 +1,38 @@
 //! The batches of a replica: a vector in ascending order of name.
-ghost use Rattle.std.specs.Prelude.{◌≡◌, ◌+◌, ◌≤◌, T, [], ◌∷◌, ◌++◌, length, reverse, nat_lt, None, IsNone, IsTrue, OnOk, OnErr, IfOk, vec_len, vec_capacity};
-ghost use Rattle.std.specs.Option.{option_copied, option_to_list};
+ghost use Rattle.std.specs.Prelude.{◌≡◌, ◌+◌, ◌≤◌, T, [], ◌∷◌, ◌++◌, length, reverse, nat_lt, None, IsNone, IsTrue, MatchOption, IfSome, ◌<◌, OnOk, OnErr, IfOk, vec_len, vec_capacity};
+ghost use Rattle.std.specs.Option.{option_copied, option_to_list, option_map};
 ghost use Rattle.std.specs.FinMap as map;
 ghost use Rattle.table_model.specs.Name.{name_cmp, is_proper_name};
 ghost use Rattle.replica_store.specs.Entries.{count_below, merge, takes_first};
-ghost use Rattle.replica_store.specs.Replica.{greatest_number, differs, conflict_with, lacked_by};
+ghost use Rattle.replica_store.specs.Replica.{greatest_number, differs, conflict_with, lacked_by, entries_of};
+ghost use Rattle.replica_store.specs.Segments.{rows_in, rows_entries, union_in, conflict_in, recoded_in, RecodesEntries, HoldsAt};
 ghost use Rattle.table_model.specs.State.{union_of};
+ghost use Rattle.table_model.specs.Outcome.{Acts};
 
 use catalogue_join::Held;
+use segment_core::{Coding, Segment};
 use std::alloc::{AllocError, Global};
 use std::marker::Model;
 use std::mem;
-use table_model::{BatchName, Origin, Rows, same_rows};
+use table_model::{BatchName, Origin, Refusal};
 
-/// The batches by name, and the set of the names. Contracts see them as a finite map from names to lists of rows.
+/// The batches by name, as segments, and the set of the names. Contracts see them as a finite map from names to segments.
 #[derive(Drop)]
 pub(crate) struct Batches {
-    entries: Vec<(BatchName, Rows)>,
+    entries: Vec<(BatchName, Segment)>,
     held: Held,
 }
 
 impl Model for Batches {
     ghost use Rattle.std.specs.FinMap as map;
     ghost use Rattle.table_model.specs.Name.{name_cmp, coded_name};
-    ghost use Rattle.table_model.specs.State.{Batch, coded_batch};
+    ghost use Rattle.segment_core.specs.Segment.{SegmentForm};
     ghost use Rattle.replica_store.specs.Replica.{AreKept};
+    ghost use Rattle.replica_store.specs.SegmentCode.{coded_segment};
 
-    ghost Value = { map.FinMap name_cmp Batch };
+    ghost Value = { map.FinMap name_cmp SegmentForm };
 
-    ghost coded = { map.code coded_name coded_batch };
+    ghost coded = { map.code coded_name coded_segment };
 
     ghost view = { λ b. map.from_sorted b.entries.items };
 
@@ -38,7 +42,8 @@ impl Model for Batches {
 impl Batches {
     /// No batch.
     pub fn new(alloc: Global) -> Batches
-        ensures { result ≡ map.empty }
+        ensures segments { result ≡ map.empty }
+        ensures rows { rows_in result ≡ map.empty }
     {
         Batches {
             entries: Vec::new(alloc),
@@ -48,21 +53,23 @@ impl Batches {
 
     /// How many batches there are.
     pub fn len(&self) -> usize
-        ensures { result ≡ map.len self.now }
+        ensures count { result ≡ map.len self.now }
+        ensures rows { result ≡ map.len (rows_in self.now) }
     {
         self.entries.len()
     }
 
     /// The batches, in ascending order of name.
-    pub fn entries(&self) -> &[(BatchName, Rows)]
+    pub fn entries(&self) -> &[(BatchName, Segment)]
         ensures { result.now ≡ map.entries self.now }
     {
         self.entries.as_slice()
     }
 
-    /// The rows of a batch, if there is one of that name. It takes a binary search.
-    pub fn get(&self, name: BatchName) -> Option<&Rows>
-        ensures { option_copied result ≡ map.get self.now name }
+    /// The segment of a batch, if there is one of that name. It takes a binary search.
+    pub fn get(&self, name: BatchName) -> Option<&Segment>
+        ensures segment { option_copied result ≡ map.get self.now name }
+        ensures rows { option_map (λ s. s.rows) (option_copied result) ≡ map.get (rows_in self.now) name }
     {
         found(self.entries.as_slice(), name)
     }
@@ -76,39 +83,39 @@ impl Batches {
 
     /// The greatest number of an origin, or 0. It takes a binary search.
     pub fn greatest_number(&self, own: Origin) -> u32
-        ensures { result ≡ greatest_number own (map.entries self.now) }
+        ensures { result ≡ greatest_number own (map.entries (rows_in self.now)) }
     {
         last_number(self.entries.as_slice(), own)
     }
 
-    /// Whether the batch of this name has other rows.
-    fn differs(&self, name: BatchName, rows: &Rows) -> bool
-        ensures { result ≡ differs (map.get self.now name) rows.now }
+    /// Whether the batch of this name has other rows, however either is coded.
+    fn differs(&self, name: BatchName, other: &Segment) -> bool
+        ensures { result ≡ differs (map.get (rows_in self.now) name) other.now.rows }
     {
         match self.get(name) {
             None => false,
-            Some(held) => !same_rows(held.as_slice(), rows.as_slice()),
+            Some(held) => !held.same_rows(other),
         }
     }
 
     /// The first of the other batches that has other rows here under its name.
     pub fn conflict_with(&self, other: &Batches) -> Option<BatchName>
-        ensures { result ≡ conflict_with self.now (map.entries other.now) }
+        ensures { result ≡ conflict_with (rows_in self.now) (map.entries (rows_in other.now)) }
     {
         first_conflict(self, other.entries())
     }
 
     /// Whether the union with the others has more batches than this.
     pub fn union_exceeds(&self, other: &Batches, limit: usize) -> bool
-        ensures { result ≡ nat_lt limit (map.len (union_of self.now other.now)) }
+        ensures { result ≡ nat_lt limit (map.len (union_of (rows_in self.now) (rows_in other.now))) }
     {
         self.len() > limit || count_lacked(self, other.entries()) > limit - self.len()
     }
 
-    /// Takes in copies of the other's batches whose names aren't here. It takes as many steps as there are batches on both
+    /// Takes in copies of the other's batches whose names aren't here, as they are coded there. It takes as many steps as there are batches on both
     /// sides, and for each of the other's a search among the runs of names.
     pub fn join(&mut self, alloc: Global, other: &Batches) -> Result<(), AllocError>
-        ensures ok { OnOk result (self.new ≡ union_of self.old other.now) }
+        ensures ok { OnOk result (self.new ≡ union_in self.old other.now) }
         ensures err { OnErr result (self.new ≡ self.old) }
     {
         let fresh = copies_lacked(alloc, self, other.entries())?;
@@ -121,22 +128,82 @@ impl Batches {
     }
 
     /// Puts in a batch of a proper name that isn't there.
-    pub fn insert(&mut self, name: BatchName, rows: Rows) -> Result<(), AllocError>
+    pub fn insert(&mut self, name: BatchName, segment: Segment) -> Result<(), AllocError>
         requires proper { IsTrue (is_proper_name name) }
         requires new { map.get self.old name ≡ None }
-        ensures ok { OnOk result (self.new ≡ map.insert self.old name rows) }
+        ensures ok { OnOk result (self.new ≡ map.insert self.old name segment) }
         ensures err { OnErr result (self.new ≡ self.old) }
     {
         self.entries.reserve(1)?;
         self.held.insert(name)?;
         let at = place(self.entries.as_slice(), name);
-        let _ = self.entries.insert(at, (name, rows));
+        let _ = self.entries.insert(at, (name, segment));
         Ok(())
+    }
+
+    /// Puts a vector of a batch into another coding, where there is one; no row changes.
+    pub fn recode(
+        &mut self,
+        alloc: Global,
+        name: BatchName,
+        column: u32,
+        vector: u32,
+        coding: Coding,
+    ) -> Result<(), Refusal>
+        ensures segments { Acts (λ done. done) self.old result self.new (recoded_in self.old name column vector coding) }
+        ensures rows { rows_in self.new ≡ rows_in self.old }
+    {
+        recode_found(
+            alloc,
+            self.entries.as_mut_slice(),
+            name,
+            column,
+            vector,
+            coding,
+        )
+    }
+}
+
+/// Puts a vector of the batch of this name into another coding.
+fn recode_found(
+    alloc: Global,
+    entries: &mut [(BatchName, Segment)],
+    name: BatchName,
+    column: u32,
+    vector: u32,
+    coding: Coding,
+) -> Result<(), Refusal>
+    requires { T (map.is_sorted name_cmp entries.old) }
+    ensures acts { RecodesEntries entries.old entries.new result name column vector coding }
+{
+    let Some(at) = held_at(entries, name) else {
+        return Err(Refusal::NoSuchVector);
+    };
+    entries[at].1.recode(alloc, column, vector, coding)
+}
+
+/// The place of the batch of this name.
+fn held_at(entries: &[(BatchName, Segment)], name: BatchName) -> Option<usize>
+    requires { T (map.is_sorted name_cmp entries.now) }
+    ensures held { MatchOption result (map.find name_cmp name entries.now ≡ None) (λ at. HoldsAt entries.now name at) }
+    ensures bound { IfSome result (λ at. at < length entries.now) }
+{
+    let at = place(entries, name);
+    let (_, from_place) = entries.split_at(at);
+    match from_place.split_first() {
+        None => None,
+        Some((first, _)) => {
+            if name.cmp(&first.0).is_eq() {
+                Some(at)
+            } else {
+                None
+            }
+        }
     }
 }
 
 /// How many of the batches have names below this one: the place where it is, or where it would go.
-fn place(entries: &[(BatchName, Rows)], name: BatchName) -> usize
+fn place(entries: &[(BatchName, Segment)], name: BatchName) -> usize
     requires { T (map.is_sorted name_cmp entries.now) }
     ensures { result ≡ count_below name_cmp name entries.now }
 {
@@ -144,7 +211,7 @@ fn place(entries: &[(BatchName, Rows)], name: BatchName) -> usize
 }
 
 /// The greatest number of the origin: that of the last batch whose origin isn't greater, if it is this one.
-fn last_number(entries: &[(BatchName, Rows)], own: Origin) -> u32
+fn last_number(entries: &[(BatchName, Segment)], own: Origin) -> u32
     requires { T (map.is_sorted name_cmp entries.now) }
     ensures { result ≡ greatest_number own entries.now }
 {
@@ -162,11 +229,11 @@ fn last_number(entries: &[(BatchName, Rows)], own: Origin) -> u32
 }
 
 /// The first of these batches that has other rows among ours.
-fn first_conflict(ours: &Batches, theirs: &[(BatchName, Rows)]) -> Option<BatchName>
-    ensures { result ≡ conflict_with ours.now theirs.now }
+fn first_conflict(ours: &Batches, theirs: &[(BatchName, Segment)]) -> Option<BatchName>
+    ensures { result ≡ conflict_in (rows_in ours.now) theirs.now }
 {
-    for (name, rows) in theirs {
-        if ours.differs(*name, rows) {
+    for (name, segment) in theirs {
+        if ours.differs(*name, segment) {
             return Some(*name);
         }
     }
@@ -174,7 +241,7 @@ fn first_conflict(ours: &Batches, theirs: &[(BatchName, Rows)]) -> Option<BatchN
 }
 
 /// How many of these batches have names that aren't among ours.
-fn count_lacked(ours: &Batches, theirs: &[(BatchName, Rows)]) -> usize
+fn count_lacked(ours: &Batches, theirs: &[(BatchName, Segment)]) -> usize
     ensures { result ≡ length (lacked_by ours.now theirs.now) }
 {
     let mut count = 0;
@@ -190,13 +257,13 @@ fn count_lacked(ours: &Batches, theirs: &[(BatchName, Rows)]) -> usize
 fn copies_lacked(
     alloc: Global,
     ours: &Batches,
-    theirs: &[(BatchName, Rows)],
-) -> Result<Vec<(BatchName, Rows)>, AllocError>
+    theirs: &[(BatchName, Segment)],
+) -> Result<Vec<(BatchName, Segment)>, AllocError>
     ensures { IfOk result (λ copies. copies.items ≡ lacked_by ours.now theirs.now) }
 {
     let mut copies = Vec::new(alloc);
-    for (name, rows) in theirs {
-        push_lacked(alloc, ours, *name, rows, &mut copies)?;
+    for (name, segment) in theirs {
+        push_lacked(alloc, ours, *name, segment, &mut copies)?;
     }
     Ok(copies)
 }
@@ -206,23 +273,23 @@ fn push_lacked(
     alloc: Global,
     ours: &Batches,
     name: BatchName,
-    rows: &Rows,
-    copies: &mut Vec<(BatchName, Rows)>,
+    segment: &Segment,
+    copies: &mut Vec<(BatchName, Segment)>,
 ) -> Result<(), AllocError>
-    ensures { OnOk result (copies.new.items ≡ copies.old.items ++ lacked_by ours.now ((name, rows.now) ∷ [])) }
+    ensures { OnOk result (copies.new.items ≡ copies.old.items ++ lacked_by ours.now ((name, segment.now) ∷ [])) }
 {
     if !ours.holds(name) {
-        copies.push((name, Rows::copy_of(alloc, rows.as_slice())?))?;
+        copies.push((name, segment.copy(alloc)?))?;
     }
     Ok(())
 }
 
 /// The batches of both vectors, which are in order, as one in order. There is room for them.
 fn merged(
-    mut ours: Vec<(BatchName, Rows)>,
-    mut fresh: Vec<(BatchName, Rows)>,
-    mut room: Vec<(BatchName, Rows)>,
-) -> Vec<(BatchName, Rows)>
+    mut ours: Vec<(BatchName, Segment)>,
+    mut fresh: Vec<(BatchName, Segment)>,
+    mut room: Vec<(BatchName, Segment)>,
+) -> Vec<(BatchName, Segment)>
     requires empty { room.items ≡ [] }
     requires fits { vec_len ours + vec_len fresh ≤ vec_capacity room }
     ensures { result.items ≡ merge name_cmp ours.items fresh.items }
@@ -237,9 +304,9 @@ fn merged(
 
 /// Takes the lesser of the last batches of both vectors.
 fn pop_lesser(
-    ours: &mut Vec<(BatchName, Rows)>,
-    fresh: &mut Vec<(BatchName, Rows)>,
-) -> Option<(BatchName, Rows)>
+    ours: &mut Vec<(BatchName, Segment)>,
+    fresh: &mut Vec<(BatchName, Segment)>,
+) -> Option<(BatchName, Segment)>
     ensures rest { merge name_cmp (reverse ours.old.items) (reverse fresh.old.items) ≡ option_to_list result ++ merge name_cmp (reverse ours.new.items) (reverse fresh.new.items) }
     ensures fewer { length (option_to_list result) + (vec_len ours.new + vec_len fresh.new) ≡ vec_len ours.old + vec_len fresh.old }
     ensures last { IsNone result → vec_len ours.old + vec_len fresh.old ≡ 0 }
@@ -252,7 +319,7 @@ fn pop_lesser(
 }
 
 /// Whether the last of our batches is the next one.
-fn takes_first(ours: &[(BatchName, Rows)], fresh: &[(BatchName, Rows)]) -> bool
+fn takes_first(ours: &[(BatchName, Segment)], fresh: &[(BatchName, Segment)]) -> bool
     ensures { result ≡ takes_first name_cmp (reverse ours.now) (reverse fresh.now) }
 {
     match (ours.split_last(), fresh.split_last()) {
@@ -262,8 +329,8 @@ fn takes_first(ours: &[(BatchName, Rows)], fresh: &[(BatchName, Rows)]) -> bool
     }
 }
 
-/// The rows of the batch of this name.
-fn found(entries: &[(BatchName, Rows)], name: BatchName) -> Option<&Rows>
+/// The segment of the batch of this name.
+fn found(entries: &[(BatchName, Segment)], name: BatchName) -> Option<&Segment>
     requires { T (map.is_sorted name_cmp entries.now) }
     ensures { option_copied result ≡ map.find name_cmp name entries.now }
 {

@@ -1,20 +1,23 @@
 //! A replica's store: a table's schema, an own origin, and a state that appends, inserts and merges change.
-ghost use Rattle.std.specs.Prelude.{◌≡◌, ◌<◌, ◌≤◌, length, slice_get, Some, None, IfOk, OnOk, OnErr, IsTrue};
+ghost use Rattle.std.specs.Prelude.{◌≡◌, ◌<◌, ◌≤◌, length, slice_get, Some, None, Ok, Err, IsOk, IfOk, IfErr, OnOk, OnErr, IsTrue};
 ghost use Rattle.std.specs.FinMap as map;
 ghost use Rattle.table_model.specs.Name.{is_proper_name};
 ghost use Rattle.transpose_order.specs.Mask.{count_below};
 ghost use Rattle.table_model.specs.Outcome.{Acts, Gives, unless};
 ghost use Rattle.table_model.specs.Table.{IsBatch};
-ghost use Rattle.replica_store.specs.Replica.{new_replica, entries_of, appended, inserted, merged, merge_fault, next_name, place_for, with_batch, with_join, live_count, live_total, is_live_row, deleted_rows, delete_fault, AllShort};
+ghost use Rattle.segment_core.specs.Segment.{canonical_segment};
+ghost use Rattle.replica_store.specs.Replica.{new_replica, entries_of, appended, inserted, merged, merge_fault, next_name, place_for, with_batch, with_join, live_count, is_live_row, deleted_rows, delete_fault, recoded_rows, recode_fault};
+ghost use Rattle.replica_store.specs.Segments.{rows_in, union_in, recoded_in, live_in, AreShort, HasVector};
+ghost use Rattle.segment_core.specs.declared.coding.Coding.{Coding};
+ghost use Rattle.replica_store.specs.declared.inserted.Inserted.TheVariants.{New, Already};
 
 use crate::batches::Batches;
 use crate::inserted::Inserted;
 use catalogue_join::Tombs;
+use segment_core::{Coding, Segment};
 use std::alloc::{AllocError, Global};
 use std::marker::Model;
-use table_model::{
-    BatchName, Number, Origin, Refusal, Row, RowName, Rows, Schema, check_rows, same_rows,
-};
+use table_model::{BatchName, Number, Origin, Refusal, Row, RowName, Schema, check_rows};
 
 /// How many batches a store may have.
 pub const MAX_BATCHES: usize = 65_536;
@@ -25,9 +28,10 @@ const VECTOR_ROWS: usize = 1024;
 /// The greatest number that a batch may have.
 const LAST_NUMBER: u32 = 4_294_967_295;
 
-/// One replica of a table. Contracts see it as a schema, an own origin and a state.
+/// One replica of a table. Contracts see it as the replica, which is a schema, an own origin and a state, and beside that the
+/// segments in which its batches lie, with their codings.
 ///
-/// A call that is refused leaves the store as it was. Want of memory comes after every other refusal.
+/// A call that is refused leaves the store as it was, codings included. Want of memory comes after every other refusal.
 #[derive(Drop)]
 pub struct Store {
     schema: Schema,
@@ -37,15 +41,16 @@ pub struct Store {
 }
 
 impl Model for Store {
-    ghost use Rattle.replica_store.specs.Replica.{Replica, coded_replica, IsSound};
+    ghost use Rattle.replica_store.specs.Replica.{IsSound};
+    ghost use Rattle.replica_store.specs.Segments.{StoreForm, coded_store, rows_in};
 
-    ghost Value = { Replica };
+    ghost Value = { StoreForm };
 
-    ghost coded = { coded_replica };
+    ghost coded = { coded_store };
 
-    ghost view = { λ s. record { schema = s.schema; own = s.own; state = record { batches = s.batches; deleted = s.tombs } } };
+    ghost view = { λ s. record { replica = record { schema = s.schema; own = s.own; state = record { batches = rows_in s.batches; deleted = s.tombs } }; segments = s.batches } };
 
-    ghost invariant = { λ s. IsSound s.schema s.own s.batches };
+    ghost invariant = { λ s. IsSound s.schema s.own (rows_in s.batches) };
 }
 
 impl Store {
@@ -53,7 +58,8 @@ impl Store {
     ///
     /// `BadName` is answered where the origin is 0; else `Memory`, where there is none.
     pub fn new(alloc: Global, schema: &Schema, own: Origin) -> Result<Store, Refusal>
-        ensures { Gives (λ store. store) result (new_replica schema.now own) }
+        ensures value { Gives (λ store. store.replica) result (new_replica schema.now own) }
+        ensures segments { IfOk result (λ store. store.segments ≡ map.empty) }
     {
         if own.0 == 0 {
             return Err(Refusal::BadName);
@@ -69,14 +75,14 @@ impl Store {
 
     /// The table's schema.
     pub fn schema(&self) -> &Schema
-        ensures { result.now ≡ self.now.schema }
+        ensures { result.now ≡ self.now.replica.schema }
     {
         &self.schema
     }
 
     /// The origin of the batches that are appended here.
     pub fn own(&self) -> Origin
-        ensures value { result ≡ self.now.own }
+        ensures value { result ≡ self.now.replica.own }
         ensures proper { 1 ≤ result.0 }
     {
         self.own
@@ -84,33 +90,34 @@ impl Store {
 
     /// How many batches there are.
     pub fn batches(&self) -> usize
-        ensures value { result ≡ map.len self.now.state.batches }
+        ensures value { result ≡ map.len self.now.replica.state.batches }
         ensures limit { result ≤ 65536 }
     {
         self.batches.len()
     }
 
     /// The batch at this place, in ascending order of name and from 0.
-    pub fn batch(&self, index: usize) -> (BatchName, &[Row])
-        requires { index < map.len self.now.state.batches }
-        ensures value { slice_get (entries_of self.now) index ≡ Some (result.0, result.1.now) }
+    pub fn batch(&self, index: usize) -> (BatchName, &Segment)
+        requires { index < map.len self.now.replica.state.batches }
+        ensures value { slice_get (entries_of self.now.replica) index ≡ Some (result.0, result.1.now.rows) }
+        ensures segment { slice_get (map.entries self.now.segments) index ≡ Some (result.0, result.1.now) }
         ensures proper { IsTrue (is_proper_name result.0) }
-        ensures fits { IsBatch self.now.schema result.1.now }
+        ensures fits { IsBatch self.now.replica.schema result.1.now.rows }
     {
-        let (name, rows) = &self.batches.entries()[index];
-        (*name, rows.as_slice())
+        let (name, segment) = &self.batches.entries()[index];
+        (*name, segment)
     }
 
     /// The deleted rows, held here or not.
     pub fn tombs(&self) -> &Tombs
-        ensures { result.now ≡ self.now.state.deleted }
+        ensures { result.now ≡ self.now.replica.state.deleted }
     {
         &self.tombs
     }
 
     /// How many live rows there are: rows of a batch that is held whose names aren't deleted.
     pub fn live_count(&self) -> u64
-        ensures { result ≡ live_count self.now }
+        ensures { result ≡ live_count self.now.replica }
     {
         count_live(self.batches.entries(), &self.tombs)
     }
@@ -120,7 +127,9 @@ impl Store {
     /// Refused are, in this order: the faults of [`check_rows`], `NumbersSpent` where 4,294,967,295 is held, `Full` where
     /// 65,536 batches are held, `Memory`.
     pub fn append(&mut self, alloc: Global, rows: &[Row]) -> Result<BatchName, Refusal>
-        ensures { Acts (λ name. name) self.old result self.new (appended self.old rows.now) }
+        ensures acts { Acts (λ name. name) self.old.replica result self.new.replica (appended self.old.replica rows.now) }
+        ensures segments { IfOk result (λ name. self.new.segments ≡ map.insert self.old.segments name (canonical_segment self.old.replica.schema rows.now)) }
+        ensures refused { OnErr result (self.new ≡ self.old) }
     {
         let name = self.next_name(rows)?;
         self.add(alloc, name, rows)?;
@@ -138,7 +147,10 @@ impl Store {
         name: BatchName,
         rows: &[Row],
     ) -> Result<Inserted, Refusal>
-        ensures { Acts (λ answer. answer) self.old result self.new (inserted self.old name rows.now) }
+        ensures acts { Acts (λ answer. answer) self.old.replica result self.new.replica (inserted self.old.replica name rows.now) }
+        ensures new { result ≡ Ok New → self.new.segments ≡ map.insert self.old.segments name (canonical_segment self.old.replica.schema rows.now) }
+        ensures already { result ≡ Ok Already → self.new ≡ self.old }
+        ensures refused { OnErr result (self.new ≡ self.old) }
     {
         match self.place_for(name, rows)? {
             Inserted::Already => Ok(Inserted::Already),
@@ -154,7 +166,9 @@ impl Store {
     /// Refused are, in this order: `BadName` where the batch's origin or number is 0, `BadRange` where `last` is less than
     /// the first ordinal, `Memory`.
     pub fn delete(&mut self, _alloc: Global, first: RowName, last: u16) -> Result<(), Refusal>
-        ensures { Acts (λ done. done) self.old result self.new (deleted_rows self.old first last) }
+        ensures acts { Acts (λ done. done) self.old.replica result self.new.replica (deleted_rows self.old.replica first last) }
+        ensures segments { self.new.segments ≡ self.old.segments }
+        ensures refused { OnErr result (self.new ≡ self.old) }
     {
         delete_fault(first, last)?;
         self.tombs.insert(first, last)?;
@@ -166,17 +180,55 @@ impl Store {
     /// Refused are, in this order: `SchemaDiffers`, `Conflict` with the least name that has two lists of rows, `Full` where
     /// the union has more than 65,536 batches, `Memory`. The own origin stays.
     pub fn merge(&mut self, alloc: Global, other: &Store) -> Result<(), Refusal>
-        ensures { Acts (λ done. done) self.old result self.new (merged self.old other.now) }
+        ensures acts { Acts (λ done. done) self.old.replica result self.new.replica (merged self.old.replica other.now.replica) }
+        ensures segments { OnOk result (self.new.segments ≡ union_in self.old.segments other.now.segments) }
+        ensures refused { OnErr result (self.new ≡ self.old) }
     {
         self.merge_fault(other)?;
         self.take_all(alloc, other)?;
         Ok(())
     }
 
+    /// Puts a vector of a batch into another coding, in the least form that the coding has; no row changes. Columns and vectors
+    /// count from 0.
+    ///
+    /// Refused are, in this order: `NoSuchVector` where the batch isn't held or has no such column or vector, `Memory`.
+    pub fn recode(
+        &mut self,
+        alloc: Global,
+        name: BatchName,
+        column: u32,
+        vector: u32,
+        coding: Coding,
+    ) -> Result<(), Refusal>
+        ensures acts { Acts (λ done. done) self.old.replica result self.new.replica (recoded_rows self.old.replica name column vector) }
+        ensures segments { Acts (λ done. done) self.old.segments result self.new.segments (recoded_in self.old.segments name column vector coding) }
+        ensures refused { OnErr result (self.new ≡ self.old) }
+    {
+        self.recode_fault(name, column, vector)?;
+        self.batches.recode(alloc, name, column, vector, coding)
+    }
+
+    /// Why a vector isn't put into another coding, if it isn't.
+    fn recode_fault(&self, name: BatchName, column: u32, vector: u32) -> Result<(), Refusal>
+        ensures value { result ≡ unless (recode_fault self.now.replica name column vector) }
+        ensures there { OnOk result ((coding : Coding) → IsOk (recoded_in self.now.segments name column vector coding)) }
+        ensures missing { IfErr result (λ e. (coding : Coding) → recoded_in self.now.segments name column vector coding ≡ Err e) }
+    {
+        let Some(segment) = self.batches.get(name) else {
+            return Err(Refusal::NoSuchVector);
+        };
+        if has_vector(segment, column as usize, vector as usize) {
+            Ok(())
+        } else {
+            Err(Refusal::NoSuchVector)
+        }
+    }
+
     /// The name that an append of the rows gets, or its refusal.
     #[tactic(auto, unfolding(crate::specs::Replica::next_name))]
     fn next_name(&self, rows: &[Row]) -> Result<BatchName, Refusal>
-        ensures value { result ≡ next_name self.now rows.now }
+        ensures value { result ≡ next_name self.now.replica rows.now }
         ensures proper { IfOk result (λ name. IsTrue (is_proper_name name)) }
     {
         check_rows(&self.schema, rows)?;
@@ -196,14 +248,14 @@ impl Store {
     /// Whether the rows are new under the name or held already, or the refusal of an insert.
     #[tactic(auto, unfolding(crate::specs::Replica::place_for))]
     fn place_for(&self, name: BatchName, rows: &[Row]) -> Result<Inserted, Refusal>
-        ensures { result ≡ place_for self.now name rows.now }
+        ensures { result ≡ place_for self.now.replica name rows.now }
     {
         check_rows(&self.schema, rows)?;
         if !name.is_proper() {
             return Err(Refusal::BadName);
         }
         match self.batches.get(name) {
-            Some(held) if same_rows(held.as_slice(), rows) => Ok(Inserted::Already),
+            Some(held) if held.has_rows(rows) => Ok(Inserted::Already),
             Some(_) => Err(Refusal::Conflict(name)),
             None if self.batches.len() >= MAX_BATCHES => Err(Refusal::Full),
             None => Ok(Inserted::New),
@@ -213,21 +265,22 @@ impl Store {
     /// Puts in a batch that was decided on.
     fn add(&mut self, alloc: Global, name: BatchName, rows: &[Row]) -> Result<(), AllocError>
         requires proper { IsTrue (is_proper_name name) }
-        requires new { map.get self.old.state.batches name ≡ None }
-        requires room { map.len self.old.state.batches < 65536 }
-        requires fit { IsBatch self.old.schema rows.now }
-        ensures ok { OnOk result (self.new ≡ with_batch self.old name rows.now) }
+        requires new { map.get self.old.replica.state.batches name ≡ None }
+        requires room { map.len self.old.replica.state.batches < 65536 }
+        requires fit { IsBatch self.old.replica.schema rows.now }
+        ensures ok { OnOk result (self.new.replica ≡ with_batch self.old.replica name rows.now) }
+        ensures segments { OnOk result (self.new.segments ≡ map.insert self.old.segments name (canonical_segment self.old.replica.schema rows.now)) }
         ensures err { OnErr result (self.new ≡ self.old) }
     {
-        let copied = Rows::copy_of(alloc, rows)?;
-        self.batches.insert(name, copied)?;
+        let segment = Segment::build(alloc, &self.schema, rows)?;
+        self.batches.insert(name, segment)?;
         Ok(())
     }
 
     /// Why a merge is refused, if it is.
     #[tactic(auto, unfolding(crate::specs::Replica::merge_fault))]
     fn merge_fault(&self, other: &Store) -> Result<(), Refusal>
-        ensures { result ≡ unless (merge_fault self.now other.now) }
+        ensures { result ≡ unless (merge_fault self.now.replica other.now.replica) }
     {
         if !self.schema.same(&other.schema) {
             return Err(Refusal::SchemaDiffers);
@@ -243,8 +296,9 @@ impl Store {
 
     /// Takes in the batches and deletions of another store, with which a merge isn't refused.
     fn take_all(&mut self, alloc: Global, other: &Store) -> Result<(), AllocError>
-        requires { merge_fault self.old other.now ≡ None }
-        ensures ok { OnOk result (self.new ≡ with_join self.old other.now) }
+        requires { merge_fault self.old.replica other.now.replica ≡ None }
+        ensures ok { OnOk result (self.new.replica ≡ with_join self.old.replica other.now.replica) }
+        ensures segments { OnOk result (self.new.segments ≡ union_in self.old.segments other.now.segments) }
         ensures err { OnErr result (self.new ≡ self.old) }
     {
         let tombs = self.tombs.joined(&other.tombs)?;
@@ -252,6 +306,14 @@ impl Store {
         self.tombs = tombs;
         Ok(())
     }
+}
+
+/// Whether the segment has a vector at this place of this column.
+fn has_vector(segment: &Segment, column: usize, vector: usize) -> bool
+    ensures { HasVector segment.now column vector result }
+{
+    let vectors = segment.rows().div_ceil(VECTOR_ROWS);
+    column < segment.columns() && vector < vectors
 }
 
 /// Why a delete is refused, if it is.
@@ -269,14 +331,14 @@ fn delete_fault(first: RowName, last: u16) -> Result<(), Refusal>
 }
 
 /// How many rows of the batches aren't deleted.
-fn count_live(entries: &[(BatchName, Rows)], tombs: &Tombs) -> u64
+fn count_live(entries: &[(BatchName, Segment)], tombs: &Tombs) -> u64
     requires limit { length entries.now ≤ 65536 }
-    requires short { AllShort entries.now }
-    ensures { result ≡ live_total tombs.now entries.now }
+    requires short { AreShort entries.now }
+    ensures { result ≡ live_in tombs.now entries.now }
 {
     let mut count = 0;
-    for (name, rows) in entries {
-        count += count_live_rows(*name, rows.as_slice().len(), tombs) as u64;
+    for (name, segment) in entries {
+        count += count_live_rows(*name, segment.rows(), tombs) as u64;
     }
     count
 }

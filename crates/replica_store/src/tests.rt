@@ -1,5 +1,6 @@
 //! Stores at values worked out by hand from the rules of names, refusals, states and merges.
 use super::*;
+use segment_core::{Coding, Segment};
 use std::alloc::{AllocError, Global};
 use std::test::Fail;
 use table_model::{BatchName, ColType, Number, Origin, Refusal, Row, RowName, Schema};
@@ -87,21 +88,25 @@ fn told_store(alloc: Global, own: u32, told: &[Told]) -> Result<Store, Refusal> 
     Ok(store)
 }
 
-fn has_rows(rows: &[Row], values: &[i128]) -> bool {
-    for (row, value) in rows.iter().zip(values) {
-        if row.cells() != [Some(*value)].as_slice() {
+/// Whether the segment has one column with these values.
+fn has_values(segment: &Segment, values: &[i128]) -> bool {
+    if segment.rows() != values.len() || segment.columns() != 1 {
+        return false;
+    }
+    for (ordinal, value) in values.iter().enumerate() {
+        if segment.value(ordinal, 0).map(i128::from) != Some(*value) {
             return false;
         }
     }
-    rows.len() == values.len()
+    true
 }
 
 fn has_batch(store: &Store, index: usize, batch: OneColumn<'_>) -> bool {
     if index >= store.batches() {
         return false;
     }
-    let (found, rows) = store.batch(index);
-    found == name(batch.0, batch.1) && has_rows(rows, batch.2)
+    let (found, segment) = store.batch(index);
+    found == name(batch.0, batch.1) && has_values(segment, batch.2)
 }
 
 /// Whether these are the batches of the store, in their order.
@@ -294,36 +299,7 @@ fn an_insert_answers_the_first_refusal_in_order(rt: HostRuntime) -> Result<(), F
     Ok(())
 }
 
-/// A store of 65,536 batches of one row.
-fn full_store(alloc: Global) -> Result<Store, Refusal> {
-    let mut store = store_of(alloc, 1)?;
-    let rows = rows_of(alloc, &[3])?;
-    for _ in 0..65_536 {
-        let _ = store.append(alloc, rows.as_slice())?;
-    }
-    Ok(store)
-}
-
 // A name that is held is answered before the limit of 65,536 batches; one more batch under a new name is too many.
-#[test]
-fn a_store_of_65_536_batches_is_full(rt: HostRuntime) -> Result<(), Fail> {
-    let mut store = full_store(rt.alloc())?;
-    let cases = [
-        (2, 1, 3, Err(Refusal::Full)),
-        (1, 9, 3, Ok(Inserted::Already)),
-        (1, 9, 4, Err(Refusal::Conflict(name(1, 9)))),
-    ];
-    for (origin, number, value, want) in cases {
-        let answer = insert(rt.alloc(), &mut store, (origin, number, &[value]));
-        assert!(rt; answer == want, "answered {answer:?}");
-    }
-    let rows = rows_of(rt.alloc(), &[3])?;
-    let answer = store.append(rt.alloc(), rows.as_slice());
-    assert!(rt; answer == Err(Refusal::Full), "answered {answer:?}");
-    assert!(rt; store.batches() == 65_536 && store.live_count() == 65_536);
-    Ok(())
-}
-
 // Rows are refused before a name is given; the longest batch is named, and the store is as before after a refusal.
 #[test]
 fn an_append_has_1_to_65_536_rows(rt: HostRuntime) -> Result<(), Fail> {
@@ -430,5 +406,55 @@ fn neither_order_nor_bracketing_of_merges_matters(rt: HostRuntime) -> Result<(),
         let right = merged_from_the_right(rt.alloc(), parts)?;
         assert!(rt; has_all(&left) && has_all(&right));
     }
+    Ok(())
+}
+
+/// The coding of the first vector of the first batch.
+fn first_coding(store: &Store) -> Option<Coding> {
+    if store.batches() == 0 {
+        return None;
+    }
+    let (_, segment) = store.batch(0);
+    if segment.rows() == 0 || segment.columns() == 0 {
+        return None;
+    }
+    Some(segment.coding(0, 0))
+}
+
+/// Vectors that aren't there: a batch's origin and number, a column and a vector.
+const NO_VECTORS: [(u32, u32, u32, u32); 4] = [
+    (9, 9, 0, 0),
+    (0, 1, 0, 0),
+    (1, 1, 1, 0),
+    (1, 1, 0, 1),
+];
+
+// A value alone is coded as FOR, whose payload of none is the smallest; merges keep the codings of either side.
+#[test]
+fn a_recoded_batch_merges_and_keeps_its_coding(rt: HostRuntime) -> Result<(), Fail> {
+    let mut first = told_store(rt.alloc(), 1, &[Told::Batch(1, 1, &[7])])?;
+    let mut second = store_of(rt.alloc(), 2)?;
+    second.merge(rt.alloc(), &first)?;
+    for coding in [Coding::For, Coding::Delta, Coding::Runs, Coding::Dict] {
+        second.recode(rt.alloc(), name(1, 1), 0, 0, coding)?;
+        assert!(rt; first_coding(&second) == Some(coding) && has_batches(&second, &[(1, 1, &[7])]));
+    }
+    first.merge(rt.alloc(), &second)?;
+    second.merge(rt.alloc(), &first)?;
+    assert!(rt;
+        first_coding(&first) == Some(Coding::For) && first_coding(&second) == Some(Coding::Dict)
+    );
+    assert!(rt; first.live_count() == 1 && second.live_count() == 1);
+    for (origin, number, column, vector) in NO_VECTORS {
+        let answer = second.recode(
+            rt.alloc(),
+            name(origin, number),
+            column,
+            vector,
+            Coding::For,
+        );
+        assert!(rt; answer == Err(Refusal::NoSuchVector));
+    }
+    assert!(rt; first_coding(&second) == Some(Coding::Dict));
     Ok(())
 }

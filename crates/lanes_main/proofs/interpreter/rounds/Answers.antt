@@ -1,7 +1,7 @@
 use Rattle.std.proofs.Common.{◌∙◌, ◌+◌, arith, inr, refl, sym, subst, List, ℕ, None}
 use Rattle.std.proofs.lemmas.Result.{err_from_is_err_and}
 use Rattle.lanes_main.specs.Told.{GaveMore, Sofar}
-use Rattle.lanes_main.proofs.Tellings.{told_start, told_front, gave_within, gave_more, failed_since}
+use Rattle.lanes_main.proofs.Tellings.{told_start, told_front, told_reached, gave_within, gave_more, failed_since}
 use Rattle.lanes_main.proofs.interpreter.rounds.Goals as goal
 
 pub returns-in_err-count-clause-early : goal.returns-in_err-count-clause-early
@@ -12,12 +12,9 @@ returns-in_err-count-clause-early g c =
 pub returns-in_err-count-clause-reached : goal.returns-in_err-count-clause-reached
 returns-in_err-count-clause-reached g c =
     let p = err_from_is_err_and c.from_residual.result c.from_residual.ensures.1 in
-    rw (p.1, p.2) (λ is. (
-      c.loop-turn.session.cluster,
-      c.loop-turn.session.line,
-      c.loop-turn.total,
-      c.in_err-count.ensures.reached is (g.R.Read.remaining c.args.reader.now.0) (g.W.Write.contents c.args.writer.now.0) c.loop-turn.total c.loop-turn.invariant.told,
-    ))
+    rw (p.1, p.2) (λ is.
+    told_reached (g.R.Read.remaining c.args.reader.now.0) (g.R.Read.remaining c.round.new.reader.0) (g.W.Write.contents c.args.writer.now.0) (g.W.Write.contents c.round.new.writer.0) c.loop-turn.session.cluster c.loop-turn.session.line c.loop-turn.total
+    (c.in_err-count.ensures.reached is (g.R.Read.remaining c.args.reader.now.0) (g.W.Write.contents c.args.writer.now.0) c.loop-turn.total c.loop-turn.invariant.told))
 
 pub returns-in_err-count-clause-fault : goal.returns-in_err-count-clause-fault
 returns-in_err-count-clause-fault g c =
@@ -57,7 +54,8 @@ returns-then-total-gt-READ_LIMIT-clause-early g c =
 
 pub returns-then-total-gt-READ_LIMIT-clause-reached : goal.returns-then-total-gt-READ_LIMIT-clause-reached
 returns-then-total-gt-READ_LIMIT-clause-reached g c = λ is.
-    (c.round.new.session.cluster, c.round.new.session.line, c.loop-turn.total + c.in_ok-count.count, c.in_ok-count.ensures.told (g.R.Read.remaining c.args.reader.now.0) (g.W.Write.contents c.args.writer.now.0) c.loop-turn.total c.loop-turn.invariant.told)
+    told_reached (g.R.Read.remaining c.args.reader.now.0) (g.R.Read.remaining c.round.new.reader.0) (g.W.Write.contents c.args.writer.now.0) (g.W.Write.contents c.round.new.writer.0) c.round.new.session.cluster c.round.new.session.line (c.loop-turn.total + c.in_ok-count.count)
+    (c.in_ok-count.ensures.told (g.R.Read.remaining c.args.reader.now.0) (g.W.Write.contents c.args.writer.now.0) c.loop-turn.total c.loop-turn.invariant.told)
 
 pub returns-then-total-gt-READ_LIMIT-clause-fault : goal.returns-then-total-gt-READ_LIMIT-clause-fault
 returns-then-total-gt-READ_LIMIT-clause-fault g c = (

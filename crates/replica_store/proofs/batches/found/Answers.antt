@@ -2,7 +2,7 @@
 use Rattle.std.proofs.Common.{rules, arith, ap, ◌∙◌, ◌≡◌, drop, ℕ, List}
 use Rattle.table_model.specs.Name.{name_cmp}
 use Rattle.table_model.proofs.NameOrder.{names_total}
-use Rattle.replica_store.proofs.Maps.{Entry}
+use Rattle.replica_store.specs.Segments.{Entry}
 use Rattle.replica_store.proofs.Places.{count_below-le, find-none, find-first, find-other}
 use Rattle.replica_store.proofs.batches.found.Goals as goal
 

@@ -15,10 +15,10 @@ unfolding append_step
 returns-in_err-name c =
     let p = err_from_is_err_and c.from_residual.result c.from_residual.ensures.1 in
     rw (p.1, p.2) (call_refused Named c.args.self.now c.self.inside.schema c.self.inside.stores.items c.args.replica c.in-Some.place (λ r. appended r c.args.rows.now) c.index_mut.result.now c.append.new.self c.in_err-name.field-0.0
-    c.self.view_is c.in-Some.ensures.place c.in-Some.ensures.bound c.index_mut.ensures.value c.in_err-name.ensures)
+    c.self.view_is c.in-Some.ensures.place c.in-Some.ensures.bound c.index_mut.ensures.value c.in_err-name.ensures.refused c.in_err-name.ensures.acts)
 
 pub returns : goal.returns
 unfolding append_step
 returns c =
     call_done Named c.args.self.now c.self.inside.schema c.self.inside.stores.items c.args.replica c.in-Some.place (λ r. appended r c.args.rows.now) c.index_mut.result.now c.append.new.self c.in_ok-name.name
-    c.self.view_is c.in-Some.ensures.place c.in-Some.ensures.bound c.index_mut.ensures.value c.in_ok-name.ensures
+    c.self.view_is c.in-Some.ensures.place c.in-Some.ensures.bound c.index_mut.ensures.value c.in_ok-name.ensures.acts

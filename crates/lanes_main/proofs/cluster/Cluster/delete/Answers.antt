@@ -14,10 +14,10 @@ unfolding delete_step
 returns-in_err-delete c =
     let p = err_from_is_err_and c.from_residual.result c.from_residual.ensures.1 in
     rw (p.1, p.2) (call_refused done_reply c.args.self.now c.self.inside.schema c.self.inside.stores.items c.args.replica c.in-Some.place (λ r. deleted_rows r c.args.first c.args.last) c.index_mut.result.now c.delete.new.self c.in_err-delete.field-0.0
-    c.self.view_is c.in-Some.ensures.place c.in-Some.ensures.bound c.index_mut.ensures.value c.in_err-delete.ensures)
+    c.self.view_is c.in-Some.ensures.place c.in-Some.ensures.bound c.index_mut.ensures.value c.in_err-delete.ensures.refused c.in_err-delete.ensures.acts)
 
 pub returns : goal.returns
 unfolding delete_step
 returns c =
     call_done done_reply c.args.self.now c.self.inside.schema c.self.inside.stores.items c.args.replica c.in-Some.place (λ r. deleted_rows r c.args.first c.args.last) c.index_mut.result.now c.delete.new.self c.in_ok-delete.field-0
-    c.self.view_is c.in-Some.ensures.place c.in-Some.ensures.bound c.index_mut.ensures.value c.in_ok-delete.ensures
+    c.self.view_is c.in-Some.ensures.place c.in-Some.ensures.bound c.index_mut.ensures.value c.in_ok-delete.ensures.acts

@@ -15,10 +15,10 @@ unfolding insert_step
 returns-in_err-inserted c =
     let p = err_from_is_err_and c.from_residual.result c.from_residual.ensures.1 in
     rw (p.1, p.2) (call_refused Put c.args.self.now c.self.inside.schema c.self.inside.stores.items c.args.replica c.in-Some.place (λ r. inserted r c.args.name c.args.rows.now) c.index_mut.result.now c.insert.new.self c.in_err-inserted.field-0.0
-    c.self.view_is c.in-Some.ensures.place c.in-Some.ensures.bound c.index_mut.ensures.value c.in_err-inserted.ensures)
+    c.self.view_is c.in-Some.ensures.place c.in-Some.ensures.bound c.index_mut.ensures.value c.in_err-inserted.ensures.refused c.in_err-inserted.ensures.acts)
 
 pub returns : goal.returns
 unfolding insert_step
 returns c =
     call_done Put c.args.self.now c.self.inside.schema c.self.inside.stores.items c.args.replica c.in-Some.place (λ r. inserted r c.args.name c.args.rows.now) c.index_mut.result.now c.insert.new.self c.in_ok-inserted.inserted
-    c.self.view_is c.in-Some.ensures.place c.in-Some.ensures.bound c.index_mut.ensures.value c.in_ok-inserted.ensures
+    c.self.view_is c.in-Some.ensures.place c.in-Some.ensures.bound c.index_mut.ensures.value c.in_ok-inserted.ensures.acts

@@ -16,12 +16,13 @@ pub returns-in_err-merge_apart : goal.returns-in_err-merge_apart
 returns-in_err-merge_apart c =
     let p = err_from_is_err_and c.from_residual.result c.from_residual.ensures.1 in
     let apart : c.in-Some.place ≢ c.in-Some-place_of.from = c.if-place-from.false in
+    let same_len : length c.merge_apart.new.stores ≡ length c.as_mut_slice.result.now = c.merge_apart.ensures.count in
     rw (p.1, p.2) (merge_refused c.args.self.now c.self.inside.schema c.self.inside.stores.items c.as_mut_slice.result.now c.merge_apart.new.stores c.self.inside.stores.len c.args.replica c.args.other c.in-Some.place c.in-Some-place_of.from c.in_err-merge_apart.field-0.0
-    c.self.view_is c.as_mut_slice.ensures.value c.self.inside.stores.ok.0 c.in-Some.ensures.place c.in-Some-place_of.ensures.place apart c.in_err-merge_apart.ensures)
+    c.self.view_is c.as_mut_slice.ensures.value c.self.inside.stores.ok.0 same_len c.in-Some.ensures.place c.in-Some-place_of.ensures.place apart c.in_err-merge_apart.ensures.acts)
 
 pub returns : goal.returns
 returns c =
     let apart : c.in-Some.place ≢ c.in-Some-place_of.from = c.if-place-from.false in
-    let same_len : length c.merge_apart.new.stores ≡ length c.as_mut_slice.result.now = search rules in
+    let same_len : length c.merge_apart.new.stores ≡ length c.as_mut_slice.result.now = c.merge_apart.ensures.count in
     merge_done c.args.self.now c.self.inside.schema c.self.inside.stores.items c.as_mut_slice.result.now c.merge_apart.new.stores c.self.inside.stores.len c.args.replica c.args.other c.in-Some.place c.in-Some-place_of.from c.in_ok-merge_apart.field-0
-    c.self.view_is c.as_mut_slice.ensures.value c.self.inside.stores.ok.0 same_len c.in-Some.ensures.place c.in-Some-place_of.ensures.place apart c.in_ok-merge_apart.ensures
+    c.self.view_is c.as_mut_slice.ensures.value c.self.inside.stores.ok.0 same_len c.in-Some.ensures.place c.in-Some-place_of.ensures.place apart c.in_ok-merge_apart.ensures.acts

@@ -1,26 +1,46 @@
 -- The limits are kept: by a batch that goes in, and where none does.
-use Rattle.std.proofs.Common.{sym, ap, subst, ◌∙◌, ◌<◌}
+use Rattle.std.proofs.Common.{sym, ap, subst, ◌∙◌, ◌≡◌, ◌<◌}
 use Rattle.std.specs.FinMap as map
+use Rattle.std.specs.Prelude.{None}
 use Rattle.table_model.specs.Name.{name_cmp}
 use Rattle.table_model.specs.State.{Batch}
-use Rattle.table_model.specs.Table.{IsBatch}
-use Rattle.replica_store.specs.Replica.{Replica, IsSound, IsWithinLimits}
+use Rattle.table_model.specs.Table.{IsBatch, Table}
+use Rattle.segment_core.specs.Segment.{SegmentForm, canonical_segment}
+use Rattle.replica_store.specs.Replica.{Replica, IsSound, IsWithinLimits, with_batch}
+use Rattle.replica_store.specs.Segments.{StoreForm, rows_in}
 use Rattle.replica_store.proofs.Limits.{IsWithinLimits-insert}
+use Rattle.replica_store.proofs.RowsIn.{rows_in-insert, unheld}
 use Rattle.replica_store.proofs.store.Store.add.Goals as goal
 
+pub build-requires : goal.build-requires
+build-requires c = subst (λ (s : StoreForm). IsBatch s.replica.schema c.args.rows.now) (sym c.self.view_is) c.requires.fit
+
 pub insert-requires-clause-new : goal.insert-requires-clause-new
-insert-requires-clause-new c = ap (λ (r : Replica). map.get r.state.batches c.args.name) c.self.view_is ∙ c.requires.new
+insert-requires-clause-new c = unheld c.self.inside.batches c.args.name (ap (λ (s : StoreForm). map.get s.replica.state.batches c.args.name) c.self.view_is ∙ c.requires.new)
 
 pub invariant_of-self : goal.invariant_of-self
-invariant_of-self c = subst (λ (m : map.FinMap name_cmp Batch). IsSound c.self.inside.schema c.self.inside.own m) (sym c.in_err-insert.ensures.err) c.self.invariant
+invariant_of-self c = subst (λ (m : map.FinMap name_cmp SegmentForm). IsSound c.self.inside.schema c.self.inside.own (rows_in m)) (sym c.in_err-insert.ensures.err) c.self.invariant
 
 pub invariant_of-self-2 : goal.invariant_of-self-2
 invariant_of-self-2 c =
-    let none = ap (λ (r : Replica). map.get r.state.batches c.args.name) c.self.view_is ∙ c.requires.new in
-    let room : map.len c.self.inside.batches < 65536 = subst (λ (r : Replica). map.len r.state.batches < 65536) (sym c.self.view_is) c.requires.room in
-    let fit : IsBatch c.self.inside.schema c.in_ok-copied.copied = subst (λ (b : Batch). IsBatch c.self.inside.schema b) (sym c.in_ok-copied.ensures) (subst (λ (r : Replica). IsBatch r.schema c.args.rows.now) (sym c.self.view_is) c.requires.fit) in
+    let none = ap (λ (s : StoreForm). map.get s.replica.state.batches c.args.name) c.self.view_is ∙ c.requires.new in
+    let room : map.len (rows_in c.self.inside.batches) < 65536 = subst (λ (s : StoreForm). map.len s.replica.state.batches < 65536) (sym c.self.view_is) c.requires.room in
+    let fit : IsBatch c.self.inside.schema c.args.rows.now = subst (λ (s : StoreForm). IsBatch s.replica.schema c.args.rows.now) (sym c.self.view_is) c.requires.fit in
+    let all = ap rows_in c.in_ok-insert.ensures.ok ∙ rows_in-insert c.self.inside.batches c.args.name c.in_ok-segment.segment ∙ ap (λ (s : SegmentForm). map.insert (rows_in c.self.inside.batches) c.args.name s.rows) c.in_ok-segment.ensures.value in
     record {
       own_proper = c.self.invariant.own_proper;
-      within = subst (λ (m : map.FinMap name_cmp Batch). IsWithinLimits c.self.inside.schema m) (sym c.in_ok-insert.ensures.ok)
-          (IsWithinLimits-insert c.self.inside.schema c.self.inside.batches c.args.name c.in_ok-copied.copied c.self.invariant.within none room (record { proper = c.requires.proper; fits = fit }));
+      within = subst (λ (m : map.FinMap name_cmp Batch). IsWithinLimits c.self.inside.schema m) (sym all)
+          (IsWithinLimits-insert c.self.inside.schema (rows_in c.self.inside.batches) c.args.name c.args.rows.now c.self.invariant.within none room (record { proper = c.requires.proper; fits = fit }));
     }
+
+pub returns-clause-ok : goal.returns-clause-ok
+returns-clause-ok c =
+    let all = ap rows_in c.in_ok-insert.ensures.ok ∙ rows_in-insert c.self.inside.batches c.args.name c.in_ok-segment.segment ∙ ap (λ (s : SegmentForm). map.insert (rows_in c.self.inside.batches) c.args.name s.rows) c.in_ok-segment.ensures.value in
+    (λ i. record { schema = c.self.inside.schema; own = c.self.inside.own; state = record { batches = all i; deleted = c.self.inside.tombs } })
+    ∙ ap (λ (s : StoreForm). with_batch s.replica c.args.name c.args.rows.now) c.self.view_is
+
+pub returns-clause-segments : goal.returns-clause-segments
+returns-clause-segments c =
+    c.in_ok-insert.ensures.ok
+    ∙ ap (map.insert c.self.inside.batches c.args.name) c.in_ok-segment.ensures.value
+    ∙ ap (λ (s : StoreForm). map.insert s.segments c.args.name (canonical_segment s.replica.schema c.args.rows.now)) c.self.view_is

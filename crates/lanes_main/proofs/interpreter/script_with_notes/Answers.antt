@@ -2,7 +2,12 @@ use Rattle.std.proofs.Common.{◌≡◌, ◌∙◌, ◌++◌, [], List, ℕ, ap}
 use Rattle.std.proofs.lemmas.Result.{err_from_is_err_and}
 use Rattle.lanes_main.specs.Script.{text_from}
 use Rattle.lanes_main.proofs.Tellings.{told_front, told_last, told_all}
-use Rattle.lanes_main.proofs.interpreter.script.Goals as goal
+use Rattle.lanes_main.proofs.interpreter.script_with_notes.Goals as goal
+
+pub returns-in_err-session-clause-reached : goal.returns-in_err-session-clause-reached
+returns-in_err-session-clause-reached g c =
+    let p = err_from_is_err_and c.from_residual-in_err-session.result c.from_residual-in_err-session.ensures.1 in
+    rw (p.1, p.2) c.in_err-session.ensures.reached
 
 pub returns-in_err-finish-clause-text : goal.returns-in_err-finish-clause-text
 returns-in_err-finish-clause-text g c =

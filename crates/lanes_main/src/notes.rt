@@ -1,0 +1,54 @@
+//! Notes on the lines that were refused.
+
+use crate::expected::expected;
+use std::alloc::{AllocError, Global};
+use std::io::Write;
+use table_model::Refusal;
+
+/// The notes on refused lines that nobody was told yet: for each its number, counted from 1, its reply, and where it is no
+/// command what was expected there.
+#[derive(Drop)]
+pub struct Notes {
+    lines: u64,
+    text: Vec<u8>,
+}
+
+impl Notes {
+    /// No note, before the first line.
+    pub fn new(alloc: Global) -> Notes {
+        Notes {
+            lines: 0,
+            text: Vec::new(alloc),
+        }
+    }
+
+    /// Counts a line, which what is noted next is said of.
+    pub fn next_line(&mut self) {
+        self.lines = self.lines.saturating_add(1);
+    }
+
+    /// Notes that the line is refused.
+    pub fn refused(
+        &mut self,
+        alloc: Global,
+        line: &[u8],
+        has_table: bool,
+        refusal: Refusal,
+    ) -> Result<(), AllocError> {
+        let number = self.lines;
+        let note = match refusal {
+            Refusal::BadLine => format!(in alloc;
+                "line {number}: refused {refusal}: {}\n",
+                expected(line, has_table)
+            )?,
+            _ => format!(in alloc; "line {number}: refused {refusal}\n")?,
+        };
+        self.text.extend_from_slice(note.as_bytes())
+    }
+
+    /// Writes the notes, as far as the writer takes them, and forgets them.
+    pub fn tell<N: Write>(&mut self, writer: &mut N) {
+        let _ = writer.write_all(self.text.as_slice());
+        self.text.clear();
+    }
+}

@@ -1,0 +1,9 @@
+-- A vector that isn't there is refused before any growth.
+use Rattle.std.proofs.Common.{refl, inl}
+use Rattle.std.proofs.lemmas.Result.{err_from_is_err_and}
+use Rattle.replica_store.proofs.store.Store.recode.Goals as goal
+
+pub returns-in_err-recode_fault-clause-segments : goal.returns-in_err-recode_fault-clause-segments
+returns-in_err-recode_fault-clause-segments c =
+    let p = err_from_is_err_and c.from_residual.result c.from_residual.ensures.1 in
+    rw (p.1, p.2) (refl, inl (c.in_err-recode_fault.ensures.missing c.args.coding))

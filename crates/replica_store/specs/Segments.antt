@@ -1,0 +1,86 @@
+-- A store: a replica, and beside it the segments that its batches lie in, which have their codings.
+use Rattle.std.specs.Prelude.{◌≡◌, ◌⊎◌, ◌&&◌, Bool, is_some, nat_lt, slice_get, ℕ, cond, List, [], ◌∷◌, ◌++◌, ◌+◌, ◌≤◌, length, slice_set, Option, Some, None, Result, Ok, Err, refl}
+use Rattle.std.specs.Coded.{Coded, code_by, coded×}
+use Rattle.std.specs.FinMap as map
+use Rattle.std.specs.FinSet as set
+use Rattle.transpose_order.specs.Mask.{count_below}
+use Rattle.table_model.specs.Name.{name_cmp, row_name_cmp, coded_name}
+use Rattle.table_model.specs.Outcome.{Acts}
+use Rattle.table_model.specs.State.{Batch}
+use Rattle.table_model.specs.declared.names.BatchName.{BatchName}
+use Rattle.table_model.specs.declared.refusal.Refusal.{Refusal}
+use Rattle.table_model.specs.declared.refusal.Refusal.TheVariants.{NoSuchVector}
+use Rattle.table_model.specs.Table.{Table, IsBatch}
+use Rattle.segment_core.specs.Segment.{SegmentForm, recoded, vector_at}
+use Rattle.segment_core.specs.declared.coding.Coding.{Coding}
+use Rattle.replica_store.specs.SegmentCode.{coded_segment}
+use Rattle.replica_store.specs.Replica.{Replica, coded_replica, differs, is_live_row, vectors_of}
+
+-- a batch's segment with its name
+abbrev pub Entry : Type 0
+Entry = BatchName × SegmentForm
+
+-- the rows of segments
+abbrev pub rows_entries : List Entry → List (BatchName × Batch)
+rows_entries [] = []
+rows_entries (e ∷ es) = (e.0, e.1.rows) ∷ rows_entries es
+
+-- the rows of each segment of a map
+unfoldable pub rows_in : map.FinMap name_cmp SegmentForm → map.FinMap name_cmp Batch
+rows_in segments = map.from_sorted (rows_entries (map.entries segments))
+
+-- what either map has; where both have a name, what the first has there
+unfoldable pub union_in : {X : Type 0} → map.FinMap name_cmp X → map.FinMap name_cmp X → map.FinMap name_cmp X
+union_in m n = map.from_entries (map.entries m ++ map.entries n)
+
+-- a store: a replica, and the segments of its batches, whose rows are the batches of its state
+pub record StoreForm : Type 0 where
+  pub replica : Replica
+  pub segments : map.FinMap name_cmp SegmentForm
+
+-- a store by its parts
+abbrev pub coded_store : Coded StoreForm
+coded_store = code_by (Replica × map.FinMap name_cmp SegmentForm) (coded× coded_replica (map.code coded_name coded_segment)) (λ s. (s.replica, s.segments)) (λ p. record { replica = p.0; segments = p.1 }) (λ _. refl)
+
+-- a segment that was looked for, with a vector in another coding
+abbrev pub recoded_held : Option SegmentForm → ℕ → ℕ → Coding → Result (Unit {0} × SegmentForm) Refusal
+recoded_held None column vector coding = Err NoSuchVector
+recoded_held (Some s) column vector coding = recoded s column vector coding
+
+abbrev pub put_under : map.FinMap name_cmp SegmentForm → BatchName → Result (Unit {0} × SegmentForm) Refusal → Result (Unit {0} × map.FinMap name_cmp SegmentForm) Refusal
+put_under segments name (Ok made) = Ok (tt, map.insert segments name made.1)
+put_under segments name (Err e) = Err e
+
+-- the segments with the least form of a coding in the place of one vector
+unfoldable pub recoded_in : map.FinMap name_cmp SegmentForm → BatchName → ℕ → ℕ → Coding → Result (Unit {0} × map.FinMap name_cmp SegmentForm) Refusal
+recoded_in segments name column vector coding = put_under segments name (recoded_held (map.get segments name) column vector coding)
+
+-- the first of the segments whose rows differ from those held under its name
+abbrev pub conflict_in : map.FinMap name_cmp Batch → List Entry → Option BatchName
+conflict_in ours [] = None
+conflict_in ours (e ∷ es) = cond (differs (map.get ours e.0) e.1.rows) (Some e.0) (conflict_in ours es)
+
+-- how many rows of the segments aren't deleted
+abbrev pub live_in : set.FinSet row_name_cmp → List Entry → ℕ
+live_in deleted [] = 0
+live_in deleted (e ∷ es) = count_below (is_live_row deleted e.0) (length e.1.rows) + live_in deleted es
+
+-- no segment is longer than a batch may be
+abbrev pub AreShort : List Entry → Type 0
+AreShort [] = Unit {0}
+AreShort (e ∷ es) = (length e.1.rows ≤ 65536) × AreShort es
+
+-- the entry at a place has this name
+abbrev pub HoldsAt : List Entry → BatchName → ℕ → Type 0
+HoldsAt es name at = (s : SegmentForm) × (slice_get es at ≡ Some (name, s))
+
+-- the entries after a vector of the segment under a name was to be put into another coding
+abbrev pub RecodesEntries : List Entry → List Entry → Result (Unit {0}) Refusal → BatchName → ℕ → ℕ → Coding → Type 0
+RecodesEntries old new result name column vector coding =
+    ((map.find name_cmp name old ≡ None) × (result ≡ Err NoSuchVector) × (new ≡ old)) ⊎
+    ((at : ℕ) × (s made : SegmentForm) × (slice_get old at ≡ Some (name, s)) × (new ≡ slice_set old at (name, made)) × (made.rows ≡ s.rows) × Acts (λ done. done) s result made (recoded s column vector coding))
+
+-- the test tells whether a segment has a vector at a place of a column: as many columns as its rows have cells, and a vector for each 1024 rows
+pub record HasVector (s : SegmentForm) (column vector : ℕ) (test : Bool) : Type 0 where
+  pub found : is_some (vector_at s.forms column vector) ≡ test
+  pub columns : (table : Table) → IsBatch table s.rows → test ≡ (nat_lt column (length table.columns) && nat_lt vector (vectors_of s.rows))
