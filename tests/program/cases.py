@@ -45,7 +45,15 @@ CASES = [
     Case("a second file is one too", ["run", "a", "b"], 2, err=[b"unexpected argument 'b'"], files={"a": FIRST, "b": FIRST}),
     Case("an argument that isn't UTF-8 is one too", ["run", b"\xff"], 2, err=[b"an argument is not UTF-8"]),
     Case("help names the commands", ["--help"], 0, [b"Usage: lanes <COMMAND>", b"\n  run ", b"--version"]),
-    Case("help of a command shows an example and names the page of the script language", ["run", "--help"], 0, [b"Usage: lanes run [FILE]", b"table 2 T A SMALLINT", b"docs/FORMATS.md"]),
+    Case("help of a command shows an example and names the page of the script language", ["run", "--help"], 0, [b"Usage: lanes run [OPTIONS] [FILE]", b"--explain", b"table 2 T A SMALLINT", b"docs/FORMATS.md"]),
     Case("the version is a line", ["--version"], 0, b"lanes 0.1.0\n"),
+    Case(
+        "refused lines are explained where that is asked for, and the replies stay as they are",
+        ["run", "--explain"],
+        0,
+        b"ok\nrefused OutOfType 0 0\nrefused BadLine\nok 1.1\n",
+        b"line 2: refused OutOfType 0 0\nline 4: refused BadLine: rows are written (V,..),(V,..)\n",
+        input=b"table 1 T A SMALLINT\nappend 1 (32768)\n\nappend 1 7\nappend 1 (7)\n",
+    ),
     Case("on a terminal the program says that it waits for lines", ["run"], 0, b"ok\n", [b"reading a script's lines"], input=b"table 1 T A INTEGER\n", input_from="terminal"),
 ]

@@ -4,7 +4,7 @@ ghost use Rattle.std.specs.IoError.{error_kind};
 ghost use Rattle.lanes.specs.Outcome.{IsUnread};
 
 use crate::fault::Fault;
-use clap::{Arg, ArgMatches, Command, error};
+use clap::{Arg, ArgAction, ArgMatches, Command, error};
 use std::alloc::{AllocError, Global};
 use std::env;
 use std::io::{self, ErrorKind};
@@ -30,8 +30,13 @@ pub enum Source<'a> {
 /// What the command line asks for.
 #[derive(Clone, Copy, Debug, PartialEq, Eq)]
 pub enum Request<'a> {
-    /// `lanes run [FILE]`: a script's replies, written to standard output.
-    Run(Source<'a>),
+    /// `lanes run [--explain] [FILE]`: a script's replies, written to standard output.
+    Run {
+        /// Where the script is read from.
+        source: Source<'a>,
+        /// Whether standard error says why each refused line is refused.
+        is_explained: bool,
+    },
 }
 
 /// The program's arguments; otherwise memory lacks for them, or one of them isn't UTF-8.
@@ -54,17 +59,21 @@ pub fn read_request<'a>(alloc: Global, words: &'a [String]) -> Result<Request<'a
     ensures { IfErr result IsUnread }
 {
     let matches = commands(alloc)?.try_get_matches_from(words)?;
-    Ok(Request::Run(source_of(&matches)))
+    match matches.subcommand() {
+        Some((_run, given)) => Ok(run_of(given)),
+        None => Ok(run_of(&matches)),
+    }
 }
 
-/// Where the script of `lanes run` comes from: a file, or standard input where none is named or its name is `-`.
-fn source_of<'a>(matches: &ArgMatches<'a>) -> Source<'a> {
-    match matches.subcommand() {
-        Some((_run, given)) => match given.get_str("FILE") {
-            Some("-") | None => Source::Input,
-            Some(name) => Source::File(name),
-        },
-        None => Source::Input,
+/// What `lanes run` asks for: a script from a file, or from standard input where none is named or its name is `-`.
+fn run_of<'a>(given: &ArgMatches<'a>) -> Request<'a> {
+    let source = match given.get_str("FILE") {
+        Some("-") | None => Source::Input,
+        Some(name) => Source::File(name),
+    };
+    Request::Run {
+        source,
+        is_explained: given.get_flag("explain"),
     }
 }
 
@@ -92,9 +101,14 @@ pub(crate) fn commands<'a>(alloc: Global) -> Result<Command<'a>, AllocError> {
     let file = Arg::new(alloc, "FILE").help(
         "The script's file, or - for standard input, as where none is named",
     );
+    let explain = Arg::new(alloc, "explain")
+        .long("explain")
+        .action(ArgAction::SetTrue)
+        .help("Say on standard error of each refused line its number and why it is refused");
     let run = Command::new(alloc, "run")
         .about("Runs a script and writes its replies to standard output")
         .after_help(SCRIPT_HELP)
+        .arg(explain)?
         .arg(file)?;
     Command::new(alloc, "lanes")
         .about("A replicated column store for one table of nullable integer columns")

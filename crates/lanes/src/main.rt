@@ -8,47 +8,63 @@ mod tests;
 
 use crate::command_line::{Request, Source};
 use crate::fault::Fault;
-use lanes_main::script;
+use lanes_main::{script, script_with_notes};
 use std::fs::{self, Files};
-use std::io::{self, IsTerminal, Read};
+use std::io::{self, IsTerminal, Read, Write};
 use std::process::ExitCode;
 use std::rt::Env;
 use table_model::{Counted, Refusal};
 
+/// What a person at a terminal is told.
+const WAITING: &str =
+    "lanes: reading a script's lines; lanes run --help shows some, and an end of input ends it\n";
+
 fn main(rt: HostRuntime) -> ExitCode {
-    match run(&rt, rt.stdin().is_terminal()) {
+    match run(&rt, rt.stdin().is_terminal(), &mut rt.stderr()) {
         Ok(()) => ExitCode::SUCCESS,
         Err(fault) => fault.report(&rt),
     }
 }
 
-/// Does what the command line asks for. Where a person would have to type the script, standard error says that lines are
-/// waited for.
-fn run<R: Print + Eprint + Input + Env + Files + AllocGlobal>(
+/// Does what the command line asks for. Where a person would have to type the script, the notes, which go to standard error,
+/// say that lines are waited for.
+fn run<R: Print + Input + Env + Files + AllocGlobal, N: Write>(
     rt: &R,
     is_typed: bool,
+    notes: &mut N,
 ) -> Result<(), Fault> {
     let words = command_line::arguments(rt)?;
-    match command_line::read_request(rt.alloc(), words.as_slice())? {
-        Request::Run(Source::Input) => {
+    let Request::Run {
+        source,
+        is_explained,
+    } = command_line::read_request(rt.alloc(), words.as_slice())?;
+    match source {
+        Source::Input => {
             if is_typed {
-                let _ = rt.eprintln(
-                    "lanes: reading a script's lines; lanes run --help shows some, and an end of input ends it",
-                );
+                let _ = notes.write_all(WAITING.as_bytes());
             }
-            run_script(rt, rt.reader())
+            run_script(rt, rt.reader(), is_explained, notes)
         }
-        Request::Run(Source::File(name)) => match fs::open(rt, name) {
-            Ok(file) => run_script(rt, file),
+        Source::File(name) => match fs::open(rt, name) {
+            Ok(file) => run_script(rt, file, is_explained, notes),
             Err(_) => Err(Fault::from(Refusal::ReadFault)),
         },
     }
 }
 
-/// Runs a script to its end, and writes its replies to standard output.
-fn run_script<R: Print + AllocGlobal, D: Read + Drop>(rt: &R, source: D) -> Result<(), Fault> {
+/// Runs a script to its end, and writes its replies to standard output, and where that is asked for its notes.
+fn run_script<R: Print + AllocGlobal, D: Read + Drop, N: Write>(
+    rt: &R,
+    source: D,
+    is_explained: bool,
+    notes: &mut N,
+) -> Result<(), Fault> {
     let mut reader = Counted::new(source);
     let mut writer = Counted::new(io::writer(rt));
-    script(rt.alloc(), &mut reader, &mut writer)?;
+    if is_explained {
+        script_with_notes(rt.alloc(), &mut reader, &mut writer, notes)?;
+    } else {
+        script(rt.alloc(), &mut reader, &mut writer)?;
+    }
     Ok(())
 }

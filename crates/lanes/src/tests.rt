@@ -18,7 +18,7 @@ const PROGRAM_HELP: &str =
     "A replicated column store for one table of nullable integer columns\n\nUsage: lanes <COMMAND>\n\nCommands:\n  run   Runs a script and writes its replies to standard output\n  help  Print this message or the help of the given subcommand(s)\n\nOptions:\n  -h, --help     Print help\n  -V, --version  Print version\n";
 
 const RUN_HELP: &str =
-    "Runs a script and writes its replies to standard output\n\nUsage: lanes run [FILE]\n\nArguments:\n  [FILE]  The script's file, or - for standard input, as where none is named\n\nOptions:\n  -h, --help  Print help\n\nA script is lines such as these, each of which has a reply:\n  table 2 T A SMALLINT\n  append 1 (7),(NULL)\n  query 1 SELECT COUNT(*) FROM T\nAll lines and replies are in docs/FORMATS.md, and examples/ has scripts to run.\n";
+    "Runs a script and writes its replies to standard output\n\nUsage: lanes run [OPTIONS] [FILE]\n\nArguments:\n  [FILE]  The script's file, or - for standard input, as where none is named\n\nOptions:\n      --explain  Say on standard error of each refused line its number and why it is refused\n  -h, --help     Print help\n\nA script is lines such as these, each of which has a reply:\n  table 2 T A SMALLINT\n  append 1 (7),(NULL)\n  query 1 SELECT COUNT(*) FROM T\nAll lines and replies are in docs/FORMATS.md, and examples/ has scripts to run.\n";
 
 // Help names each command; a fault names what is wrong, the usage, and where help is.
 const TEXTS: [(&[&str], &str); 9] = [
@@ -32,7 +32,7 @@ const TEXTS: [(&[&str], &str); 9] = [
     ),
     (
         &["lanes", "run", "x", "y"],
-        "error: unexpected argument 'y' found\n\nUsage: lanes run [FILE]\n\nFor more information, try '--help'.\n",
+        "error: unexpected argument 'y' found\n\nUsage: lanes run [OPTIONS] [FILE]\n\nFor more information, try '--help'.\n",
     ),
     (
         &["lanes", "bogus"],
