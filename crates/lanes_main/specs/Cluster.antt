@@ -70,16 +70,19 @@ at_place reply c call (Some at) = held_at reply c at call (slice_get c.stores at
 abbrev pub at_replica : {X : Type 0} → (X → Reply) → ClusterParts → ℕ → (Replica → Result (X × Replica) Refusal) → Result (Reply × ClusterParts) Refusal
 at_replica reply c replica call = at_place reply c call (place_of (length c.stores) replica)
 
+-- the reply to a step that answers nothing but that it is done
 abbrev pub done_reply : Unit {0} → Reply
 done_reply u = Done
 
--- append, insert and delete at a replica
+-- append at a replica
 unfoldable pub append_step : ClusterParts → ℕ → Batch → Result (Reply × ClusterParts) Refusal
 append_step c replica rows = at_replica Named c replica (λ r. appended r rows)
 
+-- insert at a replica
 unfoldable pub insert_step : ClusterParts → ℕ → BatchName → Batch → Result (Reply × ClusterParts) Refusal
 insert_step c replica name rows = at_replica Put c replica (λ r. inserted r name rows)
 
+-- delete at a replica
 unfoldable pub delete_step : ClusterParts → ℕ → RowName → ℕ → Result (Reply × ClusterParts) Refusal
 delete_step c replica first last = at_replica done_reply c replica (λ r. deleted_rows r first last)
 
@@ -92,6 +95,7 @@ abbrev pub stored : List Replica → ℕ → Result (Unit {0} × Replica) Refusa
 stored stores at (Ok done) = Ok (tt, slice_set stores at done.1)
 stored stores at (Err e) = Err e
 
+-- the replicas after the one at a place was merged with another, where both are there
 abbrev pub merged_pair : List Replica → ℕ → Option Replica → Option Replica → Result (Unit {0} × List Replica) Refusal
 merged_pair stores at None other = Err NoSuchReplica
 merged_pair stores at (Some r) None = Err NoSuchReplica
@@ -101,10 +105,12 @@ merged_pair stores at (Some r) (Some other) = stored stores at (merged r other)
 unfoldable pub merged_in : List Replica → ℕ → ℕ → Result (Unit {0} × List Replica) Refusal
 merged_in stores at from = merged_pair stores at (slice_get stores at) (slice_get stores from)
 
+-- the reply to a merge, and the cluster after it
 abbrev pub merge_reply : ClusterParts → Result (Unit {0} × List Replica) Refusal → Result (Reply × ClusterParts) Refusal
 merge_reply c (Ok done) = Ok (Done, record { schema = c.schema; stores = done.1 })
 merge_reply c (Err e) = Err e
 
+-- merge of the replica at a place with the one at another; with itself nothing changes
 abbrev pub merge_places : ClusterParts → Option ℕ → Option ℕ → Result (Reply × ClusterParts) Refusal
 merge_places c None from = Err NoSuchReplica
 merge_places c (Some at) None = Err NoSuchReplica
@@ -122,14 +128,17 @@ count_query table = codes "SELECT COUNT(*) FROM " ++ table.name
 abbrev pub count_answer : ℕ → AnswerParts
 count_answer n = record { heading = codes "COUNT(*)" ∷ []; rows = (Whole (pos n) ∷ []) ∷ [] }
 
+-- the number of live rows of a replica, as the reply to a query
 abbrev pub count_at : ClusterParts → Option Replica → Result (Reply × ClusterParts) Refusal
 count_at c None = Err NoSuchReplica
 count_at c (Some r) = Ok (Answered (count_answer (live_count r)), c)
 
+-- the same of the replica at a place
 abbrev pub count_place : ClusterParts → Option ℕ → Result (Reply × ClusterParts) Refusal
 count_place c None = Err NoSuchReplica
 count_place c (Some at) = count_at c (slice_get c.stores at)
 
+-- a query at a replica: that for the number of live rows is answered, any other is BadLine
 unfoldable pub query_step : ClusterParts → ℕ → List ℕ → Result (Reply × ClusterParts) Refusal
 query_step c replica sql = cond (bytes_eq sql (count_query c.schema)) (count_place c (place_of (length c.stores) replica)) (Err BadLine)
 

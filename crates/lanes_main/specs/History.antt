@@ -15,6 +15,7 @@ use Rattle.lanes_main.specs.declared.step.Step.TheVariants.{Append, Insert, Dele
 pub record Taken : Type 0 where
   pub replicas : List (List Operation)
 
+-- so many sets without an operation
 abbrev pub empty_sets : ℕ → List (List Operation)
 empty_sets zero = []
 empty_sets (suc count) = [] ∷ empty_sets count
@@ -23,6 +24,7 @@ empty_sets (suc count) = [] ∷ empty_sets count
 abbrev pub new_taken : ℕ → Taken
 new_taken count = record { replicas = empty_sets count }
 
+-- the set at a place, empty where there is no place
 abbrev pub set_at : List (List Operation) → Option ℕ → List Operation
 set_at sets None = []
 set_at sets (Some at) = slice_index_or sets at []
@@ -44,6 +46,7 @@ added taken (Delete replica first last) Done = ToReplica replica (map Deletes (r
 added taken (Merge replica other) Done = ToReplica replica (taken_of taken other)
 added taken step reply = Nothing
 
+-- the sets with more operations in the one at a place
 abbrev pub with_set : List (List Operation) → Option ℕ → List Operation → List (List Operation)
 with_set sets None ops = sets
 with_set sets (Some at) ops = slice_set sets at (ops ++ slice_index_or sets at [])
@@ -76,6 +79,7 @@ replicas_of table first (ops ∷ sets) = replica_of table first ops ∷ replicas
 abbrev pub cluster_of : Table → Taken → ClusterParts
 cluster_of table taken = record { schema = table; stores = replicas_of table 1 taken.replicas }
 
+-- no set has two lists of rows under one name
 abbrev pub EachAgrees : List (List Operation) → Type 0
 EachAgrees [] = Unit {0}
 EachAgrees (ops ∷ sets) = AreAgreeing ops × EachAgrees sets

@@ -39,6 +39,7 @@ later_answer c None = (Refused BadLine, Some c)
 later_answer c (Some (commands.Table words)) = (Refused BadLine, Some c)
 later_answer c (Some (commands.Act step)) = goes_on (answered (step_of c step) c)
 
+-- the reply to a command, and what there is after it, before a table is made and after
 abbrev pub command_answer : Option ClusterParts → Option Command → Reply × Option ClusterParts
 command_answer None command = first_answer command
 command_answer (Some c) command = later_answer c command

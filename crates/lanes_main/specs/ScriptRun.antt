@@ -26,6 +26,7 @@ abbrev pub cluster_after : ClusterParts → List Step → ClusterParts
 cluster_after c [] = c
 cluster_after c (step ∷ steps) = cluster_after (answered (step_of c step) c).1 steps
 
+-- the step that a command asks for, if it is one
 abbrev pub step_in : Option Command → Option Step
 step_in None = None
 step_in (Some (commands.Table words)) = None
@@ -44,6 +45,7 @@ abbrev pub unasked_text : List ℕ → List ℕ
 unasked_text [] = []
 unasked_text (c ∷ cs) = reply_text_of (Refused (cond (nat_lt line_limit (length (c ∷ cs))) LineTooLong BadLine))
 
+-- the text of a line and of those after it: of a step the next of the replies, else the refusal
 abbrev pub next_text : Option Step → List ℕ → (List Reply → List ℕ) → List Reply → List ℕ
 next_text None refusal rest replies = refusal ++ rest replies
 next_text (Some step) refusal rest [] = []

@@ -25,6 +25,7 @@ abbrev pub cut : ℕ → List ℕ → Option (List ℕ × List ℕ)
 cut separator [] = None
 cut separator (c ∷ cs) = cond (c == separator) (Some ([], cs)) (option_map (longer c) (cut separator cs))
 
+-- the texts with a byte before the first of them
 abbrev pub onto_first : ℕ → List (List ℕ) → List (List ℕ)
 onto_first c [] = (c ∷ []) ∷ []
 onto_first c (text ∷ texts) = (c ∷ text) ∷ texts
@@ -72,6 +73,7 @@ name_of text = do
 unfoldable pub magnitude_of : List ℕ → Option ℕ
 magnitude_of text = cond (is_numeral 30 text) (Some (digits_value 10 text)) None
 
+-- a number whose sign, if it has one, was taken off
 abbrev pub signed_of : List ℕ → Option (List ℕ) → Option ℤ
 signed_of text (Some digits) = option_map (λ n. neg_ℤ (pos n)) (magnitude_of digits)
 signed_of text None = option_map pos (magnitude_of text)

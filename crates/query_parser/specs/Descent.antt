@@ -341,9 +341,11 @@ abbrev pub read_clause : Sign → Clause → ℕ → Reader (Option Formula)
 read_clause s clause end ts =
     choose (taken s ts) (λ rest. read_condition clause 64 end rest >>= λ r. Ok (Some r.0, r.1)) (Ok (None, ts))
 
+-- WHERE and its condition, if the text goes on so
 unfoldable pub read_filter : ℕ → Reader (Option Formula)
 read_filter end ts = read_clause sign.Where Where end ts
 
+-- HAVING and its condition, if the text goes on so
 unfoldable pub read_having : ℕ → Reader (Option Formula)
 read_having end ts = read_clause sign.Having Having end ts
 

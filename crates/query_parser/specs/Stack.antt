@@ -85,44 +85,57 @@ abbrev pub on_allowed_function : Bool → List Token → Option (List Symbol) �
 on_allowed_function true ts other = on_function ts other
 on_allowed_function false ts other = other
 
+-- how a literal begins
 abbrev pub begin_literal : List Token → Option (List Symbol)
 begin_literal ts = on sign.Plus ts (some_digits ∷ []) (on sign.Minus ts (some_digits ∷ []) (on_digits ts []))
 
+-- how an operand begins
 abbrev pub begin_operand : Clause → List Token → Option (List Symbol)
 begin_operand c ts = on_name ts [] (on_allowed_function (takes_functions c) ts (begin_literal ts))
 
+-- how a predicate begins: by its first operand
 abbrev pub begin_predicate : Clause → List Token → Option (List Symbol)
 begin_predicate c ts = and_then (begin_operand c ts) (an_after_operand c ∷ [])
 
+-- how a primary begins: by a parenthesis round a condition, or as a predicate
 abbrev pub begin_primary : Clause → List Token → Option (List Symbol)
 begin_primary c ts = on sign.OpenParen ts (a_condition c ∷ a_closing ∷ []) (begin_predicate c ts)
 
+-- how a test begins
 abbrev pub begin_test : Clause → List Token → Option (List Symbol)
 begin_test c ts = and_then (begin_primary c ts) (an_is_truth ∷ [])
 
+-- how a factor begins: by NOT, or as a test
 abbrev pub begin_factor : Clause → List Token → Option (List Symbol)
 begin_factor c ts = on sign.Not ts (a_test c ∷ []) (begin_test c ts)
 
+-- how a term begins: by its first factor
 abbrev pub begin_term : Clause → List Token → Option (List Symbol)
 begin_term c ts = and_then (begin_factor c ts) (and_factors c ∷ [])
 
+-- how what follows an operand begins: by BETWEEN or by IN
 abbrev pub begin_range_or_list : Clause → List Token → Option (List Symbol)
 begin_range_or_list c ts =
     on sign.Between ts (an_operand c ∷ a_sign sign.And ∷ an_operand c ∷ [])
     (on sign.In ts (a_sign sign.OpenParen ∷ some_literals ∷ a_sign sign.CloseParen ∷ []) None)
 
+-- how a truth value begins
 abbrev pub begin_truth_word : List Token → Option (List Symbol)
 begin_truth_word ts = on sign.True ts [] (on sign.False ts [] (on sign.Unknown ts [] None))
 
+-- how a select item's value begins: by a name or a set function
 abbrev pub begin_item_value : List Token → Option (List Symbol)
 begin_item_value ts = on_name ts [] (on_function ts None)
 
+-- how a select item begins
 abbrev pub begin_item : List Token → Option (List Symbol)
 begin_item ts = and_then (begin_item_value ts) (an_alias ∷ [])
 
+-- how a set function's argument begins: by DISTINCT, ALL or a name
 abbrev pub begin_quantified : List Token → Option (List Symbol)
 begin_quantified ts = on sign.Distinct ts (a_name ∷ []) (on sign.All ts (a_name ∷ []) (on_name ts [] None))
 
+-- how a set function's argument begins; COUNT has the asterisk besides
 abbrev pub begin_argument : Fold → List Token → Option (List Symbol)
 begin_argument folds.Count ts = on sign.Asterisk ts [] (begin_quantified ts)
 begin_argument folds.Sum ts = begin_quantified ts

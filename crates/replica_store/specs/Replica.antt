@@ -26,6 +26,7 @@ pub record Replica : Type 0 where
 abbrev pub coded_origin : Coded Origin
 coded_origin = code_by ℕ coded_ℕ (λ o. o.0) (λ n. record { 0 = n }) (λ _. refl)
 
+-- a replica by its schema, its own origin and its state
 abbrev pub coded_replica : Coded Replica
 coded_replica = code_by (Table × (Origin × State)) (coded× coded_table (coded× coded_origin coded_state)) (λ r. (r.schema, (r.own, r.state))) (λ p. record { schema = p.0; own = p.1.0; state = p.1.1 }) (λ _. refl)
 
@@ -97,6 +98,7 @@ then_added r rows (Err e) = Err e
 abbrev pub own_name : Replica → ℕ → BatchName
 own_name r n = record { origin = r.own; number = record { 0 = n } }
 
+-- the name after the greatest number held, where a number and room are left
 abbrev pub number_after : Replica → ℕ → Result BatchName Refusal
 number_after r n = cond (n == 4294967295) (Err NumbersSpent) (where_room r (own_name r (n + 1)))
 
@@ -108,6 +110,7 @@ next_name r rows = unless_fault (rows_fault r.schema rows) (number_after r (grea
 abbrev pub appended : Replica → Batch → Result (BatchName × Replica) Refusal
 appended r rows = then_added r rows (next_name r rows)
 
+-- whether rows are new under a name beside what is held there
 abbrev pub place_beside : Replica → BatchName → Batch → Option Batch → Result Inserted Refusal
 place_beside r name rows None = where_room r New
 place_beside r name rows (Some held) = cond (same_rows held rows) (Ok Already) (Err (Conflict name))
@@ -116,6 +119,7 @@ place_beside r name rows (Some held) = cond (same_rows held rows) (Ok Already) (
 unfoldable pub place_for : Replica → BatchName → Batch → Result Inserted Refusal
 place_for r name rows = unless_fault (rows_fault r.schema rows) (cond (is_proper_name name) (place_beside r name rows (map.get r.state.batches name)) (Err BadName))
 
+-- what an insert answers and makes once its place is known
 abbrev pub then_placed : Replica → BatchName → Batch → Result Inserted Refusal → Result (Inserted × Replica) Refusal
 then_placed r name rows (Ok New) = Ok (New, with_batch r name rows)
 then_placed r name rows (Ok Already) = Ok (Already, r)
@@ -141,6 +145,7 @@ deleted_rows r first last = unless_fault (delete_fault first last) (Ok (tt, with
 abbrev pub vectors_of : Batch → ℕ
 vectors_of rows = (length rows + 1023) / 1024
 
+-- whether a batch has a column's vector
 abbrev pub has_vector : Replica → ℕ → ℕ → Option Batch → Bool
 has_vector r column vector None = false
 has_vector r column vector (Some rows) = nat_lt column (length r.schema.columns) && nat_lt vector (vectors_of rows)

@@ -47,6 +47,7 @@ abbrev pub recoded_held : Option SegmentForm → ℕ → ℕ → Coding → Resu
 recoded_held None column vector coding = Err NoSuchVector
 recoded_held (Some s) column vector coding = recoded s column vector coding
 
+-- the segments with what a call made of one put under its name
 abbrev pub put_under : map.FinMap name_cmp SegmentForm → BatchName → Result (Unit {0} × SegmentForm) Refusal → Result (Unit {0} × map.FinMap name_cmp SegmentForm) Refusal
 put_under segments name (Ok made) = Ok (tt, map.insert segments name made.1)
 put_under segments name (Err e) = Err e

@@ -127,25 +127,28 @@ dict t width count =
 
 -- ---- vectors
 
--- the parts of each coding where the values are coded so
+-- the form of FOR, where the values are coded so
 abbrev pub in_frame : Coded → Option FrameForm
 in_frame (For c) = Some c
 in_frame (Delta c) = None
 in_frame (Runs c) = None
 in_frame (Dict c) = None
 
+-- the form of DELTA, where the values are coded so
 abbrev pub in_deltas : Coded → Option DeltaForm
 in_deltas (For c) = None
 in_deltas (Delta c) = Some c
 in_deltas (Runs c) = None
 in_deltas (Dict c) = None
 
+-- the form of RLE, where the values are coded so
 abbrev pub in_runs : Coded → Option RunForm
 in_runs (For c) = None
 in_runs (Delta c) = None
 in_runs (Runs c) = Some c
 in_runs (Dict c) = None
 
+-- the form of DICT, where the values are coded so
 abbrev pub in_dictionary : Coded → Option DictForm
 in_dictionary (For c) = None
 in_dictionary (Delta c) = None

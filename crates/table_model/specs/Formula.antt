@@ -43,11 +43,12 @@ parts_of (both f g) = (parts_of f ++ parts_of g) ++ inr (inr 3) ∷ []
 parts_of no_term = inr (inr 4) ∷ []
 parts_of (either f g) = (parts_of f ++ parts_of g) ++ inr (inr 5) ∷ []
 
--- the formulas on a pile after a part of one formula, and after a part that joins two
+-- the formulas on a pile after a part of the one on top
 abbrev pub under : (Formula → Formula) → List Formula → List Formula
 under join [] = []
 under join (f ∷ fs) = join f ∷ fs
 
+-- the formulas on a pile after a part that joins the two on top
 abbrev pub joined : (Formula → Formula → Formula) → List Formula → List Formula
 joined join [] = []
 joined join (g ∷ []) = []

@@ -20,7 +20,7 @@ use Rattle.table_model.specs.declared.query.Predicate.TheVariants.{Compare, Betw
 use Rattle.table_model.specs.declared.query.SetFunction.{SetFunction}
 use Rattle.table_model.specs.declared.query.SetFunction.TheVariants.{CountRows, Of}
 
--- the number of a comparison, and the comparison of a number
+-- the number of a comparison
 abbrev pub op_number : Op → ℕ
 op_number Equal = 0
 op_number NotEqual = 1
@@ -29,6 +29,7 @@ op_number LessOrEqual = 3
 op_number Greater = 4
 op_number GreaterOrEqual = 5
 
+-- the comparison of a number
 abbrev pub op_of : ℕ → Op
 op_of zero = Equal
 op_of (suc zero) = NotEqual
@@ -45,15 +46,17 @@ op_of-op_number LessOrEqual = refl
 op_of-op_number Greater = refl
 op_of-op_number GreaterOrEqual = refl
 
+-- a comparison by its number
 abbrev pub coded_op : Coded Op
 coded_op = code_by ℕ coded_ℕ op_number op_of op_of-op_number
 
--- the number of a truth value, and the truth value of a number
+-- the number of a truth value
 abbrev pub truth_number : Truth → ℕ
 truth_number False = 0
 truth_number Unknown = 1
 truth_number True = 2
 
+-- the truth value of a number
 abbrev pub truth_value_of : ℕ → Truth
 truth_value_of zero = False
 truth_value_of (suc zero) = Unknown
@@ -67,10 +70,11 @@ truth_value_of-truth_number True = refl
 pub is_truth-again : (is : IsTruth) → record { negated = is.negated; truth = truth_value_of (truth_number is.truth) } ≡ is
 is_truth-again is = ap (λ (truth : Truth). let made : IsTruth = record { negated = is.negated; truth = truth } in made) (truth_value_of-truth_number is.truth)
 
+-- a question for a truth value by its parts
 abbrev pub coded_is_truth : Coded IsTruth
 coded_is_truth = code_by (Bool × ℕ) (coded× coded_bool coded_ℕ) (λ is. (is.negated, truth_number is.truth)) (λ p. record { negated = p.0; truth = truth_value_of p.1 }) is_truth-again
 
--- the number of a fold, and the fold of a number
+-- the number of a fold
 abbrev pub fold_number : Fold → ℕ
 fold_number Count = 0
 fold_number Sum = 1
@@ -78,6 +82,7 @@ fold_number Avg = 2
 fold_number Min = 3
 fold_number Max = 4
 
+-- the fold of a number
 abbrev pub fold_of : ℕ → Fold
 fold_of zero = Count
 fold_of (suc zero) = Sum
@@ -92,9 +97,11 @@ fold_of-fold_number Avg = refl
 fold_of-fold_number Min = refl
 fold_of-fold_number Max = refl
 
+-- a fold by its number
 abbrev pub coded_fold : Coded Fold
 coded_fold = code_by ℕ coded_ℕ fold_number fold_of fold_of-fold_number
 
+-- a column's mention by its name and place
 abbrev pub coded_mention : Coded ColumnMention
 coded_mention = code_by (List ℕ × ℕ) (coded× (coded_list coded_ℕ) coded_ℕ) (λ c. (c.name, c.at)) (λ p. record { name = p.0; at = p.1 }) (λ _. refl)
 
@@ -102,10 +109,12 @@ coded_mention = code_by (List ℕ × ℕ) (coded× (coded_list coded_ℕ) coded_
 abbrev pub FunctionParts : Type 0
 FunctionParts = ℕ ⊎ (Fold × (Bool × ColumnMention))
 
+-- the parts of a set function
 abbrev pub function_parts : SetFunction → FunctionParts
 function_parts CountRows = inl 0
 function_parts (Of f distinct column) = inr (f, (distinct, column))
 
+-- the set function of its parts
 abbrev pub function_of : FunctionParts → SetFunction
 function_of (inl n) = CountRows
 function_of (inr p) = Of p.0 p.1.0 p.1.1
@@ -114,6 +123,7 @@ pub function_of-function_parts : (f : SetFunction) → function_of (function_par
 function_of-function_parts CountRows = refl
 function_of-function_parts (Of f distinct column) = refl
 
+-- a set function by its parts
 abbrev pub coded_function : Coded SetFunction
 coded_function = code_by FunctionParts (coded⊎ coded_ℕ (coded× coded_fold (coded× coded_bool coded_mention))) function_parts function_of function_of-function_parts
 
@@ -121,11 +131,13 @@ coded_function = code_by FunctionParts (coded⊎ coded_ℕ (coded× coded_fold (
 abbrev pub OperandParts : Type 0
 OperandParts = ColumnMention ⊎ (ℤ ⊎ SetFunction)
 
+-- the parts of an operand
 abbrev pub operand_parts : Operand → OperandParts
 operand_parts (Column column) = inl column
 operand_parts (Literal z) = inr (inl z)
 operand_parts (Function f) = inr (inr f)
 
+-- the operand of its parts
 abbrev pub operand_of : OperandParts → Operand
 operand_of (inl column) = Column column
 operand_of (inr (inl z)) = Literal z
@@ -136,28 +148,34 @@ operand_of-operand_parts (Column column) = refl
 operand_of-operand_parts (Literal z) = refl
 operand_of-operand_parts (Function f) = refl
 
+-- an operand by its parts
 abbrev pub coded_operand : Coded Operand
 coded_operand = code_by OperandParts (coded⊎ coded_mention (coded⊎ coded_ℤ coded_function)) operand_parts operand_of operand_of-operand_parts
 
--- the parts of a predicate
+-- the parts of a comparison
 abbrev pub Compared : Type 0
 Compared = Operand × (Op × Operand)
 
+-- the parts of BETWEEN
 abbrev pub Bounded : Type 0
 Bounded = Operand × (Bool × (Operand × Operand))
 
+-- the parts of IN
 abbrev pub Listed : Type 0
 Listed = Operand × (Bool × List ℤ)
 
+-- the parts of a predicate
 abbrev pub PredicateParts : Type 0
 PredicateParts = Compared ⊎ (Bounded ⊎ (Listed ⊎ (Operand × Bool)))
 
+-- what parts a predicate has
 abbrev pub predicate_parts : Predicate → PredicateParts
 predicate_parts (Compare left op right) = inl (left, (op, right))
 predicate_parts (Between operand negated low high) = inr (inl (operand, (negated, (low, high))))
 predicate_parts (In operand negated literals) = inr (inr (inl (operand, (negated, literals))))
 predicate_parts (IsNull operand negated) = inr (inr (inr (operand, negated)))
 
+-- the predicate of its parts
 abbrev pub predicate_of : PredicateParts → Predicate
 predicate_of (inl p) = Compare p.0 p.1.0 p.1.1
 predicate_of (inr (inl p)) = Between p.0 p.1.0 p.1.1.0 p.1.1.1
@@ -170,6 +188,7 @@ predicate_of-predicate_parts (Between operand negated low high) = refl
 predicate_of-predicate_parts (In operand negated literals) = refl
 predicate_of-predicate_parts (IsNull operand negated) = refl
 
+-- a predicate by its parts
 abbrev pub coded_predicate : Coded Predicate
 coded_predicate =
     code_by PredicateParts
@@ -184,6 +203,7 @@ abbrev pub value_parts : ItemValue → ColumnMention ⊎ SetFunction
 value_parts (Grouped column) = inl column
 value_parts (Computed f) = inr f
 
+-- what a select item asks for, of its parts
 abbrev pub value_of : ColumnMention ⊎ SetFunction → ItemValue
 value_of (inl column) = Grouped column
 value_of (inr f) = Computed f
@@ -195,6 +215,7 @@ value_of-value_parts (Computed f) = refl
 pub item-again : (item : Item) → record { value = value_of (value_parts item.value); alias = item.alias } ≡ item
 item-again item = ap (λ (v : ItemValue). let made : Item = record { value = v; alias = item.alias } in made) (value_of-value_parts item.value)
 
+-- a select item by its parts
 abbrev pub coded_item : Coded Item
 coded_item =
     code_by ((ColumnMention ⊎ SetFunction) × Option (List ℕ)) (coded× (coded⊎ coded_mention coded_function) (coded_option (coded_list coded_ℕ)))

@@ -31,24 +31,27 @@ rows =
     (Some (pos 1) ∷ Some (pos 10) ∷ []) ∷ (Some (pos 1) ∷ None ∷ []) ∷ (None ∷ Some (pos 5) ∷ [])
     ∷ (Some (pos 2) ∷ Some (pos 7) ∷ []) ∷ (Some (pos 2) ∷ Some (pos 7) ∷ []) ∷ []
 
--- A and B where a query names them; where that stands in its text changes no answer
+-- A where a query names it; where that stands in its text changes no answer
 abbrev pub a : ColumnMention
 a = record { name = codes "A"; at = 0 }
 
+-- B where a query names it
 abbrev pub b : ColumnMention
 b = record { name = codes "B"; at = 0 }
 
--- select items without an alias
+-- a select item that is a grouping column, without an alias
 abbrev pub grouped : ColumnMention → Item
 grouped column = record { value = Grouped column; alias = None }
 
+-- a select item that is a set function
 abbrev pub computed : SetFunction → Item
 computed f = record { value = Computed f; alias = None }
 
--- a condition of one predicate, and one of its negation
+-- a condition of one predicate
 abbrev pub one : Predicate → Option Formula
 one predicate = Some (either no_term (both no_factor (says predicate)))
 
+-- a condition of the negation of one predicate
 abbrev pub not_one : Predicate → Option Formula
 not_one predicate = Some (either no_term (both no_factor (negation (says predicate))))
 

@@ -1,0 +1,4 @@
+pub mod SchemaLaws
+pub mod SchemaReading
+pub mod SummaryLaws
+pub mod ContainerLaws

@@ -1,0 +1,3 @@
+pub mod SchemaBytes
+pub mod SummaryBytes
+pub mod ContainerBytes

@@ -1,0 +1,143 @@
+//! Reading a schema from bytes: how many columns there are, the table's name, and each column's type and name.
+ghost use Rattle.std.specs.Prelude.{◌≡◌, ◌≤◌, length, map};
+ghost use Rattle.std.specs.List.{list_all, list_any};
+ghost use Rattle.table_model.specs.Table.{has_name, ColumnShape};
+ghost use Rattle.segment_core.specs.Format.{Format, Reads, all};
+ghost use Rattle.column_file.specs.SchemaBytes.{text, is_upper, is_name, name, column_type, shape_of, column, column_count, schema};
+
+use crate::parts::{place_of, read_number};
+use std::alloc::Global;
+use table_model::{ColType, Refusal, Schema, is_identifier, same_word};
+
+/// The text of 1 to 64 bytes at the front, and what stands after it.
+#[tactic(auto, unfolding(crate::specs::SchemaBytes::text))]
+fn read_text(total: usize, bytes: &[u8]) -> Result<(&[u8], &[u8]), Refusal>
+    ensures { Reads (λ x. (x.0.now, x.1.now)) result (text.read total bytes.now) }
+{
+    let (size, rest) = read_number(total, bytes, 1)?;
+    if size < 1 || 64 < size {
+        return Err(Refusal::BadSchema);
+    }
+    let size = size as usize;
+    if rest.len() < size {
+        return Err(Refusal::Truncated(total as u64));
+    }
+    Ok(rest.split_at(size))
+}
+
+/// Whether no byte is a lower-case letter.
+fn is_upper(text: &[u8]) -> bool
+    ensures { result ≡ list_all is_upper text.now }
+{
+    text.iter().all(|b| b.to_ascii_uppercase() == *b)
+}
+
+/// Whether a text is an identifier in upper case.
+fn is_name(text: &[u8]) -> bool
+    ensures { result ≡ is_name text.now }
+{
+    is_identifier(text) && is_upper(text)
+}
+
+/// The name at the front, and what stands after it.
+#[tactic(auto, unfolding(crate::specs::SchemaBytes::name))]
+fn read_name(total: usize, bytes: &[u8]) -> Result<(&str, &[u8]), Refusal>
+    ensures { Reads (λ x. (x.0.now, x.1.now)) result (name.read total bytes.now) }
+{
+    let (text, rest) = read_text(total, bytes)?;
+    if !is_name(text) {
+        return Err(Refusal::BadSchema);
+    }
+    let Ok(name) = str::from_utf8(text) else {
+        return Err(Refusal::BadSchema);
+    };
+    Ok((name, rest))
+}
+
+/// The column type at the front, and what stands after it.
+#[tactic(auto, unfolding(crate::specs::SchemaBytes::column_type))]
+fn read_column_type(total: usize, bytes: &[u8]) -> Result<(ColType, &[u8]), Refusal>
+    ensures { Reads (λ x. (x.0, x.1.now)) result (column_type.read total bytes.now) }
+{
+    let (tag, rest) = read_number(total, bytes, 1)?;
+    if tag == 2 {
+        return Ok((ColType::SmallInt, rest));
+    }
+    if tag == 4 {
+        return Ok((ColType::Integer, rest));
+    }
+    if tag == 8 {
+        return Ok((ColType::BigInt, rest));
+    }
+    Err(Refusal::BadSchema)
+}
+
+/// Whether one of the columns has this name.
+fn is_name_among(columns: &[(&str, ColType)], name: &str) -> bool
+    ensures { result ≡ list_any (λ c. has_name c.0.now name.now) columns.now }
+{
+    columns
+        .iter()
+        .any(|column| same_word(column.0.as_bytes(), name.as_bytes()))
+}
+
+/// The column at the front, which must not have the name of one before it, and what stands after it.
+#[tactic(auto, unfolding(crate::specs::SchemaBytes::column))]
+fn read_column<'a>(
+    total: usize,
+    bytes: &'a [u8],
+    front: &[(&str, ColType)],
+) -> Result<(&'a str, ColType, &'a [u8]), Refusal>
+    ensures { Reads (λ x. (shape_of (x.0.now, x.1), x.2.now)) result ((column (map (λ c. shape_of (c.0.now, c.1)) front.now)).read total bytes.now) }
+{
+    let (column_type, rest) = read_column_type(total, bytes)?;
+    let (name, rest) = read_name(total, rest)?;
+    if is_name_among(front, name) {
+        return Err(Refusal::BadSchema);
+    }
+    Ok((name, column_type, rest))
+}
+
+/// So many columns at the front, and what stands after them.
+fn read_columns<'a>(
+    alloc: Global,
+    total: usize,
+    bytes: &'a [u8],
+    count: usize,
+) -> Result<(Vec<(&'a str, ColType)>, &'a [u8]), Refusal>
+    ensures { Reads (λ x. (map (λ c. shape_of (c.0.now, c.1)) x.0.items, x.1.now)) result ((all count column).read total bytes.now) }
+{
+    let mut columns = Vec::new(alloc);
+    let mut rest = bytes;
+    for _ in 0..count {
+        let (name, column_type, after) = read_column(total, rest, columns.as_slice())?;
+        columns.push((name, column_type))?;
+        rest = after;
+    }
+    Ok((columns, rest))
+}
+
+/// How many columns there are, 1 to 32, and what stands after that.
+#[tactic(auto, unfolding(crate::specs::SchemaBytes::column_count))]
+fn read_column_count(total: usize, bytes: &[u8]) -> Result<(usize, &[u8]), Refusal>
+    ensures { Reads (λ x. (x.0, x.1.now)) result (column_count.read total bytes.now) }
+{
+    let (count, rest) = read_number(total, bytes, 2)?;
+    if count < 1 || 32 < count {
+        return Err(Refusal::BadCount(place_of(total, bytes)));
+    }
+    Ok((count as usize, rest))
+}
+
+/// The schema at the front of what is left of an input of `total` bytes, and what stands after it. Refused is the first fault:
+/// `Truncated`, `BadCount` at the count, or `BadSchema`. It grows as it reads, so `Memory` may come in the place of any of them.
+#[tactic(auto, unfolding(crate::specs::SchemaBytes::schema))]
+pub fn read_schema(alloc: Global, total: usize, bytes: &[u8]) -> Result<(Schema, &[u8]), Refusal>
+    ensures { Reads (λ x. (x.0, x.1.now)) result (schema.read total bytes.now) }
+{
+    let (count, after_count) = read_column_count(total, bytes)?;
+    let (table, after_table) = read_name(total, after_count)?;
+    let (columns, rest) = read_columns(alloc, total, after_table, count)?;
+    let schema = Schema::new(alloc, table, columns.as_slice())?;
+    Ok((schema, rest))
+}

@@ -1,0 +1,170 @@
+//! Reading a summary from bytes: its own four bytes, the version, a schema, and names in strictly ascending order.
+ghost use Rattle.std.specs.Prelude.{◌≡◌, ◌-◌, ◌^◌, ◌<◌, ◌≤◌, length, codes};
+ghost use Rattle.table_model.specs.Name.{is_proper_name};
+ghost use Rattle.segment_core.specs.Format.{Format, Reads, number, all, constant, same_bytes, read_whole};
+ghost use Rattle.column_file.specs.SummaryBytes.{version, head, proper_name, precedes, is_after, batch_name, name_count, names, summary};
+
+use crate::parts::{place_of, read_number};
+use crate::schema_reading::read_schema;
+use std::alloc::Global;
+use table_model::{BatchName, Number, Origin, Refusal, Schema};
+
+/// What a summary begins with.
+const SUMMARY: [u8; 4] = *b"FLSM";
+
+/// Whether two texts are the same, byte for byte.
+fn same_bytes(a: &[u8], b: &[u8]) -> bool
+    ensures { result ≡ same_bytes a.now b.now }
+{
+    match a.split_first() {
+        None => b.is_empty(),
+        Some((x, xs)) => match b.split_first() {
+            None => false,
+            Some((y, ys)) => *x == *y && same_bytes(xs, ys),
+        },
+    }
+}
+
+/// What stands after the bytes that a format begins with: `BadMagic` where they are others.
+fn read_magic<'a>(total: usize, bytes: &'a [u8], magic: &[u8]) -> Result<&'a [u8], Refusal>
+    ensures { Reads (λ x. (magic.now, x.now)) result ((constant magic.now Refusal.BadMagic).read total bytes.now) }
+{
+    if bytes.len() < magic.len() {
+        return Err(Refusal::Truncated(total as u64));
+    }
+    let (front, rest) = bytes.split_at(magic.len());
+    if !same_bytes(magic, front) {
+        return Err(Refusal::BadMagic);
+    }
+    Ok(rest)
+}
+
+/// What stands after the version, which is 1.
+#[tactic(auto, unfolding(crate::specs::SummaryBytes::version))]
+fn read_version(total: usize, bytes: &[u8]) -> Result<(u64, &[u8]), Refusal>
+    ensures { Reads (λ x. (x.0, x.1.now)) result (version.read total bytes.now) }
+{
+    let (version, rest) = read_number(total, bytes, 2)?;
+    if version != 1 {
+        return Err(Refusal::BadVersion);
+    }
+    Ok((version, rest))
+}
+
+/// The schema that a format begins with, after its own bytes and the version, and what stands after it.
+#[tactic(auto, unfolding(crate::specs::SummaryBytes::head))]
+fn read_head<'a>(
+    alloc: Global,
+    total: usize,
+    bytes: &'a [u8],
+    magic: &[u8],
+) -> Result<(Schema, &'a [u8]), Refusal>
+    ensures { Reads (λ x. (x.0, x.1.now)) result ((head magic.now).read total bytes.now) }
+{
+    let after_magic = read_magic(total, bytes, magic)?;
+    let (_, after_version) = read_version(total, after_magic)?;
+    read_schema(alloc, total, after_version)
+}
+
+/// The proper name at the front, and what stands after it.
+#[tactic(auto, unfolding(crate::specs::SummaryBytes::proper_name, crate::specs::SummaryBytes::any_name))]
+fn read_proper_name(total: usize, bytes: &[u8]) -> Result<(BatchName, &[u8]), Refusal>
+    ensures { Reads (λ x. (x.0, x.1.now)) result (proper_name.read total bytes.now) }
+{
+    let (origin, after_origin) = read_number(total, bytes, 4)?;
+    let (number, rest) = read_number(total, after_origin, 4)?;
+    let name = BatchName {
+        origin: Origin(origin as u32),
+        number: Number(number as u32),
+    };
+    if !name.is_proper() {
+        return Err(Refusal::BadName);
+    }
+    Ok((name, rest))
+}
+
+/// Whether a name comes before another, by origin and then by number.
+fn precedes(a: BatchName, b: BatchName) -> bool
+    ensures { result ≡ precedes a b }
+{
+    a.origin.0 < b.origin.0 || a.origin.0 == b.origin.0 && a.number.0 < b.number.0
+}
+
+/// Whether a name comes after the last of those before it, if there is one.
+fn is_after(front: &[BatchName], name: BatchName) -> bool
+    ensures { result ≡ is_after front.now name }
+{
+    front.is_empty() || precedes(front[front.len() - 1], name)
+}
+
+/// The name at the front, after the names before it, and what stands after it.
+#[tactic(auto, unfolding(crate::specs::SummaryBytes::batch_name))]
+fn read_batch_name<'a>(
+    total: usize,
+    bytes: &'a [u8],
+    front: &[BatchName],
+) -> Result<(BatchName, &'a [u8]), Refusal>
+    ensures { Reads (λ x. (x.0, x.1.now)) result ((batch_name front.now).read total bytes.now) }
+{
+    let (name, rest) = read_proper_name(total, bytes)?;
+    if !is_after(front, name) {
+        return Err(Refusal::BadOrder(place_of(total, bytes)));
+    }
+    Ok((name, rest))
+}
+
+/// So many names in strictly ascending order, and what stands after them.
+fn read_batch_names(
+    alloc: Global,
+    total: usize,
+    bytes: &[u8],
+    count: usize,
+) -> Result<(Vec<BatchName>, &[u8]), Refusal>
+    ensures { Reads (λ x. (x.0.items, x.1.now)) result ((all count batch_name).read total bytes.now) }
+{
+    let mut names = Vec::new(alloc);
+    let mut rest = bytes;
+    for _ in 0..count {
+        let (name, after) = read_batch_name(total, rest, names.as_slice())?;
+        names.push(name)?;
+        rest = after;
+    }
+    Ok((names, rest))
+}
+
+/// How many names there are, at most 65,536, and what stands after that.
+#[tactic(auto, unfolding(crate::specs::SummaryBytes::name_count))]
+fn read_name_count(total: usize, bytes: &[u8]) -> Result<(usize, &[u8]), Refusal>
+    ensures { Reads (λ x. (x.0, x.1.now)) result (name_count.read total bytes.now) }
+{
+    let (count, rest) = read_number(total, bytes, 4)?;
+    if 65_536 < count {
+        return Err(Refusal::BadCount(place_of(total, bytes)));
+    }
+    Ok((count as usize, rest))
+}
+
+/// The names at the front, and what stands after them.
+#[tactic(auto, unfolding(crate::specs::SummaryBytes::names))]
+fn read_names(alloc: Global, total: usize, bytes: &[u8]) -> Result<(Vec<BatchName>, &[u8]), Refusal>
+    ensures { Reads (λ x. (x.0.items, x.1.now)) result (names.read total bytes.now) }
+{
+    let (count, rest) = read_name_count(total, bytes)?;
+    read_batch_names(alloc, total, rest, count)
+}
+
+/// The schema and the batch names, in strictly ascending order, of a summary. Refused is the first fault of the bytes:
+/// `Truncated`, `BadMagic`, `BadVersion`, `BadSchema`, `BadName`, `BadCount`, `BadOrder` or `TrailingBytes`. It grows as it
+/// reads, so `Memory` may come in the place of any of them.
+#[tactic(auto, unfolding(crate::specs::SummaryBytes::summary))]
+pub fn read_summary_bytes(alloc: Global, bytes: &[u8]) -> Result<(Schema, Vec<BatchName>), Refusal>
+    ensures { Reads (λ x. (x.0, x.1.items)) result (read_whole summary bytes.now) }
+{
+    let total = bytes.len();
+    let (schema, after_head) = read_head(alloc, total, bytes, &SUMMARY)?;
+    let (names, rest) = read_names(alloc, total, after_head)?;
+    if !rest.is_empty() {
+        return Err(Refusal::TrailingBytes(place_of(total, rest)));
+    }
+    Ok((schema, names))
+}

@@ -1,0 +1,68 @@
+//! Summaries in bytes, at bytes and places worked out by hand from the format.
+use crate::summary_reading::read_summary_bytes;
+use std::alloc::Global;
+use std::test::Fail;
+use table_model::Refusal;
+
+/// The summary of T(A SMALLINT) with the names 1.1 and 1.2: 32 bytes.
+const TWO_NAMES: &[u8] =
+    b"FLSM\x01\0\x01\0\x01T\x02\x01A\x02\0\0\0\x01\0\0\0\x01\0\0\0\x01\0\0\0\x02\0\0\0";
+
+/// What stands before the names of that summary, with the count 2: 17 bytes.
+const HEAD: &[u8] = b"FLSM\x01\0\x01\0\x01T\x02\x01A\x02\0\0\0";
+
+/// What reading such bytes is refused as.
+fn fault(alloc: Global, bytes: &[u8]) -> Option<Refusal> {
+    read_summary_bytes(alloc, bytes).err()
+}
+
+#[test]
+fn a_summary_of_two_names_is_read(rt: HostRuntime) -> Result<(), Fail> {
+    let (schema, names) = read_summary_bytes(rt.alloc(), TWO_NAMES)?;
+    assert_eq!(rt; schema.table(), "T");
+    assert_eq!(rt; schema.columns(), 1);
+    assert_eq!(rt; names.len(), 2);
+    Ok(())
+}
+
+#[test]
+fn the_first_fault_of_a_summary_is_answered_at_its_place(rt: HostRuntime) -> Result<(), Fail> {
+    let cases: &[(&[u8], Refusal)] = &[
+        (b"", Refusal::Truncated(0)),
+        (b"FLC", Refusal::Truncated(3)),
+        (b"FLCF", Refusal::BadMagic),
+        (b"FLSM\x02\0", Refusal::BadVersion),
+        (b"FLSM\x01\x01", Refusal::BadVersion),
+        (b"FLSM\x01\0\0\0", Refusal::BadCount(6)),
+        (b"FLSM\x01\0\x21\0", Refusal::BadCount(6)),
+        (b"FLSM\x01\0\x01\0\0", Refusal::BadSchema),
+        (b"FLSM\x01\0\x01\0\x03ALL", Refusal::BadSchema),
+        (b"FLSM\x01\0\x01\0\x01t", Refusal::BadSchema),
+        (b"FLSM\x01\0\x01\0\x01T\x03", Refusal::BadSchema),
+        (
+            b"FLSM\x01\0\x02\0\x01T\x02\x01A\x04\x01A",
+            Refusal::BadSchema,
+        ),
+        (
+            b"FLSM\x01\0\x01\0\x01T\x02\x01A\x01\0\x01\0",
+            Refusal::BadCount(13),
+        ),
+        (HEAD, Refusal::Truncated(17)),
+        (
+            b"FLSM\x01\0\x01\0\x01T\x02\x01A\x01\0\0\0\0\0\0\0\x01\0\0\0",
+            Refusal::BadName,
+        ),
+        (
+            b"FLSM\x01\0\x01\0\x01T\x02\x01A\x02\0\0\0\x01\0\0\0\x02\0\0\0\x01\0\0\0\x02\0\0\0",
+            Refusal::BadOrder(25),
+        ),
+        (
+            b"FLSM\x01\0\x01\0\x01T\x02\x01A\0\0\0\0\x07",
+            Refusal::TrailingBytes(17),
+        ),
+    ];
+    for (bytes, want) in cases {
+        assert_eq!(rt; fault(rt.alloc(), bytes), Some(*want), "at {bytes:?}");
+    }
+    Ok(())
+}

@@ -1,0 +1,39 @@
+//! Which column of a table a query names.
+ghost use Rattle.std.specs.Prelude.{◌≡◌, ◌<◌, ◌≤◌, length, None};
+ghost use Rattle.std.specs.List.{position};
+ghost use Rattle.std.specs.Option.{IfSome};
+ghost use Rattle.table_model.specs.Identifier.{same_text};
+ghost use Rattle.table_model.specs.Meaning.{place_of};
+
+use table_model::{Column, ColumnMention, Schema};
+
+/// Whether two texts are the same byte for byte.
+fn same_text(a: &[u8], b: &[u8]) -> bool
+    ensures { result ≡ same_text a.now b.now }
+{
+    if a.len() != b.len() {
+        return false;
+    }
+    for i in 0..a.len() {
+        if a[i] != b[i] {
+            return false;
+        }
+    }
+    true
+}
+
+/// Which column has the name.
+fn column_at(columns: &[Column], name: &str) -> Option<usize>
+    ensures { result ≡ position (λ column. same_text column.name name.now) columns.now }
+{
+    columns.iter().position(|column| same_text(column.name().as_bytes(), name.as_bytes()))
+}
+
+/// The place of the column that a query mentions, if the table has one of the name.
+pub fn place_of(schema: &Schema, column: &ColumnMention) -> Option<usize>
+    ensures some { IfSome result (λ place. place ≡ place_of schema.now.columns column.now.name) }
+    ensures within { IfSome result (λ place. place < length schema.now.columns) }
+    ensures none { result ≡ None → length schema.now.columns ≤ place_of schema.now.columns column.now.name }
+{
+    column_at(schema.column_list(), column.name.as_str())
+}

@@ -1,0 +1,90 @@
+//! BETWEEN and IN of operands of WHERE over the rows of a vector, as pairs of masks.
+ghost use Rattle.std.specs.Prelude.{◌≡◌, ◌≤◌, ◌+◌};
+ghost use Rattle.table_model.specs.Condition.{between, is_among};
+ghost use Rattle.table_model.specs.Truth.{and_of, comparison};
+ghost use Rattle.table_model.specs.declared.op.Op.TheVariants.{GreaterOrEqual, LessOrEqual};
+ghost use Rattle.query_eval.specs.Mentions.{operand_mentions};
+ghost use Rattle.query_eval.specs.Side.{side_at, side_mentions, HasColumn};
+ghost use Rattle.query_eval.specs.Vector.{IsThere, vector_at};
+ghost use Rattle.query_eval.specs.Where.{IsPair, operand_at};
+
+use crate::columns::Columns;
+use crate::decoded::decode;
+use crate::pair::Pair;
+use crate::rows::{among_rows, between_rows};
+use crate::side::{Side, side_of};
+use table_model::{Literals, Operand};
+use transpose_order::Mask;
+
+/// BETWEEN of three sides at the rows of a mask: a column between two literals takes one pass, and else each column one.
+fn between_sides<C: Columns>(
+    columns: &mut C,
+    batch: usize,
+    vector: usize,
+    operand: Side,
+    low: Side,
+    high: Side,
+    mask: &Mask,
+) -> Pair
+    requires there { IsThere (C.state columns.old) batch vector }
+    requires operand { HasColumn (C.table columns.old) operand }
+    requires low { HasColumn (C.table columns.old) low }
+    requires high { HasColumn (C.table columns.old) high }
+    ensures value { IsPair mask.now (λ n. and_of (comparison GreaterOrEqual (side_at (vector_at (C.state columns.old) batch vector) operand n) (side_at (vector_at (C.state columns.old) batch vector) low n)) (comparison LessOrEqual (side_at (vector_at (C.state columns.old) batch vector) operand n) (side_at (vector_at (C.state columns.old) batch vector) high n))) result }
+    ensures table { C.table columns.new ≡ C.table columns.old }
+    ensures state { C.state columns.new ≡ C.state columns.old }
+    ensures passes { C.passes columns.new ≤ C.passes columns.old + (side_mentions operand + (side_mentions low + side_mentions high)) }
+{
+    if let (Side::Column(column), Side::Fixed(Some(low)), Side::Fixed(Some(high))) = (
+        operand, low, high,
+    ) {
+        let (yes, no) = columns.compare_range(batch, column, vector, low, high, mask);
+        return Pair { yes, no };
+    }
+    let operand = decode(columns, batch, vector, operand);
+    let low = decode(columns, batch, vector, low);
+    let high = decode(columns, batch, vector, high);
+    between_rows(&operand, &low, &high, mask)
+}
+
+/// BETWEEN of three operands at the rows of a mask.
+pub fn between_operands<C: Columns>(
+    columns: &mut C,
+    batch: usize,
+    vector: usize,
+    operand: &Operand,
+    low: &Operand,
+    high: &Operand,
+    mask: &Mask,
+) -> Pair
+    requires there { IsThere (C.state columns.old) batch vector }
+    ensures value { IsPair mask.now (λ n. between (operand_at (C.table columns.old) (vector_at (C.state columns.old) batch vector) operand.now n) (operand_at (C.table columns.old) (vector_at (C.state columns.old) batch vector) low.now n) (operand_at (C.table columns.old) (vector_at (C.state columns.old) batch vector) high.now n)) result }
+    ensures table { C.table columns.new ≡ C.table columns.old }
+    ensures state { C.state columns.new ≡ C.state columns.old }
+    ensures passes { C.passes columns.new ≤ C.passes columns.old + (operand_mentions operand.now + (operand_mentions low.now + operand_mentions high.now)) }
+{
+    let operand = side_of(columns, operand);
+    let low = side_of(columns, low);
+    let high = side_of(columns, high);
+    between_sides(columns, batch, vector, operand, low, high, mask)
+}
+
+/// IN of an operand at the rows of a mask.
+pub fn among_operand<C: Columns>(
+    columns: &mut C,
+    batch: usize,
+    vector: usize,
+    operand: &Operand,
+    literals: &Literals,
+    mask: &Mask,
+) -> Pair
+    requires there { IsThere (C.state columns.old) batch vector }
+    ensures value { IsPair mask.now (λ n. is_among (operand_at (C.table columns.old) (vector_at (C.state columns.old) batch vector) operand.now n) literals.now) result }
+    ensures table { C.table columns.new ≡ C.table columns.old }
+    ensures state { C.state columns.new ≡ C.state columns.old }
+    ensures passes { C.passes columns.new ≤ C.passes columns.old + operand_mentions operand.now }
+{
+    let side = side_of(columns, operand);
+    let cells = decode(columns, batch, vector, side);
+    among_rows(&cells, literals.as_slice(), mask)
+}
