@@ -4,10 +4,10 @@ use crate::{
 };
 use std::alloc::Global;
 use std::io;
-use std::io::{Read, Write};
+use std::io::Write;
 use std::test::Fail;
 use table_model::{
-    BatchName, ColType, Counted, Number, Origin, Refusal, Row, RowName, Rows, Schema,
+    BatchName, ColType, Counted, Number, Origin, Refusal, Row, RowName, Rows, Schema, Stop,
 };
 
 /// What a script writes: its text, or the refusal that ended it.
@@ -154,33 +154,64 @@ fn a_line_of_more_than_its_limit_is_too_long_and_skipped(rt: HostRuntime) -> Res
     Ok(())
 }
 
-/// Gives one piece of a script, and then fails.
-#[derive(Drop)]
-struct Broken {
-    reads: usize,
-}
+/// A script whose four lines end after 21, 34, 44 and 75 bytes.
+const FOUR_LINES: &[u8] =
+    b"table 2 T A SMALLINT\nappend 1 (7)\nmerge 2 1\nquery 2 SELECT COUNT(*) FROM T\n";
 
-impl Read for Broken {
-    fn read(&mut self, buf: &mut [u8]) -> io::Result<usize> {
-        self.reads = self.reads.saturating_add(1);
-        if self.reads > 1 {
-            return Err(io::Error::from(io::ErrorKind::BrokenPipe));
-        }
-        let text = b"table 1 T A SMALLINT\nmerge 1 1\nmerge 1";
-        let count = text.len().min(buf.len());
-        buf[..count].copy_from_slice(&text[..count]);
-        Ok(count)
+/// What it writes: the replies end after 3, 10, 13 and 29 bytes.
+const FOUR_REPLIES: &[u8] = b"ok\nok 1.1\nok\nok 1\nCOUNT(*)\n1\n";
+
+/// How many bytes of replies are due once so many bytes of the lines were read: those of the whole lines.
+fn due_after(read: usize) -> usize {
+    match read {
+        0..21 => 0,
+        21..34 => 3,
+        34..44 => 10,
+        44..75 => 13,
+        _ => 29,
     }
 }
 
+// A reader that fails after n bytes, for each n up to the whole script.
 #[test]
 fn after_a_failed_read_the_whole_lines_are_answered(rt: HostRuntime) -> Result<(), Fail> {
-    let mut reader = Counted::new(Broken { reads: 0 });
-    let mut writer = Counted::new(Vec::new(rt.alloc()));
-    let outcome = script(rt.alloc(), &mut reader, &mut writer);
-    assert!(rt; outcome == Err(Refusal::ReadFault));
-    assert!(rt; reader.failures() == 1);
-    assert!(rt; writer.into_inner().as_slice() == b"ok\nok\n".as_slice());
+    for left in 0..76 {
+        let mut reader = Counted::new(Stop {
+            inner: FOUR_LINES,
+            left,
+        });
+        let mut writer = Counted::new(Vec::new(rt.alloc()));
+        let outcome = script(rt.alloc(), &mut reader, &mut writer);
+        assert!(rt; outcome == Err(Refusal::ReadFault));
+        assert!(rt; reader.failures() == 1);
+        let written = writer.into_inner();
+        assert!(rt; written.len() == due_after(left), "after {left} bytes");
+        assert!(rt;
+            FOUR_REPLIES.starts_with(written.as_slice()),
+            "after {left} bytes"
+        );
+    }
+    Ok(())
+}
+
+// A writer that fails after n bytes, for each n below the whole text: it has a front of the text.
+#[test]
+fn after_a_failed_write_a_front_of_the_replies_is_written(rt: HostRuntime) -> Result<(), Fail> {
+    for left in 0..29 {
+        let mut reader = Counted::new(FOUR_LINES);
+        let mut writer = Counted::new(Stop {
+            inner: Vec::new(rt.alloc()),
+            left,
+        });
+        let outcome = script(rt.alloc(), &mut reader, &mut writer);
+        assert!(rt; outcome == Err(Refusal::WriteFault));
+        assert!(rt; writer.failures() == 1);
+        let written = writer.into_inner().inner;
+        assert!(rt;
+            written.as_slice() == &FOUR_REPLIES[..left],
+            "after {left} bytes"
+        );
+    }
     Ok(())
 }
 
