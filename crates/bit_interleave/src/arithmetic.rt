@@ -1,6 +1,6 @@
 //! Arithmetic modulo a power of two, read as signed, and the least width of a number.
-ghost use Rattle.std.specs.Prelude.{◌≡◌, ℕ, ◌+◌, ◌<◌, ◌≤◌, ◌^◌, pos, ◌+ℤ◌, ◌-ℤ◌, length, slice_index};
-ghost use Rattle.std.specs.Int.{int_wrap};
+ghost use Rattle.std.specs.Prelude.{◌≡◌, ℕ, ◌+◌, ◌<◌, ◌≤◌, ◌^◌, pos, ◌+ℤ◌, ◌-ℤ◌, ◌≤ℤ◌, length, slice_index};
+ghost use Rattle.std.specs.Int.{int_gap, int_wrap};
 ghost use Rattle.transpose_order.specs.Place.{IsLaneWidth};
 ghost use Rattle.bit_interleave.specs.Arithmetic.{integer_width, least_width};
 ghost use Rattle.bit_interleave.specs.Packing.{sixteen_of};
@@ -57,6 +57,14 @@ pub fn wrapping_difference(lane_width: usize, a: i64, b: i64) -> i64
     ensures { result ≡ int_wrap (integer_width lane_width) (a -ℤ b) }
 {
     wrap(lane_width, a.wrapping_sub(b).cast_unsigned())
+}
+
+/// How far a value is above one that is not greater.
+pub fn gap(least: i64, value: i64) -> u64
+    requires { least ≤ℤ value }
+    ensures { result ≡ int_gap least value }
+{
+    value.wrapping_sub(least).cast_unsigned()
 }
 
 /// The least width in bits, 0 to 64, that holds every number up to `max`.

@@ -15,7 +15,7 @@ mod word_bytes;
 mod words;
 
 pub use arithmetic::{
-    width_of, wrap, wrap_lanes, wrapping_difference, wrapping_sum, wrapping_sum_with,
+    gap, width_of, wrap, wrap_lanes, wrapping_difference, wrapping_sum, wrapping_sum_with,
 };
 pub use lane_word::LaneWord;
 pub use laws::{

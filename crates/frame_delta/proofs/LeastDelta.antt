@@ -19,7 +19,7 @@ use Rattle.bit_interleave.proofs.StepLemmas.{positive_width}
 use Rattle.bit_interleave.proofs.ValueLemmas.{get_or-unpacked, length-unpacked, All-unpacked}
 use Rattle.bit_interleave.specs.Range.{AreInRange, value_at}
 use Rattle.frame_delta.specs.Extremes.{IsSpread, IsTightFrame}
-use Rattle.frame_delta.specs.Delta.{DeltaForm, sum_to, delta_at, delta_value, delta_values, is_later, difference_at, least_difference, greatest_difference, delta_width, later_gaps, bases_of, least_delta, IsDeltaForm}
+use Rattle.frame_delta.specs.Delta.{DeltaForm, sum_to, delta_at, delta_value, delta_values, is_later, difference_at, least_difference, greatest_difference, delta_width, later_gaps, bases_of, least_delta}
 use Rattle.frame_delta.proofs.FramedLemmas.{IsFramed, IsTight, least_of, greatest_of, tight_least, tight_range, tight_gaps, least_form_is_tight, no_smaller_width}
 use Rattle.frame_delta.proofs.FrameLemmas.{column_fits}
 use Rattle.frame_delta.proofs.DeltaLemmas.{later_was, row_one_is_later, least_difference_is, greatest_difference_is, delta_width_is, length-later_gaps, first_gap, later_gap, later_gaps_have_width, sum_to-zero, sum_to-suc, regroup, delta_from_parts, value_at-delta_values}
@@ -231,10 +231,9 @@ least_is_tight c low high width within fits spread is =
       stays = subst (λ (g : ℕ). c.least ≤ℤ int_wrap (integer_width t) (c.least +ℤ pos g)) (sym top) whole.stays;
     }
 
-pub least_delta_is_narrowest : (c : DeltaForm) → IsDeltaForm c → ((n : ℕ) → n < 1024 → is_later c.lane_width n ≡ true → c.least ≤ℤ difference_at c.lane_width (delta_values c) n) → (least_delta c.lane_width (delta_values c)).width ≤ c.width
-least_delta_is_narrowest c is above =
+pub least_delta_is_narrowest : (c : DeltaForm) → IsLaneWidth c.lane_width → c.width ≤ c.lane_width → FitsSigned (integer_width c.lane_width) c.least → ((n : ℕ) → n < 1024 → is_later c.lane_width n ≡ true → c.least ≤ℤ difference_at c.lane_width (delta_values c) n) → (least_delta c.lane_width (delta_values c)).width ≤ c.width
+least_delta_is_narrowest c lanes within fits above =
     let t = c.lane_width in
     let values = delta_values c in
-    let within : c.width ≤ t = omega (arith, is.packed.fits, is.words) in
     rw (width_of_form t values, delta_width_is t values, least_difference_is t values, greatest_difference_is t values)
-    (no_smaller_width t (is_later t) (difference_at t values) c.least (λ n. get_or (numbers_of_delta c) n 0) 1 c.width (delta_is_framed c is.lane_width within is.least) above (λ n h _. number_below c n h) within)
+    (no_smaller_width t (is_later t) (difference_at t values) c.least (λ n. get_or (numbers_of_delta c) n 0) 1 c.width (delta_is_framed c lanes within fits) above (λ n h _. number_below c n h) within)

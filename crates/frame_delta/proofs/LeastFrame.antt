@@ -14,7 +14,7 @@ use Rattle.bit_interleave.proofs.RoundTrip.{unpacked-packed}
 use Rattle.bit_interleave.proofs.ValueLemmas.{get_or-unpacked, length-unpacked, All-unpacked}
 use Rattle.bit_interleave.specs.Range.{AreInRange, value_at}
 use Rattle.frame_delta.specs.Extremes.{IsSpread, IsTightFrame}
-use Rattle.frame_delta.specs.Frame.{FrameForm, frame_value, frame_values, least_value, greatest_value, frame_width, gaps_above, least_frame, IsFrameForm}
+use Rattle.frame_delta.specs.Frame.{FrameForm, frame_value, frame_values, least_value, greatest_value, frame_width, gaps_above, least_frame}
 use Rattle.frame_delta.proofs.FramedLemmas.{IsFramed, IsTight, least_of, greatest_of, tight_least, tight_range, tight_gaps, least_form_is_tight, no_smaller_width}
 use Rattle.frame_delta.proofs.FrameLemmas.{least_value_is, greatest_value_is, frame_width_is, value_at-frame_values, length-frame_values, frame_from_parts, gaps_above_is, length-gaps_above, gaps_have_width}
 
@@ -39,10 +39,6 @@ pub AreInRange-frame_values : (c : FrameForm) → AreInRange c.lane_width (frame
 AreInRange-frame_values c =
     All-from_get_or (λ v. FitsSigned (integer_width c.lane_width) v) (frame_values c) (pos 0)
     (λ n h. subst (λ (z : ℤ). FitsSigned (integer_width c.lane_width) z) (sym (value_at-frame_values c n (omega (arith, length-frame_values c)))) (frame_value_fits c n))
-
--- a packed number is no wider than its lane
-width_within : (c : FrameForm) → IsFrameForm c → c.width ≤ c.lane_width
-width_within c is = omega (arith, is.packed.fits, is.words)
 
 -- each packed number has the width
 number_below : (c : FrameForm) (n : ℕ) → n < 1024 → get_or (numbers_of_frame c) n 0 < 2 ^ c.width
@@ -140,9 +136,8 @@ least_is_tight c low high width within fits spread is =
       stays = subst (λ (g : ℕ). c.reference ≤ℤ int_wrap (integer_width t) (c.reference +ℤ pos g)) (sym top) whole.stays;
     }
 
-pub least_frame_is_narrowest : (c : FrameForm) → IsFrameForm c → ((n : ℕ) → n < 1024 → c.reference ≤ℤ value_at (frame_values c) n) → (least_frame c.lane_width (frame_values c)).width ≤ c.width
-least_frame_is_narrowest c is above =
+pub least_frame_is_narrowest : (c : FrameForm) → IsLaneWidth c.lane_width → c.width ≤ c.lane_width → FitsSigned (integer_width c.lane_width) c.reference → ((n : ℕ) → n < 1024 → c.reference ≤ℤ value_at (frame_values c) n) → (least_frame c.lane_width (frame_values c)).width ≤ c.width
+least_frame_is_narrowest c lanes within fits above =
     let values = frame_values c in
-    let within : c.width ≤ c.lane_width = width_within c is in
     rw (least_width_of_frame c.lane_width values, frame_width_is values, least_value_is values, greatest_value_is values)
-    (no_smaller_width c.lane_width (λ _. true) (value_at values) c.reference (λ n. get_or (numbers_of_frame c) n 0) 0 c.width (frame_is_framed c is.lane_width within is.reference) (λ n h _. above n h) (λ n h _. number_below c n h) within)
+    (no_smaller_width c.lane_width (λ _. true) (value_at values) c.reference (λ n. get_or (numbers_of_frame c) n 0) 0 c.width (frame_is_framed c lanes within fits) (λ n h _. above n h) (λ n h _. number_below c n h) within)

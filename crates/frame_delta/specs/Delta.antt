@@ -129,8 +129,8 @@ LeastDeltaGivesBack =
 abbrev pub LeastDeltaIsAForm : Type 0
 LeastDeltaIsAForm = (t : ℕ) (values : List ℤ) → IsLaneWidth t → IsDeltaForm (least_delta t values)
 
--- of all forms whose least delta is above no later difference of their values, none has a smaller width than the least form
--- of those values
+-- of all words and bases that are read with a least delta above no later difference of the values, at a width within the lanes,
+-- none are of a smaller width than the least form of those values
 abbrev pub LeastDeltaIsNarrowest : Type 0
 LeastDeltaIsNarrowest =
-    (form : DeltaForm) → IsDeltaForm form → ((n : ℕ) → n < 1024 → is_later form.lane_width n ≡ true → form.least ≤ℤ difference_at form.lane_width (delta_values form) n) → (least_delta form.lane_width (delta_values form)).width ≤ form.width
+    (form : DeltaForm) → IsLaneWidth form.lane_width → form.width ≤ form.lane_width → FitsSigned (integer_width form.lane_width) form.least → ((n : ℕ) → n < 1024 → is_later form.lane_width n ≡ true → form.least ≤ℤ difference_at form.lane_width (delta_values form) n) → (least_delta form.lane_width (delta_values form)).width ≤ form.width

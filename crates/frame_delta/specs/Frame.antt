@@ -75,7 +75,8 @@ abbrev pub LeastFrameIsAForm : Type 0
 LeastFrameIsAForm =
     (t : ℕ) (values : List ℤ) → IsLaneWidth t → length values ≡ 1024 → AreInRange t values → IsFrameForm (least_frame t values)
 
--- of all frames whose reference is above none of their values, none has a smaller width than the least form of those values
+-- of all words that are read with a reference above none of the values, at a width within the lanes, none are of a smaller
+-- width than the least form of those values
 abbrev pub LeastFrameIsNarrowest : Type 0
 LeastFrameIsNarrowest =
-    (form : FrameForm) → IsFrameForm form → ((n : ℕ) → n < 1024 → form.reference ≤ℤ value_at (frame_values form) n) → (least_frame form.lane_width (frame_values form)).width ≤ form.width
+    (form : FrameForm) → IsLaneWidth form.lane_width → form.width ≤ form.lane_width → FitsSigned (integer_width form.lane_width) form.reference → ((n : ℕ) → n < 1024 → form.reference ≤ℤ value_at (frame_values form) n) → (least_frame form.lane_width (frame_values form)).width ≤ form.width

@@ -1,20 +1,11 @@
 //! The least and the greatest of a vector's values, and distances above the least.
 ghost use Rattle.std.specs.Prelude.{◌≡◌, ℕ, ◌<◌, ◌≤◌, ◌≤ℤ◌, ◌↔◌, true, slice_index, IsTrue};
-ghost use Rattle.std.specs.Int.{int_gap};
 ghost use Rattle.bit_interleave.specs.Range.{AreInRange, value_at};
 ghost use Rattle.frame_delta.specs.Extremes.{IsSpread, IsTightFrame};
 ghost use Rattle.transpose_order.specs.Place.{IsLaneWidth};
 ghost use Rattle.frame_delta.specs.Frame.{least_value, greatest_value, frame_width, gaps_above};
 
-use bit_interleave::{width_of, wrapping_sum_with};
-
-/// How far `value` is above `least`.
-fn gap(least: i64, value: i64) -> u64
-    requires { least ≤ℤ value }
-    ensures { result ≡ int_gap least value }
-{
-    value.wrapping_sub(least).cast_unsigned()
-}
+use bit_interleave::{gap, width_of, wrapping_sum_with};
 
 /// The least and the greatest of 1024 values.
 fn range_of(values: &[i64; 1024]) -> (i64, i64)

@@ -1,6 +1,5 @@
 //! How many distinct values a vector has, without a sort where their low sixteen bits tell them apart.
-ghost use Rattle.std.specs.Prelude.{◌≡◌, ◌==◌, ◌||◌, cond, ℕ, ◌+◌, ◌-◌, ◌*◌, ◌/◌, ◌<◌, ◌≤◌, ◌≤ℤ◌, ◌↔◌, IsSome, IfSome, IfNone, IsTrue, true, false, length};
-ghost use Rattle.std.specs.Int.{int_gap};
+ghost use Rattle.std.specs.Prelude.{◌≡◌, ◌==◌, ◌||◌, cond, ℕ, ◌+◌, ◌-◌, ◌*◌, ◌/◌, ◌<◌, ◌≤◌, ◌↔◌, IsSome, IfSome, IfNone, IsTrue, true, false, length};
 ghost use Rattle.transpose_order.specs.Mask.{truth_at};
 ghost use Rattle.transpose_order.specs.Place.{IsLaneWidth};
 ghost use Rattle.bit_interleave.specs.Arithmetic.{least_width};
@@ -9,6 +8,7 @@ ghost use Rattle.run_dictionary.specs.Dict.{distinct};
 ghost use Rattle.run_dictionary.specs.Keys.{key_of, keys_of};
 
 use crate::codes::count_distinct;
+use bit_interleave::gap;
 
 /// Which of the numbers below 65,536 are marked: bit `p` of word `j` is number `64 * j + p`.
 #[derive(Drop)]
@@ -56,14 +56,6 @@ fn count_keys(values: &[i64; 1024], limit: usize) -> Option<usize>
         }
     }
     Some(count)
-}
-
-/// How far a value is above one that is not greater.
-fn gap(least: i64, value: i64) -> u64
-    requires { least ≤ℤ value }
-    ensures { result ≡ int_gap least value }
-{
-    value.wrapping_sub(least).cast_unsigned()
 }
 
 /// Whether the values span fewer than 65,536 numbers, so that no two distinct values have one key.

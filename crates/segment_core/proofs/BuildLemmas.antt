@@ -12,11 +12,11 @@ use Rattle.table_model.specs.declared.schema.ColType.TheVariants.{SmallInt, Inte
 use Rattle.table_model.specs.Table.{Table, ColumnShape, bits_of, least_of, greatest_of, Fits, IsRow, AreRows, IsBatch, IsTable}
 use Rattle.segment_core.specs.Fill.{AreCellsInRange}
 use Rattle.segment_core.specs.Coded.{lane_width_of}
-use Rattle.segment_core.specs.CodedVector.{VectorForm, canonical_vector}
+use Rattle.segment_core.specs.CodedVector.{VectorForm, IsVector, canonical_vector}
 use Rattle.segment_core.specs.Segment.{column_cells, cells_in, canonical_column, canonical_forms, widths_of, vector_count, cell_of, column_cell, row_of, batch_of, HasColumn, IsColumn, IsSegment}
 use Rattle.segment_core.proofs.GatherLemmas.{length-column_cells, get_or-column_cells}
 use Rattle.segment_core.proofs.SegmentLemmas.{length-batch_of, get_or-batch_of}
-use Rattle.segment_core.proofs.VectorLemmas.{canonical_cell, lane_width-canonical, get_or-any}
+use Rattle.segment_core.proofs.VectorLemmas.{canonical_cell, canonical_is_a_vector, lane_width-canonical, get_or-any}
 
 -- ---- a part of the rows
 pub part_cells : (rows : Batch) (c k : ℕ) → column_cells (take 1024 (drop (1024 * k) rows)) c ≡ cells_in (column_cells rows c) k
@@ -141,8 +141,13 @@ vector_is t cells k v e =
     let within : k < vector_count (length cells) = let l = slice_get_within (canonical_column t cells) k v e in omega (arith, length-canonical_column t cells) in
     let f = slice_get-canonical_column t cells k within in cc
 
-pub canonical_is_column : (t rows : ℕ) (cells : List (Option ℤ)) → length cells ≡ rows → IsColumn rows (canonical_column t cells)
-canonical_is_column t rows cells count = record {
+pub canonical_is_column : (t rows : ℕ) (cells : List (Option ℤ)) → IsLaneWidth t → AreCellsInRange t cells → length cells ≡ rows → IsColumn rows (canonical_column t cells)
+canonical_is_column t rows cells lanes fit count = record {
+  each = λ k v e.
+      let within : k < vector_count (length cells) = let l = slice_get_within (canonical_column t cells) k v e in omega (arith, length-canonical_column t cells) in
+      let short = length-cells_in cells k in
+      subst (λ (x : VectorForm). IsVector x) (sym (vector_is t cells k v e))
+      (canonical_is_a_vector t (cells_in cells k) lanes (omega arith) (omega arith) (part_in_range t cells k fit));
   count = length-canonical_column t cells ∙ ap vector_count count;
   cover = λ k v e. ap (λ (x : VectorForm). x.rows) (vector_is t cells k v e) ∙ length-cells_in cells k ∙ ap (λ n. min 1024 (n - 1024 * k)) count;
   one_width = λ j k u v e f.
@@ -162,7 +167,13 @@ canonical_is_segment table rows is h =
       columns = λ c vectors e.
           let within : c < length widths = let l = slice_get_within (canonical_forms widths rows) c vectors e in omega (arith, length-canonical_forms widths rows) in
           let same : canonical_column (get_or widths c 0) (column_cells rows c) ≡ vectors = sym (get_or-canonical_forms widths rows c [] within) ∙ get_or_from_slice_get (canonical_forms widths rows) c vectors [] e in
-          subst (λ (vs : List VectorForm). IsColumn (length rows) vs) same (canonical_is_column (get_or widths c 0) (length rows) (column_cells rows c) (length-column_cells rows c));
+          let inside : c < length table.columns = omega (arith, length-widths_of table) in
+          let column : ColumnShape = get_or table.columns c (record { name = []; column_type = SmallInt }) in
+          let found : slice_get table.columns c ≡ Some column = slice_get-get_or table.columns c _ inside in
+          let width : bits_of column.column_type ≡ get_or widths c 0 = sym (get_or-widths_of table c column found) in
+          let fit : AreCellsInRange (get_or widths c 0) (column_cells rows c) = subst (λ (t : ℕ). AreCellsInRange t (column_cells rows c)) width (batch_has_column table rows c column h found).fit in
+          subst (λ (vs : List VectorForm). IsColumn (length rows) vs) same
+          (canonical_is_column (get_or widths c 0) (length rows) (column_cells rows c) (subst (λ (t : ℕ). IsLaneWidth t) width (bits_are_lanes column.column_type)) fit (length-column_cells rows c));
     }
 
 -- ---- they stand for the rows

@@ -121,13 +121,13 @@ width_first [] v e = absurd (cc)
 width_first (x ∷ xs) v e = let same : x ≡ v = cc in ap (λ (y : VectorForm). lane_width_of y.coded) same
 
 -- the width of a column is that of each of its vectors
-width_of_vector : (rows : ℕ) (vectors : List VectorForm) (k : ℕ) (v : VectorForm) → IsColumn rows vectors → slice_get vectors k ≡ Some v → width_in vectors ≡ lane_width_of v.coded
+pub width_of_vector : (rows : ℕ) (vectors : List VectorForm) (k : ℕ) (v : VectorForm) → IsColumn rows vectors → slice_get vectors k ≡ Some v → width_in vectors ≡ lane_width_of v.coded
 width_of_vector rows vectors k v is found =
     let within : 0 < length vectors = let l = slice_get_within vectors k v found in omega arith in
     let first : slice_get vectors 0 ≡ Some (get_or vectors 0 v) = slice_get-get_or vectors 0 v within in
     width_first vectors (get_or vectors 0 v) first ∙ is.one_width 0 k (get_or vectors 0 v) v first found
 
-same_columns : (xs ys : List VectorForm) → length xs ≡ length ys → ((k : ℕ) (v : VectorForm) → slice_get xs k ≡ Some v → slice_get ys k ≡ Some v) → xs ≡ ys
+pub same_columns : (xs ys : List VectorForm) → length xs ≡ length ys → ((k : ℕ) (v : VectorForm) → slice_get xs k ≡ Some v → slice_get ys k ≡ Some v) → xs ≡ ys
 same_columns xs ys l h =
     same_lists xs ys l
     (λ k d w. sym (get_or_from_slice_get ys k (get_or xs k d) d (h k (get_or xs k d) (slice_get-get_or xs k d w))))
@@ -157,7 +157,7 @@ canonical_column_are rows forms c t vectors is column e = λ k v found.
     let width : lane_width_of v.coded ≡ t = ap (λ (x : VectorForm). lane_width_of x.coded) same ∙ lane_width-canonical t (cells_in cells k) in
     same ∙ ap (λ u. canonical_vector u (cells_in cells k)) (sym width) ∙ ap (canonical_vector (lane_width_of v.coded)) (sym (column_part rows forms c k vectors v is column found))
 
-get_or-widths_in : (forms : List (List VectorForm)) (c : ℕ) (vectors : List VectorForm) → slice_get forms c ≡ Some vectors → get_or (widths_in forms) c 0 ≡ width_in vectors
+pub get_or-widths_in : (forms : List (List VectorForm)) (c : ℕ) (vectors : List VectorForm) → slice_get forms c ≡ Some vectors → get_or (widths_in forms) c 0 ≡ width_in vectors
 get_or-widths_in [] c vectors e = absurd (cc)
 get_or-widths_in (x ∷ xs) zero vectors e = let same : x ≡ vectors = cc in ap width_in same
 get_or-widths_in (x ∷ xs) (suc c) vectors e = get_or-widths_in xs c vectors e

@@ -9,7 +9,8 @@ use Rattle.std.proofs.lemmas.Bool.Decides.{nat_tests}
 use Rattle.transpose_order.specs.Mask.{has}
 use Rattle.transpose_order.specs.MaskWords.{length-rows_of, get_or-rows_of, rows_of-same}
 use Rattle.bit_interleave.specs.Range.{value_at}
-use Rattle.segment_core.specs.Fill.{present, first_or, last_or, filled_at, filled, cell_under, cells_under}
+use Rattle.table_model.specs.Values.{present}
+use Rattle.segment_core.specs.Fill.{first_or, last_or, filled_at, filled, cell_under, cells_under}
 
 -- ---- present values
 pub present-append : (xs ys : List (Option ℤ)) → present (xs ++ ys) ≡ present xs ++ present ys

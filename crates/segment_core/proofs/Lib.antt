@@ -18,3 +18,5 @@ pub mod SegmentReading
 pub mod SegmentLaws
 pub mod Writings
 pub mod SegmentWriting
+pub mod ValidLemmas
+pub mod CanonicalCopies

@@ -8,7 +8,7 @@ use Rattle.std.proofs.lemmas.Bool.{cases_eq, cases_lt}
 use Rattle.table_model.specs.declared.refusal.Refusal.{Refusal}
 use Rattle.table_model.specs.declared.refusal.Refusal.TheVariants.{Memory}
 use Rattle.segment_core.specs.Coded.{lane_width_of}
-use Rattle.segment_core.specs.CodedVector.{VectorForm, StandsFor}
+use Rattle.segment_core.specs.CodedVector.{VectorForm, IsVector, StandsFor}
 use Rattle.segment_core.specs.Segment.{SegmentForm, batch_of, row_of, rows_in, cell_of, column_cell, vector_at, put_in, IsSegment, IsColumn}
 use Rattle.segment_core.proofs.SegmentLemmas.{Shows, forms_shown, length-batch_of, get_or-batch_of}
 
@@ -55,9 +55,17 @@ stood_at column k made v is stands j u found (inr other) =
 stood : (column : List VectorForm) (k : ℕ) (made v : VectorForm) → slice_get column k ≡ Some v → StandsFor made v → (j : ℕ) (u : VectorForm) → slice_get (set column k made) j ≡ Some u → Stood column j u
 stood column k made v is stands j u found = stood_at column k made v is stands j u found (cases_eq j k)
 
+vector_kept : (rows : ℕ) (column : List VectorForm) (k : ℕ) (made v : VectorForm) → slice_get column k ≡ Some v → StandsFor made v → IsColumn rows column → (j : ℕ) (u : VectorForm) → slice_get (set column k made) j ≡ Some u → (j ≡ k) ⊎ (j ≢ k) → IsVector u
+vector_kept rows column k made v is stands proper j u found (inl here) =
+    let there : slice_get (set column k made) j ≡ Some made = ap (slice_get (set column k made)) here ∙ slice_get-set_same column k made (slice_get_within column k v is) in
+    subst (λ (x : VectorForm). IsVector x) (same_found made u (slice_get (set column k made) j) there found) stands.form
+vector_kept rows column k made v is stands proper j u found (inr other) =
+    proper.each j u (sym (slice_get-set_other column k j made other) ∙ found)
+
 column_kept : (rows : ℕ) (column : List VectorForm) (k : ℕ) (made v : VectorForm) → slice_get column k ≡ Some v → StandsFor made v → IsColumn rows column → IsColumn rows (set column k made)
 column_kept rows column k made v is stands proper =
     record {
+      each = λ j u found. vector_kept rows column k made v is stands proper j u found (cases_eq j k);
       count = length-set column k made ∙ proper.count;
       cover = λ j u found. let s = stood column k made v is stands j u found in s.rows ∙ proper.cover j s.old s.is;
       one_width = λ i j u w at_i at_j.

@@ -5,7 +5,7 @@ use Rattle.std.proofs.lemmas.Grind.{take_at_read}
 use Rattle.std.proofs.Math.ListN.{get_or-map}
 use Rattle.table_model.specs.Table.{bits_of, ColumnShape}
 use Rattle.segment_core.specs.Coded.{lane_width_of}
-use Rattle.segment_core.specs.CodedVector.{VectorForm}
+use Rattle.segment_core.specs.CodedVector.{VectorForm, IsVector}
 use Rattle.segment_core.specs.Segment.{IsColumn, vector_count, rows_in, width_in, widths_in}
 
 -- what stands at a place of a list with one more item
@@ -23,16 +23,22 @@ last_or (z ∷ front) x y (suc k) e = shifted z front x y k (last_or front x y k
 pub record AreVectors (t rows : ℕ) (vectors : List VectorForm) : Type 0 where
   pub cover : (k : ℕ) (v : VectorForm) → slice_get vectors k ≡ Some v → v.rows ≡ rows_in rows k
   pub wide : (k : ℕ) (v : VectorForm) → slice_get vectors k ≡ Some v → lane_width_of v.coded ≡ t
+  pub forms : (k : ℕ) (v : VectorForm) → slice_get vectors k ≡ Some v → IsVector v
 
 pub no_vectors : (t rows : ℕ) → AreVectors t rows []
-no_vectors t rows = record { cover = λ k v e. absurd cc; wide = λ k v e. absurd cc }
+no_vectors t rows = record { cover = λ k v e. absurd cc; wide = λ k v e. absurd cc; forms = λ k v e. absurd cc }
 
-pub more_vectors : (t rows : ℕ) (vectors : List VectorForm) (v : VectorForm) → AreVectors t rows vectors → v.rows ≡ rows_in rows (length vectors) → lane_width_of v.coded ≡ t → AreVectors t rows (vectors ++ v ∷ [])
-more_vectors t rows vectors v h covers wide = record {
+pub more_vectors : (t rows : ℕ) (vectors : List VectorForm) (v : VectorForm) → AreVectors t rows vectors → v.rows ≡ rows_in rows (length vectors) → lane_width_of v.coded ≡ t → IsVector v → AreVectors t rows (vectors ++ v ∷ [])
+more_vectors t rows vectors v h covers wide form = record {
   cover = λ k w e. cover_at k w (last_or vectors v w k e);
   wide = λ k w e. wide_at k w (last_or vectors v w k e);
+  forms = λ k w e. form_at k w (last_or vectors v w k e);
 }
   where
+    form_at : (k : ℕ) (w : VectorForm) → (slice_get vectors k ≡ Some w) ⊎ ((k ≡ length vectors) × (v ≡ w)) → IsVector w
+    form_at k w (inl e) = h.forms k w e
+    form_at k w (inr (at, same)) = let P : VectorForm → Type 0 = λ x. IsVector x in subst P same form
+
     cover_at : (k : ℕ) (w : VectorForm) → (slice_get vectors k ≡ Some w) ⊎ ((k ≡ length vectors) × (v ≡ w)) → w.rows ≡ rows_in rows k
     cover_at k w (inl e) = h.cover k w e
     cover_at k w (inr (at, same)) = ap (λ (u : VectorForm). u.rows) (sym same) ∙ covers ∙ ap (rows_in rows) (sym at)
@@ -43,6 +49,7 @@ more_vectors t rows vectors v h covers wide = record {
 
 pub column_of_vectors : (t rows : ℕ) (vectors : List VectorForm) → length vectors ≡ vector_count rows → AreVectors t rows vectors → IsColumn rows vectors
 column_of_vectors t rows vectors count h = record {
+  each = h.forms;
   count = count;
   cover = h.cover;
   one_width = λ j k u v e f. h.wide j u e ∙ sym (h.wide k v f);

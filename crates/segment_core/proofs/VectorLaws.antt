@@ -63,7 +63,7 @@ mask_is_lawful =
 pub whole_words : (t w : ℕ) → IsLaneWidth t → (128 * w) % (t / 8) ≡ 0
 whole_words t w lanes = at_widths (λ t. (128 * w) % (t / 8) ≡ 0) (omega arith) (omega arith) (omega arith) (omega arith) t lanes
 
-fit_tests : (t : ℕ) (numbers : List ℕ) → All (λ n. n < 2 ^ t) numbers → list_all (λ n. ltb n (2 ^ t)) numbers ≡ true
+pub fit_tests : (t : ℕ) (numbers : List ℕ) → All (λ n. n < 2 ^ t) numbers → list_all (λ n. ltb n (2 ^ t)) numbers ≡ true
 fit_tests t numbers fit = list_all-from_AllPass (λ n. ltb n (2 ^ t)) numbers (λ k d below. lt-ltb _ _ (fit k d below))
 
 fit_tested : (t : ℕ) (numbers : List ℕ) → list_all (λ n. ltb n (2 ^ t)) numbers ≡ true → All (λ n. n < 2 ^ t) numbers

@@ -12,7 +12,8 @@ use Rattle.transpose_order.specs.MaskWords.{length-rows_of, has-rows_of, rows_of
 use Rattle.transpose_order.proofs.WidthLemmas.{at_widths}
 use Rattle.bit_interleave.specs.Arithmetic.{integer_width}
 use Rattle.bit_interleave.specs.Range.{AreInRange, value_at}
-use Rattle.segment_core.specs.Fill.{present, first_or, last_or, filled_at, filled, cells_under}
+use Rattle.table_model.specs.Values.{present}
+use Rattle.segment_core.specs.Fill.{first_or, last_or, filled_at, filled, cells_under}
 use Rattle.segment_core.specs.Coded.{value_in, values_of, lane_width_of, coding_of, least_form, IsCodedForm}
 use Rattle.segment_core.specs.Choice.{choice, canonical_form}
 use Rattle.segment_core.specs.CodedVector.{VectorForm, is_null, vector_cell, cells_of, is_null_cell, null_rows, some_rows, null_mask, canonical_vector, recoded_vector, IsNullMask, AreNulls, IsVector, StandsFor}
@@ -124,18 +125,6 @@ form_cell coding t cells w fit limit n z h e =
 same_cond : (b : Bool) (x y : ℤ) → (b ≡ false → x ≡ y) → cond b None (Some x) ≡ cond b None (Some y)
 same_cond true x y h = refl
 same_cond false x y h = ap Some (h refl)
-
-pub recoded_stands : (coding : Coding) (v : VectorForm) → IsVector v → IsLaneWidth (lane_width_of v.coded) → StandsFor (recoded_vector coding v) v
-recoded_stands coding v is w = record {
-  rows = refl;
-  lane_width = lane_width_of-least_form coding (lane_width_of v.coded) (filled (cells_of v));
-  cells = λ n h. same_cond (is_null v.nulls n) _ _
-      (λ not_null.
-      let limit = is.limit in
-      let count = length-cells_of v in
-      let here : get_or (cells_of v) n None ≡ Some (value_in v.coded n) = get_or-cells_of v n None h ∙ ap (λ b. cond b None (Some (value_in v.coded n))) not_null in
-      form_cell coding (lane_width_of v.coded) (cells_of v) w (cells_in_range v is) (omega arith) n (value_in v.coded n) (omega arith) here);
-}
 
 -- ---- null masks
 any_row : (xs : List Bool) → list_any (λ row. row) xs ≡ true → (n : ℕ) × (n < length xs) × (get_or xs n false ≡ true)
@@ -283,6 +272,19 @@ recoded_is_a_vector coding v is w = record {
   some = is.some;
   limit = is.limit;
   nulls = is.nulls;
+}
+
+pub recoded_stands : (coding : Coding) (v : VectorForm) → IsVector v → IsLaneWidth (lane_width_of v.coded) → StandsFor (recoded_vector coding v) v
+recoded_stands coding v is w = record {
+  form = recoded_is_a_vector coding v is w;
+  rows = refl;
+  lane_width = lane_width_of-least_form coding (lane_width_of v.coded) (filled (cells_of v));
+  cells = λ n h. same_cond (is_null v.nulls n) _ _
+      (λ not_null.
+      let limit = is.limit in
+      let count = length-cells_of v in
+      let here : get_or (cells_of v) n None ≡ Some (value_in v.coded n) = get_or-cells_of v n None h ∙ ap (λ b. cond b None (Some (value_in v.coded n))) not_null in
+      form_cell coding (lane_width_of v.coded) (cells_of v) w (cells_in_range v is) (omega arith) n (value_in v.coded n) (omega arith) here);
 }
 
 -- a form's lane width is a lane width

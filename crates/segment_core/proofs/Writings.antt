@@ -1,11 +1,12 @@
 -- Writing, piece by piece.
-use Rattle.std.proofs.Common.{◌≡◌, ◌≢◌, ℕ, zero, suc, ◌+◌, ◌-◌, ◌*◌, ◌<◌, Bool, false, cond, not, ◌&&◌, ◌==◌, List, [], ◌∷◌, ◌++◌, length, get_or, slice_range, take, drop, Option, Some, None, Result, Ok, Err, refl, sym, ap, ◌∙◌, append_assoc, arith}
-use Rattle.std.specs.Io.KnownBytes.{Appends, Keeps}
+use Rattle.std.proofs.Common.{◌≡◌, ℕ, zero, suc, ◌+◌, ◌-◌, ◌*◌, ◌<◌, List, [], ◌∷◌, ◌++◌, length, get_or, slice_range, take, drop, Option, Some, None, Result, Ok, Err, OnOk, OnErr, IfErr, refl, sym, ap, ◌∙◌, append_assoc, arith}
+use Rattle.std.specs.Io.KnownBytes.{Appends}
 use Rattle.std.proofs.lemmas.List.{append-nil, take-append-drop, drop_more}
 use Rattle.std.proofs.lemmas.Grind.{take_at_read}
-use Rattle.std.proofs.lemmas.Bool.Decides.{nat_tests}
 use Rattle.table_model.specs.Counted.{one_more}
+use Rattle.table_model.specs.Faults.{AppendsFront}
 use Rattle.table_model.specs.declared.refusal.Refusal.{Refusal}
+use Rattle.table_model.specs.declared.refusal.Refusal.TheVariants.{WriteFault}
 use Rattle.segment_core.specs.Format.{Format, Writes, spell_all}
 
 -- nothing was written
@@ -20,17 +21,12 @@ appends_both (Some a) None new xs ys h k = absurd h
 appends_both (Some a) (Some b) None xs ys h k = absurd k
 appends_both (Some a) (Some b) (Some c) xs ys h k = k ∙ ap (λ (x : List ℕ). x ++ ys) h ∙ append_assoc a xs ys
 
--- an error of a writer leaves what it holds
-pub appends_kept : (old new : Option (List ℕ)) → Keeps old new → Appends old new []
-appends_kept None new h = tt
-appends_kept (Some a) None h = absurd h
-appends_kept (Some a) (Some b) h = h ∙ sym (append-nil a)
-
--- a write that took some of a piece counts no failure
-pub took_some : (n count : ℕ) (piece : List ℕ) → n ≢ 0 → cond (n == 0 && not (length piece == 0)) (one_more count) count ≡ count
-took_some n count piece some =
-    let test : (n == 0) ≡ false = grind (arith, nat_tests) in
-    ap (λ (t : Bool). cond (t && not (length piece == 0)) (one_more count) count) test
+-- what a call that writes all bytes says of them
+pub writes_from : (r : Result (Unit {0}) Refusal) (old new : Option (List ℕ)) (before after : ℕ) (bytes : List ℕ)
+    → OnOk r (Appends old new bytes) → OnErr r (AppendsFront old new bytes) → OnOk r (after ≡ before) → IfErr r (λ e. (e ≡ WriteFault) × (after ≡ one_more before))
+    → Writes r old new before after bytes
+writes_from (Ok done) old new before after bytes all front kept fault = (all, kept)
+writes_from (Err e) old new before after bytes all front kept fault = (fault.0, fault.1, front)
 
 -- a part is written after others that were
 pub writes_both : (r : Result (Unit {0}) Refusal) (old mid new : Option (List ℕ)) (before between after : ℕ) (xs ys : List ℕ)

@@ -66,12 +66,17 @@ null_mask cells = some_rows (null_rows cells)
 abbrev pub canonical_vector : ℕ → List (Option ℤ) → VectorForm
 canonical_vector t cells = record { rows = length cells; nulls = null_mask cells; coded = canonical_form t (filled cells) }
 
+-- the canonical vector of a vector's own cells, at its lane width
+abbrev pub canonical_of : VectorForm → VectorForm
+canonical_of v = canonical_vector (lane_width_of v.coded) (cells_of v)
+
 -- a vector in another coding: the least form that the coding has of the filled vector
 abbrev pub recoded_vector : Coding → VectorForm → VectorForm
 recoded_vector coding v = record v { coded = least_form coding (lane_width_of v.coded) (filled (cells_of v)) }
 
 -- a vector that can stand for another: it covers as many rows at the same lane width, and its cells are the same
 pub record StandsFor (made v : VectorForm) : Type 0 where
+  pub form : IsVector made
   pub rows : made.rows ≡ v.rows
   pub lane_width : lane_width_of made.coded ≡ lane_width_of v.coded
   pub cells : (n : ℕ) → n < v.rows → vector_cell made n ≡ vector_cell v n

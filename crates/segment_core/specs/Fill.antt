@@ -1,15 +1,10 @@
 -- The filled vector: a value for each of 1024 rows, whatever is null or absent.
 use Rattle.std.specs.Prelude.{◌≡◌, ℕ, suc, ◌<◌, Bool, cond, ℤ, pos, FitsSigned, length, slice_index_or, List, [], ◌∷◌, map, take, Option, Some, None}
 use Rattle.std.specs.List.{range_with_len}
+use Rattle.table_model.specs.Values.{present}
 use Rattle.transpose_order.specs.Mask.{rows_of, has}
 use Rattle.bit_interleave.specs.Arithmetic.{integer_width}
 use Rattle.bit_interleave.specs.Range.{value_at}
-
--- the values among cells, in order
-abbrev pub present : List (Option ℤ) → List ℤ
-present [] = []
-present (None ∷ cells) = present cells
-present (Some value ∷ cells) = value ∷ present cells
 
 -- the first of some values, or another where there is none
 abbrev pub first_or : ℤ → List ℤ → ℤ

@@ -5,6 +5,7 @@ use Rattle.std.specs.Io.KnownBytes.{Appends}
 use Rattle.std.specs.List.{list_all}
 use Rattle.byteorder.specs.Endian.{little_number, little_bytes}
 use Rattle.table_model.specs.Counted.{one_more}
+use Rattle.table_model.specs.Faults.{AppendsFront}
 use Rattle.table_model.specs.declared.refusal.Refusal.{Refusal}
 use Rattle.table_model.specs.declared.refusal.Refusal.TheVariants.{Memory, Truncated, TrailingBytes, WriteFault}
 use Rattle.bit_interleave.specs.Arithmetic.{integer_width}
@@ -146,10 +147,6 @@ read_whole f bytes =
     f.read (length bytes) bytes >>= λ x. cond (length x.1 == 0) (Ok x.0) (Err (TrailingBytes (length bytes - length x.1)))
 
 -- ---- writing
-
--- a front of the bytes was written
-abbrev pub AppendsFront : Option (List ℕ) → Option (List ℕ) → List ℕ → Type 0
-AppendsFront old new bytes = (front : List ℕ) × (back : List ℕ) × (bytes ≡ front ++ back) × Appends old new front
 
 -- A call that writes bytes to a writer, which had counted so many failures before and has counted so many after: all are written
 -- and nothing failed, or the refusal is WriteFault, there is one more failure, and a front of the bytes was written.

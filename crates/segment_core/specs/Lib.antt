@@ -6,3 +6,4 @@ pub mod Segment
 pub mod Format
 pub mod VectorBytes
 pub mod SegmentBytes
+pub mod SegmentCode

@@ -7,7 +7,7 @@ use Rattle.table_model.specs.declared.refusal.Refusal.{Refusal}
 use Rattle.table_model.specs.declared.refusal.Refusal.TheVariants.{NoSuchVector}
 use Rattle.segment_core.specs.Fill.{AreCellsInRange}
 use Rattle.segment_core.specs.Coded.{lane_width_of}
-use Rattle.segment_core.specs.CodedVector.{VectorForm, vector_cell, cells_of, canonical_vector, recoded_vector}
+use Rattle.segment_core.specs.CodedVector.{VectorForm, vector_cell, cells_of, canonical_vector, canonical_of, recoded_vector, IsVector}
 use Rattle.segment_core.specs.declared.coding.Coding.{Coding}
 
 -- a segment: its rows, and the vectors of each column
@@ -42,6 +42,7 @@ batch_of rows forms = map (row_of forms) (range_with_len 0 rows)
 
 -- a column of so many rows: vectors of one lane width, all full but perhaps the last
 pub record IsColumn (rows : ℕ) (vectors : List VectorForm) : Type 0 where
+  pub each : (k : ℕ) (v : VectorForm) → slice_get vectors k ≡ Some v → IsVector v
   pub count : length vectors ≡ vector_count rows
   pub cover : (k : ℕ) (v : VectorForm) → slice_get vectors k ≡ Some v → v.rows ≡ rows_in rows k
   pub one_width : (j k : ℕ) (u v : VectorForm) → slice_get vectors j ≡ Some u → slice_get vectors k ≡ Some v → lane_width_of u.coded ≡ lane_width_of v.coded
@@ -77,7 +78,11 @@ canonical_forms widths rows = map (λ c. canonical_column (slice_index_or widths
 
 -- each vector is the canonical one of its cells
 abbrev pub AreCanonical : List VectorForm → Type 0
-AreCanonical vectors = (k : ℕ) (v : VectorForm) → slice_get vectors k ≡ Some v → v ≡ canonical_vector (lane_width_of v.coded) (cells_of v)
+AreCanonical vectors = (k : ℕ) (v : VectorForm) → slice_get vectors k ≡ Some v → v ≡ canonical_of v
+
+-- the canonical vectors of a column's own cells
+abbrev pub canonical_vectors : List VectorForm → List VectorForm
+canonical_vectors vectors = map canonical_of vectors
 
 -- each vector has the same cells as the other column's at its place
 abbrev pub HaveSameCells : List VectorForm → List VectorForm → Type 0
@@ -107,6 +112,10 @@ cell_at rows ordinal column = slice_index_or (slice_index_or rows ordinal []) co
 -- the canonical segment of a table's rows
 abbrev pub canonical_segment : Table → Batch → SegmentForm
 canonical_segment table rows = record { rows = rows; forms = canonical_forms (widths_of table) rows }
+
+-- the canonical segment of a segment's own rows, at its own lane widths
+abbrev pub canonical_again : SegmentForm → SegmentForm
+canonical_again s = record s { forms = canonical_forms (widths_in s.forms) s.rows }
 
 -- the vector of a column at a place, if there is one
 abbrev pub vector_at : List (List VectorForm) → ℕ → ℕ → Option VectorForm

@@ -3,7 +3,7 @@ use Rattle.std.specs.Prelude.{◌≡◌, ℕ, IsTrue, List, length, slice_index_
 use Rattle.table_model.specs.Table.{Table}
 use Rattle.table_model.specs.declared.refusal.Refusal.{Refusal}
 use Rattle.segment_core.specs.CodedVector.{VectorForm}
-use Rattle.segment_core.specs.Segment.{SegmentForm, vector_count, rows_in, widths_of, widths_in}
+use Rattle.segment_core.specs.Segment.{SegmentForm, vector_count, rows_in, widths_of, widths_in, IsSegment}
 use Rattle.segment_core.specs.Format.{Format, IsLawful, all}
 use Rattle.segment_core.specs.VectorBytes.{vector}
 
@@ -35,3 +35,12 @@ ColumnsComeBack = (table : Table) (rows : ℕ) → IsLawful (batch_columns table
 abbrev pub SameBytesSameColumns : Type 0
 SameBytesSameColumns =
     (table : Table) (rows : ℕ) (forms others : List (List VectorForm)) → IsTrue ((batch_columns table rows).valid forms) → IsTrue ((batch_columns table rows).valid others) → (batch_columns table rows).spell forms ≡ (batch_columns table rows).spell others → forms ≡ others
+
+-- a segment's columns have bytes as those of a table's batch, which read back
+abbrev pub HasBytesIn : Table → SegmentForm → Type 0
+HasBytesIn table s = IsTrue ((batch_columns table (length s.rows)).valid s.forms)
+
+-- the columns of each segment have bytes at its own lane widths
+abbrev pub SegmentsHaveBytes : Type 0
+SegmentsHaveBytes =
+    (rows : ℕ) (forms : List (List VectorForm)) → IsSegment rows forms → IsTrue ((columns (widths_in forms) rows).valid forms)

@@ -4,7 +4,7 @@ ghost use Rattle.std.specs.Option.{option_copied};
 ghost use Rattle.transpose_order.specs.Mask.{rows_of};
 ghost use Rattle.transpose_order.specs.Place.{IsLaneWidth};
 ghost use Rattle.segment_core.specs.Coded.{lane_width_of, coding_of};
-ghost use Rattle.segment_core.specs.CodedVector.{is_null, vector_cell, cells_of, null_rows, some_rows, canonical_vector, recoded_vector, IsVector, AreNulls, StandsFor};
+ghost use Rattle.segment_core.specs.CodedVector.{is_null, vector_cell, cells_of, null_rows, some_rows, canonical_vector, canonical_of, recoded_vector, IsVector, AreNulls, StandsFor};
 ghost use Rattle.segment_core.specs.Fill.{cell_or_null, filled, cells_under, AreCellsInRange};
 ghost use Rattle.segment_core.specs.Segment.{column_cells};
 ghost use Rattle.bit_interleave.specs.Range.{AreInRange};
@@ -15,6 +15,7 @@ use crate::choice::choose;
 use crate::coded::Coded;
 use crate::coding::Coding;
 use crate::fill::fill;
+use crate::same_form::{same_form, same_nulls};
 use std::alloc::{AllocError, Global};
 use std::marker::Model;
 use table_model::Row;
@@ -49,7 +50,8 @@ impl CodedVector {
         requires some { 1 ≤ rows }
         requires limit { rows ≤ 1024 }
         requires nulls { AreNulls rows nulls }
-        ensures { result ≡ record { rows = rows; nulls = nulls; coded = coded } }
+        ensures value { result ≡ record { rows = rows; nulls = nulls; coded = coded } }
+        ensures form { IsVector result }
     {
         let _lane_width = coded.lane_width();
         CodedVector { coded, nulls, rows }
@@ -173,6 +175,9 @@ impl CodedVector {
         if self.rows != other.rows {
             return false;
         }
+        if same_nulls(&self.nulls, &other.nulls) && same_form(&self.coded, &other.coded) {
+            return true;
+        }
         let mut values = [0; 1024];
         self.coded.decode(&mut values);
         let mut others = [0; 1024];
@@ -203,6 +208,22 @@ impl CodedVector {
         let mut full = [0; 1024];
         self.write_filled(&mut full);
         let coded = Coded::encode(alloc, &full, self.coded.lane_width(), coding)?;
+        let nulls = copied_nulls(alloc, &self.nulls)?;
+        Ok(CodedVector {
+            coded,
+            nulls,
+            rows: self.rows,
+        })
+    }
+
+    /// The canonical vector of the same cells. Where memory is refused, an `AllocError`.
+    pub fn canonical_copy(&self, alloc: Global) -> Result<CodedVector, AllocError>
+        ensures { IfOk result (λ vector. vector ≡ canonical_of self.now) }
+    {
+        let mut full = [0; 1024];
+        self.write_filled(&mut full);
+        let lane_width = self.coded.lane_width();
+        let coded = Coded::encode(alloc, &full, lane_width, choose(&full, lane_width))?;
         let nulls = copied_nulls(alloc, &self.nulls)?;
         Ok(CodedVector {
             coded,

@@ -1,7 +1,8 @@
 //! Values for the rows of a vector that are null or absent.
 ghost use Rattle.std.specs.Prelude.{◌≡◌, ℕ, ◌<◌, ◌≤◌, false, IsTrue, pos, if◌then◌else◌, nat_lt, ◌&&◌, not};
 ghost use Rattle.transpose_order.specs.Mask.{has};
-ghost use Rattle.segment_core.specs.Fill.{present, first_or, filled, cells_under};
+ghost use Rattle.table_model.specs.Values.{present};
+ghost use Rattle.segment_core.specs.Fill.{first_or, filled, cells_under};
 
 use transpose_order::Mask;
 

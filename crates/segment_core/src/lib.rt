@@ -10,6 +10,7 @@ mod coded_vector;
 mod coding;
 mod fill;
 mod formats;
+mod same_form;
 mod segment;
 mod segment_bytes;
 mod segment_writing;
@@ -19,11 +20,13 @@ mod vectors;
 mod writing;
 
 pub use boxed::Boxed;
-pub use bytes_laws::columns_and_bytes_come_back;
+pub use bytes_laws::{columns_and_bytes_come_back, segments_have_bytes};
 pub use coded::{Coded, least_form_gives_back};
 pub use coded_vector::CodedVector;
 pub use coding::Coding;
+pub use formats::{place_of, read_number};
 pub use segment::{Segment, forms_tell_rows};
+pub use writing::{write_number, write_value, write_values, write_whole};
 
 #[cfg(test)]
 mod bytes_tests;

@@ -1,10 +1,11 @@
 //! Segments: the rows of a batch as coded vectors, column by column.
-ghost use Rattle.std.specs.Prelude.{◌≡◌, ◌<◌, ◌≤◌, Some, length, IsSome, IfSome, IsTrue, IfOk, ◌↔◌, ℕ, List, [], slice_get, slice_index_or};
+ghost use Rattle.std.specs.Prelude.{◌≡◌, ◌<◌, ◌≤◌, Some, length, IsSome, IfSome, IsTrue, IfOk, ◌↔◌, ℕ, List, [], map, slice_get, slice_index_or};
 ghost use Rattle.std.specs.Option.{option_map, option_copied};
 ghost use Rattle.table_model.specs.Outcome.{Acts, Gives};
 ghost use Rattle.table_model.specs.State.{same_rows};
-ghost use Rattle.table_model.specs.Table.{IsBatch, IsTable};
-ghost use Rattle.segment_core.specs.Segment.{batch_of, vector_at, vector_count, canonical_forms, canonical_segment, widths_of, widths_in, cell_at, column_cells, AreCanonical, HaveSameCells, HasCellsOf, recoded, recoded_found, with_vector, IsSegment, FormsTellRows};
+ghost use Rattle.table_model.specs.Table.{Table, IsBatch, IsTable};
+ghost use Rattle.segment_core.specs.Segment.{batch_of, vector_at, vector_count, canonical_forms, canonical_segment, canonical_again, canonical_vectors, widths_of, widths_in, cell_at, column_cells, AreCanonical, HaveSameCells, HasCellsOf, recoded, recoded_found, with_vector, IsSegment, FormsTellRows};
+ghost use Rattle.segment_core.specs.SegmentBytes.{HasBytesIn};
 ghost use Rattle.segment_core.specs.Coded.{coding_of};
 ghost use Rattle.segment_core.specs.CodedVector.{VectorForm, StandsFor};
 
@@ -41,6 +42,7 @@ impl Segment {
         requires { IsSegment rows columns.items }
         ensures forms { result.forms ≡ columns.items }
         ensures rows { result.rows ≡ batch_of rows columns.items }
+        ensures valid { (table : Table) → widths_in result.forms ≡ widths_of table → HasBytesIn table result }
     {
         Segment { rows, columns }
     }
@@ -50,6 +52,7 @@ impl Segment {
         requires { IsBatch schema.now rows.now }
         ensures value { IfOk result (λ s. s ≡ canonical_segment schema.now rows.now) }
         ensures widths { IfOk result (λ s. widths_in s.forms ≡ widths_of schema.now) }
+        ensures valid { IfOk result (λ s. HasBytesIn schema.now s) }
     {
         let columns = canonical_columns(alloc, schema, rows)?;
         Ok(Segment {
@@ -70,7 +73,10 @@ impl Segment {
         ensures act { Acts (λ done. done) self.old result self.new (recoded self.old column vector coding) }
         ensures rows { self.new.rows ≡ self.old.rows }
         ensures widths { widths_in self.new.forms ≡ widths_in self.old.forms }
+        ensures valid { (table : Table) → widths_in self.old.forms ≡ widths_of table → HasBytesIn table self.new }
     {
+        // `rows` ensures that the columns have bytes.
+        let _rows = self.rows();
         let made = self.recoded(alloc, column as usize, vector as usize, coding)?;
         self.put(column as usize, vector as usize, made);
         Ok(())
@@ -107,6 +113,7 @@ impl Segment {
         ensures forms { self.new.forms ≡ with_vector self.old.forms column vector made }
         ensures rows { self.new.rows ≡ self.old.rows }
         ensures widths { widths_in self.new.forms ≡ widths_in self.old.forms }
+        ensures valid { (table : Table) → widths_in self.new.forms ≡ widths_of table → HasBytesIn table self.new }
     {
         let vectors = &mut self.columns[column];
         vectors.put(vector, made);
@@ -124,6 +131,7 @@ impl Segment {
         ensures count { result ≡ length self.now.rows }
         ensures rows { self.now.rows ≡ batch_of result self.now.forms }
         ensures form { IsSegment result self.now.forms }
+        ensures valid { (table : Table) → widths_in self.now.forms ≡ widths_of table → HasBytesIn table self.now }
     {
         self.rows
     }
@@ -198,6 +206,20 @@ impl Segment {
         })
     }
 
+    /// The canonical segment of the same rows, as `build` makes it, in memory of its own. No rows are made. Where memory is
+    /// refused, an `AllocError`.
+    pub fn canonical_copy(&self, alloc: Global) -> Result<Segment, AllocError>
+        ensures value { IfOk result (λ s. s ≡ canonical_again self.now) }
+        ensures widths { IfOk result (λ s. widths_in s.forms ≡ widths_in self.now.forms) }
+        ensures valid { IfOk result (λ s. (table : Table) → widths_in self.now.forms ≡ widths_of table → HasBytesIn table s) }
+    {
+        let columns = canonical_copies(alloc, self.columns.as_slice())?;
+        Ok(Segment {
+            rows: self.rows,
+            columns,
+        })
+    }
+
     /// The vector of a column at a place, both counted from 0.
     pub fn vector(&self, column: usize, vector: usize) -> &CodedVector
         requires column { column < length self.now.forms }
@@ -217,6 +239,17 @@ fn copied_columns(alloc: Global, columns: &[Vectors]) -> Result<Vec<Vectors>, Al
         copied.push(column.copy(alloc)?)?;
     }
     Ok(copied)
+}
+
+/// The canonical vectors of each column's own cells. Where memory is refused, an `AllocError`.
+fn canonical_copies(alloc: Global, columns: &[Vectors]) -> Result<Vec<Vectors>, AllocError>
+    ensures { IfOk result (λ made. made.items ≡ map canonical_vectors columns.now) }
+{
+    let mut made = Vec::with_capacity(alloc, columns.len())?;
+    for column in columns {
+        made.push(column.canonical_copy(alloc)?)?;
+    }
+    Ok(made)
 }
 
 /// The canonical vectors of each column of a table's rows. Where memory is refused, an `AllocError`.

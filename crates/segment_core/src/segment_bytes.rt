@@ -2,10 +2,10 @@
 ghost use Rattle.std.specs.Prelude.{◌≡◌, ℕ, ◌≤◌, ◌++◌, Some, List, drop, length, map, slice_get, slice_range, IfOk, IsTrue};
 ghost use Rattle.transpose_order.specs.Place.{IsLaneWidth};
 ghost use Rattle.table_model.specs.Table.{bits_of, ColumnShape};
-ghost use Rattle.segment_core.specs.Segment.{IsColumn, batch_of, width_in, widths_in};
+ghost use Rattle.segment_core.specs.Segment.{IsColumn, batch_of, width_in, widths_in, widths_of};
 ghost use Rattle.segment_core.specs.CodedVector.{VectorForm};
 ghost use Rattle.segment_core.specs.Format.{Format, Reads};
-ghost use Rattle.segment_core.specs.SegmentBytes.{column, columns, batch_columns, columns_then, segment_bytes};
+ghost use Rattle.segment_core.specs.SegmentBytes.{column, columns, batch_columns, columns_then, segment_bytes, HasBytesIn};
 
 use crate::segment::Segment;
 use crate::vector_bytes::read_vector;
@@ -89,6 +89,8 @@ impl Segment {
         // What is read is spelled so, and its rows are so many.
         ensures found { IfOk result (λ x. slice_range bytes.now at x.1 ≡ segment_bytes x.0) }
         ensures rows { IfOk result (λ x. x.0.rows ≡ batch_of rows x.0.forms) }
+        ensures widths { IfOk result (λ x. widths_in x.0.forms ≡ widths_of schema.now) }
+        ensures valid { IfOk result (λ x. HasBytesIn schema.now x.0) }
 
         // What is valid and spelled so is read, whatever stands after it.
         ensures only { (forms : List (List VectorForm)) (rest : List ℕ) → IsTrue ((batch_columns schema.now rows).valid forms)

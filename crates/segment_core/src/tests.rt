@@ -152,6 +152,24 @@ fn recoding_changes_the_coding_and_no_row(rt: HostRuntime) -> Result<(), Fail> {
     Ok(())
 }
 
+// Equal values with one null before them are FOR of width 0 in each of two vectors, in whatever coding they stood.
+#[test]
+fn a_canonical_copy_is_what_was_built(rt: HostRuntime) -> Result<(), Fail> {
+    let rows = rows_of(rt.alloc(), 1500, Pattern::NullAt(0, 7))?;
+    let mut segment = segment_of(rt.alloc(), ColType::Integer, &rows)?;
+    for coding in [Coding::Delta, Coding::Runs, Coding::Dict] {
+        segment.recode(rt.alloc(), 0, 0, coding)?;
+        segment.recode(rt.alloc(), 0, 1, coding)?;
+        let copy = segment.canonical_copy(rt.alloc())?;
+        assert_eq!(rt; seen(&rt, &copy), (2, 1, Coding::For, 4));
+        assert!(rt; copy.canonical());
+        assert!(rt; copy.same_rows(&segment));
+        assert!(rt; copy.has_rows(&rows));
+        assert_eq!(rt; seen(&rt, &segment).2, coding);
+    }
+    Ok(())
+}
+
 #[test]
 fn there_is_no_vector_past_the_last(rt: HostRuntime) -> Result<(), Fail> {
     let rows = rows_of(rt.alloc(), 1025, Pattern::All(0))?;

@@ -7,7 +7,7 @@ ghost use Rattle.bit_interleave.specs.Range.{AreInRange};
 ghost use Rattle.run_dictionary.specs.Runs.{run_of};
 ghost use Rattle.run_dictionary.specs.Dict.{AreCodesBelow, IsAscending};
 ghost use Rattle.segment_core.specs.Coded.{lane_width_of};
-ghost use Rattle.segment_core.specs.CodedVector.{AreNulls, IsNullMask};
+ghost use Rattle.segment_core.specs.CodedVector.{AreNulls, IsNullMask, IsVector};
 ghost use Rattle.segment_core.specs.Format.{Format, Reads, checked};
 ghost use Rattle.segment_core.specs.VectorBytes.{mask, nulls, is_null_mask, tag_of, coding_tagged, coding, is_width, is_count, header, frame, deltas, starts, runs, is_above, dictionary, are_codes_below, codes, dict, payload, coded, vector};
 
@@ -417,6 +417,7 @@ pub(crate) fn read_vector(
     ensures read { Reads (λ x. (x.0, x.1.now)) result ((vector lane_width rows).read total bytes.now) }
     ensures rows { IfOk result (λ x. x.0.rows ≡ rows) }
     ensures lanes { IfOk result (λ x. lane_width_of x.0.coded ≡ lane_width) }
+    ensures form { IfOk result (λ x. IsVector x.0) }
 {
     let (nulls, rest) = read_nulls(alloc, total, bytes, rows)?;
     let (coded, rest) = read_coded(alloc, total, rest, lane_width)?;

@@ -1,6 +1,6 @@
 //! The vectors of a column, from the first rows on.
 ghost use Rattle.std.specs.Prelude.{◌≡◌, ◌<◌, ◌≤◌, ◌↔◌, ℕ, [], length, slice_set, slice_index_or, IsTrue, IfOk};
-ghost use Rattle.segment_core.specs.Segment.{column_cells, vector_count, AreCanonical, HaveSameCells, HasCellsOf};
+ghost use Rattle.segment_core.specs.Segment.{column_cells, vector_count, canonical_vectors, AreCanonical, HaveSameCells, HasCellsOf};
 
 use crate::build::rows_in;
 use crate::coded_vector::CodedVector;
@@ -78,6 +78,14 @@ impl Vectors {
         let vectors = copied_vectors(alloc, self.vectors.as_slice())?;
         Ok(Vectors { vectors })
     }
+
+    /// The canonical vectors of the same cells. Where memory is refused, an `AllocError`.
+    pub fn canonical_copy(&self, alloc: Global) -> Result<Vectors, AllocError>
+        ensures { IfOk result (λ column. column ≡ canonical_vectors self.now) }
+    {
+        let vectors = canonical_copies(alloc, self.vectors.as_slice())?;
+        Ok(Vectors { vectors })
+    }
 }
 
 /// The same vectors in memory of their own. Where memory is refused, an `AllocError`.
@@ -89,6 +97,17 @@ fn copied_vectors(alloc: Global, vectors: &[CodedVector]) -> Result<Vec<CodedVec
         copied.push(vector.copy(alloc)?)?;
     }
     Ok(copied)
+}
+
+/// The canonical vectors of the same cells. Where memory is refused, an `AllocError`.
+fn canonical_copies(alloc: Global, vectors: &[CodedVector]) -> Result<Vec<CodedVector>, AllocError>
+    ensures { IfOk result (λ made. made.items ≡ canonical_vectors vectors.now) }
+{
+    let mut made = Vec::with_capacity(alloc, vectors.len())?;
+    for vector in vectors {
+        made.push(vector.canonical_copy(alloc)?)?;
+    }
+    Ok(made)
 }
 
 /// Whether each vector is the canonical one of its cells.

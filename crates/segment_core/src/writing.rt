@@ -13,26 +13,15 @@ use std::io::Write;
 use table_model::{Counted, Refusal};
 use transpose_order::Mask;
 
-/// Writes all bytes.
-pub(crate) fn write_whole<W: Write>(writer: &mut Counted<W>, bytes: &[u8]) -> Result<(), Refusal>
+/// Writes all bytes. Where a write fails, `WriteFault`; a front of them was written then.
+pub fn write_whole<W: Write>(writer: &mut Counted<W>, bytes: &[u8]) -> Result<(), Refusal>
     ensures { Writes result (W.contents writer.old.0) (W.contents writer.new.0) writer.old.1 writer.new.1 bytes.now }
 {
-    let mut rest = bytes;
-    while !rest.is_empty() {
-        let Ok(taken) = writer.write(rest) else {
-            return Err(Refusal::WriteFault);
-        };
-        if taken == 0 {
-            return Err(Refusal::WriteFault);
-        }
-        let (_, left) = rest.split_at(taken);
-        rest = left;
-    }
-    Ok(())
+    writer.write_whole(bytes)
 }
 
 /// Writes a number in `size` bytes, 1 to 8, which it fits, the lowest first.
-pub(crate) fn write_number<W: Write>(
+pub fn write_number<W: Write>(
     writer: &mut Counted<W>,
     value: u64,
     size: usize,
@@ -48,7 +37,7 @@ pub(crate) fn write_number<W: Write>(
 }
 
 /// Writes a value of `lane_width` bits, 8, 16, 32 or 64, in two's complement, the lowest byte first.
-pub(crate) fn write_value<W: Write>(
+pub fn write_value<W: Write>(
     writer: &mut Counted<W>,
     value: i64,
     lane_width: usize,
@@ -62,7 +51,7 @@ pub(crate) fn write_value<W: Write>(
 }
 
 /// Writes values of `lane_width` bits, 8, 16, 32 or 64, in order.
-pub(crate) fn write_values<W: Write>(
+pub fn write_values<W: Write>(
     writer: &mut Counted<W>,
     values: &[i64],
     lane_width: usize,

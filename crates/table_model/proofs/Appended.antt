@@ -17,7 +17,7 @@ total_or_null-append (x ∷ xs) (y ∷ ys) = ap Some (total-append (x ∷ xs) (y
 min_assoc : (x y z : ℤ) → int_min x (int_min y z) ≡ int_min (int_min x y) z
 min_assoc x y z = omega (arith, ints, clamps)
 
-lesser-assoc : (a b c : Option ℤ) → lesser a (lesser b c) ≡ lesser (lesser a b) c
+pub lesser-assoc : (a b c : Option ℤ) → lesser a (lesser b c) ≡ lesser (lesser a b) c
 lesser-assoc None b c = refl
 lesser-assoc (Some x) None c = refl
 lesser-assoc (Some x) (Some y) None = refl
@@ -30,7 +30,7 @@ least-append (x ∷ xs) ys = ap (lesser (Some x)) (least-append xs ys) ∙ lesse
 max_assoc : (x y z : ℤ) → int_max x (int_max y z) ≡ int_max (int_max x y) z
 max_assoc x y z = omega (arith, ints, clamps)
 
-greater-assoc : (a b c : Option ℤ) → greater a (greater b c) ≡ greater (greater a b) c
+pub greater-assoc : (a b c : Option ℤ) → greater a (greater b c) ≡ greater (greater a b) c
 greater-assoc None b c = refl
 greater-assoc (Some x) None c = refl
 greater-assoc (Some x) (Some y) None = refl

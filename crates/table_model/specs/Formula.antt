@@ -49,10 +49,10 @@ under join [] = []
 under join (f ∷ fs) = join f ∷ fs
 
 -- the formulas on a pile after a part that joins the two on top
-abbrev pub joined : (Formula → Formula → Formula) → List Formula → List Formula
-joined join [] = []
-joined join (g ∷ []) = []
-joined join (g ∷ f ∷ fs) = join f g ∷ fs
+abbrev pub top_joined : (Formula → Formula → Formula) → List Formula → List Formula
+top_joined join [] = []
+top_joined join (g ∷ []) = []
+top_joined join (g ∷ f ∷ fs) = join f g ∷ fs
 
 -- the formulas on a pile after a part
 abbrev pub after_part : Part → List Formula → List Formula
@@ -61,9 +61,9 @@ after_part (inr (inl is)) fs = under (λ f. is_truth f is) fs
 after_part (inr (inr zero)) fs = under in_parentheses fs
 after_part (inr (inr (suc zero))) fs = under negation fs
 after_part (inr (inr (suc (suc zero)))) fs = no_factor ∷ fs
-after_part (inr (inr (suc (suc (suc zero))))) fs = joined both fs
+after_part (inr (inr (suc (suc (suc zero))))) fs = top_joined both fs
 after_part (inr (inr (suc (suc (suc (suc zero)))))) fs = no_term ∷ fs
-after_part (inr (inr (suc (suc (suc (suc (suc n))))))) fs = joined either fs
+after_part (inr (inr (suc (suc (suc (suc (suc n))))))) fs = top_joined either fs
 
 -- the formulas on a pile after a list of parts
 abbrev pub after_parts : List Part → List Formula → List Formula

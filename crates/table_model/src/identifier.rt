@@ -35,7 +35,7 @@ const KEYWORDS: [&[u8]; 24] = [
 ];
 
 /// Whether two texts are the same, byte for byte.
-pub(crate) fn same_text(a: &[u8], b: &[u8]) -> bool
+pub fn same_text(a: &[u8], b: &[u8]) -> bool
     ensures { result ≡ same_text a.now b.now }
 {
     a == b

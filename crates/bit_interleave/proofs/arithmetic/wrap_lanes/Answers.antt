@@ -1,5 +1,5 @@
 -- Each lane is in the range of 64 bits, so its bits are read back as it is.
-use Rattle.std.proofs.Common.{◌≡◌, ℕ, ◌<◌, pos, ℤ, length, slice_index, sym, ap, ◌∙◌, subst, arith, of_z, to_z, FitsSigned, map, get_or}
+use Rattle.std.proofs.Common.{◌≡◌, ℕ, pos, ℤ, length, slice_index, sym, ap, ◌∙◌, subst, arith, of_z, to_z, FitsSigned, map, get_or}
 use Rattle.std.specs.Int.{int_wrap, w64}
 use Rattle.std.proofs.lemmas.Int.{to_z-of_z}
 use Rattle.std.proofs.lemmas.List.{length-map, get_or-map}

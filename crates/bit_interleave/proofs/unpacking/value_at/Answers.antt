@@ -1,5 +1,5 @@
 -- The words read are those of the value's lane, so their bits joined are the packed value.
-use Rattle.std.proofs.Common.{◌≡◌, ℕ, ◌+◌, ◌-◌, ◌*◌, ◌/◌, ◌%◌, ◌<◌, ◌≤◌, ◌^◌, List, map, length, get_or, bit_and, bit_or, sym, ap, subst, ◌∙◌, arith}
+use Rattle.std.proofs.Common.{◌≡◌, ℕ, ◌+◌, ◌-◌, ◌*◌, ◌/◌, ◌%◌, ◌<◌, ◌≤◌, ◌^◌, map, length, get_or, bit_and, bit_or, sym, ap, subst, ◌∙◌, arith}
 use Rattle.std.proofs.lemmas.Nat.{row_fits}
 use Rattle.transpose_order.specs.Place.{IsLaneWidth}
 use Rattle.bit_interleave.specs.Packing.{packed_value}

@@ -4,7 +4,7 @@ use Rattle.std.specs.List.{All, range_with_len}
 use Rattle.std.proofs.lemmas.List.Elements.{All-from_get_or}
 use Rattle.transpose_order.specs.Mask.{number_of_bits}
 use Rattle.transpose_order.specs.Bytes.{bit_of_bytes}
-use Rattle.bit_interleave.specs.PackedBytes.{bytes_of, word_of_bytes, words_of_bytes}
+use Rattle.bit_interleave.specs.PackedBytes.{bytes_of, word_of_bytes}
 use Rattle.bit_interleave.specs.PackedWords.{PackedWords}
 use Rattle.bit_interleave.proofs.WordBytesLemmas.{word_read, words_more, All-words_of_bytes, bytes_come_back_from_words}
 use Rattle.bit_interleave.proofs.word_bytes.words_of.Goals as goal

@@ -1,6 +1,7 @@
 -- No row so far has a value.
 use Rattle.std.proofs.Common.{◌≡◌, [], take}
-use Rattle.segment_core.specs.Fill.{present, cells_under}
+use Rattle.table_model.specs.Values.{present}
+use Rattle.segment_core.specs.Fill.{cells_under}
 use Rattle.segment_core.proofs.fill.first_present.Given as goal
 
 abbrev pub invariant-loop-row : goal.invariant-loop-row

@@ -25,7 +25,7 @@ loop-k-preserved c =
       read = rw items (goes_on (λ front. vector c.args.lane_width (rows_in c.args.rows (length front))) (vector_count c.args.rows) c.loop-k.k c.loop-k.vectors.items c.args.total c.loop-k.rest.now c.in_ok-vector.vector c.in_ok-vector.after.now _ c.loop-k-test.true
           (rw (← covered) c.in_ok-vector.ensures.read) c.loop-k.invariant.read);
       count = rw items (omega (arith, length-append c.loop-k.vectors.items (c.in_ok-vector.vector ∷ []), c.loop-k.invariant.count));
-      vectors = rw items (more_vectors c.args.lane_width c.args.rows c.loop-k.vectors.items c.in_ok-vector.vector c.loop-k.invariant.vectors (c.in_ok-vector.ensures.rows ∙ covered) c.in_ok-vector.ensures.lanes);
+      vectors = rw items (more_vectors c.args.lane_width c.args.rows c.loop-k.vectors.items c.in_ok-vector.vector c.loop-k.invariant.vectors (c.in_ok-vector.ensures.rows ∙ covered) c.in_ok-vector.ensures.lanes c.in_ok-vector.ensures.form);
     }
 
 pub returns-clause-read : goal.returns-clause-read

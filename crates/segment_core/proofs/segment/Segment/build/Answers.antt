@@ -1,8 +1,9 @@
 -- The canonical vectors of a batch are a segment, and stand for its rows.
-use Rattle.std.proofs.Common.{◌≡◌, List, length, sym, ◌∙◌, ap, subst}
+use Rattle.std.proofs.Common.{◌≡◌, List, length, refl, sym, ◌∙◌, ap, subst}
 use Rattle.segment_core.specs.CodedVector.{VectorForm}
 use Rattle.segment_core.specs.Segment.{batch_of, canonical_forms, widths_of, widths_in, IsSegment}
 use Rattle.segment_core.proofs.BuildLemmas.{canonical_is_segment, canonical_rows}
+use Rattle.segment_core.proofs.ValidLemmas.{has_bytes}
 use Rattle.segment_core.proofs.WidthLemmas.{widths_in-canonical}
 use Rattle.segment_core.proofs.segment.Segment.build.Goals as goal
 
@@ -14,6 +15,10 @@ invariant_of-result c =
 pub returns-clause-widths : goal.returns-clause-widths
 returns-clause-widths c =
     ap widths_in c.in_ok-columns.ensures.forms ∙ widths_in-canonical (widths_of c.args.schema.now) c.args.rows.now c.requires.some
+
+pub returns-clause-valid : goal.returns-clause-valid
+returns-clause-valid c =
+    has_bytes (record { rows = batch_of (length c.args.rows.now) c.in_ok-columns.columns.items; forms = c.in_ok-columns.columns.items }) (length c.args.rows.now) c.args.schema.now (invariant_of-result c) refl (returns-clause-widths c)
 
 pub returns-clause-value : goal.returns-clause-value
 returns-clause-value c =

@@ -1,10 +1,11 @@
 -- The vector stands where another stood, and no row changes.
-use Rattle.std.proofs.Common.{List, [], set, get_or, sym, ◌∙◌, ap, subst}
+use Rattle.std.proofs.Common.{List, [], set, get_or, refl, sym, ◌∙◌, ap, subst}
 use Rattle.std.proofs.lemmas.Option.{slice_get_within}
 use Rattle.segment_core.specs.CodedVector.{VectorForm}
 use Rattle.segment_core.specs.Segment.{SegmentForm, batch_of, IsSegment}
 use Rattle.segment_core.proofs.PutLemmas.{found, segment_kept, rows_kept}
 use Rattle.segment_core.specs.Segment.{widths_in}
+use Rattle.segment_core.proofs.ValidLemmas.{has_bytes}
 use Rattle.segment_core.proofs.WidthLemmas.{widths_kept}
 use Rattle.segment_core.proofs.segment.Segment.put.Goals as goal
 
@@ -40,3 +41,8 @@ returns-clause-forms c =
 pub returns-clause-widths : goal.returns-clause-widths
 returns-clause-widths c =
     ap widths_in (returns-clause-forms c) ∙ widths_kept c.args.self.now.forms c.args.column c.args.vector c.args.made c.requires.there c.requires.stands
+
+pub returns-clause-valid : goal.returns-clause-valid
+returns-clause-valid c = λ table widths.
+    let after : List (List VectorForm) = set c.self.inside.columns.items c.args.column c.put.new.self in
+    has_bytes (record { rows = batch_of c.self.inside.rows after; forms = after }) c.self.inside.rows table (invariant_of-self c) refl widths

@@ -45,3 +45,11 @@ returns-clause-found c =
     ∙ sym (segment_bytes_are c.from_columns.result c.args.schema.now c.args.rows
     (c.from_columns.ensures.rows ∙ ap (batch_of c.args.rows) (sym c.from_columns.ensures.forms))
     (ap widths_in c.from_columns.ensures.forms ∙ c.in_ok-read.ensures.lanes ∙ ap (map width) c.column_list.ensures.list))
+
+pub returns-clause-widths : goal.returns-clause-widths
+returns-clause-widths c =
+    let width : ColumnShape → ℕ = λ s. bits_of s.column_type in
+    ap widths_in c.from_columns.ensures.forms ∙ c.in_ok-read.ensures.lanes ∙ ap (map width) c.column_list.ensures.list
+
+pub returns-clause-valid : goal.returns-clause-valid
+returns-clause-valid c = c.from_columns.ensures.valid c.args.schema.now (returns-clause-widths c)

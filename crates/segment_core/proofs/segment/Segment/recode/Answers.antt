@@ -19,3 +19,6 @@ returns-in_err-made-clause-act c =
     let p = err_from_is_err_and c.from_residual.result c.from_residual.ensures.1 in
     rw (p.1, p.2)
     (refl, refused_put c.args.self.now c.args.column c.args.vector (recoded_found c.args.coding (vector_at c.args.self.now.forms c.args.column c.args.vector)) c.in_err-made.field-0.0 c.in_err-made.ensures.value)
+
+pub returns-clause-valid : goal.returns-clause-valid
+returns-clause-valid c = λ table widths. c.put.ensures.valid table (c.put.ensures.widths ∙ widths)
