@@ -11,13 +11,13 @@ use Rattle.query_parser.proofs.Lengths.{AtMost, Shrinks, name_short, literal_sho
 use Rattle.query_parser.proofs.Many.{length-taken}
 use Rattle.query_parser.proofs.Simulation.{then_fault, choose_law, word_law, bind_law, stops, skips, expands, begins_alike, passes, opens, too_deep, sign_law, open_law}
 use Rattle.query_parser.proofs.Productions.{IsShallow, Takes, name_law, literal_law, function_law, function_word_law, named_law, item_law}
-use Rattle.query_parser.specs.Descent.{Reader, choose, taken, read_name, read_literal, read_more, read_many, one_more, read_function, read_item, read_items, read_operand, comparison_word, read_literals, read_list, read_range, read_range_or_list, read_is_null, read_after_operand, read_predicate, read_truth_word, read_asked, read_primary, read_test, read_factor, read_term, read_terms, nested, read_condition, read_filter, read_having, read_columns, read_grouping, read_query, read_whole, whole, Reads, ◌>>=◌}
+use Rattle.query_parser.specs.Descent.{Reader, read_name, read_literal, read_more, read_many, one_more, read_function, read_item, read_items, read_operand, comparison_word, read_literals, read_list, read_range, read_range_or_list, read_is_null, read_after_operand, read_predicate, read_truth_word, read_asked, read_primary, read_test, read_factor, read_term, read_terms, nested, read_condition, read_filter, read_having, read_columns, read_grouping, read_query, read_whole, whole, Reads, ◌>>=◌}
 use Rattle.query_parser.specs.Stack.{Symbol, a_sign, a_name, a_query, some_items, more_items, an_item, a_filter, a_grouping, a_having, some_columns, more_columns, a_condition, or_terms, a_term, and_factors, a_factor, a_test, an_is_truth, an_asked, a_truth_word, a_primary, a_closing, a_predicate, an_after_operand, a_range_or_list, an_is_null, an_operand, a_literal, some_literals, more_literals, begin, may_be_empty, open_count, after, first_fault, and_then, on, Finds}
 use Rattle.query_parser.specs.declared.predicate.Clause.{Clause}
 use Rattle.query_parser.specs.declared.predicate.Clause.TheVariants.{Where, Having}
 use Rattle.query_parser.specs.declared.token.Sign.{Sign}
 use Rattle.query_parser.specs.declared.token.Sign.TheVariants as sign
-use Rattle.query_parser.specs.Token.{same_sign}
+use Rattle.query_parser.specs.Token.{same_sign, choose, taken}
 use Rattle.query_parser.specs.declared.token.Token.{Token}
 
 short_at : {V : Type 0} (n : ℕ) (r : Result (V × List Token) Refusal) (x : V × List Token) → AtMost n r → r ≡ Ok x → length x.1 ≤ n
@@ -224,7 +224,7 @@ condition_law c levels end ts ss d = terms_law c levels end (inner_law c levels 
 abbrev IsOutside : List Symbol → Type 0
 IsOutside ss = open_count ss ≡ 0
 
-pub filter_law : (end : ℕ) (ts : List Token) (ss : List Symbol) → IsOutside ss → first_fault end (a_filter ∷ ss) ts ≡ then_fault end ss (read_filter end ts)
+pub filter_law : (end : ℕ) (ts : List Token) (ss : List Symbol) → IsOutside ss → first_fault end (a_filter ∷ ss) ts ≡ then_fault end ss (read_filter 64 end ts)
 unfolding read_filter
 filter_law end ts ss d =
     choose_law _ end ss (taken sign.Where ts) _ _
@@ -232,7 +232,7 @@ filter_law end ts ss d =
     ∙ bind_law _ end ss ss (read_condition Where 64 end rest) _ (condition_law Where 64 end rest ss (omega arith)) (λ r f. refl))
     (λ n. skips end a_filter ss ts refl (rw n refl))
 
-pub having_law : (end : ℕ) (ts : List Token) (ss : List Symbol) → IsOutside ss → first_fault end (a_having ∷ ss) ts ≡ then_fault end ss (read_having end ts)
+pub having_law : (end : ℕ) (ts : List Token) (ss : List Symbol) → IsOutside ss → first_fault end (a_having ∷ ss) ts ≡ then_fault end ss (read_having 64 end ts)
 unfolding read_having
 having_law end ts ss d =
     choose_law _ end ss (taken sign.Having ts) _ _
@@ -259,7 +259,7 @@ on_select ts = by_taken (taken sign.Select ts)
     by_taken None = refl
     by_taken (Some rest) = refl
 
-pub query_law : (end : ℕ) (ts : List Token) → first_fault end (a_query ∷ []) ts ≡ then_fault end [] (read_query end ts)
+pub query_law : (end : ℕ) (ts : List Token) → first_fault end (a_query ∷ []) ts ≡ then_fault end [] (read_query 64 end ts)
 unfolding read_query
 query_law end ts =
     expands end a_query (a_sign sign.Select) behind_select [] ts refl refl (on_select ts)
@@ -267,9 +267,9 @@ query_law end ts =
     (λ list. bind_law _ end (a_sign sign.From ∷ a_name ∷ a_filter ∷ a_grouping ∷ a_having ∷ []) [] (read_items end list) _ (items_law end list _ refl)
     (λ items e. sign_law end sign.From [] (a_name ∷ a_filter ∷ a_grouping ∷ a_having ∷ []) items.1 _ refl
     (λ name. bind_law _ end (a_filter ∷ a_grouping ∷ a_having ∷ []) [] (read_name end name) _ (name_law end name _ refl)
-    (λ table f. bind_law _ end (a_grouping ∷ a_having ∷ []) [] (read_filter end table.1) _ (filter_law end table.1 _ refl)
+    (λ table f. bind_law _ end (a_grouping ∷ a_having ∷ []) [] (read_filter 64 end table.1) _ (filter_law end table.1 _ refl)
     (λ filter g. bind_law _ end (a_having ∷ []) [] (read_grouping end filter.1) _ (grouping_law end filter.1 _ refl)
-    (λ grouping h. bind_law _ end [] [] (read_having end grouping.1) _ (having_law end grouping.1 _ refl) (λ having i. refl)))))))
+    (λ grouping h. bind_law _ end [] [] (read_having 64 end grouping.1) _ (having_law end grouping.1 _ refl) (λ having i. refl)))))))
 
 -- the fault that a reading ended with
 abbrev pub fault_in : {V : Type 0} → Result V Refusal → Option Refusal
@@ -284,7 +284,7 @@ whole_fault end v (t ∷ ts) = let some : (length (t ∷ ts) == 0) ≡ false = g
 -- the stack's first fault is what the descent ends with
 pub whole_law : (end : ℕ) (ts : List Token) → first_fault end (a_query ∷ []) ts ≡ fault_in (read_whole end ts)
 unfolding read_whole
-whole_law end ts = by_result (read_query end ts) (query_law end ts)
+whole_law end ts = by_result (read_query 64 end ts) (query_law end ts)
   where
     by_result : (r : Result (QueryShape × List Token) Refusal) → first_fault end (a_query ∷ []) ts ≡ then_fault end [] r → first_fault end (a_query ∷ []) ts ≡ fault_in (r >>= whole end)
     by_result (Ok x) e = e ∙ whole_fault end x.0 x.1

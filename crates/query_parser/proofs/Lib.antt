@@ -1,8 +1,17 @@
+pub mod Beginnings
 pub mod Conditions
+pub mod Converse
+pub mod ConverseConditions
+pub mod ConversePredicates
+pub mod ConverseQueries
+pub mod LeastPlaces
 pub mod Lengths
 pub mod Lexing
 pub mod Many
+pub mod Plain
 pub mod Productions
 pub mod Simulation
 pub mod Spelling
+pub mod Taking
 pub mod Visits
+pub mod Wholes

@@ -2,7 +2,8 @@
 use Rattle.std.proofs.Common.{◌≡◌, ℕ, zero, suc, ◌+◌, ◌<◌, ◌≤◌, cond, Bool, true, false, Some, None, Result, Ok, Err, List, [], ◌∷◌, length, refl, sym, ◌∙◌, ap, inl, inr, ◌⊎◌, arith}
 use Rattle.table_model.specs.declared.refusal.Refusal.{Refusal}
 use Rattle.table_model.specs.declared.refusal.Refusal.TheVariants.{Memory}
-use Rattle.query_parser.specs.Descent.{Reader, read_more, taken, is_sign, ◌>>=◌}
+use Rattle.query_parser.specs.Descent.{Reader, read_more, ◌>>=◌}
+use Rattle.query_parser.specs.Token.{taken, is_sign}
 use Rattle.query_parser.specs.declared.token.Sign.{Sign}
 use Rattle.query_parser.specs.declared.token.Token.{Token}
 
@@ -28,9 +29,9 @@ pub record IsLeft {V A : Type 0} (read : Reader V) (s : Sign) (join : A → V �
   pub fits : length ts ≤ bound
   pub gives : read_more read s join bound front ts ≡ total
 
-pub goes_on : {V A : Type 0} (read : Reader V) (s : Sign) (join : A → V → A) (front : A) (ts next left : List Token) (total : Result (A × List Token) Refusal) (v : V)
-    → IsLeft read s join front ts total → taken s ts ≡ Some next → read next ≡ Ok (v, left) → length left < length next → IsLeft read s join (join front v) left total
-goes_on read s join front ts next left total v state e f h = by_bound state.bound state.fits state.gives
+pub goes_on_within : {V A : Type 0} (read : Reader V) (s : Sign) (join : A → V → A) (front : A) (ts next left : List Token) (total : Result (A × List Token) Refusal) (v : V)
+    → IsLeft read s join front ts total → taken s ts ≡ Some next → read next ≡ Ok (v, left) → length left ≤ length next → IsLeft read s join (join front v) left total
+goes_on_within read s join front ts next left total v state e f h = by_bound state.bound state.fits state.gives
   where
     by_bound : (n : ℕ) → length ts ≤ n → read_more read s join n front ts ≡ total → IsLeft read s join (join front v) left total
     by_bound zero fits gives = absurd (omega (arith, length-taken s ts next e))
@@ -40,6 +41,10 @@ goes_on read s join front ts next left total v state e f h = by_bound state.boun
           fits = omega (arith, length-taken s ts next e);
           gives = sym (more_once read s join n front ts next e ∙ ap (λ o. o >>= λ r. read_more read s join n (join front r.0) r.1) f) ∙ gives;
         }
+
+pub goes_on : {V A : Type 0} (read : Reader V) (s : Sign) (join : A → V → A) (front : A) (ts next left : List Token) (total : Result (A × List Token) Refusal) (v : V)
+    → IsLeft read s join front ts total → taken s ts ≡ Some next → read next ≡ Ok (v, left) → length left < length next → IsLeft read s join (join front v) left total
+goes_on read s join front ts next left total v state e f h = goes_on_within read s join front ts next left total v state e f (omega arith)
 
 -- a part that fails ends it all
 pub fails : {V A : Type 0} (read : Reader V) (s : Sign) (join : A → V → A) (front : A) (ts next : List Token) (total : Result (A × List Token) Refusal) (fault : Refusal)

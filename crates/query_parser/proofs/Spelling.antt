@@ -11,7 +11,8 @@ use Rattle.table_model.specs.declared.query.Fold.TheVariants as folds
 use Rattle.table_model.specs.declared.query.Operand.{Operand}
 use Rattle.table_model.specs.declared.query.Predicate.{Predicate}
 use Rattle.table_model.specs.declared.refusal.Refusal.{Refusal}
-use Rattle.query_parser.specs.Descent.{Reader, Reads, choose, taken, mentioned, spelled_digits, is_large, read_sign, read_name, read_digits, read_literal, read_more, read_many, one_more, function_word, read_column_argument, read_quantified, read_argument, read_function, read_item_value, read_alias, read_item, read_items, read_operand, begins_with_name, comparison_word, read_literals, read_list, read_range, read_range_or_list, read_is_null, read_after_operand, read_predicate, read_truth_word, read_asked, read_primary, read_test, read_factor, read_term, read_terms, nested, read_condition, read_filter, read_having, read_columns, read_grouping, read_query, read_whole, whole, ◌>>=◌, syntax}
+use Rattle.query_parser.specs.Descent.{Reader, Reads, read_sign, read_name, read_digits, read_literal, read_more, read_many, one_more, function_word, read_column_argument, read_quantified, read_argument, read_function, read_item_value, read_alias, read_item, read_items, read_operand, begins_with_name, comparison_word, read_literals, read_list, read_range, read_range_or_list, read_is_null, read_after_operand, read_predicate, read_truth_word, read_asked, read_primary, read_test, read_factor, read_term, read_terms, nested, read_condition, read_filter, read_having, read_columns, read_grouping, read_query, read_whole, whole, ◌>>=◌, syntax}
+use Rattle.query_parser.specs.Token.{choose, taken, mentioned, spelled_digits, is_large}
 use Rattle.query_parser.specs.Grammar.{IsSign, IsName, Listed, only, more, IsPlusOrMinus, IsLiteral, word_of, IsQuantifier, IsArgument, fold_of, IsFunction, IsOperand, sign_of, IsNegation, IsPredicate, IsAsked, rank, IsFormula, IsCondition, IsClause, IsGrouping, IsItemValue, IsAlias, IsItem, IsQuery}
 use Rattle.query_parser.specs.declared.predicate.Clause.{Clause}
 use Rattle.query_parser.specs.declared.predicate.Clause.TheVariants.{Where, Having}
@@ -255,15 +256,15 @@ pub condition_sound : (c : Clause) (levels end : ℕ) → ReadsConditions c (rea
 unfolding read_condition
 condition_sound c levels end ts = terms_sound c (nested c levels end) end (nested_sound c levels end) ts
 
-pub filter_sound : (end : ℕ) (ts : List Token) → Sound (λ f to. IsClause sign.Where Where f ts to) (read_filter end ts)
+pub filter_sound : (levels end : ℕ) (ts : List Token) → Sound (λ f to. IsClause sign.Where Where f ts to) (read_filter levels end ts)
 unfolding read_filter
-filter_sound end ts =
-    choose_sound _ (taken sign.Where ts) _ _ (λ rest e. bind_sound _ _ (read_condition Where 64 end rest) _ (condition_sound Where 64 end rest) (λ r k. (rest, (e, k)))) refl
+filter_sound levels end ts =
+    choose_sound _ (taken sign.Where ts) _ _ (λ rest e. bind_sound _ _ (read_condition Where levels end rest) _ (condition_sound Where levels end rest) (λ r k. (rest, (e, k)))) refl
 
-pub having_sound : (end : ℕ) (ts : List Token) → Sound (λ f to. IsClause sign.Having Having f ts to) (read_having end ts)
+pub having_sound : (levels end : ℕ) (ts : List Token) → Sound (λ f to. IsClause sign.Having Having f ts to) (read_having levels end ts)
 unfolding read_having
-having_sound end ts =
-    choose_sound _ (taken sign.Having ts) _ _ (λ rest e. bind_sound _ _ (read_condition Having 64 end rest) _ (condition_sound Having 64 end rest) (λ r k. (rest, (e, k)))) refl
+having_sound levels end ts =
+    choose_sound _ (taken sign.Having ts) _ _ (λ rest e. bind_sound _ _ (read_condition Having levels end rest) _ (condition_sound Having levels end rest) (λ r k. (rest, (e, k)))) refl
 
 pub grouping_sound : (end : ℕ) (ts : List Token) → Sound (λ columns to. IsGrouping columns ts to) (read_grouping end ts)
 unfolding read_grouping read_columns
@@ -294,16 +295,16 @@ item_sound end ts =
     bind_sound _ _ (read_item_value end ts) _ (item_value_sound end ts)
     (λ v h. bind_sound _ _ (read_alias end v.1) _ (alias_sound end v.1) (λ r k. (v.1, (h, k))))
 
-pub query_sound : (end : ℕ) (ts : List Token) → Sound (λ q to. IsQuery q ts to) (read_query end ts)
+pub query_sound : (levels end : ℕ) (ts : List Token) → Sound (λ q to. IsQuery q ts to) (read_query levels end ts)
 unfolding read_query read_items
-query_sound end ts =
+query_sound levels end ts =
     sign_sound _ sign.Select end ts _
     (λ list a. bind_sound _ _ (read_items end list) _ (listed_sound IsItem (read_item end) sign.Comma (item_sound end) list)
     (λ items b. sign_sound _ sign.From end items.1 _
     (λ name d. bind_sound _ _ (read_name end name) _ (name_sound end name)
-    (λ table e. bind_sound _ _ (read_filter end table.1) _ (filter_sound end table.1)
+    (λ table e. bind_sound _ _ (read_filter levels end table.1) _ (filter_sound levels end table.1)
     (λ filter f. bind_sound _ _ (read_grouping end filter.1) _ (grouping_sound end filter.1)
-    (λ grouping g. bind_sound _ _ (read_having end grouping.1) _ (having_sound end grouping.1)
+    (λ grouping g. bind_sound _ _ (read_having levels end grouping.1) _ (having_sound levels end grouping.1)
     (λ having h. record {
       behind_select = list;
       behind_items = items.1;
@@ -324,7 +325,7 @@ query_sound end ts =
 -- a query behind which no token is left is the whole of the tokens
 pub whole_sound : (end : ℕ) (ts : List Token) (q : QueryShape) → read_whole end ts ≡ Ok q → IsQuery q ts []
 unfolding read_whole
-whole_sound end ts q h = by_result (read_query end ts) (query_sound end ts) h
+whole_sound end ts q h = by_result (read_query 64 end ts) (query_sound 64 end ts) h
   where
     by_rest : (x : QueryShape) (rest : List Token) → IsQuery x ts rest → whole end (x, rest) ≡ Ok q → IsQuery q ts []
     by_rest x [] s e = let same : x ≡ q = cc in rw (← same) s

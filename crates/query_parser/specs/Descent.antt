@@ -1,8 +1,6 @@
 -- The grammar read by descent: what each function of the parser answers. That this is the grammar's query, and the first fault
 -- by the stack of symbols, is proved of it.
-use Rattle.std.specs.Prelude.{◌≡◌, ℕ, zero, suc, ◌+◌, ◌-◌, ◌*◌, ℤ, pos, ◌⊎◌, Bool, true, false, ◌==◌, nat_lt, if◌then◌else◌, Option, Some, None, is_some, Result, Ok, Err, List, [], ◌∷◌, ◌++◌, length, fold}
-use Rattle.std.proofs.Common.{neg_ℤ}
-use Rattle.table_model.specs.Identifier.{folded}
+use Rattle.std.specs.Prelude.{◌≡◌, ℕ, zero, suc, ℤ, ◌⊎◌, Bool, true, false, ◌==◌, if◌then◌else◌, Option, Some, None, is_some, Result, Ok, Err, List, [], ◌∷◌, ◌++◌, length}
 use Rattle.table_model.specs.Formula.{Formula, says, in_parentheses, is_truth, negation, no_factor, both, no_term, either}
 use Rattle.table_model.specs.Query.{QueryShape}
 use Rattle.table_model.specs.declared.op.Op.{Op}
@@ -23,12 +21,10 @@ use Rattle.table_model.specs.declared.query.SetFunction.{SetFunction}
 use Rattle.table_model.specs.declared.query.SetFunction.TheVariants.{CountRows, Of}
 use Rattle.table_model.specs.declared.refusal.Refusal.{Refusal}
 use Rattle.table_model.specs.declared.refusal.Refusal.TheVariants.{Memory, Syntax, NumberTooLarge, TooDeep}
-use Rattle.query_parser.specs.Token.{same_sign, tokens_of}
+use Rattle.query_parser.specs.Grammar.{takes_functions}
+use Rattle.query_parser.specs.Token.{choose, taken, mentioned, spelled_digits, significant, is_large, value_of, signed, place_of, tokens_of}
 use Rattle.query_parser.specs.declared.predicate.Clause.{Clause}
 use Rattle.query_parser.specs.declared.predicate.Clause.TheVariants.{Where, Having}
-use Rattle.query_parser.specs.declared.token.Kind.{Kind}
-use Rattle.query_parser.specs.declared.token.Kind.TheVariants.{Identifier, Digits, Bad}
-use Rattle.query_parser.specs.declared.token.Kind.TheVariants as kind
 use Rattle.query_parser.specs.declared.token.Sign.{Sign}
 use Rattle.query_parser.specs.declared.token.Sign.TheVariants as sign
 use Rattle.query_parser.specs.declared.token.Token.{Token}
@@ -44,73 +40,9 @@ abbrev pub ◌>>=◌ : {X Y : Type 0} → Result X Refusal → (X → Result Y R
 Ok x >>= next = next x
 Err e >>= next = Err e
 
--- what follows from a value that is there, or what stands where it isn't
-abbrev pub choose : {X Y : Type 0} → Option X → (X → Y) → Y → Y
-choose None there absent = absent
-choose (Some x) there absent = there x
-
--- whether a token is this sign
-abbrev pub is_sign : Kind → Sign → Bool
-is_sign (kind.Sign other) s = same_sign other s
-is_sign (Identifier word) s = false
-is_sign (Digits digits) s = false
-is_sign Bad s = false
-
--- the tokens behind a sign that they begin with
-unfoldable pub taken : Sign → List Token → Option (List Token)
-taken s [] = None
-taken s (t ∷ ts) = if is_sign t.kind s then Some ts else None
-
--- the place of the first token, or the end of the text
-abbrev pub place_of : ℕ → List Token → ℕ
-place_of end [] = end
-place_of end (t ∷ ts) = t.at
-
--- the identifier that a token is, with its place
-abbrev pub mention_of : Kind → ℕ → Option ColumnMention
-mention_of (kind.Sign s) at = None
-mention_of (Identifier word) at = Some (record { name = folded word; at = at })
-mention_of (Digits digits) at = None
-mention_of Bad at = None
-
--- the identifier that tokens begin with, and the tokens behind it
-unfoldable pub mentioned : List Token → Option (ColumnMention × List Token)
-mentioned [] = None
-mentioned (t ∷ ts) = choose (mention_of t.kind t.at) (λ m. Some (m, ts)) None
-
 -- whether the first token is an identifier
 abbrev pub begins_with_name : List Token → Bool
 begins_with_name ts = is_some (mentioned ts)
-
--- the digits that a token is
-abbrev pub digits_of : Kind → Option (List ℕ)
-digits_of (kind.Sign s) = None
-digits_of (Identifier word) = None
-digits_of (Digits digits) = Some digits
-digits_of Bad = None
-
--- the digits that tokens begin with, and the tokens behind them
-unfoldable pub spelled_digits : List Token → Option (List ℕ × List Token)
-spelled_digits [] = None
-spelled_digits (t ∷ ts) = choose (digits_of t.kind) (λ digits. Some (digits, ts)) None
-
--- digits without their leading zeros
-abbrev pub significant : List ℕ → List ℕ
-significant [] = []
-significant (d ∷ ds) = if d == 48 then significant ds else d ∷ ds
-
--- whether digits are more than 30 after their leading zeros
-abbrev pub is_large : List ℕ → Bool
-is_large digits = nat_lt 30 (length (significant digits))
-
--- the number that digits spell
-abbrev pub value_of : List ℕ → ℕ
-value_of digits = fold (λ n d. n * 10 + (d - 48)) 0 digits
-
--- a whole number, negated or not
-abbrev pub signed : Bool → ℕ → ℤ
-signed true n = neg_ℤ (pos n)
-signed false n = pos n
 
 -- what is read of tokens, and the tokens behind it
 abbrev pub Reader : Type 0 → Type 0
@@ -215,11 +147,6 @@ read_item end ts =
 -- select items
 unfoldable pub read_items : ℕ → Reader (List Item)
 read_items end ts = read_many (read_item end) sign.Comma one_more [] ts
-
--- whether set functions may stand in a clause's condition
-abbrev pub takes_functions : Clause → Bool
-takes_functions Where = false
-takes_functions Having = true
 
 -- a set function's keyword, where one may stand
 abbrev pub allowed_function : Bool → List Token → Option (Fold × List Token)
@@ -336,18 +263,18 @@ nested clause (suc levels) end = read_terms clause (nested clause levels end) en
 unfoldable pub read_condition : Clause → ℕ → ℕ → Reader Formula
 read_condition clause levels end = read_terms clause (nested clause levels end) end
 
--- a condition behind its keyword, or none
-abbrev pub read_clause : Sign → Clause → ℕ → Reader (Option Formula)
-read_clause s clause end ts =
-    choose (taken s ts) (λ rest. read_condition clause 64 end rest >>= λ r. Ok (Some r.0, r.1)) (Ok (None, ts))
+-- a condition behind its keyword, in which so many levels of parentheses may open, or none
+abbrev pub read_clause : Sign → Clause → ℕ → ℕ → Reader (Option Formula)
+read_clause s clause levels end ts =
+    choose (taken s ts) (λ rest. read_condition clause levels end rest >>= λ r. Ok (Some r.0, r.1)) (Ok (None, ts))
 
 -- WHERE and its condition, if the text goes on so
-unfoldable pub read_filter : ℕ → Reader (Option Formula)
-read_filter end ts = read_clause sign.Where Where end ts
+unfoldable pub read_filter : ℕ → ℕ → Reader (Option Formula)
+read_filter levels end ts = read_clause sign.Where Where levels end ts
 
 -- HAVING and its condition, if the text goes on so
-unfoldable pub read_having : ℕ → Reader (Option Formula)
-read_having end ts = read_clause sign.Having Having end ts
+unfoldable pub read_having : ℕ → ℕ → Reader (Option Formula)
+read_having levels end ts = read_clause sign.Having Having levels end ts
 
 -- identifiers
 unfoldable pub read_columns : ℕ → Reader (List ColumnMention)
@@ -357,16 +284,16 @@ read_columns end ts = read_many (read_name end) sign.Comma one_more [] ts
 unfoldable pub read_grouping : ℕ → Reader (List ColumnMention)
 read_grouping end ts = choose (taken sign.Group ts) (λ rest. read_sign sign.By end rest >>= read_columns end) (Ok ([], ts))
 
--- a query
-unfoldable pub read_query : ℕ → Reader QueryShape
-read_query end ts =
+-- a query, in whose conditions so many levels of parentheses may open
+unfoldable pub read_query : ℕ → ℕ → Reader QueryShape
+read_query levels end ts =
     read_sign sign.Select end ts >>= λ list.
     read_items end list >>= λ items.
     read_sign sign.From end items.1 >>= λ name.
     read_name end name >>= λ table.
-    read_filter end table.1 >>= λ filter.
+    read_filter levels end table.1 >>= λ filter.
     read_grouping end filter.1 >>= λ grouping.
-    read_having end grouping.1 >>= λ having.
+    read_having levels end grouping.1 >>= λ having.
     Ok (record { items = items.0; table = table.0.name; filter = filter.0; grouping = grouping.0; having = having.0 }, having.1)
 
 -- a query behind which no token is left
@@ -375,7 +302,7 @@ whole end r = if length r.1 == 0 then Ok r.0 else syntax end r.1
 
 -- the query that tokens are, or their first fault
 unfoldable pub read_whole : ℕ → List Token → Result QueryShape Refusal
-read_whole end ts = read_query end ts >>= whole end
+read_whole end ts = read_query 64 end ts >>= whole end
 
 -- the query that a text is, or its first fault
 unfoldable pub query_of : List ℕ → Result QueryShape Refusal

@@ -19,7 +19,7 @@ use Rattle.table_model.specs.declared.query.Predicate.{Predicate}
 use Rattle.table_model.specs.declared.query.Predicate.TheVariants.{Compare, Between, In, IsNull}
 use Rattle.table_model.specs.declared.query.SetFunction.{SetFunction}
 use Rattle.table_model.specs.declared.query.SetFunction.TheVariants.{CountRows, Of}
-use Rattle.query_parser.specs.Descent.{taken, mentioned, spelled_digits, signed, value_of, significant, takes_functions}
+use Rattle.query_parser.specs.Token.{taken, mentioned, spelled_digits, signed, value_of, significant}
 use Rattle.query_parser.specs.declared.predicate.Clause.{Clause}
 use Rattle.query_parser.specs.declared.predicate.Clause.TheVariants.{Where, Having}
 use Rattle.query_parser.specs.declared.token.Sign.{Sign}
@@ -78,6 +78,11 @@ abbrev pub IsFunction : SetFunction → List Token → List Token → Type 0
 IsFunction f from to =
     (word : List Token) × ((inner : List Token) × ((last : List Token)
     × (IsSign (word_of (fold_of f)) from word × (IsSign sign.OpenParen word inner × (IsArgument f inner last × IsSign sign.CloseParen last to)))))
+
+-- whether set functions may stand in a clause's condition
+abbrev pub takes_functions : Clause → Bool
+takes_functions Where = false
+takes_functions Having = true
 
 -- operand = identifier | literal | setf, the last in HAVING alone
 abbrev pub IsOperand : Clause → Operand → List Token → List Token → Type 0

@@ -1,5 +1,6 @@
 pub mod Descent
 pub mod Grammar
+pub mod Limits
 pub mod Resolve
 pub mod Stack
 pub mod Token

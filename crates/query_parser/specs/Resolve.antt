@@ -1,5 +1,5 @@
 -- Whether a query's names are those of a table.
-use Rattle.std.specs.Prelude.{ℕ, Bool, true, false, not, ◌&&◌, ◌==◌, min, if◌then◌else◌, Option, Some, None, Result, Ok, Err, List, [], ◌∷◌, ◌++◌, fold, position}
+use Rattle.std.specs.Prelude.{◌≡◌, ◌≤◌, ℕ, Bool, true, false, not, ◌&&◌, ◌==◌, min, if◌then◌else◌, Option, Some, None, is_none, All, Any, Result, Ok, Err, List, [], ◌∷◌, ◌++◌, fold, position}
 use Rattle.std.specs.List.{list_any}
 use Rattle.table_model.specs.Formula.{Formula, says, in_parentheses, is_truth, negation, no_factor, both, no_term, either}
 use Rattle.table_model.specs.Query.{QueryShape}
@@ -117,3 +117,32 @@ verdict (None, None) = Ok tt
 abbrev pub resolved : Table → QueryShape → Result (Unit {0}) Refusal
 resolved table q =
     if has_name q.table table.name then verdict (places table.columns q.grouping (None, None) (in_query q)) else Err NoSuchTable
+
+-- whether a table has no column of this name
+abbrev pub is_missing : List ColumnShape → Named → Bool
+is_missing columns named = is_none (column_at columns named.0.name)
+
+-- whether a column that is in a table has to be named by GROUP BY too, and isn't
+abbrev pub lacks_group : (ℕ → Bool) → Bool → Option ℕ → Bool
+lacks_group grouped bound None = false
+lacks_group grouped bound (Some i) = bound && not (grouped i)
+
+-- the same of a column that a query names
+abbrev pub is_ungrouped : List ColumnShape → List ColumnMention → Named → Bool
+is_ungrouped columns grouping named = lacks_group (is_grouped columns grouping) named.1 (column_at columns named.0.name)
+
+-- the least place of the columns that pass a test, where one does
+abbrev pub IsLeastPlace : (Named → Bool) → List Named → Option ℕ → Type 0
+IsLeastPlace test all None = All (λ named. test named ≡ false) all
+IsLeastPlace test all (Some at) = Any (λ named. (test named ≡ true) × (named.0.at ≡ at)) all × All (λ named. test named ≡ true → at ≤ named.0.at) all
+
+-- What a query's names are to a table: another table is refused first, then the least place of a column that the table has not,
+-- wherever it stands, then the least place of one that GROUP BY has to name and doesn't; and nothing else.
+abbrev pub IsJudged : Table → QueryShape → Result (Unit {0}) Refusal → Type 0
+IsJudged table q (Ok _) =
+    (has_name q.table table.name ≡ true) × (IsLeastPlace (is_missing table.columns) (in_query q) None × IsLeastPlace (is_ungrouped table.columns q.grouping) (in_query q) None)
+IsJudged table q (Err NoSuchTable) = has_name q.table table.name ≡ false
+IsJudged table q (Err (NoSuchColumn at)) = (has_name q.table table.name ≡ true) × IsLeastPlace (is_missing table.columns) (in_query q) (Some at)
+IsJudged table q (Err (NotGrouped at)) =
+    (has_name q.table table.name ≡ true) × (IsLeastPlace (is_missing table.columns) (in_query q) None × IsLeastPlace (is_ungrouped table.columns q.grouping) (in_query q) (Some at))
+IsJudged table q (Err other) = ⊥

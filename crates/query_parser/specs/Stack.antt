@@ -5,8 +5,8 @@ use Rattle.table_model.specs.declared.query.Fold.{Fold}
 use Rattle.table_model.specs.declared.query.Fold.TheVariants as folds
 use Rattle.table_model.specs.declared.refusal.Refusal.{Refusal}
 use Rattle.table_model.specs.declared.refusal.Refusal.TheVariants.{Memory, Syntax, NumberTooLarge, TooDeep}
-use Rattle.query_parser.specs.Token.{same_sign, tokens_of}
-use Rattle.query_parser.specs.Descent.{choose, taken, mentioned, spelled_digits, is_large, takes_functions}
+use Rattle.query_parser.specs.Token.{same_sign, tokens_of, choose, taken, mentioned, spelled_digits, is_large}
+use Rattle.query_parser.specs.Grammar.{takes_functions}
 use Rattle.query_parser.specs.declared.predicate.Clause.{Clause}
 use Rattle.query_parser.specs.declared.predicate.Clause.TheVariants.{Where, Having}
 use Rattle.query_parser.specs.declared.token.Kind.{Kind}

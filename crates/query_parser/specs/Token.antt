@@ -1,8 +1,10 @@
 -- Tokens, and the tokens of a text.
-use Rattle.std.specs.Prelude.{ℕ, zero, suc, Bool, ◌==◌, ◌+◌, ◌-◌, ◌||◌, nat_le, if◌then◌else◌, Option, Some, None, List, [], ◌∷◌, length, codes, drop, take_while, nat_eq}
+use Rattle.std.specs.Prelude.{ℕ, zero, suc, ℤ, pos, Bool, true, false, ◌==◌, ◌+◌, ◌-◌, ◌*◌, ◌||◌, nat_le, nat_lt, if◌then◌else◌, Option, Some, None, List, [], ◌∷◌, length, fold, codes, drop, take_while, nat_eq}
+use Rattle.std.proofs.Common.{neg_ℤ}
 use Rattle.std.specs.List.{starts_with}
 use Rattle.std.specs.Char.{is_ascii_alphabetic, is_ascii_digit}
 use Rattle.table_model.specs.Identifier.{folded, same_text, is_word_byte}
+use Rattle.table_model.specs.declared.query.ColumnMention.{ColumnMention}
 use Rattle.query_parser.specs.declared.token.Kind.{Kind}
 use Rattle.query_parser.specs.declared.token.Kind.TheVariants.{Identifier, Digits, Bad}
 use Rattle.query_parser.specs.declared.token.Kind.TheVariants as kind
@@ -154,3 +156,67 @@ tokens_from at zero (c ∷ cs) =
 -- the tokens of a text
 abbrev pub tokens_of : List ℕ → List Token
 tokens_of text = tokens_from 0 0 text
+
+-- what follows from a value that is there, or what stands where it isn't
+abbrev pub choose : {X Y : Type 0} → Option X → (X → Y) → Y → Y
+choose None there absent = absent
+choose (Some x) there absent = there x
+
+-- whether a token is this sign
+abbrev pub is_sign : Kind → Sign → Bool
+is_sign (kind.Sign other) s = same_sign other s
+is_sign (Identifier word) s = false
+is_sign (Digits digits) s = false
+is_sign Bad s = false
+
+-- the tokens behind a sign that they begin with
+unfoldable pub taken : Sign → List Token → Option (List Token)
+taken s [] = None
+taken s (t ∷ ts) = if is_sign t.kind s then Some ts else None
+
+-- the place of the first token, or the end of the text
+abbrev pub place_of : ℕ → List Token → ℕ
+place_of end [] = end
+place_of end (t ∷ ts) = t.at
+
+-- the identifier that a token is, with its place
+abbrev pub mention_of : Kind → ℕ → Option ColumnMention
+mention_of (kind.Sign s) at = None
+mention_of (Identifier word) at = Some (record { name = folded word; at = at })
+mention_of (Digits digits) at = None
+mention_of Bad at = None
+
+-- the identifier that tokens begin with, and the tokens behind it
+unfoldable pub mentioned : List Token → Option (ColumnMention × List Token)
+mentioned [] = None
+mentioned (t ∷ ts) = choose (mention_of t.kind t.at) (λ m. Some (m, ts)) None
+
+-- the digits that a token is
+abbrev pub digits_of : Kind → Option (List ℕ)
+digits_of (kind.Sign s) = None
+digits_of (Identifier word) = None
+digits_of (Digits digits) = Some digits
+digits_of Bad = None
+
+-- the digits that tokens begin with, and the tokens behind them
+unfoldable pub spelled_digits : List Token → Option (List ℕ × List Token)
+spelled_digits [] = None
+spelled_digits (t ∷ ts) = choose (digits_of t.kind) (λ digits. Some (digits, ts)) None
+
+-- digits without their leading zeros
+abbrev pub significant : List ℕ → List ℕ
+significant [] = []
+significant (d ∷ ds) = if d == 48 then significant ds else d ∷ ds
+
+-- whether digits are more than 30 after their leading zeros
+abbrev pub is_large : List ℕ → Bool
+is_large digits = nat_lt 30 (length (significant digits))
+
+-- the number that digits spell
+abbrev pub value_of : List ℕ → ℕ
+value_of digits = fold (λ n d. n * 10 + (d - 48)) 0 digits
+
+-- a whole number, negated or not
+abbrev pub signed : Bool → ℕ → ℤ
+signed true n = neg_ℤ (pos n)
+signed false n = pos n

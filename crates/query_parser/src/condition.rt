@@ -46,8 +46,8 @@ fn term<'t, 'a>(
     ensures reads { Reads (λ r. (formula_of_term r.0, r.1.now)) result (read_term clause (nested clause levels end) end tokens.now) }
     ensures shorter { IfOk result (λ r. length r.1.now < length tokens.now) }
 {
-    let mut factors = Vec::new(alloc);
     let (first, mut rest) = factor(alloc, clause, levels, tokens, end)?;
+    let mut factors = Vec::with_capacity(alloc, 1)?;
     factors.push(first)?;
     while let Some(next) = after(rest, Sign::And) {
         let (factor, left) = factor(alloc, clause, levels, next, end)?;

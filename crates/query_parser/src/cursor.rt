@@ -1,7 +1,8 @@
 //! What the tokens that are left begin with.
 ghost use Rattle.std.specs.Prelude.{◌≡◌, MatchOption, IfOk, Some, None, ◌<◌, ◌≤◌, length, IfSome};
 ghost use Rattle.table_model.specs.Identifier.{folded};
-ghost use Rattle.query_parser.specs.Descent.{Reads, taken, place_of, read_sign, read_name, begins_with_name};
+ghost use Rattle.query_parser.specs.Descent.{Reads, read_sign, read_name, begins_with_name};
+ghost use Rattle.query_parser.specs.Token.{taken, place_of};
 
 use crate::token::{Kind, Sign, Token, Word};
 use std::alloc::{AllocError, Global};
@@ -11,7 +12,7 @@ use table_model::{ColumnMention, Name, Refusal};
 pub(crate) type Read<'t, 'a, X> = Result<(X, &'t [Token<'a>]), Refusal>;
 
 /// The tokens behind the sign, if they begin with it.
-#[tactic(auto, unfolding(crate::specs::Descent::taken))]
+#[tactic(auto, unfolding(crate::specs::Token::taken))]
 pub(crate) fn after<'t, 'a>(tokens: &'t [Token<'a>], sign: Sign) -> Option<&'t [Token<'a>]>
     ensures reads { MatchOption result (taken sign tokens.now ≡ None) (λ rest. taken sign tokens.now ≡ Some rest.now) }
     ensures shorter { IfSome result (λ rest. length rest.now < length tokens.now) }
@@ -50,7 +51,7 @@ pub(crate) fn expect<'t, 'a>(
 }
 
 /// Whether the first of the tokens is an identifier.
-#[tactic(auto, unfolding(crate::specs::Descent::mentioned))]
+#[tactic(auto, unfolding(crate::specs::Token::mentioned))]
 pub(crate) fn begins_with_name(tokens: &[Token<'_>]) -> bool
     ensures { result ≡ begins_with_name tokens.now }
 {
@@ -66,7 +67,7 @@ pub(crate) fn begins_with_name(tokens: &[Token<'_>]) -> bool
 }
 
 /// The identifier that has to come, folded to upper case, and its place.
-#[tactic(auto, unfolding(crate::specs::Descent::read_name, crate::specs::Descent::mentioned))]
+#[tactic(auto, unfolding(crate::specs::Descent::read_name, crate::specs::Token::mentioned))]
 pub(crate) fn identifier<'t, 'a>(
     alloc: Global,
     tokens: &'t [Token<'a>],

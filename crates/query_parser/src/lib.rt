@@ -4,6 +4,7 @@
 
 mod condition;
 mod cursor;
+mod laws;
 mod lexer;
 mod names;
 mod number;
@@ -12,6 +13,7 @@ mod query;
 mod select;
 mod token;
 
+pub use laws::texts_are_unambiguous;
 pub use names::resolve;
 pub use query::parse;
 

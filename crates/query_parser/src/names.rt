@@ -1,7 +1,7 @@
 //! Whether a query's names are those of a table.
 ghost use Rattle.std.specs.Prelude.{◌≡◌, ℕ, ◌<◌, ◌≤◌, length, None, slice_index_or, false};
 ghost use Rattle.table_model.specs.Query.{formula_of_term, formula_of_factor};
-ghost use Rattle.query_parser.specs.Resolve.{places, sooner, visited, verdict, resolved, column_at, is_grouped, in_function, in_operand, in_predicate, in_formula, in_clause, in_items, in_value, in_grouping, in_query};
+ghost use Rattle.query_parser.specs.Resolve.{places, sooner, visited, verdict, resolved, column_at, is_grouped, in_function, in_operand, in_predicate, in_formula, in_clause, in_items, in_value, in_grouping, in_query, IsJudged};
 
 use table_model::{
     Column, ColumnMention, Condition, Factor, Item, ItemValue, Operand, Predicate, Primary, Query,
@@ -230,6 +230,14 @@ fn verdict(found: Places) -> Result<(), Refusal>
 /// (`NoSuchColumn`), and the least place of a column in the select list or in HAVING, outside a set function, that GROUP BY
 /// doesn't name (`NotGrouped`). It takes no memory.
 pub fn resolve(query: &Query, schema: &Schema) -> Result<(), Refusal>
+    ensures resolved { result ≡ resolved schema.now query.now }
+    ensures judged { IsJudged schema.now query.now result }
+{
+    judge(query, schema)
+}
+
+/// The first refusal of the query's names by the table, if any.
+fn judge(query: &Query, schema: &Schema) -> Result<(), Refusal>
     ensures { result ≡ resolved schema.now query.now }
 {
     if !same_word(query.table.as_str().as_bytes(), schema.table().as_bytes()) {

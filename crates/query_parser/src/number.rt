@@ -1,6 +1,7 @@
 //! Literals: digits with or without a sign.
 ghost use Rattle.std.specs.Prelude.{◌≡◌, IsTrue, pos, option_map, length, ◌≤◌, ◌<◌, IfOk, IfSome, MatchOption, Some, None};
-ghost use Rattle.query_parser.specs.Descent.{Reads, significant, is_large, value_of, read_literal, read_digits};
+ghost use Rattle.query_parser.specs.Descent.{Reads, read_literal, read_digits};
+ghost use Rattle.query_parser.specs.Token.{significant, is_large, value_of};
 
 use crate::cursor::{Read, after, syntax};
 use crate::token::{Kind, Sign, Token};
@@ -25,7 +26,7 @@ pub(crate) fn literal<'t, 'a>(tokens: &'t [Token<'a>], end: u64) -> Read<'t, 'a,
 }
 
 /// The number of the digits that have to come, negated or not.
-#[tactic(auto, unfolding(crate::specs::Descent::read_digits, crate::specs::Descent::spelled_digits))]
+#[tactic(auto, unfolding(crate::specs::Descent::read_digits, crate::specs::Token::spelled_digits))]
 fn digits<'t, 'a>(tokens: &'t [Token<'a>], end: u64, negative: bool) -> Read<'t, 'a, i128>
     ensures reads { Reads (λ r. (r.0, r.1.now)) result (read_digits negative end tokens.now) }
     ensures shorter { IfOk result (λ r. length r.1.now < length tokens.now) }

@@ -1,7 +1,8 @@
 //! Whole queries.
-ghost use Rattle.std.specs.Prelude.{◌≡◌, IfOk, []};
+ghost use Rattle.std.specs.Prelude.{◌≡◌, ℕ, IfOk, Err, []};
 ghost use Rattle.query_parser.specs.Descent.{Reads, read_query, read_filter, read_having, read_grouping, read_columns, query_of};
 ghost use Rattle.query_parser.specs.Grammar.{IsQuery};
+ghost use Rattle.query_parser.specs.Limits.{TakesQueries, IsNoQuery};
 ghost use Rattle.query_parser.specs.Stack.{Finds, text_fault};
 ghost use Rattle.query_parser.specs.Token.{tokens_of};
 
@@ -26,6 +27,8 @@ pub fn parse(alloc: Global, text: &str) -> Result<Query, Refusal>
     ensures reads { Reads (λ q. q) result (query_of text.now) }
     ensures grammar { IfOk result (λ q. IsQuery q (tokens_of text.now) []) }
     ensures first { Finds result (text_fault text.now) }
+    ensures takes { TakesQueries (tokens_of text.now) result }
+    ensures syntax { (at : ℕ) → result ≡ Err (Refusal.Syntax at) → IsNoQuery (tokens_of text.now) }
 {
     read_text(alloc, text)
 }
@@ -48,7 +51,7 @@ fn read_text(alloc: Global, text: &str) -> Result<Query, Refusal>
 /// The query that the tokens begin with.
 #[tactic(auto, unfolding(crate::specs::Descent::read_query))]
 fn query<'t, 'a>(alloc: Global, tokens: &'t [Token<'a>], end: u64) -> Read<'t, 'a, Query>
-    ensures { Reads (λ r. (r.0, r.1.now)) result (read_query end tokens.now) }
+    ensures { Reads (λ r. (r.0, r.1.now)) result (read_query 64 end tokens.now) }
 {
     let rest = expect(tokens, end, Sign::Select)?;
     let (items, rest) = items(alloc, rest, end)?;
@@ -76,7 +79,7 @@ fn filter<'t, 'a>(
     tokens: &'t [Token<'a>],
     end: u64,
 ) -> Read<'t, 'a, Option<Condition>>
-    ensures { Reads (λ r. (r.0, r.1.now)) result (read_filter end tokens.now) }
+    ensures { Reads (λ r. (r.0, r.1.now)) result (read_filter 64 end tokens.now) }
 {
     match after(tokens, Sign::Where) {
         Some(rest) => {
@@ -94,7 +97,7 @@ fn having<'t, 'a>(
     tokens: &'t [Token<'a>],
     end: u64,
 ) -> Read<'t, 'a, Option<Condition>>
-    ensures { Reads (λ r. (r.0, r.1.now)) result (read_having end tokens.now) }
+    ensures { Reads (λ r. (r.0, r.1.now)) result (read_having 64 end tokens.now) }
 {
     match after(tokens, Sign::Having) {
         Some(rest) => {

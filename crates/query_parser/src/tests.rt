@@ -2,10 +2,11 @@
 use super::*;
 use std::alloc::{AllocError, Global};
 use std::test::Fail;
-use table_model::{ColType, Query, Refusal, Schema};
+use table_model::{ColType, ItemValue, Query, Refusal, Schema};
 
+// Each production of the grammar, and each choice of it.
 const LONG: &str =
-    "SELECT A AS B,COUNT(*),SUM(DISTINCT A) s,AVG(ALL A) FROM T WHERE NOT(A<>-1 OR A BETWEEN 1 AND +2)IS NOT UNKNOWN AND A NOT IN(1,-2)AND A IS NOT NULL GROUP BY A,A HAVING MIN(A)<=MAX(A)OR COUNT(DISTINCT A)>=1";
+    "SELECT A AS B,COUNT(*),SUM(DISTINCT A) s,AVG(ALL A) FROM T WHERE NOT(A<>-1 OR A BETWEEN 1 AND +2)IS NOT UNKNOWN AND A NOT IN(1,-2)AND A IS NOT NULL GROUP BY A,A HAVING MIN(A)<=MAX(A)OR COUNT(DISTINCT A)>=1 AND A=0 IS TRUE OR NOT A IN(3)IS FALSE AND SUM(A)NOT BETWEEN A AND 2 OR A IS NULL OR 1<A AND A>2";
 
 /// The fault of a text, if it has one.
 fn fault(alloc: Global, text: &str) -> Option<Refusal> {
@@ -13,7 +14,7 @@ fn fault(alloc: Global, text: &str) -> Option<Refusal> {
 }
 
 // A place is the byte offset of the first token that no query has there, or the text's length. Each row was worked out by hand.
-const FAULTS: [(&str, Option<Refusal>); 78] = [
+const FAULTS: [(&str, Option<Refusal>); 95] = [
     ("", Some(Refusal::Syntax(0))),
     (" \t\r\n", Some(Refusal::Syntax(4))),
     ("SELECT COUNT(*) FROM T", None),
@@ -120,6 +121,38 @@ const FAULTS: [(&str, Option<Refusal>); 78] = [
     (
         "SELECT A FROM T HAVING AVG(DISTINCT A) BETWEEN SUM(A) AND 2",
         None,
+    ),
+    ("SELECT\u{b}A FROM T", Some(Refusal::Syntax(6))),
+    ("SELECT\u{c}A FROM T", Some(Refusal::Syntax(6))),
+    ("SELECT\u{a0}A FROM T", Some(Refusal::Syntax(6))),
+    ("SELECT A FROM T WHERE A\nIS\tNOT\rNULL\n", None),
+    ("SELECT A,COUNT(*)FROM T", None),
+    ("SELECT A FROM T, T", Some(Refusal::Syntax(15))),
+    ("SELECT A FROM T WHERE A=1 IS NOT TRUE", None),
+    (
+        "SELECT A FROM T WHERE A IS NULL AND A=1 IS NOT NULL",
+        Some(Refusal::Syntax(47)),
+    ),
+    ("SELECT A FROM T WHERE NOT(NOT A=1)IS TRUE", None),
+    (
+        "SELECT A FROM T WHERE A IS NOT UNKNOWN",
+        Some(Refusal::Syntax(31)),
+    ),
+    ("SELECT A FROM T WHERE A IN(1,)", Some(Refusal::Syntax(29))),
+    (
+        "SELECT A FROM T WHERE A BETWEEN 1 AND",
+        Some(Refusal::Syntax(37)),
+    ),
+    ("SELECT A FROM T HAVING SUM(*)=1", Some(Refusal::Syntax(27))),
+    ("SELECT A FROM T HAVING SUM(A) IN(1)OR 1 IS NULL", None),
+    ("SELECT A FROM T HAVING AVG(A)=AVG(B)", None),
+    (
+        "SELECT A FROM T HAVING COUNT(ALL*)=1",
+        Some(Refusal::Syntax(32)),
+    ),
+    (
+        "SELECT A FROM T WHERE A=1 GROUP BY A HAVING A=1 HAVING A=1",
+        Some(Refusal::Syntax(48)),
     ),
     (LONG, None),
 ];
@@ -284,11 +317,278 @@ fn long_conditions_are_read_in_time_linear_in_their_length(rt: HostRuntime) -> R
     Ok(())
 }
 
+/// Where a prefix of a text has its fault: at its end, at a token, or nowhere.
+#[derive(Clone, Copy)]
+enum Place {
+    End,
+    At(u64),
+    Nowhere,
+}
+
+// The prefixes of the long query, by the length of the last that a row is of. Where a prefix ends in a word that is not whole,
+// the word is an identifier; where it could be the query's end, there is no fault. The rows come from a reading of the grammar by
+// another method, all derivations side by side.
+const PREFIX_FAULTS: [(u64, Place); 86] = [
+    (0, Place::End),
+    (5, Place::At(0)),
+    (57, Place::End),
+    (59, Place::Nowhere),
+    (63, Place::At(59)),
+    (75, Place::End),
+    (76, Place::At(75)),
+    (80, Place::End),
+    (86, Place::At(80)),
+    (90, Place::End),
+    (92, Place::At(90)),
+    (96, Place::End),
+    (97, Place::Nowhere),
+    (98, Place::At(97)),
+    (100, Place::End),
+    (102, Place::At(100)),
+    (104, Place::End),
+    (110, Place::At(104)),
+    (112, Place::Nowhere),
+    (114, Place::At(112)),
+    (118, Place::End),
+    (120, Place::At(118)),
+    (122, Place::End),
+    (123, Place::At(122)),
+    (129, Place::End),
+    (130, Place::Nowhere),
+    (132, Place::At(130)),
+    (136, Place::End),
+    (137, Place::At(136)),
+    (139, Place::End),
+    (141, Place::At(139)),
+    (143, Place::End),
+    (146, Place::At(143)),
+    (148, Place::Nowhere),
+    (152, Place::At(148)),
+    (154, Place::End),
+    (155, Place::At(154)),
+    (157, Place::End),
+    (158, Place::Nowhere),
+    (159, Place::End),
+    (161, Place::Nowhere),
+    (166, Place::At(161)),
+    (176, Place::End),
+    (178, Place::Nowhere),
+    (181, Place::End),
+    (182, Place::Nowhere),
+    (183, Place::At(182)),
+    (204, Place::End),
+    (206, Place::Nowhere),
+    (208, Place::At(206)),
+    (212, Place::End),
+    (214, Place::Nowhere),
+    (215, Place::At(214)),
+    (217, Place::End),
+    (220, Place::At(217)),
+    (222, Place::Nowhere),
+    (223, Place::At(222)),
+    (231, Place::End),
+    (232, Place::At(231)),
+    (235, Place::End),
+    (236, Place::Nowhere),
+    (237, Place::At(236)),
+    (239, Place::End),
+    (243, Place::At(239)),
+    (245, Place::Nowhere),
+    (247, Place::At(245)),
+    (255, Place::End),
+    (257, Place::At(255)),
+    (259, Place::End),
+    (265, Place::At(259)),
+    (269, Place::End),
+    (271, Place::At(269)),
+    (273, Place::End),
+    (275, Place::Nowhere),
+    (276, Place::At(275)),
+    (280, Place::End),
+    (281, Place::At(280)),
+    (283, Place::End),
+    (286, Place::At(283)),
+    (288, Place::Nowhere),
+    (289, Place::At(288)),
+    (293, Place::End),
+    (295, Place::Nowhere),
+    (297, Place::At(295)),
+    (301, Place::End),
+    (302, Place::Nowhere),
+];
+
+/// The fault of the long query's prefix of so many bytes.
+fn prefix_fault(length: u64) -> Option<Refusal> {
+    for (last, place) in PREFIX_FAULTS {
+        if length <= last {
+            return match place {
+                Place::End => Some(Refusal::Syntax(length)),
+                Place::At(at) => Some(Refusal::Syntax(at)),
+                Place::Nowhere => None,
+            };
+        }
+    }
+    None
+}
+
+#[test]
+fn each_prefix_of_a_long_query_has_its_fault(rt: HostRuntime) -> Result<(), Fail> {
+    let mut text = String::new(rt.alloc());
+    for letter in LONG.chars() {
+        assert_eq!(rt;
+            fault(rt.alloc(), text.as_str()),
+            prefix_fault(text.len() as u64),
+            "{text}"
+        );
+        text.push(letter)?;
+    }
+    assert_eq!(rt; fault(rt.alloc(), text.as_str()), None, "{text}");
+    Ok(())
+}
+
+/// The text in lower case, or with each second letter in lower case.
+fn in_case(alloc: Global, text: &str, every: bool) -> Result<String, AllocError> {
+    let mut other = String::new(alloc);
+    let mut lower = true;
+    for letter in text.chars() {
+        other.push(if lower || every {
+            letter.to_ascii_lowercase()
+        } else {
+            letter
+        })?;
+        lower = !lower;
+    }
+    Ok(other)
+}
+
+const KEYWORDS: [&str; 24] = [
+    "ALL", "AND", "AS", "AVG", "BETWEEN", "BY", "COUNT", "DISTINCT", "FALSE", "FROM", "GROUP",
+    "HAVING", "IN", "IS", "MAX", "MIN", "NOT", "NULL", "OR", "SELECT", "SUM", "TRUE", "UNKNOWN",
+    "WHERE",
+];
+
+// A keyword in any case is no identifier, so no table has its name; with a letter more it is one.
+#[test]
+fn keywords_are_read_in_any_case(rt: HostRuntime) -> Result<(), Fail> {
+    for word in KEYWORDS {
+        let text = format!(in rt.alloc(); "SELECT A FROM {word}")?;
+        assert_eq!(rt;
+            fault(rt.alloc(), text.as_str()),
+            Some(Refusal::Syntax(14)),
+            "{text}"
+        );
+        for every in [true, false] {
+            let word = in_case(rt.alloc(), word, every)?;
+            let text = format!(in rt.alloc(); "SELECT A FROM {word}")?;
+            assert_eq!(rt;
+                fault(rt.alloc(), text.as_str()),
+                Some(Refusal::Syntax(14)),
+                "{text}"
+            );
+            let text = format!(in rt.alloc(); "SELECT A FROM {word}_")?;
+            assert_eq!(rt; fault(rt.alloc(), text.as_str()), None, "{text}");
+        }
+    }
+    for every in [true, false] {
+        let text = in_case(rt.alloc(), LONG, every)?;
+        assert_eq!(rt; fault(rt.alloc(), text.as_str()), None, "{text}");
+    }
+    Ok(())
+}
+
+/// A text with so many parentheses open at once round a predicate in WHERE, and so many in HAVING.
+fn nested(alloc: Global, where_depth: usize, having_depth: usize) -> Result<String, AllocError> {
+    let mut text = repeated(alloc, FROM_T, "(", where_depth, "A IN(1)")?;
+    for _ in 0..where_depth {
+        text.push(')')?;
+    }
+    text.push_str(" HAVING ")?;
+    for _ in 0..having_depth {
+        text.push('(')?;
+    }
+    text.push_str("COUNT(A)=1")?;
+    for _ in 0..having_depth {
+        text.push(')')?;
+    }
+    Ok(text)
+}
+
+// The parentheses of WHERE are closed by HAVING, and those of IN and of set functions don't count.
+#[test]
+fn where_and_having_each_open_64_parentheses(rt: HostRuntime) -> Result<(), Fail> {
+    let cases = [
+        (64, 64, None),
+        (65, 0, Some(Refusal::TooDeep)),
+        (0, 65, Some(Refusal::TooDeep)),
+        (64, 65, Some(Refusal::TooDeep)),
+    ];
+    for (where_depth, having_depth, want) in cases {
+        let text = nested(rt.alloc(), where_depth, having_depth)?;
+        assert_eq!(rt; fault(rt.alloc(), text.as_str()), want, "{text}");
+    }
+    Ok(())
+}
+
+#[test]
+fn names_and_aliases_are_folded_and_places_kept(rt: HostRuntime) -> Result<(), Fail> {
+    let query = parse(rt.alloc(), "sElEcT a_1 aS b2,Max(c) fRoM tab_9 group by c")?;
+    assert_eq!(rt; query.table.as_str(), "TAB_9");
+    let mut names = String::new(rt.alloc());
+    for item in &query.items {
+        match &item.value {
+            ItemValue::Grouped(column) => {
+                names.push_str(format!(in rt.alloc();
+                    "{}@{}",
+                    column.name.as_str(),
+                    column.at
+                )?.as_str())?;
+            }
+            ItemValue::Computed(_) => names.push_str("f")?,
+        }
+        if let Some(alias) = &item.alias {
+            names.push_str(format!(in rt.alloc(); "={}", alias.as_str())?.as_str())?;
+        }
+        names.push(' ')?;
+    }
+    for column in &query.grouping {
+        names.push_str(format!(in rt.alloc(); "{}@{}", column.name.as_str(), column.at)?.as_str())?;
+    }
+    assert_eq!(rt; names.as_str(), "A_1@7=B2 f C@44");
+    Ok(())
+}
+
+// Resolving takes one pass too, with no search within a search.
+#[test]
+fn long_lists_are_resolved_in_time_linear_in_their_length(rt: HostRuntime) -> Result<(), Fail> {
+    let schema = Schema::new(rt.alloc(), "T", &[("A", ColType::SmallInt)])?;
+    let mut text = repeated(rt.alloc(), "SELECT A", ",A", 250_000, " FROM T GROUP BY A")?;
+    for _ in 0..250_000 {
+        text.push_str(",A")?;
+    }
+    let query = parse(rt.alloc(), text.as_str())?;
+    assert_eq!(rt; resolve(&query, &schema), Ok(()));
+    Ok(())
+}
+
+#[test]
+fn long_conditions_are_resolved_in_time_linear_in_their_length(
+    rt: HostRuntime,
+) -> Result<(), Fail> {
+    let schema = Schema::new(rt.alloc(), "T", &[("A", ColType::SmallInt)])?;
+    let text = repeated(rt.alloc(), FROM_T, "A=1 OR ", 150_000, "B=1")?;
+    let query = parse(rt.alloc(), text.as_str())?;
+    assert_eq!(rt;
+        resolve(&query, &schema),
+        Err(Refusal::NoSuchColumn(1_050_029))
+    );
+    Ok(())
+}
+
 // The table is T with the columns A and B. The places of columns that T has not come first, then those that GROUP BY doesn't name,
 // wherever they stand; a column in a set function, in WHERE or in GROUP BY need not be grouped.
 #[test]
 fn names_are_those_of_the_table_and_of_group_by(rt: HostRuntime) -> Result<(), Fail> {
-    let cases: [(&str, Result<(), Refusal>); 13] = [
+    let cases: [(&str, Result<(), Refusal>); 16] = [
         ("SELECT COUNT(*) FROM U", Err(Refusal::NoSuchTable)),
         ("SELECT C FROM U", Err(Refusal::NoSuchTable)),
         ("SELECT A FROM T", Err(Refusal::NotGrouped(7))),
@@ -311,6 +611,15 @@ fn names_are_those_of_the_table_and_of_group_by(rt: HostRuntime) -> Result<(), F
             Err(Refusal::NoSuchColumn(49)),
         ),
         ("SELECT COUNT(*) FROM T WHERE A IS NULL", Ok(())),
+        ("SELECT B AS T FROM T GROUP BY B", Ok(())),
+        (
+            "SELECT A AS X FROM T GROUP BY X",
+            Err(Refusal::NoSuchColumn(30)),
+        ),
+        (
+            "SELECT A,COUNT(C) FROM T HAVING D=1",
+            Err(Refusal::NoSuchColumn(15)),
+        ),
     ];
     let columns = [("A", ColType::SmallInt), ("B", ColType::Integer)];
     let schema = Schema::new(rt.alloc(), "T", &columns)?;

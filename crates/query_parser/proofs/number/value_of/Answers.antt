@@ -4,7 +4,7 @@ use Rattle.std.specs.Int.{w128}
 use Rattle.std.proofs.Math.Nat.{pow-le-pow_right}
 use Rattle.std.proofs.lemmas.Int.{ints, to_z_pos}
 use Rattle.std.proofs.lemmas.List.{take_all}
-use Rattle.query_parser.specs.Descent.{value_of}
+use Rattle.query_parser.specs.Token.{value_of}
 use Rattle.query_parser.proofs.number.value_of.Goals as goal
 
 pub overflow_mul-value : goal.overflow_mul-value

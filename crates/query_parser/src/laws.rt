@@ -1,0 +1,7 @@
+//! Laws of the grammar, each the contract of a function that does nothing.
+ghost use Rattle.query_parser.specs.Limits.{IsUnambiguous};
+
+/// At most one query has a text's tokens, whatever its depth and its literals.
+pub fn texts_are_unambiguous()
+    ensures { IsUnambiguous }
+{}
