@@ -6,3 +6,10 @@ pub mod Where
 pub mod Side
 pub mod Decoded
 pub mod Below
+pub mod Aggregate
+pub mod Finished
+pub mod Kept
+pub mod Tied
+pub mod Tally
+pub mod QueryMentions
+pub mod Grouping

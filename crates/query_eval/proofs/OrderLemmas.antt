@@ -1,0 +1,147 @@
+-- The groups that a map has are the groups of the rows, in the order of the map's keys.
+use Rattle.std.proofs.Common.{◌≡◌, ℕ, zero, suc, ◌+◌, ◌*◌, ◌^◌, ◌≤◌, ◌<◌, Bool, true, false, cond, ◌||◌, List, [], ◌∷◌, ◌++◌, map, filter, length, get_or, take, Option, Some, None, ℤ, pos, All, AllPairs, refl, sym, ap, subst, ◌∙◌, arith, append_assoc}
+use Rattle.std.specs.BTreeMap.{BTreeMap, IsOrdered, get, is_at, keys}
+use Rattle.std.specs.FinMap as finite
+use Rattle.std.specs.Map.{keys_of, lookup}
+use Rattle.std.specs.Global.{Vec}
+use Rattle.std.specs.List.{AllByRecursion, list_any, slice_get}
+use Rattle.std.specs.List.Sorted.{IsStrictlySortedBy}
+use Rattle.std.proofs.lemmas.List.Elements.{All-nil, All-cons}
+use Rattle.std.proofs.lemmas.List.Kept.{AllPairs-cons}
+use Rattle.std.specs.Option.{is_some, option_map}
+use Rattle.std.specs.Ordering.{eq_by_cmp}
+use Rattle.std.specs.declared.cmp.Ordering.TheVariants.{Less}
+use Rattle.std.proofs.lemmas.Int.{ints}
+use Rattle.std.proofs.lemmas.List.{map-append, take_more}
+use Rattle.table_model.specs.Group.{Group, IsWithin, key_cmp, key_of, group_at, groups_of, keys_in, rows_with, values_in}
+use Rattle.table_model.specs.Meaning.{fold_value, once_if}
+use Rattle.table_model.specs.State.{Cells, same_cells}
+use Rattle.table_model.specs.Table.{Table, ColumnShape, IsRow, AreRows}
+use Rattle.table_model.specs.declared.answer.Field.{Field}
+use Rattle.table_model.specs.declared.answer.Field.TheVariants.{Whole}
+use Rattle.table_model.specs.declared.query.Fold.{Fold}
+use Rattle.table_model.specs.declared.query.Fold.TheVariants.{Count}
+use Rattle.table_model.proofs.Bounds.{AreSmall, small_values, length-values_in}
+use Rattle.table_model.proofs.KeyLists.{keys_are}
+use Rattle.table_model.proofs.Keys.{tied_keys}
+use Rattle.query_eval.specs.Aggregate.{aggregate_value}
+use Rattle.query_eval.specs.Finished.{GroupFields, finished_groups, finished_of}
+use Rattle.query_eval.specs.Grouping.{AreGroups, AreHeld, IsHeld, aggregate_values, is_once, tallies_in}
+use Rattle.query_eval.specs.Kept.{AreFew}
+use Rattle.query_eval.specs.Tally.{IsTally, is_distinct}
+use Rattle.query_eval.specs.declared.aggregate.Aggregate.{Aggregate}
+use Rattle.query_eval.specs.declared.aggregate.Aggregate.TheVariants.{Rows, Folded}
+use Rattle.query_eval.specs.declared.tally.Tally.{Tally}
+
+zeros_small : (rows : List Cells) → AreSmall (map (λ _. pos 0) rows)
+zeros_small [] = tt
+zeros_small (row ∷ rows) = ((omega (arith, ints), omega (arith, ints)), zeros_small rows)
+
+zeros_length : (rows : List Cells) → length (map (λ _. pos 0) rows) ≡ length rows
+zeros_length [] = refl
+zeros_length (row ∷ rows) = ap suc (zeros_length rows)
+
+-- the values of few rows are few and small
+values_small : (a : Aggregate) (table : Table) (rows : List Cells) → AreFew table rows → AreSmall (aggregate_values a rows)
+values_small Rows table rows few = zeros_small rows
+values_small (Folded fold distinct place) table rows few = small_values table.columns rows place few.fit
+
+values_few : (a : Aggregate) (table : Table) (rows : List Cells) → AreFew table rows → length (aggregate_values a rows) ≤ 2 ^ 32
+values_few Rows table rows few = omega (arith, zeros_length rows, few.few)
+values_few (Folded fold distinct place) table rows few = omega (arith, length-values_in rows place, few.few)
+
+-- COUNT(*) counts the rows
+pub rows_value : (table : Table) (rows : List Cells) (t : Tally) (field : Field) → ((values : List ℤ) → length values ≤ 2 ^ 32 → AreSmall values → IsTally values t → field ≡ fold_value Count (once_if (is_distinct t) values)) → AreFew table rows → IsHeld rows Rows t → field ≡ aggregate_value Rows rows
+rows_value table rows t field is few h =
+    is (aggregate_values Rows rows) (values_few Rows table rows few) (values_small Rows table rows few) h.values
+    ∙ ap (λ b. fold_value Count (once_if b (aggregate_values Rows rows))) h.kind
+    ∙ ap (λ n. Whole (pos n)) (zeros_length rows)
+
+-- a set function of a column
+pub folded_value : (fold : Fold) (distinct : Bool) (place : ℕ) (table : Table) (rows : List Cells) (t : Tally) (field : Field) → ((values : List ℤ) → length values ≤ 2 ^ 32 → AreSmall values → IsTally values t → field ≡ fold_value fold (once_if (is_distinct t) values)) → AreFew table rows → IsHeld rows (Folded fold distinct place) t → field ≡ aggregate_value (Folded fold distinct place) rows
+folded_value fold distinct place table rows t field is few h =
+    is (values_in place rows) (values_few (Folded fold distinct place) table rows few) (values_small (Folded fold distinct place) table rows few) h.values
+    ∙ ap (λ b. fold_value fold (once_if b (values_in place rows))) h.kind
+
+row_chosen : (columns : List ColumnShape) (row : Cells) (rows : List Cells) (b : Bool) → IsRow columns row → AreRows columns rows → AreRows columns (cond b (row ∷ rows) rows)
+row_chosen columns row rows true h rest = (h, rest)
+row_chosen columns row rows false h rest = rest
+
+rows_chosen : (columns : List ColumnShape) (p : Cells → Bool) (rows : List Cells) → AreRows columns rows → AreRows columns (filter p rows)
+rows_chosen columns p [] h = tt
+rows_chosen columns p (row ∷ rows) h = row_chosen columns row (filter p rows) (p row) h.0 (rows_chosen columns p rows h.1)
+
+no_more : (row : Cells) (rows : List Cells) (n : ℕ) (b : Bool) → length rows ≤ n → length (cond b (row ∷ rows) rows) ≤ suc n
+no_more row rows n true h = omega arith
+no_more row rows n false h = omega arith
+
+fewer : (p : Cells → Bool) (rows : List Cells) → length (filter p rows) ≤ length rows
+fewer p [] = omega arith
+fewer p (row ∷ rows) = no_more row (filter p rows) (length rows) (p row) (fewer p rows)
+
+-- the rows of a group are few where all are
+pub few_with : (table : Table) (by : List ℕ) (rows : List Cells) (key : Cells) → AreFew table rows → AreFew table (rows_with by rows key)
+unfolding rows_with
+few_with table by rows key few = record {
+  fit = rows_chosen table.columns (λ row. same_cells key (key_of by row)) rows few.fit;
+  few = omega (arith, fewer (λ row. same_cells key (key_of by row)) rows, few.few);
+}
+
+-- one field more
+pub fields_more : (named : List Aggregate) (i : ℕ) (d : Aggregate) (rows : List Cells) (fields next : List Field) (field : Field) → i < length named → fields ≡ map (λ a. aggregate_value a rows) (take i named) → next ≡ fields ++ field ∷ [] → field ≡ aggregate_value (get_or named i d) rows → next ≡ map (λ a. aggregate_value a rows) (take (i + 1) named)
+fields_more named i d rows fields next field l before is e =
+    is ∙ ap (λ fs. fs ++ field ∷ []) before ∙ ap (λ f. map (λ a. aggregate_value a rows) (take i named) ++ f ∷ []) e
+    ∙ sym (ap (map (λ a. aggregate_value a rows)) (take_more named i d l) ∙ map-append (λ a. aggregate_value a rows) (take i named) (get_or named i d ∷ []))
+
+-- what is known of all groups is known of those that are left when one is taken out
+pub held_left : (old now : Option (Vec Tally)) (b : Bool) → now ≡ cond b None old → (ts : List Tally) → option_map (λ v. v.items) now ≡ Some ts → option_map (λ v. v.items) old ≡ Some ts
+held_left old now true e ts h = absurd (never (sym (ap (option_map (λ v. v.items)) e) ∙ h))
+  where
+    never : None ≡ Some ts → ⊥
+    never z = cc
+held_left old now false e ts h = sym (ap (option_map (λ v. v.items)) e) ∙ h
+
+-- one group more is finished
+pub finished_more : (fin : Cells → GroupFields) (key : Cells) (x : GroupFields) (finished next : List GroupFields) (old now all : List Cells) → next ≡ finished ++ x ∷ [] → x ≡ fin key → old ≡ key ∷ now → finished ++ map fin old ≡ map fin all → next ++ map fin now ≡ map fin all
+finished_more fin key x finished next old now all is e first before =
+    ap (λ l. l ++ map fin now) is ∙ append_assoc finished (x ∷ []) (map fin now) ∙ ap (λ y. finished ++ y ∷ map fin now) e ∙ ap (λ (l : List Cells). finished ++ map fin l) (sym first) ∙ before
+
+all_of : (P : Cells → Type 0) (ks : List Cells) → AllByRecursion P ks → All P ks
+all_of P [] h = All-nil P
+all_of P (k ∷ ks) h = All-cons P k ks h.0 (all_of P ks h.1)
+
+sorted_pairs : (ks : List Cells) → IsStrictlySortedBy key_cmp ks → AllPairs (λ a b. key_cmp a b ≡ Less) ks
+unfolding IsStrictlySortedBy
+sorted_pairs [] h = λ i j d p q. absurd (omega arith)
+sorted_pairs (k ∷ ks) h = AllPairs-cons (λ a b. key_cmp a b ≡ Less) k ks (all_of (λ b. key_cmp k b ≡ Less) ks h.0) (sorted_pairs ks h.1)
+
+module _ (m : BTreeMap Cells (Vec Tally)) where
+  some_or : (b : Bool) (t : Vec Tally) (o : Option (Vec Tally)) (rest : Bool) → is_some (option_map (λ v. v.items) o) ≡ rest → is_some (option_map (λ v. v.items) (cond b (Some t) o)) ≡ (b || rest)
+  some_or true t o rest e = refl
+  some_or false t o rest e = e
+
+  found_any : (q : Cells) (es : List (Cells × Vec Tally)) → is_some (option_map (λ v. v.items) (lookup (is_at (key_cmp q)) es)) ≡ list_any (eq_by_cmp key_cmp q) (keys_of es)
+  found_any q [] = refl
+  found_any q (e ∷ es) = some_or (is_at (key_cmp q) e.0) e.1 (lookup (is_at (key_cmp q)) es) _ (found_any q es)
+
+  any_tied : (q : Cells) (ks : List Cells) → list_any (same_cells q) ks ≡ list_any (eq_by_cmp key_cmp q) ks
+  any_tied q [] = refl
+  any_tied q (k ∷ ks) = λ i. tied_keys q k i || any_tied q ks i
+
+  -- the finished groups in the order of the map's keys are those of the rows
+  pub groups_in_order : (named : List Aggregate) (by : List ℕ) (rows : List Cells) → 1 ≤ length by → IsOrdered key_cmp m → AreGroups by named rows (tallies_in m) → map (λ key. finished_of named (group_at by rows key)) (keys m) ≡ finished_groups named by rows
+  unfolding finished_groups groups_of
+  groups_in_order named [] rows some up h = absurd (omega arith)
+  groups_in_order named (column ∷ by) rows some up h =
+      let all = column ∷ by in
+      let same = keys_are all rows (keys m) (sorted_pairs (keys m) up) (λ q. sym (found_any q m.entries) ∙ h.occurs q ∙ any_tied q (map (key_of all) rows)) in
+      ap (map (λ key. finished_of named (group_at all rows key))) (sym same) ∙ map_twice (finished_of named) (group_at all rows) (finite.keys (keys_in all rows))
+    where
+      map_twice : {X Y Z : Type 0} (f : Y → Z) (g : X → Y) (xs : List X) → map (λ x. f (g x)) xs ≡ map f (map g xs)
+      map_twice f g [] = refl
+      map_twice f g (x ∷ xs) = ap (λ l. f (g x) ∷ l) (map_twice f g xs)
+
+pub no_slice : {X : Type 0} (xs : List X) (i : ℕ) → i < length xs → None ≡ slice_get xs i → ⊥
+no_slice [] i l e = omega arith
+no_slice (x ∷ xs) zero l e = cc
+no_slice (x ∷ xs) (suc i) l e = no_slice xs i (omega arith) e

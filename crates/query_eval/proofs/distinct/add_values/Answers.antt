@@ -1,0 +1,32 @@
+-- One row more, whose value is put in, or isn't looked at.
+use Rattle.std.proofs.Common.{◌||◌, cond, true, ℤ, Option, get_or, pos, FitsSigned, w64, rules, refl, sym, ap, ◌∙◌, arith, List}
+use Rattle.std.proofs.lemmas.Int.{to_z-of_z}
+use Rattle.std.proofs.lemmas.List.{take_all}
+use Rattle.std.specs.HashSet.{contains}
+use Rattle.std.specs.List.{list_any}
+use Rattle.std.specs.Ordering.{int_eq}
+use Rattle.table_model.specs.Values.{present}
+use Rattle.transpose_order.specs.Mask.{rows_of}
+use Rattle.transpose_order.specs.MaskWords.{length-rows_of}
+use Rattle.query_eval.proofs.DistinctLemmas.{picked, member-put, member-skip}
+use Rattle.query_eval.proofs.distinct.add_values.Goals as goal
+use Rattle.query_eval.proofs.distinct.add_values.Goals.{then-get+in_ok-insert, else-get}
+
+pub loop-row-preserved : goal.loop-row-preserved
+loop-row-preserved c = λ z.
+    let rows = c.args.rows.now in
+    let values = c.args.values.now in
+    let row = c.loop-row.row in
+    elim c.if-get.branch [
+      | then-get+in_ok-insert w ↦
+          let fits : FitsSigned w64 (get_or values row (pos 0)) = search rules in
+          let put = w.in_ok-insert.ensures.updates.0 z ∙ ap (λ (x : ℤ). cond (int_eq x z) true (contains int_eq c.loop-row.set z)) (to_z-of_z w64 (get_or values row (pos 0)) fits) in
+          ap (λ s. contains int_eq s z) w.set-is ∙ member-put rows values row z (get_or values row (pos 0)) _ _ (contains int_eq c.args.set.now z) c.loop-row-test.true (sym c.get.ensures ∙ w.if-get.true) refl (c.loop-row.invariant z) put
+      | else-get w ↦
+          ap (λ s. contains int_eq s z) w.set-is ∙ member-skip rows values row z _ (contains int_eq c.args.set.now z) c.loop-row-test.true (sym c.get.ensures ∙ w.if-get.false) (c.loop-row.invariant z)
+    ]
+
+pub returns : goal.returns
+returns c = λ z.
+    let all : List (Option ℤ) = rows_of (picked c.args.rows.now c.args.values.now) in
+    c.loop-row.invariant z ∙ ap (λ (os : List (Option ℤ)). contains int_eq c.args.set.now z || list_any (int_eq z) (present os)) (take_all c.loop-row.row all (omega (arith, length-rows_of (picked c.args.rows.now c.args.values.now), c.loop-row-test.false)))

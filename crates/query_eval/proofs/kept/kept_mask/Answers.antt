@@ -1,0 +1,22 @@
+-- Without a live row none is kept, without WHERE all live rows, and else those at which it is true.
+use Rattle.std.proofs.Common.{sym, ◌∙◌}
+use Rattle.query_eval.specs.Vector.{vector_at}
+use Rattle.query_eval.proofs.KeptLemmas.{kept-nowhere, kept-all, kept-where, live-some, passes-where}
+use Rattle.query_eval.proofs.kept.kept_mask.Goals as goal
+
+pub returns-then-count-eq0-clause-value : goal.returns-then-count-eq0-clause-value
+returns-then-count-eq0-clause-value g c =
+    kept-nowhere (g.C.Columns.table c.args.columns.now) c.args.condition.now (vector_at (g.C.Columns.state c.args.columns.now) c.args.batch c.args.vector) c.live-live.result c.live-live.ensures (sym c.count.ensures ∙ c.if-count-eq0.true)
+
+pub returns-in-None-clause-value : goal.returns-in-None-clause-value
+returns-in-None-clause-value g c =
+    kept-all (g.C.Columns.table c.args.columns.now) c.args.condition.now (vector_at (g.C.Columns.state c.args.columns.now) c.args.batch c.args.vector) c.live-live.result c.live-live.ensures c.in-None.is
+
+pub returns-in-Some-clause-value : goal.returns-in-Some-clause-value
+returns-in-Some-clause-value g c =
+    kept-where (g.C.Columns.table c.args.columns.now) c.args.condition.now c.in-Some.condition (vector_at (g.C.Columns.state c.args.columns.now) c.args.batch c.args.vector) c.live-live.result _ c.live-live.ensures c.in-Some.is c.condition_masks-pair.ensures.value.yes
+
+pub returns-in-Some-clause-passes : goal.returns-in-Some-clause-passes
+returns-in-Some-clause-passes g c =
+    passes-where (vector_at (g.C.Columns.state c.args.columns.now) c.args.batch c.args.vector) c.args.condition.now c.in-Some.condition _ _
+    (live-some (vector_at (g.C.Columns.state c.args.columns.now) c.args.batch c.args.vector) c.live-live.result c.count.result c.live-live.ensures c.count.ensures c.if-count-eq0.false) c.in-Some.is c.condition_masks-pair.ensures.passes

@@ -1,0 +1,94 @@
+//! The groups of a query with GROUP BY, when they are finished.
+ghost use Rattle.std.specs.Prelude.{◌≡◌, ◌≤◌, ◌+◌, ◌*◌, ℕ, List, map, length, sum_by, IfOk};
+ghost use Rattle.std.specs.BTreeMap.{IsOrdered, keys};
+ghost use Rattle.table_model.specs.Group.{group_at, key_cmp};
+ghost use Rattle.table_model.specs.State.{Cells};
+ghost use Rattle.table_model.specs.Table.{Table};
+ghost use Rattle.query_eval.specs.Aggregate.{aggregate_value};
+ghost use Rattle.query_eval.specs.Finished.{finished_groups, finished_of};
+ghost use Rattle.query_eval.specs.Grouping.{AreGroups, AreHeld, IsHeld, tallies_in};
+ghost use Rattle.query_eval.specs.Kept.{rows_in, AreThere, AreFew};
+ghost use Rattle.query_eval.specs.QueryMentions.{aggregate_mentions};
+
+use crate::aggregate::Aggregate;
+use crate::columns::Columns;
+use crate::finished::{FinishedGroup, Key};
+use crate::grouping::group_vectors;
+use crate::kept::KeptVector;
+use crate::plan::Plan;
+use crate::tally::Tally;
+use std::alloc::{AllocError, Global};
+use std::collections::BTreeMap;
+use table_model::{Field, Fold};
+
+/// The value of an aggregate by its tally.
+fn value_of(aggregate: Aggregate, tally: &Tally) -> Field
+    ensures { (table : Table) (rows : List Cells) → AreFew table rows → IsHeld rows aggregate tally.now → result ≡ aggregate_value aggregate rows }
+{
+    match aggregate {
+        Aggregate::Rows => tally.field(Fold::Count),
+        Aggregate::Folded { fold, .. } => tally.field(fold),
+    }
+}
+
+/// The values of some aggregates by their tallies.
+fn values_of(
+    alloc: Global,
+    aggregates: &[Aggregate],
+    tallies: &[Tally],
+) -> Result<Vec<Field>, AllocError>
+    ensures { IfOk result (λ fields. (table : Table) (rows : List Cells) → AreFew table rows → AreHeld rows aggregates.now tallies.now → fields.items ≡ map (λ a. aggregate_value a rows) aggregates.now) }
+{
+    let mut fields = Vec::new(alloc);
+    for i in 0..aggregates.len() {
+        let field = match tallies.get(i) {
+            None => Field::Null,
+            Some(tally) => value_of(aggregates[i], tally),
+        };
+        fields.push(field)?;
+    }
+    Ok(fields)
+}
+
+/// The groups in ascending order of their keys.
+fn in_order(
+    alloc: Global,
+    aggregates: &[Aggregate],
+    groups: &mut BTreeMap<Key, Vec<Tally>>,
+) -> Result<Vec<FinishedGroup>, AllocError>
+    ensures ordered { IsOrdered key_cmp groups.old }
+    ensures value { IfOk result (λ finished. (table : Table) (by : List ℕ) (rows : List Cells) → AreFew table rows → AreGroups by aggregates.now rows (tallies_in groups.old) → finished.items ≡ map (λ key. finished_of aggregates.now (group_at by rows key)) (keys groups.old)) }
+{
+    let mut finished = Vec::new(alloc);
+    for _ in 0..groups.len() {
+        match groups.pop_first() {
+            None => {}
+            Some((key, tallies)) => {
+                let fields = values_of(alloc, aggregates, tallies.as_slice())?;
+                finished.push(FinishedGroup::new(key, fields))?;
+            }
+        }
+    }
+    Ok(finished)
+}
+
+/// The groups of the rows that are kept in some vectors, in ascending order of their keys. Each mention of a column takes at
+/// most one pass a vector.
+pub fn grouped_table<C: Columns>(
+    alloc: Global,
+    columns: &mut C,
+    kept: &[KeptVector],
+    plan: &Plan,
+) -> Result<Vec<FinishedGroup>, AllocError>
+    requires grouped { 1 ≤ length plan.now.grouping }
+    requires there { AreThere (C.state columns.old) kept.now }
+    requires few { AreFew (C.table columns.old) (rows_in (C.state columns.old) kept.now) }
+    ensures value { IfOk result (λ groups. groups.items ≡ finished_groups plan.now.aggregates plan.now.grouping (rows_in (C.state columns.old) kept.now)) }
+    ensures table { C.table columns.new ≡ C.table columns.old }
+    ensures state { C.state columns.new ≡ C.state columns.old }
+    ensures passes { IfOk result (λ _. C.passes columns.new ≤ C.passes columns.old + (length plan.now.grouping + sum_by aggregate_mentions plan.now.aggregates) * length kept.now) }
+{
+    let mut groups = group_vectors(alloc, columns, plan, kept)?;
+    let finished = in_order(alloc, plan.aggregates(), &mut groups)?;
+    Ok(finished)
+}
