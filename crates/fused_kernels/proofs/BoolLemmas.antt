@@ -22,3 +22,9 @@ or_off false b = refl
 pub or_on : (a : Bool) → ((a && true) || (false && a)) ≡ a
 or_on true = refl
 or_on false = refl
+
+pub or_swap : (a b : Bool) → (a || b) ≡ (b || a)
+or_swap true true = refl
+or_swap true false = refl
+or_swap false true = refl
+or_swap false false = refl

@@ -44,7 +44,7 @@ lesser-unit : (a : Option ℤ) → lesser a None ≡ a
 lesser-unit None = refl
 lesser-unit (Some x) = refl
 
-lesser_is_join : IsJoin lesser None
+pub lesser_is_join : IsJoin lesser None
 lesser_is_join = record { unit = lesser-unit; assoc = lesser-assoc; comm = lesser-comm }
 
 -- a call of the lesser of two numbers, as its arguments are passed
@@ -97,7 +97,7 @@ least-cells f (suc n) =
     ∙ ap (λ o. lesser o (least (present (f n ∷ [])))) (least-cells f n) ∙ ap (lesser (fold_to lesser None n f)) (least_of_one (f n))
     ∙ sym (fold_to-suc lesser None n f)
 
-least-looked_at : (s : LanesSeen) (mask : List Bool) → least (values_looked_at s mask) ≡ fold_to lesser None 1024 (looked_cell s mask)
+pub least-looked_at : (s : LanesSeen) (mask : List Bool) → least (values_looked_at s mask) ≡ fold_to lesser None 1024 (looked_cell s mask)
 unfolding values_looked_at rows_of
 least-looked_at s mask = least-cells (looked_cell s mask) 1024
 
@@ -155,7 +155,7 @@ greater-unit : (a : Option ℤ) → greater a None ≡ a
 greater-unit None = refl
 greater-unit (Some x) = refl
 
-greater_is_join : IsJoin greater None
+pub greater_is_join : IsJoin greater None
 greater_is_join = record { unit = greater-unit; assoc = greater-assoc; comm = greater-comm }
 
 -- a call of the greater of two numbers, as its arguments are passed
@@ -208,7 +208,7 @@ greatest-cells f (suc n) =
     ∙ ap (λ o. greater o (greatest (present (f n ∷ [])))) (greatest-cells f n) ∙ ap (greater (fold_to greater None n f)) (greatest_of_one (f n))
     ∙ sym (fold_to-suc greater None n f)
 
-greatest-looked_at : (s : LanesSeen) (mask : List Bool) → greatest (values_looked_at s mask) ≡ fold_to greater None 1024 (looked_cell s mask)
+pub greatest-looked_at : (s : LanesSeen) (mask : List Bool) → greatest (values_looked_at s mask) ≡ fold_to greater None 1024 (looked_cell s mask)
 unfolding values_looked_at rows_of
 greatest-looked_at s mask = greatest-cells (looked_cell s mask) 1024
 

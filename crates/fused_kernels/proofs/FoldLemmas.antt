@@ -29,7 +29,7 @@ fold_to-same join none (suc k) f g h =
     ∙ ap (join (fold_to join none k g)) (h k (omega arith)) ∙ sym (fold_to-suc join none k g)
 
 -- the first m, and the n after them
-fold_to-add : {X : Type 0} (join : X → X → X) (none : X) → IsJoin join none → (m n : ℕ) (f : ℕ → X) → fold_to join none (m + n) f ≡ join (fold_to join none m f) (fold_to join none n (λ i. f (m + i)))
+pub fold_to-add : {X : Type 0} (join : X → X → X) (none : X) → IsJoin join none → (m n : ℕ) (f : ℕ → X) → fold_to join none (m + n) f ≡ join (fold_to join none m f) (fold_to join none n (λ i. f (m + i)))
 fold_to-add join none laws m zero f =
     ap (λ k. fold_to join none k f) (let e : m + 0 ≡ m = omega arith in e)
     ∙ sym (ap (join (fold_to join none m f)) (fold_to-zero join none (λ i. f (m + i))) ∙ laws.unit (fold_to join none m f))

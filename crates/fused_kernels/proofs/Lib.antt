@@ -8,3 +8,9 @@ pub mod SumLemmas
 pub mod VectorLemmas
 pub mod CountLemmas
 pub mod ExtremeLemmas
+pub mod RunLemmas
+pub mod AcrossLemmas
+pub mod NativeLemmas
+pub mod PackedLemmas
+pub mod FoundLemmas
+pub mod RunFoldLemmas

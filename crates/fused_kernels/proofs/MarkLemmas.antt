@@ -1,7 +1,8 @@
 -- A row is marked once, by its piece.
 use Rattle.std.proofs.Common.{◌≡◌, ◌≢◌, ◌==◌, ℕ, ◌+◌, ◌*◌, ◌^◌, ◌%◌, ◌<◌, ◌≤◌, ◌&&◌, ◌||◌, ◌⊎◌, inl, inr, Bool, true, false, nat_lt, bit_or, sym, ap, ◌∙◌, subst, arith}
-use Rattle.std.specs.Int.{bit_at, w64}
-use mir.Val.{bool_byte}
+use Rattle.std.specs.Int.{bit_at, Width}
+use mir.Val.{bits, bool_byte}
+use Rattle.std.proofs.Math.Nat.{zero-mod}
 use Rattle.std.proofs.lemmas.Bool.{cases_lt}
 use Rattle.std.proofs.lemmas.Bool.Decides.{nat_tests}
 use Rattle.std.proofs.lemmas.Nat.Bits.{bit_at_set_same, bit_at_set_other, bit_at_or, bit_at-zero}
@@ -46,25 +47,26 @@ marked_more t q p now b width h k same = by_case (cases_lt p (place_of t q)) (ca
     by_case (inr l) (inr m) = here t q p now b width h k same (omega arith)
 
 -- a bit that is set where that is asked
-set_bit : (word place p : ℕ) → place < 64 → p < 64 → (bit_at (bit_or word (1 * 2 ^ place % 2 ^ 64)) p == 1) ≡ ((p == place) || (bit_at word p == 1))
-set_bit word place p h k = by_case (cases_lt p place) (cases_lt place p)
+set_bit : (w : Width) (word place p : ℕ) → place < bits w → p < bits w → (bit_at (bit_or word (1 * 2 ^ place % 2 ^ bits w)) p == 1) ≡ ((p == place) || (bit_at word p == 1))
+set_bit w word place p h k = by_case (cases_lt p place) (cases_lt place p)
   where
-    other : p ≢ place → (bit_at (bit_or word (1 * 2 ^ place % 2 ^ 64)) p == 1) ≡ ((p == place) || (bit_at word p == 1))
-    other n = ap (λ b. b == 1) (bit_at_set_other w64 word place h p n) ∙ ap (λ b. b || (bit_at word p == 1)) (sym (differ p place n))
+    other : p ≢ place → (bit_at (bit_or word (1 * 2 ^ place % 2 ^ bits w)) p == 1) ≡ ((p == place) || (bit_at word p == 1))
+    other n = ap (λ b. b == 1) (bit_at_set_other w word place h p n) ∙ ap (λ b. b || (bit_at word p == 1)) (sym (differ p place n))
 
-    by_case : (p < place) ⊎ (place ≤ p) → (place < p) ⊎ (p ≤ place) → (bit_at (bit_or word (1 * 2 ^ place % 2 ^ 64)) p == 1) ≡ ((p == place) || (bit_at word p == 1))
+    by_case : (p < place) ⊎ (place ≤ p) → (place < p) ⊎ (p ≤ place) → (bit_at (bit_or word (1 * 2 ^ place % 2 ^ bits w)) p == 1) ≡ ((p == place) || (bit_at word p == 1))
     by_case (inl l) _ = other (λ e. omega (arith, e))
     by_case (inr l) (inl m) = other (λ e. omega (arith, e))
     by_case (inr l) (inr m) =
         let e : place ≡ p = omega arith in
-        subst (λ (x : ℕ). (bit_at (bit_or word (1 * 2 ^ place % 2 ^ 64)) x == 1) ≡ ((x == place) || (bit_at word x == 1))) e
-        (ap (λ b. b == 1) (bit_at_set_same w64 word place h) ∙ ap (λ b. b || (bit_at word place == 1)) (sym (same_is place)))
+        subst (λ (x : ℕ). (bit_at (bit_or word (1 * 2 ^ place % 2 ^ bits w)) x == 1) ≡ ((x == place) || (bit_at word x == 1))) e
+        (ap (λ b. b == 1) (bit_at_set_same w word place h) ∙ ap (λ b. b || (bit_at word place == 1)) (sym (same_is place)))
 
-pub set_bit_if : (word place p : ℕ) (set : Bool) → place < 64 → p < 64 → (bit_at (bit_or word (bool_byte set * 2 ^ place % 2 ^ 64)) p == 1) ≡ ((set && (p == place)) || (bit_at word p == 1))
-set_bit_if word place p true h k = set_bit word place p h k
-set_bit_if word place p false h k =
+pub set_bit_if : (w : Width) (word place p : ℕ) (set : Bool) → place < bits w → p < bits w → (bit_at (bit_or word (bool_byte set * 2 ^ place % 2 ^ bits w)) p == 1) ≡ ((set && (p == place)) || (bit_at word p == 1))
+set_bit_if w word place p true h k = set_bit w word place p h k
+set_bit_if w word place p false h k =
+    let none : 0 * 2 ^ place ≡ 0 = omega arith in
     ap (λ b. b == 1)
-    (ap (λ x. bit_at (bit_or word x) p) (let e : 0 * 2 ^ place % 2 ^ 64 ≡ 0 = omega arith in e)
+    (ap (λ x. bit_at (bit_or word x) p) (ap (λ x. x % 2 ^ bits w) none ∙ zero-mod (2 ^ bits w))
     ∙ bit_at_or word 0 p ∙ (let e = bit_at-zero p in omega arith))
 
 -- one more bit is written

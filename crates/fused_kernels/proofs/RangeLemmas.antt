@@ -65,3 +65,9 @@ each_row look test none =
 pub rows_alike : (look test other : ℕ → Bool) → ((n : ℕ) → n < 1024 → test n ≡ other n) → rows_of (λ n. look n && test n) ≡ rows_of (λ n. look n && other n)
 rows_alike look test other same =
     rows_of-like (λ n. look n && test n) (λ n. look n && other n) (λ n h. ap (λ b. look n && b) (same n h))
+
+-- the rows of two masks
+pub both_masks : (f g : ℕ → Bool) (a b : List Bool) → a ≡ rows_of f → b ≡ rows_of g → rows_of (λ n. has a n && has b n) ≡ rows_of (λ n. f n && g n)
+both_masks f g a b ea eb =
+    rows_of-like (λ n. has a n && has b n) (λ n. f n && g n)
+    (λ n h. ap (λ x. x && has b n) (ap (λ m. has m n) ea ∙ has-rows_of f n h) ∙ ap (λ y. f n && y) (ap (λ m. has m n) eb ∙ has-rows_of g n h))

@@ -80,7 +80,7 @@ pub raised_fits : (b : Bool) (v : ℤ) (n : ℕ) → FitsSigned w64 v → pos n 
 raised_fits true v n fits e = omega (arith, ints, e)
 raised_fits false v n fits e = omega (arith, ints, e)
 
-term_of_cell : (b : Bool) (v : ℤ) → term_of (cond b (Some v) None) ≡ cond b v (pos 0)
+pub term_of_cell : (b : Bool) (v : ℤ) → term_of (cond b (Some v) None) ≡ cond b v (pos 0)
 term_of_cell true v = refl
 term_of_cell false v = refl
 

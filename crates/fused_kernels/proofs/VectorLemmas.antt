@@ -59,7 +59,7 @@ sums_are_values form q sums width h are i l =
     are.lanes i l ∙ ap (λ lane. delta_at form lane (q % form.lane_width)) (sym row.1)
     ∙ ap (delta_at form (lane_of form.lane_width (64 * i + place_of form.lane_width q))) (sym row.2)
 
-value_in_fits : (c : Coded) (n : ℕ) → IsCodedForm c → n < 1024 → FitsSigned w64 (value_in c n)
+pub value_in_fits : (c : Coded) (n : ℕ) → IsCodedForm c → n < 1024 → FitsSigned w64 (value_in c n)
 value_in_fits c n is h =
     subst (λ z. FitsSigned w64 z) (value_at-values_of c n h) (All-get_or (λ value. FitsSigned w64 value) (values_of c) n (pos 0) (omega (arith, length-values_of c)) (values_fit c is))
 

@@ -62,7 +62,7 @@ fn equal_rows(left: &[i64; 1024], right: &[i64; 1024]) -> Mask
 }
 
 /// The rows at which a comparison holds.
-fn rows_where(left: &[i64; 1024], op: Op, right: &[i64; 1024]) -> Mask
+pub(crate) fn rows_where(left: &[i64; 1024], op: Op, right: &[i64; 1024]) -> Mask
     ensures { result ≡ rows_of (λ n. compared op (value_at left.now n) (value_at right.now n)) }
 {
     match op {

@@ -13,7 +13,7 @@ use transpose_order::Mask;
 
 /// The range of numbers of 64 bits inside which a comparison with a literal holds, or where the third part is false, outside
 /// which it holds.
-fn range_of(op: Op, literal: i128) -> (i128, i128, bool)
+pub(crate) fn range_of(op: Op, literal: i128) -> (i128, i128, bool)
     ensures { (value : ℤ) → FitsSigned w64 value → compared op value literal
         ≡ (if result.2 then between result.0 result.1 value else not (between result.0 result.1 value)) }
 {

@@ -6,9 +6,16 @@ mod comparisons;
 mod counts;
 mod decoding;
 mod extremes;
+mod found;
 mod lanes;
 mod meter;
+mod native_16;
+mod native_32;
+mod packed;
+mod paths;
 mod ranges;
+mod run_folds;
+mod runs;
 mod sums;
 mod vector_lanes;
 
@@ -19,6 +26,10 @@ pub use decoding::decode_into;
 pub use extremes::{max, min};
 pub use lanes::Lanes;
 pub use meter::Meter;
+pub use paths::{
+    compare_vector, compare_vector_range, compare_vectors, decode_vector, vector_max, vector_min,
+    vector_sum,
+};
 pub use ranges::compare_range;
 pub use sums::sum;
 pub use vector_lanes::VectorLanes;

@@ -19,7 +19,7 @@ pub(crate) fn with_bit(word: u64, place: usize, set: bool) -> u64
 
 /// Whether a number is neither below `low` nor above `high`.
 #[inline(always)]
-fn is_between(low: i64, high: i64, number: i64) -> bool
+pub(crate) fn is_between(low: i64, high: i64, number: i64) -> bool
     ensures { result ≡ between low high number }
 {
     low <= number && number <= high
@@ -58,7 +58,7 @@ fn rows_between<L: Lanes>(lanes: &mut L, low: i64, high: i64) -> Mask
 }
 
 /// The least number of 64 bits that isn't below a number, which is at most the greatest of 64 bits.
-fn first_from(low: i128) -> i64
+pub(crate) fn first_from(low: i128) -> i64
     requires { low ≤ℤ pos (2 ^ 63 - 1) }
     ensures { (value : ℤ) → FitsSigned w64 value → int_le result value ≡ int_le low value }
 {
@@ -69,7 +69,7 @@ fn first_from(low: i128) -> i64
 }
 
 /// The greatest number of 64 bits that isn't above a number, which is at least the least of 64 bits.
-fn last_up_to(high: i128) -> i64
+pub(crate) fn last_up_to(high: i128) -> i64
     requires { negsuc (2 ^ 63 - 1) ≤ℤ high }
     ensures { (value : ℤ) → FitsSigned w64 value → int_le value result ≡ int_le value high }
 {

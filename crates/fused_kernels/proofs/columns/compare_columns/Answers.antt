@@ -1,18 +1,13 @@
 -- The rows at which the comparison holds are among those looked at in both.
-use Rattle.std.proofs.Common.{◌≡◌, ℕ, ◌<◌, ◌&&◌, List, Bool, ℤ, ap, ◌∙◌}
+use Rattle.std.proofs.Common.{◌≡◌, ℕ, ◌<◌, ◌&&◌, List, ℤ, ap, ◌∙◌}
 use Rattle.table_model.specs.Truth.{compared}
 use Rattle.transpose_order.specs.Mask.{rows_of, has}
-use Rattle.transpose_order.specs.MaskWords.{rows_of-like, has-rows_of}
+use Rattle.transpose_order.specs.MaskWords.{has-rows_of}
 use Rattle.bit_interleave.specs.Range.{value_at}
 use Rattle.fused_kernels.specs.Seen.{LanesSeen, looked_at}
-use Rattle.fused_kernels.proofs.RangeLemmas.{rows_and, rows_and_not}
+use Rattle.fused_kernels.proofs.RangeLemmas.{rows_and, rows_and_not, both_masks}
 use Rattle.fused_kernels.proofs.columns.compare_columns.Given as given
 use Rattle.fused_kernels.proofs.columns.compare_columns.Goals as goal
-
-both_masks : (f g : ℕ → Bool) (a b : List Bool) → a ≡ rows_of f → b ≡ rows_of g → rows_of (λ n. has a n && has b n) ≡ rows_of (λ n. f n && g n)
-both_masks f g a b ea eb =
-    rows_of-like (λ n. has a n && has b n) (λ n. f n && g n)
-    (λ n h. ap (λ x. x && has b n) (ap (λ m. has m n) ea ∙ has-rows_of f n h) ∙ ap (λ y. f n && y) (ap (λ m. has m n) eb ∙ has-rows_of g n h))
 
 found_here : (g : given.Over) (c : goal.After-and_not g) → (n : ℕ) → n < 1024 → has c.rows_where-found.result n ≡ compared c.args.op (value_at (g.A.Lanes.seen c.args.left.now).values n) (value_at (g.B.Lanes.seen c.args.right.now).values n)
 found_here g c = λ n h.

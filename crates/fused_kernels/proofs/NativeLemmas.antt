@@ -1,0 +1,95 @@
+-- Bits of lanes, and of words that hold the bits of several lanes.
+use Rattle.std.proofs.Common.{true, false, ◌≡◌, ℕ, ◌+◌, ◌-◌, ◌*◌, ◌^◌, ◌%◌, ◌<◌, ◌≤◌, ◌&&◌, nat_le, ◌⊎◌, inl, inr, List, get_or, sym, ap, ◌∙◌, arith}
+use Rattle.std.specs.Int.{bit_at}
+use Rattle.std.proofs.lemmas.Bool.{cases_lt}
+use Rattle.std.proofs.lemmas.Bool.Decides.{nat_tests}
+use Rattle.std.proofs.lemmas.Nat.Bits.{bit_at_cat_low, bit_at_cat_high}
+use Rattle.transpose_order.specs.Place.{lane_of}
+
+-- a word's bits are those of its lowest lane, and above them those of the others
+low_lane : (t high low word p : ℕ) → word ≡ high * 2 ^ t + low → p < t → bit_at word p ≡ bit_at low p
+low_lane t high low word p is h = ap (λ w. bit_at w p) is ∙ bit_at_cat_low high t low p h
+
+high_lane : (t high low word p : ℕ) → word ≡ high * 2 ^ t + low → low < 2 ^ t → t ≤ p → bit_at word p ≡ bit_at high (p - t)
+high_lane t high low word p is fits h = ap (λ w. bit_at w p) is ∙ bit_at_cat_high high t low p fits h
+
+at_lane : (bits : List ℕ) (lane other r p : ℕ) → lane ≡ other → r ≡ p → bit_at (get_or bits lane 0) r ≡ bit_at (get_or bits other 0) p
+at_lane bits lane other r p l e = ap (λ (k : ℕ). bit_at (get_or bits k 0) r) l ∙ ap (λ k. bit_at (get_or bits other 0) k) e
+
+-- the four lanes of 16 bits of word j
+pub bits_of_four_lanes : (bits : List ℕ) (j three two word p : ℕ) → get_or bits (16 + j) 0 < 2 ^ 16 → get_or bits (32 + j) 0 < 2 ^ 16 → get_or bits j 0 < 2 ^ 16
+    → three ≡ get_or bits (48 + j) 0 * 2 ^ 16 + get_or bits (16 + j) 0 → two ≡ three * 2 ^ 16 + get_or bits (32 + j) 0 → word ≡ two * 2 ^ 16 + get_or bits j 0
+    → j < 16 → p < 64 → bit_at word p ≡ bit_at (get_or bits (lane_of 16 (64 * j + p)) 0) (p % 16)
+bits_of_four_lanes bits j three two word p fits2 fits1 fits0 is3 is2 is h l = by_lane (cases_lt p 16) (cases_lt p 32) (cases_lt p 48)
+  where
+    by_lane : (p < 16) ⊎ (16 ≤ p) → (p < 32) ⊎ (32 ≤ p) → (p < 48) ⊎ (48 ≤ p) → bit_at word p ≡ bit_at (get_or bits (lane_of 16 (64 * j + p)) 0) (p % 16)
+    by_lane (inl a) _ _ =
+        low_lane 16 two (get_or bits j 0) word p is a ∙ at_lane bits j (lane_of 16 (64 * j + p)) p (p % 16) (omega arith) (omega arith)
+    by_lane (inr a) (inl b) _ =
+        high_lane 16 two (get_or bits j 0) word p is fits0 a ∙ low_lane 16 three (get_or bits (32 + j) 0) two (p - 16) is2 (omega arith)
+        ∙ at_lane bits (32 + j) (lane_of 16 (64 * j + p)) (p - 16) (p % 16) (omega arith) (omega arith)
+    by_lane (inr a) (inr b) (inl c) =
+        high_lane 16 two (get_or bits j 0) word p is fits0 a ∙ high_lane 16 three (get_or bits (32 + j) 0) two (p - 16) is2 fits1 (omega arith)
+        ∙ low_lane 16 (get_or bits (48 + j) 0) (get_or bits (16 + j) 0) three (p - 16 - 16) is3 (omega arith)
+        ∙ at_lane bits (16 + j) (lane_of 16 (64 * j + p)) (p - 16 - 16) (p % 16) (omega arith) (omega arith)
+    by_lane (inr a) (inr b) (inr c) =
+        high_lane 16 two (get_or bits j 0) word p is fits0 a ∙ high_lane 16 three (get_or bits (32 + j) 0) two (p - 16) is2 fits1 (omega arith)
+        ∙ high_lane 16 (get_or bits (48 + j) 0) (get_or bits (16 + j) 0) three (p - 16 - 16) is3 fits2 (omega arith)
+        ∙ at_lane bits (48 + j) (lane_of 16 (64 * j + p)) (p - 16 - 16 - 16) (p % 16) (omega arith) (omega arith)
+
+-- the two lanes of 32 bits of word j
+pub bits_of_two_lanes : (bits : List ℕ) (j word p : ℕ) → get_or bits j 0 < 2 ^ 32 → word ≡ get_or bits (16 + j) 0 * 2 ^ 32 + get_or bits j 0 → j < 16 → p < 64 → bit_at word p ≡ bit_at (get_or bits (lane_of 32 (64 * j + p)) 0) (p % 32)
+bits_of_two_lanes bits j word p fits is h l = by_lane (cases_lt p 32)
+  where
+    by_lane : (p < 32) ⊎ (32 ≤ p) → bit_at word p ≡ bit_at (get_or bits (lane_of 32 (64 * j + p)) 0) (p % 32)
+    by_lane (inl a) =
+        low_lane 32 (get_or bits (16 + j) 0) (get_or bits j 0) word p is a ∙ at_lane bits j (lane_of 32 (64 * j + p)) p (p % 32) (omega arith) (omega arith)
+    by_lane (inr a) =
+        high_lane 32 (get_or bits (16 + j) 0) (get_or bits j 0) word p is fits a
+        ∙ at_lane bits (16 + j) (lane_of 32 (64 * j + p)) (p - 32) (p % 32) (omega arith) (omega arith)
+
+-- a number of 16 bits is in a range exactly where its distance from the first, modulo two to the power of 16, is at most the last's
+pub shifted_16 : (n first last : ℕ) → n < 2 ^ 16 → last < 2 ^ 16 → first ≤ last → nat_le ((n + (2 ^ 16 - first) % 2 ^ 16) % 2 ^ 16) (last - first) ≡ (nat_le first n && nat_le n last)
+shifted_16 n first last h l order = by_place (cases_lt n first) (cases_lt last n)
+  where
+    by_place : (n < first) ⊎ (first ≤ n) → (last < n) ⊎ (n ≤ last) → nat_le ((n + (2 ^ 16 - first) % 2 ^ 16) % 2 ^ 16) (last - first) ≡ (nat_le first n && nat_le n last)
+    by_place (inl a) _ =
+        let is : (n + (2 ^ 16 - first) % 2 ^ 16) % 2 ^ 16 ≡ 2 ^ 16 - first + n = omega arith in
+        let far : nat_le (2 ^ 16 - first + n) (last - first) ≡ false = grind (arith, nat_tests) in
+        let out : nat_le first n ≡ false = grind (arith, nat_tests) in
+        ap (λ x. nat_le x (last - first)) is ∙ far ∙ sym (ap (λ b. b && nat_le n last) out)
+    by_place (inr a) (inl b) =
+        let is : (n + (2 ^ 16 - first) % 2 ^ 16) % 2 ^ 16 ≡ n - first = omega arith in
+        let far : nat_le (n - first) (last - first) ≡ false = grind (arith, nat_tests) in
+        let into : nat_le first n ≡ true = grind (arith, nat_tests) in
+        let out : nat_le n last ≡ false = grind (arith, nat_tests) in
+        ap (λ x. nat_le x (last - first)) is ∙ far ∙ sym (ap (λ b. b && nat_le n last) into ∙ out)
+    by_place (inr a) (inr b) =
+        let is : (n + (2 ^ 16 - first) % 2 ^ 16) % 2 ^ 16 ≡ n - first = omega arith in
+        let near : nat_le (n - first) (last - first) ≡ true = grind (arith, nat_tests) in
+        let into : nat_le first n ≡ true = grind (arith, nat_tests) in
+        let up : nat_le n last ≡ true = grind (arith, nat_tests) in
+        ap (λ x. nat_le x (last - first)) is ∙ near ∙ sym (ap (λ b. b && nat_le n last) into ∙ up)
+
+-- a number of 32 bits is in a range exactly where its distance from the first, modulo two to the power of 32, is at most the last's
+pub shifted_32 : (n first last : ℕ) → n < 2 ^ 32 → last < 2 ^ 32 → first ≤ last → nat_le ((n + (2 ^ 32 - first) % 2 ^ 32) % 2 ^ 32) (last - first) ≡ (nat_le first n && nat_le n last)
+shifted_32 n first last h l order = by_place (cases_lt n first) (cases_lt last n)
+  where
+    by_place : (n < first) ⊎ (first ≤ n) → (last < n) ⊎ (n ≤ last) → nat_le ((n + (2 ^ 32 - first) % 2 ^ 32) % 2 ^ 32) (last - first) ≡ (nat_le first n && nat_le n last)
+    by_place (inl a) _ =
+        let is : (n + (2 ^ 32 - first) % 2 ^ 32) % 2 ^ 32 ≡ 2 ^ 32 - first + n = omega arith in
+        let far : nat_le (2 ^ 32 - first + n) (last - first) ≡ false = grind (arith, nat_tests) in
+        let out : nat_le first n ≡ false = grind (arith, nat_tests) in
+        ap (λ x. nat_le x (last - first)) is ∙ far ∙ sym (ap (λ b. b && nat_le n last) out)
+    by_place (inr a) (inl b) =
+        let is : (n + (2 ^ 32 - first) % 2 ^ 32) % 2 ^ 32 ≡ n - first = omega arith in
+        let far : nat_le (n - first) (last - first) ≡ false = grind (arith, nat_tests) in
+        let into : nat_le first n ≡ true = grind (arith, nat_tests) in
+        let out : nat_le n last ≡ false = grind (arith, nat_tests) in
+        ap (λ x. nat_le x (last - first)) is ∙ far ∙ sym (ap (λ b. b && nat_le n last) into ∙ out)
+    by_place (inr a) (inr b) =
+        let is : (n + (2 ^ 32 - first) % 2 ^ 32) % 2 ^ 32 ≡ n - first = omega arith in
+        let near : nat_le (n - first) (last - first) ≡ true = grind (arith, nat_tests) in
+        let into : nat_le first n ≡ true = grind (arith, nat_tests) in
+        let up : nat_le n last ≡ true = grind (arith, nat_tests) in
+        ap (λ x. nat_le x (last - first)) is ∙ near ∙ sym (ap (λ b. b && nat_le n last) into ∙ up)

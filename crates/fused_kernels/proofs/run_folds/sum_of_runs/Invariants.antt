@@ -1,0 +1,14 @@
+-- the rows before the row are summed
+use Rattle.std.proofs.Common.{◌≡◌, cond, pos, ◌+ℤ◌}
+use Rattle.transpose_order.specs.Mask.{has, count_below}
+use Rattle.run_dictionary.specs.Runs.{run_value}
+use Rattle.fused_kernels.specs.Folds.{fold_to}
+use Rattle.fused_kernels.proofs.RunLemmas.{BeginsRun}
+use Rattle.fused_kernels.proofs.run_folds.sum_of_runs.Given as goal
+
+abbrev pub invariant-loop-value : goal.invariant-loop-value
+invariant-loop-value l = record {
+  begins : BeginsRun l.form l.row l.value-index;
+  before : l.before ≡ count_below (has l.rows) l.row;
+  sum : l.sum ≡ fold_to ◌+ℤ◌ (pos 0) l.row (λ n. cond (has l.rows n) (run_value l.form n) (pos 0));
+}

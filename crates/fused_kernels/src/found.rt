@@ -1,0 +1,66 @@
+//! The rows of a coded vector whose value is in a range, found by the way that its coding has.
+ghost use Rattle.std.specs.Prelude.{◌≡◌, ℕ, ◌&&◌, not, IfSome, if◌then◌else◌};
+ghost use Rattle.transpose_order.specs.Mask.{rows_of, has};
+ghost use Rattle.segment_core.specs.Coded.{value_in};
+ghost use Rattle.fused_kernels.specs.Seen.{looked_at, between};
+ghost use Rattle.fused_kernels.specs.VectorSeen.{vector_seen};
+
+use crate::lanes::rows_among;
+use crate::packed::{dict_between, frame_between};
+use crate::ranges::{first_from, last_up_to};
+use crate::runs::runs_between;
+use segment_core::{Coded, CodedVector};
+use transpose_order::Mask;
+
+/// The rows of a vector that are looked at: those of the mask that are covered and not null.
+pub(crate) fn rows_of_vector(vector: &CodedVector, mask: &Mask) -> Mask
+    ensures { result ≡ rows_of (looked_at (vector_seen vector.now 0) mask.now) }
+{
+    rows_among(vector.rows(), &vector.null_rows(), mask)
+}
+
+/// The rows whose value is neither below `low` nor above `high`, or none where the lanes have to be looked at.
+fn found_by_coding(coded: &Coded, low: i64, high: i64) -> Option<Mask>
+    ensures { IfSome result (λ found. found ≡ rows_of (λ n. between low high (value_in coded.now n))) }
+{
+    match coded {
+        Coded::For(form) => {
+            let found = frame_between(form, low, high)?;
+            Some(found)
+        }
+        Coded::Delta(_) => None,
+        Coded::Runs(form) => Some(runs_between(form.get(), low, high)),
+        Coded::Dict(form) => Some(dict_between(form.get(), low, high)),
+    }
+}
+
+/// The rows whose value is neither below `low` nor above `high`, or none where the lanes have to be looked at.
+pub(crate) fn found_between(coded: &Coded, low: i128, high: i128) -> Option<Mask>
+    ensures { IfSome result (λ found. found ≡ rows_of (λ n. between low high (value_in coded.now n))) }
+{
+    let _ = coded.lane_width();
+    if i128::from(i64::MAX) < low || high < i128::from(i64::MIN) {
+        return Some(Mask::none());
+    }
+    let found = found_by_coding(coded, first_from(low), last_up_to(high))?;
+    Some(found)
+}
+
+/// The rows found, or where `inside` is false, the others.
+pub(crate) fn held(found: &Mask, inside: bool) -> Mask
+    ensures { result ≡ rows_of (λ n. if inside then has found.now n else not (has found.now n)) }
+{
+    if inside {
+        return Mask::all().and(found);
+    }
+    found.not()
+}
+
+/// The rows of a vector looked at that are among those found, and the other rows looked at.
+pub(crate) fn parted(vector: &CodedVector, found: &Mask, mask: &Mask) -> (Mask, Mask)
+    ensures yes { result.0 ≡ rows_of (λ n. looked_at (vector_seen vector.now 0) mask.now n && has found.now n) }
+    ensures no { result.1 ≡ rows_of (λ n. looked_at (vector_seen vector.now 0) mask.now n && not (has found.now n)) }
+{
+    let rows = rows_of_vector(vector, mask);
+    (rows.and(found), rows.and_not(found))
+}

@@ -1,0 +1,268 @@
+//! The kernels over coded vectors, each with its count of passes.
+ghost use Rattle.std.specs.Prelude.{◌≡◌, ℕ, ◌&&◌, not};
+ghost use Rattle.table_model.specs.Truth.{compared};
+ghost use Rattle.table_model.specs.Values.{total, least, greatest};
+ghost use Rattle.transpose_order.specs.Mask.{rows_of};
+ghost use Rattle.segment_core.specs.Coded.{value_in, values_of};
+ghost use Rattle.segment_core.specs.declared.coded.Coded.TheVariants.{Runs as InRuns};
+ghost use Rattle.fused_kernels.specs.Passes.{raised};
+ghost use Rattle.fused_kernels.specs.Seen.{looked_at, values_looked_at, between};
+ghost use Rattle.fused_kernels.specs.VectorSeen.{vector_seen};
+
+use crate::columns::{compare_columns, rows_where};
+use crate::comparisons::{compare, range_of};
+use crate::extremes::{max, min};
+use crate::found::{found_between, held, parted, rows_of_vector};
+use crate::meter::Meter;
+use crate::ranges::compare_range;
+use crate::run_folds::{greatest_of_runs, least_of_runs, sum_of_runs};
+use crate::sums::sum;
+use crate::vector_lanes::VectorLanes;
+use run_dictionary::Runs;
+use segment_core::{Coded, CodedVector};
+use table_model::Op;
+use transpose_order::Mask;
+
+/// What `vector_sum` answers, by the vector's lanes.
+fn sum_by_lanes(vector: &CodedVector, mask: &Mask, meter: &mut Meter) -> i128
+    ensures value { result ≡ total (values_looked_at (vector_seen vector.now 0) mask.now) }
+    ensures pass { meter.new ≡ raised 1 meter.old }
+{
+    sum(&mut VectorLanes::new(vector, meter), mask)
+}
+
+/// What `vector_sum` answers, by the vector's runs.
+fn sum_by_runs(vector: &CodedVector, form: &Runs, mask: &Mask) -> i128
+    requires { vector.now.coded ≡ InRuns form.now }
+    ensures { result ≡ total (values_looked_at (vector_seen vector.now 0) mask.now) }
+{
+    sum_of_runs(form, &rows_of_vector(vector, mask))
+}
+
+/// The sum of the values of a vector's rows looked at, 0 over none. Rows of the mask that are covered and not null are looked
+/// at. The meter counts one pass more.
+pub fn vector_sum(vector: &CodedVector, mask: &Mask, meter: &mut Meter) -> i128
+    ensures value { result ≡ total (values_looked_at (vector_seen vector.now 0) mask.now) }
+    ensures pass { meter.new ≡ raised 1 meter.old }
+{
+    match vector.coded() {
+        Coded::Runs(form) => {
+            meter.add_pass();
+            sum_by_runs(vector, form.get(), mask)
+        }
+        _ => sum_by_lanes(vector, mask, meter),
+    }
+}
+
+/// What `vector_min` answers, by the vector's lanes.
+fn min_by_lanes(vector: &CodedVector, mask: &Mask, meter: &mut Meter) -> Option<i64>
+    ensures value { result ≡ least (values_looked_at (vector_seen vector.now 0) mask.now) }
+    ensures pass { meter.new ≡ raised 1 meter.old }
+{
+    min(&mut VectorLanes::new(vector, meter), mask)
+}
+
+/// What `vector_min` answers, by the vector's runs.
+fn min_by_runs(vector: &CodedVector, form: &Runs, mask: &Mask) -> Option<i64>
+    requires { vector.now.coded ≡ InRuns form.now }
+    ensures { result ≡ least (values_looked_at (vector_seen vector.now 0) mask.now) }
+{
+    least_of_runs(form, &rows_of_vector(vector, mask))
+}
+
+/// The least value of a vector's rows looked at, none over none. Rows of the mask that are covered and not null are looked at.
+/// The meter counts one pass more.
+pub fn vector_min(vector: &CodedVector, mask: &Mask, meter: &mut Meter) -> Option<i64>
+    ensures value { result ≡ least (values_looked_at (vector_seen vector.now 0) mask.now) }
+    ensures pass { meter.new ≡ raised 1 meter.old }
+{
+    match vector.coded() {
+        Coded::Runs(form) => {
+            meter.add_pass();
+            min_by_runs(vector, form.get(), mask)
+        }
+        _ => min_by_lanes(vector, mask, meter),
+    }
+}
+
+/// What `vector_max` answers, by the vector's lanes.
+fn max_by_lanes(vector: &CodedVector, mask: &Mask, meter: &mut Meter) -> Option<i64>
+    ensures value { result ≡ greatest (values_looked_at (vector_seen vector.now 0) mask.now) }
+    ensures pass { meter.new ≡ raised 1 meter.old }
+{
+    max(&mut VectorLanes::new(vector, meter), mask)
+}
+
+/// What `vector_max` answers, by the vector's runs.
+fn max_by_runs(vector: &CodedVector, form: &Runs, mask: &Mask) -> Option<i64>
+    requires { vector.now.coded ≡ InRuns form.now }
+    ensures { result ≡ greatest (values_looked_at (vector_seen vector.now 0) mask.now) }
+{
+    greatest_of_runs(form, &rows_of_vector(vector, mask))
+}
+
+/// The greatest value of a vector's rows looked at, none over none. Rows of the mask that are covered and not null are looked
+/// at. The meter counts one pass more.
+pub fn vector_max(vector: &CodedVector, mask: &Mask, meter: &mut Meter) -> Option<i64>
+    ensures value { result ≡ greatest (values_looked_at (vector_seen vector.now 0) mask.now) }
+    ensures pass { meter.new ≡ raised 1 meter.old }
+{
+    match vector.coded() {
+        Coded::Runs(form) => {
+            meter.add_pass();
+            max_by_runs(vector, form.get(), mask)
+        }
+        _ => max_by_lanes(vector, mask, meter),
+    }
+}
+
+/// A comparison of a vector's values with a literal by the vector's lanes.
+fn compare_by_lanes(
+    vector: &CodedVector,
+    op: Op,
+    literal: i128,
+    mask: &Mask,
+    meter: &mut Meter,
+) -> (Mask, Mask)
+    ensures yes { result.0 ≡ rows_of (λ n. looked_at (vector_seen vector.now 0) mask.now n && compared op (value_in vector.now.coded n) literal) }
+    ensures no { result.1 ≡ rows_of (λ n. looked_at (vector_seen vector.now 0) mask.now n && not (compared op (value_in vector.now.coded n) literal)) }
+    ensures pass { meter.new ≡ raised 1 meter.old }
+{
+    compare(&mut VectorLanes::new(vector, meter), op, literal, mask)
+}
+
+/// A comparison of a vector's values with a range of numbers by the vector's lanes.
+fn compare_range_by_lanes(
+    vector: &CodedVector,
+    low: i128,
+    high: i128,
+    mask: &Mask,
+    meter: &mut Meter,
+) -> (Mask, Mask)
+    ensures yes { result.0 ≡ rows_of (λ n. looked_at (vector_seen vector.now 0) mask.now n && between low high (value_in vector.now.coded n)) }
+    ensures no { result.1 ≡ rows_of (λ n. looked_at (vector_seen vector.now 0) mask.now n && not (between low high (value_in vector.now.coded n))) }
+    ensures pass { meter.new ≡ raised 1 meter.old }
+{
+    compare_range(&mut VectorLanes::new(vector, meter), low, high, mask)
+}
+
+/// A vector's rows looked at at which the comparison of the value with a literal holds, and those at which it doesn't. Rows of
+/// the mask that are covered and not null are looked at. The meter counts one pass more. Runs are compared one by one, and the
+/// codes of a dictionary in place of its values; where the reference and the width of a frame or the ends of a dictionary decide,
+/// no word is read.
+pub fn compare_vector(
+    vector: &CodedVector,
+    op: Op,
+    literal: i128,
+    mask: &Mask,
+    meter: &mut Meter,
+) -> (Mask, Mask)
+    ensures yes { result.0 ≡ rows_of (λ n. looked_at (vector_seen vector.now 0) mask.now n && compared op (value_in vector.now.coded n) literal) }
+    ensures no { result.1 ≡ rows_of (λ n. looked_at (vector_seen vector.now 0) mask.now n && not (compared op (value_in vector.now.coded n) literal)) }
+    ensures pass { meter.new ≡ raised 1 meter.old }
+{
+    let _ = vector.rows();
+    let (low, high, inside) = range_of(op, literal);
+    match found_between(vector.coded(), low, high) {
+        None => compare_by_lanes(vector, op, literal, mask, meter),
+        Some(found) => {
+            meter.add_pass();
+            parted(vector, &held(&found, inside), mask)
+        }
+    }
+}
+
+/// A vector's rows looked at whose value is neither below `low` nor above `high`, and the other rows looked at. Rows of the mask
+/// that are covered and not null are looked at. The meter counts one pass more. It goes by the coding, as `compare_vector` does.
+pub fn compare_vector_range(
+    vector: &CodedVector,
+    low: i128,
+    high: i128,
+    mask: &Mask,
+    meter: &mut Meter,
+) -> (Mask, Mask)
+    ensures yes { result.0 ≡ rows_of (λ n. looked_at (vector_seen vector.now 0) mask.now n && between low high (value_in vector.now.coded n)) }
+    ensures no { result.1 ≡ rows_of (λ n. looked_at (vector_seen vector.now 0) mask.now n && not (between low high (value_in vector.now.coded n))) }
+    ensures pass { meter.new ≡ raised 1 meter.old }
+{
+    match found_between(vector.coded(), low, high) {
+        None => compare_range_by_lanes(vector, low, high, mask, meter),
+        Some(found) => {
+            meter.add_pass();
+            parted(vector, &found, mask)
+        }
+    }
+}
+
+/// Whether a vector's values are decoded faster than its lanes are looked at: where it has runs or a dictionary.
+fn is_decoded_faster(vector: &CodedVector) -> bool {
+    matches!(vector.coded(), Coded::Runs(_) | Coded::Dict(_))
+}
+
+/// A comparison of two vectors' values by their lanes.
+fn compare_vectors_by_lanes(
+    left: &CodedVector,
+    op: Op,
+    right: &CodedVector,
+    mask: &Mask,
+    meter: &mut Meter,
+) -> (Mask, Mask)
+    ensures yes { result.0 ≡ rows_of (λ n. (looked_at (vector_seen left.now 0) mask.now n && looked_at (vector_seen right.now 0) mask.now n)
+        && compared op (value_in left.now.coded n) (value_in right.now.coded n)) }
+    ensures no { result.1 ≡ rows_of (λ n. (looked_at (vector_seen left.now 0) mask.now n && looked_at (vector_seen right.now 0) mask.now n)
+        && not (compared op (value_in left.now.coded n) (value_in right.now.coded n))) }
+    ensures pass { meter.new ≡ raised 2 meter.old }
+{
+    let mut lefts = VectorLanes::new(left, meter);
+    let mut rights = VectorLanes::new(right, meter);
+    compare_columns(&mut lefts, op, &mut rights, mask)
+}
+
+/// A comparison of two vectors' values, decoded.
+fn compare_decoded(left: &CodedVector, op: Op, right: &CodedVector, mask: &Mask) -> (Mask, Mask)
+    ensures yes { result.0 ≡ rows_of (λ n. (looked_at (vector_seen left.now 0) mask.now n && looked_at (vector_seen right.now 0) mask.now n)
+        && compared op (value_in left.now.coded n) (value_in right.now.coded n)) }
+    ensures no { result.1 ≡ rows_of (λ n. (looked_at (vector_seen left.now 0) mask.now n && looked_at (vector_seen right.now 0) mask.now n)
+        && not (compared op (value_in left.now.coded n) (value_in right.now.coded n))) }
+{
+    let rows = rows_of_vector(left, mask).and(&rows_of_vector(right, mask));
+    let mut lefts = [0; 1024];
+    let mut rights = [0; 1024];
+    left.coded().decode(&mut lefts);
+    right.coded().decode(&mut rights);
+    let found = rows_where(&lefts, op, &rights);
+    (rows.and(&found), rows.and_not(&found))
+}
+
+/// The rows looked at at which the comparison of two vectors' values holds, and those at which it doesn't. Rows of the mask that
+/// both cover and that are null in neither are looked at. The meter counts two passes more.
+pub fn compare_vectors(
+    left: &CodedVector,
+    op: Op,
+    right: &CodedVector,
+    mask: &Mask,
+    meter: &mut Meter,
+) -> (Mask, Mask)
+    ensures yes { result.0 ≡ rows_of (λ n. (looked_at (vector_seen left.now 0) mask.now n && looked_at (vector_seen right.now 0) mask.now n)
+        && compared op (value_in left.now.coded n) (value_in right.now.coded n)) }
+    ensures no { result.1 ≡ rows_of (λ n. (looked_at (vector_seen left.now 0) mask.now n && looked_at (vector_seen right.now 0) mask.now n)
+        && not (compared op (value_in left.now.coded n) (value_in right.now.coded n))) }
+    ensures pass { meter.new ≡ raised 2 meter.old }
+{
+    if is_decoded_faster(left) || is_decoded_faster(right) {
+        meter.add_pass();
+        meter.add_pass();
+        return compare_decoded(left, op, right, mask);
+    }
+    compare_vectors_by_lanes(left, op, right, mask, meter)
+}
+
+/// Writes a vector's 1024 values in row order. At a row that isn't covered or is null, any value may stand. The meter counts one
+/// pass more.
+pub fn decode_vector(vector: &CodedVector, values: &mut [i64; 1024], meter: &mut Meter)
+    ensures values { values.new ≡ values_of vector.now.coded }
+    ensures pass { meter.new ≡ raised 1 meter.old }
+{
+    meter.add_pass();
+    vector.coded().decode(values);
+}

@@ -1,0 +1,60 @@
+//! Comparisons of runs of equal values with a range of numbers, run by run.
+ghost use Rattle.std.specs.Prelude.{◌≡◌, ◌==◌, ℕ, ◌+◌, ◌<◌, ◌≤◌, ◌&&◌, ◌||◌, nat_le, nat_lt};
+ghost use Rattle.std.specs.Int.{bit_at};
+ghost use Rattle.transpose_order.specs.Mask.{rows_of, truth_at};
+ghost use Rattle.run_dictionary.specs.Runs.{run_value};
+ghost use Rattle.fused_kernels.specs.Seen.{between};
+
+use crate::ranges::is_between;
+use run_dictionary::Runs;
+use transpose_order::Mask;
+
+/// The word whose bits from `low` up to `high`, which is not included, are set.
+#[inline(always)]
+fn ones_between(low: usize, high: usize) -> u64
+    requires order { low < high }
+    requires within { high ≤ 64 }
+    ensures { (p : ℕ) → p < 64 → (bit_at result p == 1) ≡ (nat_le low p && nat_lt p high) }
+{
+    (u64::MAX << low) & (u64::MAX >> (64 - high))
+}
+
+/// Sets the rows from `first` up to `end`, which is not included, in the words of a mask.
+#[inline(always)]
+fn set_run(words: &mut [u64; 16], first: usize, end: usize)
+    requires order { first < end }
+    requires within { end ≤ 1024 }
+    ensures { (n : ℕ) → n < 1024 → truth_at words.new n ≡ ((nat_le first n && nat_lt n end) || truth_at words.old n) }
+{
+    for j in first / 64..(end + 63) / 64 {
+        let ones = ones_between(first.saturating_sub(64 * j), (end - 64 * j).min(64));
+        words[j] |= ones;
+    }
+}
+
+/// Sets the rows from `first` up to `end`, which is not included, in the words of a mask, where that is asked.
+#[inline(always)]
+fn set_run_if(words: &mut [u64; 16], first: usize, end: usize, set: bool)
+    requires order { first < end }
+    requires within { end ≤ 1024 }
+    ensures { (n : ℕ) → n < 1024 → truth_at words.new n ≡ ((nat_le first n && nat_lt n end && set) || truth_at words.old n) }
+{
+    if set {
+        set_run(words, first, end);
+    }
+}
+
+/// The rows whose run's value is neither below `low` nor above `high`.
+pub(crate) fn runs_between(form: &Runs, low: i64, high: i64) -> Mask
+    ensures { result ≡ rows_of (λ n. between low high (run_value form.now n)) }
+{
+    let _ = form.lane_width();
+    let mut found = [0; 16];
+    let mut row = 0;
+    for value in form.values() {
+        let end = form.starts().next_true(row + 1);
+        set_run_if(&mut found, row, end, is_between(low, high, *value));
+        row = end;
+    }
+    Mask::from_words(found)
+}
