@@ -1,13 +1,17 @@
 pub mod Conflicts
 pub mod Counts
+pub mod Joining
 pub mod Limits
 pub mod Maps
 pub mod MergeAnswers
 pub mod Merges
 pub mod Names
 pub mod Numbers
+pub mod Offers
 pub mod Places
 pub mod RowsIn
+pub mod Stored
+pub mod Summaries
 pub mod Unions
 pub mod Recodes
 pub mod RowValues

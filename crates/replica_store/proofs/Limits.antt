@@ -3,6 +3,7 @@ use Rattle.std.specs.Prelude.{◌≡◌, ℕ, zero, suc, ◌+◌, ◌<◌, ◌�
 use Rattle.std.proofs.Common.{refl, sym, ap, subst, ◌∙◌, arith, Less, Equal, Greater}
 use Rattle.std.specs.Ordering.{is_lt, eq_by_cmp}
 use Rattle.std.specs.FinMap as map
+use Rattle.std.specs.FinSet as set
 use Rattle.std.specs.List.{slice_get}
 use Rattle.std.specs.FinMap.Entries.{by_order}
 use Rattle.std.proofs.lemmas.Bool.Decides.{nat_tests, Decides-eqb}
@@ -22,7 +23,7 @@ use Rattle.table_model.proofs.SameTable.{one_table}
 use Rattle.replica_store.specs.declared.inserted.Inserted.{Inserted}
 use Rattle.replica_store.specs.declared.inserted.Inserted.TheVariants.{New, Already}
 use Rattle.replica_store.specs.Entries.{merge}
-use Rattle.replica_store.specs.Replica.{Replica, IsEntry, AllFit, IsWithinLimits, entries_of, greatest_number, unless_fault, where_room, number_after, next_name, own_name, place_beside, place_for, lacked_by, merge_fault, conflict_or_full, conflict_with, delete_fault}
+use Rattle.replica_store.specs.Replica.{Replica, IsEntry, AllFit, IsWithinLimits, entries_of, greatest_number, unless_fault, where_room, number_after, next_name, own_name, place_beside, place_for, lacked_by, names_of, merge_fault, conflict_or_full, conflict_with, delete_fault}
 use Rattle.replica_store.proofs.Maps.{Entry, as_map, entries-as_map}
 use Rattle.replica_store.proofs.Merges.{as_map-merge, Sorted-union}
 use Rattle.replica_store.proofs.Unions.{union_of-is}
@@ -45,12 +46,12 @@ AllFit-merge t (e ∷ es) (f ∷ fs) g h =
       | false ↦ (h.0, AllFit-merge t (e ∷ es) fs g h.1)
     ]
 
-AllFit-lacked : (t : Table) (m : map.FinMap name_cmp Batch) (fs : List Entry) → AllFit t fs → AllFit t (lacked_by m fs)
-AllFit-lacked t m [] h = tt
-AllFit-lacked t m (f ∷ fs) h =
-    elim (map.contains_key m f.0) as (λ b. AllFit t (cond b (lacked_by m fs) (f ∷ lacked_by m fs))) [
-      | true ↦ AllFit-lacked t m fs h.1
-      | false ↦ (h.0, AllFit-lacked t m fs h.1)
+AllFit-lacked : (t : Table) (names : set.FinSet name_cmp) (fs : List Entry) → AllFit t fs → AllFit t (lacked_by names fs)
+AllFit-lacked t names [] h = tt
+AllFit-lacked t names (f ∷ fs) h =
+    elim (set.contains names f.0) as (λ b. AllFit t (cond b (lacked_by names fs) (f ∷ lacked_by names fs))) [
+      | true ↦ AllFit-lacked t names fs h.1
+      | false ↦ (h.0, AllFit-lacked t names fs h.1)
     ]
 
 -- the batch at a place
@@ -80,15 +81,15 @@ IsWithinLimits-insert t m q v h none room fit =
     record { limit = omega (arith, more); fits = subst (AllFit t) (sym (map.entries-insert names_total m q v)) (AllFit-put t q v (map.entries m) h.fits fit) }
 
 -- a union that isn't too long keeps them
-pub IsWithinLimits-union : (t : Table) (m n : map.FinMap name_cmp Batch) → IsWithinLimits t m → IsWithinLimits t n → map.len (union_of m n) ≤ 65536 → IsWithinLimits t (union_of m n)
+pub IsWithinLimits-union : (t : Table) (m n : map.FinMap name_cmp Batch) → IsWithinLimits t m → AllFit t (map.entries n) → map.len (union_of m n) ≤ 65536 → IsWithinLimits t (union_of m n)
 IsWithinLimits-union t m n g h limit =
     let es = map.entries m in
     let sorted = map.entries_sorted m in
     let same : as_map es ≡ m = map.same_entries_map _ _ (entries-as_map es sorted) in
-    let listed : map.entries (union_of (as_map es) n) ≡ merge name_cmp es (lacked_by (as_map es) (map.entries n)) =
+    let listed : map.entries (union_of (as_map es) n) ≡ merge name_cmp es (lacked_by (names_of (as_map es)) (map.entries n)) =
     ap map.entries (union_of-is (as_map es) n ∙ sym (as_map-merge es n sorted)) ∙ entries-as_map _ (Sorted-union es n sorted) in
     let fits : AllFit t (map.entries (union_of (as_map es) n)) =
-    subst (AllFit t) (sym listed) (AllFit-merge t es _ g.fits (AllFit-lacked t (as_map es) (map.entries n) h.fits)) in
+    subst (AllFit t) (sym listed) (AllFit-merge t es _ g.fits (AllFit-lacked t (names_of (as_map es)) (map.entries n) h)) in
     record { limit = limit; fits = subst (λ (x : map.FinMap name_cmp Batch). AllFit t (map.entries (union_of x n))) same fits }
 
 -- rows without a fault are a batch

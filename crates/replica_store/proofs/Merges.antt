@@ -4,6 +4,7 @@ use Rattle.std.proofs.Common.{refl, sym, ap, subst, ◌∙◌, arith, append-nil
 use Rattle.std.specs.Option.{option_to_list}
 use Rattle.std.specs.Ordering.{is_lt, is_eq, eq_by_cmp, ordering_reverse}
 use Rattle.std.specs.FinMap as map
+use Rattle.std.specs.FinSet as set
 use Rattle.std.specs.FinMap.Entries.{find, is_sorted, below_all}
 use Rattle.std.proofs.lemmas.List.{reverse-append}
 use Rattle.table_model.specs.Name.{name_cmp}
@@ -12,10 +13,11 @@ use Rattle.table_model.proofs.NameOrder.{names_total}
 use Rattle.table_model.proofs.Joins.{or_else}
 use Rattle.table_model.proofs.Operations.{same_name}
 use Rattle.replica_store.specs.Entries.{merge, takes_first}
-use Rattle.replica_store.specs.Replica.{lacked_by}
+use Rattle.replica_store.specs.Replica.{lacked_by, names_of}
 use Rattle.replica_store.proofs.Maps.{Sorted, as_map, entries-as_map, get-as_map, len-as_map}
 use Rattle.replica_store.proofs.Places.{first_of_both, second_of_both, both_of, less_is, is_less}
 use Rattle.replica_store.specs.Segments.{union_in}
+use Rattle.replica_store.proofs.Names.{contains-names_of}
 use Rattle.replica_store.proofs.Unions.{get-union_in, same_maps}
 
 -- of two names that differ, one is below the other
@@ -116,74 +118,83 @@ module _ {X : Type 0} where
   not_some (Some v) e = cc
 
   -- what the map lacks is apart from its entries
-  Apart-lacked : (es fs : List (BatchName × X)) → Sorted es → Apart es (lacked_by (as_map es) fs)
+  Apart-lacked : (es fs : List (BatchName × X)) → Sorted es → Apart es (lacked_by (names_of (as_map es)) fs)
   Apart-lacked es [] g = tt
   Apart-lacked es (f ∷ fs) g =
-      elim (map.contains_key (as_map es) f.0) as (λ b. map.contains_key (as_map es) f.0 ≡ b → Apart es (cond b (lacked_by (as_map es) fs) (f ∷ lacked_by (as_map es) fs))) [
+      let names = names_of (as_map es) in
+      elim (set.contains names f.0) as (λ b. set.contains names f.0 ≡ b → Apart es (cond b (lacked_by names fs) (f ∷ lacked_by names fs))) [
         | true ↦ λ t. Apart-lacked es fs g
-        | false ↦ λ t. (sym (get-as_map es f.0 g) ∙ not_some (map.get (as_map es) f.0) t, Apart-lacked es fs g)
+        | false ↦ λ t. (sym (get-as_map es f.0 g) ∙ not_some (map.get (as_map es) f.0) (sym (contains-names_of (as_map es) f.0) ∙ t), Apart-lacked es fs g)
       ] refl
 
-  below_all-lacked : (m : map.FinMap name_cmp X) (x : BatchName) (fs : List (BatchName × X)) → T (below_all name_cmp x fs) → T (below_all name_cmp x (lacked_by m fs))
-  below_all-lacked m x [] h = tt
-  below_all-lacked m x (f ∷ fs) h =
-      let rest = below_all-lacked m x fs (second_of_both (is_lt (name_cmp x f.0)) (below_all name_cmp x fs) h) in
-      elim (map.contains_key m f.0) as (λ b. T (below_all name_cmp x (cond b (lacked_by m fs) (f ∷ lacked_by m fs)))) [
+  below_all-lacked : (names : set.FinSet name_cmp) (x : BatchName) (fs : List (BatchName × X)) → T (below_all name_cmp x fs) → T (below_all name_cmp x (lacked_by names fs))
+  below_all-lacked names x [] h = tt
+  below_all-lacked names x (f ∷ fs) h =
+      let rest = below_all-lacked names x fs (second_of_both (is_lt (name_cmp x f.0)) (below_all name_cmp x fs) h) in
+      elim (set.contains names f.0) as (λ b. T (below_all name_cmp x (cond b (lacked_by names fs) (f ∷ lacked_by names fs)))) [
         | true ↦ rest
         | false ↦ both_of _ _ (first_of_both (is_lt (name_cmp x f.0)) (below_all name_cmp x fs) h) rest
       ]
 
-  Sorted-lacked : (m : map.FinMap name_cmp X) (fs : List (BatchName × X)) → Sorted fs → Sorted (lacked_by m fs)
-  Sorted-lacked m [] h = tt
-  Sorted-lacked m (f ∷ fs) h =
-      let rest = Sorted-lacked m fs (second_of_both (below_all name_cmp f.0 fs) (is_sorted name_cmp fs) h) in
-      elim (map.contains_key m f.0) as (λ b. Sorted (cond b (lacked_by m fs) (f ∷ lacked_by m fs))) [
+  -- what is lacked stays in order
+  pub Sorted-lacked : (names : set.FinSet name_cmp) (fs : List (BatchName × X)) → Sorted fs → Sorted (lacked_by names fs)
+  Sorted-lacked names [] h = tt
+  Sorted-lacked names (f ∷ fs) h =
+      let rest = Sorted-lacked names fs (second_of_both (below_all name_cmp f.0 fs) (is_sorted name_cmp fs) h) in
+      elim (set.contains names f.0) as (λ b. Sorted (cond b (lacked_by names fs) (f ∷ lacked_by names fs))) [
         | true ↦ rest
-        | false ↦ both_of _ _ (below_all-lacked m f.0 fs (first_of_both (below_all name_cmp f.0 fs) (is_sorted name_cmp fs) h)) rest
+        | false ↦ both_of _ _ (below_all-lacked names f.0 fs (first_of_both (below_all name_cmp f.0 fs) (is_sorted name_cmp fs) h)) rest
       ]
 
-  -- what isn't in the map is found among what it lacks where it is found at all
-  find-lacked : (m : map.FinMap name_cmp X) (q : BatchName) (fs : List (BatchName × X)) → map.get m q ≡ None → map.find name_cmp q (lacked_by m fs) ≡ map.find name_cmp q fs
-  find-lacked m q [] none = refl
-  find-lacked m q (f ∷ fs) none =
-      let rest = find-lacked m q fs none in
-      elim (map.contains_key m f.0) as (λ b. map.contains_key m f.0 ≡ b → map.find name_cmp q (cond b (lacked_by m fs) (f ∷ lacked_by m fs)) ≡ cond (eq_by_cmp name_cmp q f.0) (Some f.1) (map.find name_cmp q fs)) [
-        | true ↦ λ t. elim (eq_by_cmp name_cmp q f.0) as (λ b. eq_by_cmp name_cmp q f.0 ≡ b → map.find name_cmp q (lacked_by m fs) ≡ cond b (Some f.1) (map.find name_cmp q fs)) [
-          | true ↦ λ tied. let held : map.contains_key m q ≡ true = ap (map.contains_key m) (same_name q f.0 tied) ∙ t in let lost : map.contains_key m q ≡ false = ap is_some none in cc
+  -- what the set has isn't found among what it lacks, and all else as before
+  pub find-lacked : (names : set.FinSet name_cmp) (q : BatchName) (fs : List (BatchName × X)) → map.find name_cmp q (lacked_by names fs) ≡ cond (set.contains names q) None (map.find name_cmp q fs)
+  find-lacked names q [] = elim (set.contains names q) as (λ b. ◌≡◌ {A = Option X} None (cond b None None)) [ true ↦ refl | false ↦ refl ]
+  find-lacked names q (f ∷ fs) =
+      let rest = find-lacked names q fs in
+      elim (set.contains names f.0) as (λ b. set.contains names f.0 ≡ b → map.find name_cmp q (cond b (lacked_by names fs) (f ∷ lacked_by names fs)) ≡ cond (set.contains names q) None (map.find name_cmp q (f ∷ fs))) [
+        | true ↦ λ t. elim (eq_by_cmp name_cmp q f.0) as (λ b. eq_by_cmp name_cmp q f.0 ≡ b → map.find name_cmp q (lacked_by names fs) ≡ cond (set.contains names q) None (cond b (Some f.1) (map.find name_cmp q fs))) [
+          | true ↦ λ tied.
+              let held : set.contains names q ≡ true = ap (set.contains names) (same_name q f.0 tied) ∙ t in
+              rest ∙ ap (λ b. cond b None (map.find name_cmp q fs)) held ∙ sym (ap (λ b. cond b None (Some f.1)) held)
           | false ↦ λ tied. rest
         ] refl
-        | false ↦ λ t. ap (cond (eq_by_cmp name_cmp q f.0) (Some f.1)) rest
+        | false ↦ λ t. elim (eq_by_cmp name_cmp q f.0) as (λ b. eq_by_cmp name_cmp q f.0 ≡ b → cond b (Some f.1) (map.find name_cmp q (lacked_by names fs)) ≡ cond (set.contains names q) None (cond b (Some f.1) (map.find name_cmp q fs))) [
+          | true ↦ λ tied.
+              let free : set.contains names q ≡ false = ap (set.contains names) (same_name q f.0 tied) ∙ t in
+              sym (ap (λ b. cond b None (Some f.1)) free)
+          | false ↦ λ tied. rest
+        ] refl
       ] refl
 
-  lacked_or : (m : map.FinMap name_cmp X) (q : BatchName) (fs : List (BatchName × X)) (o : Option X) → map.get m q ≡ o → or_else o (map.find name_cmp q (lacked_by m fs)) ≡ or_else o (map.find name_cmp q fs)
-  lacked_or m q fs None is = find-lacked m q fs is
+  lacked_or : (m : map.FinMap name_cmp X) (q : BatchName) (fs : List (BatchName × X)) (o : Option X) → map.get m q ≡ o → or_else o (map.find name_cmp q (lacked_by (names_of m) fs)) ≡ or_else o (map.find name_cmp q fs)
+  lacked_or m q fs None is = find-lacked (names_of m) q fs ∙ ap (λ b. cond b None (map.find name_cmp q fs)) (contains-names_of m q ∙ ap is_some is)
   lacked_or m q fs (Some v) is = refl
 
   -- the entries that are there, merged with those that are lacked, are the union's
-  pub as_map-merge : (es : List (BatchName × X)) (n : map.FinMap name_cmp X) → Sorted es → as_map (merge name_cmp es (lacked_by (as_map es) (map.entries n))) ≡ union_in (as_map es) n
+  pub as_map-merge : (es : List (BatchName × X)) (n : map.FinMap name_cmp X) → Sorted es → as_map (merge name_cmp es (lacked_by (names_of (as_map es)) (map.entries n))) ≡ union_in (as_map es) n
   as_map-merge es n g = same_maps _ _ (λ q.
       let fs = map.entries n in
       let apart = Apart-lacked es fs g in
-      let sorted = Sorted-merge es (lacked_by (as_map es) fs) g (Sorted-lacked (as_map es) fs (map.entries_sorted n)) apart in
+      let sorted = Sorted-merge es (lacked_by (names_of (as_map es)) fs) g (Sorted-lacked (names_of (as_map es)) fs (map.entries_sorted n)) apart in
       get-as_map _ q sorted
-      ∙ find-merge q es (lacked_by (as_map es) fs) apart
-      ∙ ap (λ o. or_else o (map.find name_cmp q (lacked_by (as_map es) fs))) (sym (get-as_map es q g))
+      ∙ find-merge q es (lacked_by (names_of (as_map es)) fs) apart
+      ∙ ap (λ o. or_else o (map.find name_cmp q (lacked_by (names_of (as_map es)) fs))) (sym (get-as_map es q g))
       ∙ lacked_or (as_map es) q fs (map.get (as_map es) q) refl
       ∙ ap (or_else (map.get (as_map es) q)) (sym (map.get-entries n q))
       ∙ sym (get-union_in (as_map es) n q))
 
-  pub Sorted-union : (es : List (BatchName × X)) (n : map.FinMap name_cmp X) → Sorted es → Sorted (merge name_cmp es (lacked_by (as_map es) (map.entries n)))
-  Sorted-union es n g = Sorted-merge es _ g (Sorted-lacked (as_map es) (map.entries n) (map.entries_sorted n)) (Apart-lacked es (map.entries n) g)
+  pub Sorted-union : (es : List (BatchName × X)) (n : map.FinMap name_cmp X) → Sorted es → Sorted (merge name_cmp es (lacked_by (names_of (as_map es)) (map.entries n)))
+  Sorted-union es n g = Sorted-merge es _ g (Sorted-lacked (names_of (as_map es)) (map.entries n) (map.entries_sorted n)) (Apart-lacked es (map.entries n) g)
 
   pub map_of_entries : (m : map.FinMap name_cmp X) → as_map (map.entries m) ≡ m
   map_of_entries m = map.same_entries_map _ _ (entries-as_map (map.entries m) (map.entries_sorted m))
 
   -- how many batches a union has
-  pub len-union : (m n : map.FinMap name_cmp X) → map.len (union_in m n) ≡ map.len m + length (lacked_by m (map.entries n))
+  pub len-union : (m n : map.FinMap name_cmp X) → map.len (union_in m n) ≡ map.len m + length (lacked_by (names_of m) (map.entries n))
   len-union m n =
       let es = map.entries m in
       let g = map.entries_sorted m in
       let same = map_of_entries m in
-      let by_entries : map.len (union_in (as_map es) n) ≡ map.len (as_map es) + length (lacked_by (as_map es) (map.entries n)) =
-      ap map.len (sym (as_map-merge es n g)) ∙ len-as_map _ (Sorted-union es n g) ∙ length-merge es _ ∙ ap (λ k. k + length (lacked_by (as_map es) (map.entries n))) (sym (len-as_map es g)) in
-      subst (λ (x : map.FinMap name_cmp X). map.len (union_in x n) ≡ map.len x + length (lacked_by x (map.entries n))) same by_entries
+      let by_entries : map.len (union_in (as_map es) n) ≡ map.len (as_map es) + length (lacked_by (names_of (as_map es)) (map.entries n)) =
+      ap map.len (sym (as_map-merge es n g)) ∙ len-as_map _ (Sorted-union es n g) ∙ length-merge es _ ∙ ap (λ k. k + length (lacked_by (names_of (as_map es)) (map.entries n))) (sym (len-as_map es g)) in
+      subst (λ (x : map.FinMap name_cmp X). map.len (union_in x n) ≡ map.len x + length (lacked_by (names_of x) (map.entries n))) same by_entries

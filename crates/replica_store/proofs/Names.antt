@@ -17,7 +17,7 @@ module _ {X : Type 0} where
   unfolding names_of
   contains-names_of m q = set.contains-from_list names_total (map.keys m) q ∙ sym (map.contains_key-keys m q)
 
-  some_cond : (b : Bool) (v : X) (o : Option X) → is_some (cond b (Some v) o) ≡ (b || is_some o)
+  pub some_cond : (b : Bool) (v : X) (o : Option X) → is_some (cond b (Some v) o) ≡ (b || is_some o)
   some_cond true v o = refl
   some_cond false v o = refl
 

@@ -87,7 +87,7 @@ set-put n (x ∷ es) (suc i) s made h is =
     ap (λ (rest : List Entry). x ∷ rest) (set-put n es i s made (second_of_both (below_all name_cmp x.0 es) (is_sorted name_cmp es) h) is)
     ∙ sym (ap (λ r. by_order r ((n, made) ∷ x ∷ es) ((x.0, made) ∷ es) (x ∷ map.put name_cmp n made es)) over)
 
-find-held : (n : BatchName) (es : List Entry) (i : ℕ) (s : SegmentForm) → T (is_sorted name_cmp es) → slice_get es i ≡ Some (n, s) → map.find name_cmp n es ≡ Some s
+pub find-held : (n : BatchName) (es : List Entry) (i : ℕ) (s : SegmentForm) → T (is_sorted name_cmp es) → slice_get es i ≡ Some (n, s) → map.find name_cmp n es ≡ Some s
 find-held n [] i s h is = cc
 find-held n (x ∷ es) zero s h is =
     let here : x ≡ (n, s) = cc in
@@ -106,7 +106,7 @@ as_map-set n es i s made h is =
     ∙ ap (map.put name_cmp n made) (sym (entries-as_map es h))
     ∙ sym (map.entries-insert names_total (as_map es) n made))
 
-get-held : (n : BatchName) (es : List Entry) (i : ℕ) (s : SegmentForm) → Sorted es → slice_get es i ≡ Some (n, s) → map.get (as_map es) n ≡ Some s
+pub get-held : (n : BatchName) (es : List Entry) (i : ℕ) (s : SegmentForm) → Sorted es → slice_get es i ≡ Some (n, s) → map.get (as_map es) n ≡ Some s
 get-held n es i s h is = get-as_map es n h ∙ find-held n es i s h is
 
 -- to put in what is there changes nothing
@@ -194,4 +194,4 @@ acts_recoded es new result n column vector coding h (inl r) =
     subst P (sym r.1) (ap as_map r.2, inl (ap (λ (o : Option SegmentForm). put_under m n (recoded_held o column vector coding)) (get-as_map es n h ∙ r.0)))
 acts_recoded es new result n column vector coding h (inr r) =
     let P : List Entry → Type 0 = λ xs. Acts done (as_map es) result (as_map xs) (recoded_in (as_map es) n column vector coding) in
-    subst P (sym r.4) (recoded_found_in es n r.0 r.1 r.2 result column vector coding h r.3 r.6)
+    subst P (sym r.4) (recoded_found_in es n r.0 r.1 r.2 result column vector coding h r.3 r.7)

@@ -86,7 +86,7 @@ rows_in-union m n = same_maps _ _ (λ x.
     ∙ (λ i. or_else (sym (get-rows_in m x) i) (sym (get-rows_in n x) i))
     ∙ sym (get-union (rows_in m) (rows_in n) x))
 
-is_some-rows : (o : Option SegmentForm) → is_some (option_map rows o) ≡ is_some o
+pub is_some-rows : (o : Option SegmentForm) → is_some (option_map rows o) ≡ is_some o
 is_some-rows None = refl
 is_some-rows (Some s) = refl
 

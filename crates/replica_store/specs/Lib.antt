@@ -1,5 +1,5 @@
 pub mod Entries
+pub mod Exchange
 pub mod MergeLaws
 pub mod Replica
-pub mod SegmentCode
 pub mod Segments

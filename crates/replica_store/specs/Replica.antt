@@ -163,10 +163,10 @@ abbrev pub differs : Option Batch → Batch → Bool
 differs None rows = false
 differs (Some held) rows = not (same_rows held rows)
 
--- the batches of the list whose names the map lacks
-abbrev pub lacked_by : {X : Type 0} → map.FinMap name_cmp X → List (BatchName × X) → List (BatchName × X)
-lacked_by ours [] = []
-lacked_by ours (e ∷ es) = cond (map.contains_key ours e.0) (lacked_by ours es) (e ∷ lacked_by ours es)
+-- the batches of the list whose names the set lacks
+abbrev pub lacked_by : {X : Type 0} → set.FinSet name_cmp → List (BatchName × X) → List (BatchName × X)
+lacked_by names [] = []
+lacked_by names (e ∷ es) = cond (set.contains names e.0) (lacked_by names es) (e ∷ lacked_by names es)
 
 -- the first name of the list that has other rows in the map
 abbrev pub conflict_with : map.FinMap name_cmp Batch → List (BatchName × Batch) → Option BatchName
@@ -182,9 +182,17 @@ conflict_or_full r other None = cond (nat_lt batch_limit (map.len (union_of r.st
 unfoldable pub merge_fault : Replica → Replica → Option Refusal
 merge_fault r other = cond (same_table r.schema other.schema) (conflict_or_full r other (conflict_with r.state.batches (entries_of other))) (Some SchemaDiffers)
 
+-- a replica of a table with these batches and no deletion, of some own origin
+abbrev pub replica_with : Table → map.FinMap name_cmp Batch → Replica
+replica_with table batches = record { schema = table; own = record { 0 = 1 }; state = record { batches = batches; deleted = set.empty } }
+
+-- the replica with the join of its state and another
+abbrev pub joined_with : Replica → State → Replica
+joined_with r s = record { schema = r.schema; own = r.own; state = join r.state s }
+
 -- the replica with the join of both states
 abbrev pub with_join : Replica → Replica → Replica
-with_join r other = record { schema = r.schema; own = r.own; state = join r.state other.state }
+with_join r other = joined_with r other.state
 
 -- merge: the state becomes the join
 abbrev pub merged : Replica → Replica → Result (Unit {0} × Replica) Refusal

@@ -1,20 +1,21 @@
 -- A store: a replica, and beside it the segments that its batches lie in, which have their codings.
-use Rattle.std.specs.Prelude.{◌≡◌, ◌⊎◌, ◌&&◌, Bool, is_some, nat_lt, slice_get, ℕ, cond, List, [], ◌∷◌, ◌++◌, ◌+◌, ◌≤◌, length, slice_set, Option, Some, None, Result, Ok, Err, refl}
+use Rattle.std.specs.Prelude.{◌≡◌, ◌⊎◌, ◌&&◌, Bool, false, ◌==◌, T, IsTrue, is_some, nat_lt, slice_get, ℕ, cond, List, [], ◌∷◌, ◌++◌, ◌+◌, ◌≤◌, length, slice_set, Option, Some, None, Result, Ok, Err, refl}
 use Rattle.std.specs.Coded.{Coded, code_by, coded×}
 use Rattle.std.specs.FinMap as map
 use Rattle.std.specs.FinSet as set
 use Rattle.transpose_order.specs.Mask.{count_below}
-use Rattle.table_model.specs.Name.{name_cmp, row_name_cmp, coded_name}
+use Rattle.table_model.specs.Name.{name_cmp, row_name_cmp, coded_name, is_proper_name}
 use Rattle.table_model.specs.Outcome.{Acts}
 use Rattle.table_model.specs.State.{Batch}
 use Rattle.table_model.specs.declared.names.BatchName.{BatchName}
+use Rattle.table_model.specs.declared.names.Origin.{Origin}
 use Rattle.table_model.specs.declared.refusal.Refusal.{Refusal}
 use Rattle.table_model.specs.declared.refusal.Refusal.TheVariants.{NoSuchVector}
 use Rattle.table_model.specs.Table.{Table, IsBatch}
-use Rattle.segment_core.specs.Segment.{SegmentForm, recoded, vector_at}
+use Rattle.segment_core.specs.Segment.{SegmentForm, recoded, vector_at, widths_in, widths_of}
 use Rattle.segment_core.specs.declared.coding.Coding.{Coding}
-use Rattle.replica_store.specs.SegmentCode.{coded_segment}
-use Rattle.replica_store.specs.Replica.{Replica, coded_replica, differs, is_live_row, vectors_of}
+use Rattle.segment_core.specs.SegmentCode.{coded_segment}
+use Rattle.replica_store.specs.Replica.{Replica, coded_replica, differs, is_live_row, vectors_of, IsSound}
 
 -- a batch's segment with its name
 abbrev pub Entry : Type 0
@@ -41,6 +42,25 @@ pub record StoreForm : Type 0 where
 -- a store by its parts
 abbrev pub coded_store : Coded StoreForm
 coded_store = code_by (Replica × map.FinMap name_cmp SegmentForm) (coded× coded_replica (map.code coded_name coded_segment)) (λ s. (s.replica, s.segments)) (λ p. record { replica = p.0; segments = p.1 }) (λ _. refl)
+
+-- a batch's name is proper
+abbrev pub HasProperName : Entry → Type 0
+HasProperName e = IsTrue (is_proper_name e.0)
+
+-- a batch that a store of a table may hold: its name is proper, its rows fit the schema, and each column lies in lanes as wide as its type
+pub record IsStored (table : Table) (e : Entry) : Type 0 where
+  pub proper : IsTrue (is_proper_name e.0)
+  pub fits : IsBatch table e.1.rows
+  pub widths : widths_in e.1.forms ≡ widths_of table
+
+-- a store of the table may hold each of the batches
+abbrev pub AreStored : Table → map.FinMap name_cmp SegmentForm → Type 0
+AreStored table segments = (name : BatchName) (s : SegmentForm) → map.get segments name ≡ Some s → IsStored table (name, s)
+
+-- what is always true of a store: its own origin is at least 1, it is within the limits, and it may hold each of its batches
+pub record IsSoundStore (table : Table) (own : Origin) (segments : map.FinMap name_cmp SegmentForm) : Type 0 where
+  pub sound : IsSound table own (rows_in segments)
+  pub stored : AreStored table segments
 
 -- a segment that was looked for, with a vector in another coding
 abbrev pub recoded_held : Option SegmentForm → ℕ → ℕ → Coding → Result (Unit {0} × SegmentForm) Refusal
@@ -79,7 +99,7 @@ HoldsAt es name at = (s : SegmentForm) × (slice_get es at ≡ Some (name, s))
 abbrev pub RecodesEntries : List Entry → List Entry → Result (Unit {0}) Refusal → BatchName → ℕ → ℕ → Coding → Type 0
 RecodesEntries old new result name column vector coding =
     ((map.find name_cmp name old ≡ None) × (result ≡ Err NoSuchVector) × (new ≡ old)) ⊎
-    ((at : ℕ) × (s made : SegmentForm) × (slice_get old at ≡ Some (name, s)) × (new ≡ slice_set old at (name, made)) × (made.rows ≡ s.rows) × Acts (λ done. done) s result made (recoded s column vector coding))
+    ((at : ℕ) × (s made : SegmentForm) × (slice_get old at ≡ Some (name, s)) × (new ≡ slice_set old at (name, made)) × (made.rows ≡ s.rows) × (widths_in made.forms ≡ widths_in s.forms) × Acts (λ done. done) s result made (recoded s column vector coding))
 
 -- the test tells whether a segment has a vector at a place of a column: as many columns as its rows have cells, and a vector for each 1024 rows
 pub record HasVector (s : SegmentForm) (column vector : ℕ) (test : Bool) : Type 0 where

@@ -2,10 +2,13 @@
 ghost use Rattle.std.specs.Prelude.{◌≡◌, ◌+◌, ◌≤◌, T, [], ◌∷◌, ◌++◌, length, reverse, nat_lt, None, IsNone, IsTrue, MatchOption, IfSome, ◌<◌, OnOk, OnErr, IfOk, vec_len, vec_capacity};
 ghost use Rattle.std.specs.Option.{option_copied, option_to_list, option_map};
 ghost use Rattle.std.specs.FinMap as map;
+ghost use Rattle.std.specs.List.{All};
 ghost use Rattle.table_model.specs.Name.{name_cmp, is_proper_name};
+ghost use Rattle.table_model.specs.Table.{Table};
+ghost use Rattle.table_model.specs.declared.names.BatchName.{BatchName};
 ghost use Rattle.replica_store.specs.Entries.{count_below, merge, takes_first};
-ghost use Rattle.replica_store.specs.Replica.{greatest_number, differs, conflict_with, lacked_by, entries_of};
-ghost use Rattle.replica_store.specs.Segments.{rows_in, rows_entries, union_in, conflict_in, recoded_in, RecodesEntries, HoldsAt};
+ghost use Rattle.replica_store.specs.Replica.{greatest_number, differs, conflict_with, lacked_by, names_of, entries_of};
+ghost use Rattle.replica_store.specs.Segments.{rows_in, rows_entries, union_in, conflict_in, recoded_in, AreStored, Entry, HasProperName, RecodesEntries, HoldsAt};
 ghost use Rattle.table_model.specs.State.{union_of};
 ghost use Rattle.table_model.specs.Outcome.{Acts};
 
@@ -28,7 +31,7 @@ impl Model for Batches {
     ghost use Rattle.table_model.specs.Name.{name_cmp, coded_name};
     ghost use Rattle.segment_core.specs.Segment.{SegmentForm};
     ghost use Rattle.replica_store.specs.Replica.{AreKept};
-    ghost use Rattle.replica_store.specs.SegmentCode.{coded_segment};
+    ghost use Rattle.segment_core.specs.SegmentCode.{coded_segment};
 
     ghost Value = { map.FinMap name_cmp SegmentForm };
 
@@ -49,6 +52,19 @@ impl Batches {
             entries: Vec::new(alloc),
             held: Held::new(alloc),
         }
+    }
+
+    /// Batches of proper names that are in ascending order already. It takes a step for each.
+    pub fn from_entries(
+        alloc: Global,
+        entries: Vec<(BatchName, Segment)>,
+    ) -> Result<Batches, AllocError>
+        requires sorted { T (map.is_sorted name_cmp entries.items) }
+        requires proper { All HasProperName entries.items }
+        ensures { IfOk result (λ batches. batches ≡ map.from_sorted entries.items) }
+    {
+        let held = names_held(alloc, entries.as_slice())?;
+        Ok(Batches { entries, held })
     }
 
     /// How many batches there are.
@@ -74,11 +90,11 @@ impl Batches {
         found(self.entries.as_slice(), name)
     }
 
-    /// Whether there is a batch of this name. It takes a search among the runs of names.
-    pub fn holds(&self, name: BatchName) -> bool
-        ensures { result ≡ map.contains_key self.now name }
+    /// The names of the batches.
+    pub fn names(&self) -> &Held
+        ensures { result.now ≡ names_of self.now }
     {
-        self.held.holds(name)
+        &self.held
     }
 
     /// The greatest number of an origin, or 0. It takes a binary search.
@@ -99,28 +115,37 @@ impl Batches {
     }
 
     /// The first of the other batches that has other rows here under its name.
-    pub fn conflict_with(&self, other: &Batches) -> Option<BatchName>
-        ensures { result ≡ conflict_with (rows_in self.now) (map.entries (rows_in other.now)) }
+    pub fn conflict_with(&self, others: &[(BatchName, Segment)]) -> Option<BatchName>
+        requires { T (map.is_sorted name_cmp others.now) }
+        ensures { result ≡ conflict_with (rows_in self.now) (map.entries (rows_in (map.from_sorted others.now))) }
     {
-        first_conflict(self, other.entries())
+        first_conflict(self, others)
     }
 
     /// Whether the union with the others has more batches than this.
-    pub fn union_exceeds(&self, other: &Batches, limit: usize) -> bool
-        ensures { result ≡ nat_lt limit (map.len (union_of (rows_in self.now) (rows_in other.now))) }
+    pub fn union_exceeds(&self, others: &[(BatchName, Segment)], limit: usize) -> bool
+        requires { T (map.is_sorted name_cmp others.now) }
+        ensures { result ≡ nat_lt limit (map.len (union_of (rows_in self.now) (rows_in (map.from_sorted others.now)))) }
     {
-        self.len() > limit || count_lacked(self, other.entries()) > limit - self.len()
+        self.len() > limit || count_lacked(&self.held, others) > limit - self.len()
     }
 
-    /// Takes in copies of the other's batches whose names aren't here, as they are coded there. It takes as many steps as there are batches on both
-    /// sides, and for each of the other's a search among the runs of names.
-    pub fn join(&mut self, alloc: Global, other: &Batches) -> Result<(), AllocError>
-        ensures ok { OnOk result (self.new ≡ union_in self.old other.now) }
+    /// Takes in copies of the other batches whose names aren't here, as they are coded there; `names` are the names of all of them. It takes as
+    /// many steps as there are batches on both sides, and for each of the others a search among the runs of names.
+    pub fn join(
+        &mut self,
+        alloc: Global,
+        others: &[(BatchName, Segment)],
+        names: &Held,
+    ) -> Result<(), AllocError>
+        requires sorted { T (map.is_sorted name_cmp others.now) }
+        requires names { names.now ≡ names_of (map.from_sorted others.now) }
+        ensures ok { OnOk result (self.new ≡ union_in self.old (map.from_sorted others.now)) }
         ensures err { OnErr result (self.new ≡ self.old) }
     {
-        let fresh = copies_lacked(alloc, self, other.entries())?;
+        let fresh = copies_lacked(alloc, &self.held, others)?;
         let room = Vec::with_capacity(alloc, self.entries.len().saturating_add(fresh.len()))?;
-        let held = self.held.joined(&other.held)?;
+        let held = self.held.joined(names)?;
         let ours = mem::replace(&mut self.entries, Vec::new(alloc));
         self.entries = merged(ours, fresh, room);
         self.held = held;
@@ -152,6 +177,7 @@ impl Batches {
     ) -> Result<(), Refusal>
         ensures segments { Acts (λ done. done) self.old result self.new (recoded_in self.old name column vector coding) }
         ensures rows { rows_in self.new ≡ rows_in self.old }
+        ensures stored { (table : Table) → AreStored table self.old → AreStored table self.new }
     {
         recode_found(
             alloc,
@@ -240,45 +266,61 @@ fn first_conflict(ours: &Batches, theirs: &[(BatchName, Segment)]) -> Option<Bat
     None
 }
 
-/// How many of these batches have names that aren't among ours.
-fn count_lacked(ours: &Batches, theirs: &[(BatchName, Segment)]) -> usize
-    ensures { result ≡ length (lacked_by ours.now theirs.now) }
+/// The names of batches that are in ascending order, as a set of their own. Each of them extends the last run or begins the next.
+pub(crate) fn names_held(
+    alloc: Global,
+    batches: &[(BatchName, Segment)],
+) -> Result<Held, AllocError>
+    requires sorted { T (map.is_sorted name_cmp batches.now) }
+    requires proper { All HasProperName batches.now }
+    ensures { IfOk result (λ names. names ≡ names_of (map.from_sorted batches.now)) }
+{
+    let mut names = Held::new(alloc);
+    for (name, _) in batches {
+        names.insert(*name)?;
+    }
+    Ok(names)
+}
+
+/// How many of these batches have names that aren't among these.
+fn count_lacked(names: &Held, batches: &[(BatchName, Segment)]) -> usize
+    ensures { result ≡ length (lacked_by names.now batches.now) }
 {
     let mut count = 0;
-    for (name, _) in theirs {
-        if !ours.holds(*name) {
+    for (name, _) in batches {
+        if !names.holds(*name) {
             count += 1;
         }
     }
     count
 }
 
-/// Copies of these batches whose names aren't among ours, in their order.
-fn copies_lacked(
+/// Copies of the batches whose names aren't among these, in their order.
+pub(crate) fn copies_lacked(
     alloc: Global,
-    ours: &Batches,
-    theirs: &[(BatchName, Segment)],
+    names: &Held,
+    batches: &[(BatchName, Segment)],
 ) -> Result<Vec<(BatchName, Segment)>, AllocError>
-    ensures { IfOk result (λ copies. copies.items ≡ lacked_by ours.now theirs.now) }
+    ensures { IfOk result (λ copies. copies.items ≡ lacked_by names.now batches.now) }
 {
     let mut copies = Vec::new(alloc);
-    for (name, segment) in theirs {
-        push_lacked(alloc, ours, *name, segment, &mut copies)?;
+    for (name, segment) in batches {
+        push_lacked(alloc, names, *name, segment, &mut copies)?;
     }
     Ok(copies)
 }
 
-/// Puts a copy of the batch at the end, unless its name is among ours.
+/// Puts a copy of the batch at the end, unless its name is among these.
 fn push_lacked(
     alloc: Global,
-    ours: &Batches,
+    names: &Held,
     name: BatchName,
     segment: &Segment,
     copies: &mut Vec<(BatchName, Segment)>,
 ) -> Result<(), AllocError>
-    ensures { OnOk result (copies.new.items ≡ copies.old.items ++ lacked_by ours.now ((name, segment.now) ∷ [])) }
+    ensures { OnOk result (copies.new.items ≡ copies.old.items ++ lacked_by names.now ((name, segment.now) ∷ [])) }
 {
-    if !ours.holds(name) {
+    if !names.holds(name) {
         copies.push((name, segment.copy(alloc)?))?;
     }
     Ok(())

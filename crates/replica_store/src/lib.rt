@@ -4,11 +4,15 @@
 mod batches;
 mod inserted;
 mod laws;
+mod offer;
 mod store;
+mod summary;
 
 pub use inserted::Inserted;
 pub use laws::{keeping_laws, merge_laws};
+pub use offer::Offer;
 pub use store::{MAX_BATCHES, Store};
+pub use summary::Summary;
 
 #[cfg(test)]
 mod tests;

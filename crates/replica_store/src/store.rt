@@ -1,19 +1,25 @@
 //! A replica's store: a table's schema, an own origin, and a state that appends, inserts and merges change.
-ghost use Rattle.std.specs.Prelude.{◌≡◌, ◌<◌, ◌≤◌, length, slice_get, Some, None, Ok, Err, IsOk, IfOk, IfErr, OnOk, OnErr, IsTrue};
+ghost use Rattle.std.specs.Prelude.{◌≡◌, ◌<◌, ◌≤◌, length, slice_get, Some, None, Ok, Err, IsOk, IfOk, IfErr, OnOk, OnErr, IsTrue, T};
 ghost use Rattle.std.specs.FinMap as map;
-ghost use Rattle.table_model.specs.Name.{is_proper_name};
+ghost use Rattle.std.specs.List.{All};
+ghost use Rattle.table_model.specs.Name.{name_cmp, is_proper_name};
 ghost use Rattle.transpose_order.specs.Mask.{count_below};
 ghost use Rattle.table_model.specs.Outcome.{Acts, Gives, unless};
+ghost use Rattle.table_model.specs.State.{union_of};
 ghost use Rattle.table_model.specs.Table.{IsBatch};
-ghost use Rattle.segment_core.specs.Segment.{canonical_segment};
-ghost use Rattle.replica_store.specs.Replica.{new_replica, entries_of, appended, inserted, merged, merge_fault, next_name, place_for, with_batch, with_join, live_count, is_live_row, deleted_rows, delete_fault, recoded_rows, recode_fault};
-ghost use Rattle.replica_store.specs.Segments.{rows_in, union_in, recoded_in, live_in, AreShort, HasVector};
+ghost use Rattle.segment_core.specs.Segment.{canonical_segment, widths_in, widths_of};
+ghost use Rattle.segment_core.specs.SegmentBytes.{HasBytesIn};
+ghost use Rattle.replica_store.specs.Exchange.{summary_of, offered, unlisted, applied, opened};
+ghost use Rattle.replica_store.specs.Replica.{IsWithinLimits, new_replica, entries_of, names_of, appended, inserted, merged, merge_fault, next_name, place_for, replica_with, with_batch, joined_with, live_count, is_live_row, deleted_rows, delete_fault, recoded_rows, recode_fault};
+ghost use Rattle.replica_store.specs.Segments.{rows_in, union_in, recoded_in, live_in, AreShort, AreStored, IsStored, IsSoundStore, HasVector};
 ghost use Rattle.segment_core.specs.declared.coding.Coding.{Coding};
 ghost use Rattle.replica_store.specs.declared.inserted.Inserted.TheVariants.{New, Already};
 
-use crate::batches::Batches;
+use crate::batches::{Batches, copies_lacked, names_held};
 use crate::inserted::Inserted;
-use catalogue_join::Tombs;
+use crate::offer::Offer;
+use crate::summary::Summary;
+use catalogue_join::{Held, Tombs};
 use segment_core::{Coding, Segment};
 use std::alloc::{AllocError, Global};
 use std::marker::Model;
@@ -41,8 +47,7 @@ pub struct Store {
 }
 
 impl Model for Store {
-    ghost use Rattle.replica_store.specs.Replica.{IsSound};
-    ghost use Rattle.replica_store.specs.Segments.{StoreForm, coded_store, rows_in};
+    ghost use Rattle.replica_store.specs.Segments.{StoreForm, coded_store, rows_in, IsSoundStore};
 
     ghost Value = { StoreForm };
 
@@ -50,7 +55,7 @@ impl Model for Store {
 
     ghost view = { λ s. record { replica = record { schema = s.schema; own = s.own; state = record { batches = rows_in s.batches; deleted = s.tombs } }; segments = s.batches } };
 
-    ghost invariant = { λ s. IsSound s.schema s.own (rows_in s.batches) };
+    ghost invariant = { λ s. IsSoundStore s.schema s.own s.batches };
 }
 
 impl Store {
@@ -73,6 +78,20 @@ impl Store {
         })
     }
 
+    /// The store that has these parts.
+    pub(crate) fn from_parts(schema: Schema, own: Origin, batches: Batches, tombs: Tombs) -> Store
+        requires { IsSoundStore schema own batches }
+        ensures replica { result.replica ≡ record { schema = schema; own = own; state = record { batches = rows_in batches; deleted = tombs } } }
+        ensures segments { result.segments ≡ batches }
+    {
+        Store {
+            schema,
+            own,
+            batches,
+            tombs,
+        }
+    }
+
     /// The table's schema.
     pub fn schema(&self) -> &Schema
         ensures { result.now ≡ self.now.replica.schema }
@@ -92,6 +111,7 @@ impl Store {
     pub fn batches(&self) -> usize
         ensures value { result ≡ map.len self.now.replica.state.batches }
         ensures limit { result ≤ 65536 }
+        ensures within { IsWithinLimits self.now.replica.schema self.now.replica.state.batches }
     {
         self.batches.len()
     }
@@ -103,9 +123,22 @@ impl Store {
         ensures segment { slice_get (map.entries self.now.segments) index ≡ Some (result.0, result.1.now) }
         ensures proper { IsTrue (is_proper_name result.0) }
         ensures fits { IsBatch self.now.replica.schema result.1.now.rows }
+        ensures widths { widths_in result.1.now.forms ≡ widths_of self.now.replica.schema }
+        ensures valid { HasBytesIn self.now.replica.schema result.1.now }
     {
         let (name, segment) = &self.batches.entries()[index];
+        // `rows` ensures that a segment has bytes at its own lane widths.
+        let _rows = segment.rows();
         (*name, segment)
+    }
+
+    /// All batches, in ascending order of name.
+    pub fn entries(&self) -> &[(BatchName, Segment)]
+        ensures value { result.now ≡ map.entries self.now.segments }
+        ensures rows { self.now.replica.state.batches ≡ rows_in self.now.segments }
+        ensures stored { All (IsStored self.now.replica.schema) result.now }
+    {
+        self.batches.entries()
     }
 
     /// The deleted rows, held here or not.
@@ -184,8 +217,56 @@ impl Store {
         ensures segments { OnOk result (self.new.segments ≡ union_in self.old.segments other.now.segments) }
         ensures refused { OnErr result (self.new ≡ self.old) }
     {
-        self.merge_fault(other)?;
-        self.take_all(alloc, other)?;
+        self.merge_fault(&other.schema, other.batches.entries())?;
+        self.take_all(
+            alloc,
+            other.batches.entries(),
+            other.batches.names(),
+            &other.tombs,
+        )?;
+        Ok(())
+    }
+
+    /// The names of the batches that are held, by which another replica tells what to offer. `Memory` is answered where there is
+    /// none.
+    pub fn summary(&self, alloc: Global) -> Result<Summary, Refusal>
+        ensures { Gives (λ summary. summary) result (Ok (summary_of self.now.replica)) }
+    {
+        let schema = self.schema.copy(alloc)?;
+        let names = self.batches.names().copy(alloc)?;
+        Ok(Summary::from_parts(schema, names))
+    }
+
+    /// Copies of the batches whose names the summary lacks, as they are coded here, and of all deletions.
+    ///
+    /// Refused are, in this order: `SchemaDiffers`, `Memory`.
+    pub fn offer(&self, alloc: Global, summary: &Summary) -> Result<Offer, Refusal>
+        ensures state { Gives (λ offer. offer.state) result (offered self.now.replica summary.now) }
+        ensures schema { IfOk result (λ offer. offer.schema ≡ self.now.replica.schema) }
+        ensures segments { IfOk result (λ offer. offer.segments ≡ unlisted summary.now.names self.now.segments) }
+    {
+        if !self.schema.same(summary.schema()) {
+            return Err(Refusal::SchemaDiffers);
+        }
+        let schema = self.schema.copy(alloc)?;
+        let entries = copies_lacked(alloc, summary.names(), self.batches.entries())?;
+        let tombs = self.tombs.copy(alloc)?;
+        Ok(Offer::from_parts(schema, entries, tombs))
+    }
+
+    /// Takes in an offer's batches and deletions, as a merge with a store that has them. A batch that is held keeps its codings,
+    /// and one that comes has those of the offer.
+    ///
+    /// Refused are, in this order: `SchemaDiffers`, `Conflict` with the least name that has two lists of rows, `Full` where
+    /// the union has more than 65,536 batches, `Memory`. The own origin stays.
+    pub fn apply(&mut self, alloc: Global, offer: &Offer) -> Result<(), Refusal>
+        ensures acts { Acts (λ done. done) self.old.replica result self.new.replica (applied self.old.replica offer.now) }
+        ensures segments { OnOk result (self.new.segments ≡ union_in self.old.segments offer.now.segments) }
+        ensures refused { OnErr result (self.new ≡ self.old) }
+    {
+        self.merge_fault(offer.schema(), offer.entries())?;
+        let names = names_held(alloc, offer.entries())?;
+        self.take_all(alloc, offer.entries(), &names, offer.tombs())?;
         Ok(())
     }
 
@@ -277,32 +358,42 @@ impl Store {
         Ok(())
     }
 
-    /// Why a merge is refused, if it is.
+    /// Why batches of a table, which are in ascending order of name, are refused in a merge, if they are.
     #[tactic(auto, unfolding(crate::specs::Replica::merge_fault))]
-    fn merge_fault(&self, other: &Store) -> Result<(), Refusal>
-        ensures { result ≡ unless (merge_fault self.now.replica other.now.replica) }
+    fn merge_fault(&self, schema: &Schema, batches: &[(BatchName, Segment)]) -> Result<(), Refusal>
+        requires { T (map.is_sorted name_cmp batches.now) }
+        ensures { result ≡ unless (merge_fault self.now.replica (replica_with schema.now (rows_in (map.from_sorted batches.now)))) }
     {
-        if !self.schema.same(&other.schema) {
+        if !self.schema.same(schema) {
             return Err(Refusal::SchemaDiffers);
         }
-        if let Some(name) = self.batches.conflict_with(&other.batches) {
+        if let Some(name) = self.batches.conflict_with(batches) {
             return Err(Refusal::Conflict(name));
         }
-        if self.batches.union_exceeds(&other.batches, MAX_BATCHES) {
+        if self.batches.union_exceeds(batches, MAX_BATCHES) {
             return Err(Refusal::Full);
         }
         Ok(())
     }
 
-    /// Takes in the batches and deletions of another store, with which a merge isn't refused.
-    fn take_all(&mut self, alloc: Global, other: &Store) -> Result<(), AllocError>
-        requires { merge_fault self.old.replica other.now.replica ≡ None }
-        ensures ok { OnOk result (self.new.replica ≡ with_join self.old.replica other.now.replica) }
-        ensures segments { OnOk result (self.new.segments ≡ union_in self.old.segments other.now.segments) }
+    /// Takes in batches, which are in ascending order of name and have these names, and deletions.
+    fn take_all(
+        &mut self,
+        alloc: Global,
+        batches: &[(BatchName, Segment)],
+        names: &Held,
+        tombs: &Tombs,
+    ) -> Result<(), AllocError>
+        requires sorted { T (map.is_sorted name_cmp batches.now) }
+        requires names { names.now ≡ names_of (map.from_sorted batches.now) }
+        requires stored { AreStored self.old.replica.schema (map.from_sorted batches.now) }
+        requires limit { map.len (union_of self.old.replica.state.batches (rows_in (map.from_sorted batches.now))) ≤ 65536 }
+        ensures ok { OnOk result (self.new.replica ≡ joined_with self.old.replica (record { batches = rows_in (map.from_sorted batches.now); deleted = tombs.now })) }
+        ensures segments { OnOk result (self.new.segments ≡ union_in self.old.segments (map.from_sorted batches.now)) }
         ensures err { OnErr result (self.new ≡ self.old) }
     {
-        let tombs = self.tombs.joined(&other.tombs)?;
-        self.batches.join(alloc, &other.batches)?;
+        let tombs = self.tombs.joined(tombs)?;
+        self.batches.join(alloc, batches, names)?;
         self.tombs = tombs;
         Ok(())
     }

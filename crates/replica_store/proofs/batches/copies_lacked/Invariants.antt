@@ -4,4 +4,4 @@ use Rattle.replica_store.specs.Replica.{lacked_by}
 use Rattle.replica_store.proofs.batches.copies_lacked.Given as goal
 
 abbrev pub invariant-loop-name : goal.invariant-loop-name
-invariant-loop-name l = l.copies.items ++ lacked_by l.ours (drop l.name-index l.theirs) ≡ lacked_by l.ours l.theirs
+invariant-loop-name l = l.copies.items ++ lacked_by l.names (drop l.name-index l.batches) ≡ lacked_by l.names l.batches

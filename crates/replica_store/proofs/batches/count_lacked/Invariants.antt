@@ -5,6 +5,6 @@ use Rattle.replica_store.proofs.batches.count_lacked.Given as goal
 
 abbrev pub invariant-loop-name : goal.invariant-loop-name
 invariant-loop-name l = record {
-  counted : l.count + length (lacked_by l.ours (drop l.name-index l.theirs)) ≡ length (lacked_by l.ours l.theirs);
+  counted : l.count + length (lacked_by l.names (drop l.name-index l.batches)) ≡ length (lacked_by l.names l.batches);
   below : l.count ≤ l.name-index;
 }

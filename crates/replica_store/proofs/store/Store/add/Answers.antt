@@ -6,10 +6,11 @@ use Rattle.table_model.specs.Name.{name_cmp}
 use Rattle.table_model.specs.State.{Batch}
 use Rattle.table_model.specs.Table.{IsBatch, Table}
 use Rattle.segment_core.specs.Segment.{SegmentForm, canonical_segment}
-use Rattle.replica_store.specs.Replica.{Replica, IsSound, IsWithinLimits, with_batch}
-use Rattle.replica_store.specs.Segments.{StoreForm, rows_in}
+use Rattle.replica_store.specs.Replica.{Replica, IsWithinLimits, with_batch}
+use Rattle.replica_store.specs.Segments.{StoreForm, IsSoundStore, IsStored, AreStored, rows_in}
 use Rattle.replica_store.proofs.Limits.{IsWithinLimits-insert}
 use Rattle.replica_store.proofs.RowsIn.{rows_in-insert, unheld}
+use Rattle.replica_store.proofs.Stored.{AreStored-insert}
 use Rattle.replica_store.proofs.store.Store.add.Goals as goal
 
 pub build-requires : goal.build-requires
@@ -19,7 +20,7 @@ pub insert-requires-clause-new : goal.insert-requires-clause-new
 insert-requires-clause-new c = unheld c.self.inside.batches c.args.name (ap (λ (s : StoreForm). map.get s.replica.state.batches c.args.name) c.self.view_is ∙ c.requires.new)
 
 pub invariant_of-self : goal.invariant_of-self
-invariant_of-self c = subst (λ (m : map.FinMap name_cmp SegmentForm). IsSound c.self.inside.schema c.self.inside.own (rows_in m)) (sym c.in_err-insert.ensures.err) c.self.invariant
+invariant_of-self c = subst (λ (m : map.FinMap name_cmp SegmentForm). IsSoundStore c.self.inside.schema c.self.inside.own m) (sym c.in_err-insert.ensures.err) c.self.invariant
 
 pub invariant_of-self-2 : goal.invariant_of-self-2
 invariant_of-self-2 c =
@@ -27,10 +28,16 @@ invariant_of-self-2 c =
     let room : map.len (rows_in c.self.inside.batches) < 65536 = subst (λ (s : StoreForm). map.len s.replica.state.batches < 65536) (sym c.self.view_is) c.requires.room in
     let fit : IsBatch c.self.inside.schema c.args.rows.now = subst (λ (s : StoreForm). IsBatch s.replica.schema c.args.rows.now) (sym c.self.view_is) c.requires.fit in
     let all = ap rows_in c.in_ok-insert.ensures.ok ∙ rows_in-insert c.self.inside.batches c.args.name c.in_ok-segment.segment ∙ ap (λ (s : SegmentForm). map.insert (rows_in c.self.inside.batches) c.args.name s.rows) c.in_ok-segment.ensures.value in
+    let rows : c.in_ok-segment.segment.rows ≡ c.args.rows.now = ap (λ (s : SegmentForm). s.rows) c.in_ok-segment.ensures.value in
+    let new : IsStored c.self.inside.schema (c.args.name, c.in_ok-segment.segment) =
+    record { proper = c.requires.proper; fits = subst (IsBatch c.self.inside.schema) (sym rows) fit; widths = c.in_ok-segment.ensures.widths } in
     record {
-      own_proper = c.self.invariant.own_proper;
-      within = subst (λ (m : map.FinMap name_cmp Batch). IsWithinLimits c.self.inside.schema m) (sym all)
-          (IsWithinLimits-insert c.self.inside.schema (rows_in c.self.inside.batches) c.args.name c.args.rows.now c.self.invariant.within none room (record { proper = c.requires.proper; fits = fit }));
+      sound = record {
+        own_proper = c.self.invariant.sound.own_proper;
+        within = subst (λ (m : map.FinMap name_cmp Batch). IsWithinLimits c.self.inside.schema m) (sym all)
+            (IsWithinLimits-insert c.self.inside.schema (rows_in c.self.inside.batches) c.args.name c.args.rows.now c.self.invariant.sound.within none room (record { proper = c.requires.proper; fits = fit }));
+      };
+      stored = subst (AreStored c.self.inside.schema) (sym c.in_ok-insert.ensures.ok) (AreStored-insert c.self.inside.schema c.self.inside.batches c.args.name c.in_ok-segment.segment c.self.invariant.stored new);
     }
 
 pub returns-clause-ok : goal.returns-clause-ok

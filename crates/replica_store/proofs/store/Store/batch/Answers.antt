@@ -7,11 +7,11 @@ use Rattle.std.proofs.lemmas.Option.{slice_get_read}
 use Rattle.table_model.specs.Name.{name_cmp}
 use Rattle.table_model.specs.State.{Batch}
 use Rattle.table_model.specs.Table.{Table, IsBatch}
-use Rattle.segment_core.specs.Segment.{SegmentForm}
-use Rattle.replica_store.specs.Replica.{Replica, IsEntry, AllFit, entries_of}
+use Rattle.segment_core.specs.Segment.{SegmentForm, widths_of}
+use Rattle.replica_store.specs.Replica.{entries_of}
 use Rattle.replica_store.specs.Segments.{StoreForm, Entry, rows_in, rows_entries}
-use Rattle.replica_store.proofs.Limits.{IsEntry-at}
 use Rattle.replica_store.proofs.RowsIn.{entries-rows_in, len-rows_in, slice_get-rows}
+use Rattle.replica_store.proofs.Stored.{IsStored-at}
 use Rattle.replica_store.proofs.store.Store.batch.Goals as goal
 
 -- what is read at a place is the map's segment there
@@ -45,12 +45,25 @@ pub returns-clause-proper : goal.returns-clause-proper
 returns-clause-proper c =
     let below : c.args.index < map.len (rows_in c.self.inside.batches) = subst (λ (s : StoreForm). c.args.index < map.len s.replica.state.batches) (sym c.self.view_is) c.requires in
     let at = read c.self.inside.batches c.entries.result.now c.args.index c.index-entries-index.result c.entries.ensures below c.index-entries-index.is in
-    let here = IsEntry-at c.self.inside.schema (map.entries (rows_in c.self.inside.batches)) c.args.index _ c.self.invariant.within.fits (read_rows c.self.inside.batches c.args.index c.index-entries-index.result at) in
-    here.proper
+    let here = IsStored-at c.self.inside.schema c.self.inside.batches c.args.index c.index-entries-index.result c.self.invariant.stored at in here.proper
 
 pub returns-clause-fits : goal.returns-clause-fits
 returns-clause-fits c =
     let below : c.args.index < map.len (rows_in c.self.inside.batches) = subst (λ (s : StoreForm). c.args.index < map.len s.replica.state.batches) (sym c.self.view_is) c.requires in
     let at = read c.self.inside.batches c.entries.result.now c.args.index c.index-entries-index.result c.entries.ensures below c.index-entries-index.is in
-    let here = IsEntry-at c.self.inside.schema (map.entries (rows_in c.self.inside.batches)) c.args.index _ c.self.invariant.within.fits (read_rows c.self.inside.batches c.args.index c.index-entries-index.result at) in
+    let here = IsStored-at c.self.inside.schema c.self.inside.batches c.args.index c.index-entries-index.result c.self.invariant.stored at in
     subst (λ (s : StoreForm). IsBatch s.replica.schema c.index-entries-index.result.1.rows) c.self.view_is here.fits
+
+pub returns-clause-widths : goal.returns-clause-widths
+returns-clause-widths c =
+    let below : c.args.index < map.len (rows_in c.self.inside.batches) = subst (λ (s : StoreForm). c.args.index < map.len s.replica.state.batches) (sym c.self.view_is) c.requires in
+    let at = read c.self.inside.batches c.entries.result.now c.args.index c.index-entries-index.result c.entries.ensures below c.index-entries-index.is in
+    let here = IsStored-at c.self.inside.schema c.self.inside.batches c.args.index c.index-entries-index.result c.self.invariant.stored at in
+    here.widths ∙ ap (λ (s : StoreForm). widths_of s.replica.schema) c.self.view_is
+
+pub returns-clause-valid : goal.returns-clause-valid
+returns-clause-valid c =
+    let below : c.args.index < map.len (rows_in c.self.inside.batches) = subst (λ (s : StoreForm). c.args.index < map.len s.replica.state.batches) (sym c.self.view_is) c.requires in
+    let at = read c.self.inside.batches c.entries.result.now c.args.index c.index-entries-index.result c.entries.ensures below c.index-entries-index.is in
+    let here = IsStored-at c.self.inside.schema c.self.inside.batches c.args.index c.index-entries-index.result c.self.invariant.stored at in
+    c.rows-rows.ensures.valid c.args.self.now.replica.schema (here.widths ∙ ap (λ (s : StoreForm). widths_of s.replica.schema) c.self.view_is)

@@ -8,11 +8,11 @@ use Rattle.replica_store.proofs.RowsIn.{entries-rows_in, len-rows_in, live-rows,
 use Rattle.replica_store.proofs.store.Store.live_count.Goals as goal
 
 pub count_live-requires-clause-limit : goal.count_live-requires-clause-limit
-count_live-requires-clause-limit c = let all = map.len-entries c.self.inside.batches in omega (arith, all, len-rows_in c.self.inside.batches, ap length c.entries.ensures, c.self.invariant.within.limit)
+count_live-requires-clause-limit c = let all = map.len-entries c.self.inside.batches in omega (arith, all, len-rows_in c.self.inside.batches, ap length c.entries.ensures, c.self.invariant.sound.within.limit)
 
 pub count_live-requires-clause-short : goal.count_live-requires-clause-short
 count_live-requires-clause-short c =
-    let all = AllShort-fit c.self.inside.schema (map.entries (rows_in c.self.inside.batches)) c.self.invariant.within.fits in
+    let all = AllShort-fit c.self.inside.schema (map.entries (rows_in c.self.inside.batches)) c.self.invariant.sound.within.fits in
     subst AreShort (sym c.entries.ensures) (short-rows (map.entries c.self.inside.batches) (subst AllShort (entries-rows_in c.self.inside.batches) all))
 
 pub returns : goal.returns

@@ -29,7 +29,7 @@ returns-then-has_vector-clause-value c =
     let r : Replica = record { schema = c.self.inside.schema; own = c.self.inside.own; state = record { batches = rows_in c.self.inside.batches; deleted = c.self.inside.tombs } } in
     let there : HasVector c.in-Some.segment.now c.args.column c.args.vector true = subst (HasVector c.in-Some.segment.now c.args.column c.args.vector) c.if-has_vector.true c.has_vector.ensures in
     sym (ap unless (ap (λ (s : StoreForm). recode_fault s.replica c.args.name c.args.column c.args.vector) (sym c.self.view_is)
-    ∙ fault_found r c.args.name c.args.column c.args.vector c.in-Some.segment.now true c.self.invariant.within.fits (get-rows_in c.self.inside.batches c.args.name ∙ ap (option_map rows) has) there))
+    ∙ fault_found r c.args.name c.args.column c.args.vector c.in-Some.segment.now true c.self.invariant.sound.within.fits (get-rows_in c.self.inside.batches c.args.name ∙ ap (option_map rows) has) there))
 
 pub returns-then-has_vector-clause-there : goal.returns-then-has_vector-clause-there
 returns-then-has_vector-clause-there c = λ coding.
@@ -43,7 +43,7 @@ returns-else-has_vector-clause-value c =
     let r : Replica = record { schema = c.self.inside.schema; own = c.self.inside.own; state = record { batches = rows_in c.self.inside.batches; deleted = c.self.inside.tombs } } in
     let missing : HasVector c.in-Some.segment.now c.args.column c.args.vector false = subst (HasVector c.in-Some.segment.now c.args.column c.args.vector) c.if-has_vector.false c.has_vector.ensures in
     sym (ap unless (ap (λ (s : StoreForm). recode_fault s.replica c.args.name c.args.column c.args.vector) (sym c.self.view_is)
-    ∙ fault_found r c.args.name c.args.column c.args.vector c.in-Some.segment.now false c.self.invariant.within.fits (get-rows_in c.self.inside.batches c.args.name ∙ ap (option_map rows) has) missing))
+    ∙ fault_found r c.args.name c.args.column c.args.vector c.in-Some.segment.now false c.self.invariant.sound.within.fits (get-rows_in c.self.inside.batches c.args.name ∙ ap (option_map rows) has) missing))
 
 pub returns-else-has_vector-clause-missing : goal.returns-else-has_vector-clause-missing
 returns-else-has_vector-clause-missing c = λ coding.

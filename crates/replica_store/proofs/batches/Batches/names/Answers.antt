@@ -1,0 +1,7 @@
+-- The names are kept beside the batches.
+use Rattle.std.proofs.Common.{ap, ◌∙◌}
+use Rattle.replica_store.specs.Replica.{names_of}
+use Rattle.replica_store.proofs.batches.Batches.names.Goals as goal
+
+pub returns : goal.returns
+returns c = c.self.invariant.names ∙ ap names_of c.self.view_is

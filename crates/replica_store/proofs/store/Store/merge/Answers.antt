@@ -1,0 +1,91 @@
+-- The other side's batches are the entries that were handed in.
+use Rattle.std.specs.Prelude.{◌≡◌, ◌≤◌, T, List, Ok, Err, Result}
+use Rattle.std.proofs.Common.{refl, sym, ap, subst, ◌∙◌, inl, inr}
+use Rattle.std.proofs.lemmas.Result.{err_from_is_err_and}
+use Rattle.std.specs.FinMap as map
+use Rattle.table_model.specs.Name.{name_cmp}
+use Rattle.table_model.specs.State.{State, union_of}
+use Rattle.table_model.specs.Table.{Table}
+use Rattle.table_model.specs.declared.refusal.Refusal.{Refusal}
+use Rattle.segment_core.specs.Segment.{SegmentForm}
+use Rattle.replica_store.specs.Replica.{Replica, joined_with, names_of}
+use Rattle.replica_store.specs.Segments.{StoreForm, Entry, AreStored, rows_in, union_in}
+use Rattle.replica_store.proofs.Joining.{refused_merged, joined_merged, ok_merged, mergeable}
+use Rattle.replica_store.proofs.Maps.{as_map}
+use Rattle.replica_store.proofs.Merges.{map_of_entries}
+use Rattle.replica_store.proofs.store.Store.merge.Goals as goal
+
+-- the entries of a map are it
+whole : (m : map.FinMap name_cmp SegmentForm) (es : List Entry) → es ≡ map.entries m → as_map es ≡ m
+whole m es is = ap as_map is ∙ map_of_entries m
+
+in_order : (m : map.FinMap name_cmp SegmentForm) (es : List Entry) → es ≡ map.entries m → T (map.is_sorted name_cmp es)
+in_order m es is = subst (λ (xs : List Entry). T (map.is_sorted name_cmp xs)) (sym is) (map.entries_sorted m)
+
+-- the state's batches are their rows
+rows_are : (s : StoreForm) (m : map.FinMap name_cmp SegmentForm) (es : List Entry) → s.replica.state.batches ≡ rows_in m → es ≡ map.entries m → s.replica.state.batches ≡ rows_in (as_map es)
+rows_are s m es rows is = rows ∙ ap rows_in (sym (whole m es is))
+
+pub merge_fault-requires : goal.merge_fault-requires
+merge_fault-requires c = in_order c.other.inside.batches c.entries.result.now c.entries.ensures
+
+pub returns-in_err-merge_fault-clause-acts : goal.returns-in_err-merge_fault-clause-acts
+returns-in_err-merge_fault-clause-acts c =
+    let es = c.entries.result.now in
+    let p = err_from_is_err_and c.from_residual.result c.from_residual.ensures.1 in
+    rw (p.1, p.2) (
+      refl,
+      inl (refused_merged c.args.self.now.replica c.args.other.now.replica c.other.inside.schema (rows_in (as_map es)) c.in_err-merge_fault.field-0.0 (ap (λ (s : StoreForm). s.replica.schema) (sym c.other.view_is))
+          (rows_are c.args.other.now c.other.inside.batches es (ap (λ (s : StoreForm). s.replica.state.batches) (sym c.other.view_is)) c.entries.ensures) c.in_err-merge_fault.ensures),
+    )
+
+pub take_all-requires-clause-sorted : goal.take_all-requires-clause-sorted
+take_all-requires-clause-sorted c = in_order c.other.inside.batches c.entries-2.result.now c.entries-2.ensures
+
+pub take_all-requires-clause-names : goal.take_all-requires-clause-names
+take_all-requires-clause-names c = c.names.ensures ∙ ap names_of (sym (whole c.other.inside.batches c.entries-2.result.now c.entries-2.ensures))
+
+pub take_all-requires-clause-stored : goal.take_all-requires-clause-stored
+take_all-requires-clause-stored c =
+    let fine = mergeable c.args.self.now.replica c.other.inside.schema (rows_in (as_map c.entries.result.now)) c.in_ok-merge_fault.field-0 c.in_ok-merge_fault.ensures in
+    subst (λ (t : Table). AreStored t (as_map c.entries-2.result.now)) (sym fine.schema)
+    (subst (AreStored c.other.inside.schema) (sym (whole c.other.inside.batches c.entries-2.result.now c.entries-2.ensures)) c.other.invariant.stored)
+
+pub take_all-requires-clause-limit : goal.take_all-requires-clause-limit
+take_all-requires-clause-limit c =
+    let r = c.args.self.now.replica in
+    let fine = mergeable r c.other.inside.schema (rows_in (as_map c.entries.result.now)) c.in_ok-merge_fault.field-0 c.in_ok-merge_fault.ensures in
+    subst (λ (es : List Entry). map.len (union_of r.state.batches (rows_in (as_map es))) ≤ 65536) (c.entries.ensures ∙ sym c.entries-2.ensures) fine.limit
+
+pub returns-in_err-take_all-clause-acts : goal.returns-in_err-take_all-clause-acts
+returns-in_err-take_all-clause-acts c =
+    let es = c.entries.result.now in
+    let p = err_from_is_err_and c.from_residual-in_err-take_all.result c.from_residual-in_err-take_all.ensures.1 in
+    rw p.1 (
+      ap (λ (s : StoreForm). s.replica) c.in_err-take_all.ensures.err,
+      inr (
+        p.2,
+        ok_merged c.args.self.now.replica c.args.other.now.replica c.other.inside.schema (rows_in (as_map es)) c.in_ok-merge_fault.field-0 (ap (λ (s : StoreForm). s.replica.schema) (sym c.other.view_is))
+            (rows_are c.args.other.now c.other.inside.batches es (ap (λ (s : StoreForm). s.replica.state.batches) (sym c.other.view_is)) c.entries.ensures) c.in_ok-merge_fault.ensures,
+      ),
+    )
+
+pub returns-clause-acts : goal.returns-clause-acts
+returns-clause-acts c =
+    let es = c.entries.result.now in
+    let r = c.args.self.now.replica in
+    let theirs = c.args.other.now.replica.state in
+    let made : joined_with r theirs ≡ c.take_all.new.self.replica =
+    (λ i. joined_with r (record {
+      batches = rows_are c.args.other.now c.other.inside.batches c.entries-2.result.now (ap (λ (s : StoreForm). s.replica.state.batches) (sym c.other.view_is)) c.entries-2.ensures i;
+      deleted = (sym c.other.view_is i).replica.state.deleted;
+    }))
+    ∙ sym c.in_ok-take_all.ensures.ok in
+    joined_merged r c.args.other.now.replica c.other.inside.schema (rows_in (as_map es)) c.in_ok-merge_fault.field-0 (ap (λ (s : StoreForm). s.replica.schema) (sym c.other.view_is))
+    (rows_are c.args.other.now c.other.inside.batches es (ap (λ (s : StoreForm). s.replica.state.batches) (sym c.other.view_is)) c.entries.ensures) c.in_ok-merge_fault.ensures
+    ∙ ap (λ (x : Replica). let ok : Result (Unit {0} × Replica) Refusal = Ok (tt, x) in ok) made
+
+pub returns-clause-segments : goal.returns-clause-segments
+returns-clause-segments c =
+    c.in_ok-take_all.ensures.segments
+    ∙ ap (union_in c.args.self.now.segments) (whole c.other.inside.batches c.entries-2.result.now c.entries-2.ensures ∙ ap (λ (s : StoreForm). s.segments) c.other.view_is)
