@@ -11,7 +11,7 @@ use Rattle.segment_core.proofs.FormatLaws.{seen_is_lawful, checked_is_lawful, be
 use Rattle.segment_core.proofs.NumberLaws.{number_is_lawful}
 use Rattle.segment_core.proofs.SegmentLaws.{batch_columns_are_lawful}
 use Rattle.column_file.specs.SummaryBytes.{head, any_name, batch_name, name_count}
-use Rattle.column_file.specs.ContainerBytes.{one_less, row_count, Entry, name_of, batch, batches, Deleted, is_named, is_range, begins_after, range, ranges, container}
+use Rattle.column_file.specs.ContainerBytes.{one_less, row_count, Entry, name_of, batch, batches, Deleted, is_named, is_range, begins_after, range_parts, range, ranges, container}
 use Rattle.column_file.proofs.SummaryLaws.{head_is_lawful, any_name_is_lawful, batch_name_is_lawful, name_count_is_lawful}
 
 some_is : {A : Type 0} (x y : A) → Some x ≡ Some y → x ≡ y
@@ -50,15 +50,18 @@ pub batches_is_lawful : (table : Table) → IsLawful (batches table)
 unfolding batches
 batches_is_lawful table = counted_is_lawful name_count (batch table) name_count_is_lawful (batch_is_lawful table)
 
+pub range_parts_is_lawful : IsLawful range_parts
+unfolding range_parts
+range_parts_is_lawful =
+    let ordinals : BatchName → Format (ℕ × ℕ) = λ _. before (number 2) (λ _. number 2) in
+    before_is_lawful any_name ordinals any_name_is_lawful (λ n valid. before_is_lawful (number 2) (λ _. number 2) (number_is_lawful 2) (λ x v. number_is_lawful 2))
+
 pub range_is_lawful : (front : List Deleted) → IsLawful (range front)
 unfolding range
 range_is_lawful front =
-    let ordinals : BatchName → Format (ℕ × ℕ) = λ _. before (number 2) (λ _. number 2) in
-    let parts = before any_name ordinals in
-    let law = before_is_lawful any_name ordinals any_name_is_lawful (λ n valid. before_is_lawful (number 2) (λ _. number 2) (number_is_lawful 2) (λ x v. number_is_lawful 2)) in
-    let named = checked parts is_named (λ _. BadName) in
+    let named = checked range_parts is_named (λ _. BadName) in
     let ordered = checked named is_range BadRange in
-    checked_is_lawful ordered (begins_after front) BadOrder (checked_is_lawful named is_range BadRange (checked_is_lawful parts is_named (λ _. BadName) law))
+    checked_is_lawful ordered (begins_after front) BadOrder (checked_is_lawful named is_range BadRange (checked_is_lawful range_parts is_named (λ _. BadName) range_parts_is_lawful))
 
 pub ranges_is_lawful : IsLawful ranges
 unfolding ranges

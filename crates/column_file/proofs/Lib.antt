@@ -2,3 +2,16 @@ pub mod SchemaLaws
 pub mod SchemaReading
 pub mod SummaryLaws
 pub mod ContainerLaws
+pub mod SchemaWriting
+pub mod Inputs
+pub mod FitLemmas
+pub mod ContainerReading
+pub mod OrderedLists
+pub mod SummaryWriting
+pub mod FaultsOfBytes
+pub mod ContainerWriting
+pub mod RangeLists
+pub mod OfferReading
+pub mod CanonicalWriting
+pub mod Openings
+pub mod FileLaws

@@ -29,7 +29,7 @@ word_bytes_below [] i e = omega arith
 word_bytes_below (b ∷ bs) zero e = word_byte_below b (and_parts (is_word_byte b) (list_all is_word_byte bs) e).0
 word_bytes_below (b ∷ bs) (suc i) e = word_bytes_below bs i (and_parts (is_word_byte b) (list_all is_word_byte bs) e).1
 
-word_below : (bs : List ℕ) (i : ℕ) → is_word bs ≡ true → slice_index bs i < 128
+pub word_below : (bs : List ℕ) (i : ℕ) → is_word bs ≡ true → slice_index bs i < 128
 word_below [] i e = omega arith
 word_below (b ∷ bs) zero e = letter_below b (and_parts (is_ascii_alphabetic b) (list_all is_word_byte bs && _) e).0
 word_below (b ∷ bs) (suc i) e =

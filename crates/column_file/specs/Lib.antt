@@ -1,3 +1,6 @@
 pub mod SchemaBytes
 pub mod SummaryBytes
 pub mod ContainerBytes
+pub mod Input
+pub mod Ordered
+pub mod Files

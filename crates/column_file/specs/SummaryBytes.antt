@@ -1,10 +1,14 @@
 -- A summary in bytes: what a replica holds, as its table's schema and the names of its batches.
-use Rattle.std.specs.Prelude.{ℕ, ◌-◌, nat_le, nat_lt, Bool, ◌&&◌, ◌||◌, ◌==◌, List, length, slice_index_or, codes, Some}
-use Rattle.table_model.specs.Name.{is_proper_name}
+use Rattle.std.specs.Prelude.{ℕ, ◌-◌, nat_le, nat_lt, Bool, ◌&&◌, ◌||◌, ◌==◌, List, length, slice_index_or, codes, Some, Result, Ok}
+use Rattle.std.specs.FinSet as set
+use Rattle.column_file.specs.Ordered.{in_order}
+use Rattle.table_model.specs.Name.{name_cmp, is_proper_name}
 use Rattle.table_model.specs.Table.{Table}
 use Rattle.table_model.specs.declared.names.BatchName.{BatchName}
+use Rattle.table_model.specs.declared.refusal.Refusal.{Refusal}
 use Rattle.table_model.specs.declared.refusal.Refusal.TheVariants.{BadMagic, BadVersion, BadName, BadOrder, BadCount}
-use Rattle.segment_core.specs.Format.{Format, IsLawful, seen, checked, before, all, number, constant}
+use Rattle.segment_core.specs.Format.{Format, IsLawful, seen, checked, before, all, number, constant, read_whole, ◌>>=◌}
+use Rattle.replica_store.specs.Exchange.{SummaryForm}
 use Rattle.column_file.specs.SchemaBytes.{schema}
 
 -- the version of all formats
@@ -46,6 +50,18 @@ names = seen (before name_count (λ n. all n batch_name)) (λ p. p.1) (λ found.
 -- a summary: a schema and names
 unfoldable pub summary : Format (Table × List BatchName)
 summary = before (head (codes "FLSM")) (λ _. names)
+
+-- the bytes of a summary: its names in ascending order
+abbrev pub summary_bytes : SummaryForm → List ℕ
+summary_bytes s = summary.spell (s.schema, in_order name_cmp s.names)
+
+-- the summary of a schema and names
+abbrev pub summary_listed : Table × List BatchName → SummaryForm
+summary_listed p = record { schema = p.0; names = set.from_list p.1 }
+
+-- the summary that bytes are, or their first fault
+abbrev pub summary_read : List ℕ → Result SummaryForm Refusal
+summary_read bytes = read_whole summary bytes >>= λ p. Ok (summary_listed p)
 
 -- what is read of a summary is spelled so and valid, and what is valid and spelled so is read
 abbrev pub SummariesComeBack : Type 0

@@ -1,5 +1,6 @@
 //! The laws of the formats of files and messages.
 ghost use Rattle.column_file.specs.ContainerBytes.{ContainersComeBack};
+ghost use Rattle.column_file.specs.Files.{FilesOpen, SameFileSameState};
 ghost use Rattle.column_file.specs.SchemaBytes.{SchemasComeBack};
 ghost use Rattle.column_file.specs.SummaryBytes.{SummariesComeBack};
 
@@ -16,4 +17,11 @@ pub fn summaries_and_bytes_come_back()
 /// The law that a container and its bytes give each other back.
 pub fn containers_and_bytes_come_back()
     ensures { ContainersComeBack }
+{}
+
+/// The law that a canonical file opens to the table and the state that it was exported from, and that no other table or state has
+/// it.
+pub fn files_and_states_come_back()
+    ensures opens { FilesOpen }
+    ensures same { SameFileSameState }
 {}

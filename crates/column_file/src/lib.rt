@@ -1,16 +1,31 @@
 //! Files and messages: a table's schema, what a replica holds, and its batches and deletions, in bytes.
 #![tactic(auto)]
 
+mod canonical_writing;
+mod container_reading;
+mod container_writing;
+mod input;
 mod laws;
-mod parts;
+mod offer_reading;
+mod offer_writing;
+mod opening;
 mod schema_reading;
+mod schema_writing;
 mod summary_reading;
+mod summary_writing;
 
+pub use canonical_writing::export;
 pub use laws::{
-    containers_and_bytes_come_back, schemas_and_bytes_come_back, summaries_and_bytes_come_back,
+    containers_and_bytes_come_back, files_and_states_come_back, schemas_and_bytes_come_back,
+    summaries_and_bytes_come_back,
 };
+pub use offer_reading::read_offer;
+pub use offer_writing::write_offer;
+pub use opening::{Checked, check, open};
 pub use schema_reading::read_schema;
-pub use summary_reading::read_summary_bytes;
+pub use schema_writing::write_schema;
+pub use summary_reading::{read_summary, read_summary_bytes};
+pub use summary_writing::write_summary;
 
 #[cfg(test)]
 mod tests;

@@ -5,7 +5,7 @@ ghost use Rattle.table_model.specs.Table.{has_name, ColumnShape};
 ghost use Rattle.segment_core.specs.Format.{Format, Reads, all};
 ghost use Rattle.column_file.specs.SchemaBytes.{text, is_upper, is_name, name, column_type, shape_of, column, column_count, schema};
 
-use crate::parts::{place_of, read_number};
+use segment_core::{place_of, read_number};
 use std::alloc::Global;
 use table_model::{ColType, Refusal, Schema, is_identifier, same_word};
 

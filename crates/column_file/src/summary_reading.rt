@@ -1,16 +1,25 @@
 //! Reading a summary from bytes: its own four bytes, the version, a schema, and names in strictly ascending order.
-ghost use Rattle.std.specs.Prelude.{◌≡◌, ◌-◌, ◌^◌, ◌<◌, ◌≤◌, length, codes};
+ghost use Rattle.std.specs.Prelude.{◌≡◌, ◌-◌, ◌^◌, ◌<◌, ◌≤◌, length, codes, IsTrue, IfOk, IfErr, OnOk};
+ghost use Rattle.std.specs.List.{All};
+ghost use Rattle.std.specs.FinSet as set;
+ghost use Rattle.std.specs.Io.KnownBytes.{IsAtEnd};
+ghost use Rattle.table_model.specs.Faults.{IsWithin, GaveMore};
 ghost use Rattle.table_model.specs.Name.{is_proper_name};
 ghost use Rattle.segment_core.specs.Format.{Format, Reads, number, all, constant, same_bytes, read_whole};
-ghost use Rattle.column_file.specs.SummaryBytes.{version, head, proper_name, precedes, is_after, batch_name, name_count, names, summary};
+ghost use Rattle.column_file.specs.SummaryBytes.{version, head, proper_name, precedes, is_after, batch_name, name_count, names, summary, summary_read};
+ghost use Rattle.column_file.specs.Input.{Judges, CountsFailure, is_refusal_of_reading};
 
-use crate::parts::{place_of, read_number};
+use crate::input::read_input;
 use crate::schema_reading::read_schema;
-use std::alloc::Global;
-use table_model::{BatchName, Number, Origin, Refusal, Schema};
+use catalogue_join::Held;
+use replica_store::Summary;
+use segment_core::{place_of, read_number};
+use std::alloc::{AllocError, Global};
+use std::io::Read;
+use table_model::{BatchName, Counted, Number, Origin, Refusal, Schema};
 
 /// What a summary begins with.
-const SUMMARY: [u8; 4] = *b"FLSM";
+pub(crate) const SUMMARY: [u8; 4] = *b"FLSM";
 
 /// Whether two texts are the same, byte for byte.
 fn same_bytes(a: &[u8], b: &[u8]) -> bool
@@ -53,7 +62,7 @@ fn read_version(total: usize, bytes: &[u8]) -> Result<(u64, &[u8]), Refusal>
 
 /// The schema that a format begins with, after its own bytes and the version, and what stands after it.
 #[tactic(auto, unfolding(crate::specs::SummaryBytes::head))]
-fn read_head<'a>(
+pub(crate) fn read_head<'a>(
     alloc: Global,
     total: usize,
     bytes: &'a [u8],
@@ -68,7 +77,7 @@ fn read_head<'a>(
 
 /// The proper name at the front, and what stands after it.
 #[tactic(auto, unfolding(crate::specs::SummaryBytes::proper_name, crate::specs::SummaryBytes::any_name))]
-fn read_proper_name(total: usize, bytes: &[u8]) -> Result<(BatchName, &[u8]), Refusal>
+pub(crate) fn read_proper_name(total: usize, bytes: &[u8]) -> Result<(BatchName, &[u8]), Refusal>
     ensures { Reads (λ x. (x.0, x.1.now)) result (proper_name.read total bytes.now) }
 {
     let (origin, after_origin) = read_number(total, bytes, 4)?;
@@ -84,7 +93,7 @@ fn read_proper_name(total: usize, bytes: &[u8]) -> Result<(BatchName, &[u8]), Re
 }
 
 /// Whether a name comes before another, by origin and then by number.
-fn precedes(a: BatchName, b: BatchName) -> bool
+pub(crate) fn precedes(a: BatchName, b: BatchName) -> bool
     ensures { result ≡ precedes a b }
 {
     a.origin.0 < b.origin.0 || a.origin.0 == b.origin.0 && a.number.0 < b.number.0
@@ -134,7 +143,7 @@ fn read_batch_names(
 
 /// How many names there are, at most 65,536, and what stands after that.
 #[tactic(auto, unfolding(crate::specs::SummaryBytes::name_count))]
-fn read_name_count(total: usize, bytes: &[u8]) -> Result<(usize, &[u8]), Refusal>
+pub(crate) fn read_name_count(total: usize, bytes: &[u8]) -> Result<(usize, &[u8]), Refusal>
     ensures { Reads (λ x. (x.0, x.1.now)) result (name_count.read total bytes.now) }
 {
     let (count, rest) = read_number(total, bytes, 4)?;
@@ -167,4 +176,42 @@ pub fn read_summary_bytes(alloc: Global, bytes: &[u8]) -> Result<(Schema, Vec<Ba
         return Err(Refusal::TrailingBytes(place_of(total, rest)));
     }
     Ok((schema, names))
+}
+
+/// The set of some names, all of them proper.
+fn held_of(alloc: Global, names: &[BatchName]) -> Result<Held, AllocError>
+    requires { All (λ name. IsTrue (is_proper_name name)) names.now }
+    ensures { IfOk result (λ held. held ≡ set.from_list names.now) }
+{
+    let mut held = Held::new(alloc);
+    for name in names {
+        held.insert(*name)?;
+    }
+    Ok(held)
+}
+
+/// The summary that bytes are. Refused is their first fault, or a want of memory, which may come in the place of any of them.
+fn summary_in(alloc: Global, bytes: &[u8]) -> Result<Summary, Refusal>
+    ensures { Reads (λ x. x) result (summary_read bytes.now) }
+{
+    let (schema, names) = read_summary_bytes(alloc, bytes)?;
+    let held = held_of(alloc, names.as_slice())?;
+    Ok(Summary::from_parts(schema, held))
+}
+
+/// The summary that a reader has, which is read to its end first.
+///
+/// Refused are `ReadFault` where a read fails or more than 2^48 bytes come, and then the first fault of the bytes: `Truncated`,
+/// `BadMagic`, `BadVersion`, `BadSchema`, `BadName`, `BadCount`, `BadOrder` or `TrailingBytes`. It grows as it reads, so `Memory`
+/// may come in the place of any of them.
+pub fn read_summary<R: Read>(alloc: Global, reader: &mut Counted<R>) -> Result<Summary, Refusal>
+    ensures read { Judges (λ x. x) result (R.remaining reader.old.0) summary_read }
+    ensures refused { IfErr result (λ e. IsTrue (is_refusal_of_reading e)) }
+    ensures end { OnOk result (IsAtEnd (R.remaining reader.new.0)) }
+    ensures within { OnOk result (IsWithin (R.remaining reader.old.0)) }
+    ensures kept { OnOk result (reader.new.1 ≡ reader.old.1) }
+    ensures fault { IfErr result (λ e. CountsFailure (GaveMore (R.remaining reader.old.0) (R.remaining reader.new.0)) e reader.old.1 reader.new.1) }
+{
+    let input = read_input(alloc, reader)?;
+    summary_in(alloc, input.as_slice())
 }

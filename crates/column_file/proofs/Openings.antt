@@ -1,0 +1,186 @@
+-- Whether bytes are the canonical file of what they hold, and what an open makes of them.
+use Rattle.std.proofs.Common.{◌≡◌, ◌≢◌, ℕ, zero, suc, ◌+◌, ◌-◌, ◌<◌, ◌≤◌, Bool, true, false, cond, ◌&&◌, eqb, IsTrue, All, List, [], ◌∷◌, ◌++◌, map, length, get_or, take, drop, min, Option, Some, None, Result, Ok, Err, IsOk, ◌⊎◌, inl, inr, refl, sym, ap, subst, ◌∙◌, arith}
+use Rattle.std.specs.FinMap as finite
+use Rattle.std.specs.List.{AllByRecursion}
+use Rattle.std.proofs.lemmas.Bool.{and_parts, and_from, eqb-true, eq-eqb}
+use Rattle.std.proofs.lemmas.Bool.Decides.{nat_tests}
+use Rattle.std.proofs.lemmas.List.{drop_more, drop_all, append-nil, take_more, take_all}
+use Rattle.table_model.specs.Outcome.{Gives}
+use Rattle.table_model.specs.Table.{Table}
+use Rattle.table_model.specs.declared.names.Origin.{Origin}
+use Rattle.table_model.specs.declared.names.BatchName.{BatchName}
+use Rattle.table_model.specs.declared.refusal.Refusal.{Refusal}
+use Rattle.table_model.specs.declared.refusal.Refusal.TheVariants.{Memory, BadName, NotCanonical}
+use Rattle.catalogue_join.specs.RowRange.{RowRange, AreMaximal, rows_in as rows_deleted}
+use Rattle.segment_core.specs.Format.{Format, AreBytes, Reads, same_bytes, read_whole, ◌>>=◌}
+use Rattle.segment_core.specs.Segment.{SegmentForm, widths_in, widths_of, canonical_forms}
+use Rattle.replica_store.specs.Segments.{Entry as Held, IsStored, rows_in, rows_entries}
+use Rattle.replica_store.specs.Replica.{Replica}
+use Rattle.replica_store.specs.Exchange.{OfferForm, AreOffered, offering, opened}
+use Rattle.column_file.specs.ContainerBytes.{Entry, entry_of, deleted_of, container, IsFound}
+use Rattle.column_file.specs.Files.{ranges_of, canonical_as_read, canonical_file, first_difference, judged, offer_read, offer_held, canonical_read, opened_from, checked_from, IsCanonicalHeld, is_same_range}
+use Rattle.column_file.specs.Input.{Judges}
+use Rattle.column_file.proofs.ContainerLaws.{container_is_lawful}
+use Rattle.column_file.proofs.CanonicalWriting.{canonical_spelled}
+use Rattle.column_file.proofs.FaultsOfBytes.{Judged, then_judged, offer_read_judged}
+use Rattle.column_file.proofs.RangeLists.{ranges_are}
+use Rattle.column_file.proofs.SummaryWriting.{whole_read}
+
+-- ---- the first place that differs
+
+pub same_itself : (xs : List ℕ) → same_bytes xs xs ≡ true
+same_itself [] = refl
+same_itself (x ∷ xs) = and_from (eqb x x) (same_bytes xs xs) (eq-eqb x x refl) (same_itself xs)
+
+-- equal numbers at a place: the difference is further on
+pub goes_on : (a b : List ℕ) (i : ℕ) (d : ℕ) → i < length a → i < length b → get_or a i d ≡ get_or b i d → first_difference a b ≡ i + first_difference (drop i a) (drop i b) → first_difference a b ≡ (i + 1) + first_difference (drop (i + 1) a) (drop (i + 1) b)
+goes_on a b i d in_a in_b same so_far =
+    let one : first_difference (drop i a) (drop i b) ≡ suc (first_difference (drop (i + 1) a) (drop (i + 1) b)) =
+    (λ k. first_difference (drop_more a i d in_a k) (drop_more b i d in_b k)) ∙ alike (get_or a i d) (get_or b i d) (drop (i + 1) a) (drop (i + 1) b) same in
+    omega (arith, so_far, one)
+  where
+    alike : (x y : ℕ) (xs ys : List ℕ) → x ≡ y → first_difference (x ∷ xs) (y ∷ ys) ≡ suc (first_difference xs ys)
+    alike x y xs ys e = ap (λ (b : Bool). cond b (suc (first_difference xs ys)) 0) (eq-eqb x y e)
+
+-- different numbers at a place
+pub differs_here : (a b : List ℕ) (i : ℕ) (d : ℕ) → i < length a → i < length b → get_or a i d ≢ get_or b i d → first_difference a b ≡ i + first_difference (drop i a) (drop i b) → i ≡ first_difference a b
+differs_here a b i d in_a in_b differ so_far =
+    let one : first_difference (drop i a) (drop i b) ≡ 0 =
+    (λ k. first_difference (drop_more a i d in_a k) (drop_more b i d in_b k)) ∙ unlike (get_or a i d) (get_or b i d) (drop (i + 1) a) (drop (i + 1) b) differ in
+    omega (arith, so_far, one)
+  where
+    test : (x y : ℕ) → x ≢ y → eqb x y ≡ false
+    test x y h = grind (arith, nat_tests)
+
+    unlike : (x y : ℕ) (xs ys : List ℕ) → x ≢ y → first_difference (x ∷ xs) (y ∷ ys) ≡ 0
+    unlike x y xs ys h = ap (λ (b : Bool). cond b (suc (first_difference xs ys)) 0) (test x y h)
+
+none_left : (xs : List ℕ) → first_difference xs [] ≡ 0
+none_left [] = refl
+none_left (x ∷ xs) = refl
+
+-- one text ended
+pub ends_here : (a b : List ℕ) (i : ℕ) → i ≡ min (length a) (length b) → first_difference a b ≡ i + first_difference (drop i a) (drop i b) → i ≡ first_difference a b
+ends_here a b i is so_far =
+    let none : first_difference (drop i a) (drop i b) ≡ 0 = go (shorter (length a) (length b) is) in
+    omega (arith, so_far, none)
+  where
+    shorter : (m n : ℕ) → i ≡ min m n → (m ≤ i) ⊎ (n ≤ i)
+    shorter m n e = grind arith
+
+    go : (length a ≤ i) ⊎ (length b ≤ i) → first_difference (drop i a) (drop i b) ≡ 0
+    go (inl h) = ap (λ (xs : List ℕ). first_difference xs (drop i b)) (drop_all i a h)
+    go (inr h) = ap (first_difference (drop i a)) (drop_all i b h) ∙ none_left (drop i a)
+
+-- texts are the same where they differ at the end of both
+pub same_by_place : (a b : List ℕ) (n : ℕ) → n ≡ first_difference a b → n ≡ length a → n ≡ length b → same_bytes a b ≡ true
+same_by_place a b n is first second = go a b (sym is ∙ first) (sym is ∙ second)
+  where
+    go : (a b : List ℕ) → first_difference a b ≡ length a → first_difference a b ≡ length b → same_bytes a b ≡ true
+    go [] [] e f = refl
+    go [] (y ∷ ys) e f = absurd (omega (arith, f))
+    go (x ∷ xs) [] e f = absurd (omega (arith, e))
+    go (x ∷ xs) (y ∷ ys) e f =
+        elim (eqb x y) as (λ t. eqb x y ≡ t → cond t (suc (first_difference xs ys)) 0 ≡ suc (length xs) → cond t (suc (first_difference xs ys)) 0 ≡ suc (length ys) → (eqb x y && same_bytes xs ys) ≡ true) [
+          | true ↦ λ tied p q. and_from (eqb x y) (same_bytes xs ys) tied (go xs ys (omega (arith, p)) (omega (arith, q)))
+          | false ↦ λ tied p q. absurd (omega (arith, p))
+        ] refl e f
+
+pub ends_of_same : (a b : List ℕ) → same_bytes a b ≡ true → (first_difference a b ≡ length a) × (first_difference a b ≡ length b)
+ends_of_same [] [] e = (refl, refl)
+ends_of_same [] (y ∷ ys) e = absurd cc
+ends_of_same (x ∷ xs) [] e = absurd cc
+ends_of_same (x ∷ xs) (y ∷ ys) e =
+    let v = and_parts (eqb x y) (same_bytes xs ys) e in
+    let h = ends_of_same xs ys v.1 in
+    let step : cond (eqb x y) (suc (first_difference xs ys)) 0 ≡ suc (first_difference xs ys) = ap (λ (b : Bool). cond b (suc (first_difference xs ys)) 0) v.0 in
+    (step ∙ ap suc h.0, step ∙ ap suc h.1)
+
+not_same : (a b : List ℕ) (n : ℕ) (t : Bool) → same_bytes a b ≡ t → n ≡ first_difference a b → (eqb n (length a) && eqb n (length b)) ≡ false → t ≡ false
+not_same a b n true same is other =
+    let h = ends_of_same a b same in
+    let first = eq-eqb n (length a) (is ∙ h.0) in
+    let second = eq-eqb n (length b) (is ∙ h.1) in
+    sym (and_from (eqb n (length a)) (eqb n (length b)) first second) ∙ other
+not_same a b n false same is other = refl
+
+-- ---- what a comparison answers
+
+pub judged_same : (bytes file : List ℕ) (o : OfferForm) (n : ℕ) → file ≡ canonical_file o.schema o.state → n ≡ first_difference bytes file → n ≡ length bytes → n ≡ length file → judged bytes o ≡ Ok o
+judged_same bytes file o n made is first second =
+    let same : same_bytes bytes (canonical_file o.schema o.state) ≡ true = ap (same_bytes bytes) (sym made) ∙ same_by_place bytes file n is first second in
+    rw same refl
+
+pub judged_other : (bytes file : List ℕ) (o : OfferForm) (n : ℕ) → file ≡ canonical_file o.schema o.state → n ≡ first_difference bytes file → (eqb n (length bytes) && eqb n (length file)) ≡ false → judged bytes o ≡ Err (NotCanonical n)
+judged_other bytes file o n made is other =
+    let differ : same_bytes bytes (canonical_file o.schema o.state) ≡ false = ap (same_bytes bytes) (sym made) ∙ not_same bytes file n (same_bytes bytes file) refl is other in
+    let place : first_difference bytes (canonical_file o.schema o.state) ≡ n = ap (first_difference bytes) (sym made) ∙ sym is in
+    rw (differ, place) refl
+
+-- ---- what is canonical
+
+pub same_range_is : (a b : RowRange) → is_same_range a b ≡ true → a ≡ b
+same_range_is a b e =
+    let v = and_parts (eqb a.0.batch.origin.0 b.0.batch.origin.0) (eqb a.0.batch.number.0 b.0.batch.number.0 && (eqb a.0.ordinal b.0.ordinal && eqb a.1 b.1)) e in
+    let w = and_parts (eqb a.0.batch.number.0 b.0.batch.number.0) (eqb a.0.ordinal b.0.ordinal && eqb a.1 b.1) v.1 in
+    let x = and_parts (eqb a.0.ordinal b.0.ordinal) (eqb a.1 b.1) w.1 in
+    let origin = eqb-true _ _ v.0 in
+    let number = eqb-true _ _ w.0 in
+    let ordinal = eqb-true _ _ x.0 in
+    let last = eqb-true _ _ x.1 in
+    λ i. (record { batch = record { origin = record { 0 = origin i }; number = record { 0 = number i } }; ordinal = ordinal i }, last i)
+
+pub front_more : (a b : List RowRange) (i : ℕ) (d : RowRange) → i < length a → i < length b → take i a ≡ take i b → get_or a i d ≡ get_or b i d → take (i + 1) a ≡ take (i + 1) b
+front_more a b i d in_a in_b so_far here =
+    take_more a i d in_a ∙ (λ k. so_far k ++ here k ∷ []) ∙ sym (take_more b i d in_b)
+
+pub front_whole : (a b : List RowRange) (i : ℕ) → length a ≤ i → length b ≤ i → take i a ≡ take i b → a ≡ b
+front_whole a b i in_a in_b same = sym (take_all i a in_a) ∙ same ∙ take_all i b in_b
+
+canonical_items : (t : Table) (items : List Held) → All (IsStored t) items → All IsCanonicalHeld items → map entry_of items ≡ map (canonical_as_read t) items
+canonical_items t [] stored canonical = refl
+canonical_items t (e ∷ items) stored canonical =
+    let here = stored 0 e (omega arith) in
+    let form : e.1.forms ≡ canonical_forms (widths_in e.1.forms) e.1.rows = canonical 0 e (omega arith) in
+    let same : e.1.forms ≡ canonical_forms (widths_of t) e.1.rows = form ∙ ap (λ (ws : List ℕ). canonical_forms ws e.1.rows) here.widths in
+    let rest = canonical_items t items (λ k d below. stored (suc k) d (omega (arith, below))) (λ k d below. canonical (suc k) d (omega (arith, below))) in
+    λ i. (e.0, (length e.1.rows, same i)) ∷ rest i
+
+-- bytes that hold canonical batches and maximal ranges are the canonical file of these
+pub canonical_is : (bytes : List ℕ) (o : OfferForm) (items : List Held) (rs : List RowRange) → AreBytes bytes → read_whole container bytes ≡ Ok (o.schema, (map entry_of items, map deleted_of rs)) → AreOffered o.schema items → o.state.batches ≡ rows_in o.segments → finite.entries o.segments ≡ items
+    → All IsCanonicalHeld items → ranges_of o.state.deleted ≡ rs → judged bytes o ≡ Ok o
+canonical_is bytes o items rs fit is offered batches entries canonical ranges =
+    let taken = (container_is_lawful.takes (length bytes) bytes (o.schema, (map entry_of items, map deleted_of rs)) [] fit (whole_read container bytes (o.schema, (map entry_of items, map deleted_of rs)) is)).0 in
+    let spelled : bytes ≡ container.spell (o.schema, (map entry_of items, map deleted_of rs)) = taken ∙ append-nil _ in
+    let again : container.spell (o.schema, (map entry_of items, map deleted_of rs)) ≡ container.spell (o.schema, (map (canonical_as_read o.schema) items, map deleted_of rs)) =
+    ap (λ (es : List Entry). container.spell (o.schema, (es, map deleted_of rs))) (canonical_items o.schema items offered.stored canonical) in
+    let file : bytes ≡ canonical_file o.schema o.state = spelled ∙ again ∙ canonical_spelled o.schema o.state o.segments items rs batches (sym entries) ranges in
+    let same : same_bytes bytes (canonical_file o.schema o.state) ≡ true = ap (same_bytes bytes) (sym file) ∙ same_itself bytes in
+    rw same refl
+
+-- what is judged of an offer that was read
+pub canonical_was_read : (bytes : List ℕ) (o : OfferForm) → offer_read bytes ≡ Ok o → canonical_read bytes ≡ judged bytes o
+canonical_was_read bytes o is = rw is refl
+
+pub canonical_fault : (bytes : List ℕ) (e : Refusal) → offer_read bytes ≡ Err e → canonical_read bytes ≡ Err e
+canonical_fault bytes e is = rw is refl
+
+-- ---- what a call is refused as
+
+judged_judged : (bytes : List ℕ) (o : OfferForm) → Judged (judged bytes o)
+judged_judged bytes o = go (same_bytes bytes (canonical_file o.schema o.state))
+  where
+    go : (b : Bool) → Judged (cond b (Ok o) (Err (NotCanonical (first_difference bytes (canonical_file o.schema o.state)))))
+    go true = tt
+    go false = refl
+
+pub canonical_read_judged : (bytes : List ℕ) → Judged (canonical_read bytes)
+canonical_read_judged bytes = then_judged (offer_read bytes) (judged bytes) (offer_read_judged bytes) (judged_judged bytes)
+
+pub checked_is : (bytes : List ℕ) (o : OfferForm) (batches ranges : ℕ) → canonical_read bytes ≡ Ok o → batches ≡ finite.len o.state.batches → ranges ≡ length (ranges_of o.state.deleted) → checked_from bytes ≡ Ok (batches, ranges)
+checked_is bytes o batches ranges is count many = rw is (λ i. Ok (sym count i, sym many i))
+
+pub judged_ends : (bytes file : List ℕ) (o : OfferForm) (n : ℕ) → file ≡ canonical_file o.schema o.state → n ≡ first_difference bytes file → (eqb n (length bytes) && eqb n (length file)) ≡ true → judged bytes o ≡ Ok o
+judged_ends bytes file o n made is ends =
+    let v = and_parts (eqb n (length bytes)) (eqb n (length file)) ends in
+    judged_same bytes file o n made is (eqb-true _ _ v.0) (eqb-true _ _ v.1)

@@ -1,0 +1,13 @@
+use Rattle.std.proofs.Common.{◌≡◌, ◌∙◌, List, length, sym, ap, subst}
+use Rattle.table_model.specs.State.{Batch}
+use Rattle.table_model.specs.Table.{IsBatch}
+use Rattle.column_file.proofs.FitLemmas.{length-batch_of, segment_fits}
+use Rattle.column_file.proofs.container_reading.read_segment.Goals as goal
+
+pub returns-clause-count : goal.returns-clause-count
+returns-clause-count c = ap length c.in_ok-segment.ensures.rows ∙ length-batch_of c.args.rows c.in_ok-segment.segment.forms
+
+pub returns-clause-fits : goal.returns-clause-fits
+returns-clause-fits c =
+    let P : Batch → Type 0 = λ rows. IsBatch c.args.schema.now rows in
+    subst P (sym c.rows-rows.ensures.rows) (segment_fits c.args.schema.now c.rows-rows.result c.in_ok-segment.segment.forms c.rows-rows.ensures.form c.in_ok-segment.ensures.widths)

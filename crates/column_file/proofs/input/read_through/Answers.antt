@@ -1,0 +1,46 @@
+use Rattle.std.proofs.Common.{◌≡◌, ◌∙◌, ◌+◌, ◌<◌, ◌≤◌, [], List, ℕ, length, refl, sym, ap, subst, inr, arith}
+use Rattle.std.specs.Io.KnownBytes.{Consumes, IsAtEnd}
+use Rattle.table_model.specs.declared.counted.TheConstants.{READ_LIMIT}
+use Rattle.column_file.proofs.Inputs.{consumes_none, consumes_no_more, consumes_chunk, gave_more, is_within}
+use Rattle.column_file.proofs.input.read_through.Goals as goal
+
+pub loop-turn-init : goal.loop-turn-init
+loop-turn-init g c =
+    let P : List ℕ → Type 0 = λ xs. Consumes (g.R.Read.remaining c.args.reader.now.0) (g.R.Read.remaining c.args.reader.now.0) xs in
+    let none : length c.new-input.result.items ≡ 0 = ap length c.new-input.ensures.items in
+    record {
+      read = subst P (sym c.new-input.ensures.items) (consumes_none (g.R.Read.remaining c.args.reader.now.0));
+      some = omega arith;
+      limit = omega arith;
+      kept = refl;
+    }
+
+pub returns-then-count-eq0-clause-bytes : goal.returns-then-count-eq0-clause-bytes
+returns-then-count-eq0-clause-bytes g c =
+    consumes_no_more (g.R.Read.remaining c.args.reader.now.0) (g.R.Read.remaining c.loop-turn.reader.0) (g.R.Read.remaining c.read.new.self.0) c.loop-turn.input.items c.read.new.buffer c.in-Ok.count
+    c.loop-turn.invariant.read c.in-Ok.ensures.bytes.0 c.if-count-eq0.true
+
+pub returns-then-count-eq0-clause-within : goal.returns-then-count-eq0-clause-within
+returns-then-count-eq0-clause-within g c =
+    let read = consumes_no_more (g.R.Read.remaining c.args.reader.now.0) (g.R.Read.remaining c.loop-turn.reader.0) (g.R.Read.remaining c.read.new.self.0) c.loop-turn.input.items c.read.new.buffer c.in-Ok.count
+    c.loop-turn.invariant.read c.in-Ok.ensures.bytes.0 c.if-count-eq0.true in
+    let room : 0 < length c.read.new.buffer = omega arith in
+    is_within (g.R.Read.remaining c.args.reader.now.0) (g.R.Read.remaining c.read.new.self.0) c.loop-turn.input.items read (c.in-Ok.ensures.bytes.1 c.if-count-eq0.true room) c.loop-turn.invariant.limit
+
+pub returns-then-len-gt-READ_LIMIT-clause-fault : goal.returns-then-len-gt-READ_LIMIT-clause-fault
+returns-then-len-gt-READ_LIMIT-clause-fault g c =
+    let read = consumes_chunk (g.R.Read.remaining c.args.reader.now.0) (g.R.Read.remaining c.loop-turn.reader.0) (g.R.Read.remaining c.read.new.self.0) c.loop-turn.input.items c.read.new.buffer c.split_at.result.0.now c.extend_from_slice.new.self.items c.in-Ok.count
+    c.loop-turn.invariant.read c.in-Ok.ensures.bytes.0 c.split_at.ensures.front c.in_ok-extend_from_slice.ensures.items in
+    let past : READ_LIMIT < length c.extend_from_slice.new.self.items = omega arith in
+    inr (gave_more (g.R.Read.remaining c.args.reader.now.0) (g.R.Read.remaining c.read.new.self.0) c.extend_from_slice.new.self.items read past, c.in-Ok.ensures.failures ∙ c.loop-turn.invariant.kept)
+
+pub loop-turn-preserved : goal.loop-turn-preserved
+loop-turn-preserved g c =
+    let longer : length c.extend_from_slice.new.self.items ≡ length c.loop-turn.input.items + length c.split_at.result.0.now = omega (arith, c.in_ok-extend_from_slice.ensures.len) in
+    record {
+      read = consumes_chunk (g.R.Read.remaining c.args.reader.now.0) (g.R.Read.remaining c.loop-turn.reader.0) (g.R.Read.remaining c.read.new.self.0) c.loop-turn.input.items c.read.new.buffer c.split_at.result.0.now c.extend_from_slice.new.self.items c.in-Ok.count
+          c.loop-turn.invariant.read c.in-Ok.ensures.bytes.0 c.split_at.ensures.front c.in_ok-extend_from_slice.ensures.items;
+      some = omega (arith, c.loop-turn.invariant.some, c.split_at.ensures.front_len, c.if-count-eq0.false, longer);
+      limit = omega arith;
+      kept = c.in-Ok.ensures.failures ∙ c.loop-turn.invariant.kept;
+    }

@@ -1,0 +1,135 @@
+//! Writing the canonical file of a table's rows and deletions: each vector in its canonical form, and maximal ranges.
+ghost use Rattle.std.specs.Prelude.{◌≡◌, ◌≤◌, List, length, map, IfOk};
+ghost use Rattle.std.specs.List.{All};
+ghost use Rattle.segment_core.specs.Format.{Format, Writes, all};
+ghost use Rattle.segment_core.specs.Segment.{canonical_again};
+ghost use Rattle.replica_store.specs.Segments.{IsStored};
+ghost use Rattle.column_file.specs.ContainerBytes.{batch, batches, deleted_of, container};
+ghost use Rattle.column_file.specs.Files.{chosen, AreChosen, canonical_as_read, canonical_file, Exports};
+
+use crate::container_reading::CONTAINER;
+use crate::container_writing::{write_batch, write_ranges};
+use crate::summary_writing::write_head;
+use replica_store::Store;
+use segment_core::{Segment, write_number};
+use std::alloc::{AllocError, Global};
+use std::io::Write;
+use table_model::{BatchName, Counted, Refusal, RowName, Schema};
+
+/// A canonical copy of a segment, or none where it is canonical itself.
+fn canonical_copy(alloc: Global, segment: &Segment) -> Result<Option<Segment>, AllocError>
+    ensures { IfOk result (λ made. chosen segment.now made ≡ canonical_again segment.now) }
+{
+    if segment.canonical() {
+        return Ok(None);
+    }
+    let made = segment.canonical_copy(alloc)?;
+    Ok(Some(made))
+}
+
+/// Canonical copies of the segments that aren't canonical.
+pub(crate) fn canonical_copies(
+    alloc: Global,
+    entries: &[(BatchName, Segment)],
+) -> Result<Vec<Option<Segment>>, AllocError>
+    ensures { IfOk result (λ made. AreChosen entries.now made.items) }
+{
+    let mut made = Vec::with_capacity(alloc, entries.len())?;
+    for index in 0..entries.len() {
+        let (_, segment) = &entries[index];
+        made.push(canonical_copy(alloc, segment)?)?;
+    }
+    Ok(made)
+}
+
+/// The copy that was made of a segment, or the segment itself where none was.
+fn chosen<'a>(held: &'a Segment, made: &'a Option<Segment>) -> &'a Segment
+    ensures { result.now ≡ chosen held.now made.now }
+{
+    match made {
+        Some(copy) => copy,
+        None => held,
+    }
+}
+
+/// Writes the canonical batches of a table.
+fn write_canonical_list<W: Write>(
+    writer: &mut Counted<W>,
+    schema: &Schema,
+    entries: &[(BatchName, Segment)],
+    made: &[Option<Segment>],
+) -> Result<(), Refusal>
+    requires stored { All (IsStored schema.now) entries.now }
+    requires made { AreChosen entries.now made.now }
+    ensures { Writes result (W.contents writer.old.0) (W.contents writer.new.0) writer.old.1 writer.new.1
+        ((all (length entries.now) (batch schema.now)).spell (map (canonical_as_read schema.now) entries.now)) }
+{
+    let _ = schema;
+    for index in 0..entries.len() {
+        let (name, held) = &entries[index];
+        let segment = chosen(held, &made[index]);
+        write_batch(writer, *name, segment)?;
+    }
+    Ok(())
+}
+
+/// Writes how many batches of a table there are, at most 65,536, and these in their canonical forms.
+fn write_canonical_batches<W: Write>(
+    writer: &mut Counted<W>,
+    schema: &Schema,
+    entries: &[(BatchName, Segment)],
+    made: &[Option<Segment>],
+) -> Result<(), Refusal>
+    requires limit { length entries.now ≤ 65536 }
+    requires stored { All (IsStored schema.now) entries.now }
+    requires made { AreChosen entries.now made.now }
+    ensures { Writes result (W.contents writer.old.0) (W.contents writer.new.0) writer.old.1 writer.new.1 ((batches schema.now).spell (map (canonical_as_read schema.now) entries.now)) }
+{
+    write_number(writer, entries.len() as u64, 4)?;
+    write_canonical_list(writer, schema, entries, made)
+}
+
+/// Writes a container of a table's batches, at most 65,536, in their canonical forms, and ranges of deleted rows.
+pub(crate) fn write_canonical<W: Write>(
+    writer: &mut Counted<W>,
+    schema: &Schema,
+    entries: &[(BatchName, Segment)],
+    made: &[Option<Segment>],
+    deleted: &[(RowName, u16)],
+) -> Result<(), Refusal>
+    requires limit { length entries.now ≤ 65536 }
+    requires stored { All (IsStored schema.now) entries.now }
+    requires made { AreChosen entries.now made.now }
+    ensures { Writes result (W.contents writer.old.0) (W.contents writer.new.0) writer.old.1 writer.new.1
+        (container.spell (schema.now, (map (canonical_as_read schema.now) entries.now, map deleted_of deleted.now))) }
+{
+    write_head(writer, &CONTAINER, schema)?;
+    write_canonical_batches(writer, schema, entries, made)?;
+    write_ranges(writer, deleted)
+}
+
+/// Writes the canonical file of a store's schema and state: version 1, all batches in ascending order of name, each vector in its
+/// canonical form, a null mask exactly where a vector has a null, and the deletions as maximal ranges. No own origin, order of
+/// arrival or coding is told by it.
+///
+/// Refused are `Memory`, where there is none for the canonical copies of segments that aren't canonical, before anything is written,
+/// and then a write that fails (`WriteFault`); a front of the bytes was written then.
+pub fn export<W: Write>(
+    alloc: Global,
+    store: &Store,
+    writer: &mut Counted<W>,
+) -> Result<(), Refusal>
+    ensures { Exports result (W.contents writer.old.0) (W.contents writer.new.0) writer.old.1 writer.new.1 (canonical_file store.now.replica.schema store.now.replica.state) }
+{
+    // `batches` ensures that there are at most 65,536.
+    let _count = store.batches();
+    let entries = store.entries();
+    let made = canonical_copies(alloc, entries)?;
+    write_canonical(
+        writer,
+        store.schema(),
+        entries,
+        made.as_slice(),
+        store.tombs().ranges(),
+    )
+}

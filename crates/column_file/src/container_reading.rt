@@ -1,0 +1,248 @@
+//! Reading a container from bytes: its own four bytes, the version, a schema, batches in strictly ascending order of name, and
+//! ranges of deleted rows.
+ghost use Rattle.std.specs.Prelude.{◌≡◌, ◌-◌, ◌^◌, ◌<◌, ◌≤◌, length, map, codes, IfOk};
+ghost use Rattle.std.specs.List.{All};
+ghost use Rattle.table_model.specs.Table.{IsBatch};
+ghost use Rattle.segment_core.specs.Format.{Format, Reads, number, before, all, read_whole};
+ghost use Rattle.segment_core.specs.Segment.{batch_of, widths_in, widths_of};
+ghost use Rattle.segment_core.specs.SegmentBytes.{batch_columns};
+ghost use Rattle.column_file.specs.SummaryBytes.{head, any_name, is_after, batch_name, name_count, precedes};
+ghost use Rattle.column_file.specs.ContainerBytes.{IsRest, IsFound, row_count, entry_of, name_of, batch, batches, deleted_of, is_named, is_range, ends_before, begins_after, range_parts, range, ranges, container};
+
+use crate::summary_reading::{precedes, read_head, read_name_count, read_proper_name};
+use segment_core::{Segment, place_of, read_number};
+use std::alloc::Global;
+use table_model::{BatchName, Number, Origin, Refusal, RowName, Schema};
+
+/// What a container begins with.
+pub(crate) const CONTAINER: [u8; 4] = *b"FLCF";
+
+/// How many rows a batch has, 1 to 65,536, and what stands after that.
+#[tactic(auto, unfolding(crate::specs::ContainerBytes::row_count))]
+fn read_row_count(total: usize, bytes: &[u8]) -> Result<(usize, &[u8]), Refusal>
+    ensures read { Reads (λ x. (x.0, x.1.now)) result (row_count.read total bytes.now) }
+    ensures some { IfOk result (λ x. 1 ≤ x.0) }
+    ensures limit { IfOk result (λ x. x.0 ≤ 65536) }
+{
+    let (less, rest) = read_number(total, bytes, 2)?;
+    Ok((less as usize + 1, rest))
+}
+
+/// Whether a name comes after that of the last of the batches before it, if there is one.
+fn is_after_batches(front: &[(BatchName, Segment)], name: BatchName) -> bool
+    ensures { result ≡ is_after (map name_of (map entry_of front.now)) name }
+{
+    front.is_empty() || precedes(front[front.len() - 1].0, name)
+}
+
+/// The name of a batch, after the batches before it, and what stands after it.
+#[tactic(auto, unfolding(crate::specs::SummaryBytes::batch_name))]
+fn read_name_after<'a>(
+    total: usize,
+    bytes: &'a [u8],
+    front: &[(BatchName, Segment)],
+) -> Result<(BatchName, &'a [u8]), Refusal>
+    ensures { Reads (λ x. (x.0, x.1.now)) result ((batch_name (map name_of (map entry_of front.now))).read total bytes.now) }
+{
+    let (name, rest) = read_proper_name(total, bytes)?;
+    if !is_after_batches(front, name) {
+        return Err(Refusal::BadOrder(place_of(total, bytes)));
+    }
+    Ok((name, rest))
+}
+
+/// The segment of so many rows, 1 to 65,536, of a table, where `rest` is what is left of the bytes, and what stands after it.
+fn read_segment<'a>(
+    alloc: Global,
+    schema: &Schema,
+    bytes: &'a [u8],
+    rest: &[u8],
+    rows: usize,
+) -> Result<(Segment, &'a [u8]), Refusal>
+    requires some { 1 ≤ rows }
+    requires limit { rows ≤ 65536 }
+    requires rest { IsRest bytes.now rest.now }
+    ensures read { Reads (λ x. (x.0.forms, x.1.now)) result ((batch_columns schema.now rows).read (length bytes.now) rest.now) }
+    ensures rest { IfOk result (λ x. IsRest bytes.now x.1.now) }
+    ensures count { IfOk result (λ x. length x.0.rows ≡ rows) }
+    ensures rows { IfOk result (λ x. x.0.rows ≡ batch_of rows x.0.forms) }
+    ensures fits { IfOk result (λ x. IsBatch schema.now x.0.rows) }
+    ensures widths { IfOk result (λ x. widths_in x.0.forms ≡ widths_of schema.now) }
+{
+    let at = bytes.len().saturating_sub(rest.len());
+    let (segment, next) = Segment::read_bytes(alloc, schema, rows, bytes, at)?;
+    // `rows` ensures that the vectors are those of so many rows.
+    let _rows = segment.rows();
+    let (_, after) = bytes.split_at(next.min(bytes.len()));
+    Ok((segment, after))
+}
+
+/// The batch at the front of what is left, after the batches before it, and what stands after it.
+#[tactic(auto, unfolding(crate::specs::ContainerBytes::batch))]
+fn read_batch<'a>(
+    alloc: Global,
+    schema: &Schema,
+    bytes: &'a [u8],
+    rest: &'a [u8],
+    front: &[(BatchName, Segment)],
+) -> Result<(BatchName, Segment, &'a [u8]), Refusal>
+    requires { IsRest bytes.now rest.now }
+    ensures read { Reads (λ x. (entry_of (x.0, x.1), x.2.now)) result ((batch schema.now (map entry_of front.now)).read (length bytes.now) rest.now) }
+    ensures rest { IfOk result (λ x. IsRest bytes.now x.2.now) }
+    ensures found { IfOk result (λ x. IsFound schema.now (x.0, x.1)) }
+{
+    let total = bytes.len();
+    let (name, after_name) = read_name_after(total, rest, front)?;
+    let (rows, after_count) = read_row_count(total, after_name)?;
+    let (segment, after) = read_segment(alloc, schema, bytes, after_count, rows)?;
+    Ok((name, segment, after))
+}
+
+/// So many batches at the front of what is left, and what stands after them.
+fn read_batch_list<'a>(
+    alloc: Global,
+    schema: &Schema,
+    bytes: &'a [u8],
+    front: &'a [u8],
+    count: usize,
+) -> Result<(Vec<(BatchName, Segment)>, &'a [u8]), Refusal>
+    requires { IsRest bytes.now front.now }
+    ensures read { Reads (λ x. (map entry_of x.0.items, x.1.now)) result ((all count (batch schema.now)).read (length bytes.now) front.now) }
+    ensures found { IfOk result (λ x. All (IsFound schema.now) x.0.items) }
+{
+    let mut found = Vec::new(alloc);
+    let mut rest = front;
+    for _ in 0..count {
+        let (name, segment, after) = read_batch(alloc, schema, bytes, rest, found.as_slice())?;
+        found.push((name, segment))?;
+        rest = after;
+    }
+    Ok((found, rest))
+}
+
+/// The batches at the front of what is left, and what stands after them.
+#[tactic(auto, unfolding(crate::specs::ContainerBytes::batches))]
+fn read_batches<'a>(
+    alloc: Global,
+    schema: &Schema,
+    bytes: &'a [u8],
+    rest: &'a [u8],
+) -> Result<(Vec<(BatchName, Segment)>, &'a [u8]), Refusal>
+    requires { IsRest bytes.now rest.now }
+    ensures read { Reads (λ x. (map entry_of x.0.items, x.1.now)) result ((batches schema.now).read (length bytes.now) rest.now) }
+    ensures found { IfOk result (λ x. All (IsFound schema.now) x.0.items) }
+{
+    let (count, after_count) = read_name_count(bytes.len(), rest)?;
+    read_batch_list(alloc, schema, bytes, after_count, count)
+}
+
+/// A batch's name and two ordinals, whatever they are, at the front, and what stands after them.
+#[tactic(auto, unfolding(crate::specs::ContainerBytes::range_parts, crate::specs::SummaryBytes::any_name))]
+fn read_range_parts(total: usize, bytes: &[u8]) -> Result<((RowName, u16), &[u8]), Refusal>
+    ensures { Reads (λ x. (deleted_of x.0, x.1.now)) result (range_parts.read total bytes.now) }
+{
+    let (origin, after_origin) = read_number(total, bytes, 4)?;
+    let (number, after_name) = read_number(total, after_origin, 4)?;
+    let (first, after_first) = read_number(total, after_name, 2)?;
+    let (last, rest) = read_number(total, after_first, 2)?;
+    let batch = BatchName {
+        origin: Origin(origin as u32),
+        number: Number(number as u32),
+    };
+    let row = RowName {
+        batch,
+        ordinal: first as u16,
+    };
+    Ok(((row, last as u16), rest))
+}
+
+/// Whether rows begin after the end of other ones, in order of origin, number and ordinal.
+fn ends_before(a: (RowName, u16), b: (RowName, u16)) -> bool
+    ensures { result ≡ ends_before (deleted_of a) (deleted_of b) }
+{
+    precedes(a.0.batch, b.0.batch)
+        || a.0.batch.origin.0 == b.0.batch.origin.0
+            && a.0.batch.number.0 == b.0.batch.number.0
+            && a.1 < b.0.ordinal
+}
+
+/// Whether rows begin after the end of the last of those before them, if there are any.
+fn begins_after(front: &[(RowName, u16)], range: (RowName, u16)) -> bool
+    ensures { result ≡ begins_after (map deleted_of front.now) (deleted_of range) }
+{
+    front.is_empty() || ends_before(front[front.len() - 1], range)
+}
+
+/// The range of deleted rows at the front, after the ranges before it, and what stands after it.
+#[tactic(auto, unfolding(crate::specs::ContainerBytes::range))]
+fn read_range<'a>(
+    total: usize,
+    bytes: &'a [u8],
+    front: &[(RowName, u16)],
+) -> Result<((RowName, u16), &'a [u8]), Refusal>
+    ensures { Reads (λ x. (deleted_of x.0, x.1.now)) result ((range (map deleted_of front.now)).read total bytes.now) }
+{
+    let (found, rest) = read_range_parts(total, bytes)?;
+    if !found.0.batch.is_proper() {
+        return Err(Refusal::BadName);
+    }
+    if found.1 < found.0.ordinal {
+        return Err(Refusal::BadRange(place_of(total, bytes)));
+    }
+    if !begins_after(front, found) {
+        return Err(Refusal::BadOrder(place_of(total, bytes)));
+    }
+    Ok((found, rest))
+}
+
+/// So many ranges at the front, and what stands after them.
+fn read_range_list(
+    alloc: Global,
+    total: usize,
+    bytes: &[u8],
+    count: u64,
+) -> Result<(Vec<(RowName, u16)>, &[u8]), Refusal>
+    ensures { Reads (λ x. (map deleted_of x.0.items, x.1.now)) result ((all count range).read total bytes.now) }
+{
+    let mut found = Vec::new(alloc);
+    let mut rest = bytes;
+    for _ in 0..count {
+        let (range, after) = read_range(total, rest, found.as_slice())?;
+        found.push(range)?;
+        rest = after;
+    }
+    Ok((found, rest))
+}
+
+/// The ranges at the front, and what stands after them.
+#[tactic(auto, unfolding(crate::specs::ContainerBytes::ranges))]
+fn read_ranges(
+    alloc: Global,
+    total: usize,
+    bytes: &[u8],
+) -> Result<(Vec<(RowName, u16)>, &[u8]), Refusal>
+    ensures { Reads (λ x. (map deleted_of x.0.items, x.1.now)) result (ranges.read total bytes.now) }
+{
+    let (count, rest) = read_number(total, bytes, 8)?;
+    read_range_list(alloc, total, rest, count)
+}
+
+/// The schema, the batches and the ranges of a container. Refused is the first fault of the bytes, or a want of memory, which may
+/// come in the place of any of them. What is held is in proportion to the bytes that are there.
+#[tactic(auto, unfolding(crate::specs::ContainerBytes::container))]
+pub(crate) fn read_container(
+    alloc: Global,
+    bytes: &[u8],
+) -> Result<(Schema, Vec<(BatchName, Segment)>, Vec<(RowName, u16)>), Refusal>
+    ensures read { Reads (λ x. (x.0, (map entry_of x.1.items, map deleted_of x.2.items))) result (read_whole container bytes.now) }
+    ensures found { IfOk result (λ x. All (IsFound x.0) x.1.items) }
+{
+    let total = bytes.len();
+    let (schema, after_head) = read_head(alloc, total, bytes, &CONTAINER)?;
+    let (batches, after_batches) = read_batches(alloc, &schema, bytes, after_head)?;
+    let (ranges, rest) = read_ranges(alloc, total, after_batches)?;
+    if !rest.is_empty() {
+        return Err(Refusal::TrailingBytes(place_of(total, rest)));
+    }
+    Ok((schema, batches, ranges))
+}

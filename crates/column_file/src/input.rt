@@ -1,0 +1,65 @@
+//! Reading a reader to its end.
+ghost use Rattle.std.specs.Prelude.{◌≡◌, ◌<◌, ◌≤◌, length, IfOk, IfErr, OnOk};
+ghost use Rattle.std.specs.Io.KnownBytes.{Consumes, IsAtEnd};
+ghost use Rattle.table_model.specs.Faults.{IsWithin, GaveMore};
+ghost use Rattle.column_file.specs.Input.{CountsFailure, IsUnread};
+
+use std::alloc::Global;
+use std::io::Read;
+use table_model::{Counted, READ_LIMIT, Refusal};
+
+/// How many bytes are asked for at once.
+const CHUNK: usize = 65_536;
+
+/// One more than the most bytes that one call reads: each round but the last reads a byte at least.
+const ROUNDS: u64 = 281_474_976_710_657;
+
+/// What a reader has, read to its end through a buffer. `ReadFault` where a read fails or more than 2^48 bytes come, and `Memory`
+/// where there is none for what came.
+fn read_through<R: Read>(
+    alloc: Global,
+    reader: &mut Counted<R>,
+    buffer: &mut [u8],
+) -> Result<Vec<u8>, Refusal>
+    requires some { 0 < length buffer.old }
+    requires limit { length buffer.old ≤ 65536 }
+    ensures bytes { IfOk result (λ input. Consumes (R.remaining reader.old.0) (R.remaining reader.new.0) input.items) }
+    ensures end { OnOk result (IsAtEnd (R.remaining reader.new.0)) }
+    ensures within { OnOk result (IsWithin (R.remaining reader.old.0)) }
+    ensures kept { OnOk result (reader.new.1 ≡ reader.old.1) }
+    ensures refused { IfErr result IsUnread }
+    ensures fault { IfErr result (λ e. CountsFailure (GaveMore (R.remaining reader.old.0) (R.remaining reader.new.0)) e reader.old.1 reader.new.1) }
+{
+    let mut input = Vec::new(alloc);
+    for _turn in 0..ROUNDS {
+        let Ok(count) = reader.read(buffer) else {
+            return Err(Refusal::ReadFault);
+        };
+        if count == 0 {
+            return Ok(input);
+        }
+        let (chunk, _) = buffer.split_at(count);
+        input.extend_from_slice(chunk)?;
+        if input.len() as u64 > READ_LIMIT {
+            return Err(Refusal::ReadFault);
+        }
+    }
+    Err(Refusal::ReadFault)
+}
+
+/// What a reader has, read to its end. `ReadFault` where a read fails or more than 2^48 bytes come, and `Memory` where there is
+/// none for what came.
+pub(crate) fn read_input<R: Read>(
+    alloc: Global,
+    reader: &mut Counted<R>,
+) -> Result<Vec<u8>, Refusal>
+    ensures bytes { IfOk result (λ input. Consumes (R.remaining reader.old.0) (R.remaining reader.new.0) input.items) }
+    ensures end { OnOk result (IsAtEnd (R.remaining reader.new.0)) }
+    ensures within { OnOk result (IsWithin (R.remaining reader.old.0)) }
+    ensures kept { OnOk result (reader.new.1 ≡ reader.old.1) }
+    ensures refused { IfErr result IsUnread }
+    ensures fault { IfErr result (λ e. CountsFailure (GaveMore (R.remaining reader.old.0) (R.remaining reader.new.0)) e reader.old.1 reader.new.1) }
+{
+    let mut buffer = vec![in alloc; 0u8; CHUNK]?;
+    read_through(alloc, reader, buffer.as_mut_slice())
+}

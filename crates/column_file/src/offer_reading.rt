@@ -1,0 +1,57 @@
+//! Reading an offer from bytes.
+ghost use Rattle.std.specs.Prelude.{◌≡◌, ◌≤◌, IsTrue, IfOk, IfErr, OnOk};
+ghost use Rattle.std.specs.Io.KnownBytes.{IsAtEnd};
+ghost use Rattle.std.specs.List.{All};
+ghost use Rattle.table_model.specs.Faults.{IsWithin, GaveMore};
+ghost use Rattle.table_model.specs.Name.{is_proper_name};
+ghost use Rattle.catalogue_join.specs.RowRange.{RowRange, rows_in};
+ghost use Rattle.segment_core.specs.Format.{Reads};
+ghost use Rattle.column_file.specs.Files.{IsRangeGiven, offer_read};
+ghost use Rattle.column_file.specs.Input.{Judges, CountsFailure, is_refusal_of_reading};
+
+use crate::container_reading::read_container;
+use crate::input::read_input;
+use catalogue_join::Tombs;
+use replica_store::Offer;
+use std::alloc::{AllocError, Global};
+use std::io::Read;
+use table_model::{Counted, Refusal, RowName};
+
+/// The set of the rows of some ranges.
+pub(crate) fn tombs_of(alloc: Global, deleted: &[(RowName, u16)]) -> Result<Tombs, AllocError>
+    requires { All IsRangeGiven deleted.now }
+    ensures { IfOk result (λ tombs. tombs ≡ rows_in deleted.now) }
+{
+    let mut tombs = Tombs::new(alloc);
+    for index in 0..deleted.len() {
+        let (first, last) = deleted[index];
+        tombs.insert(first, last)?;
+    }
+    Ok(tombs)
+}
+
+/// The offer that bytes are. Refused is their first fault, or a want of memory, which may come in the place of any of them.
+pub(crate) fn offer_in(alloc: Global, bytes: &[u8]) -> Result<Offer, Refusal>
+    ensures { Reads (λ x. x) result (offer_read bytes.now) }
+{
+    let (schema, batches, ranges) = read_container(alloc, bytes)?;
+    let tombs = tombs_of(alloc, ranges.as_slice())?;
+    Ok(Offer::from_parts(schema, batches, tombs))
+}
+
+/// The offer that a reader has, which is read to its end first.
+///
+/// Refused are `ReadFault` where a read fails or more than 2^48 bytes come, and then the first fault of the bytes, whose place is
+/// told where it has one. It grows as it reads, so `Memory` may come in the place of any of them. What is held is in proportion to
+/// the bytes that are there.
+pub fn read_offer<R: Read>(alloc: Global, reader: &mut Counted<R>) -> Result<Offer, Refusal>
+    ensures read { Judges (λ x. x) result (R.remaining reader.old.0) offer_read }
+    ensures refused { IfErr result (λ e. IsTrue (is_refusal_of_reading e)) }
+    ensures end { OnOk result (IsAtEnd (R.remaining reader.new.0)) }
+    ensures within { OnOk result (IsWithin (R.remaining reader.old.0)) }
+    ensures kept { OnOk result (reader.new.1 ≡ reader.old.1) }
+    ensures fault { IfErr result (λ e. CountsFailure (GaveMore (R.remaining reader.old.0) (R.remaining reader.new.0)) e reader.old.1 reader.new.1) }
+{
+    let input = read_input(alloc, reader)?;
+    offer_in(alloc, input.as_slice())
+}

@@ -1,0 +1,173 @@
+//! Opening and checking canonical files.
+ghost use Rattle.std.specs.Prelude.{◌≡◌, ◌≤◌, ◌==◌, ◌&&◌, length, Err, Ok, IsTrue, IfOk, IfErr, OnOk};
+ghost use Rattle.std.specs.Io.KnownBytes.{IsAtEnd};
+ghost use Rattle.std.specs.List.{All};
+ghost use Rattle.table_model.specs.Faults.{IsWithin, GaveMore};
+ghost use Rattle.segment_core.specs.Format.{Reads};
+ghost use Rattle.column_file.specs.Files.{IsCanonicalHeld, is_same_range, first_difference, judged, canonical_file, canonical_read, opened_from, checked_from};
+ghost use Rattle.column_file.specs.Input.{Judges, CountsFailure, is_refusal_of_reading};
+
+use crate::canonical_writing::{canonical_copies, write_canonical};
+use crate::container_reading::read_container;
+use crate::input::read_input;
+use crate::offer_reading::tombs_of;
+use replica_store::{Offer, Store};
+use segment_core::Segment;
+use std::alloc::Global;
+use std::io::Read;
+use table_model::{BatchName, Counted, Origin, Refusal, RowName};
+
+/// What a canonical file has.
+#[derive(Clone, Copy, Debug, PartialEq, Eq)]
+pub struct Checked {
+    /// How many batches, at most 65,536.
+    pub batches: u32,
+    /// How many maximal ranges of deleted rows.
+    pub ranges: u64,
+}
+
+/// Whether each segment is canonical.
+fn are_canonical(entries: &[(BatchName, Segment)]) -> bool
+    ensures { IsTrue result → All IsCanonicalHeld entries.now }
+{
+    for index in 0..entries.len() {
+        let (_, segment) = &entries[index];
+        if !segment.canonical() {
+            return false;
+        }
+    }
+    true
+}
+
+/// Whether two ranges are the same.
+fn same_range(a: (RowName, u16), b: (RowName, u16)) -> bool
+    ensures { result ≡ is_same_range a b }
+{
+    a.0.batch.origin.0 == b.0.batch.origin.0
+        && a.0.batch.number.0 == b.0.batch.number.0
+        && a.0.ordinal == b.0.ordinal
+        && a.1 == b.1
+}
+
+/// Whether two lists of ranges are the same.
+fn are_same_ranges(a: &[(RowName, u16)], b: &[(RowName, u16)]) -> bool
+    ensures { IsTrue result → a.now ≡ b.now }
+{
+    if a.len() != b.len() {
+        return false;
+    }
+    for index in 0..a.len() {
+        if !same_range(a[index], b[index]) {
+            return false;
+        }
+    }
+    true
+}
+
+/// The first place where two texts differ, or the length of the shorter where it is a front of the other.
+fn first_difference(a: &[u8], b: &[u8]) -> usize
+    ensures { result ≡ first_difference a.now b.now }
+{
+    let shorter = a.len().min(b.len());
+    for index in 0..shorter {
+        if a[index] != b[index] {
+            return index;
+        }
+    }
+    shorter
+}
+
+/// The canonical file of what an offer has.
+fn canonical_bytes(alloc: Global, offer: &Offer) -> Result<Vec<u8>, Refusal>
+    ensures bytes { IfOk result (λ file. file.items ≡ canonical_file offer.now.schema offer.now.state) }
+    ensures refused { IfErr result (λ e. e ≡ Refusal.Memory) }
+{
+    let entries = offer.entries();
+    let made = canonical_copies(alloc, entries)?;
+    let mut writer = Counted::new(Vec::new(alloc));
+    let written = write_canonical(
+        &mut writer,
+        offer.schema(),
+        entries,
+        made.as_slice(),
+        offer.tombs().ranges(),
+    );
+    match written {
+        Ok(()) => Ok(writer.into_inner()),
+        Err(_) => Err(Refusal::Memory),
+    }
+}
+
+/// Whether a place is the end of both texts.
+fn is_end_of_both(at: usize, a: &[u8], b: &[u8]) -> bool
+    ensures { result ≡ (at == length a.now && at == length b.now) }
+{
+    at == a.len() && at == b.len()
+}
+
+/// The offer that bytes hold, where they are the canonical file of it: else `NotCanonical` with the first place that differs.
+fn compared(alloc: Global, bytes: &[u8], offer: Offer) -> Result<Offer, Refusal>
+    ensures { Reads (λ x. x) result (judged bytes.now offer) }
+{
+    let file = canonical_bytes(alloc, &offer)?;
+    let at = first_difference(bytes, file.as_slice());
+    if is_end_of_both(at, bytes, file.as_slice()) {
+        return Ok(offer);
+    }
+    Err(Refusal::NotCanonical(at as u64))
+}
+
+/// The batches and deletions that a canonical file holds. Refused is the first fault of the bytes, then `NotCanonical`, or a want
+/// of memory, which may come in the place of any of them.
+fn canonical_in(alloc: Global, bytes: &[u8]) -> Result<Offer, Refusal>
+    ensures { Reads (λ x. x) result (canonical_read bytes.now) }
+{
+    let (schema, batches, ranges) = read_container(alloc, bytes)?;
+    let tombs = tombs_of(alloc, ranges.as_slice())?;
+    let maximal = are_same_ranges(ranges.as_slice(), tombs.ranges());
+    let canonical = are_canonical(batches.as_slice());
+    let offer = Offer::from_parts(schema, batches, tombs);
+    if maximal && canonical {
+        return Ok(offer);
+    }
+    compared(alloc, bytes, offer)
+}
+
+/// The store of an own origin that has what a canonical file holds. The reader is read to its end first.
+///
+/// Refused are `BadName` where the own origin is 0, before anything is read; `ReadFault` where a read fails or more than 2^48 bytes
+/// come; the first fault of the bytes; and last `NotCanonical` with the first byte that differs from the canonical file of what the
+/// input stands for. It grows as it reads, so `Memory` may come in the place of any of them but the first.
+pub fn open<R: Read>(alloc: Global, reader: &mut Counted<R>, own: Origin) -> Result<Store, Refusal>
+    ensures read { Judges (λ store. store.replica) result (R.remaining reader.old.0) (opened_from own) }
+    ensures own { own.0 ≡ 0 → (result ≡ Err Refusal.BadName) × (reader.new ≡ reader.old) }
+    ensures refused { IfErr result (λ e. IsTrue (is_refusal_of_reading e)) }
+    ensures end { OnOk result (IsAtEnd (R.remaining reader.new.0)) }
+    ensures within { OnOk result (IsWithin (R.remaining reader.old.0)) }
+    ensures kept { OnOk result (reader.new.1 ≡ reader.old.1) }
+    ensures fault { IfErr result (λ e. CountsFailure (GaveMore (R.remaining reader.old.0) (R.remaining reader.new.0)) e reader.old.1 reader.new.1) }
+{
+    if own.0 == 0 {
+        return Err(Refusal::BadName);
+    }
+    let input = read_input(alloc, reader)?;
+    let offer = canonical_in(alloc, input.as_slice())?;
+    offer.into_store(alloc, own)
+}
+
+/// How many batches and ranges a canonical file has, under the same refusals as [`open`] with a proper own origin.
+pub fn check<R: Read>(alloc: Global, reader: &mut Counted<R>) -> Result<Checked, Refusal>
+    ensures read { Judges (λ checked. (checked.batches, checked.ranges)) result (R.remaining reader.old.0) checked_from }
+    ensures refused { IfErr result (λ e. IsTrue (is_refusal_of_reading e)) }
+    ensures end { OnOk result (IsAtEnd (R.remaining reader.new.0)) }
+    ensures within { OnOk result (IsWithin (R.remaining reader.old.0)) }
+    ensures kept { OnOk result (reader.new.1 ≡ reader.old.1) }
+    ensures fault { IfErr result (λ e. CountsFailure (GaveMore (R.remaining reader.old.0) (R.remaining reader.new.0)) e reader.old.1 reader.new.1) }
+{
+    let input = read_input(alloc, reader)?;
+    let offer = canonical_in(alloc, input.as_slice())?;
+    Ok(Checked {
+        batches: offer.batches() as u32,
+        ranges: offer.tombs().ranges().len() as u64,
+    })
+}
