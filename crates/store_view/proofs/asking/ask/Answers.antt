@@ -1,0 +1,45 @@
+-- A refusal of the text, and one of its names, is that of the query's answer.
+use Rattle.std.proofs.Common.{◌≡◌, inl, inr, Ok, Err, Result, sym, ap, ◌∙◌}
+use Rattle.std.proofs.lemmas.Result.{err_from_is_err_and}
+use Rattle.table_model.specs.Meaning.{answer_of}
+use Rattle.table_model.specs.Query.{QueryShape}
+use Rattle.table_model.specs.Table.{Table}
+use Rattle.table_model.specs.declared.refusal.Refusal.{Refusal}
+use Rattle.query_parser.specs.Descent.{query_of}
+use Rattle.query_parser.specs.Resolve.{resolved}
+use Rattle.store_view.specs.View.{ViewForm}
+use Rattle.store_view.specs.Asked.{query_answer, answer_where, unless_refused}
+use Rattle.store_view.proofs.asking.ask.Goals as goal
+
+pub returns-in_err-query : goal.returns-in_err-query
+unfolding query_answer
+returns-in_err-query c =
+    let p = err_from_is_err_and c.from_residual.result c.from_residual.ensures.1 in
+    let table = c.args.store.now.replica.schema in
+    let state = c.args.store.now.replica.state in
+    rw (p.1, p.2) (elim c.in_err-query.ensures.reads [
+      | inl is ↦ inl (ap (answer_where table state) is)
+      | inr lacks ↦ inr lacks
+    ])
+
+pub returns-in_err-resolve : goal.returns-in_err-resolve
+unfolding query_answer
+returns-in_err-resolve c =
+    let p = err_from_is_err_and c.from_residual-in_err-resolve.result c.from_residual-in_err-resolve.ensures.1 in
+    let table = c.args.store.now.replica.schema in
+    let state = c.args.store.now.replica.state in
+    rw (p.1, p.2) (inl (
+    ap (answer_where table state) c.in_ok-query.ensures.reads
+    ∙ ap (λ (t : Table). unless_refused (resolved t c.in_ok-query.query) (answer_of table c.in_ok-query.query state)) (sym c.schema.ensures)
+    ∙ ap (λ r. unless_refused r (answer_of table c.in_ok-query.query state)) (sym c.in_err-resolve.ensures.resolved)))
+
+pub returns : goal.returns
+unfolding query_answer
+returns c =
+    let table = c.args.store.now.replica.schema in
+    let state = c.args.store.now.replica.state in
+    let query = c.in_ok-query.query in
+    ap (answer_where table state) c.in_ok-query.ensures.reads
+    ∙ ap (λ (t : Table). unless_refused (resolved t query) (answer_of table query state)) (sym c.schema.ensures)
+    ∙ ap (λ r. unless_refused r (answer_of table query state)) (sym c.in_ok-resolve.ensures.resolved)
+    ∙ sym (ap Ok (c.in_ok-answer.ensures.value ∙ ap (λ (v : ViewForm). answer_of v.table query v.state) c.new.ensures))

@@ -1,0 +1,24 @@
+-- What the text of a query answers at a table's state.
+use Rattle.std.specs.Prelude.{ℕ, List, Result, Ok, Err}
+use Rattle.table_model.specs.Answer.{AnswerParts}
+use Rattle.table_model.specs.Meaning.{answer_of}
+use Rattle.table_model.specs.Query.{QueryShape}
+use Rattle.table_model.specs.State.{State}
+use Rattle.table_model.specs.Table.{Table}
+use Rattle.table_model.specs.declared.refusal.Refusal.{Refusal}
+use Rattle.query_parser.specs.Descent.{query_of}
+use Rattle.query_parser.specs.Resolve.{resolved}
+
+-- an answer, where nothing refuses it
+abbrev pub unless_refused : Result (Unit {0}) Refusal → AnswerParts → Result AnswerParts Refusal
+unless_refused (Ok done) answer = Ok answer
+unless_refused (Err refusal) answer = Err refusal
+
+-- the answer of a query at a state, where it is one and the table has its names
+abbrev pub answer_where : Table → State → Result QueryShape Refusal → Result AnswerParts Refusal
+answer_where table state (Ok query) = unless_refused (resolved table query) (answer_of table query state)
+answer_where table state (Err refusal) = Err refusal
+
+-- the answer of the query that a text is, over the rows of a state that aren't deleted, or its first refusal
+unfoldable pub query_answer : List ℕ → Table → State → Result AnswerParts Refusal
+query_answer text table state = answer_where table state (query_of text)

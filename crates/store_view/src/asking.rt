@@ -1,0 +1,24 @@
+//! Asking a store a query.
+ghost use Rattle.std.specs.Prelude.{◌≡◌};
+ghost use Rattle.query_parser.specs.Descent.{Reads};
+ghost use Rattle.store_view.specs.Asked.{query_answer};
+
+use crate::view::StoreView;
+use query_eval::answer;
+use query_parser::{parse, resolve};
+use replica_store::Store;
+use std::alloc::Global;
+use table_model::{Answer, Refusal};
+
+/// The answer of the query that a text is, over the rows of a store that aren't deleted.
+///
+/// Refused are, in this order: `Syntax`, `NumberTooLarge` and `TooDeep`, the one whose token comes first; `NoSuchTable`;
+/// `NoSuchColumn`; `NotGrouped`; `Memory`. The text is read as it is taken apart, so `Memory` may come in the place of any.
+pub fn ask(alloc: Global, store: &Store, text: &str) -> Result<Answer, Refusal>
+    ensures { Reads (λ answer. answer) result (query_answer text.now store.now.replica.schema store.now.replica.state) }
+{
+    let query = parse(alloc, text)?;
+    resolve(&query, store.schema())?;
+    let answer = answer(alloc, &mut StoreView::new(store), &query)?;
+    Ok(answer)
+}

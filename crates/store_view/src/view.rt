@@ -1,0 +1,175 @@
+//! The view of a store that queries are answered by.
+ghost use Rattle.std.specs.Prelude.{◌≡◌, ◌<◌, length, ℤ, Some, slice_index_or, pos};
+ghost use Rattle.table_model.specs.Truth.{comparison, and_of};
+ghost use Rattle.table_model.specs.declared.op.Op.TheVariants.{GreaterOrEqual, LessOrEqual};
+ghost use Rattle.table_model.specs.Values.{total, least, greatest};
+ghost use Rattle.query_eval.specs.Pairs.{yes_of, no_of};
+ghost use Rattle.query_eval.specs.Passes.{raised};
+ghost use Rattle.query_eval.specs.Vector.{IsThere, vector_at, cell_at, looked_at};
+ghost use Rattle.store_view.specs.View.{HasCells};
+
+use fused_kernels::{
+    Meter, compare_vector, compare_vector_range, compare_vectors, count, decode_vector, vector_max,
+    vector_min, vector_sum,
+};
+use query_eval::Columns;
+use replica_store::Store;
+use segment_core::CodedVector;
+use std::marker::Model;
+use table_model::{BatchName, Op, Schema};
+use transpose_order::Mask;
+
+/// How many rows a vector has.
+const VECTOR_ROWS: usize = 1024;
+
+/// A store as the columns of a query, with a meter of the passes over its vectors.
+#[derive(Drop)]
+pub struct StoreView<'a> {
+    store: &'a Store,
+    meter: Meter,
+}
+
+impl<'a> Model for StoreView<'a> {
+    ghost use Rattle.store_view.specs.View.{ViewForm, coded_view};
+
+    ghost Value = { ViewForm };
+
+    ghost coded = { coded_view };
+
+    ghost view = { λ v. record { table = v.store.now.replica.schema; state = v.store.now.replica.state; passes = v.meter } };
+}
+
+impl<'a> StoreView<'a> {
+    /// The view of a store, of which no pass was made.
+    pub fn new(store: &'a Store) -> Self
+        ensures { result ≡ record { table = store.now.replica.schema; state = store.now.replica.state; passes = 0 } }
+    {
+        StoreView {
+            store,
+            meter: Meter::new(),
+        }
+    }
+}
+
+/// A column's vector of a batch.
+fn vector_in(store: &Store, batch: usize, column: usize, vector: usize) -> &CodedVector
+    requires there { IsThere store.now.replica.state batch vector }
+    requires column { column < length store.now.replica.schema.columns }
+    ensures { HasCells result.now (vector_at store.now.replica.state batch vector) column }
+{
+    let (_, segment) = store.batch(batch);
+    let _rows = segment.rows();
+    let _columns = segment.columns();
+    let found = segment.vector(column, vector);
+    let _covered = found.rows();
+    found
+}
+
+impl<'a> Columns for StoreView<'a> {
+    ghost table = { λ v. v.table };
+
+    ghost state = { λ v. v.state };
+
+    ghost passes = { λ v. v.passes };
+
+    fn schema(&self) -> &Schema {
+        self.store.schema()
+    }
+
+    fn batches(&self) -> usize {
+        self.store.batches()
+    }
+
+    fn name(&self, batch: usize) -> BatchName {
+        self.store.batch(batch).0
+    }
+
+    fn vectors(&self, batch: usize) -> usize {
+        let (_, segment) = self.store.batch(batch);
+        segment.rows().div_ceil(VECTOR_ROWS)
+    }
+
+    fn live(&self, batch: usize, vector: usize) -> Mask {
+        let (name, segment) = self.store.batch(batch);
+        let covered = (segment.rows() - VECTOR_ROWS * vector).min(VECTOR_ROWS);
+        self.store.tombs().live_mask(name, vector, covered)
+    }
+
+    fn nulls(&self, batch: usize, column: usize, vector: usize) -> Mask {
+        let found = vector_in(self.store, batch, column, vector);
+        let mut nulls = found.null_rows();
+        nulls.set_range(found.rows(), VECTOR_ROWS, true);
+        nulls
+    }
+
+    fn compare(
+        &mut self,
+        batch: usize,
+        column: usize,
+        vector: usize,
+        op: Op,
+        literal: i128,
+        mask: &Mask,
+    ) -> (Mask, Mask) {
+        let found = vector_in(self.store, batch, column, vector);
+        compare_vector(found, op, literal, mask, &mut self.meter)
+    }
+
+    fn compare_range(
+        &mut self,
+        batch: usize,
+        column: usize,
+        vector: usize,
+        low: i128,
+        high: i128,
+        mask: &Mask,
+    ) -> (Mask, Mask) {
+        let found = vector_in(self.store, batch, column, vector);
+        compare_vector_range(found, low, high, mask, &mut self.meter)
+    }
+
+    fn compare_columns(
+        &mut self,
+        batch: usize,
+        left: usize,
+        vector: usize,
+        op: Op,
+        right: usize,
+        mask: &Mask,
+    ) -> (Mask, Mask) {
+        let left = vector_in(self.store, batch, left, vector);
+        let right = vector_in(self.store, batch, right, vector);
+        compare_vectors(left, op, right, mask, &mut self.meter)
+    }
+
+    fn count(&self, batch: usize, column: usize, vector: usize, mask: &Mask) -> usize {
+        let found = vector_in(self.store, batch, column, vector);
+        count(found, mask) as usize
+    }
+
+    fn sum(&mut self, batch: usize, column: usize, vector: usize, mask: &Mask) -> i128 {
+        let found = vector_in(self.store, batch, column, vector);
+        vector_sum(found, mask, &mut self.meter)
+    }
+
+    fn min(&mut self, batch: usize, column: usize, vector: usize, mask: &Mask) -> Option<i64> {
+        let found = vector_in(self.store, batch, column, vector);
+        vector_min(found, mask, &mut self.meter)
+    }
+
+    fn max(&mut self, batch: usize, column: usize, vector: usize, mask: &Mask) -> Option<i64> {
+        let found = vector_in(self.store, batch, column, vector);
+        vector_max(found, mask, &mut self.meter)
+    }
+
+    fn decode_into(
+        &mut self,
+        batch: usize,
+        column: usize,
+        vector: usize,
+        values: &mut [i64; 1024],
+    ) {
+        let found = vector_in(self.store, batch, column, vector);
+        decode_vector(found, values, &mut self.meter);
+    }
+}
