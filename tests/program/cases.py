@@ -10,6 +10,28 @@ FIRST = b"table 2 T A SMALLINT\nappend 1 (7)\nmerge 2 1\nquery 2 SELECT COUNT(*)
 FIRST_REPLIES = b"ok\nok 1.1\nok\nok 1\nCOUNT(*)\n1\n"
 
 
+
+def batch(origin, number, value):
+    """A batch of one row of one SMALLINT column: FOR at width 0, so that its bytes are the name, the row count and the value."""
+    return origin.to_bytes(4, "little") + number.to_bytes(4, "little") + bytes(2) + bytes([0, 0, 0, 0, 0]) + value.to_bytes(2, "little")
+
+
+def file_of(table, *batches):
+    """The canonical file of a table with the one column A SMALLINT, without deletions."""
+    return b"FLCF" + bytes([1, 0, 1, 0, 1]) + table + bytes([2, 1]) + b"A" + len(batches).to_bytes(4, "little") + b"".join(batches) + bytes(8)
+
+
+# The canonical file of T(A SMALLINT) with the batch 1.1 of one row, 7: 42 bytes; and files like it.
+ONE_ROW = file_of(b"T", batch(1, 1, 7))
+OTHER_ROW = file_of(b"T", batch(1, 1, 8))
+SECOND_BATCH = file_of(b"T", batch(2, 1, 7))
+BOTH = file_of(b"T", batch(1, 1, 7), batch(2, 1, 7))
+OTHER_TABLE = file_of(b"U", batch(1, 1, 7))
+
+# The same row at width 1, with 128 bytes of packed zeros after the reference.
+WIDER = ONE_ROW[:29] + b"\x01" + ONE_ROW[30:34] + bytes(128) + ONE_ROW[34:]
+
+
 @dataclass
 class Case:
     """One run. An output is given whole, as bytes, or as a list of texts that it must have."""
@@ -21,6 +43,8 @@ class Case:
     err: object = b""
     input: bytes = b""
     files: dict = field(default_factory=dict)
+    # What files hold afterwards; None: there is no such file.
+    writes: dict = field(default_factory=dict)
     # Where standard input and output go in place of a pipe: "folder" can't be read, "full" takes no byte, "terminal" is one.
     input_from: str = "pipe"
     output_to: str = "pipe"
@@ -56,4 +80,39 @@ CASES = [
         input=b"table 1 T A SMALLINT\nappend 1 (32768)\n\nappend 1 7\nappend 1 (7)\n",
     ),
     Case("on a terminal the program says that it waits for lines", ["run"], 0, b"ok\n", [b"reading a script's lines"], input=b"table 1 T A INTEGER\n", input_from="terminal"),
+    Case("a canonical file is checked", ["check", "t.lanes"], 0, b"ok batches=1 ranges=0\n", files={"t.lanes": ONE_ROW}),
+    Case("a file that isn't there can't be checked", ["check", "none"], 1, err=b"refused ReadFault\n"),
+    Case("a folder can't be checked", ["check", "."], 1, err=b"refused ReadFault\n"),
+    Case("an empty file is cut short", ["check", "t"], 1, err=b"refused Truncated 0\n", files={"t": b""}),
+    Case("a file that is cut is cut short at its length", ["check", "t"], 1, err=b"refused Truncated 41\n", files={"t": ONE_ROW[:41]}),
+    Case("bytes after a file are refused at their place", ["check", "t"], 1, err=b"refused TrailingBytes 42\n", files={"t": ONE_ROW + b"\0"}),
+    Case("a file of another magic is refused", ["check", "t"], 1, err=b"refused BadMagic\n", files={"t": b"G" + ONE_ROW[1:]}),
+    Case("a wider packing isn't canonical", ["check", "t"], 1, err=b"refused NotCanonical 29\n", files={"t": WIDER}),
+    Case("the name - is a file's name for check", ["check", "-"], 0, b"ok batches=1 ranges=0\n", files={"-": ONE_ROW}),
+    Case("a report of a check that can't be written is a failed write", ["check", "t"], 1, err=b"refused WriteFault\n", files={"t": ONE_ROW}, output_to="full"),
+    Case("check wants a file", ["check"], 2, err=[b"FILE"]),
+    Case("one file merged is the same file", ["merge", "out", "t"], 0, b"ok\n", files={"t": ONE_ROW}, writes={"out": ONE_ROW}),
+    Case("a file merged with itself is the same file", ["merge", "out", "t", "t"], 0, b"ok\n", files={"t": ONE_ROW}, writes={"out": ONE_ROW}),
+    Case("the file that is written may be one that is merged", ["merge", "t", "t", "u"], 0, b"ok\n", files={"t": ONE_ROW, "u": SECOND_BATCH}, writes={"t": BOTH, "u": SECOND_BATCH}),
+    Case("two files in either order are the same file", ["merge", "out", "u", "t"], 0, b"ok\n", files={"t": ONE_ROW, "u": SECOND_BATCH}, writes={"out": BOTH}),
+    Case("a conflict is refused and leaves the file that is there", ["merge", "out", "t", "u"], 1, err=b"refused Conflict 1.1\n", files={"t": ONE_ROW, "u": OTHER_ROW, "out": b"old"}, writes={"out": b"old"}),
+    Case("another table is refused", ["merge", "out", "t", "u"], 1, err=b"refused SchemaDiffers\n", files={"t": ONE_ROW, "u": OTHER_TABLE}, writes={"out": None}),
+    Case("a file that isn't there can't be merged", ["merge", "out", "t", "none"], 1, err=b"refused ReadFault\n", files={"t": ONE_ROW}, writes={"out": None}),
+    Case("a file in a folder that isn't there can't be written", ["merge", "none/out", "t"], 1, err=b"refused WriteFault\n", files={"t": ONE_ROW}),
+    Case("merge wants a file to write and one to read", ["merge", "out"], 2, err=[b"IN"]),
+    Case("a query over a file is answered", ["query", "t", "SELECT SUM(A) FROM T"], 0, b"SUM(A)\n7\n", files={"t": ONE_ROW}),
+    Case(
+        "several queries are answered one after another",
+        ["query", "t", "SELECT COUNT(*) FROM T", "select a from t group by a having avg(a) = 7"],
+        0,
+        b"COUNT(*)\n2\nA\n7\n",
+        files={"t": BOTH},
+    ),
+    Case("the first refusal ends them", ["query", "t", "SELECT SUM(A) FROM T", "SELECT B FROM T GROUP BY B", "SELECT"], 1, b"SUM(A)\n7\n", b"refused NoSuchColumn 7\n", files={"t": ONE_ROW}),
+    Case("an empty query is a fault at its beginning", ["query", "t", ""], 1, err=b"refused Syntax 0\n", files={"t": ONE_ROW}),
+    Case("a query that begins with a hyphen is a query", ["query", "t", "-x"], 1, err=b"refused Syntax 0\n", files={"t": ONE_ROW}),
+    Case("another table's query is refused", ["query", "t", "SELECT SUM(A) FROM U"], 1, err=b"refused NoSuchTable\n", files={"t": ONE_ROW}),
+    Case("a file is judged before a query", ["query", "t", "SELECT"], 1, err=b"refused Truncated 3\n", files={"t": b"FLC"}),
+    Case("an answer that can't be written is a failed write", ["query", "t", "SELECT SUM(A) FROM T"], 1, err=b"refused WriteFault\n", files={"t": ONE_ROW}, output_to="full"),
+    Case("query wants a file and a query", ["query", "t"], 2, err=[b"SQL"], files={"t": ONE_ROW}),
 ]

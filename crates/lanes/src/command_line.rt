@@ -28,7 +28,7 @@ pub enum Source<'a> {
 }
 
 /// What the command line asks for.
-#[derive(Clone, Copy, Debug, PartialEq, Eq)]
+#[derive(Drop)]
 pub enum Request<'a> {
     /// `lanes run [--explain] [FILE]`: a script's replies, written to standard output.
     Run {
@@ -36,6 +36,25 @@ pub enum Request<'a> {
         source: Source<'a>,
         /// Whether standard error says why each refused line is refused.
         is_explained: bool,
+    },
+    /// `lanes check FILE`: whether a file is a canonical one, and how much stands in it.
+    Check {
+        /// The file's name.
+        file: &'a str,
+    },
+    /// `lanes merge OUT IN..`: the canonical file of what all of some files hold.
+    Merge {
+        /// The name of the file that is written.
+        out: &'a str,
+        /// The names of the files that are merged, at least one.
+        files: Vec<&'a str>,
+    },
+    /// `lanes query FILE SQL..`: the answers of queries over a file, one after another.
+    Query {
+        /// The file's name.
+        file: &'a str,
+        /// The queries, at least one.
+        queries: Vec<&'a str>,
     },
 }
 
@@ -60,9 +79,38 @@ pub fn read_request<'a>(alloc: Global, words: &'a [String]) -> Result<Request<'a
 {
     let matches = commands(alloc)?.try_get_matches_from(words)?;
     match matches.subcommand() {
+        Some(("check", given)) => Ok(Request::Check {
+            file: text_of(given, "FILE"),
+        }),
+        Some(("merge", given)) => Ok(Request::Merge {
+            out: text_of(given, "OUT"),
+            files: texts_of(alloc, given, "IN")?,
+        }),
+        Some(("query", given)) => Ok(Request::Query {
+            file: text_of(given, "FILE"),
+            queries: texts_of(alloc, given, "SQL")?,
+        }),
         Some((_run, given)) => Ok(run_of(given)),
         None => Ok(run_of(&matches)),
     }
+}
+
+/// The word that was given for an argument that must be there.
+fn text_of<'a>(given: &ArgMatches<'a>, argument: &str) -> &'a str {
+    given.get_str(argument).unwrap_or("")
+}
+
+/// The words that were given for an argument.
+fn texts_of<'a>(
+    alloc: Global,
+    given: &ArgMatches<'a>,
+    argument: &str,
+) -> Result<Vec<&'a str>, AllocError> {
+    let mut texts = Vec::new(alloc);
+    for text in given.get_strs(argument).unwrap_or(&[]) {
+        texts.push(*text)?;
+    }
+    Ok(texts)
 }
 
 /// What `lanes run` asks for: a script from a file, or from standard input where none is named or its name is `-`.
@@ -96,8 +144,16 @@ fn not_utf8(alloc: Global) -> Result<clap::Error, AllocError> {
     commands(alloc)?.error(error::ErrorKind::InvalidValue, "an argument is not UTF-8")
 }
 
-/// The program's commands.
-pub(crate) fn commands<'a>(alloc: Global) -> Result<Command<'a>, AllocError> {
+/// A word that must be there, taken as it is.
+fn word<'a>(alloc: Global, name: &'a str, help: &'a str) -> Arg<'a> {
+    Arg::new(alloc, name)
+        .help(help)
+        .required(true)
+        .allow_hyphen_values(true)
+}
+
+/// `lanes run`.
+fn run_command<'a>(alloc: Global) -> Result<Command<'a>, AllocError> {
     let file = Arg::new(alloc, "FILE").help(
         "The script's file, or - for standard input, as where none is named",
     );
@@ -105,14 +161,50 @@ pub(crate) fn commands<'a>(alloc: Global) -> Result<Command<'a>, AllocError> {
         .long("explain")
         .action(ArgAction::SetTrue)
         .help("Say on standard error of each refused line its number and why it is refused");
-    let run = Command::new(alloc, "run")
+    Command::new(alloc, "run")
         .about("Runs a script and writes its replies to standard output")
         .after_help(SCRIPT_HELP)
         .arg(explain)?
-        .arg(file)?;
+        .arg(file)
+}
+
+/// `lanes check`.
+fn check_command<'a>(alloc: Global) -> Result<Command<'a>, AllocError> {
+    Command::new(alloc, "check")
+        .about(
+            "Says whether a file is a canonical one, and how many batches and ranges of deletions it has",
+        )
+        .arg(word(alloc, "FILE", "The file"))
+}
+
+/// `lanes merge`.
+fn merge_command<'a>(alloc: Global) -> Result<Command<'a>, AllocError> {
+    Command::new(alloc, "merge")
+        .about(
+            "Writes the canonical file of what all of some files hold; where a merge is refused, OUT stays as it was",
+        )
+        .arg(word(alloc, "OUT", "The file that is written"))?
+        .arg(word(alloc, "IN", "The files that are merged, in this order").num_args(1..))
+}
+
+/// `lanes query`.
+fn query_command<'a>(alloc: Global) -> Result<Command<'a>, AllocError> {
+    Command::new(alloc, "query")
+        .about(
+            "Writes the answers of queries over a file, one after another; docs/SQL.md has the language",
+        )
+        .arg(word(alloc, "FILE", "The file"))?
+        .arg(word(alloc, "SQL", "The queries").num_args(1..))
+}
+
+/// The program's commands.
+pub(crate) fn commands<'a>(alloc: Global) -> Result<Command<'a>, AllocError> {
     Command::new(alloc, "lanes")
         .about("A replicated column store for one table of nullable integer columns")
         .version(VERSION)
         .subcommand_required(true)
-        .subcommand(run)
+        .subcommand(run_command(alloc)?)?
+        .subcommand(check_command(alloc)?)?
+        .subcommand(merge_command(alloc)?)?
+        .subcommand(query_command(alloc)?)
 }

@@ -3,6 +3,7 @@
 
 mod command_line;
 mod fault;
+mod files;
 #[cfg(test)]
 mod tests;
 
@@ -34,10 +35,25 @@ fn run<R: Print + Input + Env + Files + AllocGlobal, N: Write>(
     notes: &mut N,
 ) -> Result<(), Fault> {
     let words = command_line::arguments(rt)?;
-    let Request::Run {
-        source,
-        is_explained,
-    } = command_line::read_request(rt.alloc(), words.as_slice())?;
+    match command_line::read_request(rt.alloc(), words.as_slice())? {
+        Request::Run {
+            source,
+            is_explained,
+        } => run_source(rt, source, is_explained, is_typed, notes),
+        Request::Check { file } => files::check(rt, file),
+        Request::Merge { out, files } => files::merge(rt, out, files.as_slice()),
+        Request::Query { file, queries } => files::query(rt, file, queries.as_slice()),
+    }
+}
+
+/// Runs a script from where it is read from.
+fn run_source<R: Print + Input + Files + AllocGlobal, N: Write>(
+    rt: &R,
+    source: Source<'_>,
+    is_explained: bool,
+    is_typed: bool,
+    notes: &mut N,
+) -> Result<(), Fault> {
     match source {
         Source::Input => {
             if is_typed {

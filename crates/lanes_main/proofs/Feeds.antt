@@ -8,14 +8,14 @@ use Rattle.std.proofs.lemmas.Option.{some_pair_parts}
 use Rattle.std.proofs.lemmas.List.{take_all, length-append, length-replicate, append-nil}
 use Rattle.std.proofs.Math.ListN.{length-take}
 use Rattle.table_model.specs.declared.refusal.Refusal.TheVariants.{LineTooLong}
-use Rattle.lanes_main.specs.Cluster.{ClusterParts}
+use Rattle.cluster_history.specs.Cluster.{ClusterParts}
 use Rattle.lanes_main.specs.ReplyText.{reply_text_of}
-use Rattle.lanes_main.specs.Word.{cut, longer, pieces, onto_first}
-use Rattle.lanes_main.specs.Line.{command_of}
+use Rattle.script_lines.specs.Word.{cut, longer, pieces, onto_first}
+use Rattle.script_lines.specs.Line.{command_of}
 use Rattle.lanes_main.specs.Script.{line_limit, line_answer, command_answer, line_text, after_line, lines_text, onto_line, script_text, text_from, grown}
-use Rattle.lanes_main.specs.declared.reply.Reply.{Reply}
-use Rattle.lanes_main.specs.declared.reply.Reply.TheVariants.{Refused}
-use Rattle.lanes_main.proofs.Cuts.{is, cut_none, cut_some, pieces_at, pieces_cut}
+use Rattle.cluster_history.specs.declared.reply.Reply.{Reply}
+use Rattle.cluster_history.specs.declared.reply.Reply.TheVariants.{Refused}
+use Rattle.script_lines.proofs.Cuts.{is, cut_none, cut_some, pieces_at, pieces_cut}
 
 -- the place of the first line feed is where the bytes are cut
 pub position_none : (bs : List ℕ) → None ≡ position (λ b. b == 10) bs → None ≡ cut 10 bs

@@ -1,16 +1,4 @@
-pub mod Apart
-pub mod AnswerTexts
-pub mod ColumnLaws
-pub mod Cuts
 pub mod Feeds
-pub mod Numerals
-pub mod Placed
-pub mod Printable
-pub mod RowLaws
-pub mod Runs
 pub mod ScriptRuns
-pub mod Spellings
 pub mod Tellings
-pub mod Histories
-pub mod Takes
 pub mod WholeLines

@@ -6,20 +6,20 @@ use Rattle.table_model.specs.Operation.{SameOperations}
 use Rattle.table_model.specs.Table.{Table, schema_of}
 use Rattle.table_model.specs.declared.refusal.Refusal.{Refusal}
 use Rattle.table_model.specs.declared.refusal.Refusal.TheVariants.{BadLine, LineTooLong}
-use Rattle.lanes_main.specs.Cluster.{ClusterParts, new_cluster, step_of}
-use Rattle.lanes_main.specs.History.{new_taken, taken_of, taken_by, replica_numbered, AreAlike}
-use Rattle.lanes_main.specs.Line.{command_of}
+use Rattle.cluster_history.specs.Cluster.{ClusterParts, new_cluster, step_of}
+use Rattle.cluster_history.specs.History.{new_taken, taken_of, taken_by, replica_numbered, AreAlike}
+use Rattle.script_lines.specs.Line.{command_of}
 use Rattle.lanes_main.specs.ReplyText.{reply_text_of}
-use Rattle.lanes_main.specs.Run.{Run, answered}
+use Rattle.cluster_history.specs.Run.{Run, answered}
 use Rattle.lanes_main.specs.Script.{line_limit, founded, first_answer, later_answer, goes_on, line_answer, line_text, after_line, lines_text, after_lines}
 use Rattle.lanes_main.specs.ScriptRun.{replies_of, cluster_after, step_in, asked_by, steps_of, unasked_text, next_text, replies_text, MakesTable, MakesOneOrNone, StepsRun, WritesReplies, EndsAsRun, SameInScripts, ScriptLaws}
-use Rattle.lanes_main.specs.TableWords.{TableWords}
-use Rattle.lanes_main.specs.declared.command.Command.{Command}
-use Rattle.lanes_main.specs.declared.command.Command.TheVariants as commands
-use Rattle.lanes_main.specs.declared.reply.Reply.{Reply}
-use Rattle.lanes_main.specs.declared.reply.Reply.TheVariants.{Done, Refused}
-use Rattle.lanes_main.specs.declared.step.Step.{Step}
-use Rattle.lanes_main.proofs.Histories.{in_histories}
+use Rattle.script_lines.specs.TableWords.{TableWords}
+use Rattle.script_lines.specs.declared.command.Command.{Command}
+use Rattle.script_lines.specs.declared.command.Command.TheVariants as commands
+use Rattle.cluster_history.specs.declared.reply.Reply.{Reply}
+use Rattle.cluster_history.specs.declared.reply.Reply.TheVariants.{Done, Refused}
+use Rattle.script_lines.specs.declared.step.Step.{Step}
+use Rattle.cluster_history.proofs.Histories.{in_histories}
 
 steps_run : StepsRun
 steps_run c [] = refl

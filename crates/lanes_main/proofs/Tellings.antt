@@ -4,15 +4,17 @@ use Rattle.std.specs.Io.KnownBytes.{Appends, Consumes, Keeps, IsAtEnd}
 use Rattle.std.proofs.Common.{refl, sym, ap, ◌∙◌, arith, append_assoc, subst, inl, inr}
 use Rattle.std.proofs.lemmas.List.{length-append, append-nil, append_cancel_right}
 use Rattle.std.proofs.lemmas.Bool.Decides.{nat_tests}
-use Rattle.table_model.specs.Counted.{one_more}
-use Rattle.lanes_main.specs.Cluster.{ClusterParts}
+use Rattle.table_model.specs.Faults.{AppendsFront, IsWithin, GaveMore, Failed}
+use Rattle.table_model.specs.declared.counted.TheConstants.{READ_LIMIT}
+use Rattle.table_model.proofs.Written.{appends_both}
+use Rattle.cluster_history.specs.Cluster.{ClusterParts}
 use Rattle.lanes_main.specs.ReplyText.{reply_text_of}
 use Rattle.lanes_main.specs.Script.{line_limit, lines_text, after_lines, whole_lines, script_text, text_from}
-use Rattle.lanes_main.specs.Word.{pieces}
-use Rattle.lanes_main.specs.declared.reply.Reply.TheVariants.{Refused}
+use Rattle.script_lines.specs.Word.{pieces}
+use Rattle.cluster_history.specs.declared.reply.Reply.TheVariants.{Refused}
 use Rattle.table_model.specs.declared.refusal.Refusal.{Refusal}
 use Rattle.table_model.specs.declared.refusal.Refusal.TheVariants.{Memory, ReadFault, WriteFault, LineTooLong}
-use Rattle.lanes_main.specs.Told.{Sofar, AppendsFront, ToldFront, ToldAll, GaveMore, IsWithin, GoesOn, EndsEarly, Reached, Failed, read_limit}
+use Rattle.lanes_main.specs.Told.{Sofar, ToldFront, ToldAll, GoesOn, EndsEarly, Reached}
 use Rattle.lanes_main.proofs.Feeds.{script_start, long_from}
 use Rattle.lanes_main.proofs.WholeLines.{last_line, text_whole}
 
@@ -20,13 +22,6 @@ use Rattle.lanes_main.proofs.WholeLines.{last_line, text_whole}
 pub appends_none : (known : Option (List ℕ)) → Appends known known []
 appends_none None = tt
 appends_none (Some xs) = sym (append-nil xs)
-
--- one piece after another
-pub appends_both : (old mid new : Option (List ℕ)) (xs ys : List ℕ) → Appends old mid xs → Appends mid new ys → Appends old new (xs ++ ys)
-appends_both None mid new xs ys h k = tt
-appends_both (Some a) None new xs ys h k = absurd h
-appends_both (Some a) (Some b) None xs ys h k = absurd k
-appends_both (Some a) (Some b) (Some c) xs ys h k = k ∙ ap (λ (x : List ℕ). x ++ ys) h ∙ append_assoc a xs ys
 
 -- an error of a writer leaves what it holds
 pub appends_kept : (old new : Option (List ℕ)) → Keeps old new → Appends old new []
@@ -137,14 +132,14 @@ told_all (Some xs) (Some ys) before now now' cluster part out total h end is wro
     subst P (sym text) (appends_both before now now' h.1 out h.4 wrote)
 
 -- more was read than a call reads
-pub gave_more : (input rest before now : Option (List ℕ)) (cluster : Option ClusterParts) (part : List ℕ) (total : ℕ) → Sofar input rest before now cluster part total → read_limit < total → GaveMore input rest
+pub gave_more : (input rest before now : Option (List ℕ)) (cluster : Option ClusterParts) (part : List ℕ) (total : ℕ) → Sofar input rest before now cluster part total → READ_LIMIT < total → GaveMore input rest
 gave_more None rest before now cluster part total h past = tt
 gave_more (Some xs) None before now cluster part total h past = absurd h
 gave_more (Some xs) (Some ys) before now cluster part total h past =
     let lengths : length xs ≡ length h.0 + length ys = ap length h.2 ∙ length-append h.0 ys in omega (arith, h.3)
 
 -- at the end all was read, and it isn't more than a call reads
-pub gave_within : (input rest before now : Option (List ℕ)) (cluster : Option ClusterParts) (part : List ℕ) (total : ℕ) → Sofar input rest before now cluster part total → IsAtEnd rest → total ≤ read_limit → IsWithin input
+pub gave_within : (input rest before now : Option (List ℕ)) (cluster : Option ClusterParts) (part : List ℕ) (total : ℕ) → Sofar input rest before now cluster part total → IsAtEnd rest → total ≤ READ_LIMIT → IsWithin input
 gave_within None rest before now cluster part total h end within = tt
 gave_within (Some xs) None before now cluster part total h end within = absurd h
 gave_within (Some xs) (Some ys) before now cluster part total h end within =
@@ -158,12 +153,6 @@ told_kept None rest rest' before now cluster part total h kept = tt
 told_kept (Some xs) None rest' before now cluster part total h kept = absurd h
 told_kept (Some xs) (Some ys) None before now cluster part total h kept = absurd kept
 told_kept (Some xs) (Some ys) (Some zs) before now cluster part total h kept = let P : List ℕ → Type 0 = λ r. Sofar (Some xs) (Some r) before now cluster part total in subst P (sym kept) h
-
--- a write that took some bytes didn't fail
-pub took_some : (taken n : ℕ) (piece : List ℕ) → taken ≢ 0 → cond (taken == 0 && not (length piece == 0)) (one_more n) n ≡ n
-took_some taken n piece some =
-    let test : (taken == 0) ≡ false = grind (arith, nat_tests) in
-    ap (λ (t : Bool). cond (t && not (length piece == 0)) (one_more n) n) test
 
 -- whatever session it was read into, what was told is the replies to the whole lines: a line past the limit that follows is refused by all alike
 pinned : (read done : List ℕ) (cluster : Option ClusterParts) (part : List ℕ) (n : ℕ) → line_limit < n

@@ -1,12 +1,4 @@
-pub mod Cluster
-pub mod History
-pub mod Line
-pub mod Reading
 pub mod ReplyText
-pub mod Run
 pub mod Script
 pub mod ScriptRun
-pub mod Spelled
-pub mod TableWords
 pub mod Told
-pub mod Word

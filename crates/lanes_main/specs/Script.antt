@@ -3,16 +3,16 @@ use Rattle.std.specs.Prelude.{ℕ, ◌+◌, ◌-◌, cond, nat_lt, List, [], ◌
 use Rattle.table_model.specs.Table.{Table, schema_of}
 use Rattle.table_model.specs.declared.refusal.Refusal.{Refusal}
 use Rattle.table_model.specs.declared.refusal.Refusal.TheVariants.{BadLine, LineTooLong}
-use Rattle.lanes_main.specs.Cluster.{ClusterParts, new_cluster, step_of}
-use Rattle.lanes_main.specs.Line.{command_of}
+use Rattle.cluster_history.specs.Cluster.{ClusterParts, new_cluster, step_of}
+use Rattle.script_lines.specs.Line.{command_of}
 use Rattle.lanes_main.specs.ReplyText.{reply_text_of}
-use Rattle.lanes_main.specs.Run.{answered}
-use Rattle.lanes_main.specs.TableWords.{TableWords}
-use Rattle.lanes_main.specs.Word.{pieces}
-use Rattle.lanes_main.specs.declared.command.Command.{Command}
-use Rattle.lanes_main.specs.declared.command.Command.TheVariants as commands
-use Rattle.lanes_main.specs.declared.reply.Reply.{Reply}
-use Rattle.lanes_main.specs.declared.reply.Reply.TheVariants.{Done, Refused}
+use Rattle.cluster_history.specs.Run.{answered}
+use Rattle.script_lines.specs.TableWords.{TableWords}
+use Rattle.script_lines.specs.Word.{pieces}
+use Rattle.script_lines.specs.declared.command.Command.{Command}
+use Rattle.script_lines.specs.declared.command.Command.TheVariants as commands
+use Rattle.cluster_history.specs.declared.reply.Reply.{Reply}
+use Rattle.cluster_history.specs.declared.reply.Reply.TheVariants.{Done, Refused}
 
 -- how many bytes a line may have, without its line feed
 abbrev pub line_limit : ℕ

@@ -4,17 +4,17 @@ use Rattle.std.specs.List.{filter_map}
 use Rattle.table_model.specs.Operation.{SameOperations}
 use Rattle.table_model.specs.Table.{Table}
 use Rattle.table_model.specs.declared.refusal.Refusal.TheVariants.{BadLine, LineTooLong}
-use Rattle.lanes_main.specs.Cluster.{ClusterParts, new_cluster, step_of}
-use Rattle.lanes_main.specs.History.{new_taken, taken_of, taken_by, replica_numbered, AreAlike}
-use Rattle.lanes_main.specs.Line.{command_of}
+use Rattle.cluster_history.specs.Cluster.{ClusterParts, new_cluster, step_of}
+use Rattle.cluster_history.specs.History.{new_taken, taken_of, taken_by, replica_numbered, AreAlike}
+use Rattle.script_lines.specs.Line.{command_of}
 use Rattle.lanes_main.specs.ReplyText.{reply_text_of}
-use Rattle.lanes_main.specs.Run.{Run, answered}
+use Rattle.cluster_history.specs.Run.{Run, answered}
 use Rattle.lanes_main.specs.Script.{line_limit, line_answer, lines_text, after_lines}
-use Rattle.lanes_main.specs.declared.command.Command.{Command}
-use Rattle.lanes_main.specs.declared.command.Command.TheVariants as commands
-use Rattle.lanes_main.specs.declared.reply.Reply.{Reply}
-use Rattle.lanes_main.specs.declared.reply.Reply.TheVariants.{Done, Refused}
-use Rattle.lanes_main.specs.declared.step.Step.{Step}
+use Rattle.script_lines.specs.declared.command.Command.{Command}
+use Rattle.script_lines.specs.declared.command.Command.TheVariants as commands
+use Rattle.cluster_history.specs.declared.reply.Reply.{Reply}
+use Rattle.cluster_history.specs.declared.reply.Reply.TheVariants.{Done, Refused}
+use Rattle.script_lines.specs.declared.step.Step.{Step}
 
 -- the replies to steps, one after another, where memory never lacks
 abbrev pub replies_of : ClusterParts → List Step → List Reply

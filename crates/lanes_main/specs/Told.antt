@@ -1,10 +1,8 @@
 -- What a script has told its writer of what its reader gave, where readers and writers tell their bytes.
 use Rattle.std.specs.Prelude.{◌≡◌, ◌⊎◌, ℕ, ◌+◌, ◌<◌, ◌≤◌, List, ◌++◌, length, Option, Some, None}
 use Rattle.std.specs.Io.KnownBytes.{Appends}
-use Rattle.table_model.specs.Counted.{one_more}
-use Rattle.table_model.specs.declared.refusal.Refusal.{Refusal}
-use Rattle.table_model.specs.declared.refusal.Refusal.TheVariants.{Memory, ReadFault, WriteFault}
-use Rattle.lanes_main.specs.Cluster.{ClusterParts}
+use Rattle.table_model.specs.Faults.{AppendsFront}
+use Rattle.cluster_history.specs.Cluster.{ClusterParts}
 use Rattle.lanes_main.specs.Script.{lines_text, whole_lines, script_text, text_from}
 
 -- A part of the input with so many bytes was read, and what was written is what the script's text begins with, whatever bytes
@@ -14,10 +12,6 @@ Sofar None rest before now cluster part total = Unit {0}
 Sofar (Some input) None before now cluster part total = ⊥
 Sofar (Some input) (Some rest) before now cluster part total =
     (read : List ℕ) × (done : List ℕ) × (input ≡ read ++ rest) × (length read ≡ total) × Appends before now done × ((more : List ℕ) → script_text (read ++ more) ≡ done ++ text_from cluster part more)
-
--- the known bytes grew by a front of the text
-abbrev pub AppendsFront : Option (List ℕ) → Option (List ℕ) → List ℕ → Type 0
-AppendsFront before now text = (front : List ℕ) × (back : List ℕ) × (text ≡ front ++ back) × Appends before now front
 
 -- a front of the script's text was written
 abbrev pub ToldFront : Option (List ℕ) → Option (List ℕ) → Option (List ℕ) → Type 0
@@ -48,25 +42,3 @@ abbrev pub Reached : Option (List ℕ) → Option (List ℕ) → Option (List �
 Reached None rest before now = Unit {0}
 Reached (Some input) None before now = ⊥
 Reached (Some input) (Some rest) before now = (read : List ℕ) × (input ≡ read ++ rest) × Appends before now (lines_text None (whole_lines read))
-
--- the most that one call reads
-abbrev pub read_limit : ℕ
-read_limit = 281474976710656
-
--- what the reader has isn't more than a call reads
-abbrev pub IsWithin : Option (List ℕ) → Type 0
-IsWithin None = Unit {0}
-IsWithin (Some input) = length input ≤ read_limit
-
--- the reader gave more than a call reads
-abbrev pub GaveMore : Option (List ℕ) → Option (List ℕ) → Type 0
-GaveMore None rest = Unit {0}
-GaveMore (Some input) None = ⊥
-GaveMore (Some input) (Some rest) = read_limit + length rest < length input
-
--- Which count of failures rose with a refusal, the reader's or the writer's; many is what else makes a ReadFault.
-abbrev pub Failed : Type 0 → Refusal → ℕ → ℕ → ℕ → ℕ → Type 0
-Failed many Memory r r' w w' = (r' ≡ r) × (w' ≡ w)
-Failed many ReadFault r r' w w' = ((r' ≡ one_more r) ⊎ (many × (r' ≡ r))) × (w' ≡ w)
-Failed many WriteFault r r' w w' = (r' ≡ r) × (w' ≡ one_more w)
-Failed many other r r' w w' = ⊥

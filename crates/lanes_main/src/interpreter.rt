@@ -1,45 +1,19 @@
 //! Scripts: lines are read, and each is answered.
 ghost use Rattle.std.specs.Prelude.{◌≡◌, ◌⊎◌, ◌<◌, ◌≤◌, [], length, Option, List, ℕ, MatchResult, IfOk, IfErr, OnOk, OnErr};
 ghost use Rattle.std.specs.Io.KnownBytes.{Appends, Consumes, IsAtEnd, Keeps};
-ghost use Rattle.table_model.specs.Counted.{one_more};
-ghost use Rattle.lanes_main.specs.Told.{Sofar, AppendsFront, ToldFront, ToldAll, Reached, GaveMore, Failed, GoesOn, IsWithin, EndsEarly, StaysTold};
+ghost use Rattle.table_model.specs.Faults.{AppendsFront, IsWithin, GaveMore, Failed};
+ghost use Rattle.lanes_main.specs.Told.{Sofar, ToldFront, ToldAll, Reached, GoesOn, EndsEarly, StaysTold};
 
-use crate::line_part::LinePart;
-use crate::notes::Notes;
-use crate::session::{Session, feed, finish};
+use crate::session::Session;
 use std::alloc::Global;
 use std::io::{self, Read, Write};
-use table_model::{Counted, Refusal};
+use table_model::{Counted, READ_LIMIT, Refusal};
 
-/// The most bytes that one call reads.
-const READ_LIMIT: u64 = 281_474_976_710_656;
-
-/// One more than that: each round but the last reads a byte at least.
-const ROUNDS: u64 = 281_474_976_710_657;
+/// How many times is read at most: each round but the last reads a byte at least.
+const ROUNDS: u64 = READ_LIMIT + 1;
 
 /// How many bytes are asked for at once.
 const CHUNK: usize = 65_536;
-
-/// Writes all bytes.
-fn write_whole<W: Write>(writer: &mut Counted<W>, bytes: &[u8]) -> Result<(), Refusal>
-    ensures ok { OnOk result (Appends (W.contents writer.old.0) (W.contents writer.new.0) bytes.now) }
-    ensures front { OnErr result (AppendsFront (W.contents writer.old.0) (W.contents writer.new.0) bytes.now) }
-    ensures kept { OnOk result (writer.new.1 ≡ writer.old.1) }
-    ensures fault { IfErr result (λ e. (e ≡ Refusal.WriteFault) × (writer.new.1 ≡ one_more writer.old.1)) }
-{
-    let mut rest = bytes;
-    while !rest.is_empty() {
-        let Ok(taken) = writer.write(rest) else {
-            return Err(Refusal::WriteFault);
-        };
-        if taken == 0 {
-            return Err(Refusal::WriteFault);
-        }
-        let (_, left) = rest.split_at(taken);
-        rest = left;
-    }
-    Ok(())
-}
 
 /// Reads once, answers the lines that end in what came, and writes their replies; answers how many bytes came, 0 at the end.
 fn round<R: Read, W: Write, N: Write>(
@@ -66,9 +40,9 @@ fn round<R: Read, W: Write, N: Write>(
     };
     let mut out = Vec::new(alloc);
     let (chunk, _) = buffer.split_at(count);
-    feed(alloc, session, &mut out, chunk)?;
-    write_whole(writer, out.as_slice())?;
-    session.notes.tell(notes);
+    session.feed(alloc, &mut out, chunk)?;
+    writer.write_whole(out.as_slice())?;
+    session.tell(notes);
     Ok(count)
 }
 
@@ -91,11 +65,7 @@ fn rounds<R: Read, W: Write, N: Write>(
     ensures kept { OnOk result ((reader.new.1 ≡ reader.old.1) × (writer.new.1 ≡ writer.old.1)) }
     ensures fault { IfErr result (λ e. Failed (GaveMore (R.remaining reader.old.0) (R.remaining reader.new.0)) e reader.old.1 reader.new.1 writer.old.1 writer.new.1) }
 {
-    let mut session = Session {
-        cluster: None,
-        line: LinePart::new(alloc),
-        notes: Notes::new(alloc),
-    };
+    let mut session = Session::new(alloc);
     let mut total: u64 = 0;
     for _turn in 0..ROUNDS {
         let count = round(alloc, reader, writer, notes, &mut session, buffer)?;
@@ -150,9 +120,9 @@ pub fn script_with_notes<R: Read, W: Write, N: Write>(
 {
     let mut buffer = vec![in alloc; 0u8; CHUNK]?;
     let mut session = rounds(alloc, reader, writer, notes, buffer.as_mut_slice())?;
-    let mut out = Vec::new(alloc);
-    finish(alloc, &mut session, &mut out)?;
-    write_whole(writer, out.as_slice())?;
-    session.notes.tell(notes);
+    let mut last = Vec::new(alloc);
+    session.finish(alloc, &mut last)?;
+    writer.write_whole(last.as_slice())?;
+    session.tell(notes);
     Ok(())
 }

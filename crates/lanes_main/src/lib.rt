@@ -1,32 +1,24 @@
-//! Scripts of a table at several replicas: steps and their replies, lines and their grammar, clusters and their histories.
+//! Scripts of a table at several replicas: lines are read, each is answered, and replies are written as their texts. What steps
+//! and clusters are stands in the crates below, and is offered here too.
 #![tactic(auto)]
 
-mod answer_text;
-mod cluster;
-mod columns;
-mod command;
-mod expected;
+mod file_check;
 mod interpreter;
 mod laws;
-mod line;
 mod line_part;
 mod notes;
-mod reply;
+mod querying;
 mod reply_format;
-mod rows;
-mod runner;
 mod session;
-mod step;
 #[cfg(test)]
 mod tests;
-mod words;
 
-pub use cluster::Cluster;
-pub use command::{Command, TableCommand};
+pub use cluster_history::{Cluster, Message, Reply, history_laws, run};
+pub use file_check::check_file;
 pub use interpreter::{script, script_with_notes};
-pub use laws::{history_laws, rows_are_read_as_spelled, script_laws};
-pub use line::parse_line;
-pub use reply::Reply;
+pub use laws::script_laws;
+pub use querying::query_file;
 pub use reply_format::reply_text;
-pub use runner::run;
-pub use step::{Sql, Step};
+pub use script_lines::{
+    Command, FileBytes, Sql, Step, TableCommand, parse_line, rows_are_read_as_spelled,
+};

@@ -1,6 +1,6 @@
 //! Notes on the lines that were refused.
 
-use crate::expected::expected;
+use script_lines::expected;
 use std::alloc::{AllocError, Global};
 use std::io::Write;
 use table_model::Refusal;

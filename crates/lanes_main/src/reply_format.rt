@@ -2,10 +2,11 @@
 ghost use Rattle.std.specs.Prelude.{◌≡◌, ◌++◌, OnOk, IfOk, decimal};
 ghost use Rattle.table_model.specs.Name.{name_text};
 ghost use Rattle.table_model.specs.RefusalText.{refusal_text};
-ghost use Rattle.lanes_main.specs.ReplyText.{named_text, put_text, answered_text, refused_text, reply_text_of};
+ghost use Rattle.lanes_main.specs.ReplyText.{named_text, put_text, sent_text, file_text, answered_text, refused_text, reply_text_of};
 
-use crate::answer_text::{write_answer, write_number};
-use crate::reply::Reply;
+use cluster_history::Reply;
+use itoa::Buffer;
+use query_eval::write_answer;
 use replica_store::Inserted;
 use std::alloc::{AllocError, Global};
 use table_model::{Answer, BatchName, Refusal};
@@ -28,6 +29,8 @@ pub fn write_reply(alloc: Global, out: &mut Vec<u8>, reply: &Reply) -> Result<()
         Reply::Done => out.extend_from_slice(b"ok\n"),
         Reply::Named(name) => write_named(out, *name),
         Reply::Put(inserted) => write_put(out, *inserted),
+        Reply::Sent(number) => write_sent(out, *number),
+        Reply::File(file) => write_file(alloc, out, file.as_slice()),
         Reply::Answered(answer) => write_answered(out, answer),
         Reply::Refused(refusal) => write_refused(alloc, out, *refusal),
     }
@@ -54,6 +57,25 @@ fn write_put(out: &mut Vec<u8>, inserted: Inserted) -> Result<(), AllocError>
     }
 }
 
+/// Writes the number of a message that was made.
+fn write_sent(out: &mut Vec<u8>, number: u32) -> Result<(), AllocError>
+    ensures { OnOk result (out.new.items ≡ out.old.items ++ sent_text number) }
+{
+    out.extend_from_slice(b"ok ")?;
+    write_number(out, u64::from(number))?;
+    out.extend_from_slice(b"\n")
+}
+
+/// Writes the bytes of a file, two hexadecimal digits for each, in lower case.
+fn write_file(alloc: Global, out: &mut Vec<u8>, file: &[u8]) -> Result<(), AllocError>
+    ensures { OnOk result (out.new.items ≡ out.old.items ++ file_text file.now) }
+{
+    let digits = hex::encode(alloc, file)?;
+    out.extend_from_slice(b"ok ")?;
+    out.extend_from_slice(digits.as_bytes())?;
+    out.extend_from_slice(b"\n")
+}
+
 /// Writes how many rows an answer has, and the answer.
 fn write_answered(out: &mut Vec<u8>, answer: &Answer) -> Result<(), AllocError>
     ensures { OnOk result (out.new.items ≡ out.old.items ++ answered_text answer.now) }
@@ -70,4 +92,12 @@ fn write_refused(alloc: Global, out: &mut Vec<u8>, refusal: Refusal) -> Result<(
 {
     let text = format!(in alloc; "refused {refusal}\n")?;
     out.extend_from_slice(text.as_bytes())
+}
+
+/// Writes a number in decimal.
+pub(crate) fn write_number(out: &mut Vec<u8>, number: u64) -> Result<(), AllocError>
+    ensures { OnOk result (out.new.items ≡ out.old.items ++ decimal number) }
+{
+    let mut buffer = Buffer::new();
+    out.extend_from_slice(buffer.format(number).as_bytes())
 }

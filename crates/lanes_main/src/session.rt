@@ -1,30 +1,89 @@
 //! The lines of a script as they come, and their replies.
-ghost use Rattle.std.specs.Prelude.{◌≡◌, ◌≢◌, ◌<◌, ◌∷◌, ◌++◌, ◌==◌, [], List, ℕ, Some, position, IfOk, IfErr, IfSome, OnOk, length, option_map};
+ghost use Rattle.std.specs.Prelude.{◌≡◌, ◌≢◌, ◌<◌, ◌∷◌, ◌++◌, ◌==◌, [], List, ℕ, Some, position, IfOk, IfErr, IfSome, None, OnOk, length, option_map};
 ghost use Rattle.table_model.specs.Table.{schema_of};
-ghost use Rattle.lanes_main.specs.Line.{command_of};
-ghost use Rattle.lanes_main.specs.Run.{answered};
-ghost use Rattle.lanes_main.specs.Cluster.{step_of};
-ghost use Rattle.lanes_main.specs.Word.{cut};
+ghost use Rattle.script_lines.specs.Line.{command_of};
+ghost use Rattle.cluster_history.specs.Run.{answered};
+ghost use Rattle.cluster_history.specs.Cluster.{step_of};
+ghost use Rattle.script_lines.specs.Word.{cut};
 ghost use Rattle.lanes_main.specs.Script.{founded, first_answer, later_answer, line_answer, line_text, after_line, text_from, grown};
 
-use crate::cluster::Cluster;
-use crate::command::{Command, TableCommand};
-use crate::line::parse_line;
 use crate::line_part::{LINE_LIMIT, LinePart};
 use crate::notes::Notes;
-use crate::reply::Reply;
 use crate::reply_format::write_reply;
-use crate::step::Step;
+use cluster_history::{Cluster, Reply};
+use script_lines::{Command, Step, TableCommand, parse_line};
 use std::alloc::Global;
+use std::io::Write;
 use table_model::{Refusal, Schema};
 
 /// What a script has made so far: the cluster, once there is a table, the part of a line that was read last, and the notes on
 /// refused lines that weren't told yet.
 #[derive(Drop)]
 pub struct Session {
-    pub cluster: Option<Cluster>,
-    pub line: LinePart,
-    pub notes: Notes,
+    cluster: Option<Cluster>,
+    line: LinePart,
+    notes: Notes,
+}
+
+impl Session {
+    /// The session of a script of which nothing was read.
+    pub fn new(alloc: Global) -> Session
+        ensures cluster { result.cluster ≡ None }
+        ensures line { result.line ≡ [] }
+    {
+        Session {
+            cluster: None,
+            line: LinePart::new(alloc),
+            notes: Notes::new(alloc),
+        }
+    }
+
+    /// Answers each line that the chunk ends, and keeps what follows the last of them.
+    pub fn feed(&mut self, alloc: Global, out: &mut Vec<u8>, chunk: &[u8]) -> Result<(), Refusal>
+        ensures ok { OnOk result ((more : List ℕ) → out.old.items ++ text_from self.old.cluster self.old.line (chunk.now ++ more)
+            ≡ out.new.items ++ text_from self.new.cluster self.new.line more) }
+        ensures memory { IfErr result (λ e. e ≡ Refusal.Memory) }
+    {
+        let mut left = chunk;
+        while let Some((piece, after)) = cut_line(left) {
+            self.end_line(alloc, out, piece)?;
+            left = after;
+        }
+        self.line.grow(left)?;
+        Ok(())
+    }
+
+    /// Answers the line that the part that was read last and the piece make together.
+    fn end_line(&mut self, alloc: Global, out: &mut Vec<u8>, piece: &[u8]) -> Result<(), Refusal>
+        ensures text { OnOk result (out.new.items ≡ out.old.items ++ line_text self.old.cluster (grown self.old.line piece.now)) }
+        ensures after { OnOk result (self.new.cluster ≡ after_line self.old.cluster (grown self.old.line piece.now)) }
+        ensures line { OnOk result (self.new.line ≡ []) }
+        ensures memory { IfErr result (λ e. e ≡ Refusal.Memory) }
+    {
+        self.line.grow(piece)?;
+        let line = self.line.as_slice();
+        answer_line(alloc, &mut self.cluster, &mut self.notes, out, line)?;
+        self.line.clear();
+        Ok(())
+    }
+
+    /// Answers the last line, which no line feed ends.
+    pub fn finish(&mut self, alloc: Global, out: &mut Vec<u8>) -> Result<(), Refusal>
+        ensures ok { OnOk result (out.new.items ≡ out.old.items ++ text_from self.old.cluster self.old.line []) }
+        ensures memory { IfErr result (λ e. e ≡ Refusal.Memory) }
+    {
+        let line = self.line.as_slice();
+        answer_line(alloc, &mut self.cluster, &mut self.notes, out, line)?;
+        Ok(())
+    }
+
+    /// Tells a writer the notes on refused lines, as far as it takes them.
+    pub fn tell<N: Write>(&mut self, writer: &mut N)
+        ensures cluster { self.new.cluster ≡ self.old.cluster }
+        ensures line { self.new.line ≡ self.old.line }
+    {
+        self.notes.tell(writer);
+    }
 }
 
 /// A refusal as a reply, unless memory lacked: that ends a script.
@@ -163,63 +222,4 @@ fn cut_line(bytes: &[u8]) -> Option<(&[u8], &[u8])>
         None => None,
         Some(end) => Some((&bytes[..end], &bytes[end + 1..])),
     }
-}
-
-/// Answers the line that the session's part and the piece make together.
-fn end_line(
-    alloc: Global,
-    session: &mut Session,
-    out: &mut Vec<u8>,
-    piece: &[u8],
-) -> Result<(), Refusal>
-    ensures text { OnOk result (out.new.items ≡ out.old.items ++ line_text session.old.cluster (grown session.old.line piece.now)) }
-    ensures after { OnOk result (session.new.cluster ≡ after_line session.old.cluster (grown session.old.line piece.now)) }
-    ensures line { OnOk result (session.new.line ≡ []) }
-    ensures memory { IfErr result (λ e. e ≡ Refusal.Memory) }
-{
-    session.line.grow(piece)?;
-    answer_line(
-        alloc,
-        &mut session.cluster,
-        &mut session.notes,
-        out,
-        session.line.as_slice(),
-    )?;
-    session.line.clear();
-    Ok(())
-}
-
-/// Answers each line that the chunk ends, and keeps what follows the last of them.
-pub fn feed(
-    alloc: Global,
-    session: &mut Session,
-    out: &mut Vec<u8>,
-    chunk: &[u8],
-) -> Result<(), Refusal>
-    ensures ok { OnOk result ((more : List ℕ) → out.old.items ++ text_from session.old.cluster session.old.line (chunk.now ++ more)
-        ≡ out.new.items ++ text_from session.new.cluster session.new.line more) }
-    ensures memory { IfErr result (λ e. e ≡ Refusal.Memory) }
-{
-    let mut left = chunk;
-    while let Some((piece, after)) = cut_line(left) {
-        end_line(alloc, session, out, piece)?;
-        left = after;
-    }
-    session.line.grow(left)?;
-    Ok(())
-}
-
-/// Answers the last line, which no line feed ends.
-pub fn finish(alloc: Global, session: &mut Session, out: &mut Vec<u8>) -> Result<(), Refusal>
-    ensures ok { OnOk result (out.new.items ≡ out.old.items ++ text_from session.old.cluster session.old.line []) }
-    ensures memory { IfErr result (λ e. e ≡ Refusal.Memory) }
-{
-    answer_line(
-        alloc,
-        &mut session.cluster,
-        &mut session.notes,
-        out,
-        session.line.as_slice(),
-    )?;
-    Ok(())
 }

@@ -1,7 +1,5 @@
 //! Scripts and the texts that they give, worked out by hand from the rules of lines and steps.
-use crate::{
-    Cluster, Command, Reply, Sql, Step, parse_line, reply_text, run, script, script_with_notes,
-};
+use crate::{Cluster, Reply, Sql, Step, check_file, reply_text, run, script, script_with_notes};
 use std::alloc::Global;
 use std::io;
 use std::io::Write;
@@ -18,10 +16,10 @@ fn text_of(alloc: Global, input: &[u8]) -> Result<Vec<u8>, Refusal> {
     Ok(writer.into_inner())
 }
 
-const SCRIPTS: [(&str, &str); 14] = [
+const SCRIPTS: [(&str, &str); 29] = [
     (
         "table 2 T A SMALLINT\nappend 1 (7)\nmerge 2 1\nquery 2 SELECT COUNT(*) FROM T\nquery 2 SELECT COUNT(*) FROM U\n",
-        "ok\nok 1.1\nok\nok 1\nCOUNT(*)\n1\nrefused BadLine\n",
+        "ok\nok 1.1\nok\nok 1\nCOUNT(*)\n1\nrefused NoSuchTable\n",
     ),
     (
         "table 2 T A SMALLINT\ndelete 1 2.1 0 0\nappend 2 (1),(2),(3)\ndelete 2 2.1 9 9\nmerge 1 2\nmerge 2 1\nquery 1 SELECT COUNT(*) FROM T\n",
@@ -61,10 +59,10 @@ const SCRIPTS: [(&str, &str); 14] = [
         "table 1 T A SMALLINT B BIGINT\nappend 1 (1,2),(3,4)\nappend 1 (1,2)(3,4)\nappend 1 (1,2),\nappend 1 ()\nappend 1 (1,,2)\nappend 1 (1, 2)\nquery 1 SELECT COUNT(*) FROM T\n",
         "ok\nok 1.1\nrefused BadLine\nrefused BadLine\nrefused BadLine\nrefused BadLine\nrefused BadLine\nok 1\nCOUNT(*)\n2\n",
     ),
-    // The order of a query's refusals: its text before its replica.
+    // The order of a query's refusals: its form as a line, its replica, its text.
     (
         "table 1 t A SMALLINT\nquery 9 SELECT COUNT(*) FROM U\nquery 9 SELECT COUNT(*) FROM T\nquery 1 \nquery 1\nask 1\n",
-        "ok\nrefused BadLine\nrefused NoSuchReplica\nrefused BadLine\nrefused BadLine\nrefused BadLine\n",
+        "ok\nrefused NoSuchReplica\nrefused NoSuchReplica\nrefused BadLine\nrefused BadLine\nok 1\n",
     ),
     // The codings of two replicas: a batch that was put into another coding is the same batch.
     (
@@ -75,6 +73,81 @@ const SCRIPTS: [(&str, &str); 14] = [
     (
         "table 1 T A SMALLINT\nappend 1 (7)\nrecode 1 9.9 0 0 FOR\nrecode 0 1.1 0 0 FOR\nrecode 1 0.1 0 0 FOR\nrecode 1 1.1 1 0 FOR\nrecode 1 1.1 0 1 RLE\nrecode 1 1.1 0 0 for\nrecode 1 1.1 0 0 RLE \nrecode 1 1.1 0 0 DELTA\n",
         "ok\nok 1.1\nrefused NoSuchVector\nrefused NoSuchReplica\nrefused NoSuchVector\nrefused NoSuchVector\nrefused NoSuchVector\nrefused BadLine\nrefused BadLine\nok\n",
+    ),
+    // A gap is asked for and served, late and twice; deletions that come meanwhile stay.
+    (
+        "table 2 T A SMALLINT\nappend 1 (1)\nappend 1 (2)\nappend 1 (3)\ninsert 2 1.1 (1)\ninsert 2 1.3 (3)\nask 2\nserve 1 1\ndelete 2 1.2 0 0\ntake 2 2\ntake 2 2\nquery 2 SELECT COUNT(*) FROM T\n",
+        "ok\nok 1.1\nok 1.2\nok 1.3\nok new\nok new\nok 1\nok 2\nok\nok\nok\nok 1\nCOUNT(*)\n2\n",
+    ),
+    // No such message: no such number, a serve of an offer, a take of a summary; and a replica that isn't there comes first.
+    (
+        "table 2 T A SMALLINT\nserve 1 1\ntake 1 0\nask 1\nserve 2 2\nserve 2 0\nserve 2 1\nserve 1 2\ntake 1 1\ntake 3 9\nask 0\nserve 3 9\nask 1 \nask\nserve 1\ntake 1 x\ntake 1 2\nask 2\n",
+        "ok\nrefused NoSuchMessage\nrefused NoSuchMessage\nok 1\nrefused NoSuchMessage\nrefused NoSuchMessage\nok 2\nrefused NoSuchMessage\nrefused NoSuchMessage\nrefused NoSuchReplica\nrefused NoSuchReplica\nrefused NoSuchReplica\nrefused BadLine\nrefused BadLine\nrefused BadLine\nrefused BadLine\nok\nok 3\n",
+    ),
+    // One row, merged and exported: the file of 42 bytes; opened again, it changes nothing, also in upper case.
+    (
+        "table 2 T A SMALLINT\nappend 1 (7)\nmerge 2 1\nquery 2 SELECT COUNT(*) FROM T\nexport 2\nopen 1 464C43460100010001540201410100000001000000010000000000000000000007000000000000000000\nexport 1\n",
+        "ok\nok 1.1\nok\nok 1\nCOUNT(*)\n1\nok 464c43460100010001540201410100000001000000010000000000000000000007000000000000000000\nok\nok 464c43460100010001540201410100000001000000010000000000000000000007000000000000000000\n",
+    ),
+    // Deletions of two replicas, and no batch: one maximal range, a file of 37 bytes.
+    (
+        "table 2 T A SMALLINT\ndelete 1 1.1 0 4\ndelete 2 1.1 5 9\nmerge 1 2\nexport 1\n",
+        "ok\nok\nok\nok\nok 464c4346010001000154020141000000000100000000000000010000000100000000000900\n",
+    ),
+    // An odd number of digits, none, other letters; a replica that isn't there; bytes of another format and too few of them.
+    (
+        "table 1 T A SMALLINT\nopen 1 464\nopen 1 \nopen 1\nopen 1 4G\nopen 2 46\nopen 2 464\nopen 1 46\nopen 1 464C434D0100\nexport 2\nexport\nexport 1 1\n",
+        "ok\nrefused BadLine\nrefused BadLine\nrefused BadLine\nrefused BadLine\nrefused NoSuchReplica\nrefused BadLine\nrefused Truncated 1\nrefused BadMagic\nrefused NoSuchReplica\nrefused BadLine\nrefused BadLine\n",
+    ),
+    // Late and stray deletions, and both exports: 198 bytes that end with two ranges.
+    (
+        "table 2 T A SMALLINT\ndelete 1 2.1 0 0\nappend 2 (1),(2),(3)\ndelete 2 2.1 9 9\nmerge 1 2\nmerge 2 1\nquery 1 SELECT COUNT(*),SUM(A) FROM T\n",
+        "ok\nok\nok 2.1\nok\nok\nok\nok 1\nCOUNT(*),SUM(A)\n2,5\n",
+    ),
+    // Extremes of 64 bits, a null, and a row that is deleted.
+    (
+        "table 1 T A BIGINT\nappend 1 (-9223372036854775808),(-9223372036854775808),(NULL),(5)\ndelete 1 1.1 3 3\nquery 1 SELECT COUNT(*),COUNT(A),SUM(A),AVG(A) FROM T\n",
+        "ok\nok 1.1\nok\nok 1\nCOUNT(*),COUNT(A),SUM(A),AVG(A)\n3,2,-18446744073709551616,-9223372036854775808.000000\n",
+    ),
+    // No rows: one group of none without GROUP BY, no group with it.
+    (
+        "table 1 T A SMALLINT\nquery 1 SELECT COUNT(*),SUM(A) FROM T\nquery 1 SELECT COUNT(*),SUM(A) FROM T GROUP BY A\n",
+        "ok\nok 1\nCOUNT(*),SUM(A)\n0,NULL\nok 0\nCOUNT(*),SUM(A)\n",
+    ),
+    // Three truth values.
+    (
+        "table 1 T A SMALLINT\nappend 1 (1),(NULL),(3)\nquery 1 SELECT COUNT(*) FROM T WHERE A NOT IN (1,2)\nquery 1 SELECT COUNT(*) FROM T WHERE (A = 1) IS UNKNOWN\nquery 1 SELECT COUNT(*) FROM T WHERE NOT A = 1\n",
+        "ok\nok 1.1\nok 1\nCOUNT(*)\n1\nok 1\nCOUNT(*)\n1\nok 1\nCOUNT(*)\n1\n",
+    ),
+    // Groups by a column with nulls, null first.
+    (
+        "table 1 T A SMALLINT B SMALLINT\nappend 1 (1,NULL),(1,3),(NULL,4),(NULL,NULL)\nquery 1 SELECT A,COUNT(*),COUNT(B),SUM(B) FROM T GROUP BY A\n",
+        "ok\nok 1.1\nok 2\nA,COUNT(*),COUNT(B),SUM(B)\nNULL,2,1,4\n1,2,1,3\n",
+    ),
+    // A mean below zero, truncated toward it, under an alias; HAVING that keeps no group.
+    (
+        "table 1 T A SMALLINT\nappend 1 (-1),(-1),(0)\nquery 1 select avg(a) as mean from t\nquery 1 SELECT COUNT(*) FROM T HAVING COUNT(*) > 5\n",
+        "ok\nok 1.1\nok 1\nMEAN\n-0.666666\nok 0\nCOUNT(*)\n",
+    ),
+    // Duplicates taken out where DISTINCT asks for it, and HAVING with AVG and a count of no values.
+    (
+        "table 1 T A SMALLINT\nappend 1 (5),(NULL),(5),(2)\nquery 1 SELECT COUNT(DISTINCT A),SUM(ALL A),SUM(DISTINCT A),MIN(A),MAX(A) FROM T\nquery 1 SELECT A N FROM T GROUP BY A HAVING AVG(A) >= 5 OR COUNT(A) = 0\n",
+        "ok\nok 1.1\nok 1\nCOUNT(DISTINCT A),SUM(A),SUM(DISTINCT A),MIN(A),MAX(A)\n2,12,7,2,5\nok 2\nN\nNULL\n5\n",
+    ),
+    // Columns of two types compared with each other.
+    (
+        "table 1 T A SMALLINT B BIGINT\nappend 1 (1,1),(2,1),(NULL,1),(1,NULL)\nquery 1 SELECT COUNT(*) FROM T WHERE A > B\nquery 1 SELECT COUNT(*) FROM T WHERE (A > B) IS UNKNOWN\n",
+        "ok\nok 1.1\nok 1\nCOUNT(*)\n1\nok 1\nCOUNT(*)\n2\n",
+    ),
+    // Refused queries, each with its place.
+    (
+        "table 1 T A SMALLINT\nquery 1 SELECT COUNT(*) FROM T WHERE\nquery 1 SELECT A FROM T\nquery 1 SELECT COUNT(B) FROM T\nquery 1 SELECT COUNT(*) FROM U\nquery 1 SELECT COUNT(*) FROM T WHERE A<1111111111111111111111111111111\nquery 1 SELECT COUNT(*) FROM T WHERE A<111111111111111111111111111111\n",
+        "ok\nrefused Syntax 28\nrefused NotGrouped 7\nrefused NoSuchColumn 13\nrefused NoSuchTable\nrefused NumberTooLarge 31\nok 1\nCOUNT(*)\n0\n",
+    ),
+    // A gap is asked for, and its rows come.
+    (
+        "table 2 T A SMALLINT\nappend 1 (1)\nappend 1 (2)\nappend 1 (3)\ninsert 2 1.1 (1)\ninsert 2 1.3 (3)\nask 2\nserve 1 1\ndelete 2 1.2 0 0\ntake 2 2\ntake 2 2\nquery 2 SELECT COUNT(*),SUM(A) FROM T\n",
+        "ok\nok 1.1\nok 1.2\nok 1.3\nok new\nok new\nok 1\nok 2\nok\nok\nok\nok 1\nCOUNT(*),SUM(A)\n2,4\n",
     ),
     ("", ""),
 ];
@@ -89,7 +162,7 @@ fn a_script_has_the_reply_to_each_line(rt: HostRuntime) -> Result<(), Fail> {
 }
 
 /// Scripts and the notes on their refused lines: the forms of lines are those of the page on the script language.
-const NOTED: [(&str, &str); 9] = [
+const NOTED: [(&str, &str); 10] = [
     ("table 1 T A SMALLINT\nappend 1 (1)\n", ""),
     (
         "merge 1 1\ntable 65 T A SMALLINT\ntable 1\ntable 1 T A TINYINT\ntable 1 1T A SMALLINT\n",
@@ -113,12 +186,16 @@ const NOTED: [(&str, &str); 9] = [
         "line 2: refused BadLine: a merge is written merge R Q\nline 3: refused BadLine: a replica is a number of 1 to 10 digits, at most 4294967295\n",
     ),
     (
+        "table 1 T A SMALLINT\nask 1 1\nserve 1\nserve 1 x\ntake 1\ntake 1 -1\ntake 1 1\n",
+        "line 2: refused BadLine: an ask is written ask R, R being a replica's number\nline 3: refused BadLine: a serve is written serve R M\nline 4: refused BadLine: a message is a number of 1 to 10 digits, at most 4294967295\nline 5: refused BadLine: a take is written take R M\nline 6: refused BadLine: a message is a number of 1 to 10 digits, at most 4294967295\nline 7: refused NoSuchMessage\n",
+    ),
+    (
         "table 1 T A SMALLINT\nquery 1\nquery 1 SELECT A FROM T\n",
-        "line 2: refused BadLine: a query is written query R SQL\nline 3: refused BadLine: the query is SELECT COUNT(*) FROM and the table's name\n",
+        "line 2: refused BadLine: a query is written query R SQL\nline 3: refused NotGrouped 7\n",
     ),
     (
         "table 1 T A SMALLINT\nAPPEND 1 (1)\nmerge\t1 1\n",
-        "line 2: refused BadLine: a line begins with append, insert, delete, merge, recode or query, and words are separated by one space each\nline 3: refused BadLine: a line has printable ASCII characters alone\n",
+        "line 2: refused BadLine: a line begins with append, insert, delete, merge, ask, serve, take, recode, open, export or query, and words are separated by one space each\nline 3: refused BadLine: a line has printable ASCII characters alone\n",
     ),
     (
         "table 1 T A SMALLINT\ntable 1 T A SMALLINT\n",
@@ -343,20 +420,23 @@ fn a_run_has_the_reply_to_each_step(rt: HostRuntime) -> Result<(), Fail> {
     Ok(())
 }
 
+/// The canonical file of one batch 1.1 with one row, which is 7, in a table T of one column A SMALLINT.
+const ONE_ROW: [u8; 42] = [
+    70, 76, 67, 70, 1, 0, 1, 0, 1, 84, 2, 1, 65, 1, 0, 0, 0, 1, 0, 0, 0, 1, 0, 0, 0, 0, 0, 0, 0, 0,
+    0, 0, 7, 0, 0, 0, 0, 0, 0, 0, 0, 0,
+];
+
+// One batch of one row, and no deletion.
 #[test]
-fn a_line_is_a_table_or_a_step(rt: HostRuntime) -> Result<(), Fail> {
-    match parse_line(rt.alloc(), b"table 3 t a INTEGER b BIGINT")? {
-        Command::Table(table) => {
-            assert!(rt; table.replicas() == 3 && table.table() == "t");
-            assert!(rt;
-                table.columns() == [("a", ColType::Integer), ("b", ColType::BigInt)].as_slice()
-            );
-        }
-        Command::Act(_) => assert!(rt; false, "a table is no step"),
-    }
-    match parse_line(rt.alloc(), b"merge 2 1")? {
-        Command::Act(Step::Merge { replica, other }) => assert!(rt; replica == 2 && other == 1),
-        _ => assert!(rt; false, "a merge is a step"),
-    }
+fn a_file_is_checked(rt: HostRuntime) -> Result<(), Fail> {
+    let mut reader = Counted::new(ONE_ROW.as_slice());
+    let mut writer = Counted::new(Vec::new(rt.alloc()));
+    check_file(rt.alloc(), &mut reader, &mut writer)?;
+    assert!(rt; writer.into_inner().as_slice() == b"ok batches=1 ranges=0\n".as_slice());
+    let mut reader = Counted::new(&ONE_ROW[1..]);
+    let mut writer = Counted::new(Vec::new(rt.alloc()));
+    let outcome = check_file(rt.alloc(), &mut reader, &mut writer);
+    assert!(rt; outcome == Err(Refusal::BadMagic));
+    assert!(rt; writer.into_inner().is_empty());
     Ok(())
 }

@@ -1,6 +1,7 @@
 use Rattle.std.proofs.Common.{◌∙◌, ◌+◌, arith, inr, refl, sym, subst, List, ℕ, None}
 use Rattle.std.proofs.lemmas.Result.{err_from_is_err_and}
-use Rattle.lanes_main.specs.Told.{GaveMore, Sofar}
+use Rattle.table_model.specs.Faults.{GaveMore}
+use Rattle.lanes_main.specs.Told.{Sofar}
 use Rattle.lanes_main.proofs.Tellings.{told_start, told_front, told_reached, gave_within, gave_more, failed_since}
 use Rattle.lanes_main.proofs.interpreter.rounds.Goals as goal
 
@@ -77,12 +78,10 @@ pub returns-clause-fault : goal.returns-clause-fault
 returns-clause-fault g c = absurd (omega (arith, c.loop-turn.invariant.some, c.loop-turn.invariant.limit))
 
 pub loop-turn-init : goal.loop-turn-init
-loop-turn-init g c =
-    let P : List ℕ → Type 0 = λ part. Sofar (g.R.Read.remaining c.args.reader.now.0) (g.R.Read.remaining c.args.reader.now.0) (g.W.Write.contents c.args.writer.now.0) (g.W.Write.contents c.args.writer.now.0) None part 0 in
-    record {
-      told = subst P (sym c.new.ensures) (told_start (g.R.Read.remaining c.args.reader.now.0) (g.W.Write.contents c.args.writer.now.0));
-      some = omega arith;
-      limit = omega arith;
-      reader = refl;
-      writer = refl;
-    }
+loop-turn-init g c = record {
+  told = rw (c.new-session.ensures.cluster, c.new-session.ensures.line) (told_start (g.R.Read.remaining c.args.reader.now.0) (g.W.Write.contents c.args.writer.now.0));
+  some = omega arith;
+  limit = omega arith;
+  reader = refl;
+  writer = refl;
+}

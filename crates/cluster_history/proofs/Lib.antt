@@ -1,0 +1,9 @@
+pub mod Apart
+pub mod Histories
+pub mod Messages
+pub mod Numbers
+pub mod Opened
+pub mod Placed
+pub mod Runs
+pub mod Sent
+pub mod Takes

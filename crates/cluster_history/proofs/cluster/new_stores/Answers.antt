@@ -1,0 +1,17 @@
+use Rattle.std.proofs.Common.{◌≡◌, ◌∙◌, ◌+◌, ◌++◌, ◌∷◌, [], List, ap, sym, arith}
+use Rattle.replica_store.specs.Replica.{Replica}
+use Rattle.replica_store.specs.Segments.{StoreForm}
+use Rattle.cluster_history.specs.Cluster.{empty_replica, new_replicas, replicas_in}
+use Rattle.cluster_history.proofs.Placed.{new_replicas_more}
+use Rattle.cluster_history.proofs.Apart.{map-append}
+use Rattle.cluster_history.proofs.cluster.new_stores.Goals as goal
+
+pub loop-i-preserved : goal.loop-i-preserved
+loop-i-preserved c =
+    let made : empty_replica c.args.schema.now (c.loop-i.i + 1) ≡ c.in_ok-new_store.field-0.replica = cc c.in_ok-new_store.ensures in
+    let own : c.loop-i.i + 1 ≡ 1 + c.loop-i.i = omega arith in
+    ap replicas_in c.in_ok-push.ensures.items
+    ∙ map-append c.loop-i.stores.items (c.in_ok-new_store.field-0 ∷ [])
+    ∙ ap (λ (rs : List Replica). rs ++ (c.in_ok-new_store.field-0.replica ∷ [])) c.loop-i.invariant
+    ∙ ap (λ (r : Replica). new_replicas c.args.schema.now 1 c.loop-i.i ++ (r ∷ [])) (sym made ∙ ap (empty_replica c.args.schema.now) own)
+    ∙ sym (new_replicas_more c.args.schema.now 1 c.loop-i.i)

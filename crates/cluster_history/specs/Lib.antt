@@ -1,0 +1,4 @@
+pub mod Cluster
+pub mod History
+pub mod Message
+pub mod Run

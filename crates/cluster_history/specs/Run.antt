@@ -1,0 +1,37 @@
+-- Runs: steps that are answered one after another, each with its reply.
+use Rattle.std.specs.Prelude.{◌≡◌, ◌⊎◌, List, [], ◌∷◌, Result, Ok, Err, IsOk}
+use Rattle.table_model.specs.declared.refusal.Refusal.{Refusal}
+use Rattle.table_model.specs.declared.refusal.Refusal.TheVariants.{Memory}
+use Rattle.cluster_history.specs.Cluster.{ClusterParts, step_of}
+use Rattle.cluster_history.specs.declared.reply.Reply.{Reply}
+use Rattle.cluster_history.specs.declared.reply.Reply.TheVariants.{Refused}
+use Rattle.script_lines.specs.declared.step.Step.{Step}
+use Rattle.script_lines.specs.declared.step.Step.TheVariants.{Open, Query}
+
+-- a refused step is answered by its refusal, and leaves the cluster
+abbrev pub answered : Result (Reply × ClusterParts) Refusal → ClusterParts → Reply × ClusterParts
+answered (Ok done) old = done
+answered (Err e) old = (Refused e, old)
+
+-- where memory may lack for a step: for what it makes; and as a file and a query's text are taken in while they are read, there also in the place of a refusal
+abbrev pub MayLack : Step → Result (Reply × ClusterParts) Refusal → Type 0
+MayLack (Open replica file) made = Unit {0}
+MayLack (Query replica sql) made = Unit {0}
+MayLack step made = IsOk made
+
+-- a step is done, and that is what it makes; or it is refused, as it has to be or because memory lacked, and nothing changed
+abbrev pub ActsOn : ClusterParts → Step → Result Reply Refusal → ClusterParts → Type 0
+ActsOn old step (Ok reply) new = step_of old step ≡ Ok (reply, new)
+ActsOn old step (Err e) new = (new ≡ old) × ((step_of old step ≡ Err e) ⊎ ((e ≡ Memory) × MayLack step (step_of old step)))
+
+-- the reply and the cluster after a step are what the step makes; or memory lacked, and nothing changed
+abbrev pub StepTo : ClusterParts → Step → Reply → ClusterParts → Type 0
+StepTo old step reply new =
+    (answered (step_of old step) old ≡ (reply, new)) ⊎ ((reply ≡ Refused Memory) × (new ≡ old) × MayLack step (step_of old step))
+
+-- each step has its reply, and they lead from one cluster to another
+abbrev pub Run : ClusterParts → List Step → List Reply → ClusterParts → Type 0
+Run old [] [] new = new ≡ old
+Run old [] (reply ∷ replies) new = ⊥
+Run old (step ∷ steps) [] new = ⊥
+Run old (step ∷ steps) (reply ∷ replies) new = (mid : ClusterParts) × StepTo old step reply mid × Run mid steps replies new

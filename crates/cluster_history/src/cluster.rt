@@ -1,0 +1,360 @@
+//! Clusters: a table at replicas and the messages between them, both numbered from 1.
+ghost use Rattle.std.specs.Prelude.{◌≡◌, ◌≢◌, ◌<◌, ◌≤◌, ◌++◌, codes, length, IfSome, IfOk, Ok};
+ghost use Rattle.query_parser.specs.Descent.{Reads};
+ghost use Rattle.table_model.specs.Outcome.{Acts, Gives};
+ghost use Rattle.cluster_history.specs.Cluster.{new_cluster, new_replicas, replicas_in, empty_replica, place_of, with_message, append_step, insert_step, delete_step, merge_step, ask_step, serve_step, take_step, recode_step, open_step, export_step, merged_in, query_step};
+ghost use Rattle.cluster_history.specs.Message.{carried, messages_in};
+ghost use Rattle.cluster_history.specs.Run.{ActsOn, StepTo};
+
+use crate::files::{exported, opened};
+use crate::message::{Message, offer_at, summary_at};
+use crate::reply::Reply;
+use replica_store::Store;
+use script_lines::Step;
+use segment_core::Coding;
+use std::alloc::Global;
+use std::marker::Model;
+use store_view::ask;
+use table_model::{BatchName, Origin, Refusal, Row, RowName, Schema};
+
+/// How many messages a cluster has at most.
+const MESSAGE_LIMIT: usize = 65_536;
+
+/// A table at replicas and the messages between them, both numbered from 1. Contracts see it as the schema, the list of replicas
+/// and the list of what the messages bring.
+#[derive(Drop)]
+pub struct Cluster {
+    schema: Schema,
+    stores: Vec<Store>,
+    messages: Vec<Message>,
+}
+
+impl Model for Cluster {
+    ghost use Rattle.cluster_history.specs.Cluster.{ClusterParts, coded_cluster, replicas_in};
+    ghost use Rattle.cluster_history.specs.Message.{messages_in};
+
+    ghost Value = { ClusterParts };
+
+    ghost coded = { coded_cluster };
+
+    ghost view = { λ c. record { schema = c.schema; stores = replicas_in c.stores.items; messages = messages_in c.messages.items } };
+}
+
+impl Cluster {
+    /// New replicas of a table, from 1 to 64 of them; replica i has own origin i. `Memory` is the only refusal.
+    #[tactic(auto, unfolding(crate::specs::Cluster::new_cluster))]
+    pub fn new(alloc: Global, schema: &Schema, replicas: usize) -> Result<Cluster, Refusal>
+        requires some { 1 ≤ replicas }
+        requires limit { replicas ≤ 64 }
+        ensures { Gives (λ cluster. cluster) result (Ok (new_cluster schema.now replicas)) }
+    {
+        let stores = new_stores(alloc, schema, replicas)?;
+        let schema = schema.copy(alloc)?;
+        Ok(Cluster {
+            schema,
+            stores,
+            messages: Vec::new(alloc),
+        })
+    }
+
+    /// The table's schema.
+    pub fn schema(&self) -> &Schema
+        ensures { result.now ≡ self.now.schema }
+    {
+        &self.schema
+    }
+
+    /// The replicas; number 1 stands first.
+    pub fn stores(&self) -> &[Store]
+        ensures { replicas_in result.now ≡ self.now.stores }
+    {
+        self.stores.as_slice()
+    }
+
+    /// The messages; number 1 stands first.
+    pub fn messages(&self) -> &[Message]
+        ensures { messages_in result.now ≡ self.now.messages }
+    {
+        self.messages.as_slice()
+    }
+
+    /// The place of the replica with this number.
+    fn place_of(&self, replica: u32) -> Option<usize>
+        ensures place { result ≡ place_of (length self.now.stores) replica }
+        ensures bound { IfSome result (λ place. place < length self.now.stores) }
+    {
+        place_of(self.stores.len(), replica)
+    }
+
+    /// Appends the rows at a replica.
+    fn append(&mut self, alloc: Global, replica: u32, rows: &[Row]) -> Result<Reply, Refusal>
+        ensures { Acts (λ reply. reply) self.old result self.new (append_step self.old replica rows.now) }
+    {
+        let Some(place) = self.place_of(replica) else {
+            return Err(Refusal::NoSuchReplica);
+        };
+        let name = self.stores[place].append(alloc, rows)?;
+        Ok(Reply::Named(name))
+    }
+
+    /// Inserts the rows at a replica.
+    fn insert(
+        &mut self,
+        alloc: Global,
+        replica: u32,
+        name: BatchName,
+        rows: &[Row],
+    ) -> Result<Reply, Refusal>
+        ensures { Acts (λ reply. reply) self.old result self.new (insert_step self.old replica name rows.now) }
+    {
+        let Some(place) = self.place_of(replica) else {
+            return Err(Refusal::NoSuchReplica);
+        };
+        let inserted = self.stores[place].insert(alloc, name, rows)?;
+        Ok(Reply::Put(inserted))
+    }
+
+    /// Deletes rows of a batch at a replica.
+    fn delete(
+        &mut self,
+        alloc: Global,
+        replica: u32,
+        first: RowName,
+        last: u16,
+    ) -> Result<Reply, Refusal>
+        ensures { Acts (λ reply. reply) self.old result self.new (delete_step self.old replica first last) }
+    {
+        let Some(place) = self.place_of(replica) else {
+            return Err(Refusal::NoSuchReplica);
+        };
+        self.stores[place].delete(alloc, first, last)?;
+        Ok(Reply::Done)
+    }
+
+    /// Merges the other replica into a replica; with itself nothing changes.
+    fn merge(&mut self, alloc: Global, replica: u32, other: u32) -> Result<Reply, Refusal>
+        ensures { Acts (λ reply. reply) self.old result self.new (merge_step self.old replica other) }
+    {
+        let Some(place) = self.place_of(replica) else {
+            return Err(Refusal::NoSuchReplica);
+        };
+        let Some(from) = self.place_of(other) else {
+            return Err(Refusal::NoSuchReplica);
+        };
+        if place == from {
+            return Ok(Reply::Done);
+        }
+        merge_apart(alloc, self.stores.as_mut_slice(), place, from)?;
+        Ok(Reply::Done)
+    }
+
+    /// Makes a message of a replica's summary.
+    #[tactic(auto, unfolding(crate::specs::Cluster::ask_step))]
+    fn ask(&mut self, alloc: Global, replica: u32) -> Result<Reply, Refusal>
+        ensures { Acts (λ reply. reply) self.old result self.new (ask_step self.old replica) }
+    {
+        let Some(place) = self.place_of(replica) else {
+            return Err(Refusal::NoSuchReplica);
+        };
+        if self.messages.len() >= MESSAGE_LIMIT {
+            return Err(Refusal::Full);
+        }
+        let summary = self.stores[place].summary(alloc)?;
+        self.send(Message::Summary(summary))
+    }
+
+    /// Makes a message of a replica's offer to the summary that a message is.
+    #[tactic(auto, unfolding(crate::specs::Cluster::serve_step))]
+    fn serve(&mut self, alloc: Global, replica: u32, message: u32) -> Result<Reply, Refusal>
+        ensures { Acts (λ reply. reply) self.old result self.new (serve_step self.old replica message) }
+    {
+        let Some(place) = self.place_of(replica) else {
+            return Err(Refusal::NoSuchReplica);
+        };
+        let Some(summary) = summary_at(self.messages.as_slice(), message) else {
+            return Err(Refusal::NoSuchMessage);
+        };
+        if self.messages.len() >= MESSAGE_LIMIT {
+            return Err(Refusal::Full);
+        }
+        let offer = self.stores[place].offer(alloc, summary)?;
+        self.send(Message::Offer(offer))
+    }
+
+    /// Keeps one more message; the reply is its number.
+    fn send(&mut self, message: Message) -> Result<Reply, Refusal>
+        requires room { length self.old.messages < 65536 }
+        ensures { Acts (λ reply. reply) self.old result self.new (Ok (with_message self.old (carried message))) }
+    {
+        let number = self.messages.len() as u32 + 1;
+        self.messages.push(message)?;
+        Ok(Reply::Sent(number))
+    }
+
+    /// Applies the offer that a message is at a replica.
+    fn take(&mut self, alloc: Global, replica: u32, message: u32) -> Result<Reply, Refusal>
+        ensures { Acts (λ reply. reply) self.old result self.new (take_step self.old replica message) }
+    {
+        let Some(place) = self.place_of(replica) else {
+            return Err(Refusal::NoSuchReplica);
+        };
+        let Some(offer) = offer_at(self.messages.as_slice(), message) else {
+            return Err(Refusal::NoSuchMessage);
+        };
+        self.stores[place].apply(alloc, offer)?;
+        Ok(Reply::Done)
+    }
+
+    /// Puts a vector of a batch at a replica into another coding.
+    fn recode(
+        &mut self,
+        alloc: Global,
+        replica: u32,
+        name: BatchName,
+        column: u32,
+        vector: u32,
+        coding: Coding,
+    ) -> Result<Reply, Refusal>
+        ensures { Acts (λ reply. reply) self.old result self.new (recode_step self.old replica name column vector) }
+    {
+        let Some(place) = self.place_of(replica) else {
+            return Err(Refusal::NoSuchReplica);
+        };
+        self.stores[place].recode(alloc, name, column, vector, coding)?;
+        Ok(Reply::Done)
+    }
+
+    /// Merges what a canonical file holds into a replica.
+    fn open(&mut self, alloc: Global, replica: u32, file: &[u8]) -> Result<Reply, Refusal>
+        ensures { ActsOn self.old (Step.Open replica file.now) result self.new }
+    {
+        let Some(place) = self.place_of(replica) else {
+            return Err(Refusal::NoSuchReplica);
+        };
+        let opened = opened(alloc, file, self.stores[place].own())?;
+        self.stores[place].merge(alloc, &opened)?;
+        Ok(Reply::Done)
+    }
+
+    /// The canonical file of a replica.
+    #[tactic(auto, unfolding(crate::specs::Cluster::export_step))]
+    fn export(&self, alloc: Global, replica: u32) -> Result<Reply, Refusal>
+        ensures { Gives (λ reply. (reply, self.now)) result (export_step self.now replica) }
+    {
+        let Some(place) = self.place_of(replica) else {
+            return Err(Refusal::NoSuchReplica);
+        };
+        let file = exported(alloc, &self.stores[place])?;
+        Ok(Reply::File(file))
+    }
+
+    /// The answer of a query at a replica.
+    #[tactic(auto, unfolding(crate::specs::Cluster::query_step))]
+    fn query(&self, alloc: Global, replica: u32, sql: &str) -> Result<Reply, Refusal>
+        ensures { Reads (λ reply. (reply, self.now)) result (query_step self.now replica sql.now) }
+    {
+        let Some(place) = self.place_of(replica) else {
+            return Err(Refusal::NoSuchReplica);
+        };
+        let answer = ask(alloc, &self.stores[place], sql)?;
+        Ok(Reply::Answered(answer))
+    }
+
+    /// The reply to a step, or its refusal; a refused step leaves the cluster as it was.
+    pub fn act(&mut self, alloc: Global, step: &Step) -> Result<Reply, Refusal>
+        ensures { ActsOn self.old step.now result self.new }
+    {
+        match step {
+            Step::Append { replica, rows } => self.append(alloc, *replica, rows.as_slice()),
+            Step::Insert {
+                replica,
+                name,
+                rows,
+            } => self.insert(alloc, *replica, *name, rows.as_slice()),
+            Step::Delete {
+                replica,
+                first,
+                last,
+            } => self.delete(alloc, *replica, *first, *last),
+            Step::Merge { replica, other } => self.merge(alloc, *replica, *other),
+            Step::Ask { replica } => self.ask(alloc, *replica),
+            Step::Serve { replica, message } => self.serve(alloc, *replica, *message),
+            Step::Take { replica, message } => self.take(alloc, *replica, *message),
+            Step::Recode {
+                replica,
+                name,
+                column,
+                vector,
+                coding,
+            } => self.recode(alloc, *replica, *name, *column, *vector, *coding),
+            Step::Open { replica, file } => self.open(alloc, *replica, file.as_slice()),
+            Step::Export { replica } => self.export(alloc, *replica),
+            Step::Query { replica, sql } => self.query(alloc, *replica, sql.as_str()),
+        }
+    }
+
+    /// The reply to a step; a refusal is a reply too.
+    pub fn step(&mut self, alloc: Global, step: &Step) -> Reply
+        ensures { StepTo self.old step.now result self.new }
+    {
+        match self.act(alloc, step) {
+            Ok(reply) => reply,
+            Err(refusal) => Reply::Refused(refusal),
+        }
+    }
+}
+
+/// The place of a number among so many, which are counted from 1.
+pub fn place_of(count: usize, number: u32) -> Option<usize>
+    ensures place { result ≡ place_of count number }
+    ensures bound { IfSome result (λ place. place < count) }
+{
+    let number = number as usize;
+    if 1 <= number && number <= count {
+        Some(number - 1)
+    } else {
+        None
+    }
+}
+
+/// So many new replicas, replica i having own origin i.
+fn new_stores(alloc: Global, schema: &Schema, count: usize) -> Result<Vec<Store>, Refusal>
+    requires { count ≤ 64 }
+    ensures { Gives (λ stores. replicas_in stores.items) result (Ok (new_replicas schema.now 1 count)) }
+{
+    let mut stores = Vec::with_capacity(alloc, count)?;
+    for i in 0..count {
+        stores.push(new_store(alloc, schema, i as u32 + 1)?)?;
+    }
+    Ok(stores)
+}
+
+/// A new replica with this own origin.
+fn new_store(alloc: Global, schema: &Schema, own: u32) -> Result<Store, Refusal>
+    requires { 1 ≤ own }
+    ensures { Gives (λ store. store.replica) result (Ok (empty_replica schema.now own)) }
+{
+    Store::new(alloc, schema, Origin(own))
+}
+
+/// Merges the replica at one place into the one at another.
+fn merge_apart(
+    alloc: Global,
+    stores: &mut [Store],
+    place: usize,
+    from: usize,
+) -> Result<(), Refusal>
+    requires place { place < length stores.old }
+    requires from { from < length stores.old }
+    requires apart { place ≢ from }
+    ensures acts { Acts (λ done. done) (replicas_in stores.old) result (replicas_in stores.new) (merged_in (replicas_in stores.old) place from) }
+    ensures count { length stores.new ≡ length stores.old }
+{
+    if place < from {
+        let (front, back) = stores.split_at_mut(from);
+        front[place].merge(alloc, &back[0])
+    } else {
+        let (front, back) = stores.split_at_mut(place);
+        back[0].merge(alloc, &front[from])
+    }
+}

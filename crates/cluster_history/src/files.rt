@@ -1,0 +1,35 @@
+//! Canonical files of replicas, in memory.
+ghost use Rattle.std.specs.Prelude.{◌≡◌, ◌≤◌, ◌⊎◌, Ok, Err, IfOk, IfErr};
+ghost use Rattle.table_model.specs.Outcome.{Gives};
+ghost use Rattle.column_file.specs.Files.{canonical_file, opened_from};
+
+use column_file::{export, open};
+use replica_store::Store;
+use script_lines::FileBytes;
+use std::alloc::Global;
+use table_model::{Counted, Origin, Refusal};
+
+/// The canonical file of a replica.
+pub fn exported(alloc: Global, store: &Store) -> Result<FileBytes, Refusal>
+    ensures { Gives (λ file. file) result (Ok (canonical_file store.now.replica.schema store.now.replica.state)) }
+{
+    let mut writer = Counted::new(Vec::new(alloc));
+    match export(alloc, store, &mut writer) {
+        Ok(()) => Ok(FileBytes::from_vec(writer.into_inner())),
+        Err(_) => Err(Refusal::Memory),
+    }
+}
+
+/// The replica of an own origin that has what a canonical file holds. Bytes that are there are read without a fault, so a read that
+/// fails is a want of memory too.
+pub fn opened(alloc: Global, file: &[u8], own: Origin) -> Result<Store, Refusal>
+    ensures made { IfOk result (λ store. opened_from own file.now ≡ Ok store.replica) }
+    ensures refused { IfErr result (λ e. (opened_from own file.now ≡ Err e) ⊎ (e ≡ Refusal.Memory)) }
+{
+    let mut reader = Counted::new(file);
+    match open(alloc, &mut reader, own) {
+        Ok(store) => Ok(store),
+        Err(Refusal::ReadFault) => Err(Refusal::Memory),
+        Err(refusal) => Err(refusal),
+    }
+}

@@ -1,0 +1,17 @@
+//! Clusters: a table at several replicas, what steps make of it, and what their histories keep.
+#![tactic(auto)]
+
+mod cluster;
+mod files;
+mod laws;
+mod message;
+mod reply;
+mod runner;
+#[cfg(test)]
+mod tests;
+
+pub use cluster::Cluster;
+pub use laws::history_laws;
+pub use message::Message;
+pub use reply::Reply;
+pub use runner::run;

@@ -1,6 +1,0 @@
-use Rattle.std.proofs.Common.{◌≡◌}
-use Rattle.lanes_main.specs.Cluster.{new_replicas, replicas_in}
-use Rattle.lanes_main.proofs.cluster.new_stores.Given as goal
-
-abbrev pub invariant-loop-i : goal.invariant-loop-i
-invariant-loop-i l = replicas_in l.stores.items ≡ new_replicas l.schema 1 l.i

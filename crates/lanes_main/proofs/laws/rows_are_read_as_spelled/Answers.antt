@@ -1,6 +1,0 @@
--- A text is cut where its grammar has a comma or a parenthesis.
-use Rattle.lanes_main.proofs.Spellings.{rows_are_spelled}
-use Rattle.lanes_main.proofs.laws.rows_are_read_as_spelled.Goals as goal
-
-pub returns : goal.returns
-returns c = rows_are_spelled

@@ -1,0 +1,5 @@
+pub mod Line
+pub mod Reading
+pub mod Spelled
+pub mod TableWords
+pub mod Word

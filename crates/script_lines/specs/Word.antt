@@ -1,0 +1,137 @@
+-- Words of a line: texts cut at a byte, numbers, names of batches, values and rows.
+use Rattle.std.specs.Prelude.{ℕ, ◌==◌, Bool, cond, ◌&&◌, nat_le, List, [], ◌∷◌, length, codes, Option, Some, None, option_map, option_and_then, Result, Ok, Err, ℤ, pos, neg_ℤ}
+use Rattle.std.specs.List.{list_all}
+use Rattle.std.specs.Char.{is_ascii_digit}
+use Rattle.std.specs.Str.{bytes_eq}
+use Rattle.std.specs.Str.Parse.{digits_value}
+use Rattle.hex.specs.Hex.{decode_of}
+use Rattle.hex.specs.declared.error.FromHexError.{FromHexError}
+use Rattle.table_model.specs.State.{Cells, Batch}
+use Rattle.table_model.specs.declared.names.BatchName.{BatchName}
+use Rattle.table_model.specs.declared.schema.ColType.{ColType}
+use Rattle.segment_core.specs.declared.coding.Coding.{Coding}
+use Rattle.segment_core.specs.declared.coding.Coding.TheVariants.{For, Delta, Runs, Dict}
+use Rattle.table_model.specs.declared.schema.ColType.TheVariants.{SmallInt, Integer, BigInt}
+
+infixl 10 ◌>>=◌
+-- what comes next, where there is a first
+abbrev pub ◌>>=◌ : {X Y : Type 0} → Option X → (X → Option Y) → Option Y
+o >>= f = option_and_then f o
+
+-- a text's parts with one more byte before them
+abbrev pub longer : ℕ → List ℕ × List ℕ → List ℕ × List ℕ
+longer c parts = (c ∷ parts.0, parts.1)
+
+-- what stands before the first such byte, and what stands after it
+abbrev pub cut : ℕ → List ℕ → Option (List ℕ × List ℕ)
+cut separator [] = None
+cut separator (c ∷ cs) = cond (c == separator) (Some ([], cs)) (option_map (longer c) (cut separator cs))
+
+-- the texts with a byte before the first of them
+abbrev pub onto_first : ℕ → List (List ℕ) → List (List ℕ)
+onto_first c [] = (c ∷ []) ∷ []
+onto_first c (text ∷ texts) = (c ∷ text) ∷ texts
+
+-- the pieces of a text between such bytes: one more than there are such bytes
+abbrev pub pieces : ℕ → List ℕ → List (List ℕ)
+pieces separator [] = [] ∷ []
+pieces separator (c ∷ cs) = cond (c == separator) ([] ∷ pieces separator cs) (onto_first c (pieces separator cs))
+
+-- what follows such a byte at the head of a text
+abbrev pub without : ℕ → List ℕ → Option (List ℕ)
+without first [] = None
+without first (c ∷ cs) = cond (c == first) (Some cs) None
+
+-- what each element gives, where each gives something
+abbrev pub each_of : {X Y : Type 0} → (X → Option Y) → List X → Option (List Y)
+each_of f [] = Some []
+each_of f (x ∷ xs) = f x >>= (λ y. option_map (λ ys. y ∷ ys) (each_of f xs))
+
+-- 1 to so many digits
+unfoldable pub is_numeral : ℕ → List ℕ → Bool
+is_numeral digits text = nat_le 1 (length text) && (nat_le (length text) digits && list_all is_ascii_digit text)
+
+-- the number that 1 to so many digits write, where it is at most the limit
+unfoldable pub number_of : ℕ → ℕ → List ℕ → Option ℕ
+number_of digits limit text = cond (is_numeral digits text) (cond (nat_le (digits_value 10 text) limit) (Some (digits_value 10 text)) None) None
+
+-- a replica, an origin or a batch's number: 1 to 10 digits, at most 4,294,967,295
+abbrev pub small_number : List ℕ → Option ℕ
+small_number text = number_of 10 4294967295 text
+
+-- an ordinal: 1 to 5 digits, at most 65,535
+abbrev pub ordinal_of : List ℕ → Option ℕ
+ordinal_of text = number_of 5 65535 text
+
+-- the name of a batch: an origin, a point and a number
+abbrev pub name_of : List ℕ → Option BatchName
+name_of text = do
+  parts ← cut 46 text
+  origin ← small_number parts.0
+  number ← small_number parts.1
+  Some (record { origin = record { 0 = origin }; number = record { 0 = number } })
+
+-- 1 to 30 digits
+unfoldable pub magnitude_of : List ℕ → Option ℕ
+magnitude_of text = cond (is_numeral 30 text) (Some (digits_value 10 text)) None
+
+-- a number whose sign, if it has one, was taken off
+abbrev pub signed_of : List ℕ → Option (List ℕ) → Option ℤ
+signed_of text (Some digits) = option_map (λ n. neg_ℤ (pos n)) (magnitude_of digits)
+signed_of text None = option_map pos (magnitude_of text)
+
+-- a whole number: an optional minus sign and 1 to 30 digits
+abbrev pub integer_of : List ℕ → Option ℤ
+integer_of text = signed_of text (without 45 text)
+
+-- a value: NULL, or a whole number
+abbrev pub cell_of : List ℕ → Option (Option ℤ)
+cell_of text = cond (bytes_eq text (codes "NULL")) (Some None) (option_map Some (integer_of text))
+
+-- the values of a row, joined by commas
+abbrev pub cells_of : List ℕ → Option Cells
+cells_of text = each_of cell_of (pieces 44 text)
+
+-- a row with the parenthesis that opens it
+abbrev pub opened_cells : List ℕ → Option Cells
+opened_cells text = without 40 text >>= cells_of
+
+-- the texts are rows, each with a comma and a parenthesis before it, and then nothing
+abbrev pub rows_from : List (List ℕ) → Option Batch
+rows_from [] = None
+rows_from ([] ∷ []) = Some []
+rows_from ((c ∷ cs) ∷ []) = None
+rows_from (text ∷ next ∷ texts) = (without 44 text >>= opened_cells) >>= (λ row. option_map (λ rows. row ∷ rows) (rows_from (next ∷ texts)))
+
+-- rows: values in parentheses, joined by commas; so with one more comma at their head, what each closing parenthesis ends opens by a comma and a parenthesis
+abbrev pub rows_of : List ℕ → Option Batch
+rows_of text = rows_from (pieces 41 (44 ∷ text))
+
+-- the type of a column
+abbrev pub type_of : List ℕ → Option ColType
+type_of text =
+    cond (bytes_eq text (codes "SMALLINT")) (Some SmallInt)
+    (cond (bytes_eq text (codes "INTEGER")) (Some Integer)
+    (cond (bytes_eq text (codes "BIGINT")) (Some BigInt) None))
+
+-- the name of a coding
+abbrev pub coding_of : List ℕ → Option Coding
+coding_of text =
+    cond (bytes_eq text (codes "FOR")) (Some For)
+    (cond (bytes_eq text (codes "DELTA")) (Some Delta)
+    (cond (bytes_eq text (codes "RLE")) (Some Runs)
+    (cond (bytes_eq text (codes "DICT")) (Some Dict) None)))
+
+-- a text that isn't empty
+abbrev pub some_text : List ℕ → Option (List ℕ)
+some_text [] = None
+some_text (c ∷ cs) = Some (c ∷ cs)
+
+-- the bytes that were decoded, if they were
+abbrev pub decoded : Result (List ℕ) FromHexError → Option (List ℕ)
+decoded (Ok bytes) = Some bytes
+decoded (Err e) = None
+
+-- the bytes that hexadecimal digits write, two digits for each, in either case; there is one byte at least
+abbrev pub file_of : List ℕ → Option (List ℕ)
+file_of text = some_text text >>= (λ digits. decoded (decode_of digits))

@@ -1,0 +1,21 @@
+//! Lines of a script: the steps that they ask for, and the grammar by which they are read.
+#![tactic(auto)]
+
+mod columns;
+mod command;
+mod expectations;
+mod file_bytes;
+mod laws;
+mod line;
+mod rows;
+mod step;
+#[cfg(test)]
+mod tests;
+mod words;
+
+pub use command::{Command, TableCommand};
+pub use expectations::expected;
+pub use file_bytes::FileBytes;
+pub use laws::rows_are_read_as_spelled;
+pub use line::parse_line;
+pub use step::{Sql, Step};

@@ -1,0 +1,309 @@
+//! Lines of a script, and which commands they are.
+ghost use Rattle.std.specs.Prelude.{◌≡◌, ◌<◌, ◌≤◌, option_map, IfSome};
+ghost use Rattle.std.specs.List.{list_all};
+ghost use Rattle.script_lines.specs.Reading.{Reads};
+ghost use Rattle.script_lines.specs.Line.{addressed, append_words, insert_words, delete_words, merge_words, ask_words, serve_words, take_words, recode_words, open_words, export_words, query_words, step_words, longer_step, step_line, replicas_of, table_words, table_line, words_of, is_printable, command_of};
+
+use crate::columns::columns;
+use crate::command::{Command, TableCommand};
+use crate::rows::rows;
+use crate::step::{Sql, Step};
+use crate::words::{batch_name, coding, cut, file, number, ordinal, small_number, some_text};
+use std::alloc::Global;
+use table_model::{Refusal, RowName};
+
+/// The command that a line is, without its line feed; `BadLine` where it is none.
+///
+/// Where memory lacks, `Memory` may come in place of either.
+#[tactic(auto, unfolding(crate::specs::Line::command_of))]
+pub fn parse_line<'a>(alloc: Global, line: &'a [u8]) -> Result<Command<'a>, Refusal>
+    ensures { Reads (λ command. command) result (command_of line.now) }
+{
+    if !is_printable(line) {
+        return Err(Refusal::BadLine);
+    }
+    let Ok(text) = str::from_utf8(line) else {
+        return Err(Refusal::BadLine);
+    };
+    let Some((word, rest)) = cut(text, ' ') else {
+        return Err(Refusal::BadLine);
+    };
+    words(alloc, word, rest)
+}
+
+/// Whether each byte is from 20 to 7E, in hexadecimal.
+pub(crate) fn is_printable(line: &[u8]) -> bool
+    ensures { result ≡ list_all is_printable line.now }
+{
+    line.iter().all(|c| b' ' <= *c && *c <= b'~')
+}
+
+/// What the first word asks for, with the words that follow it.
+#[tactic(auto, unfolding(crate::specs::Line::words_of))]
+fn words<'a>(alloc: Global, word: &str, rest: &'a str) -> Result<Command<'a>, Refusal>
+    ensures { Reads (λ command. command) result (words_of word.now rest.now) }
+{
+    if word == "table" {
+        let table = table_line(alloc, rest)?;
+        return Ok(Command::Table(table));
+    }
+    let step = step_line(alloc, word, rest)?;
+    Ok(Command::Act(step))
+}
+
+/// The line that makes a table: how many replicas, its name, and its columns.
+#[tactic(auto, unfolding(crate::specs::Line::table_line))]
+fn table_line<'a>(alloc: Global, text: &'a str) -> Result<TableCommand<'a>, Refusal>
+    ensures { Reads (λ table. table) result (table_line text.now) }
+{
+    let Some((replicas, table, rest)) = table_words(text) else {
+        return Err(Refusal::BadLine);
+    };
+    let columns = columns(alloc, rest)?;
+    Ok(TableCommand::new(replicas, table, columns))
+}
+
+/// How many replicas, the table's name, and the words that follow them.
+#[tactic(auto, unfolding(crate::specs::Line::table_words))]
+fn table_words<'a>(text: &'a str) -> Option<(usize, &'a str, &'a str)>
+    ensures words { option_map (λ words. (words.0, words.1.now, words.2.now)) result ≡ table_words text.now }
+    ensures count { IfSome result (λ words. (1 ≤ words.0) × (words.0 ≤ 64)) }
+{
+    let (replicas_word, rest) = cut(text, ' ')?;
+    let count = replicas(replicas_word)?;
+    let (table, rest) = cut(rest, ' ')?;
+    let table = some_text(table)?;
+    Some((count, table, rest))
+}
+
+/// How many replicas a table has: 1 to 10 digits, from 1 to 64.
+#[tactic(auto, unfolding(crate::specs::Line::replicas_of))]
+pub(crate) fn replicas(text: &str) -> Option<usize>
+    ensures value { result ≡ replicas_of text.now }
+    ensures bound { IfSome result (λ n. (1 ≤ n) × (n ≤ 64)) }
+{
+    let count = number(text, 10, 64)?;
+    if 1 <= count {
+        Some(count as usize)
+    } else {
+        None
+    }
+}
+
+/// The step of a line's first word and the words that follow it.
+#[tactic(auto, unfolding(crate::specs::Line::step_line))]
+fn step_line(alloc: Global, word: &str, text: &str) -> Result<Step, Refusal>
+    ensures { Reads (λ step. step) result (step_line word.now text.now) }
+{
+    if word == "ask" {
+        return required(ask_words(text));
+    }
+    if word == "export" {
+        return required(export_words(text));
+    }
+    longer_step(alloc, word, text)
+}
+
+/// The step of a line's first word, a replica and further words.
+#[tactic(auto, unfolding(crate::specs::Line::longer_step))]
+fn longer_step(alloc: Global, word: &str, text: &str) -> Result<Step, Refusal>
+    ensures { Reads (λ step. step) result (longer_step word.now text.now) }
+{
+    let Some((replica, rest)) = addressed(text) else {
+        return Err(Refusal::BadLine);
+    };
+    step_words(alloc, word, replica, rest)
+}
+
+/// The replica that a step is asked of, and the words that follow it.
+#[tactic(auto, unfolding(crate::specs::Line::addressed))]
+fn addressed(text: &str) -> Option<(u32, &str)>
+    ensures { option_map (λ at. (at.0, at.1.now)) result ≡ addressed text.now }
+{
+    let (replica, rest) = cut(text, ' ')?;
+    let replica = small_number(replica)?;
+    Some((replica, rest))
+}
+
+/// The step of a line's first word and a replica, with the words that follow them.
+#[tactic(auto, unfolding(crate::specs::Line::step_words))]
+fn step_words(alloc: Global, word: &str, replica: u32, text: &str) -> Result<Step, Refusal>
+    ensures { Reads (λ step. step) result (step_words word.now replica text.now) }
+{
+    if word == "append" {
+        return append_words(alloc, replica, text);
+    }
+    if word == "insert" {
+        return insert_words(alloc, replica, text);
+    }
+    if word == "delete" {
+        return required(delete_words(replica, text));
+    }
+    if word == "merge" {
+        return required(merge_words(replica, text));
+    }
+    if word == "serve" {
+        return required(serve_words(replica, text));
+    }
+    if word == "take" {
+        return required(take_words(replica, text));
+    }
+    if word == "recode" {
+        return required(recode_words(replica, text));
+    }
+    if word == "open" {
+        return open_words(alloc, replica, text);
+    }
+    if word == "query" {
+        return query_words(alloc, replica, text);
+    }
+    Err(Refusal::BadLine)
+}
+
+/// The step, which is missing only where the words are wrong.
+fn required(step: Option<Step>) -> Result<Step, Refusal>
+    ensures { Reads (λ step. step) result step }
+{
+    match step {
+        None => Err(Refusal::BadLine),
+        Some(step) => Ok(step),
+    }
+}
+
+/// `append R ROWS`
+#[tactic(auto, unfolding(crate::specs::Line::append_words))]
+fn append_words(alloc: Global, replica: u32, text: &str) -> Result<Step, Refusal>
+    ensures { Reads (λ step. step) result (append_words replica text.now) }
+{
+    let rows = rows(alloc, text)?;
+    Ok(Step::Append { replica, rows })
+}
+
+/// `insert R O.N ROWS`
+#[tactic(auto, unfolding(crate::specs::Line::insert_words))]
+fn insert_words(alloc: Global, replica: u32, text: &str) -> Result<Step, Refusal>
+    ensures { Reads (λ step. step) result (insert_words replica text.now) }
+{
+    let Some((name, rest)) = cut(text, ' ') else {
+        return Err(Refusal::BadLine);
+    };
+    let Some(name) = batch_name(name) else {
+        return Err(Refusal::BadLine);
+    };
+    let rows = rows(alloc, rest)?;
+    Ok(Step::Insert {
+        replica,
+        name,
+        rows,
+    })
+}
+
+/// `delete R O.N FIRST LAST`
+#[tactic(auto, unfolding(crate::specs::Line::delete_words))]
+fn delete_words(replica: u32, text: &str) -> Option<Step>
+    ensures { result ≡ delete_words replica text.now }
+{
+    let (batch, ordinals) = cut(text, ' ')?;
+    let batch = batch_name(batch)?;
+    let (first, last) = cut(ordinals, ' ')?;
+    let first = ordinal(first)?;
+    let last = ordinal(last)?;
+    Some(Step::Delete {
+        replica,
+        first: RowName {
+            batch,
+            ordinal: first,
+        },
+        last,
+    })
+}
+
+/// `merge R Q`
+#[tactic(auto, unfolding(crate::specs::Line::merge_words))]
+fn merge_words(replica: u32, text: &str) -> Option<Step>
+    ensures { result ≡ merge_words replica text.now }
+{
+    let other = small_number(text)?;
+    Some(Step::Merge { replica, other })
+}
+
+/// `ask R`
+#[tactic(auto, unfolding(crate::specs::Line::ask_words))]
+fn ask_words(text: &str) -> Option<Step>
+    ensures { result ≡ ask_words text.now }
+{
+    let replica = small_number(text)?;
+    Some(Step::Ask { replica })
+}
+
+/// `serve R M`
+#[tactic(auto, unfolding(crate::specs::Line::serve_words))]
+fn serve_words(replica: u32, text: &str) -> Option<Step>
+    ensures { result ≡ serve_words replica text.now }
+{
+    let message = small_number(text)?;
+    Some(Step::Serve { replica, message })
+}
+
+/// `take R M`
+#[tactic(auto, unfolding(crate::specs::Line::take_words))]
+fn take_words(replica: u32, text: &str) -> Option<Step>
+    ensures { result ≡ take_words replica text.now }
+{
+    let message = small_number(text)?;
+    Some(Step::Take { replica, message })
+}
+
+/// `recode R O.N COLUMN VECTOR CODING`
+#[tactic(auto, unfolding(crate::specs::Line::recode_words))]
+fn recode_words(replica: u32, text: &str) -> Option<Step>
+    ensures { result ≡ recode_words replica text.now }
+{
+    let (name, rest) = cut(text, ' ')?;
+    let name = batch_name(name)?;
+    let (column, rest) = cut(rest, ' ')?;
+    let column = small_number(column)?;
+    let (vector, rest) = cut(rest, ' ')?;
+    let vector = small_number(vector)?;
+    let coding = coding(rest)?;
+    Some(Step::Recode {
+        replica,
+        name,
+        column,
+        vector,
+        coding,
+    })
+}
+
+/// `open R HEX`
+#[tactic(auto, unfolding(crate::specs::Line::open_words))]
+fn open_words(alloc: Global, replica: u32, text: &str) -> Result<Step, Refusal>
+    ensures { Reads (λ step. step) result (open_words replica text.now) }
+{
+    let file = file(alloc, text)?;
+    Ok(Step::Open { replica, file })
+}
+
+/// `export R`
+#[tactic(auto, unfolding(crate::specs::Line::export_words))]
+fn export_words(text: &str) -> Option<Step>
+    ensures { result ≡ export_words text.now }
+{
+    let replica = small_number(text)?;
+    Some(Step::Export { replica })
+}
+
+/// `query R SQL`
+#[tactic(auto, unfolding(crate::specs::Line::query_words))]
+fn query_words(alloc: Global, replica: u32, text: &str) -> Result<Step, Refusal>
+    ensures { Reads (λ step. step) result (query_words replica text.now) }
+{
+    let Some(text) = some_text(text) else {
+        return Err(Refusal::BadLine);
+    };
+    let text = String::from_str(alloc, text)?;
+    Ok(Step::Query {
+        replica,
+        sql: Sql::from_string(text),
+    })
+}

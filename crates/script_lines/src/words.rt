@@ -1,0 +1,198 @@
+//! Words of a line: numbers, names of batches, values and rows.
+ghost use Rattle.std.specs.Prelude.{◌≡◌, ◌<◌, ◌≤◌, ◌^◌, length, option_map, Some, IfSome, true, pos, ◌≤ℤ◌};
+ghost use Rattle.std.specs.List.{list_all};
+ghost use Rattle.std.specs.Char.{is_ascii_digit};
+ghost use Rattle.std.specs.Str.Parse.{digits_value};
+ghost use Rattle.script_lines.specs.Reading.{Reads};
+ghost use Rattle.script_lines.specs.Word.{cut, without, is_numeral, number_of, small_number, ordinal_of, name_of, magnitude_of, integer_of, cell_of, cells_of, opened_cells, rows_of, type_of, coding_of, some_text, file_of};
+
+use crate::file_bytes::FileBytes;
+use hex::FromHexError;
+use segment_core::Coding;
+use std::alloc::Global;
+use table_model::{BatchName, ColType, Number, Origin, Refusal, Row, Rows};
+
+/// What stands before the first such character and what stands after it, where there is one.
+pub fn cut(text: &str, separator: char) -> Option<(&str, &str)>
+    requires { separator < 128 }
+    ensures parts { option_map (λ parts. (parts.0.now, parts.1.now)) result ≡ cut separator text.now }
+    ensures shorter { IfSome result (λ parts. length parts.1.now < length text.now) }
+{
+    text.split_once(separator)
+}
+
+/// What follows such a character at the head of the text, where it begins so.
+pub fn without(text: &str, first: char) -> Option<&str>
+    requires { first < 128 }
+    ensures rest { option_map (λ rest. rest.now) result ≡ without first text.now }
+    ensures shorter { IfSome result (λ rest. length rest.now < length text.now) }
+{
+    text.strip_prefix(first)
+}
+
+/// Whether the text is 1 to so many digits.
+#[tactic(auto, unfolding(crate::specs::Word::is_numeral))]
+fn is_numeral(text: &[u8], digits: usize) -> bool
+    ensures { result ≡ is_numeral digits text.now }
+{
+    1 <= text.len() && text.len() <= digits && are_digits(text)
+}
+
+/// Whether each byte is a digit.
+fn are_digits(text: &[u8]) -> bool
+    ensures { result ≡ list_all is_ascii_digit text.now }
+{
+    text.iter().all(|c| c.is_ascii_digit())
+}
+
+/// The number that at most 30 digits write.
+fn digits_value(text: &[u8]) -> u128
+    requires digits { list_all is_ascii_digit text.now ≡ true }
+    requires short { length text.now ≤ 30 }
+    ensures value { result ≡ digits_value 10 text.now }
+    ensures bound { result < 10 ^ 30 }
+{
+    let mut value: u128 = 0;
+    for digit in text {
+        value = value * 10 + u128::from(*digit - b'0');
+    }
+    value
+}
+
+/// The number that 1 to so many digits write, where it is at most the limit.
+#[tactic(auto, unfolding(crate::specs::Word::number_of, crate::specs::Word::is_numeral))]
+pub fn number(text: &str, digits: usize, limit: u128) -> Option<u128>
+    requires { digits ≤ 30 }
+    ensures value { result ≡ number_of digits limit text.now }
+    ensures bound { IfSome result (λ n. n ≤ limit) }
+{
+    let text = text.as_bytes();
+    if !is_numeral(text, digits) {
+        return None;
+    }
+    let value = digits_value(text);
+    if value <= limit { Some(value) } else { None }
+}
+
+/// A replica, an origin or a batch's number: 1 to 10 digits, at most 4,294,967,295.
+pub fn small_number(text: &str) -> Option<u32>
+    ensures { result ≡ small_number text.now }
+{
+    let value = number(text, 10, u128::from(u32::MAX))?;
+    Some(value as u32)
+}
+
+/// An ordinal: 1 to 5 digits, at most 65,535.
+pub fn ordinal(text: &str) -> Option<u16>
+    ensures { result ≡ ordinal_of text.now }
+{
+    let value = number(text, 5, u128::from(u16::MAX))?;
+    Some(value as u16)
+}
+
+/// The name of a batch: an origin, a point and a number.
+pub fn batch_name(text: &str) -> Option<BatchName>
+    ensures { result ≡ name_of text.now }
+{
+    let (origin, number) = cut(text, '.')?;
+    let origin = small_number(origin)?;
+    let number = small_number(number)?;
+    Some(BatchName {
+        origin: Origin(origin),
+        number: Number(number),
+    })
+}
+
+/// A whole number: an optional minus sign and 1 to 30 digits.
+fn integer(text: &str) -> Option<i128>
+    ensures { result ≡ integer_of text.now }
+{
+    match without(text, '-') {
+        None => magnitude(text),
+        Some(digits) => {
+            let value = magnitude(digits)?;
+            Some(-value)
+        }
+    }
+}
+
+/// A number of 1 to 30 digits.
+#[tactic(auto, unfolding(crate::specs::Word::magnitude_of, crate::specs::Word::is_numeral))]
+fn magnitude(text: &str) -> Option<i128>
+    ensures value { result ≡ option_map pos (magnitude_of text.now) }
+    ensures bound { IfSome result (λ z. z ≤ℤ pos (10 ^ 30)) }
+{
+    let text = text.as_bytes();
+    if !is_numeral(text, 30) {
+        return None;
+    }
+    let value = digits_value(text);
+    Some(value as i128)
+}
+
+/// A value: NULL, or a whole number.
+pub fn cell(text: &str) -> Option<Option<i128>>
+    ensures { result ≡ cell_of text.now }
+{
+    if text == "NULL" {
+        return Some(None);
+    }
+    let value = integer(text)?;
+    Some(Some(value))
+}
+
+/// The type of a column.
+pub fn column_type(text: &str) -> Option<ColType>
+    ensures { result ≡ type_of text.now }
+{
+    if text == "SMALLINT" {
+        return Some(ColType::SmallInt);
+    }
+    if text == "INTEGER" {
+        return Some(ColType::Integer);
+    }
+    if text == "BIGINT" {
+        return Some(ColType::BigInt);
+    }
+    None
+}
+
+/// The coding that a word names.
+pub fn coding(text: &str) -> Option<Coding>
+    ensures { result ≡ coding_of text.now }
+{
+    if text == "FOR" {
+        return Some(Coding::For);
+    }
+    if text == "DELTA" {
+        return Some(Coding::Delta);
+    }
+    if text == "RLE" {
+        return Some(Coding::Runs);
+    }
+    if text == "DICT" {
+        return Some(Coding::Dict);
+    }
+    None
+}
+
+/// The text, where it isn't empty.
+pub fn some_text(text: &str) -> Option<&str>
+    ensures { option_map (λ t. t.now) result ≡ some_text text.now }
+{
+    if text.is_empty() { None } else { Some(text) }
+}
+
+/// The bytes that hexadecimal digits write, in either case: at least one.
+pub fn file(alloc: Global, text: &str) -> Result<FileBytes, Refusal>
+    ensures { Reads (λ file. file) result (file_of text.now) }
+{
+    let Some(digits) = some_text(text) else {
+        return Err(Refusal::BadLine);
+    };
+    match hex::decode(alloc, digits) {
+        Ok(bytes) => Ok(FileBytes::from_vec(bytes)),
+        Err(FromHexError::OutOfMemory) => Err(Refusal::Memory),
+        Err(_) => Err(Refusal::BadLine),
+    }
+}
