@@ -14,7 +14,8 @@ use Rattle.segment_core.specs.declared.coding.Coding.{Coding}
 use Rattle.segment_core.specs.declared.coding.Coding.TheVariants.{For as ByFrame, Delta as ByDeltas, Runs as ByRuns, Dict as ByDictionary}
 use Rattle.segment_core.specs.declared.coded.Coded.{Coded}
 use Rattle.segment_core.specs.CodedVector.{VectorForm}
-use Rattle.segment_core.specs.Format.{Format, ◌>>=◌, raw, number, signed, seen, checked, before, optional, read_all, all, constant, same_bytes, read_whole, Reads}
+use Rattle.segment_core.specs.Format.{Format, ◌>>=◌, raw, number, signed, seen, checked, before, optional, read_all, all, constant, read_whole, Reads}
+use Rattle.table_model.specs.Identifier.{same_text}
 use Rattle.segment_core.specs.Segment.{vector_count, rows_in, widths_of}
 use Rattle.segment_core.specs.VectorBytes.{mask, words, is_null_mask, nulls, coding, is_width, is_count, header, frame, deltas, starts, runs, is_above, dictionary, are_codes_below, codes as packed_codes, dict, payload_of, payload, coded, vector}
 use Rattle.segment_core.specs.SegmentBytes.{column as segment_column, columns as segment_columns, batch_columns}
@@ -240,7 +241,7 @@ unfolding head
 head_judges magic =
     let first = constant magic BadMagic in
     let rest : List ℕ → Format (ℕ × Table) = λ _. before version (λ _. schema) in
-    let q = before_judges first rest (checked_judges (raw (length magic)) (same_bytes magic) (λ _. BadMagic) (λ n. refl) (raw_judges (length magic))) (λ _. before_judges version (λ _. schema) version_judges (λ _. schema_judges)) in
+    let q = before_judges first rest (checked_judges (raw (length magic)) (same_text magic) (λ _. BadMagic) (λ n. refl) (raw_judges (length magic))) (λ _. before_judges version (λ _. schema) version_judges (λ _. schema_judges)) in
     λ total bytes. then_judged ((before first rest).read total bytes) _ (q total bytes) (λ x. tt)
 
 any_name_judges : Judges any_name

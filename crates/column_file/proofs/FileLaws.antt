@@ -15,7 +15,8 @@ use Rattle.table_model.specs.Table.{Table, IsTable, IsBatch}
 use Rattle.table_model.specs.declared.names.BatchName.{BatchName}
 use Rattle.table_model.specs.declared.refusal.Refusal.{Refusal}
 use Rattle.catalogue_join.specs.RowRange.{RowRange, IsRowRange, stands_apart, IsBefore, AreMaximal, rows_in as rows_deleted}
-use Rattle.segment_core.specs.Format.{Format, IsLawful, raw, number, same_bytes, all, valid_all, read_whole, ◌>>=◌}
+use Rattle.segment_core.specs.Format.{Format, IsLawful, raw, number, all, valid_all, read_whole, ◌>>=◌}
+use Rattle.table_model.specs.Identifier.{same_text}
 use Rattle.segment_core.specs.Segment.{SegmentForm, batch_of, widths_in, widths_of, canonical_forms, canonical_segment}
 use Rattle.segment_core.specs.SegmentBytes.{batch_columns, HasBytesIn}
 use Rattle.segment_core.proofs.BuildLemmas.{canonical_is_segment, canonical_rows}
@@ -221,7 +222,7 @@ files_open t state h =
     let deleted : rows_deleted (map range_of (map deleted_of rs)) ≡ state.deleted = ap rows_deleted (range_back rs) ∙ (h.rows) in
     let same : (offer_held c).state ≡ state = λ i. record { batches = batches i; deleted = deleted i } in
     let is : offer_read (canonical_file t state) ≡ Ok (offer_held c) = rw read refl in
-    let equal : same_bytes (canonical_file t state) (canonical_file t (offer_held c).state) ≡ true = ap (λ (s : State). same_bytes (canonical_file t state) (canonical_file t s)) same ∙ same_itself (canonical_file t state) in
+    let equal : same_text (canonical_file t state) (canonical_file t (offer_held c).state) ≡ true = ap (λ (s : State). same_text (canonical_file t state) (canonical_file t s)) same ∙ same_itself (canonical_file t state) in
     let judged_ok : judged (canonical_file t state) (offer_held c) ≡ Ok (offer_held c) = rw equal refl in
     let whole : canonical_read (canonical_file t state) ≡ Ok (offer_held c) = ap (λ (r : Result OfferForm Refusal). r >>= judged (canonical_file t state)) is ∙ judged_ok in
     (offer_held c, whole, refl, same)

@@ -12,7 +12,8 @@ use Rattle.table_model.specs.declared.names.BatchName.{BatchName}
 use Rattle.table_model.specs.declared.refusal.Refusal.{Refusal}
 use Rattle.table_model.specs.declared.refusal.Refusal.TheVariants.{Memory, BadName, NotCanonical}
 use Rattle.catalogue_join.specs.RowRange.{RowRange, AreMaximal, rows_in as rows_deleted}
-use Rattle.segment_core.specs.Format.{Format, AreBytes, Reads, same_bytes, read_whole, ◌>>=◌}
+use Rattle.segment_core.specs.Format.{Format, AreBytes, Reads, read_whole, ◌>>=◌}
+use Rattle.table_model.specs.Identifier.{same_text}
 use Rattle.segment_core.specs.Segment.{SegmentForm, widths_in, widths_of, canonical_forms}
 use Rattle.replica_store.specs.Segments.{Entry as Held, IsStored, rows_in, rows_entries}
 use Rattle.replica_store.specs.Replica.{Replica}
@@ -28,9 +29,9 @@ use Rattle.column_file.proofs.SummaryWriting.{whole_read}
 
 -- ---- the first place that differs
 
-pub same_itself : (xs : List ℕ) → same_bytes xs xs ≡ true
+pub same_itself : (xs : List ℕ) → same_text xs xs ≡ true
 same_itself [] = refl
-same_itself (x ∷ xs) = and_from (eqb x x) (same_bytes xs xs) (eq-eqb x x refl) (same_itself xs)
+same_itself (x ∷ xs) = and_from (eqb x x) (same_text xs xs) (eq-eqb x x refl) (same_itself xs)
 
 -- equal numbers at a place: the difference is further on
 pub goes_on : (a b : List ℕ) (i : ℕ) (d : ℕ) → i < length a → i < length b → get_or a i d ≡ get_or b i d → first_difference a b ≡ i + first_difference (drop i a) (drop i b) → first_difference a b ≡ (i + 1) + first_difference (drop (i + 1) a) (drop (i + 1) b)
@@ -73,30 +74,30 @@ ends_here a b i is so_far =
     go (inr h) = ap (first_difference (drop i a)) (drop_all i b h) ∙ none_left (drop i a)
 
 -- texts are the same where they differ at the end of both
-pub same_by_place : (a b : List ℕ) (n : ℕ) → n ≡ first_difference a b → n ≡ length a → n ≡ length b → same_bytes a b ≡ true
+pub same_by_place : (a b : List ℕ) (n : ℕ) → n ≡ first_difference a b → n ≡ length a → n ≡ length b → same_text a b ≡ true
 same_by_place a b n is first second = go a b (sym is ∙ first) (sym is ∙ second)
   where
-    go : (a b : List ℕ) → first_difference a b ≡ length a → first_difference a b ≡ length b → same_bytes a b ≡ true
+    go : (a b : List ℕ) → first_difference a b ≡ length a → first_difference a b ≡ length b → same_text a b ≡ true
     go [] [] e f = refl
     go [] (y ∷ ys) e f = absurd (omega (arith, f))
     go (x ∷ xs) [] e f = absurd (omega (arith, e))
     go (x ∷ xs) (y ∷ ys) e f =
-        elim (eqb x y) as (λ t. eqb x y ≡ t → cond t (suc (first_difference xs ys)) 0 ≡ suc (length xs) → cond t (suc (first_difference xs ys)) 0 ≡ suc (length ys) → (eqb x y && same_bytes xs ys) ≡ true) [
-          | true ↦ λ tied p q. and_from (eqb x y) (same_bytes xs ys) tied (go xs ys (omega (arith, p)) (omega (arith, q)))
+        elim (eqb x y) as (λ t. eqb x y ≡ t → cond t (suc (first_difference xs ys)) 0 ≡ suc (length xs) → cond t (suc (first_difference xs ys)) 0 ≡ suc (length ys) → (eqb x y && same_text xs ys) ≡ true) [
+          | true ↦ λ tied p q. and_from (eqb x y) (same_text xs ys) tied (go xs ys (omega (arith, p)) (omega (arith, q)))
           | false ↦ λ tied p q. absurd (omega (arith, p))
         ] refl e f
 
-pub ends_of_same : (a b : List ℕ) → same_bytes a b ≡ true → (first_difference a b ≡ length a) × (first_difference a b ≡ length b)
+pub ends_of_same : (a b : List ℕ) → same_text a b ≡ true → (first_difference a b ≡ length a) × (first_difference a b ≡ length b)
 ends_of_same [] [] e = (refl, refl)
 ends_of_same [] (y ∷ ys) e = absurd cc
 ends_of_same (x ∷ xs) [] e = absurd cc
 ends_of_same (x ∷ xs) (y ∷ ys) e =
-    let v = and_parts (eqb x y) (same_bytes xs ys) e in
+    let v = and_parts (eqb x y) (same_text xs ys) e in
     let h = ends_of_same xs ys v.1 in
     let step : cond (eqb x y) (suc (first_difference xs ys)) 0 ≡ suc (first_difference xs ys) = ap (λ (b : Bool). cond b (suc (first_difference xs ys)) 0) v.0 in
     (step ∙ ap suc h.0, step ∙ ap suc h.1)
 
-not_same : (a b : List ℕ) (n : ℕ) (t : Bool) → same_bytes a b ≡ t → n ≡ first_difference a b → (eqb n (length a) && eqb n (length b)) ≡ false → t ≡ false
+not_same : (a b : List ℕ) (n : ℕ) (t : Bool) → same_text a b ≡ t → n ≡ first_difference a b → (eqb n (length a) && eqb n (length b)) ≡ false → t ≡ false
 not_same a b n true same is other =
     let h = ends_of_same a b same in
     let first = eq-eqb n (length a) (is ∙ h.0) in
@@ -108,12 +109,12 @@ not_same a b n false same is other = refl
 
 pub judged_same : (bytes file : List ℕ) (o : OfferForm) (n : ℕ) → file ≡ canonical_file o.schema o.state → n ≡ first_difference bytes file → n ≡ length bytes → n ≡ length file → judged bytes o ≡ Ok o
 judged_same bytes file o n made is first second =
-    let same : same_bytes bytes (canonical_file o.schema o.state) ≡ true = ap (same_bytes bytes) (sym made) ∙ same_by_place bytes file n is first second in
+    let same : same_text bytes (canonical_file o.schema o.state) ≡ true = ap (same_text bytes) (sym made) ∙ same_by_place bytes file n is first second in
     rw same refl
 
 pub judged_other : (bytes file : List ℕ) (o : OfferForm) (n : ℕ) → file ≡ canonical_file o.schema o.state → n ≡ first_difference bytes file → (eqb n (length bytes) && eqb n (length file)) ≡ false → judged bytes o ≡ Err (NotCanonical n)
 judged_other bytes file o n made is other =
-    let differ : same_bytes bytes (canonical_file o.schema o.state) ≡ false = ap (same_bytes bytes) (sym made) ∙ not_same bytes file n (same_bytes bytes file) refl is other in
+    let differ : same_text bytes (canonical_file o.schema o.state) ≡ false = ap (same_text bytes) (sym made) ∙ not_same bytes file n (same_text bytes file) refl is other in
     let place : first_difference bytes (canonical_file o.schema o.state) ≡ n = ap (first_difference bytes) (sym made) ∙ sym is in
     rw (differ, place) refl
 
@@ -155,7 +156,7 @@ canonical_is bytes o items rs fit is offered batches entries canonical ranges =
     let again : container.spell (o.schema, (map entry_of items, map deleted_of rs)) ≡ container.spell (o.schema, (map (canonical_as_read o.schema) items, map deleted_of rs)) =
     ap (λ (es : List Entry). container.spell (o.schema, (es, map deleted_of rs))) (canonical_items o.schema items offered.stored canonical) in
     let file : bytes ≡ canonical_file o.schema o.state = spelled ∙ again ∙ canonical_spelled o.schema o.state o.segments items rs batches (sym entries) ranges in
-    let same : same_bytes bytes (canonical_file o.schema o.state) ≡ true = ap (same_bytes bytes) (sym file) ∙ same_itself bytes in
+    let same : same_text bytes (canonical_file o.schema o.state) ≡ true = ap (same_text bytes) (sym file) ∙ same_itself bytes in
     rw same refl
 
 -- what is judged of an offer that was read
@@ -168,7 +169,7 @@ canonical_fault bytes e is = rw is refl
 -- ---- what a call is refused as
 
 judged_judged : (bytes : List ℕ) (o : OfferForm) → Judged (judged bytes o)
-judged_judged bytes o = go (same_bytes bytes (canonical_file o.schema o.state))
+judged_judged bytes o = go (same_text bytes (canonical_file o.schema o.state))
   where
     go : (b : Bool) → Judged (cond b (Ok o) (Err (NotCanonical (first_difference bytes (canonical_file o.schema o.state)))))
     go true = tt

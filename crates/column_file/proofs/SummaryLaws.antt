@@ -6,7 +6,8 @@ use Rattle.table_model.specs.Table.{Table}
 use Rattle.table_model.specs.declared.names.BatchName.{BatchName}
 use Rattle.table_model.specs.declared.refusal.Refusal.{Refusal}
 use Rattle.table_model.specs.declared.refusal.Refusal.TheVariants.{BadMagic, BadVersion, BadName, BadOrder, BadCount}
-use Rattle.segment_core.specs.Format.{Format, IsLawful, raw, number, before, all, valid_all, constant, same_bytes}
+use Rattle.segment_core.specs.Format.{Format, IsLawful, raw, number, before, all, valid_all, constant}
+use Rattle.table_model.specs.Identifier.{same_text}
 use Rattle.segment_core.proofs.FormatLaws.{raw_is_lawful, seen_is_lawful, checked_is_lawful, before_is_lawful, all_is_lawful}
 use Rattle.segment_core.proofs.NumberLaws.{number_is_lawful}
 use Rattle.column_file.specs.SchemaBytes.{schema}
@@ -16,12 +17,12 @@ use Rattle.column_file.proofs.SchemaLaws.{schema_is_lawful}
 some_is : {A : Type 0} (x y : A) → Some x ≡ Some y → x ≡ y
 some_is x y e = cc
 
-one_text : (xs ys : List ℕ) → same_bytes xs ys ≡ true → xs ≡ ys
+one_text : (xs ys : List ℕ) → same_text xs ys ≡ true → xs ≡ ys
 one_text [] [] e = refl
 one_text [] (y ∷ ys) e = absurd cc
 one_text (x ∷ xs) [] e = absurd cc
 one_text (x ∷ xs) (y ∷ ys) e =
-    let v = and_parts (eqb x y) (same_bytes xs ys) e in
+    let v = and_parts (eqb x y) (same_text xs ys) e in
     let here = eqb-true x y v.0 in
     let rest = one_text xs ys v.1 in
     λ i. here i ∷ rest i
@@ -41,10 +42,10 @@ head_is_lawful magic =
     let rest : List ℕ → Format (ℕ × Table) = λ _. before version (λ _. schema) in
     let made : List ℕ × (ℕ × Table) → Table = λ p. p.1.1 in
     seen_is_lawful (before first rest) made (λ t. Some (magic, (1, t)))
-    (before_is_lawful first rest (checked_is_lawful (raw (length magic)) (same_bytes magic) (λ _. BadMagic) (raw_is_lawful (length magic))) (λ x valid. before_is_lawful version (λ _. schema) version_is_lawful (λ n v. schema_is_lawful)))
+    (before_is_lawful first rest (checked_is_lawful (raw (length magic)) (same_text magic) (λ _. BadMagic) (raw_is_lawful (length magic))) (λ x valid. before_is_lawful version (λ _. schema) version_is_lawful (λ n v. schema_is_lawful)))
     (λ p valid.
     let v = and_parts (first.valid p.0) ((rest p.0).valid p.1) valid in
-    let same : magic ≡ p.0 = one_text magic p.0 (and_parts ((raw (length magic)).valid p.0) (same_bytes magic p.0) v.0).1 in
+    let same : magic ≡ p.0 = one_text magic p.0 (and_parts ((raw (length magic)).valid p.0) (same_text magic p.0) v.0).1 in
     let one : p.1.0 ≡ 1 = version_is p.1.0 (and_parts (version.valid p.1.0) (schema.valid p.1.1) v.1).0 in
     λ i. Some (same i, (sym one i, p.1.1)))
     (λ p t e. sym (ap made (some_is {A = List ℕ × (ℕ × Table)} (magic, (1, t)) p e)))
@@ -91,7 +92,7 @@ abbrev both_read : List ℕ × List ℕ → Result (List ℕ × List ℕ) Refusa
 both_read p = Ok p
 
 -- a text that is as it must be
-pub magic_read : (magic bytes front back : List ℕ) (total : ℕ) → length magic ≤ length bytes → front ≡ take (length magic) bytes → back ≡ drop (length magic) bytes → same_bytes magic front ≡ true
+pub magic_read : (magic bytes front back : List ℕ) (total : ℕ) → length magic ≤ length bytes → front ≡ take (length magic) bytes → back ≡ drop (length magic) bytes → same_text magic front ≡ true
     → (constant magic BadMagic).read total bytes ≡ Ok (magic, back)
 magic_read magic bytes front back total long f b same =
     let enough : ltb (length bytes) (length magic) ≡ false = le-ltb _ _ long in

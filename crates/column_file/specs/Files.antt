@@ -12,7 +12,8 @@ use Rattle.table_model.specs.declared.names.Origin.{Origin}
 use Rattle.table_model.specs.declared.refusal.Refusal.{Refusal}
 use Rattle.table_model.specs.declared.refusal.Refusal.TheVariants.{Memory, BadName, NotCanonical}
 use Rattle.catalogue_join.specs.RowRange.{RowRange, AreMaximal, rows_in as rows_deleted}
-use Rattle.segment_core.specs.Format.{Format, read_whole, same_bytes, Writes, ◌>>=◌}
+use Rattle.segment_core.specs.Format.{Format, read_whole, Writes, ◌>>=◌}
+use Rattle.table_model.specs.Identifier.{same_text}
 use Rattle.segment_core.specs.Segment.{SegmentForm, batch_of, widths_in, canonical_forms, canonical_segment, canonical_again}
 use Rattle.replica_store.specs.Segments.{rows_in}
 use Rattle.replica_store.specs.Segments.{Entry as Held}
@@ -119,7 +120,7 @@ Exports other old new before after bytes = Writes other old new before after byt
 abbrev pub judged : List ℕ → OfferForm → Result OfferForm Refusal
 judged bytes o =
     let file = canonical_file o.schema o.state in
-    cond (same_bytes bytes file) (Ok o) (Err (NotCanonical (first_difference bytes file)))
+    cond (same_text bytes file) (Ok o) (Err (NotCanonical (first_difference bytes file)))
 
 -- the table's batches and deleted rows that a canonical file holds, or the first fault
 abbrev pub canonical_read : List ℕ → Result OfferForm Refusal

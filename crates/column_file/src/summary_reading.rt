@@ -5,7 +5,7 @@ ghost use Rattle.std.specs.FinSet as set;
 ghost use Rattle.std.specs.Io.KnownBytes.{IsAtEnd};
 ghost use Rattle.table_model.specs.Faults.{IsWithin, GaveMore};
 ghost use Rattle.table_model.specs.Name.{is_proper_name};
-ghost use Rattle.segment_core.specs.Format.{Format, Reads, number, all, constant, same_bytes, read_whole};
+ghost use Rattle.segment_core.specs.Format.{Format, Reads, number, all, constant, read_whole};
 ghost use Rattle.column_file.specs.SummaryBytes.{version, head, proper_name, precedes, is_after, batch_name, name_count, names, summary, summary_read};
 ghost use Rattle.column_file.specs.Input.{Judges, CountsFailure, is_refusal_of_reading};
 
@@ -16,23 +16,10 @@ use replica_store::Summary;
 use segment_core::{place_of, read_number};
 use std::alloc::{AllocError, Global};
 use std::io::Read;
-use table_model::{BatchName, Counted, Number, Origin, Refusal, Schema};
+use table_model::{same_text, BatchName, Counted, Number, Origin, Refusal, Schema};
 
 /// What a summary begins with.
 pub(crate) const SUMMARY: [u8; 4] = *b"FLSM";
-
-/// Whether two texts are the same, byte for byte.
-fn same_bytes(a: &[u8], b: &[u8]) -> bool
-    ensures { result ≡ same_bytes a.now b.now }
-{
-    match a.split_first() {
-        None => b.is_empty(),
-        Some((x, xs)) => match b.split_first() {
-            None => false,
-            Some((y, ys)) => *x == *y && same_bytes(xs, ys),
-        },
-    }
-}
 
 /// What stands after the bytes that a format begins with: `BadMagic` where they are others.
 fn read_magic<'a>(total: usize, bytes: &'a [u8], magic: &[u8]) -> Result<&'a [u8], Refusal>
@@ -42,7 +29,7 @@ fn read_magic<'a>(total: usize, bytes: &'a [u8], magic: &[u8]) -> Result<&'a [u8
         return Err(Refusal::Truncated(total as u64));
     }
     let (front, rest) = bytes.split_at(magic.len());
-    if !same_bytes(magic, front) {
+    if !same_text(magic, front) {
         return Err(Refusal::BadMagic);
     }
     Ok(rest)

@@ -1,4 +1,3 @@
 pub mod Seen
-pub mod Passes
 pub mod Folds
 pub mod VectorSeen

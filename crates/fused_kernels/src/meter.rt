@@ -1,6 +1,6 @@
 //! The meter of passes over the payloads of vectors.
 ghost use Rattle.std.specs.Prelude.{◌≡◌};
-ghost use Rattle.fused_kernels.specs.Passes.{raised};
+ghost use Rattle.table_model.specs.Passes.{raised};
 
 use std::marker::Model;
 

@@ -5,7 +5,7 @@ ghost use Rattle.table_model.specs.Values.{total, least, greatest};
 ghost use Rattle.transpose_order.specs.Mask.{rows_of};
 ghost use Rattle.segment_core.specs.Coded.{value_in, values_of};
 ghost use Rattle.segment_core.specs.declared.coded.Coded.TheVariants.{Runs as InRuns};
-ghost use Rattle.fused_kernels.specs.Passes.{raised};
+ghost use Rattle.table_model.specs.Passes.{raised};
 ghost use Rattle.fused_kernels.specs.Seen.{looked_at, values_looked_at, between};
 ghost use Rattle.fused_kernels.specs.VectorSeen.{vector_seen};
 

@@ -5,7 +5,7 @@ ghost use Rattle.bit_interleave.specs.Packing.{sixteen_of};
 ghost use Rattle.frame_delta.specs.Delta.{delta_value, AreSums};
 ghost use Rattle.run_dictionary.specs.Runs.{run_of, run_value};
 ghost use Rattle.segment_core.specs.Coded.{value_in, IsCodedForm};
-ghost use Rattle.fused_kernels.specs.Passes.{raised};
+ghost use Rattle.table_model.specs.Passes.{raised};
 ghost use Rattle.fused_kernels.specs.VectorSeen.{piece_width, vector_seen, AreRuns, AreCarried};
 
 use crate::lanes::Lanes;

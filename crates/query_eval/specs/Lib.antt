@@ -1,4 +1,3 @@
-pub mod Passes
 pub mod Vector
 pub mod Pairs
 pub mod Mentions

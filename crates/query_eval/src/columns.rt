@@ -20,7 +20,7 @@ pub trait Columns {
     ghost use Rattle.table_model.specs.declared.op.Op.TheVariants.{GreaterOrEqual, LessOrEqual};
     ghost use Rattle.transpose_order.specs.Mask.{rows_of};
     ghost use Rattle.query_eval.specs.Pairs.{yes_of, no_of};
-    ghost use Rattle.query_eval.specs.Passes.{raised};
+    ghost use Rattle.table_model.specs.Passes.{raised};
     ghost use Rattle.query_eval.specs.Vector.{IsThere, IsWithin, batch_at, batch_count, vector_count, vector_at, is_live, cell_at, looked_at};
 
     ghost table: { Self → Table };

@@ -5,22 +5,7 @@ ghost use Rattle.std.specs.Option.{IfSome};
 ghost use Rattle.table_model.specs.Identifier.{same_text};
 ghost use Rattle.table_model.specs.Meaning.{place_of};
 
-use table_model::{Column, ColumnMention, Schema};
-
-/// Whether two texts are the same byte for byte.
-fn same_text(a: &[u8], b: &[u8]) -> bool
-    ensures { result ≡ same_text a.now b.now }
-{
-    if a.len() != b.len() {
-        return false;
-    }
-    for i in 0..a.len() {
-        if a[i] != b[i] {
-            return false;
-        }
-    }
-    true
-}
+use table_model::{same_text, Column, ColumnMention, Schema};
 
 /// Which column has the name.
 fn column_at(columns: &[Column], name: &str) -> Option<usize>

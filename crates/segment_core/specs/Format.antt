@@ -6,6 +6,7 @@ use Rattle.std.specs.List.{list_all}
 use Rattle.byteorder.specs.Endian.{little_number, little_bytes}
 use Rattle.table_model.specs.Counted.{one_more}
 use Rattle.table_model.specs.Faults.{AppendsFront}
+use Rattle.table_model.specs.Identifier.{same_text}
 use Rattle.table_model.specs.declared.refusal.Refusal.{Refusal}
 use Rattle.table_model.specs.declared.refusal.Refusal.TheVariants.{Memory, Truncated, TrailingBytes, WriteFault}
 use Rattle.bit_interleave.specs.Arithmetic.{integer_width}
@@ -130,16 +131,9 @@ abbrev pub signed : ℕ → Format ℤ
 signed t =
     seen (number (t / 8)) (λ n. int_wrap (integer_width t) (pos n)) (λ z. cond (is_in_bits t z) (Some (cast_unsigned (integer_width t) z)) None)
 
--- whether two lists of bytes are the same
-abbrev pub same_bytes : List ℕ → List ℕ → Bool
-same_bytes [] [] = true
-same_bytes [] (c ∷ cs) = false
-same_bytes (b ∷ bs) [] = false
-same_bytes (b ∷ bs) (c ∷ cs) = b == c && same_bytes bs cs
-
 -- a text that is always the same
 abbrev pub constant : List ℕ → Refusal → Format (List ℕ)
-constant text fault = checked (raw (length text)) (same_bytes text) (λ _. fault)
+constant text fault = checked (raw (length text)) (same_text text) (λ _. fault)
 
 -- a value that takes all bytes, so that nothing stands after it
 abbrev pub read_whole : {A : Type 0} → Format A → List ℕ → Result A Refusal

@@ -4,7 +4,7 @@ ghost use Rattle.table_model.specs.Truth.{comparison, and_of};
 ghost use Rattle.table_model.specs.declared.op.Op.TheVariants.{GreaterOrEqual, LessOrEqual};
 ghost use Rattle.table_model.specs.Values.{total, least, greatest};
 ghost use Rattle.query_eval.specs.Pairs.{yes_of, no_of};
-ghost use Rattle.query_eval.specs.Passes.{raised};
+ghost use Rattle.table_model.specs.Passes.{raised};
 ghost use Rattle.query_eval.specs.Vector.{IsThere, vector_at, cell_at, looked_at};
 ghost use Rattle.store_view.specs.View.{HasCells};
 

@@ -9,6 +9,7 @@ pub mod Meaning
 pub mod Name
 pub mod Operation
 pub mod Outcome
+pub mod Passes
 pub mod Query
 pub mod QueryCode
 pub mod QueryFalls
