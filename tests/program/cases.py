@@ -34,7 +34,7 @@ WIDER = ONE_ROW[:29] + b"\x01" + ONE_ROW[30:34] + bytes(128) + ONE_ROW[34:]
 
 @dataclass
 class Case:
-    """One run. An output is given whole, as bytes, or as a list of texts that it must have."""
+    """One run. An output is given whole, as bytes, as a list of texts that it must have, or as a function that tells whether it is right."""
 
     name: str
     arguments: list

@@ -1,0 +1,118 @@
+"""Cases at the limits: full replicas, many messages, ranges, columns and groups, and queries of a megabyte.
+
+What is wanted is worked out here from the input, by rules of its own, never from what the program wrote.
+"""
+
+from cases import SECOND_BATCH, Case, batch, file_of
+
+BATCHES = 65_536
+LINE = 1_048_576
+
+
+def lines(*parts):
+    return "".join(f"{part}\n" for part in parts).encode()
+
+
+def full_replica():
+    """Appends to the limit, and what is refused and what isn't after that."""
+    replies = ["ok", *(f"ok 1.{number}" for number in range(1, BATCHES + 1))]
+    script = ["table 2 T A SMALLINT", *["append 1 (7)"] * BATCHES]
+    script += ["append 1 (7)", "insert 1 9.1 (7)", "insert 1 1.5 (7)", "merge 2 1", "append 2 (7)", "delete 2 9.1 0 0", "query 2 SELECT COUNT(*),SUM(A) FROM T"]
+    replies += ["refused Full", "refused Full", "ok already", "ok", "refused Full", "ok", "ok 1", "COUNT(*),SUM(A)", f"{BATCHES},{7 * BATCHES}"]
+    return Case("a replica holds 65,536 batches and no more", ["run"], 0, lines(*replies), input=lines(*script))
+
+
+def full_union():
+    """Two replicas that are too many batches together: the merge is refused, and each stays as it was."""
+    half = BATCHES // 2 + 1
+    script = ["table 2 T A SMALLINT", *["append 1 (7)"] * half, *["append 2 (7)"] * half, "merge 1 2", "query 1 SELECT COUNT(*) FROM T"]
+    replies = ["ok", *(f"ok 1.{number}" for number in range(1, half + 1)), *(f"ok 2.{number}" for number in range(1, half + 1)), "refused Full", "ok 1", "COUNT(*)", str(half)]
+    return Case("a merge past 65,536 batches is refused", ["run"], 0, lines(*replies), input=lines(*script))
+
+
+def full_messages():
+    script = ["table 1 T A SMALLINT", *["ask 1"] * (BATCHES + 1), "serve 1 1", "take 1 1"]
+    replies = ["ok", *(f"ok {number}" for number in range(1, BATCHES + 1)), "refused Full", "refused Full", "refused NoSuchMessage"]
+    return Case("65,536 messages are kept and no more", ["run"], 0, lines(*replies), input=lines(*script))
+
+
+def equal_exports(count, *others):
+    """Whether the last replies are so many exports of the same bytes, and the ones before end as is wanted."""
+
+    def holds(out):
+        replies = out.split(b"\n")
+        exports = replies[-1 - count : -1]
+        return len(set(exports)) == 1 and exports[0].startswith(b"ok 464c4346") and replies[: -1 - count][-len(others) :] == [other.encode() for other in others]
+
+    return holds
+
+
+def many_ranges():
+    """Every other row of 20,000 is deleted: 10,000 ranges, which a merge and an exchange of messages bring alike."""
+    rows = ",".join(f"({row % 1000})" for row in range(20_000))
+    script = ["table 3 T A SMALLINT", f"append 1 {rows}", *(f"delete 2 1.1 {row} {row}" for row in range(0, 20_000, 2))]
+    script += ["merge 1 2", "ask 3", "serve 1 1", "take 3 2", "merge 2 3", "query 3 SELECT COUNT(*),SUM(A) FROM T", "export 1", "export 2", "export 3"]
+    kept = [row % 1000 for row in range(1, 20_000, 2)]
+    return Case("10,000 ranges are exported alike", ["run"], 0, equal_exports(3, "ok 1", "COUNT(*),SUM(A)", f"{len(kept)},{sum(kept)}"), input=lines(*script))
+
+
+def many_columns():
+    """32 columns of three types, with a null in each row and a column of nulls alone, grouped by all 32."""
+    types = ["SMALLINT", "INTEGER", "BIGINT"]
+    names = [f"C{column}" for column in range(32)]
+    table = " ".join(f"{name} {types[column % 3]}" for column, name in enumerate(names))
+
+    def cell(row, column):
+        return "NULL" if column == 31 or (row + column) % 3 == 0 else str((row * 31 + column) % 100 - 50)
+
+    rows = [[cell(row, column) for column in range(32)] for row in range(300)]
+    text = ",".join("(" + ",".join(row) + ")" for row in rows)
+    keys = {tuple(row) for row in rows}
+    ascending = sorted(keys, key=lambda row: [(0, 0) if it == "NULL" else (1, int(it)) for it in row])
+    grouped = ",".join(names)
+    script = [f"table 2 T {table}", f"append 1 {text}", "merge 2 1", "recode 2 1.1 5 0 DICT", f"query 2 SELECT {grouped} FROM T GROUP BY {grouped}", "export 1", "export 2"]
+    return Case("32 columns are exported and grouped", ["run"], 0, equal_exports(2, f"ok {len(keys)}", grouped, *(",".join(row) for row in ascending)), input=lines(*script))
+
+
+def many_groups():
+    """100,000 groups of two rows each, whose rows come in no order."""
+    values = [place * 7919 % 100_000 for place in range(100_000)]
+    batches = [",".join(f"({value - 50_000})" for value in values[start : start + 50_000]) for start in (0, 50_000)]
+    script = ["table 1 T A INTEGER", *(f"append 1 {rows}" for rows in batches), *(f"append 1 {rows}" for rows in reversed(batches)), "query 1 SELECT A,COUNT(*),MAX(A) FROM T GROUP BY A"]
+    replies = ["ok", "ok 1.1", "ok 1.2", "ok 1.3", "ok 1.4", "ok 100000", "A,COUNT(*),MAX(A)", *(f"{value},2,{value}" for value in range(-50_000, 50_000))]
+    return Case("100,000 groups ascend", ["run"], 0, lines(*replies), input=lines(*script))
+
+
+def long_where(name, word, last, count):
+    """A condition as long as a line may be, of comparisons that are false, or true, but for the last."""
+    head, step, end = "query 1 SELECT COUNT(*) FROM T WHERE ", f"A={7 if word == 'AND' else 1} {word} ", f"A={last}"
+    text = head + step * ((LINE - len(head) - len(end)) // len(step)) + end
+    script = ["table 1 T A SMALLINT", "append 1 (7),(NULL),(7)", text]
+    return Case(name, ["run"], 0, lines("ok", "ok 1.1", "ok 1", "COUNT(*)", count), input=lines(*script))
+
+
+def ranges_of(count):
+    """Deletions of single rows that don't touch, of a batch that isn't held."""
+    return count.to_bytes(8, "little") + b"".join((9).to_bytes(4, "little") + (9).to_bytes(4, "little") + 2 * (2 * place).to_bytes(2, "little") for place in range(count))
+
+
+FULL_FILE = file_of(b"T", *(batch(1, number, 7) for number in range(1, BATCHES + 1)))[:-8] + ranges_of(10_000)
+NO_BATCHES = file_of(b"T")
+
+LIMIT_CASES = [
+    full_replica(),
+    full_union(),
+    full_messages(),
+    many_ranges(),
+    many_columns(),
+    many_groups(),
+    long_where("a megabyte of OR is answered", "OR", 7, 2),
+    long_where("a megabyte of AND is answered", "AND", 8, 0),
+    Case("a file of 65,536 batches and 10,000 ranges is checked", ["check", "t"], 0, b"ok batches=65536 ranges=10000\n", files={"t": FULL_FILE}),
+    Case("it is merged with itself to the same bytes", ["merge", "out", "t", "t"], 0, b"ok\n", files={"t": FULL_FILE}, writes={"out": FULL_FILE}),
+    Case("it is queried", ["query", "t", "SELECT COUNT(*),SUM(A) FROM T"], 0, f"COUNT(*),SUM(A)\n{BATCHES},{7 * BATCHES}\n".encode(), files={"t": FULL_FILE}),
+    Case("one batch more is refused in a full file", ["merge", "out", "t", "u"], 1, err=b"refused Full\n", files={"t": FULL_FILE, "u": SECOND_BATCH}, writes={"out": None}),
+    Case("a file that claims a batch too many is refused", ["check", "t"], 1, err=b"refused BadCount 13\n", files={"t": NO_BATCHES[:13] + (BATCHES + 1).to_bytes(4, "little") + NO_BATCHES[17:]}),
+    Case("a file that claims batches that aren't there is cut short", ["check", "t"], 1, err=b"refused Truncated 17\n", files={"t": NO_BATCHES[:13] + BATCHES.to_bytes(4, "little")}),
+    Case("a file that claims ranges that aren't there is cut short", ["check", "t"], 1, err=b"refused Truncated 25\n", files={"t": NO_BATCHES[:17] + bytes([255] * 8)}),
+]
