@@ -1,5 +1,6 @@
 pub mod Conflicts
 pub mod Counts
+pub mod InParts
 pub mod Joining
 pub mod Limits
 pub mod Maps
@@ -9,6 +10,7 @@ pub mod Names
 pub mod Numbers
 pub mod Offers
 pub mod Places
+pub mod Putting
 pub mod RowsIn
 pub mod Stored
 pub mod Summaries
@@ -16,3 +18,6 @@ pub mod Unions
 pub mod Recodes
 pub mod RowValues
 pub mod VectorPlaces
+pub mod ExchangeAnswers
+pub mod Growth
+pub mod RecodeAnswers

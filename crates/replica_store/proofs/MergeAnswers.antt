@@ -16,23 +16,24 @@ use Rattle.replica_store.specs.declared.inserted.Inserted.TheVariants.{New, Alre
 use Rattle.replica_store.specs.Replica.{Replica, with_batch, with_join, with_deleted, rows_between, unless_fault, next_name, place_for, then_added, then_placed, deleted_rows, delete_fault, merge_fault, conflict_or_full}
 use Rattle.replica_store.specs.MergeLaws.{Merges, Keeps, with_state, conflict_of, MergeLaws, KeepingLaws}
 use Rattle.replica_store.proofs.Conflicts.{agree_without, none_agreeing, conflicts}
+use Rattle.replica_store.proofs.RecodeAnswers.{recode_laws_hold}
 use Rattle.replica_store.proofs.Limits.{ok_unless, same_Ok, none_only, not_full}
 
 -- what holds where a merge answers Ok
-record IsMerge (r other new : Replica) : Type 0 where
-  made : with_join r other ≡ new
-  schema : r.schema ≡ other.schema
-  agree : Agree r.state other.state
-  limit : map.len (union_of r.state.batches other.state.batches) ≤ 65536
+pub record IsMerge (r other new : Replica) : Type 0 where
+  pub made : with_join r other ≡ new
+  pub schema : r.schema ≡ other.schema
+  pub agree : Agree r.state other.state
+  pub limit : map.len (union_of r.state.batches other.state.batches) ≤ 65536
 
 no_conflict : (r other : Replica) (o : Option BatchName) → conflict_or_full r other o ≡ None → o ≡ None
 no_conflict r other None e = refl
 no_conflict r other (Some name) e = cc
 
-made_of : {X : Type 0} (x y : X) (r s : Replica) → ◌≡◌ {A = Result (X × Replica) Refusal} (Ok (x, r)) (Ok (y, s)) → r ≡ s
+pub made_of : {X : Type 0} (x y : X) (r s : Replica) → ◌≡◌ {A = Result (X × Replica) Refusal} (Ok (x, r)) (Ok (y, s)) → r ≡ s
 made_of {X} x y r s e = ap (λ (p : X × Replica). p.1) (same_Ok (x, r) (y, s) e)
 
-is_merge : (r other new : Replica) → Merges r other new → IsMerge r other new
+pub is_merge : (r other new : Replica) → Merges r other new → IsMerge r other new
 unfolding merge_fault
 is_merge r other new e =
     let met = ok_unless (merge_fault r other) (Ok (tt, with_join r other)) (tt, new) e in
@@ -48,7 +49,7 @@ not_over : (n : ℕ) → n ≤ 65536 → nat_lt 65536 n ≡ false
 not_over n le = grind (arith, nat_tests)
 
 -- a merge answers Ok where the schemas are one, the states agree and the union is short enough
-merges : (r other : Replica) → r.schema ≡ other.schema → Agree r.state other.state → map.len (union_of r.state.batches other.state.batches) ≤ 65536 → Merges r other (with_join r other)
+pub merges : (r other : Replica) → r.schema ≡ other.schema → Agree r.state other.state → map.len (union_of r.state.batches other.state.batches) ≤ 65536 → Merges r other (with_join r other)
 unfolding merge_fault
 merges r other schema agree limit =
     let same : same_table r.schema other.schema ≡ true = subst (λ (t : Table). same_table r.schema t ≡ true) schema (itself_table r.schema) in
@@ -118,4 +119,5 @@ keeping_laws_hold = record {
   insert = λ r new name rows answer e. placed r new name rows answer (place_for r name rows) e;
   delete = deleted;
   merge = λ r other new e. kept r (with_join r other) new (is_merge r other new e).made (record { schema = refl; own = refl });
+  recode = recode_laws_hold;
 }

@@ -30,7 +30,7 @@ turned_below x y over apart =
     ] refl over
 
 module _ {X : Type 0} where
-  merge-nil : (es : List (BatchName × X)) → merge name_cmp es [] ≡ es
+  pub merge-nil : (es : List (BatchName × X)) → merge name_cmp es [] ≡ es
   merge-nil [] = refl
   merge-nil (e ∷ es) = refl
 

@@ -64,7 +64,7 @@ module _ {X : Type 0} where
       let rest = none_after own ys (λ k d lt. h (suc k) d (omega arith)) in
       grind (arith, nat_tests)
 
-  greatest-append : (own : Origin) (xs ys : List (BatchName × X)) → greatest_number own (xs ++ ys) ≡ max (greatest_number own xs) (greatest_number own ys)
+  pub greatest-append : (own : Origin) (xs ys : List (BatchName × X)) → greatest_number own (xs ++ ys) ≡ max (greatest_number own xs) (greatest_number own ys)
   greatest-append own [] ys = omega arith
   greatest-append own (x ∷ xs) ys = let rest = greatest-append own xs ys in omega arith
 

@@ -11,7 +11,7 @@ use Rattle.table_model.proofs.Joins.{or_else}
 use Rattle.replica_store.specs.Segments.{union_in}
 
 module _ {X : Type 0} where
-  find-append : (es fs : List (BatchName × X)) (q : BatchName) → map.find name_cmp q (es ++ fs) ≡ or_else (map.find name_cmp q es) (map.find name_cmp q fs)
+  pub find-append : (es fs : List (BatchName × X)) (q : BatchName) → map.find name_cmp q (es ++ fs) ≡ or_else (map.find name_cmp q es) (map.find name_cmp q fs)
   find-append [] fs q = refl
   find-append (e ∷ es) fs q =
       elim (eq_by_cmp name_cmp q e.0) as (λ b. cond b (Some e.1) (map.find name_cmp q (es ++ fs)) ≡ or_else (cond b (Some e.1) (map.find name_cmp q es)) (map.find name_cmp q fs)) [

@@ -7,6 +7,7 @@ use Rattle.table_model.specs.State.{State, Batch, Agree}
 use Rattle.table_model.specs.declared.names.BatchName.{BatchName}
 use Rattle.table_model.specs.declared.names.RowName.{RowName}
 use Rattle.replica_store.specs.declared.inserted.Inserted.{Inserted}
+use Rattle.replica_store.specs.RecodeLaws.{RecodeLaws}
 use Rattle.replica_store.specs.Replica.{Replica, entries_of, conflict_with, appended, inserted, deleted_rows, merged}
 
 -- the first of two names is the lesser one
@@ -56,9 +57,10 @@ pub record MergeLaws : Type 0 where
   pub associative : (r s t left both right new : Replica) → Merges r s left → Merges left t new → Merges s t both → Merges r both right → new ≡ right
   pub again : (r s new : Replica) → Merges r s new → Merges new s new
 
--- no call changes the schema or the own origin
+-- no call changes the schema or the own origin, and a recode changes no state and one vector alone
 pub record KeepingLaws : Type 0 where
   pub append : (r new : Replica) (rows : Batch) (name : BatchName) → appended r rows ≡ Ok (name, new) → Keeps r new
   pub insert : (r new : Replica) (name : BatchName) (rows : Batch) (answer : Inserted) → inserted r name rows ≡ Ok (answer, new) → Keeps r new
   pub delete : (r new : Replica) (first : RowName) (last : ℕ) → deleted_rows r first last ≡ Ok (tt, new) → Keeps r new
   pub merge : (r other new : Replica) → Merges r other new → Keeps r new
+  pub recode : RecodeLaws

@@ -1,12 +1,14 @@
-//! The batches of a replica: a vector in ascending order of name.
-ghost use Rattle.std.specs.Prelude.{◌≡◌, ◌+◌, ◌≤◌, T, [], ◌∷◌, ◌++◌, length, reverse, nat_lt, None, IsNone, IsTrue, MatchOption, IfSome, ◌<◌, OnOk, OnErr, IfOk, vec_len, vec_capacity};
+//! The batches of a replica, in ascending order of name, in two vectors that its own origin parts.
+ghost use Rattle.std.specs.Prelude.{take, drop, slice_get, Some, ◌≡◌, ◌+◌, ◌≤◌, T, [], ◌∷◌, ◌++◌, length, reverse, nat_lt, None, IsNone, IsTrue, MatchOption, IfSome, ◌<◌, OnOk, OnErr, IfOk, vec_len, vec_capacity};
 ghost use Rattle.std.specs.Option.{option_copied, option_to_list, option_map};
 ghost use Rattle.std.specs.FinMap as map;
-ghost use Rattle.std.specs.List.{All};
+ghost use Rattle.std.specs.List.{All, insert};
+ghost use Rattle.std.specs.FinSet as set;
 ghost use Rattle.table_model.specs.Name.{name_cmp, is_proper_name};
 ghost use Rattle.table_model.specs.Table.{Table};
 ghost use Rattle.table_model.specs.declared.names.BatchName.{BatchName};
 ghost use Rattle.replica_store.specs.Entries.{count_below, merge, takes_first};
+ghost use Rattle.replica_store.specs.Parted.{AreParted};
 ghost use Rattle.replica_store.specs.Replica.{greatest_number, differs, conflict_with, lacked_by, names_of, entries_of};
 ghost use Rattle.replica_store.specs.Segments.{rows_in, rows_entries, union_in, conflict_in, recoded_in, AreStored, Entry, HasProperName, RecodesEntries, HoldsAt};
 ghost use Rattle.table_model.specs.State.{union_of};
@@ -20,43 +22,52 @@ use std::mem;
 use table_model::{BatchName, Origin, Refusal};
 
 /// The batches by name, as segments, and the set of the names. Contracts see them as a finite map from names to segments.
+///
+/// They lie in two vectors in ascending order: those of origins up to the own one, of which the own ones are the last, and those
+/// of greater origins. So a batch that is appended goes in at the end of the first, and moves no other.
 #[derive(Drop)]
 pub(crate) struct Batches {
-    entries: Vec<(BatchName, Segment)>,
+    own: Origin,
+    up_to: Vec<(BatchName, Segment)>,
+    past: Vec<(BatchName, Segment)>,
     held: Held,
 }
 
 impl Model for Batches {
+    ghost use Rattle.std.specs.Prelude.{◌++◌};
     ghost use Rattle.std.specs.FinMap as map;
     ghost use Rattle.table_model.specs.Name.{name_cmp, coded_name};
     ghost use Rattle.segment_core.specs.Segment.{SegmentForm};
-    ghost use Rattle.replica_store.specs.Replica.{AreKept};
+    ghost use Rattle.replica_store.specs.Parted.{AreKeptInParts};
     ghost use Rattle.segment_core.specs.SegmentCode.{coded_segment};
 
     ghost Value = { map.FinMap name_cmp SegmentForm };
 
     ghost coded = { map.code coded_name coded_segment };
 
-    ghost view = { λ b. map.from_sorted b.entries.items };
+    ghost view = { λ b. map.from_sorted (b.up_to.items ++ b.past.items) };
 
-    ghost invariant = { λ b. AreKept b.entries.items b.held };
+    ghost invariant = { λ b. AreKeptInParts b.own b.up_to.items b.past.items b.held };
 }
 
 impl Batches {
-    /// No batch.
-    pub fn new(alloc: Global) -> Batches
+    /// No batch. Those that come will be parted by the own origin.
+    pub fn new(alloc: Global, own: Origin) -> Batches
         ensures segments { result ≡ map.empty }
         ensures rows { rows_in result ≡ map.empty }
     {
         Batches {
-            entries: Vec::new(alloc),
+            own,
+            up_to: Vec::new(alloc),
+            past: Vec::new(alloc),
             held: Held::new(alloc),
         }
     }
 
-    /// Batches of proper names that are in ascending order already. It takes a step for each.
+    /// Batches of proper names that are in ascending order already, parted by the own origin. It takes a step for each.
     pub fn from_entries(
         alloc: Global,
+        own: Origin,
         entries: Vec<(BatchName, Segment)>,
     ) -> Result<Batches, AllocError>
         requires sorted { T (map.is_sorted name_cmp entries.items) }
@@ -64,7 +75,13 @@ impl Batches {
         ensures { IfOk result (λ batches. batches ≡ map.from_sorted entries.items) }
     {
         let held = names_held(alloc, entries.as_slice())?;
-        Ok(Batches { entries, held })
+        let (up_to, past) = parted(own, entries)?;
+        Ok(Batches {
+            own,
+            up_to,
+            past,
+            held,
+        })
     }
 
     /// How many batches there are.
@@ -72,14 +89,27 @@ impl Batches {
         ensures count { result ≡ map.len self.now }
         ensures rows { result ≡ map.len (rows_in self.now) }
     {
-        self.entries.len()
+        self.up_to.len() + self.past.len()
     }
 
-    /// The batches, in ascending order of name.
-    pub fn entries(&self) -> &[(BatchName, Segment)]
-        ensures { result.now ≡ map.entries self.now }
+    /// The batches, in ascending order of name: those of origins up to the own one, then those of greater origins.
+    pub fn parts(&self) -> (&[(BatchName, Segment)], &[(BatchName, Segment)])
+        ensures { result.0.now ++ result.1.now ≡ map.entries self.now }
     {
-        self.entries.as_slice()
+        (self.up_to.as_slice(), self.past.as_slice())
+    }
+
+    /// The batch at this place, in ascending order of name and from 0. It takes the same time at each place.
+    pub fn at(&self, index: usize) -> (BatchName, &Segment)
+        requires { index < map.len self.now }
+        ensures { slice_get (map.entries self.now) index ≡ Some (result.0, result.1.now) }
+    {
+        let before = self.up_to.len();
+        if index < before {
+            entry_at(self.up_to.as_slice(), index)
+        } else {
+            entry_at(self.past.as_slice(), index - before)
+        }
     }
 
     /// The segment of a batch, if there is one of that name. It takes a binary search.
@@ -87,7 +117,11 @@ impl Batches {
         ensures segment { option_copied result ≡ map.get self.now name }
         ensures rows { option_map (λ s. s.rows) (option_copied result) ≡ map.get (rows_in self.now) name }
     {
-        found(self.entries.as_slice(), name)
+        if name.origin.0 <= self.own.0 {
+            found(self.up_to.as_slice(), name)
+        } else {
+            found(self.past.as_slice(), name)
+        }
     }
 
     /// The names of the batches.
@@ -97,11 +131,13 @@ impl Batches {
         &self.held
     }
 
-    /// The greatest number of an origin, or 0. It takes a binary search.
-    pub fn greatest_number(&self, own: Origin) -> u32
-        ensures { result ≡ greatest_number own (map.entries (rows_in self.now)) }
+    /// The greatest number of an origin, or 0. It takes two binary searches.
+    pub fn greatest_number(&self, origin: Origin) -> u32
+        ensures { result ≡ greatest_number origin (map.entries (rows_in self.now)) }
     {
-        last_number(self.entries.as_slice(), own)
+        let up_to = last_number(self.up_to.as_slice(), origin);
+        let past = last_number(self.past.as_slice(), origin);
+        up_to.max(past)
     }
 
     /// Whether the batch of this name has other rows, however either is coded.
@@ -114,56 +150,80 @@ impl Batches {
         }
     }
 
-    /// The first of the other batches that has other rows here under its name.
-    pub fn conflict_with(&self, others: &[(BatchName, Segment)]) -> Option<BatchName>
-        requires { T (map.is_sorted name_cmp others.now) }
-        ensures { result ≡ conflict_with (rows_in self.now) (map.entries (rows_in (map.from_sorted others.now))) }
+    /// The first of the other batches, which come in two parts that follow each other, that has other rows here under its name.
+    pub fn conflict_with(
+        &self,
+        first: &[(BatchName, Segment)],
+        second: &[(BatchName, Segment)],
+    ) -> Option<BatchName>
+        requires { T (map.is_sorted name_cmp (first.now ++ second.now)) }
+        ensures { result ≡ conflict_with (rows_in self.now) (map.entries (rows_in (map.from_sorted (first.now ++ second.now)))) }
     {
-        first_conflict(self, others)
+        match first_conflict(self, first) {
+            Some(name) => Some(name),
+            None => first_conflict(self, second),
+        }
     }
 
-    /// Whether the union with the others has more batches than this.
-    pub fn union_exceeds(&self, others: &[(BatchName, Segment)], limit: usize) -> bool
-        requires { T (map.is_sorted name_cmp others.now) }
-        ensures { result ≡ nat_lt limit (map.len (union_of (rows_in self.now) (rows_in (map.from_sorted others.now)))) }
+    /// Whether the union with the others, which come in two parts that follow each other, has more batches than this.
+    pub fn union_exceeds(
+        &self,
+        first: &[(BatchName, Segment)],
+        second: &[(BatchName, Segment)],
+        limit: usize,
+    ) -> bool
+        requires { T (map.is_sorted name_cmp (first.now ++ second.now)) }
+        ensures { result ≡ nat_lt limit (map.len (union_of (rows_in self.now) (rows_in (map.from_sorted (first.now ++ second.now))))) }
     {
-        self.len() > limit || count_lacked(&self.held, others) > limit - self.len()
+        let held = self.len();
+        if held > limit {
+            return true;
+        }
+        let room = limit - held;
+        let lacked = count_lacked(&self.held, first);
+        lacked > room || count_lacked(&self.held, second) > room - lacked
     }
 
-    /// Takes in copies of the other batches whose names aren't here, as they are coded there; `names` are the names of all of them. It takes as
-    /// many steps as there are batches on both sides, and for each of the others a search among the runs of names.
+    /// Takes in copies of the other batches whose names aren't here, as they are coded there. The others come in two parts that
+    /// follow each other, and `names` are the names of all of them. It takes as many steps as there are batches on both sides, and
+    /// for each of the others a search among the runs of names.
     pub fn join(
         &mut self,
         alloc: Global,
-        others: &[(BatchName, Segment)],
+        first: &[(BatchName, Segment)],
+        second: &[(BatchName, Segment)],
         names: &Held,
     ) -> Result<(), AllocError>
-        requires sorted { T (map.is_sorted name_cmp others.now) }
-        requires names { names.now ≡ names_of (map.from_sorted others.now) }
-        ensures ok { OnOk result (self.new ≡ union_in self.old (map.from_sorted others.now)) }
+        requires sorted { T (map.is_sorted name_cmp (first.now ++ second.now)) }
+        requires names { names.now ≡ names_of (map.from_sorted (first.now ++ second.now)) }
+        ensures ok { OnOk result (self.new ≡ union_in self.old (map.from_sorted (first.now ++ second.now))) }
         ensures err { OnErr result (self.new ≡ self.old) }
     {
-        let fresh = copies_lacked(alloc, &self.held, others)?;
-        let room = Vec::with_capacity(alloc, self.entries.len().saturating_add(fresh.len()))?;
+        let fresh = copies_lacked(alloc, &self.held, first, second)?;
+        let (fresh_up_to, fresh_past) = parted(self.own, fresh)?;
+        let room_up_to = room_for(alloc, &self.up_to, &fresh_up_to)?;
+        let room_past = room_for(alloc, &self.past, &fresh_past)?;
         let held = self.held.joined(names)?;
-        let ours = mem::replace(&mut self.entries, Vec::new(alloc));
-        self.entries = merged(ours, fresh, room);
+        let up_to = mem::replace(&mut self.up_to, Vec::new(alloc));
+        let past = mem::replace(&mut self.past, Vec::new(alloc));
+        self.up_to = merged(up_to, fresh_up_to, room_up_to);
+        self.past = merged(past, fresh_past, room_past);
         self.held = held;
         Ok(())
     }
 
-    /// Puts in a batch of a proper name that isn't there.
+    /// Puts in a batch of a proper name that isn't there. One that is the last of its part moves no other.
     pub fn insert(&mut self, name: BatchName, segment: Segment) -> Result<(), AllocError>
         requires proper { IsTrue (is_proper_name name) }
         requires new { map.get self.old name ≡ None }
         ensures ok { OnOk result (self.new ≡ map.insert self.old name segment) }
         ensures err { OnErr result (self.new ≡ self.old) }
     {
-        self.entries.reserve(1)?;
-        self.held.insert(name)?;
-        let at = place(self.entries.as_slice(), name);
-        let _ = self.entries.insert(at, (name, segment));
-        Ok(())
+        if name.origin.0 <= self.own.0 {
+            put_new(&mut self.up_to, &mut self.held, name, segment)
+        } else {
+            put_new(&mut self.past, &mut self.held, name, segment)
+        }
     }
 
     /// Puts a vector of a batch into another coding, where there is one; no row changes.
@@ -179,15 +239,91 @@ impl Batches {
         ensures rows { rows_in self.new ≡ rows_in self.old }
         ensures stored { (table : Table) → AreStored table self.old → AreStored table self.new }
     {
-        recode_found(
-            alloc,
-            self.entries.as_mut_slice(),
-            name,
-            column,
-            vector,
-            coding,
-        )
+        if name.origin.0 <= self.own.0 {
+            recode_found(
+                alloc,
+                self.up_to.as_mut_slice(),
+                name,
+                column,
+                vector,
+                coding,
+            )
+        } else {
+            recode_found(
+                alloc,
+                self.past.as_mut_slice(),
+                name,
+                column,
+                vector,
+                coding,
+            )
+        }
     }
+}
+
+/// The batch at this place.
+fn entry_at(entries: &[(BatchName, Segment)], index: usize) -> (BatchName, &Segment)
+    requires { index < length entries.now }
+    ensures { slice_get entries.now index ≡ Some (result.0, result.1.now) }
+{
+    let (name, segment) = &entries[index];
+    (*name, segment)
+}
+
+/// The batches of origins up to this one, and those of greater origins, of batches in ascending order of name.
+fn parted(
+    own: Origin,
+    mut entries: Vec<(BatchName, Segment)>,
+) -> Result<(Vec<(BatchName, Segment)>, Vec<(BatchName, Segment)>), AllocError>
+    requires { T (map.is_sorted name_cmp entries.items) }
+    ensures whole { IfOk result (λ parts. parts.0.items ++ parts.1.items ≡ entries.items) }
+    ensures parted { IfOk result (λ parts. AreParted own parts.0.items parts.1.items) }
+{
+    let at = place_past(entries.as_slice(), own);
+    let past = entries.split_off(at)?;
+    Ok((entries, past))
+}
+
+/// How many of the batches have origins up to this one.
+fn place_past(entries: &[(BatchName, Segment)], own: Origin) -> usize
+    requires { T (map.is_sorted name_cmp entries.now) }
+    ensures bound { result ≤ length entries.now }
+    ensures parted { AreParted own (take result entries.now) (drop result entries.now) }
+{
+    entries.partition_point(|entry| entry.0.origin.0 <= own.0)
+}
+
+/// Room for the batches of both vectors.
+fn room_for(
+    alloc: Global,
+    ours: &Vec<(BatchName, Segment)>,
+    fresh: &Vec<(BatchName, Segment)>,
+) -> Result<Vec<(BatchName, Segment)>, AllocError>
+    ensures empty { IfOk result (λ room. room.items ≡ []) }
+    ensures fits { IfOk result (λ room. vec_len ours.now + vec_len fresh.now ≤ vec_capacity room) }
+{
+    Vec::with_capacity(alloc, ours.len().saturating_add(fresh.len()))
+}
+
+/// Puts in a batch of a proper name that isn't there, and its name among the names. Where memory is refused both are as before.
+fn put_new(
+    entries: &mut Vec<(BatchName, Segment)>,
+    held: &mut Held,
+    name: BatchName,
+    segment: Segment,
+) -> Result<(), AllocError>
+    requires sorted { T (map.is_sorted name_cmp entries.old.items) }
+    requires proper { IsTrue (is_proper_name name) }
+    ensures entries { OnOk result (entries.new.items ≡ insert entries.old.items (count_below name_cmp name entries.old.items) (name, segment)) }
+    ensures names { OnOk result (held.new ≡ set.insert held.old name) }
+    ensures same_entries { OnErr result (entries.new.items ≡ entries.old.items) }
+    ensures same_names { OnErr result (held.new ≡ held.old) }
+{
+    entries.reserve(1)?;
+    held.insert(name)?;
+    let at = place(entries.as_slice(), name);
+    let _ = entries.insert(at, (name, segment));
+    Ok(())
 }
 
 /// Puts a vector of the batch of this name into another coding.
@@ -295,19 +431,34 @@ fn count_lacked(names: &Held, batches: &[(BatchName, Segment)]) -> usize
     count
 }
 
-/// Copies of the batches whose names aren't among these, in their order.
+/// Copies of the batches of both parts whose names aren't among these, in their order.
 pub(crate) fn copies_lacked(
     alloc: Global,
     names: &Held,
-    batches: &[(BatchName, Segment)],
+    first: &[(BatchName, Segment)],
+    second: &[(BatchName, Segment)],
 ) -> Result<Vec<(BatchName, Segment)>, AllocError>
-    ensures { IfOk result (λ copies. copies.items ≡ lacked_by names.now batches.now) }
+    ensures { IfOk result (λ copies. copies.items ≡ lacked_by names.now (first.now ++ second.now)) }
 {
     let mut copies = Vec::new(alloc);
-    for (name, segment) in batches {
-        push_lacked(alloc, names, *name, segment, &mut copies)?;
-    }
+    push_all_lacked(alloc, names, first, &mut copies)?;
+    push_all_lacked(alloc, names, second, &mut copies)?;
     Ok(copies)
+}
+
+/// Puts copies of the batches whose names aren't among these at the end, in their order.
+fn push_all_lacked(
+    alloc: Global,
+    names: &Held,
+    batches: &[(BatchName, Segment)],
+    copies: &mut Vec<(BatchName, Segment)>,
+) -> Result<(), AllocError>
+    ensures { OnOk result (copies.new.items ≡ copies.old.items ++ lacked_by names.now batches.now) }
+{
+    for (name, segment) in batches {
+        push_lacked(alloc, names, *name, segment, copies)?;
+    }
+    Ok(())
 }
 
 /// Puts a copy of the batch at the end, unless its name is among these.

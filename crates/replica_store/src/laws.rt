@@ -1,4 +1,5 @@
 //! Laws of the calls of a store, each the contract of a function that does nothing.
+ghost use Rattle.replica_store.specs.ExchangeLaws.{ExchangeLaws};
 ghost use Rattle.replica_store.specs.MergeLaws.{MergeLaws, KeepingLaws};
 
 /// A merge is refused with `Conflict` exactly where the states don't agree, by the least name that has two lists of rows.
@@ -7,7 +8,14 @@ pub fn merge_laws()
     ensures { MergeLaws }
 {}
 
-/// No call changes the schema or the own origin.
+/// An offer that was made for a summary, applied to a replica that holds every batch that the summary listed and agrees with the
+/// server as it was then, gives the join of both states, however late and however often. What the replica gained before the offer
+/// came is kept, and an offer that was applied once changes nothing when it comes again.
+pub fn exchange_laws()
+    ensures { ExchangeLaws }
+{}
+
+/// No call changes the schema or the own origin. A recode changes no state, and leaves all vectors but its own.
 pub fn keeping_laws()
     ensures { KeepingLaws }
 {}

@@ -72,7 +72,7 @@ impl Offer {
             entries,
             tombs,
         } = self;
-        let batches = Batches::from_entries(alloc, entries)?;
+        let batches = Batches::from_entries(alloc, own, entries)?;
         Ok(Store::from_parts(schema, own, batches, tombs))
     }
 

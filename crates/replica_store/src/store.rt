@@ -1,5 +1,5 @@
 //! A replica's store: a table's schema, an own origin, and a state that appends, inserts and merges change.
-ghost use Rattle.std.specs.Prelude.{◌≡◌, ◌<◌, ◌≤◌, length, slice_get, Some, None, Ok, Err, IsOk, IfOk, IfErr, OnOk, OnErr, IsTrue, T};
+ghost use Rattle.std.specs.Prelude.{◌++◌, ◌≡◌, ◌<◌, ◌≤◌, length, slice_get, Some, None, Ok, Err, IsOk, IfOk, IfErr, OnOk, OnErr, IsTrue, T};
 ghost use Rattle.std.specs.FinMap as map;
 ghost use Rattle.std.specs.List.{All};
 ghost use Rattle.table_model.specs.Name.{name_cmp, is_proper_name};
@@ -73,7 +73,7 @@ impl Store {
         Ok(Store {
             schema,
             own,
-            batches: Batches::new(alloc),
+            batches: Batches::new(alloc, own),
             tombs: Tombs::new(alloc),
         })
     }
@@ -126,19 +126,20 @@ impl Store {
         ensures widths { widths_in result.1.now.forms ≡ widths_of self.now.replica.schema }
         ensures valid { HasBytesIn self.now.replica.schema result.1.now }
     {
-        let (name, segment) = &self.batches.entries()[index];
+        let (name, segment) = self.batches.at(index);
         // `rows` ensures that a segment has bytes at its own lane widths.
         let _rows = segment.rows();
-        (*name, segment)
+        (name, segment)
     }
 
-    /// All batches, in ascending order of name.
-    pub fn entries(&self) -> &[(BatchName, Segment)]
-        ensures value { result.now ≡ map.entries self.now.segments }
+    /// All batches in ascending order of name, in two parts: those of origins up to the own one, then those of greater origins.
+    pub fn parts(&self) -> (&[(BatchName, Segment)], &[(BatchName, Segment)])
+        ensures value { result.0.now ++ result.1.now ≡ map.entries self.now.segments }
         ensures rows { self.now.replica.state.batches ≡ rows_in self.now.segments }
-        ensures stored { All (IsStored self.now.replica.schema) result.now }
+        ensures first { All (IsStored self.now.replica.schema) result.0.now }
+        ensures second { All (IsStored self.now.replica.schema) result.1.now }
     {
-        self.batches.entries()
+        self.batches.parts()
     }
 
     /// The deleted rows, held here or not.
@@ -152,7 +153,8 @@ impl Store {
     pub fn live_count(&self) -> u64
         ensures { result ≡ live_count self.now.replica }
     {
-        count_live(self.batches.entries(), &self.tombs)
+        let (first, second) = self.batches.parts();
+        count_live(first, &self.tombs) + count_live(second, &self.tombs)
     }
 
     /// Puts the rows in as a batch of the own origin, with one more than the greatest number that is held of it, else 1.
@@ -217,13 +219,9 @@ impl Store {
         ensures segments { OnOk result (self.new.segments ≡ union_in self.old.segments other.now.segments) }
         ensures refused { OnErr result (self.new ≡ self.old) }
     {
-        self.merge_fault(&other.schema, other.batches.entries())?;
-        self.take_all(
-            alloc,
-            other.batches.entries(),
-            other.batches.names(),
-            &other.tombs,
-        )?;
+        let (first, second) = other.batches.parts();
+        self.merge_fault(&other.schema, first, second)?;
+        self.take_all(alloc, first, second, other.batches.names(), &other.tombs)?;
         Ok(())
     }
 
@@ -249,7 +247,8 @@ impl Store {
             return Err(Refusal::SchemaDiffers);
         }
         let schema = self.schema.copy(alloc)?;
-        let entries = copies_lacked(alloc, summary.names(), self.batches.entries())?;
+        let (first, second) = self.batches.parts();
+        let entries = copies_lacked(alloc, summary.names(), first, second)?;
         let tombs = self.tombs.copy(alloc)?;
         Ok(Offer::from_parts(schema, entries, tombs))
     }
@@ -264,9 +263,11 @@ impl Store {
         ensures segments { OnOk result (self.new.segments ≡ union_in self.old.segments offer.now.segments) }
         ensures refused { OnErr result (self.new ≡ self.old) }
     {
-        self.merge_fault(offer.schema(), offer.entries())?;
-        let names = names_held(alloc, offer.entries())?;
-        self.take_all(alloc, offer.entries(), &names, offer.tombs())?;
+        let entries = offer.entries();
+        let (first, second) = entries.split_at(entries.len());
+        self.merge_fault(offer.schema(), first, second)?;
+        let names = names_held(alloc, entries)?;
+        self.take_all(alloc, first, second, &names, offer.tombs())?;
         Ok(())
     }
 
@@ -358,42 +359,48 @@ impl Store {
         Ok(())
     }
 
-    /// Why batches of a table, which are in ascending order of name, are refused in a merge, if they are.
+    /// Why batches of a table, in two parts that follow each other in ascending order of name, are refused in a merge, if they are.
     #[tactic(auto, unfolding(crate::specs::Replica::merge_fault))]
-    fn merge_fault(&self, schema: &Schema, batches: &[(BatchName, Segment)]) -> Result<(), Refusal>
-        requires { T (map.is_sorted name_cmp batches.now) }
-        ensures { result ≡ unless (merge_fault self.now.replica (replica_with schema.now (rows_in (map.from_sorted batches.now)))) }
+    fn merge_fault(
+        &self,
+        schema: &Schema,
+        first: &[(BatchName, Segment)],
+        second: &[(BatchName, Segment)],
+    ) -> Result<(), Refusal>
+        requires { T (map.is_sorted name_cmp (first.now ++ second.now)) }
+        ensures { result ≡ unless (merge_fault self.now.replica (replica_with schema.now (rows_in (map.from_sorted (first.now ++ second.now))))) }
     {
         if !self.schema.same(schema) {
             return Err(Refusal::SchemaDiffers);
         }
-        if let Some(name) = self.batches.conflict_with(batches) {
+        if let Some(name) = self.batches.conflict_with(first, second) {
             return Err(Refusal::Conflict(name));
         }
-        if self.batches.union_exceeds(batches, MAX_BATCHES) {
+        if self.batches.union_exceeds(first, second, MAX_BATCHES) {
             return Err(Refusal::Full);
         }
         Ok(())
     }
 
-    /// Takes in batches, which are in ascending order of name and have these names, and deletions.
+    /// Takes in batches, in two parts that follow each other in ascending order of name and have these names, and deletions.
     fn take_all(
         &mut self,
         alloc: Global,
-        batches: &[(BatchName, Segment)],
+        first: &[(BatchName, Segment)],
+        second: &[(BatchName, Segment)],
         names: &Held,
         tombs: &Tombs,
     ) -> Result<(), AllocError>
-        requires sorted { T (map.is_sorted name_cmp batches.now) }
-        requires names { names.now ≡ names_of (map.from_sorted batches.now) }
-        requires stored { AreStored self.old.replica.schema (map.from_sorted batches.now) }
-        requires limit { map.len (union_of self.old.replica.state.batches (rows_in (map.from_sorted batches.now))) ≤ 65536 }
-        ensures ok { OnOk result (self.new.replica ≡ joined_with self.old.replica (record { batches = rows_in (map.from_sorted batches.now); deleted = tombs.now })) }
-        ensures segments { OnOk result (self.new.segments ≡ union_in self.old.segments (map.from_sorted batches.now)) }
+        requires sorted { T (map.is_sorted name_cmp (first.now ++ second.now)) }
+        requires names { names.now ≡ names_of (map.from_sorted (first.now ++ second.now)) }
+        requires stored { AreStored self.old.replica.schema (map.from_sorted (first.now ++ second.now)) }
+        requires limit { map.len (union_of self.old.replica.state.batches (rows_in (map.from_sorted (first.now ++ second.now)))) ≤ 65536 }
+        ensures ok { OnOk result (self.new.replica ≡ joined_with self.old.replica (record { batches = rows_in (map.from_sorted (first.now ++ second.now)); deleted = tombs.now })) }
+        ensures segments { OnOk result (self.new.segments ≡ union_in self.old.segments (map.from_sorted (first.now ++ second.now))) }
         ensures err { OnErr result (self.new ≡ self.old) }
     {
         let tombs = self.tombs.joined(tombs)?;
-        self.batches.join(alloc, batches, names)?;
+        self.batches.join(alloc, first, second, names)?;
         self.tombs = tombs;
         Ok(())
     }

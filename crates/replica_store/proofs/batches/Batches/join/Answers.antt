@@ -1,38 +1,29 @@
--- The entries merged with those that are lacked are the union's.
-use Rattle.std.proofs.Common.{sym, ap, subst, ◌∙◌, ◌≡◌, List}
+-- The parts merged with the parts of what is lacked are the union's.
+use Rattle.std.specs.Prelude.{◌++◌, List}
+use Rattle.std.proofs.Common.{sym, ap, subst, ◌∙◌}
 use Rattle.std.specs.FinMap as map
-use Rattle.std.specs.FinSet as set
 use Rattle.table_model.specs.Name.{name_cmp}
 use Rattle.segment_core.specs.Segment.{SegmentForm}
 use Rattle.replica_store.specs.Entries.{merge}
-use Rattle.replica_store.specs.Replica.{lacked_by, names_of}
-use Rattle.replica_store.specs.Segments.{Entry, union_in}
-use Rattle.replica_store.proofs.Maps.{Sorted, as_map, entries-as_map}
-use Rattle.replica_store.proofs.Merges.{as_map-merge, Sorted-union}
-use Rattle.replica_store.proofs.Names.{names_of-union}
+use Rattle.replica_store.specs.Segments.{union_in}
+use Rattle.replica_store.proofs.Maps.{Sorted, as_map}
+use Rattle.replica_store.proofs.Merges.{Sorted-lacked}
+use Rattle.replica_store.proofs.Putting.{kept_merged, map_merged}
 use Rattle.replica_store.proofs.batches.Batches.join.Goals as goal
 
-merged_is : (es new fresh others ours : List Entry) (held : set.FinSet name_cmp) → held ≡ names_of (as_map es) → new ≡ merge name_cmp ours fresh → ours ≡ es → fresh ≡ lacked_by held others → Sorted others →
-    new ≡ merge name_cmp es (lacked_by (names_of (as_map es)) (map.entries (as_map others)))
-merged_is es new fresh others ours held names is same lacked sorted =
-    is ∙ (λ i. merge name_cmp (same i) (lacked i)) ∙ (λ i. merge name_cmp es (lacked_by (names i) others)) ∙ ap (λ (x : List Entry). merge name_cmp es (lacked_by (names_of (as_map es)) x)) (sym (entries-as_map others sorted))
+pub parted-requires : goal.parted-requires
+parted-requires c = subst Sorted (sym c.in_ok-fresh.ensures) (Sorted-lacked c.self.inside.held (c.args.first.now ++ c.args.second.now) c.requires.sorted)
 
 pub invariant_of-self : goal.invariant_of-self
 invariant_of-self c =
-    let es : List Entry = c.self.inside.entries.items in
-    let n : map.FinMap name_cmp SegmentForm = as_map c.args.others.now in
-    let is = merged_is es c.merged.result.items c.in_ok-fresh.fresh.items c.args.others.now c.replace-ours.result.items c.self.inside.held c.self.invariant.names
-    c.merged.ensures (ap (λ v. v.items) c.replace-ours.ensures.value) c.in_ok-fresh.ensures c.requires.sorted in
-    let all = ap as_map is ∙ as_map-merge es n c.self.invariant.sorted in
-    record {
-      sorted = subst Sorted (sym is) (Sorted-union es n c.self.invariant.sorted);
-      names = c.in_ok-held.ensures ∙ (λ i. set.union (c.self.invariant.names i) (c.requires.names i)) ∙ sym (names_of-union (as_map es) n) ∙ ap names_of (sym all);
-    }
+    kept_merged c.self.inside.own c.self.inside.up_to.items c.self.inside.past.items c.merged.result.items c.merged-2.result.items c.in_ok-fresh_up_to.fresh_up_to.items c.in_ok-fresh_up_to.fresh_past.items
+    (c.args.first.now ++ c.args.second.now) c.self.inside.held c.in_ok-held.held c.args.names.now c.self.invariant c.in_ok-fresh_up_to.ensures.parted (c.in_ok-fresh_up_to.ensures.whole ∙ c.in_ok-fresh.ensures) c.requires.sorted
+    (c.merged.ensures ∙ ap (λ v. merge name_cmp v.items c.in_ok-fresh_up_to.fresh_up_to.items) c.replace-up_to.ensures.value) (c.merged-2.ensures ∙ ap (λ v. merge name_cmp v.items c.in_ok-fresh_up_to.fresh_past.items) c.replace-past.ensures.value)
+    c.in_ok-held.ensures c.requires.names
 
 pub returns-clause-ok : goal.returns-clause-ok
 returns-clause-ok c =
-    let es : List Entry = c.self.inside.entries.items in
-    let n : map.FinMap name_cmp SegmentForm = as_map c.args.others.now in
-    let is = merged_is es c.merged.result.items c.in_ok-fresh.fresh.items c.args.others.now c.replace-ours.result.items c.self.inside.held c.self.invariant.names
-    c.merged.ensures (ap (λ v. v.items) c.replace-ours.ensures.value) c.in_ok-fresh.ensures c.requires.sorted in
-    ap as_map is ∙ as_map-merge es n c.self.invariant.sorted ∙ ap (λ (m : map.FinMap name_cmp SegmentForm). union_in m n) c.self.view_is
+    map_merged c.self.inside.own c.self.inside.up_to.items c.self.inside.past.items c.merged.result.items c.merged-2.result.items c.in_ok-fresh_up_to.fresh_up_to.items c.in_ok-fresh_up_to.fresh_past.items
+    (c.args.first.now ++ c.args.second.now) c.self.inside.held c.self.invariant c.in_ok-fresh_up_to.ensures.parted (c.in_ok-fresh_up_to.ensures.whole ∙ c.in_ok-fresh.ensures) c.requires.sorted
+    (c.merged.ensures ∙ ap (λ v. merge name_cmp v.items c.in_ok-fresh_up_to.fresh_up_to.items) c.replace-up_to.ensures.value) (c.merged-2.ensures ∙ ap (λ v. merge name_cmp v.items c.in_ok-fresh_up_to.fresh_past.items) c.replace-past.ensures.value)
+    ∙ ap (λ (m : map.FinMap name_cmp SegmentForm). union_in m (as_map (c.args.first.now ++ c.args.second.now))) c.self.view_is

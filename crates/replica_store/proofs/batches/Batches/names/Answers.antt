@@ -4,4 +4,4 @@ use Rattle.replica_store.specs.Replica.{names_of}
 use Rattle.replica_store.proofs.batches.Batches.names.Goals as goal
 
 pub returns : goal.returns
-returns c = c.self.invariant.names ∙ ap names_of c.self.view_is
+returns c = c.self.invariant.kept.names ∙ ap names_of c.self.view_is

@@ -1,6 +1,7 @@
 -- An offer comes in as the other side of a merge: a replica with its table and its state.
-use Rattle.std.specs.Prelude.{◌≡◌, ◌≤◌, List, Ok, Err, Result}
+use Rattle.std.specs.Prelude.{ℕ, ◌++◌, take, drop, ◌≡◌, ◌≤◌, List, Ok, Err, Result}
 use Rattle.std.proofs.Common.{refl, sym, ap, subst, ◌∙◌, inl, inr}
+use Rattle.std.proofs.lemmas.List.{take-append-drop}
 use Rattle.std.proofs.lemmas.Result.{err_from_is_err_and}
 use Rattle.std.specs.FinMap as map
 use Rattle.table_model.specs.Name.{name_cmp}
@@ -8,11 +9,11 @@ use Rattle.table_model.specs.State.{State, union_of}
 use Rattle.table_model.specs.Table.{Table}
 use Rattle.table_model.specs.declared.refusal.Refusal.{Refusal}
 use Rattle.segment_core.specs.Segment.{SegmentForm}
-use Rattle.replica_store.specs.Replica.{Replica, joined_with}
+use Rattle.replica_store.specs.Replica.{Replica, joined_with, names_of}
 use Rattle.replica_store.specs.Segments.{StoreForm, Entry, AreStored, rows_in, union_in}
 use Rattle.replica_store.specs.Exchange.{OfferForm, offering}
 use Rattle.replica_store.proofs.Joining.{refused_merged, joined_merged, ok_merged, mergeable}
-use Rattle.replica_store.proofs.Maps.{as_map}
+use Rattle.replica_store.proofs.Maps.{Sorted, as_map}
 use Rattle.replica_store.proofs.Merges.{map_of_entries}
 use Rattle.replica_store.proofs.Stored.{AreStored-all}
 use Rattle.replica_store.proofs.store.Store.apply.Goals as goal
@@ -21,56 +22,70 @@ use Rattle.replica_store.proofs.store.Store.apply.Goals as goal
 whole : (o : OfferForm) (es : List Entry) → es ≡ map.entries o.segments → as_map es ≡ o.segments
 whole o es is = ap as_map is ∙ map_of_entries o.segments
 
+-- an offer's batches in two parts
+one_list : (es front back : List Entry) (i : ℕ) → front ≡ take i es → back ≡ drop i es → front ++ back ≡ es
+one_list es front back i is rest = (λ k. is k ++ rest k) ∙ take-append-drop i es
+
 -- and its state has their rows
 rows_are : (o : OfferForm) (es : List Entry) → es ≡ map.entries o.segments → o.state.batches ≡ rows_in o.segments → o.state.batches ≡ rows_in (as_map es)
 rows_are o es is rows = rows ∙ ap rows_in (sym (whole o es is))
 
+pub merge_fault-requires : goal.merge_fault-requires
+merge_fault-requires c = subst Sorted (sym (one_list c.entries-entries.result.now c.split_at.result.0.now c.split_at.result.1.now _ c.split_at.ensures.front c.split_at.ensures.back)) c.entries-entries.ensures.offered.sorted
+
+pub take_all-requires-clause-sorted : goal.take_all-requires-clause-sorted
+take_all-requires-clause-sorted c = subst Sorted (sym (one_list c.entries-entries.result.now c.split_at.result.0.now c.split_at.result.1.now _ c.split_at.ensures.front c.split_at.ensures.back)) c.entries-entries.ensures.offered.sorted
+
+pub take_all-requires-clause-names : goal.take_all-requires-clause-names
+take_all-requires-clause-names c = c.in_ok-names.ensures ∙ ap (λ (xs : List Entry). names_of (as_map xs)) (sym (one_list c.entries-entries.result.now c.split_at.result.0.now c.split_at.result.1.now _ c.split_at.ensures.front c.split_at.ensures.back))
+
 pub returns-in_err-merge_fault-clause-acts : goal.returns-in_err-merge_fault-clause-acts
 returns-in_err-merge_fault-clause-acts c =
     let o = c.args.offer.now in
-    let es = c.entries.result.now in
+    let es = (c.split_at.result.0.now ++ c.split_at.result.1.now) in
     let r = c.args.self.now.replica in
     let p = err_from_is_err_and c.from_residual.result c.from_residual.ensures.1 in
-    rw (p.1, p.2) (refl, inl (refused_merged r (offering r.own o) c.schema.result.now (rows_in (as_map es)) c.in_err-merge_fault.field-0.0 (sym c.schema.ensures) (rows_are o es c.entries.ensures.value c.entries.ensures.rows) c.in_err-merge_fault.ensures))
+    rw (p.1, p.2) (refl, inl (refused_merged r (offering r.own o) c.schema.result.now (rows_in (as_map es)) c.in_err-merge_fault.field-0.0 (sym c.schema.ensures) (rows_are o es (one_list c.entries-entries.result.now c.split_at.result.0.now c.split_at.result.1.now _ c.split_at.ensures.front c.split_at.ensures.back ∙ c.entries-entries.ensures.value) c.entries-entries.ensures.rows) c.in_err-merge_fault.ensures))
 
 pub returns-in_err-names-clause-acts : goal.returns-in_err-names-clause-acts
 returns-in_err-names-clause-acts c =
     let o = c.args.offer.now in
-    let es = c.entries.result.now in
+    let es = (c.split_at.result.0.now ++ c.split_at.result.1.now) in
     let r = c.args.self.now.replica in
     let p = err_from_is_err_and c.from_residual-in_err-names.result c.from_residual-in_err-names.ensures.1 in
-    rw p.1 (refl, inr (p.2, ok_merged r (offering r.own o) c.schema.result.now (rows_in (as_map es)) c.in_ok-merge_fault.field-0 (sym c.schema.ensures) (rows_are o es c.entries.ensures.value c.entries.ensures.rows) c.in_ok-merge_fault.ensures))
+    rw p.1 (refl, inr (p.2, ok_merged r (offering r.own o) c.schema.result.now (rows_in (as_map es)) c.in_ok-merge_fault.field-0 (sym c.schema.ensures) (rows_are o es (one_list c.entries-entries.result.now c.split_at.result.0.now c.split_at.result.1.now _ c.split_at.ensures.front c.split_at.ensures.back ∙ c.entries-entries.ensures.value) c.entries-entries.ensures.rows) c.in_ok-merge_fault.ensures))
 
 pub take_all-requires-clause-stored : goal.take_all-requires-clause-stored
 take_all-requires-clause-stored c =
-    let es = c.entries-3.result.now in
+    let es = (c.split_at.result.0.now ++ c.split_at.result.1.now) in
     let r = c.args.self.now.replica in
-    let fine = mergeable r c.schema.result.now (rows_in (as_map c.entries.result.now)) c.in_ok-merge_fault.field-0 c.in_ok-merge_fault.ensures in
-    subst (λ (t : Table). AreStored t (as_map es)) (sym (fine.schema ∙ c.schema.ensures)) (AreStored-all c.args.offer.now.schema es c.entries-3.ensures.offered.sorted c.entries-3.ensures.offered.stored)
+    let fine = mergeable r c.schema.result.now (rows_in (as_map (c.split_at.result.0.now ++ c.split_at.result.1.now))) c.in_ok-merge_fault.field-0 c.in_ok-merge_fault.ensures in
+    subst (λ (t : Table). AreStored t (as_map es)) (sym (fine.schema ∙ c.schema.ensures)) (subst (λ (xs : List Entry). AreStored c.args.offer.now.schema (as_map xs)) (sym (one_list c.entries-entries.result.now c.split_at.result.0.now c.split_at.result.1.now _ c.split_at.ensures.front c.split_at.ensures.back))
+    (AreStored-all c.args.offer.now.schema c.entries-entries.result.now c.entries-entries.ensures.offered.sorted c.entries-entries.ensures.offered.stored))
 
 pub take_all-requires-clause-limit : goal.take_all-requires-clause-limit
 take_all-requires-clause-limit c =
     let r = c.args.self.now.replica in
-    let fine = mergeable r c.schema.result.now (rows_in (as_map c.entries.result.now)) c.in_ok-merge_fault.field-0 c.in_ok-merge_fault.ensures in
-    subst (λ (es : List Entry). map.len (union_of r.state.batches (rows_in (as_map es))) ≤ 65536) (c.entries.ensures.value ∙ sym c.entries-3.ensures.value) fine.limit
+    let fine = mergeable r c.schema.result.now (rows_in (as_map (c.split_at.result.0.now ++ c.split_at.result.1.now))) c.in_ok-merge_fault.field-0 c.in_ok-merge_fault.ensures in
+    fine.limit
 
 pub returns-in_err-take_all-clause-acts : goal.returns-in_err-take_all-clause-acts
 returns-in_err-take_all-clause-acts c =
     let o = c.args.offer.now in
-    let es = c.entries.result.now in
+    let es = (c.split_at.result.0.now ++ c.split_at.result.1.now) in
     let r = c.args.self.now.replica in
     let p = err_from_is_err_and c.from_residual-in_err-take_all.result c.from_residual-in_err-take_all.ensures.1 in
-    rw p.1 (ap (λ (s : StoreForm). s.replica) c.in_err-take_all.ensures.err, inr (p.2, ok_merged r (offering r.own o) c.schema.result.now (rows_in (as_map es)) c.in_ok-merge_fault.field-0 (sym c.schema.ensures) (rows_are o es c.entries.ensures.value c.entries.ensures.rows) c.in_ok-merge_fault.ensures))
+    rw p.1 (ap (λ (s : StoreForm). s.replica) c.in_err-take_all.ensures.err, inr (p.2, ok_merged r (offering r.own o) c.schema.result.now (rows_in (as_map es)) c.in_ok-merge_fault.field-0 (sym c.schema.ensures) (rows_are o es (one_list c.entries-entries.result.now c.split_at.result.0.now c.split_at.result.1.now _ c.split_at.ensures.front c.split_at.ensures.back ∙ c.entries-entries.ensures.value) c.entries-entries.ensures.rows) c.in_ok-merge_fault.ensures))
 
 pub returns-clause-acts : goal.returns-clause-acts
 returns-clause-acts c =
     let o = c.args.offer.now in
-    let es = c.entries.result.now in
+    let es = (c.split_at.result.0.now ++ c.split_at.result.1.now) in
     let r = c.args.self.now.replica in
     let made : joined_with r o.state ≡ c.take_all.new.self.replica =
-    (λ i. joined_with r (record { batches = rows_are o c.entries-3.result.now c.entries-3.ensures.value c.entries-3.ensures.rows i; deleted = sym c.tombs.ensures i })) ∙ sym c.in_ok-take_all.ensures.ok in
-    joined_merged r (offering r.own o) c.schema.result.now (rows_in (as_map es)) c.in_ok-merge_fault.field-0 (sym c.schema.ensures) (rows_are o es c.entries.ensures.value c.entries.ensures.rows) c.in_ok-merge_fault.ensures
+    (λ i. joined_with r (record { batches = rows_are o (c.split_at.result.0.now ++ c.split_at.result.1.now) (one_list c.entries-entries.result.now c.split_at.result.0.now c.split_at.result.1.now _ c.split_at.ensures.front c.split_at.ensures.back ∙ c.entries-entries.ensures.value) c.entries-entries.ensures.rows i; deleted = sym c.tombs.ensures i })) ∙ sym c.in_ok-take_all.ensures.ok in
+    joined_merged r (offering r.own o) c.schema.result.now (rows_in (as_map es)) c.in_ok-merge_fault.field-0 (sym c.schema.ensures) (rows_are o es (one_list c.entries-entries.result.now c.split_at.result.0.now c.split_at.result.1.now _ c.split_at.ensures.front c.split_at.ensures.back ∙ c.entries-entries.ensures.value) c.entries-entries.ensures.rows) c.in_ok-merge_fault.ensures
     ∙ ap (λ (x : Replica). let ok : Result (Unit {0} × Replica) Refusal = Ok (tt, x) in ok) made
 
 pub returns-clause-segments : goal.returns-clause-segments
-returns-clause-segments c = c.in_ok-take_all.ensures.segments ∙ ap (union_in c.args.self.now.segments) (whole c.args.offer.now c.entries-3.result.now c.entries-3.ensures.value)
+returns-clause-segments c = c.in_ok-take_all.ensures.segments ∙ ap (union_in c.args.self.now.segments) (whole c.args.offer.now (c.split_at.result.0.now ++ c.split_at.result.1.now) (one_list c.entries-entries.result.now c.split_at.result.0.now c.split_at.result.1.now _ c.split_at.ensures.front c.split_at.ensures.back ∙ c.entries-entries.ensures.value))

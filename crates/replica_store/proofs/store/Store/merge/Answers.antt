@@ -1,5 +1,5 @@
 -- The other side's batches are the entries that were handed in.
-use Rattle.std.specs.Prelude.{◌≡◌, ◌≤◌, T, List, Ok, Err, Result}
+use Rattle.std.specs.Prelude.{◌++◌, ◌≡◌, ◌≤◌, T, List, Ok, Err, Result}
 use Rattle.std.proofs.Common.{refl, sym, ap, subst, ◌∙◌, inl, inr}
 use Rattle.std.proofs.lemmas.Result.{err_from_is_err_and}
 use Rattle.std.specs.FinMap as map
@@ -27,65 +27,64 @@ rows_are : (s : StoreForm) (m : map.FinMap name_cmp SegmentForm) (es : List Entr
 rows_are s m es rows is = rows ∙ ap rows_in (sym (whole m es is))
 
 pub merge_fault-requires : goal.merge_fault-requires
-merge_fault-requires c = in_order c.other.inside.batches c.entries.result.now c.entries.ensures
+merge_fault-requires c = in_order c.other.inside.batches (c.parts.result.0.now ++ c.parts.result.1.now) c.parts.ensures
 
 pub returns-in_err-merge_fault-clause-acts : goal.returns-in_err-merge_fault-clause-acts
 returns-in_err-merge_fault-clause-acts c =
-    let es = c.entries.result.now in
+    let es = (c.parts.result.0.now ++ c.parts.result.1.now) in
     let p = err_from_is_err_and c.from_residual.result c.from_residual.ensures.1 in
     rw (p.1, p.2) (
       refl,
       inl (refused_merged c.args.self.now.replica c.args.other.now.replica c.other.inside.schema (rows_in (as_map es)) c.in_err-merge_fault.field-0.0 (ap (λ (s : StoreForm). s.replica.schema) (sym c.other.view_is))
-          (rows_are c.args.other.now c.other.inside.batches es (ap (λ (s : StoreForm). s.replica.state.batches) (sym c.other.view_is)) c.entries.ensures) c.in_err-merge_fault.ensures),
+          (rows_are c.args.other.now c.other.inside.batches es (ap (λ (s : StoreForm). s.replica.state.batches) (sym c.other.view_is)) c.parts.ensures) c.in_err-merge_fault.ensures),
     )
 
 pub take_all-requires-clause-sorted : goal.take_all-requires-clause-sorted
-take_all-requires-clause-sorted c = in_order c.other.inside.batches c.entries-2.result.now c.entries-2.ensures
+take_all-requires-clause-sorted c = in_order c.other.inside.batches (c.parts.result.0.now ++ c.parts.result.1.now) c.parts.ensures
 
 pub take_all-requires-clause-names : goal.take_all-requires-clause-names
-take_all-requires-clause-names c = c.names.ensures ∙ ap names_of (sym (whole c.other.inside.batches c.entries-2.result.now c.entries-2.ensures))
+take_all-requires-clause-names c = c.names.ensures ∙ ap names_of (sym (whole c.other.inside.batches (c.parts.result.0.now ++ c.parts.result.1.now) c.parts.ensures))
 
 pub take_all-requires-clause-stored : goal.take_all-requires-clause-stored
 take_all-requires-clause-stored c =
-    let fine = mergeable c.args.self.now.replica c.other.inside.schema (rows_in (as_map c.entries.result.now)) c.in_ok-merge_fault.field-0 c.in_ok-merge_fault.ensures in
-    subst (λ (t : Table). AreStored t (as_map c.entries-2.result.now)) (sym fine.schema)
-    (subst (AreStored c.other.inside.schema) (sym (whole c.other.inside.batches c.entries-2.result.now c.entries-2.ensures)) c.other.invariant.stored)
+    let fine = mergeable c.args.self.now.replica c.other.inside.schema (rows_in (as_map (c.parts.result.0.now ++ c.parts.result.1.now))) c.in_ok-merge_fault.field-0 c.in_ok-merge_fault.ensures in
+    subst (λ (t : Table). AreStored t (as_map (c.parts.result.0.now ++ c.parts.result.1.now))) (sym fine.schema)
+    (subst (AreStored c.other.inside.schema) (sym (whole c.other.inside.batches (c.parts.result.0.now ++ c.parts.result.1.now) c.parts.ensures)) c.other.invariant.stored)
 
 pub take_all-requires-clause-limit : goal.take_all-requires-clause-limit
 take_all-requires-clause-limit c =
-    let r = c.args.self.now.replica in
-    let fine = mergeable r c.other.inside.schema (rows_in (as_map c.entries.result.now)) c.in_ok-merge_fault.field-0 c.in_ok-merge_fault.ensures in
-    subst (λ (es : List Entry). map.len (union_of r.state.batches (rows_in (as_map es))) ≤ 65536) (c.entries.ensures ∙ sym c.entries-2.ensures) fine.limit
+    let fine = mergeable c.args.self.now.replica c.other.inside.schema (rows_in (as_map (c.parts.result.0.now ++ c.parts.result.1.now))) c.in_ok-merge_fault.field-0 c.in_ok-merge_fault.ensures in
+    fine.limit
 
 pub returns-in_err-take_all-clause-acts : goal.returns-in_err-take_all-clause-acts
 returns-in_err-take_all-clause-acts c =
-    let es = c.entries.result.now in
+    let es = (c.parts.result.0.now ++ c.parts.result.1.now) in
     let p = err_from_is_err_and c.from_residual-in_err-take_all.result c.from_residual-in_err-take_all.ensures.1 in
     rw p.1 (
       ap (λ (s : StoreForm). s.replica) c.in_err-take_all.ensures.err,
       inr (
         p.2,
         ok_merged c.args.self.now.replica c.args.other.now.replica c.other.inside.schema (rows_in (as_map es)) c.in_ok-merge_fault.field-0 (ap (λ (s : StoreForm). s.replica.schema) (sym c.other.view_is))
-            (rows_are c.args.other.now c.other.inside.batches es (ap (λ (s : StoreForm). s.replica.state.batches) (sym c.other.view_is)) c.entries.ensures) c.in_ok-merge_fault.ensures,
+            (rows_are c.args.other.now c.other.inside.batches es (ap (λ (s : StoreForm). s.replica.state.batches) (sym c.other.view_is)) c.parts.ensures) c.in_ok-merge_fault.ensures,
       ),
     )
 
 pub returns-clause-acts : goal.returns-clause-acts
 returns-clause-acts c =
-    let es = c.entries.result.now in
+    let es = (c.parts.result.0.now ++ c.parts.result.1.now) in
     let r = c.args.self.now.replica in
     let theirs = c.args.other.now.replica.state in
     let made : joined_with r theirs ≡ c.take_all.new.self.replica =
     (λ i. joined_with r (record {
-      batches = rows_are c.args.other.now c.other.inside.batches c.entries-2.result.now (ap (λ (s : StoreForm). s.replica.state.batches) (sym c.other.view_is)) c.entries-2.ensures i;
+      batches = rows_are c.args.other.now c.other.inside.batches (c.parts.result.0.now ++ c.parts.result.1.now) (ap (λ (s : StoreForm). s.replica.state.batches) (sym c.other.view_is)) c.parts.ensures i;
       deleted = (sym c.other.view_is i).replica.state.deleted;
     }))
     ∙ sym c.in_ok-take_all.ensures.ok in
     joined_merged r c.args.other.now.replica c.other.inside.schema (rows_in (as_map es)) c.in_ok-merge_fault.field-0 (ap (λ (s : StoreForm). s.replica.schema) (sym c.other.view_is))
-    (rows_are c.args.other.now c.other.inside.batches es (ap (λ (s : StoreForm). s.replica.state.batches) (sym c.other.view_is)) c.entries.ensures) c.in_ok-merge_fault.ensures
+    (rows_are c.args.other.now c.other.inside.batches es (ap (λ (s : StoreForm). s.replica.state.batches) (sym c.other.view_is)) c.parts.ensures) c.in_ok-merge_fault.ensures
     ∙ ap (λ (x : Replica). let ok : Result (Unit {0} × Replica) Refusal = Ok (tt, x) in ok) made
 
 pub returns-clause-segments : goal.returns-clause-segments
 returns-clause-segments c =
     c.in_ok-take_all.ensures.segments
-    ∙ ap (union_in c.args.self.now.segments) (whole c.other.inside.batches c.entries-2.result.now c.entries-2.ensures ∙ ap (λ (s : StoreForm). s.segments) c.other.view_is)
+    ∙ ap (union_in c.args.self.now.segments) (whole c.other.inside.batches (c.parts.result.0.now ++ c.parts.result.1.now) c.parts.ensures ∙ ap (λ (s : StoreForm). s.segments) c.other.view_is)

@@ -1,4 +1,5 @@
 -- The limits are kept: by a union that isn't too long, and where nothing came.
+use Rattle.std.specs.Prelude.{◌++◌}
 use Rattle.std.proofs.Common.{sym, ap, subst, ◌∙◌, ◌≡◌, ◌≤◌}
 use Rattle.std.specs.FinMap as map
 use Rattle.table_model.specs.Name.{name_cmp}
@@ -19,7 +20,7 @@ invariant_of-self c = subst (λ (m : map.FinMap name_cmp SegmentForm). IsSoundSt
 pub invariant_of-self-2 : goal.invariant_of-self-2
 invariant_of-self-2 c =
     let ours = c.self.inside.batches in
-    let come : map.FinMap name_cmp SegmentForm = as_map c.args.batches.now in
+    let come : map.FinMap name_cmp SegmentForm = as_map (c.args.first.now ++ c.args.second.now) in
     let stored : AreStored c.self.inside.schema come = subst (λ (s : StoreForm). AreStored s.replica.schema come) (sym c.self.view_is) c.requires.stored in
     let limit : map.len (union_of (rows_in ours) (rows_in come)) ≤ 65536 = subst (λ (s : StoreForm). map.len (union_of s.replica.state.batches (rows_in come)) ≤ 65536) (sym c.self.view_is) c.requires.limit in
     let all : rows_in c.join.new.self ≡ union_of (rows_in ours) (rows_in come) = ap rows_in c.in_ok-join.ensures.ok ∙ rows_in-union ours come in
@@ -34,11 +35,11 @@ invariant_of-self-2 c =
 
 pub returns-clause-ok : goal.returns-clause-ok
 returns-clause-ok c =
-    let come : map.FinMap name_cmp SegmentForm = as_map c.args.batches.now in
+    let come : map.FinMap name_cmp SegmentForm = as_map (c.args.first.now ++ c.args.second.now) in
     let theirs : State = record { batches = rows_in come; deleted = c.args.tombs.now } in
     let all = ap rows_in c.in_ok-join.ensures.ok ∙ rows_in-union c.self.inside.batches come in
     (λ i. record { schema = c.self.inside.schema; own = c.self.inside.own; state = record { batches = all i; deleted = c.in_ok-tombs.ensures i } })
     ∙ λ i. joined_with (c.self.view_is i).replica theirs
 
 pub returns-clause-segments : goal.returns-clause-segments
-returns-clause-segments c = c.in_ok-join.ensures.ok ∙ λ i. union_in (c.self.view_is i).segments (as_map c.args.batches.now)
+returns-clause-segments c = c.in_ok-join.ensures.ok ∙ λ i. union_in (c.self.view_is i).segments (as_map (c.args.first.now ++ c.args.second.now))
