@@ -4,7 +4,7 @@ use Rattle.std.specs.FinMap as finite
 use Rattle.std.specs.FinSet as set
 use Rattle.std.proofs.Math.Seq.{get_or-append_seam}
 use Rattle.std.proofs.lemmas.Bool.{cases_lt}
-use Rattle.std.proofs.lemmas.List.{get_or_append_left, length-append, get_or_default}
+use Rattle.std.proofs.lemmas.List.{get_or_append_left, length-append, length-map, map-append, get_or_default}
 use Rattle.std.specs.Io.KnownBytes.{Appends}
 use Rattle.table_model.specs.Counted.{one_more}
 use Rattle.table_model.specs.Name.{name_cmp, row_name_cmp}
@@ -14,12 +14,14 @@ use Rattle.table_model.specs.declared.names.BatchName.{BatchName}
 use Rattle.table_model.specs.declared.refusal.Refusal.{Refusal}
 use Rattle.table_model.specs.declared.refusal.Refusal.TheVariants.{Memory, WriteFault}
 use Rattle.catalogue_join.specs.RowRange.{RowRange}
-use Rattle.segment_core.specs.Format.{Format, Writes}
+use Rattle.segment_core.specs.Format.{Format, Writes, number, all, spell_all}
+use Rattle.segment_core.proofs.Writings.{spell_all-append, spell_all-cons, spell_all-nil}
 use Rattle.segment_core.specs.Segment.{SegmentForm, widths_in, widths_of, canonical_forms, canonical_again}
 use Rattle.segment_core.proofs.WidthLemmas.{widths_in-canonical}
 use Rattle.replica_store.specs.Segments.{Entry as Held, IsStored, rows_in, rows_entries}
 use Rattle.replica_store.proofs.RowsIn.{entries-rows_in}
-use Rattle.column_file.specs.ContainerBytes.{Entry, entry_of, deleted_of, container}
+use Rattle.column_file.specs.ContainerBytes.{Entry, entry_of, batch, batches, deleted_of, container}
+use Rattle.column_file.proofs.ContainerWriting.{batch_anywhere, batches_spelled}
 use Rattle.column_file.specs.Files.{file_of, ranges_of, canonical_entry, canonical_file, canonical_as_read, chosen, AreChosen, Exports}
 
 -- a canonical segment is its own canonical form
@@ -73,3 +75,28 @@ canonical_spelled t state segments es rs batches entries ranges =
 pub exports_from : (r : Result (Unit {0}) Refusal) (old new : Option (List ℕ)) (before after : ℕ) (bytes : List ℕ) → Writes r old new before after bytes → Exports r old new before after bytes
 exports_from (Err Memory) old new before after bytes h = let wrong : Memory ≡ WriteFault = h.0 in absurd cc
 exports_from other old new before after bytes h = h
+
+-- ---- two parts
+
+-- what is written of batches doesn't depend on those before them
+anywhere : (t : Table) (front others es : List Entry) → spell_all (batch t) front es ≡ spell_all (batch t) others es
+anywhere t front others [] = spell_all-nil (batch t) front ∙ sym (spell_all-nil (batch t) others)
+anywhere t front others (e ∷ es) =
+    spell_all-cons (batch t) front e es
+    ∙ (λ i. batch_anywhere t front others e i ++ anywhere t (front ++ e ∷ []) (others ++ e ∷ []) es i)
+    ∙ sym (spell_all-cons (batch t) others e es)
+
+-- the batches of a file whose batches come in two parts: how many there are, the first part and the second
+pub two_lists_spelled : (t : Table) (xs ys : List Held) → (batches t).spell (map (canonical_as_read t) (xs ++ ys))
+    ≡ (number 4).spell (length xs + length ys) ++ ((all (length xs) (batch t)).spell (map (canonical_as_read t) xs) ++ (all (length ys) (batch t)).spell (map (canonical_as_read t) ys))
+two_lists_spelled t xs ys =
+    let f = canonical_as_read t in
+    let count : length (map f (xs ++ ys)) ≡ length xs + length ys = length-map (xs ++ ys) f ∙ length-append xs ys in
+    let parts : spell_all (batch t) [] (map f (xs ++ ys)) ≡ spell_all (batch t) [] (map f xs) ++ spell_all (batch t) [] (map f ys) =
+    ap (spell_all (batch t) []) (map-append f xs ys) ∙ spell_all-append (batch t) [] (map f xs) (map f ys)
+    ∙ ap (λ (bytes : List ℕ). spell_all (batch t) [] (map f xs) ++ bytes) (anywhere t (map f xs) [] (map f ys)) in
+    batches_spelled t (map f (xs ++ ys)) ∙ (λ i. (number 4).spell (count i) ++ parts i)
+
+-- none of no batches is anything else, and no copies were made of none
+pub none_chosen : AreChosen [] []
+none_chosen = record { long = refl; each_one = λ i d below. absurd (omega (arith, below)) }

@@ -27,6 +27,11 @@ same_name_bytes : (front others : List BatchName) (n : BatchName) → (batch_nam
 unfolding batch_name
 same_name_bytes front others n = refl
 
+-- a batch's bytes don't depend on those before it
+pub batch_anywhere : (table : Table) (front others : List Entry) (e : Entry) → (batch table front).spell e ≡ (batch table others).spell e
+batch_anywhere table front others e =
+    batch_parts table front e ∙ ap (λ (t : List ℕ). t ++ (row_count.spell e.1.0 ++ (batch_columns table e.1.0).spell e.1.1)) (same_name_bytes (map name_of front) (map name_of others) e.0) ∙ sym (batch_parts table others e)
+
 pub batch_spelled : (table : Table) (front : List Entry) (name : BatchName) (s : SegmentForm) → 1 ≤ length s.rows → widths_in s.forms ≡ widths_of table
     → (batch table front).spell (entry_of (name, s)) ≡ (batch_name []).spell name ++ ((number 2).spell (length s.rows - 1) ++ segment_bytes s)
 batch_spelled table front name s some widths =

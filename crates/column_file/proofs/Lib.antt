@@ -15,3 +15,4 @@ pub mod OfferReading
 pub mod CanonicalWriting
 pub mod Openings
 pub mod FileLaws
+pub mod Comparisons

@@ -4,23 +4,26 @@ use Rattle.std.specs.FinMap as finite
 use Rattle.std.specs.List.{AllByRecursion}
 use Rattle.std.proofs.lemmas.Bool.{and_parts, and_from, eqb-true, eq-eqb}
 use Rattle.std.proofs.lemmas.Bool.Decides.{nat_tests}
-use Rattle.std.proofs.lemmas.List.{drop_more, drop_all, append-nil, take_more, take_all}
+use Rattle.std.proofs.lemmas.List.{drop_more, drop_all, append-nil, length-append, take_more, take_all}
 use Rattle.table_model.specs.Outcome.{Gives}
 use Rattle.table_model.specs.Table.{Table}
 use Rattle.table_model.specs.declared.names.Origin.{Origin}
 use Rattle.table_model.specs.declared.names.BatchName.{BatchName}
 use Rattle.table_model.specs.declared.refusal.Refusal.{Refusal}
-use Rattle.table_model.specs.declared.refusal.Refusal.TheVariants.{Memory, BadName, NotCanonical}
+use Rattle.table_model.specs.declared.refusal.Refusal.TheVariants.{Memory, BadName, NotCanonical, WriteFault}
 use Rattle.catalogue_join.specs.RowRange.{RowRange, AreMaximal, rows_in as rows_deleted}
-use Rattle.segment_core.specs.Format.{Format, AreBytes, Reads, read_whole, ◌>>=◌}
+use Rattle.segment_core.specs.Format.{Format, AreBytes, Reads, Writes, read_whole, ◌>>=◌}
+use Rattle.table_model.specs.Faults.{AppendsFront}
 use Rattle.table_model.specs.Identifier.{same_text}
 use Rattle.segment_core.specs.Segment.{SegmentForm, widths_in, widths_of, canonical_forms}
 use Rattle.replica_store.specs.Segments.{Entry as Held, IsStored, rows_in, rows_entries}
 use Rattle.replica_store.specs.Replica.{Replica}
 use Rattle.replica_store.specs.Exchange.{OfferForm, AreOffered, offering, opened}
 use Rattle.column_file.specs.ContainerBytes.{Entry, entry_of, deleted_of, container, IsFound}
-use Rattle.column_file.specs.Files.{ranges_of, canonical_as_read, canonical_file, first_difference, judged, offer_read, offer_held, canonical_read, opened_from, checked_from, IsCanonicalHeld, is_same_range}
+use Rattle.column_file.specs.Files.{ranges_of, canonical_as_read, canonical_file, first_difference, judged, offer_read, offer_held, canonical_read, opened_from, checked_from, IsCanonicalHeld, is_same_range, Exports}
+use Rattle.column_file.specs.Comparing.{told}
 use Rattle.column_file.specs.Input.{Judges}
+use Rattle.column_file.proofs.Comparisons.{more_after, told_apart}
 use Rattle.column_file.proofs.ContainerLaws.{container_is_lawful}
 use Rattle.column_file.proofs.CanonicalWriting.{canonical_spelled}
 use Rattle.column_file.proofs.FaultsOfBytes.{Judged, then_judged, offer_read_judged}
@@ -185,3 +188,60 @@ pub judged_ends : (bytes file : List ℕ) (o : OfferForm) (n : ℕ) → file ≡
 judged_ends bytes file o n made is ends =
     let v = and_parts (eqb n (length bytes)) (eqb n (length file)) ends in
     judged_same bytes file o n made is (eqb-true _ _ v.0) (eqb-true _ _ v.1)
+
+-- ---- what a comparison that the canonical file was written to says
+
+-- the whole file was written, and nothing else was expected
+pub whole_judged : (bytes : List ℕ) (o : OfferForm) (c : List ℕ × List ℕ) (whole : Bool) → told c ≡ told (bytes, []) ++ canonical_file o.schema o.state
+    → whole ≡ (eqb (first_difference c.0 c.1) (length c.0) && eqb (first_difference c.0 c.1) (length c.1)) → whole ≡ true → judged bytes o ≡ Ok o
+whole_judged bytes o c whole written tells test =
+    let file = canonical_file o.schema o.state in
+    let apart = told_apart c bytes file written in
+    let place : first_difference c.0 c.1 ≡ first_difference bytes file = (λ i. first_difference (apart.0 i) (apart.1 i)) in
+    judged_ends bytes file o (first_difference bytes file) refl refl ((λ i. eqb (sym place i) (length (sym apart.0 i)) && eqb (sym place i) (length (sym apart.1 i))) ∙ sym tells ∙ test)
+
+-- the whole file was written, and something else was expected
+pub other_judged : (bytes : List ℕ) (o : OfferForm) (c : List ℕ × List ℕ) (whole : Bool) (n : ℕ) → told c ≡ told (bytes, []) ++ canonical_file o.schema o.state
+    → whole ≡ (eqb (first_difference c.0 c.1) (length c.0) && eqb (first_difference c.0 c.1) (length c.1)) → whole ≡ false → n ≡ first_difference c.0 c.1 → judged bytes o ≡ Err (NotCanonical n)
+other_judged bytes o c whole n written tells test at =
+    let file = canonical_file o.schema o.state in
+    let apart = told_apart c bytes file written in
+    let place : first_difference c.0 c.1 ≡ first_difference bytes file = (λ i. first_difference (apart.0 i) (apart.1 i)) in
+    let found : n ≡ first_difference bytes file = at ∙ place in
+    judged_other bytes file o n refl found ((λ i. eqb (at i) (length (sym apart.0 i)) && eqb (at i) (length (sym apart.1 i))) ∙ sym tells ∙ test)
+
+-- a front of the file was written, of which a byte wasn't expected
+pub front_judged : (bytes : List ℕ) (o : OfferForm) (c : List ℕ × List ℕ) (n : ℕ) (front back : List ℕ) → canonical_file o.schema o.state ≡ front ++ back → told c ≡ told (bytes, []) ++ front
+    → first_difference c.0 c.1 < length c.1 → n ≡ first_difference c.0 c.1 → judged bytes o ≡ Err (NotCanonical n)
+front_judged bytes o c n front back parts written below at =
+    let file = canonical_file o.schema o.state in
+    let apart = told_apart c bytes front written in
+    let place : first_difference c.0 c.1 ≡ first_difference bytes front = (λ i. first_difference (apart.0 i) (apart.1 i)) in
+    let long : length c.1 ≡ length front = ap length apart.1 in
+    let inside : first_difference bytes front < length front = omega (arith, below, place, long) in
+    let found : n ≡ first_difference bytes file = at ∙ place ∙ sym (more_after bytes front back inside) ∙ ap (first_difference bytes) (sym parts) in
+    let file_long : length file ≡ length front + length back = ap length parts ∙ length-append front back in
+    let past : n < length file = omega (arith, at, place, inside, file_long) in
+    judged_other bytes file o n refl found (no_end (eqb n (length bytes)) n (length file) past)
+  where
+    less_is_other : (m k : ℕ) → m < k → eqb m k ≡ false
+    less_is_other m k less = grind (arith, nat_tests)
+
+    and_false : (b : Bool) → (b && false) ≡ false
+    and_false true = refl
+    and_false false = refl
+
+    no_end : (b : Bool) (m k : ℕ) → m < k → (b && eqb m k) ≡ false
+    no_end b m k less = ap (λ (t : Bool). b && t) (less_is_other m k less) ∙ and_false b
+
+-- a writer that failed has a front of the file
+pub fault_front : (r : Result (Unit {0}) Refusal) (old new : Option (List ℕ)) (before after : ℕ) (bytes : List ℕ) → Exports r old new before after bytes → r ≡ Err WriteFault → AppendsFront old new bytes
+fault_front r old new before after bytes h is =
+    let P : Result (Unit {0}) Refusal → Type 0 = λ q. Exports q old new before after bytes in
+    let written : Writes (Err WriteFault) old new before after bytes = subst P is h in
+    written.2
+
+pub failed_is : (r : Result (Unit {0}) Refusal) (e : Refusal) → r ≡ Err e → e ≡ WriteFault → r ≡ Err WriteFault
+failed_is r e is same =
+    let P : Refusal → Type 0 = λ f. r ≡ Err f in
+    subst P same is

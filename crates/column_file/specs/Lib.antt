@@ -4,3 +4,4 @@ pub mod ContainerBytes
 pub mod Input
 pub mod Ordered
 pub mod Files
+pub mod Comparing

@@ -1,5 +1,5 @@
 //! Writing the canonical file of a table's rows and deletions: each vector in its canonical form, and maximal ranges.
-ghost use Rattle.std.specs.Prelude.{◌≡◌, ◌≤◌, List, length, map, IfOk};
+ghost use Rattle.std.specs.Prelude.{◌≡◌, ◌≤◌, ◌+◌, ◌++◌, List, length, map, IfOk};
 ghost use Rattle.std.specs.List.{All};
 ghost use Rattle.segment_core.specs.Format.{Format, Writes, all};
 ghost use Rattle.segment_core.specs.Segment.{canonical_again};
@@ -10,7 +10,7 @@ ghost use Rattle.column_file.specs.Files.{chosen, AreChosen, canonical_as_read, 
 use crate::container_reading::CONTAINER;
 use crate::container_writing::{write_batch, write_ranges};
 use crate::summary_writing::write_head;
-use replica_store::Store;
+use replica_store::{Offer, Store};
 use segment_core::{Segment, write_number};
 use std::alloc::{AllocError, Global};
 use std::io::Write;
@@ -28,7 +28,7 @@ fn canonical_copy(alloc: Global, segment: &Segment) -> Result<Option<Segment>, A
 }
 
 /// Canonical copies of the segments that aren't canonical.
-pub(crate) fn canonical_copies(
+fn canonical_copies(
     alloc: Global,
     entries: &[(BatchName, Segment)],
 ) -> Result<Vec<Option<Segment>>, AllocError>
@@ -73,38 +73,49 @@ fn write_canonical_list<W: Write>(
     Ok(())
 }
 
-/// Writes how many batches of a table there are, at most 65,536, and these in their canonical forms.
+/// Writes how many batches of a table there are, at most 65,536, and these in their canonical forms. They come in two parts, each with
+/// the copies that were made of its segments.
 fn write_canonical_batches<W: Write>(
     writer: &mut Counted<W>,
     schema: &Schema,
-    entries: &[(BatchName, Segment)],
-    made: &[Option<Segment>],
+    first: &[(BatchName, Segment)],
+    first_made: &[Option<Segment>],
+    second: &[(BatchName, Segment)],
+    second_made: &[Option<Segment>],
 ) -> Result<(), Refusal>
-    requires limit { length entries.now ≤ 65536 }
-    requires stored { All (IsStored schema.now) entries.now }
-    requires made { AreChosen entries.now made.now }
-    ensures { Writes result (W.contents writer.old.0) (W.contents writer.new.0) writer.old.1 writer.new.1 ((batches schema.now).spell (map (canonical_as_read schema.now) entries.now)) }
+    requires limit { length first.now + length second.now ≤ 65536 }
+    requires first { All (IsStored schema.now) first.now }
+    requires first_made { AreChosen first.now first_made.now }
+    requires second { All (IsStored schema.now) second.now }
+    requires second_made { AreChosen second.now second_made.now }
+    ensures { Writes result (W.contents writer.old.0) (W.contents writer.new.0) writer.old.1 writer.new.1
+        ((batches schema.now).spell (map (canonical_as_read schema.now) (first.now ++ second.now))) }
 {
-    write_number(writer, entries.len() as u64, 4)?;
-    write_canonical_list(writer, schema, entries, made)
+    write_number(writer, (first.len() + second.len()) as u64, 4)?;
+    write_canonical_list(writer, schema, first, first_made)?;
+    write_canonical_list(writer, schema, second, second_made)
 }
 
-/// Writes a container of a table's batches, at most 65,536, in their canonical forms, and ranges of deleted rows.
-pub(crate) fn write_canonical<W: Write>(
+/// Writes a container of a table's batches, at most 65,536 in two parts, in their canonical forms, and ranges of deleted rows.
+fn write_canonical<W: Write>(
     writer: &mut Counted<W>,
     schema: &Schema,
-    entries: &[(BatchName, Segment)],
-    made: &[Option<Segment>],
+    first: &[(BatchName, Segment)],
+    first_made: &[Option<Segment>],
+    second: &[(BatchName, Segment)],
+    second_made: &[Option<Segment>],
     deleted: &[(RowName, u16)],
 ) -> Result<(), Refusal>
-    requires limit { length entries.now ≤ 65536 }
-    requires stored { All (IsStored schema.now) entries.now }
-    requires made { AreChosen entries.now made.now }
+    requires limit { length first.now + length second.now ≤ 65536 }
+    requires first { All (IsStored schema.now) first.now }
+    requires first_made { AreChosen first.now first_made.now }
+    requires second { All (IsStored schema.now) second.now }
+    requires second_made { AreChosen second.now second_made.now }
     ensures { Writes result (W.contents writer.old.0) (W.contents writer.new.0) writer.old.1 writer.new.1
-        (container.spell (schema.now, (map (canonical_as_read schema.now) entries.now, map deleted_of deleted.now))) }
+        (container.spell (schema.now, (map (canonical_as_read schema.now) (first.now ++ second.now), map deleted_of deleted.now))) }
 {
     write_head(writer, &CONTAINER, schema)?;
-    write_canonical_batches(writer, schema, entries, made)?;
+    write_canonical_batches(writer, schema, first, first_made, second, second_made)?;
     write_ranges(writer, deleted)
 }
 
@@ -123,13 +134,37 @@ pub fn export<W: Write>(
 {
     // `batches` ensures that there are at most 65,536.
     let _count = store.batches();
-    let entries = store.entries();
-    let made = canonical_copies(alloc, entries)?;
+    let (first, second) = store.parts();
+    let first_made = canonical_copies(alloc, first)?;
+    let second_made = canonical_copies(alloc, second)?;
     write_canonical(
         writer,
         store.schema(),
+        first,
+        first_made.as_slice(),
+        second,
+        second_made.as_slice(),
+        store.tombs().ranges(),
+    )
+}
+
+/// Writes the canonical file of an offer's schema and state, as [`export`] does of a store's.
+pub(crate) fn export_offer<W: Write>(
+    alloc: Global,
+    offer: &Offer,
+    writer: &mut Counted<W>,
+) -> Result<(), Refusal>
+    ensures { Exports result (W.contents writer.old.0) (W.contents writer.new.0) writer.old.1 writer.new.1 (canonical_file offer.now.schema offer.now.state) }
+{
+    let entries = offer.entries();
+    let made = canonical_copies(alloc, entries)?;
+    write_canonical(
+        writer,
+        offer.schema(),
         entries,
         made.as_slice(),
-        store.tombs().ranges(),
+        &[],
+        &[],
+        offer.tombs().ranges(),
     )
 }

@@ -2,6 +2,7 @@
 #![tactic(auto)]
 
 mod canonical_writing;
+mod comparing;
 mod container_reading;
 mod container_writing;
 mod input;
@@ -27,5 +28,9 @@ pub use schema_writing::write_schema;
 pub use summary_reading::{read_summary, read_summary_bytes};
 pub use summary_writing::write_summary;
 
+#[cfg(test)]
+mod file_tests;
+#[cfg(test)]
+mod stop_tests;
 #[cfg(test)]
 mod tests;

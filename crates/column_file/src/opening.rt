@@ -4,10 +4,11 @@ ghost use Rattle.std.specs.Io.KnownBytes.{IsAtEnd};
 ghost use Rattle.std.specs.List.{All};
 ghost use Rattle.table_model.specs.Faults.{IsWithin, GaveMore};
 ghost use Rattle.segment_core.specs.Format.{Reads};
-ghost use Rattle.column_file.specs.Files.{IsCanonicalHeld, is_same_range, first_difference, judged, canonical_file, canonical_read, opened_from, checked_from};
+ghost use Rattle.column_file.specs.Files.{IsCanonicalHeld, is_same_range, judged, canonical_read, opened_from, checked_from};
 ghost use Rattle.column_file.specs.Input.{Judges, CountsFailure, is_refusal_of_reading};
 
-use crate::canonical_writing::{canonical_copies, write_canonical};
+use crate::canonical_writing::export_offer;
+use crate::comparing::Comparison;
 use crate::container_reading::read_container;
 use crate::input::read_input;
 use crate::offer_reading::tombs_of;
@@ -64,57 +65,32 @@ fn are_same_ranges(a: &[(RowName, u16)], b: &[(RowName, u16)]) -> bool
     true
 }
 
-/// The first place where two texts differ, or the length of the shorter where it is a front of the other.
-fn first_difference(a: &[u8], b: &[u8]) -> usize
-    ensures { result ≡ first_difference a.now b.now }
-{
-    let shorter = a.len().min(b.len());
-    for index in 0..shorter {
-        if a[index] != b[index] {
-            return index;
-        }
-    }
-    shorter
-}
-
-/// The canonical file of what an offer has.
-fn canonical_bytes(alloc: Global, offer: &Offer) -> Result<Vec<u8>, Refusal>
-    ensures bytes { IfOk result (λ file. file.items ≡ canonical_file offer.now.schema offer.now.state) }
-    ensures refused { IfErr result (λ e. e ≡ Refusal.Memory) }
-{
-    let entries = offer.entries();
-    let made = canonical_copies(alloc, entries)?;
-    let mut writer = Counted::new(Vec::new(alloc));
-    let written = write_canonical(
-        &mut writer,
-        offer.schema(),
-        entries,
-        made.as_slice(),
-        offer.tombs().ranges(),
-    );
-    match written {
-        Ok(()) => Ok(writer.into_inner()),
-        Err(_) => Err(Refusal::Memory),
-    }
-}
-
-/// Whether a place is the end of both texts.
-fn is_end_of_both(at: usize, a: &[u8], b: &[u8]) -> bool
-    ensures { result ≡ (at == length a.now && at == length b.now) }
-{
-    at == a.len() && at == b.len()
-}
-
-/// The offer that bytes hold, where they are the canonical file of it: else `NotCanonical` with the first place that differs.
+/// The offer that bytes hold, where they are the canonical file of it: else `NotCanonical` with the first place that differs. The file
+/// is compared as it is written, and stands nowhere.
 fn compared(alloc: Global, bytes: &[u8], offer: Offer) -> Result<Offer, Refusal>
     ensures { Reads (λ x. x) result (judged bytes.now offer) }
 {
-    let file = canonical_bytes(alloc, &offer)?;
-    let at = first_difference(bytes, file.as_slice());
-    if is_end_of_both(at, bytes, file.as_slice()) {
-        return Ok(offer);
+    let mut writer = Counted::new(Comparison::new(bytes));
+    let outcome = export_offer(alloc, &offer, &mut writer);
+    let found = writer.into_inner();
+    let other = Refusal::NotCanonical(found.place() as u64);
+    match outcome {
+        Ok(()) => {
+            if found.is_whole() {
+                Ok(offer)
+            } else {
+                Err(other)
+            }
+        }
+        Err(Refusal::WriteFault) => {
+            if found.has_differed() {
+                Err(other)
+            } else {
+                Err(Refusal::Memory)
+            }
+        }
+        Err(_) => Err(Refusal::Memory),
     }
-    Err(Refusal::NotCanonical(at as u64))
 }
 
 /// The batches and deletions that a canonical file holds. Refused is the first fault of the bytes, then `NotCanonical`, or a want

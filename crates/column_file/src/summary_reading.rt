@@ -16,7 +16,7 @@ use replica_store::Summary;
 use segment_core::{place_of, read_number};
 use std::alloc::{AllocError, Global};
 use std::io::Read;
-use table_model::{same_text, BatchName, Counted, Number, Origin, Refusal, Schema};
+use table_model::{BatchName, Counted, Number, Origin, Refusal, Schema, same_text};
 
 /// What a summary begins with.
 pub(crate) const SUMMARY: [u8; 4] = *b"FLSM";

@@ -5,7 +5,7 @@ use std::test::Fail;
 use table_model::Refusal;
 
 /// The summary of T(A SMALLINT) with the names 1.1 and 1.2: 32 bytes.
-const TWO_NAMES: &[u8] =
+pub(crate) const TWO_NAMES: &[u8] =
     b"FLSM\x01\0\x01\0\x01T\x02\x01A\x02\0\0\0\x01\0\0\0\x01\0\0\0\x01\0\0\0\x02\0\0\0";
 
 /// What stands before the names of that summary, with the count 2: 17 bytes.

@@ -1,12 +1,12 @@
-use Rattle.std.proofs.Common.{◌≡◌, ◌∙◌, List, ℕ, All, length, map, Option, sym, ap, subst, arith}
+use Rattle.std.proofs.Common.{◌≡◌, ◌∙◌, ◌++◌, List, ℕ, length, map, ap, subst, arith}
 use Rattle.std.specs.FinMap as finite
-use Rattle.segment_core.specs.Segment.{SegmentForm}
+use Rattle.std.proofs.lemmas.List.{length-append}
 use Rattle.replica_store.proofs.RowsIn.{len-rows_in}
 use Rattle.table_model.specs.Table.{Table}
 use Rattle.segment_core.specs.Format.{Format, Writes}
-use Rattle.replica_store.specs.Segments.{Entry as Held, IsStored}
+use Rattle.replica_store.specs.Segments.{Entry as Held}
 use Rattle.column_file.specs.ContainerBytes.{deleted_of, container}
-use Rattle.column_file.specs.Files.{AreChosen, canonical_as_read, canonical_file}
+use Rattle.column_file.specs.Files.{canonical_as_read, canonical_file}
 use Rattle.column_file.proofs.RangeLists.{ranges_are}
 use Rattle.column_file.proofs.CanonicalWriting.{canonical_spelled, exports_from}
 use Rattle.column_file.proofs.canonical_writing.export.Goals as goal
@@ -14,25 +14,17 @@ use Rattle.column_file.proofs.canonical_writing.export.Goals as goal
 pub write_canonical-requires-clause-limit : goal.write_canonical-requires-clause-limit
 write_canonical-requires-clause-limit g c =
     let segments = c.args.store.now.segments in
-    omega (arith, ap length c.entries-entries.ensures.value, ap finite.len c.entries-entries.ensures.rows, len-rows_in segments, finite.len-entries segments, c.batches-count.ensures.value, c.batches-count.ensures.limit)
-
-pub write_canonical-requires-clause-stored : goal.write_canonical-requires-clause-stored
-write_canonical-requires-clause-stored g c =
-    let P : Table → Type 0 = λ t. All (IsStored t) c.entries-entries.result.now in
-    subst P (sym c.schema.ensures) c.entries-entries.ensures.stored
-
-pub write_canonical-requires-clause-made : goal.write_canonical-requires-clause-made
-write_canonical-requires-clause-made g c =
-    let P : List (Option SegmentForm) → Type 0 = λ made. AreChosen c.entries-entries.result.now made in
-    subst P (sym c.as_slice.ensures.value) c.in_ok-made.ensures
+    let whole = length-append c.parts.result.0.now c.parts.result.1.now in
+    omega (arith, whole, ap length c.parts.ensures.value, ap finite.len c.parts.ensures.rows, len-rows_in segments, finite.len-entries segments, c.batches-count.ensures.value, c.batches-count.ensures.limit)
 
 pub returns : goal.returns
 returns g c =
     let table = c.args.store.now.replica.schema in
     let state = c.args.store.now.replica.state in
+    let entries : List Held = c.parts.result.0.now ++ c.parts.result.1.now in
     let ranges = ranges_are c.ranges-2.result.now state.deleted c.ranges-2.ensures.maximal (c.ranges-2.ensures.rows ∙ c.tombs.ensures) in
-    let text = canonical_spelled table state c.args.store.now.segments c.entries-entries.result.now c.ranges-2.result.now c.entries-entries.ensures.rows c.entries-entries.ensures.value ranges in
-    let same : container.spell (c.schema.result.now, (map (canonical_as_read c.schema.result.now) c.entries-entries.result.now, map deleted_of c.ranges-2.result.now)) ≡ canonical_file table state =
-    ap (λ (t : Table). container.spell (t, (map (canonical_as_read t) c.entries-entries.result.now, map deleted_of c.ranges-2.result.now))) c.schema.ensures ∙ text in
+    let text = canonical_spelled table state c.args.store.now.segments entries c.ranges-2.result.now c.parts.ensures.rows c.parts.ensures.value ranges in
+    let same : container.spell (c.schema.result.now, (map (canonical_as_read c.schema.result.now) entries, map deleted_of c.ranges-2.result.now)) ≡ canonical_file table state =
+    ap (λ (t : Table). container.spell (t, (map (canonical_as_read t) entries, map deleted_of c.ranges-2.result.now))) c.schema.ensures ∙ text in
     let P : List ℕ → Type 0 = λ bytes. Writes c.write_canonical.result (g.W.Write.contents c.args.writer.now.0) (g.W.Write.contents c.write_canonical.new.writer.0) c.args.writer.now.1 c.write_canonical.new.writer.1 bytes in
     exports_from c.write_canonical.result (g.W.Write.contents c.args.writer.now.0) (g.W.Write.contents c.write_canonical.new.writer.0) c.args.writer.now.1 c.write_canonical.new.writer.1 (canonical_file table state) (subst P same c.write_canonical.ensures)

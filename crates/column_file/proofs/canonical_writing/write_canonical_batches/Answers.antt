@@ -1,24 +1,45 @@
-use Rattle.std.proofs.Common.{◌++◌, map, length}
+use Rattle.std.proofs.Common.{◌≡◌, ◌+◌, ◌++◌, List, ℕ, map, length, sym, ap, subst, ◌∙◌, arith}
 use Rattle.std.proofs.lemmas.Result.{err_from_is_err_and}
-use Rattle.std.proofs.lemmas.List.{length-map}
-use Rattle.segment_core.specs.Format.{number, all}
-use Rattle.column_file.specs.ContainerBytes.{batch}
+use Rattle.std.proofs.lemmas.List.{length-map, length-append}
+use Rattle.segment_core.specs.Format.{Format, Writes, number, all}
+use Rattle.replica_store.specs.Segments.{Entry as Held}
+use Rattle.column_file.specs.ContainerBytes.{batch, batches}
 use Rattle.column_file.specs.Files.{canonical_as_read}
-use Rattle.column_file.proofs.ContainerWriting.{batches_spelled}
+use Rattle.column_file.proofs.CanonicalWriting.{two_lists_spelled}
 use Rattle.segment_core.proofs.Writings.{writes_both, writes_front}
 use Rattle.column_file.proofs.canonical_writing.write_canonical_batches.Goals as goal
 
 pub returns-in_err-write_number : goal.returns-in_err-write_number
 returns-in_err-write_number g c =
     let p = err_from_is_err_and c.from_residual.result c.from_residual.ensures.1 in
-    let e = rw (← length-map c.args.entries.now (canonical_as_read c.args.schema.now)) at c.in_err-write_number.ensures in
-    rw (batches_spelled c.args.schema.now (map (canonical_as_read c.args.schema.now) c.args.entries.now))
-    (writes_front c.from_residual.result c.in_err-write_number.field-0.0 (g.W.Write.contents c.args.writer.now.0) (g.W.Write.contents c.write_number.new.writer.0) c.args.writer.now.1 c.write_number.new.writer.1 ((number 4).spell (length (map (canonical_as_read c.args.schema.now) c.args.entries.now))) ((all (length (map (canonical_as_read c.args.schema.now) c.args.entries.now)) (batch c.args.schema.now)).spell (map (canonical_as_read c.args.schema.now) c.args.entries.now)) (rw (← p.2) p.1) e)
+    let t = c.args.schema.now in
+    let xs = c.args.first.now in
+    let ys = c.args.second.now in
+    let list : List Held → List ℕ = λ zs. (all (length zs) (batch t)).spell (map (canonical_as_read t) zs) in
+    rw (two_lists_spelled t xs ys)
+    (writes_front c.from_residual.result c.in_err-write_number.field-0.0 (g.W.Write.contents c.args.writer.now.0) (g.W.Write.contents c.write_number.new.writer.0) c.args.writer.now.1 c.write_number.new.writer.1 ((number 4).spell (length xs + length ys)) (list xs ++ list ys) (rw (← p.2) p.1) c.in_err-write_number.ensures)
+
+pub returns-in_err-write_canonical_list : goal.returns-in_err-write_canonical_list
+returns-in_err-write_canonical_list g c =
+    let p = err_from_is_err_and c.from_residual-in_err-write_canonical_list.result c.from_residual-in_err-write_canonical_list.ensures.1 in
+    let t = c.args.schema.now in
+    let xs = c.args.first.now in
+    let ys = c.args.second.now in
+    let list : List Held → List ℕ = λ zs. (all (length zs) (batch t)).spell (map (canonical_as_read t) zs) in
+    let h0 = c.in_ok-write_number.ensures in
+    rw (two_lists_spelled t xs ys)
+    (writes_both c.from_residual-in_err-write_canonical_list.result (g.W.Write.contents c.args.writer.now.0) (g.W.Write.contents c.write_number.new.writer.0) (g.W.Write.contents c.write_canonical_list.new.writer.0) c.args.writer.now.1 c.write_number.new.writer.1 c.write_canonical_list.new.writer.1 ((number 4).spell (length xs + length ys)) (list xs ++ list ys) h0.0 h0.1
+    (writes_front c.from_residual-in_err-write_canonical_list.result c.in_err-write_canonical_list.field-0.0 (g.W.Write.contents c.write_number.new.writer.0) (g.W.Write.contents c.write_canonical_list.new.writer.0) c.write_number.new.writer.1 c.write_canonical_list.new.writer.1 (list xs) (list ys) (rw (← p.2) p.1) c.in_err-write_canonical_list.ensures))
 
 pub returns : goal.returns
 returns g c =
-    let h0 = rw (← length-map c.args.entries.now (canonical_as_read c.args.schema.now)) at c.in_ok-write_number.ensures in
-    let l = c.write_canonical_list.ensures in
-    rw (batches_spelled c.args.schema.now (map (canonical_as_read c.args.schema.now) c.args.entries.now))
-    (writes_both c.write_canonical_list.result (g.W.Write.contents c.args.writer.now.0) (g.W.Write.contents c.write_number.new.writer.0) (g.W.Write.contents c.write_canonical_list.new.writer.0) c.args.writer.now.1 c.write_number.new.writer.1 c.write_canonical_list.new.writer.1 ((number 4).spell (length (map (canonical_as_read c.args.schema.now) c.args.entries.now))) ((all (length (map (canonical_as_read c.args.schema.now) c.args.entries.now)) (batch c.args.schema.now)).spell (map (canonical_as_read c.args.schema.now) c.args.entries.now)) h0.0 h0.1
-    l)
+    let t = c.args.schema.now in
+    let xs = c.args.first.now in
+    let ys = c.args.second.now in
+    let list : List Held → List ℕ = λ zs. (all (length zs) (batch t)).spell (map (canonical_as_read t) zs) in
+    let h0 = c.in_ok-write_number.ensures in
+    let h1 = c.in_ok-write_canonical_list.ensures in
+    rw (two_lists_spelled t xs ys)
+    (writes_both c.write_canonical_list-2.result (g.W.Write.contents c.args.writer.now.0) (g.W.Write.contents c.write_number.new.writer.0) (g.W.Write.contents c.write_canonical_list-2.new.writer.0) c.args.writer.now.1 c.write_number.new.writer.1 c.write_canonical_list-2.new.writer.1 ((number 4).spell (length xs + length ys)) (list xs ++ list ys) h0.0 h0.1
+    (writes_both c.write_canonical_list-2.result (g.W.Write.contents c.write_number.new.writer.0) (g.W.Write.contents c.write_canonical_list.new.writer.0) (g.W.Write.contents c.write_canonical_list-2.new.writer.0) c.write_number.new.writer.1 c.write_canonical_list.new.writer.1 c.write_canonical_list-2.new.writer.1 (list xs) (list ys) h1.0 h1.1
+    c.write_canonical_list-2.ensures))

@@ -1,6 +1,6 @@
 use Rattle.std.proofs.Common.{◌≡◌, ◌∙◌, sym, arith}
 use Rattle.column_file.proofs.Openings.{goes_on, ends_here}
-use Rattle.column_file.proofs.opening.first_difference.Goals as goal
+use Rattle.column_file.proofs.comparing.first_difference.Goals as goal
 
 pub loop-index-preserved : goal.loop-index-preserved
 loop-index-preserved c =

@@ -1,0 +1,108 @@
+//! Comparing bytes with others as these are written, so that the others stand nowhere.
+ghost use Rattle.std.specs.Prelude.{◌≡◌, ◌<◌, ◌==◌, ◌&&◌, [], length, IsErr, IsTrue, Some};
+ghost use Rattle.std.specs.Io.{ReadsAtMost, WritesAtMost};
+ghost use Rattle.std.specs.Io.KnownBytes.{Keeps, WriteAppends};
+ghost use Rattle.column_file.specs.Comparing.{told};
+ghost use Rattle.column_file.specs.Files.{first_difference};
+
+use std::io;
+use std::io::Write;
+use std::marker::Model;
+
+/// The first place where two texts differ, or the length of the shorter where it is a front of the other.
+pub(crate) fn first_difference(a: &[u8], b: &[u8]) -> usize
+    ensures { result ≡ first_difference a.now b.now }
+{
+    let shorter = a.len().min(b.len());
+    for index in 0..shorter {
+        if a[index] != b[index] {
+            return index;
+        }
+    }
+    shorter
+}
+
+/// A writer that takes the bytes that are expected and, where another comes, that one; from then on it answers an error. Contracts
+/// see the expected bytes and what came, and as its contents both, so that a call which only writes can't change the expected ones.
+#[derive(Drop)]
+pub(crate) struct Comparison<'a> {
+    expected: &'a [u8],
+    same: usize,
+    other: Option<u8>,
+}
+
+impl<'a> Model for Comparison<'a> {
+    ghost use Rattle.std.specs.Prelude.{ℕ, List};
+    ghost use Rattle.column_file.specs.Comparing.{came, IsCompared};
+
+    ghost Value = { List ℕ × List ℕ };
+
+    ghost view = { λ c. (c.expected.now, came c.expected.now c.same c.other) };
+
+    ghost invariant = { λ c. IsCompared c.expected.now c.same c.other };
+}
+
+impl<'a> Comparison<'a> {
+    /// A comparison with these bytes, to which nothing came.
+    pub(crate) fn new(expected: &'a [u8]) -> Self
+        ensures { result ≡ (expected.now, []) }
+    {
+        Comparison {
+            expected,
+            same: 0,
+            other: None,
+        }
+    }
+
+    /// The first place where what came differs from what was expected, or the length of the shorter.
+    pub(crate) fn place(&self) -> usize
+        ensures { result ≡ first_difference self.now.0 self.now.1 }
+    {
+        self.same
+    }
+
+    /// Whether exactly what was expected came.
+    pub(crate) fn is_whole(&self) -> bool
+        ensures { result ≡ (first_difference self.now.0 self.now.1 == length self.now.0 && first_difference self.now.0 self.now.1 == length self.now.1) }
+    {
+        if self.other.is_some() {
+            return false;
+        }
+        self.same == self.expected.len()
+    }
+
+    /// Whether a byte came that wasn't expected.
+    pub(crate) fn has_differed(&self) -> bool
+        ensures { IsTrue result → first_difference self.now.0 self.now.1 < length self.now.1 }
+    {
+        self.other.is_some()
+    }
+}
+
+impl<'a> Write for Comparison<'a> {
+    ghost contents = { λ c. Some (told c) };
+
+    fn write(&mut self, piece: &[u8]) -> io::Result<usize>
+        ensures bound { WritesAtMost result piece.now }
+        ensures bytes { WriteAppends (Some (told self.old)) (Some (told self.new)) result piece.now }
+    {
+        if self.other.is_some() {
+            return Err(io::Error::from(io::ErrorKind::BrokenPipe));
+        }
+        let (_, next) = self.expected.split_at(self.same);
+        let count = first_difference(next, piece);
+        let (_, rest) = next.split_at(count);
+        self.same = self.expected.len() - rest.len();
+        if count < piece.len() {
+            self.other = Some(piece[count]);
+            return Ok(count + 1);
+        }
+        Ok(count)
+    }
+
+    fn flush(&mut self) -> io::Result<()>
+        ensures bytes { Keeps (Some (told self.old)) (Some (told self.new)) }
+    {
+        Ok(())
+    }
+}

@@ -1,0 +1,518 @@
+//! Files and offers in bytes, at bytes and places worked out by hand from the formats.
+use crate::canonical_writing::export;
+use crate::offer_reading::read_offer;
+use crate::offer_writing::write_offer;
+use crate::opening::{Checked, check, open};
+use replica_store::{Offer, Store, Summary};
+use segment_core::Coding;
+use std::alloc::{AllocError, Global};
+use std::test::Fail;
+use table_model::{BatchName, Counted, Number, Origin, Refusal, Stop};
+
+/// The canonical file of T(A SMALLINT) with the one row 7 in batch 1.1: 42 bytes, of which 13 are the head, 4 say how many batches
+/// there are, 17 are the batch, and 8 say how many ranges there are.
+pub(crate) const ONE_ROW: &[u8] =
+    b"FLCF\x01\0\x01\0\x01T\x02\x01A\x01\0\0\0\x01\0\0\0\x01\0\0\0\0\0\0\0\0\0\0\x07\0\0\0\0\0\0\0\0\0";
+
+/// What stands in the place of the bytes of that file from the first offset to before the second: pieces, each of them some bytes
+/// and then so many, up to 256, that are 0.
+type Change = (usize, usize, &'static [(&'static [u8], usize)]);
+
+const ZEROS: &[u8] = &[0; 256];
+
+/// That file with a change.
+fn changed(alloc: Global, change: &Change) -> Result<Vec<u8>, AllocError> {
+    let (front, _) = ONE_ROW.split_at(change.0.min(ONE_ROW.len()));
+    let (_, back) = ONE_ROW.split_at(change.1.min(ONE_ROW.len()));
+    let mut bytes = Vec::from_slice(alloc, front)?;
+    for (piece, zeros) in change.2 {
+        bytes.extend_from_slice(piece)?;
+        bytes.extend_from_slice(ZEROS.split_at((*zeros).min(ZEROS.len())).0)?;
+    }
+    bytes.extend_from_slice(back)?;
+    Ok(bytes)
+}
+
+/// The store of origin 2 that a file opens to.
+pub(crate) fn opened(alloc: Global, bytes: &[u8]) -> Result<Store, Refusal> {
+    open(alloc, &mut Counted::new(bytes), Origin(2))
+}
+
+/// The offer that bytes are.
+pub(crate) fn offer_from(alloc: Global, bytes: &[u8]) -> Result<Offer, Refusal> {
+    read_offer(alloc, &mut Counted::new(bytes))
+}
+
+/// Whether this is a store's file.
+fn is_export(alloc: Global, store: &Store, bytes: &[u8]) -> Result<bool, Refusal> {
+    let mut writer = Counted::new(Vec::new(alloc));
+    export(alloc, store, &mut writer)?;
+    Ok(writer.into_inner().as_slice() == bytes)
+}
+
+/// Whether these are an offer's bytes.
+fn is_written(alloc: Global, offer: &Offer, bytes: &[u8]) -> Result<bool, Refusal> {
+    let mut writer = Counted::new(Vec::new(alloc));
+    write_offer(offer, &mut writer)?;
+    Ok(writer.into_inner().as_slice() == bytes)
+}
+
+/// Whether these are the bytes of a store's offer to one that holds nothing.
+fn is_offered(alloc: Global, store: &Store, bytes: &[u8]) -> Result<bool, Refusal> {
+    let nothing = Summary::empty(alloc, store.schema())?;
+    let offer = store.offer(alloc, &nothing)?;
+    is_written(alloc, &offer, bytes)
+}
+
+/// Whether opening and checking are refused so.
+fn is_refused(alloc: Global, bytes: &[u8], fault: Refusal) -> bool {
+    opened(alloc, bytes).err() == Some(fault)
+        && check(alloc, &mut Counted::new(bytes)).err() == Some(fault)
+}
+
+/// Whether reading an offer is refused so as well.
+fn is_no_offer(alloc: Global, bytes: &[u8], fault: Refusal) -> bool {
+    is_refused(alloc, bytes, fault) && offer_from(alloc, bytes).err() == Some(fault)
+}
+
+/// One row 1, 2, 3 of batch 2.1 and the deleted rows 2.1.0 and 2.1.9: 198 bytes. The three values are runs.
+const THREE_ROWS: Change = (
+    13,
+    42,
+    &[
+        (
+            b"\x01\0\0\0\x02\0\0\0\x01\0\0\0\x02\0\0\x02\x01\x03\0\x06",
+            127,
+        ),
+        (b"\x01\0\x02\0\x03\0\x02", 7),
+        (
+            b"\x02\0\0\0\x01\0\0\0\0\0\0\0\x02\0\0\0\x01\0\0\0\x09\0\x09\0",
+            0,
+        ),
+    ],
+);
+
+// The file of one row, of the row -32,768, and of one row that is null.
+const SAME: Change = (42, 42, &[]);
+
+const LEAST: Change = (32, 34, &[(b"\0\x80", 0)]);
+
+const NULL: Change = (27, 34, &[(b"\x01\x01", 133)]);
+
+// How many bytes, batches and ranges each file has is told by the format.
+const CANONICAL: &[(Change, usize, u32, u64)] = &[
+    // The row 7, and the row -32,768.
+    (SAME, 42, 1, 0),
+    (LEAST, 42, 1, 0),
+    // No batch; and the deleted rows 1.1.0 to 1.1.9.
+    ((13, 42, &[(b"", 12)]), 25, 0, 0),
+    (
+        (
+            13,
+            42,
+            &[
+                (b"", 4),
+                (b"\x01", 7),
+                (b"\x01\0\0\0\x01\0\0\0\0\0\x09\0", 0),
+            ],
+        ),
+        37,
+        0,
+        1,
+    ),
+    (THREE_ROWS, 198, 1, 2),
+    // The rows 1, NULL and 3: a null mask, and the runs 1 and 3, of which the second begins at row 2.
+    (
+        (
+            25,
+            42,
+            &[
+                (b"\x02\0\x01\x02", 127),
+                (b"\x02\x01\x02\0\x04", 127),
+                (b"\x01\0\x03", 9),
+            ],
+        ),
+        300,
+        1,
+        0,
+    ),
+    // 1,025 rows of 0: two vectors. One row that is null: its place is filled by 0.
+    ((25, 34, &[(b"\0\x04", 14)]), 49, 1, 0),
+    (NULL, 170, 1, 0),
+    // A SMALLINT, B INTEGER, C BIGINT with the row NULL, 5, -1.
+    (
+        (
+            6,
+            34,
+            &[
+                (
+                    b"\x03\0\x01T\x02\x01A\x04\x01B\x08\x01C\x01\0\0\0\x01\0\0\0\x01\0\0\0\0\0\x01\x01",
+                    138,
+                ),
+                (b"\x05", 8),
+                (b"\xff\xff\xff\xff\xff\xff\xff\xff", 0),
+            ],
+        ),
+        198,
+        1,
+        0,
+    ),
+];
+
+/// Whether a file is checked so, and exported and offered again by the store that it opens to.
+fn comes_back(alloc: Global, bytes: &[u8], checked: Checked) -> Result<bool, Refusal> {
+    let store = opened(alloc, bytes)?;
+    Ok(
+        check(alloc, &mut Counted::new(bytes)) == Ok(checked)
+            && is_export(alloc, &store, bytes)?
+            && is_offered(alloc, &store, bytes)?,
+    )
+}
+
+#[test]
+fn what_is_opened_is_exported_and_offered_again(rt: HostRuntime) -> Result<(), Fail> {
+    let alloc = rt.alloc();
+    for (change, length, batches, ranges) in CANONICAL {
+        let bytes = changed(alloc, change)?;
+        let checked = Checked {
+            batches: *batches,
+            ranges: *ranges,
+        };
+        assert!(rt;
+            bytes.len() == *length && comes_back(alloc, &bytes, checked)?,
+            "of {length} bytes"
+        );
+    }
+    Ok(())
+}
+
+const NO_BATCH: &[u8] = b"\0\0\0\0";
+
+// The head's fields begin at 0, 4, 6, 8 and 10, the batches' at 13, 17, 25, 27, 28, 29, 30 and 32, the ranges' at 34.
+const FAULTS: &[(Change, Refusal)] = &[
+    ((0, 1, &[(b"\x47", 0)]), Refusal::BadMagic),
+    ((4, 5, &[(b"\x03", 0)]), Refusal::BadVersion),
+    // The version 256, and 257, whose first byte is 1.
+    ((4, 6, &[(b"\0\x01", 0)]), Refusal::BadVersion),
+    ((5, 6, &[(b"\x01", 0)]), Refusal::BadVersion),
+    ((6, 7, &[(b"\0", 0)]), Refusal::BadCount(6)),
+    ((6, 7, &[(b"\x21", 0)]), Refusal::BadCount(6)),
+    ((8, 9, &[(b"\0", 0)]), Refusal::BadSchema),
+    ((8, 9, &[(b"\x41", 0)]), Refusal::BadSchema),
+    ((9, 10, &[(b"t", 0)]), Refusal::BadSchema),
+    ((8, 10, &[(b"\x03ALL", 0)]), Refusal::BadSchema),
+    ((10, 11, &[(b"\x03", 0)]), Refusal::BadSchema),
+    (
+        (6, 13, &[(b"\x02\0\x01T\x02\x01A\x04\x01A", 0)]),
+        Refusal::BadSchema,
+    ),
+    ((13, 17, &[(b"\xff\xff\xff\xff", 0)]), Refusal::BadCount(13)),
+    ((13, 17, &[(b"\x01\0\x01\0", 0)]), Refusal::BadCount(13)),
+    ((17, 18, &[(b"\0", 0)]), Refusal::BadName),
+    ((21, 22, &[(b"\0", 0)]), Refusal::BadName),
+    // As many batches as there may be, of which the second has the origin 0.
+    ((13, 17, &[(b"\0\0\x01\0", 0)]), Refusal::BadName),
+    // The batch twice; and a second batch with a lesser number, and with a lesser origin.
+    (
+        (
+            13,
+            17,
+            &[(b"\x02\0\0\0\x01\0\0\0\x01\0\0\0\0\0\0\0\0\0\0\x07\0", 0)],
+        ),
+        Refusal::BadOrder(34),
+    ),
+    (
+        (
+            13,
+            17,
+            &[(b"\x02\0\0\0\x01\0\0\0\x02\0\0\0\0\0\0\0\0\0\0\x07\0", 0)],
+        ),
+        Refusal::BadOrder(34),
+    ),
+    (
+        (
+            13,
+            17,
+            &[(b"\x02\0\0\0\x02\0\0\0\x01\0\0\0\0\0\0\0\0\0\0\x07\0", 0)],
+        ),
+        Refusal::BadOrder(34),
+    ),
+    ((27, 28, &[(b"\x02", 0)]), Refusal::BadMask(27)),
+    // A null mask with no row; and one with row 1, which isn't there.
+    ((27, 28, &[(b"\x01", 128)]), Refusal::BadMask(28)),
+    ((27, 28, &[(b"\x01\x02", 127)]), Refusal::BadMask(28)),
+    ((28, 29, &[(b"\x04", 0)]), Refusal::BadTag(28)),
+    ((29, 30, &[(b"\x11", 0)]), Refusal::BadWidth(29)),
+    ((30, 31, &[(b"\x01", 0)]), Refusal::BadCount(30)),
+    // Runs: one that begins at row 0, and fewer than one more than the rows at which one begins.
+    (
+        (28, 32, &[(b"\x02\x01\x01\0\x01", 127)]),
+        Refusal::BadMask(32),
+    ),
+    (
+        (28, 32, &[(b"\x02\x01\x01\0\x02", 127)]),
+        Refusal::BadCount(30),
+    ),
+    // Dictionaries: the value 7 twice, and a code that is none.
+    (
+        (28, 34, &[(b"\x03\x01\x02\0\x07\0\x07\0", 0)]),
+        Refusal::BadDictionary(34),
+    ),
+    (
+        (28, 34, &[(b"\x03\x01\x01\0\x07\0\x01", 127)]),
+        Refusal::BadCode(34),
+    ),
+    // As many rows as a batch may have: 64 vectors, of which the second has the flag 7.
+    (
+        (25, 34, &[(b"\xff\xff", 7), (b"\x07", 0)]),
+        Refusal::BadMask(34),
+    ),
+    // As many ranges as 8 bytes tell, none of which is there.
+    (
+        (
+            13,
+            42,
+            &[(NO_BATCH, 0), (b"\xff\xff\xff\xff\xff\xff\xff\xff", 0)],
+        ),
+        Refusal::Truncated(25),
+    ),
+    // A range of the origin 0, whose first ordinal is past the last as well; then only that.
+    (
+        (
+            13,
+            42,
+            &[(NO_BATCH, 0), (b"\x01", 11), (b"\x01\0\0\0\x05\0\x04\0", 0)],
+        ),
+        Refusal::BadName,
+    ),
+    (
+        (
+            13,
+            42,
+            &[
+                (NO_BATCH, 0),
+                (b"\x01", 7),
+                (b"\x01\0\0\0\x01\0\0\0\x05\0\x04\0", 0),
+            ],
+        ),
+        Refusal::BadRange(25),
+    ),
+    // A range that isn't whole is judged by nothing.
+    (
+        (
+            13,
+            42,
+            &[
+                (NO_BATCH, 0),
+                (b"\x01", 7),
+                (b"\0\0\0\0\x01\0\0\0\x05\0\x04", 0),
+            ],
+        ),
+        Refusal::Truncated(36),
+    ),
+    // The rows 1.1.0 twice; and 1.1.4 to 9 after 1.1.0 to 4.
+    (
+        (
+            13,
+            42,
+            &[
+                (NO_BATCH, 0),
+                (b"\x02", 7),
+                (b"\x01\0\0\0\x01", 7),
+                (b"\x01\0\0\0\x01", 7),
+            ],
+        ),
+        Refusal::BadOrder(37),
+    ),
+    (
+        (
+            13,
+            42,
+            &[
+                (NO_BATCH, 0),
+                (b"\x02", 7),
+                (
+                    b"\x01\0\0\0\x01\0\0\0\0\0\x04\0\x01\0\0\0\x01\0\0\0\x04\0\x09\0",
+                    0,
+                ),
+            ],
+        ),
+        Refusal::BadOrder(37),
+    ),
+    ((42, 42, &[(b"\0", 0)]), Refusal::TrailingBytes(42)),
+    // A wider packing isn't canonical, but a byte after the file comes first.
+    (
+        (29, 34, &[(b"\x01\0\0\x07", 130)]),
+        Refusal::TrailingBytes(170),
+    ),
+    ((34, 42, &[(b"\x01", 7)]), Refusal::Truncated(42)),
+];
+
+#[test]
+fn the_first_fault_of_a_file_is_answered_at_its_place(rt: HostRuntime) -> Result<(), Fail> {
+    let alloc = rt.alloc();
+    for (change, fault) in FAULTS {
+        let bytes = changed(alloc, change)?;
+        assert!(rt;
+            is_no_offer(alloc, &bytes, *fault),
+            "{fault:?} of {bytes:?}"
+        );
+    }
+    Ok(())
+}
+
+// Other forms of one vector, the first place that isn't canonical, and the canonical file of its rows.
+const OFFERS: &[(Change, u64, Change)] = &[
+    // FOR at width 1, once with the reference 7, once with 32,767 and the packed value 1, which wraps.
+    ((29, 34, &[(b"\x01\0\0\x07", 129)]), 29, SAME),
+    ((29, 34, &[(b"\x01\0\0\xff\x7f\x01", 127)]), 29, LEAST),
+    // A dictionary of 7, and of 7 and 8 with codes of one bit.
+    ((28, 34, &[(b"\x03\0\x01\0\x07\0", 0)]), 28, SAME),
+    ((28, 34, &[(b"\x03\x01\x02\0\x07\0\x08", 129)]), 28, SAME),
+    // A run of 7, and a second run past the batch's rows.
+    (
+        (28, 34, &[(b"\x02\x01\x01", 129), (b"\x07\0", 0)]),
+        28,
+        SAME,
+    ),
+    (
+        (
+            28,
+            34,
+            &[(b"\x02\x01\x02\0\x02", 127), (b"\x07\0\x09\0", 0)],
+        ),
+        28,
+        SAME,
+    ),
+    // 5 at the place of a null.
+    ((27, 34, &[(b"\x01\x01", 131), (b"\x05\0", 0)]), 160, NULL),
+];
+
+/// Whether bytes are an offer that is written again as these, and no file from this place on.
+fn is_offer_alone(alloc: Global, bytes: &[u8], again: &[u8], at: u64) -> Result<bool, Refusal> {
+    let offer = offer_from(alloc, bytes)?;
+    Ok(is_written(alloc, &offer, again)? && is_refused(alloc, bytes, Refusal::NotCanonical(at)))
+}
+
+#[test]
+fn what_is_not_canonical_is_an_offer_and_no_file(rt: HostRuntime) -> Result<(), Fail> {
+    let alloc = rt.alloc();
+    for (change, at, canonical) in OFFERS {
+        let bytes = changed(alloc, change)?;
+        assert!(rt; is_offer_alone(alloc, &bytes, &bytes, *at)?, "at {at}");
+        let store = offer_from(alloc, &bytes)?.into_store(alloc, Origin(1))?;
+        assert!(rt;
+            is_export(alloc, &store, &changed(alloc, canonical)?)?,
+            "at {at}"
+        );
+    }
+    Ok(())
+}
+
+// The rows 1.1.0 to 4 and 1.1.5 to 9 are one maximal range.
+const TOUCHING: Change = (
+    13,
+    42,
+    &[
+        (NO_BATCH, 0),
+        (b"\x02", 7),
+        (
+            b"\x01\0\0\0\x01\0\0\0\0\0\x04\0\x01\0\0\0\x01\0\0\0\x05\0\x09\0",
+            0,
+        ),
+    ],
+);
+
+const MAXIMAL: Change = (
+    13,
+    42,
+    &[
+        (NO_BATCH, 0),
+        (b"\x01", 7),
+        (b"\x01\0\0\0\x01\0\0\0\0\0\x09\0", 0),
+    ],
+);
+
+#[test]
+fn ranges_that_touch_are_written_as_one(rt: HostRuntime) -> Result<(), Fail> {
+    let alloc = rt.alloc();
+    let bytes = changed(alloc, &TOUCHING)?;
+    let maximal = changed(alloc, &MAXIMAL)?;
+    assert!(rt; is_offer_alone(alloc, &bytes, &maximal, 17)?);
+    Ok(())
+}
+
+/// Whether the file's store has the vector 1.1, 0, 0 in this coding in its offers, and in its canonical form in its exports.
+fn tells_coding_in_offers(alloc: Global, coding: Coding, change: &Change) -> Result<bool, Fail> {
+    let mut store = opened(alloc, ONE_ROW)?;
+    let name = BatchName {
+        origin: Origin(1),
+        number: Number(1),
+    };
+    store.recode(alloc, name, 0, 0, coding)?;
+    let bytes = changed(alloc, change)?;
+    Ok(is_offered(alloc, &store, &bytes)? && is_export(alloc, &store, ONE_ROW)?)
+}
+
+// The coding stands at 28. DELTA has 64 bases of 7, RLE one run of 7.
+const CODINGS: &[(Coding, Change)] = &[
+    (Coding::For, (28, 34, &[(b"\0\0\0\0\x07\0", 0)])),
+    (Coding::Dict, (28, 34, &[(b"\x03\0\x01\0\x07\0", 0)])),
+    (
+        Coding::Runs,
+        (28, 34, &[(b"\x02\x01\x01", 129), (b"\x07\0", 0)]),
+    ),
+    (
+        Coding::Delta,
+        (
+            28,
+            34,
+            &[
+                (b"\x01", 5),
+                (SIXTEEN_SEVENS, 0),
+                (SIXTEEN_SEVENS, 0),
+                (SIXTEEN_SEVENS, 0),
+                (SIXTEEN_SEVENS, 0),
+            ],
+        ),
+    ),
+];
+
+const SIXTEEN_SEVENS: &[u8] =
+    b"\x07\0\x07\0\x07\0\x07\0\x07\0\x07\0\x07\0\x07\0\x07\0\x07\0\x07\0\x07\0\x07\0\x07\0\x07\0\x07\0";
+
+#[test]
+fn a_file_tells_no_coding_and_an_offer_does(rt: HostRuntime) -> Result<(), Fail> {
+    for (coding, change) in CODINGS {
+        assert!(rt;
+            tells_coding_in_offers(rt.alloc(), *coding, change)?,
+            "{coding:?}"
+        );
+    }
+    Ok(())
+}
+
+#[test]
+fn every_proper_front_of_a_file_is_truncated_with_its_length(rt: HostRuntime) -> Result<(), Fail> {
+    let alloc = rt.alloc();
+    let bytes = changed(alloc, &THREE_ROWS)?;
+    for end in 0..bytes.len() {
+        let (front, _) = bytes.as_slice().split_at(end);
+        assert!(rt;
+            is_no_offer(alloc, front, Refusal::Truncated(end as u64)),
+            "{end}"
+        );
+    }
+    Ok(())
+}
+
+#[test]
+fn an_own_origin_of_0_is_refused_before_anything_is_read(rt: HostRuntime) -> Result<(), Fail> {
+    let mut reader = Counted::new(Stop {
+        inner: ONE_ROW,
+        left: 0,
+    });
+    let fault = open(rt.alloc(), &mut reader, Origin(0)).err();
+    assert_eq!(rt; (fault, reader.failures()), (Some(Refusal::BadName), 0));
+    Ok(())
+}
