@@ -1,12 +1,14 @@
--- Groups under way: one tally more, one row more.
-use Rattle.std.proofs.Common.{◌≡◌, ◌≢◌, ℕ, zero, suc, ◌+◌, ◌<◌, ◌≤◌, ◌⊎◌, inl, inr, Bool, true, false, cond, ◌||◌, List, [], ◌∷◌, ◌++◌, map, filter, length, get_or, set, take, Option, Some, None, ℤ, pos, refl, sym, ap, subst, ◌∙◌, arith, append-nil, length-append, length-set, get_or-set_same, get_or-set_other}
+-- Groups under way: one row more, one vector more.
+use Rattle.std.proofs.Common.{◌≡◌, ◌≢◌, ℕ, zero, suc, ◌+◌, ◌==◌, ◌<◌, ◌≤◌, ◌⊎◌, inl, inr, Bool, true, false, cond, ◌&&◌, ◌||◌, List, [], ◌∷◌, ◌++◌, map, filter, length, get_or, set, take, Option, Some, None, ℤ, pos, refl, sym, ap, subst, ◌∙◌, arith, append-nil, append_assoc, length-append, length-set, get_or-set_same, get_or-set_other}
 use Rattle.std.specs.List.{filter_map, list_any}
 use Rattle.std.specs.BTreeMap.{BTreeMap, get, is_at}
 use Rattle.std.specs.Global.{Vec}
-use Rattle.std.specs.Option.{is_some, option_map}
+use Rattle.std.specs.Map.{lookup}
+use Rattle.std.specs.Option.{is_some}
 use Rattle.std.proofs.Math.ListN.{get_or-append}
 use Rattle.std.proofs.Math.Seq.{get_or-append_seam}
 use Rattle.std.proofs.lemmas.Bool.{cases_lt, false≢true}
+use Rattle.std.proofs.lemmas.Bool.Decides.{Decides-eqb}
 use Rattle.std.proofs.lemmas.List.{map-append, take_more}
 use Rattle.std.proofs.lemmas.List.Elements.{filter-append, filter_map-append}
 use Rattle.table_model.specs.Group.{cell, key_cmp, key_of, rows_with, values_in}
@@ -16,73 +18,20 @@ use Rattle.table_model.proofs.Keys.{tied_keys}
 use Rattle.table_model.proofs.Parts.{neither}
 use Rattle.table_model.proofs.SameRows.{one_row, itself_row}
 use Rattle.query_eval.specs.Decoded.{decoded_at}
-use Rattle.query_eval.specs.Grouping.{AreGroups, AreHeld, IsAdded, IsHeld, aggregate_cell, aggregate_values, as_list, is_once, tallies_in}
+use Rattle.query_eval.specs.Grouping.{AreEmpty, AreGroups, AreHeld, IsHeld, IsTaken, aggregate_cell, aggregate_values, as_list, is_once}
+use Rattle.query_eval.specs.Places.{ArePlaced, IsIndex, rows_below, rows_placed}
+use Rattle.query_eval.specs.Kept.{rows_at}
+use Rattle.query_eval.specs.Vector.{Vector, row_at}
+use Rattle.query_eval.specs.declared.places.Places.{Places}
+use Rattle.query_eval.proofs.PlaceLemmas.{some_same}
+use Rattle.query_eval.proofs.RowsBelow.{below_all, below_more, placed_more_rows}
+use Rattle.transpose_order.specs.Mask.{has}
 use Rattle.query_eval.specs.Tally.{IsTally, is_distinct}
 use Rattle.query_eval.specs.declared.aggregate.Aggregate.{Aggregate}
 use Rattle.query_eval.specs.declared.aggregate.Aggregate.TheVariants.{Rows, Folded}
 use Rattle.query_eval.specs.declared.decoded.Decoded.{Decoded}
 use Rattle.query_eval.specs.declared.decoded.Decoded.TheVariants.{Fixed}
 use Rattle.query_eval.specs.declared.tally.Tally.{Tally}
-
-pub added_start : (row : ℕ) (cells : List Decoded) (ts : List Tally) → IsAdded 0 row cells ts ts
-added_start row cells ts = record { size = refl; taken = λ i d t values h. absurd (omega arith); kind = λ i t h. absurd (omega arith); ahead = λ i t h. refl }
-
-module _ (k row : ℕ) (cells : List Decoded) (old now : List Tally) (h : IsAdded k row cells old now) where
-  -- the next cell is null
-  pub added_skip : ((d : Decoded) → decoded_at (get_or cells k d) row ≡ None) → IsAdded (k + 1) row cells old now
-  added_skip none = record {
-    size = h.size;
-    taken = λ i d t values l m held. one_taken i d t values l m held (cases_lt i k);
-    kind = λ i t l m. one_kind i t l m (cases_lt i k);
-    ahead = λ i t l. h.ahead i t (omega (arith, l));
-  }
-    where
-      one_taken : (i : ℕ) (d : Decoded) (t : Tally) (values : List ℤ) → i < k + 1 → i < length old → IsTally values (get_or old i t) → (i < k) ⊎ (k ≤ i) → IsTally (values ++ as_list (decoded_at (get_or cells i d) row)) (get_or now i t)
-      one_taken i d t values l m held (inl b) = h.taken i d t values b m held
-      one_taken i d t values l m held (inr b) =
-          let e : i ≡ k = omega arith in
-          let nothing = ap (λ j. decoded_at (get_or cells j d) row) e ∙ none d in
-          subst (λ (vs : List ℤ). IsTally vs (get_or now i t)) (sym (append-nil values) ∙ ap (λ o. values ++ as_list o) (sym nothing)) (subst (IsTally values) (sym (h.ahead i t b)) held)
-
-      one_kind : (i : ℕ) (t : Tally) → i < k + 1 → i < length old → (i < k) ⊎ (k ≤ i) → is_distinct (get_or now i t) ≡ is_distinct (get_or old i t)
-      one_kind i t l m (inl b) = h.kind i t b m
-      one_kind i t l m (inr b) = ap is_distinct (h.ahead i t b)
-
-  -- the next cell is a value, which its tally takes in
-  pub added_one : (next : List Tally) (u d0 : Tally) (z : ℤ) → k < length old → next ≡ set now k u → ((d : Decoded) → decoded_at (get_or cells k d) row ≡ Some z) → ((values : List ℤ) → IsTally values (get_or now k d0) → IsTally (values ++ z ∷ []) u) → is_distinct u ≡ is_distinct (get_or now k d0) → IsAdded (k + 1) row cells old next
-  added_one next u d0 z within is some takes same = record {
-    size = ap length is ∙ length-set now k u ∙ h.size;
-    taken = λ i d t values l m held. subst (λ (ts : List Tally). IsTally (values ++ as_list (decoded_at (get_or cells i d) row)) (get_or ts i t)) (sym is) (one_taken i d t values l m held (cases_lt i k));
-    kind = λ i t l m. ap (λ (ts : List Tally). is_distinct (get_or ts i t)) is ∙ one_kind i t l m (cases_lt i k);
-    ahead = λ i t l. let ne : i ≢ k = omega arith in ap (λ (ts : List Tally). get_or ts i t) is ∙ get_or-set_other now k i u t ne ∙ h.ahead i t (omega (arith, l));
-  }
-    where
-      inside : k < length now
-      inside = omega (arith, h.size, within)
-
-      mine : (t : Tally) → get_or now k t ≡ get_or now k d0
-      mine t = get_or-within now k t d0 inside
-        where
-          get_or-within : (ts : List Tally) (j : ℕ) (a b : Tally) → j < length ts → get_or ts j a ≡ get_or ts j b
-          get_or-within [] j a b l = absurd (omega arith)
-          get_or-within (x ∷ xs) zero a b l = refl
-          get_or-within (x ∷ xs) (suc j) a b l = get_or-within xs j a b (omega arith)
-
-      one_taken : (i : ℕ) (d : Decoded) (t : Tally) (values : List ℤ) → i < k + 1 → i < length old → IsTally values (get_or old i t) → (i < k) ⊎ (k ≤ i) → IsTally (values ++ as_list (decoded_at (get_or cells i d) row)) (get_or (set now k u) i t)
-      one_taken i d t values l m held (inl b) =
-          let ne : i ≢ k = omega arith in
-          subst (IsTally (values ++ as_list (decoded_at (get_or cells i d) row))) (sym (get_or-set_other now k i u t ne)) (h.taken i d t values b m held)
-      one_taken i d t values l m held (inr b) =
-          let e : k ≡ i = omega arith in
-          let before : IsTally values (get_or now k d0) = subst (IsTally values) (sym (h.ahead i t b) ∙ ap (λ j. get_or now j t) (sym e) ∙ mine t) held in
-          let after = subst (λ (vs : List ℤ). IsTally vs u) (ap (λ o. values ++ as_list o) (sym (some d))) (takes values before) in
-          subst (λ (j : ℕ). IsTally (values ++ as_list (decoded_at (get_or cells j d) row)) (get_or (set now k u) j t)) e (subst (IsTally (values ++ as_list (decoded_at (get_or cells k d) row))) (sym (get_or-set_same now k u t inside)) after)
-
-      one_kind : (i : ℕ) (t : Tally) → i < k + 1 → i < length old → (i < k) ⊎ (k ≤ i) → is_distinct (get_or (set now k u) i t) ≡ is_distinct (get_or old i t)
-      one_kind i t l m (inl b) = let ne : i ≢ k = omega arith in ap is_distinct (get_or-set_other now k i u t ne) ∙ h.kind i t b m
-      one_kind i t l m (inr b) =
-          let e : k ≡ i = omega arith in
-          ap (λ j. is_distinct (get_or (set now k u) j t)) (sym e) ∙ ap is_distinct (get_or-set_same now k u t inside) ∙ same ∙ ap is_distinct (sym (mine t)) ∙ ap (λ j. is_distinct (get_or now j t)) e ∙ ap is_distinct (h.ahead i t b)
 
 none_values : (a : Aggregate) → aggregate_values a [] ≡ []
 unfolding values_in
@@ -91,34 +40,6 @@ none_values (Folded fold distinct place) = refl
 
 pub held_none : (a : Aggregate) (t : Tally) → IsTally [] t → is_distinct t ≡ is_once a → IsHeld [] a t
 held_none a t h e = record { values = subst (λ (vs : List ℤ). IsTally vs t) (sym (none_values a)) h; kind = e }
-
--- one aggregate more
-pub held_more : (rows : List Cells) (front : List Aggregate) (ts : List Tally) (a : Aggregate) (t : Tally) → AreHeld rows front ts → IsHeld rows a t → AreHeld rows (front ++ a ∷ []) (ts ++ t ∷ [])
-held_more rows front ts a t h one = record {
-  size = length-append ts (t ∷ []) ∙ ap (λ n. n + 1) h.size ∙ sym (length-append front (a ∷ []));
-  each = λ i b u l. at i b u l (cases_lt i (length front));
-}
-  where
-    at : (i : ℕ) (b : Aggregate) (u : Tally) → i < length (front ++ a ∷ []) → (i < length front) ⊎ (length front ≤ i) → IsHeld rows (get_or (front ++ a ∷ []) i b) (get_or (ts ++ t ∷ []) i u)
-    at i b u l (inl m) =
-        let n : i < length ts = omega (arith, h.size, m) in
-        subst (λ (x : Aggregate). IsHeld rows x (get_or (ts ++ t ∷ []) i u)) (sym (get_or-append front (a ∷ []) b i m))
-        (subst (IsHeld rows (get_or front i b)) (sym (get_or-append ts (t ∷ []) u i n)) (h.each i b u m))
-    at i b u l (inr m) =
-        let e : i ≡ length front = omega (arith, l, length-append front (a ∷ []), m) in
-        let f : i ≡ length ts = e ∙ sym h.size in
-        subst (λ (x : Aggregate). IsHeld rows x (get_or (ts ++ t ∷ []) i u)) (sym (ap (λ j. get_or (front ++ a ∷ []) j b) e ∙ get_or-append_seam front a [] b))
-        (subst (IsHeld rows a) (sym (ap (λ j. get_or (ts ++ t ∷ []) j u) f ∙ get_or-append_seam ts t [] u)) one)
-
-pub held_push : (all : List Aggregate) (i : ℕ) (d : Aggregate) (ts next : List Tally) (t : Tally) → i < length all → next ≡ ts ++ t ∷ [] → AreHeld [] (take i all) ts → IsHeld [] (get_or all i d) t → AreHeld [] (take (i + 1) all) next
-held_push all i d ts next t l is h one =
-    subst (AreHeld [] (take (i + 1) all)) (sym is) (subst (λ (front : List Aggregate). AreHeld [] front (ts ++ t ∷ [])) (sym (take_more all i d l)) (held_more [] (take i all) ts (get_or all i d) t h one))
-
--- within a list it doesn't matter what stands past its end
-pub within_any : {X : Type 0} (xs : List X) (i : ℕ) (a b : X) → i < length xs → get_or xs i a ≡ get_or xs i b
-within_any [] i a b l = absurd (omega arith)
-within_any (x ∷ xs) zero a b l = refl
-within_any (x ∷ xs) (suc i) a b l = within_any xs i a b (omega arith)
 
 map-at : {X Y : Type 0} (f : X → Y) (xs : List X) (i : ℕ) (x : X) (y : Y) → i < length xs → get_or (map f xs) i y ≡ f (get_or xs i x)
 map-at f [] i x y l = absurd (omega arith)
@@ -130,12 +51,12 @@ length-mapped f [] = refl
 length-mapped f (x ∷ xs) = ap suc (length-mapped f xs)
 
 -- two lists that look alike by two functions
-alike_at : {X Y Z : Type 0} (f : X → Z) (g : Y → Z) (xs : List X) (ys : List Y) → map f xs ≡ map g ys → (i : ℕ) (x : X) (y : Y) → i < length ys → f (get_or xs i x) ≡ g (get_or ys i y)
+pub alike_at : {X Y Z : Type 0} (f : X → Z) (g : Y → Z) (xs : List X) (ys : List Y) → map f xs ≡ map g ys → (i : ℕ) (x : X) (y : Y) → i < length ys → f (get_or xs i x) ≡ g (get_or ys i y)
 alike_at f g xs ys e i x y l =
     let same : length xs ≡ length ys = sym (length-mapped f xs) ∙ ap length e ∙ length-mapped g ys in
     sym (map-at f xs i x (g y) (omega (arith, same, l))) ∙ ap (λ zs. get_or zs i (g y)) e ∙ map-at g ys i y (g y) l
 
-alike_length : {X Y Z : Type 0} (f : X → Z) (g : Y → Z) (xs : List X) (ys : List Y) → map f xs ≡ map g ys → length xs ≡ length ys
+pub alike_length : {X Y Z : Type 0} (f : X → Z) (g : Y → Z) (xs : List X) (ys : List Y) → map f xs ≡ map g ys → length xs ≡ length ys
 alike_length f g xs ys e = sym (length-mapped f xs) ∙ ap length e ∙ length-mapped g ys
 
 one_value : (place : ℕ) (one : Cells) (o : Option ℤ) → cell one place ≡ o → values_in place (one ∷ []) ≡ as_list o
@@ -148,28 +69,6 @@ values_more : (a : Aggregate) (rows : List Cells) (one : Cells) → aggregate_va
 values_more Rows rows one = sym (map-append (λ _. pos 0) rows (one ∷ []))
 values_more (Folded fold distinct place) rows one = ap (λ l. values_in place rows ++ l) (sym (one_value place one (cell one place) refl)) ∙ sym (values_in-append place rows (one ∷ []))
 
--- the tallies of a group with one row more
-held_after : (rows : List Cells) (one : Cells) (named : List Aggregate) (cells : List Decoded) (row : ℕ) (ts us : List Tally) → map (λ d. decoded_at d row) cells ≡ map (aggregate_cell one) named → AreHeld rows named ts → IsAdded (length cells) row cells ts us → AreHeld (rows ++ one ∷ []) named us
-held_after rows one named cells row ts us shown h added = record {
-  size = added.size ∙ h.size;
-  each = λ i a t l.
-      let many = alike_length (λ d. decoded_at d row) (aggregate_cell one) cells named shown in
-      let before = h.each i a t l in
-      let k : i < length cells = omega (arith, many, l) in
-      let m : i < length ts = omega (arith, h.size, l) in
-      record {
-        values =
-            subst (λ (vs : List ℤ). IsTally vs (get_or us i t))
-            (ap (λ o. aggregate_values (get_or named i a) rows ++ as_list o) (alike_at (λ d. decoded_at d row) (aggregate_cell one) cells named shown i (Fixed None) a l) ∙ values_more (get_or named i a) rows one)
-            (added.taken i (Fixed None) t (aggregate_values (get_or named i a) rows) k m before.values);
-        kind = added.kind i t k m ∙ before.kind;
-      };
-}
-
-rows_with-append : (by : List ℕ) (rows : List Cells) (one key : Cells) (b : Bool) → same_cells key (key_of by one) ≡ b → rows_with by (rows ++ one ∷ []) key ≡ rows_with by rows key ++ cond b (one ∷ []) []
-unfolding rows_with
-rows_with-append by rows one key b is = filter-append (λ row. same_cells key (key_of by row)) rows (one ∷ []) ∙ ap (λ c. rows_with by rows key ++ cond c (one ∷ []) []) is
-
 -- no row has a key that didn't occur
 pub rows_with-none : (by : List ℕ) (rows : List Cells) (key : Cells) → list_any (same_cells key) (map (key_of by) rows) ≡ false → rows_with by rows key ≡ []
 unfolding rows_with
@@ -178,98 +77,234 @@ rows_with-none by (row ∷ rows) key h =
     let parts = neither (same_cells key (key_of by row)) (list_any (same_cells key) (map (key_of by) rows)) h in
     ap (λ b. cond b (row ∷ rows_with by rows key) (rows_with by rows key)) parts.0 ∙ rows_with-none by rows key parts.1
 
-any-append : (key other : Cells) (ks : List Cells) → list_any (same_cells key) (ks ++ other ∷ []) ≡ (list_any (same_cells key) ks || same_cells key other)
-any-append key other [] = last (same_cells key other)
-  where
-    last : (b : Bool) → (b || false) ≡ b
-    last true = refl
-    last false = refl
-any-append key other (k ∷ ks) = ap (λ b. same_cells key k || b) (any-append key other ks) ∙ assoc (same_cells key k) (list_any (same_cells key) ks) (same_cells key other)
-  where
-    assoc : (a b c : Bool) → (a || (b || c)) ≡ ((a || b) || c)
-    assoc true b c = refl
-    assoc false b c = refl
+-- a cell of one row more in the tally at its place
+module _ (k : ℕ) (v : Vector) (mask : List Bool) (places : List ℕ) (g : ℕ) (a : Aggregate) (rows : List Cells) where
+  -- the next row isn't one of the mask
+  pub held_left : (t : Tally) → has mask k ≡ false → IsHeld (rows ++ rows_placed k v mask places g) a t → IsHeld (rows ++ rows_placed (k + 1) v mask places g) a t
+  held_left t off h =
+      subst (λ (l : List Cells). IsHeld (rows ++ l) a t) (sym (append-nil (rows_placed k v mask places g)) ∙ sym (placed_more_rows k v mask places g false (ap (λ b. b && (get_or places k 0 == g)) off))) h
 
-some_of : (o : Option (List Tally)) (ts us : List Tally) → cond true (Some us) o ≡ Some ts → us ≡ ts
-some_of o ts us e = cc
+  -- the next row's cell is taken into the tally at its place
+  pub held_cell : (t u : Tally) (place : ℕ) (cell : Option ℤ) → has mask k ≡ true → place ≡ get_or places k 0 → cell ≡ aggregate_cell (row_at v k) a → ((values : List ℤ) → IsTally values t → IsTally (values ++ cond (place == g) (as_list cell) []) u) → is_distinct u ≡ is_distinct t → IsHeld (rows ++ rows_placed k v mask places g) a t → IsHeld (rows ++ rows_placed (k + 1) v mask places g) a u
+  held_cell t u place cell on at is takes same h = one (place == g) refl
+    where
+      before : List Cells
+      before = rows ++ rows_placed k v mask places g
 
--- one row more: its group takes it in, and no other changes
-pub groups_more : (by : List ℕ) (named : List Aggregate) (rows : List Cells) (one : Cells) (old now : Cells → Option (List Tally)) (ts us : List Tally) (cells : List Decoded) (row : ℕ) → ((q : Cells) → now q ≡ cond (same_cells (key_of by one) q) (Some us) (old q)) → AreHeld (rows_with by rows (key_of by one)) named ts → IsAdded (length cells) row cells ts us → map (λ d. decoded_at d row) cells ≡ map (aggregate_cell one) named → AreGroups by named rows old → AreGroups by named (rows ++ one ∷ []) now
-groups_more by named rows one old now ts us cells row updates held added shown h = record {
-  held = λ q vs e. one_held q vs e (same_cells (key_of by one) q) refl;
-  occurs = λ q. one_occurs q (same_cells (key_of by one) q) refl;
+      chosen_is : (b : Bool) → (place == g) ≡ b → (has mask k && (get_or places k 0 == g)) ≡ b
+      chosen_is b e = ap (λ c. c && (get_or places k 0 == g)) on ∙ ap (λ n. n == g) (sym at) ∙ e
+
+      one : (b : Bool) → (place == g) ≡ b → IsHeld (rows ++ rows_placed (k + 1) v mask places g) a u
+      one true e =
+          let now : rows ++ rows_placed (k + 1) v mask places g ≡ before ++ row_at v k ∷ [] = ap (λ l. rows ++ l) (placed_more_rows k v mask places g true (chosen_is true e)) ∙ sym (append_assoc rows (rows_placed k v mask places g) (row_at v k ∷ [])) in
+          record {
+            values =
+                subst (λ (l : List Cells). IsTally (aggregate_values a l) u) (sym now)
+                (subst (λ (vs : List ℤ). IsTally vs u) (ap (λ b. aggregate_values a before ++ cond b (as_list cell) []) e ∙ ap (λ o. aggregate_values a before ++ as_list o) is ∙ values_more a before (row_at v k)) (takes (aggregate_values a before) h.values));
+            kind = same ∙ h.kind;
+          }
+      one false e =
+          let now : rows ++ rows_placed (k + 1) v mask places g ≡ before = ap (λ l. rows ++ l) (placed_more_rows k v mask places g false (chosen_is false e) ∙ append-nil (rows_placed k v mask places g)) in
+          record {
+            values =
+                subst (λ (l : List Cells). IsTally (aggregate_values a l) u) (sym now)
+                (subst (λ (vs : List ℤ). IsTally vs u) (ap (λ b. aggregate_values a before ++ cond b (as_list cell) []) e ∙ append-nil (aggregate_values a before)) (takes (aggregate_values a before) h.values));
+            kind = same ∙ h.kind;
+          }
+
+-- within a list it doesn't matter what stands past its end
+pub within_any : {X : Type 0} (xs : List X) (i : ℕ) (a b : X) → i < length xs → get_or xs i a ≡ get_or xs i b
+within_any [] i a b l = absurd (omega arith)
+within_any (x ∷ xs) zero a b l = refl
+within_any (x ∷ xs) (suc i) a b l = within_any xs i a b (omega arith)
+
+-- the tally at a place takes in a value
+module _ (place : ℕ) (old new : List Tally) (u d : Tally) (within : place < length old) (is : new ≡ set old place u) where
+  pub cell_values : (added : List ℤ) → ((values : List ℤ) → IsTally values (get_or old place d) → IsTally (values ++ added) u) → (g : ℕ) (t : Tally) (values : List ℤ) → g < length old → IsTally values (get_or old g t) → IsTally (values ++ cond (place == g) added []) (get_or new g t)
+  cell_values added takes g t values l h = one (place == g) refl
+    where
+      one : (b : Bool) → (place == g) ≡ b → IsTally (values ++ cond b added []) (get_or new g t)
+      one true e =
+          let same : place ≡ g = (Decides-eqb place g).0 e in
+          let before : IsTally values (get_or old place d) = subst (IsTally values) (ap (λ j. get_or old j t) (sym same) ∙ within_any old place t d within) h in
+          subst (IsTally (values ++ added)) (sym (ap (λ ts. get_or ts g t) is ∙ ap (λ j. get_or (set old place u) j t) (sym same) ∙ get_or-set_same old place u t within)) (takes values before)
+      one false e =
+          let ne : g ≢ place = λ q. false≢true (sym e ∙ (Decides-eqb place g).1 (sym q)) in
+          subst (λ (vs : List ℤ). IsTally vs (get_or new g t)) (sym (append-nil values)) (subst (IsTally values) (sym (ap (λ ts. get_or ts g t) is ∙ get_or-set_other old place g u t ne)) h)
+
+  pub cell_kind : is_distinct u ≡ is_distinct (get_or old place d) → (g : ℕ) (t : Tally) → g < length old → is_distinct (get_or new g t) ≡ is_distinct (get_or old g t)
+  cell_kind same g t l = one (place == g) refl
+    where
+      one : (b : Bool) → (place == g) ≡ b → is_distinct (get_or new g t) ≡ is_distinct (get_or old g t)
+      one true e =
+          let at : place ≡ g = (Decides-eqb place g).0 e in
+          ap is_distinct (ap (λ ts. get_or ts g t) is ∙ ap (λ j. get_or (set old place u) j t) (sym at) ∙ get_or-set_same old place u t within) ∙ same ∙ ap is_distinct (within_any old place d t within ∙ ap (λ j. get_or old j t) at)
+      one false e =
+          let ne : g ≢ place = λ q. false≢true (sym e ∙ (Decides-eqb place g).1 (sym q)) in
+          ap is_distinct (ap (λ ts. get_or ts g t) is ∙ get_or-set_other old place g u t ne)
+
+-- one tally more
+pub known_push : (old ts next : List Tally) (u : Tally) → next ≡ ts ++ u ∷ [] → length old ≤ length ts → ((g : ℕ) (t : Tally) → g < length old → get_or ts g t ≡ get_or old g t) → (g : ℕ) (t : Tally) → g < length old → get_or next g t ≡ get_or old g t
+known_push old ts next u is le h g t l = let m : g < length ts = omega (arith, l, le) in ap (λ xs. get_or xs g t) is ∙ get_or-append ts (u ∷ []) t g m ∙ h g t l
+
+pub fresh_push : (n : ℕ) (a : Aggregate) (ts next : List Tally) (u : Tally) → next ≡ ts ++ u ∷ [] → IsHeld [] a u → ((g : ℕ) (t : Tally) → n ≤ g → g < length ts → IsHeld [] a (get_or ts g t)) → (g : ℕ) (t : Tally) → n ≤ g → g < length next → IsHeld [] a (get_or next g t)
+fresh_push n a ts next u is one h g t le l = by_place (cases_lt g (length ts))
+  where
+    by_place : (g < length ts) ⊎ (length ts ≤ g) → IsHeld [] a (get_or next g t)
+    by_place (inl m) = subst (IsHeld [] a) (sym (ap (λ xs. get_or xs g t) is ∙ get_or-append ts (u ∷ []) t g m)) (h g t le m)
+    by_place (inr m) =
+        let e : g ≡ length ts = omega (arith, l, ap length is, length-append ts (u ∷ []), m) in
+        subst (IsHeld [] a) (sym (ap (λ xs. get_or xs g t) is ∙ ap (λ j. get_or (ts ++ u ∷ []) j t) e ∙ get_or-append_seam ts u [] t)) one
+
+-- the tallies of an aggregate, grown and with the rows of a mask
+pub taken : (a : Aggregate) (v : Vector) (mask : List Bool) (places : List ℕ) (count : ℕ) (old mid new : List Tally) → (length old ≤ count → length mid ≡ count) → ((g : ℕ) (t : Tally) → g < length old → get_or mid g t ≡ get_or old g t) → ((g : ℕ) (t : Tally) → length old ≤ g → g < length mid → IsHeld [] a (get_or mid g t)) → length new ≡ length mid → ((g : ℕ) (t : Tally) (rows : List Cells) → g < length mid → IsHeld rows a (get_or mid g t) → IsHeld (rows ++ rows_placed 1024 v mask places g) a (get_or new g t)) → IsTaken a v mask places count old new
+taken a v mask places count old mid new size known fresh same held = record {
+  size = λ le. same ∙ size le;
+  known = λ g t rows le l h. let m : g < length mid = omega (arith, size le, l, le) in held g t rows m (subst (IsHeld rows a) (sym (known g t l)) h);
+  fresh = λ g t le l. let m : g < length mid = omega (arith, size (omega (arith, le, l)), l) in held g t [] m (fresh g t le m);
+}
+
+rows_with-append : (by : List ℕ) (rows more : List Cells) (key : Cells) → rows_with by (rows ++ more) key ≡ rows_with by rows key ++ rows_with by more key
+unfolding rows_with
+rows_with-append by rows more key = filter-append (λ row. same_cells key (key_of by row)) rows more
+
+rows_with-one : (by : List ℕ) (row key : Cells) (b : Bool) → same_cells key (key_of by row) ≡ b → rows_with by (row ∷ []) key ≡ cond b (row ∷ []) []
+unfolding rows_with
+rows_with-one by row key b e = ap (λ c. cond c (row ∷ []) []) e
+
+-- the rows with a place are those with its key
+module _ (by : List ℕ) (v : Vector) (mask : List Bool) (places : List ℕ) (g : ℕ) (key : Cells) (agree : (n : ℕ) → n < 1024 → has mask n ≡ true → (get_or places n 0 == g) ≡ same_cells key (key_of by (row_at v n))) where
+  placed_none_with : rows_placed 0 v mask places g ≡ rows_with by (rows_below 0 v mask) key
+  unfolding rows_with
+  placed_none_with = refl
+
+  placed_next : (k : ℕ) → k < 1024 → (b : Bool) → has mask k ≡ b → rows_placed k v mask places g ≡ rows_with by (rows_below k v mask) key → rows_placed (k + 1) v mask places g ≡ rows_with by (rows_below (k + 1) v mask) key
+  placed_next k l false e h =
+      placed_more_rows k v mask places g false (ap (λ c. c && (get_or places k 0 == g)) e) ∙ append-nil (rows_placed k v mask places g) ∙ h
+      ∙ ap (λ rows. rows_with by rows key) (sym (append-nil (rows_below k v mask)) ∙ sym (below_more k v mask false e))
+  placed_next k l true e h =
+      let same = agree k l e in
+      placed_more_rows k v mask places g (same_cells key (key_of by (row_at v k))) (ap (λ c. c && (get_or places k 0 == g)) e ∙ same)
+      ∙ ap (λ rows. rows ++ cond (same_cells key (key_of by (row_at v k))) (row_at v k ∷ []) []) h
+      ∙ ap (λ rows. rows_with by (rows_below k v mask) key ++ rows) (sym (rows_with-one by (row_at v k) key (same_cells key (key_of by (row_at v k))) refl))
+      ∙ sym (rows_with-append by (rows_below k v mask) (row_at v k ∷ []) key)
+      ∙ ap (λ rows. rows_with by rows key) (sym (below_more k v mask true e))
+
+  pub placed_with : (k : ℕ) → k ≤ 1024 → rows_placed k v mask places g ≡ rows_with by (rows_below k v mask) key
+  placed_with zero l = placed_none_with
+  placed_with (suc k) l =
+      let e : k + 1 ≡ suc k = omega arith in
+      subst (λ (n : ℕ). rows_placed n v mask places g ≡ rows_with by (rows_below n v mask) key) e (placed_next k (omega arith) (has mask k) refl (placed_with k (omega arith)))
+
+-- the groups with a vector's rows more
+pub groups_more : (by : List ℕ) (named : List Aggregate) (v : Vector) (mask : List Bool) (rows : List Cells) (before after : Places) (places : List ℕ) (old new : List (Vec Tally)) → IsIndex after → ArePlaced 1024 by v mask before.index after.index places → length new ≡ length old → ((i : ℕ) (a : Aggregate) (c : Vec Tally) → i < length named → i < length old → IsTaken (get_or named i a) v mask places (length after.index.entries) (get_or old i c).items (get_or new i c).items) → AreGroups by named rows before.index old → AreGroups by named (rows ++ rows_at v mask) after.index new
+groups_more by named v mask rows before after places old new index placed size taken h = record {
+  size = size ∙ h.size;
+  columns = λ i c l. let m : i < length old = omega (arith, h.size, l) in (taken i Rows c l m).size (omega (arith, h.columns i c l, placed.grown.longer));
+  held = λ key g is. one_held key g is (get key_cmp before.index key) refl;
+  occurs = λ key. placed.occurs key ∙ ap (λ b. b || list_any (same_cells key) (map (key_of by) (rows_below 1024 v mask))) (h.occurs key)
+      ∙ sym (any-both key (map (key_of by) rows) (map (key_of by) (rows_below 1024 v mask))) ∙ ap (list_any (same_cells key)) (sym (map-append (key_of by) rows (rows_below 1024 v mask)))
+      ∙ ap (λ l. list_any (same_cells key) (map (key_of by) (rows ++ l))) (below_all 1024 v mask refl);
 }
   where
-    key : Cells
-    key = key_of by one
-
-    other : (q : Cells) → same_cells key q ≡ false → same_cells q key ≡ false
-    other q e = by_test (same_cells q key) refl
+    any-both : (key : Cells) (ks ls : List Cells) → list_any (same_cells key) (ks ++ ls) ≡ (list_any (same_cells key) ks || list_any (same_cells key) ls)
+    any-both key [] ls = refl
+    any-both key (k ∷ ks) ls = ap (λ b. same_cells key k || b) (any-both key ks ls) ∙ assoc (same_cells key k) (list_any (same_cells key) ks) (list_any (same_cells key) ls)
       where
-        by_test : (b : Bool) → same_cells q key ≡ b → b ≡ false
-        by_test false t = refl
-        by_test true t = absurd (false≢true (sym e ∙ ap (same_cells key) (one_row q key t) ∙ itself_row key))
+        assoc : (a b c : Bool) → (a || (b || c)) ≡ ((a || b) || c)
+        assoc true b c = refl
+        assoc false b c = refl
 
-    one_held : (q : Cells) (vs : List Tally) → now q ≡ Some vs → (b : Bool) → same_cells key q ≡ b → AreHeld (rows_with by (rows ++ one ∷ []) q) named vs
-    one_held q vs e true is =
-        let here : key ≡ q = one_row key q is in
-        let new : us ≡ vs = some_of (old q) vs us (ap (λ b. cond b (Some us) (old q)) (sym is) ∙ sym (updates q) ∙ e) in
-        let rows_now = rows_with-append by rows one key true (itself_row key) in
-        subst (λ (k : Cells). AreHeld (rows_with by (rows ++ one ∷ []) k) named vs) here
-        (subst (λ (xs : List Cells). AreHeld xs named vs) (sym rows_now) (subst (AreHeld (rows_with by rows key ++ one ∷ []) named) new (held_after (rows_with by rows key) one named cells row ts us shown held added)))
-    one_held q vs e false is =
-        let before : old q ≡ Some vs = ap (λ b. cond b (Some us) (old q)) (sym is) ∙ sym (updates q) ∙ e in
-        let rows_now = rows_with-append by rows one q false (other q is) ∙ append-nil (rows_with by rows q) in
-        subst (λ (xs : List Cells). AreHeld xs named vs) (sym rows_now) (h.held q vs before)
-
-    one_occurs : (q : Cells) (b : Bool) → same_cells key q ≡ b → is_some (now q) ≡ list_any (same_cells q) (map (key_of by) (rows ++ one ∷ []))
-    one_occurs q true is =
-        let here : key ≡ q = one_row key q is in
-        ap is_some (updates q ∙ ap (λ b. cond b (Some us) (old q)) is)
-        ∙ sym (ap (λ ks. list_any (same_cells q) ks) (map-append (key_of by) rows (one ∷ [])) ∙ any-append q key (map (key_of by) rows) ∙ or_last (list_any (same_cells q) (map (key_of by) rows)) (same_cells q key) (ap (same_cells q) here ∙ itself_row q))
+    agrees : (key : Cells) (g : ℕ) → get key_cmp after.index key ≡ Some g → (n : ℕ) → n < 1024 → has mask n ≡ true → (get_or places n 0 == g) ≡ same_cells key (key_of by (row_at v n))
+    agrees key g is n l on = by_test (same_cells key (key_of by (row_at v n))) refl
       where
-        or_last : (a b : Bool) → b ≡ true → (a || b) ≡ true
-        or_last true b e = refl
-        or_last false b e = e
-    one_occurs q false is =
-        ap is_some (updates q ∙ ap (λ b. cond b (Some us) (old q)) is) ∙ h.occurs q
-        ∙ sym (ap (λ ks. list_any (same_cells q) ks) (map-append (key_of by) rows (one ∷ [])) ∙ any-append q key (map (key_of by) rows) ∙ or_none (list_any (same_cells q) (map (key_of by) rows)) (same_cells q key) (other q is))
-      where
-        or_none : (a b : Bool) → b ≡ false → (a || b) ≡ a
-        or_none true b e = refl
-        or_none false b e = e
+        by_test : (b : Bool) → same_cells key (key_of by (row_at v n)) ≡ b → (get_or places n 0 == g) ≡ b
+        by_test true e = (Decides-eqb (get_or places n 0) g).1 (some_same (sym (placed.placed n l on) ∙ ap (get key_cmp after.index) (sym (one_row key (key_of by (row_at v n)) e)) ∙ is))
+        by_test false e = by_place (get_or places n 0 == g) refl
+          where
+            by_place : (b : Bool) → (get_or places n 0 == g) ≡ b → b ≡ false
+            by_place false f = refl
+            by_place true f =
+                let same : key ≡ key_of by (row_at v n) = index.apart key (key_of by (row_at v n)) g is (placed.placed n l on ∙ ap Some ((Decides-eqb (get_or places n 0) g).0 f)) in
+                absurd (false≢true (sym e ∙ ap (same_cells key) (sym same) ∙ itself_row key))
 
-pub groups_start : (by : List ℕ) (named : List Aggregate) (tallies : Cells → Option (List Tally)) → ((q : Cells) → tallies q ≡ None) → AreGroups by named [] tallies
-groups_start by named tallies none = record { held = λ q ts e. absurd (never (sym (none q) ∙ e)); occurs = λ q. ap is_some (none q) }
+    more : (key : Cells) (g : ℕ) → get key_cmp after.index key ≡ Some g → rows_placed 1024 v mask places g ≡ rows_with by (rows_at v mask) key
+    more key g is = placed_with by v mask places g key (agrees key g is) 1024 (omega arith) ∙ ap (λ l. rows_with by l key) (below_all 1024 v mask refl)
+
+    one_held : (key : Cells) (g : ℕ) → get key_cmp after.index key ≡ Some g → (o : Option ℕ) → get key_cmp before.index key ≡ o → AreHeld (rows_with by (rows ++ rows_at v mask) key) named new g
+    one_held key g is (Some p) was =
+        let same : p ≡ g = some_same (sym (placed.grown.kept key p was) ∙ is) in
+        let here = h.held key g (was ∙ ap Some same) in
+        record {
+          size = size ∙ h.size;
+          within = λ i c l. let m : i < length old = omega (arith, h.size, l) in omega (arith, index.below key g is, (taken i Rows c l m).size (omega (arith, h.columns i c l, placed.grown.longer)));
+          each = λ i a c t l.
+              let m : i < length old = omega (arith, h.size, l) in
+              subst (λ (xs : List Cells). IsHeld xs (get_or named i a) (get_or (get_or new i c).items g t)) (ap (λ xs. rows_with by rows key ++ xs) (more key g is) ∙ sym (rows_with-append by rows (rows_at v mask) key))
+              ((taken i a c l m).known g t (rows_with by rows key) (omega (arith, h.columns i c l, placed.grown.longer)) (here.within i c l) (here.each i a c t l));
+        }
+    one_held key g is None was =
+        record {
+          size = size ∙ h.size;
+          within = λ i c l. let m : i < length old = omega (arith, h.size, l) in omega (arith, index.below key g is, (taken i Rows c l m).size (omega (arith, h.columns i c l, placed.grown.longer)));
+          each = λ i a c t l.
+              let m : i < length old = omega (arith, h.size, l) in
+              let nowhere = rows_with-none by rows key (sym (h.occurs key) ∙ ap is_some was) in
+              subst (λ (xs : List Cells). IsHeld xs (get_or named i a) (get_or (get_or new i c).items g t)) (more key g is ∙ ap (λ xs. xs ++ rows_with by (rows_at v mask) key) (sym nowhere) ∙ sym (rows_with-append by rows (rows_at v mask) key))
+              ((taken i a c l m).fresh g t (omega (arith, h.columns i c l, placed.grown.fresh key g was is)) (index.below key g is));
+        }
+
+-- no groups
+pub groups_none : (by : List ℕ) (named : List Aggregate) (m : BTreeMap Cells ℕ) (tallies : List (Vec Tally)) → m.entries ≡ [] → AreEmpty (length named) tallies → AreGroups by named [] m tallies
+groups_none by named m tallies e h = record {
+  size = h.size;
+  columns = λ i c l. ap length (h.empty i c l) ∙ ap length (sym e);
+  held = λ key g is. absurd (never (sym (nowhere key) ∙ is));
+  occurs = λ key. ap is_some (nowhere key);
+}
   where
-    never : {ts : List Tally} → None ≡ Some ts → ⊥
-    never e = cc
+    never : {g : ℕ} → None ≡ Some g → ⊥
+    never z = cc
 
--- what a map of tallies has at each key after one is written
-pub map_updates : (key q : Cells) (old now : Option (Vec Tally)) (w : Vec Tally) → now ≡ cond (is_at (key_cmp key) q) (Some w) old → option_map (λ v. v.items) now ≡ cond (same_cells key q) (Some w.items) (option_map (λ v. v.items) old)
-map_updates key q old now w e = ap (option_map (λ v. v.items)) e ∙ one (is_at (key_cmp key) q) ∙ ap (λ b. cond b (Some w.items) (option_map (λ v. v.items) old)) (sym (tied_keys key q))
+    nowhere : (key : Cells) → get key_cmp m key ≡ None
+    nowhere key = ap (λ es. lookup (is_at (key_cmp key)) es) e
+
+-- one column more
+pub empty_push : (n : ℕ) (ts next : List (Vec Tally)) (u : Vec Tally) → next ≡ ts ++ u ∷ [] → u.items ≡ [] → AreEmpty n ts → AreEmpty (n + 1) next
+empty_push n ts next u is e h = record {
+  size = ap length is ∙ length-append ts (u ∷ []) ∙ ap (λ k. k + 1) h.size;
+  empty = λ i c l. one i c l (cases_lt i (length ts));
+}
   where
-    one : (b : Bool) → option_map (λ v. v.items) (cond b (Some w) old) ≡ cond b (Some w.items) (option_map (λ v. v.items) old)
-    one true = refl
-    one false = refl
+    one : (i : ℕ) (c : Vec Tally) → i < n + 1 → (i < length ts) ⊎ (length ts ≤ i) → (get_or next i c).items ≡ []
+    one i c l (inl m) = ap (λ xs. (get_or xs i c).items) is ∙ ap (λ x. x.items) (get_or-append ts (u ∷ []) c i m) ∙ h.empty i c (omega (arith, m, h.size))
+    one i c l (inr m) =
+        let at : i ≡ length ts = omega (arith, l, h.size, m) in
+        ap (λ xs. (get_or xs i c).items) is ∙ ap (λ j. (get_or (ts ++ u ∷ []) j c).items) at ∙ ap (λ x. x.items) (get_or-append_seam ts u [] c) ∙ e
 
--- a row whose key is known is taken into its group
-pub row_found : (by : List ℕ) (named : List Aggregate) (rows : List Cells) (one key : Cells) (old new : BTreeMap Cells (Vec Tally)) (t w : Vec Tally) (cells : List Decoded) (row : ℕ) → key ≡ key_of by one → get key_cmp old key ≡ Some t → ((q : Cells) → get key_cmp new q ≡ cond (is_at (key_cmp key) q) (Some w) (get key_cmp old q)) → IsAdded (length cells) row cells t.items w.items → map (λ d. decoded_at d row) cells ≡ map (aggregate_cell one) named → AreGroups by named rows (tallies_in old) → AreGroups by named (rows ++ one ∷ []) (tallies_in new)
-row_found by named rows one key old new t w cells row k found updates added shown h =
-    let here : get key_cmp old (key_of by one) ≡ Some t = ap (get key_cmp old) (sym k) ∙ found in
-    groups_more by named rows one (tallies_in old) (tallies_in new) t.items w.items cells row
-    (λ q. map_updates key q (get key_cmp old q) (get key_cmp new q) w (updates q) ∙ ap (λ (x : Cells). cond (same_cells x q) (Some w.items) (tallies_in old q)) k)
-    (h.held (key_of by one) t.items (ap (option_map (λ v. v.items)) here)) added shown h
+-- one aggregate more has taken in the rows
+module _ (named : List Aggregate) (cells : List Decoded) (mask : List Bool) (places : List ℕ) (count i : ℕ) (old now : List (Vec Tally)) (m u : Vec Tally) (d0 : Decoded) (size : length now ≡ length old) (ln : i < length named) (lc : i < length cells) (lo : i < length old) (ahead : (j : ℕ) (c : Vec Tally) → i ≤ j → get_or now j c ≡ get_or old j c) where
+  pub columns_size : length (set now i u) ≡ length old
+  columns_size = length-set now i u ∙ size
 
--- a row whose key is new makes a group
-pub row_first : (by : List ℕ) (named : List Aggregate) (rows : List Cells) (one key : Cells) (old new : BTreeMap Cells (Vec Tally)) (ts : List Tally) (w : Vec Tally) (cells : List Decoded) (row : ℕ) → key ≡ key_of by one → get key_cmp old key ≡ None → ((q : Cells) → get key_cmp new q ≡ cond (is_at (key_cmp key) q) (Some w) (get key_cmp old q)) → AreHeld [] named ts → IsAdded (length cells) row cells ts w.items → map (λ d. decoded_at d row) cells ≡ map (aggregate_cell one) named → AreGroups by named rows (tallies_in old) → AreGroups by named (rows ++ one ∷ []) (tallies_in new)
-row_first by named rows one key old new ts w cells row k none updates start added shown h =
-    let here : get key_cmp old (key_of by one) ≡ None = ap (get key_cmp old) (sym k) ∙ none in
-    let nowhere = rows_with-none by rows (key_of by one) (sym (h.occurs (key_of by one)) ∙ ap (λ (o : Option (Vec Tally)). is_some (option_map (λ v. v.items) o)) here) in
-    groups_more by named rows one (tallies_in old) (tallies_in new) ts w.items cells row
-    (λ q. map_updates key q (get key_cmp old q) (get key_cmp new q) w (updates q) ∙ ap (λ (x : Cells). cond (same_cells x q) (Some w.items) (tallies_in old q)) k)
-    (subst (λ (l : List Cells). AreHeld l named ts) (sym nowhere) start) added shown h
+  pub columns_ahead : (j : ℕ) (c : Vec Tally) → i + 1 ≤ j → get_or (set now i u) j c ≡ get_or old j c
+  columns_ahead j c l = let ne : j ≢ i = omega arith in get_or-set_other now i j u c ne ∙ ahead j c (omega (arith, l))
 
--- cells that are shown for each aggregate are as many
-pub as_many : (one : Cells) (named : List Aggregate) (cells : List Decoded) (row : ℕ) → map (λ d. decoded_at d row) cells ≡ map (aggregate_cell one) named → length cells ≡ length named
-as_many one named cells row shown = alike_length (λ d. decoded_at d row) (aggregate_cell one) cells named shown
+  pub columns_taken : m ≡ get_or now i m → d0 ≡ get_or cells i d0 → ((j : ℕ) (a : Aggregate) (d : Decoded) (c : Vec Tally) (v : Vector) → j < i → ((n : ℕ) → n < 1024 → decoded_at (get_or cells j d) n ≡ aggregate_cell (row_at v n) (get_or named j a)) → IsTaken (get_or named j a) v mask places count (get_or old j c).items (get_or now j c).items)
+      → ((v : Vector) → ((n : ℕ) → n < 1024 → decoded_at d0 n ≡ aggregate_cell (row_at v n) (get_or named i Rows)) → IsTaken (get_or named i Rows) v mask places count m.items u.items)
+      → (j : ℕ) (a : Aggregate) (d : Decoded) (c : Vec Tally) (v : Vector) → j < i + 1 → ((n : ℕ) → n < 1024 → decoded_at (get_or cells j d) n ≡ aggregate_cell (row_at v n) (get_or named j a)) → IsTaken (get_or named j a) v mask places count (get_or old j c).items (get_or (set now i u) j c).items
+  columns_taken mine cell taken one j a d c v l shown = by_place (cases_lt j i)
+    where
+      by_place : (j < i) ⊎ (i ≤ j) → IsTaken (get_or named j a) v mask places count (get_or old j c).items (get_or (set now i u) j c).items
+      by_place (inl b) =
+          let ne : j ≢ i = omega arith in
+          subst (λ (x : Vec Tally). IsTaken (get_or named j a) v mask places count (get_or old j c).items x.items) (sym (get_or-set_other now i j u c ne)) (taken j a d c v b shown)
+      by_place (inr b) =
+          let e : i ≡ j = omega arith in
+          let inside : i < length now = omega (arith, lo, size) in
+          let here = subst (λ (k : ℕ). (n : ℕ) → n < 1024 → decoded_at (get_or cells k d) n ≡ aggregate_cell (row_at v n) (get_or named k a)) (sym e) shown in
+          let its = one v (λ n q. ap (λ x. decoded_at x n) (cell ∙ within_any cells i d0 d lc) ∙ here n q ∙ ap (aggregate_cell (row_at v n)) (within_any named i a Rows ln)) in
+          subst (λ (k : ℕ). IsTaken (get_or named k a) v mask places count (get_or old k c).items (get_or (set now i u) k c).items) e
+          (subst (λ (x : Vec Tally). IsTaken (get_or named i a) v mask places count (get_or old i c).items x.items) (sym (get_or-set_same now i u c inside))
+          (subst (λ (x : Vec Tally). IsTaken (get_or named i a) v mask places count x.items u.items) (mine ∙ within_any now i m c inside ∙ ahead i c (omega arith))
+          (subst (λ (x : Aggregate). IsTaken x v mask places count m.items u.items) (within_any named i Rows a ln) its)))

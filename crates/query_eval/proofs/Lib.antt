@@ -18,6 +18,7 @@ pub mod DistinctLemmas
 pub mod TableLemmas
 pub mod ShownLemmas
 pub mod RowsBelow
+pub mod PlaceLemmas
 pub mod GroupingLemmas
 pub mod VectorLemmas
 pub mod MentionLemmas

@@ -8,7 +8,7 @@ use Rattle.std.specs.List.{AllByRecursion, list_any, slice_get}
 use Rattle.std.specs.List.Sorted.{IsStrictlySortedBy}
 use Rattle.std.proofs.lemmas.List.Elements.{All-nil, All-cons}
 use Rattle.std.proofs.lemmas.List.Kept.{AllPairs-cons}
-use Rattle.std.specs.Option.{is_some, option_map}
+use Rattle.std.specs.Option.{is_some}
 use Rattle.std.specs.Ordering.{eq_by_cmp}
 use Rattle.std.specs.declared.cmp.Ordering.TheVariants.{Less}
 use Rattle.std.proofs.lemmas.Int.{ints}
@@ -26,7 +26,7 @@ use Rattle.table_model.proofs.KeyLists.{keys_are}
 use Rattle.table_model.proofs.Keys.{tied_keys}
 use Rattle.query_eval.specs.Aggregate.{aggregate_value}
 use Rattle.query_eval.specs.Finished.{GroupFields, finished_groups, finished_of}
-use Rattle.query_eval.specs.Grouping.{AreGroups, AreHeld, IsHeld, aggregate_values, is_once, tallies_in}
+use Rattle.query_eval.specs.Grouping.{AreGroups, IsHeld, aggregate_values, is_once}
 use Rattle.query_eval.specs.Kept.{AreFew}
 use Rattle.query_eval.specs.Tally.{IsTally, is_distinct}
 use Rattle.query_eval.specs.declared.aggregate.Aggregate.{Aggregate}
@@ -94,12 +94,12 @@ fields_more named i d rows fields next field l before is e =
     ∙ sym (ap (map (λ a. aggregate_value a rows)) (take_more named i d l) ∙ map-append (λ a. aggregate_value a rows) (take i named) (get_or named i d ∷ []))
 
 -- what is known of all groups is known of those that are left when one is taken out
-pub held_left : (old now : Option (Vec Tally)) (b : Bool) → now ≡ cond b None old → (ts : List Tally) → option_map (λ v. v.items) now ≡ Some ts → option_map (λ v. v.items) old ≡ Some ts
-held_left old now true e ts h = absurd (never (sym (ap (option_map (λ v. v.items)) e) ∙ h))
+pub place_left : (old now : Option ℕ) (b : Bool) → now ≡ cond b None old → (place : ℕ) → now ≡ Some place → old ≡ Some place
+place_left old now true e place h = absurd (never (sym e ∙ h))
   where
-    never : None ≡ Some ts → ⊥
+    never : None ≡ Some place → ⊥
     never z = cc
-held_left old now false e ts h = sym (ap (option_map (λ v. v.items)) e) ∙ h
+place_left old now false e place h = sym e ∙ h
 
 -- one group more is finished
 pub finished_more : (fin : Cells → GroupFields) (key : Cells) (x : GroupFields) (finished next : List GroupFields) (old now all : List Cells) → next ≡ finished ++ x ∷ [] → x ≡ fin key → old ≡ key ∷ now → finished ++ map fin old ≡ map fin all → next ++ map fin now ≡ map fin all
@@ -115,12 +115,12 @@ unfolding IsStrictlySortedBy
 sorted_pairs [] h = λ i j d p q. absurd (omega arith)
 sorted_pairs (k ∷ ks) h = AllPairs-cons (λ a b. key_cmp a b ≡ Less) k ks (all_of (λ b. key_cmp k b ≡ Less) ks h.0) (sorted_pairs ks h.1)
 
-module _ (m : BTreeMap Cells (Vec Tally)) where
-  some_or : (b : Bool) (t : Vec Tally) (o : Option (Vec Tally)) (rest : Bool) → is_some (option_map (λ v. v.items) o) ≡ rest → is_some (option_map (λ v. v.items) (cond b (Some t) o)) ≡ (b || rest)
+module _ (m : BTreeMap Cells ℕ) where
+  some_or : (b : Bool) (t : ℕ) (o : Option ℕ) (rest : Bool) → is_some o ≡ rest → is_some (cond b (Some t) o) ≡ (b || rest)
   some_or true t o rest e = refl
   some_or false t o rest e = e
 
-  found_any : (q : Cells) (es : List (Cells × Vec Tally)) → is_some (option_map (λ v. v.items) (lookup (is_at (key_cmp q)) es)) ≡ list_any (eq_by_cmp key_cmp q) (keys_of es)
+  found_any : (q : Cells) (es : List (Cells × ℕ)) → is_some (lookup (is_at (key_cmp q)) es) ≡ list_any (eq_by_cmp key_cmp q) (keys_of es)
   found_any q [] = refl
   found_any q (e ∷ es) = some_or (is_at (key_cmp q) e.0) e.1 (lookup (is_at (key_cmp q)) es) _ (found_any q es)
 
@@ -129,10 +129,10 @@ module _ (m : BTreeMap Cells (Vec Tally)) where
   any_tied q (k ∷ ks) = λ i. tied_keys q k i || any_tied q ks i
 
   -- the finished groups in the order of the map's keys are those of the rows
-  pub groups_in_order : (named : List Aggregate) (by : List ℕ) (rows : List Cells) → 1 ≤ length by → IsOrdered key_cmp m → AreGroups by named rows (tallies_in m) → map (λ key. finished_of named (group_at by rows key)) (keys m) ≡ finished_groups named by rows
+  pub groups_in_order : (named : List Aggregate) (by : List ℕ) (rows : List Cells) (tallies : List (Vec Tally)) → 1 ≤ length by → IsOrdered key_cmp m → AreGroups by named rows m tallies → map (λ key. finished_of named (group_at by rows key)) (keys m) ≡ finished_groups named by rows
   unfolding finished_groups groups_of
-  groups_in_order named [] rows some up h = absurd (omega arith)
-  groups_in_order named (column ∷ by) rows some up h =
+  groups_in_order named [] rows tallies some up h = absurd (omega arith)
+  groups_in_order named (column ∷ by) rows tallies some up h =
       let all = column ∷ by in
       let same = keys_are all rows (keys m) (sorted_pairs (keys m) up) (λ q. sym (found_any q m.entries) ∙ h.occurs q ∙ any_tied q (map (key_of all) rows)) in
       ap (map (λ key. finished_of named (group_at all rows key))) (sym same) ∙ map_twice (finished_of named) (group_at all rows) (finite.keys (keys_in all rows))
@@ -145,3 +145,7 @@ pub no_slice : {X : Type 0} (xs : List X) (i : ℕ) → i < length xs → None �
 no_slice [] i l e = omega arith
 no_slice (x ∷ xs) zero l e = cc
 no_slice (x ∷ xs) (suc i) l e = no_slice xs i (omega arith) e
+
+pub some_column : (columns : List (Vec Tally)) → 0 < length columns → Vec Tally
+some_column [] l = absurd (omega (arith, l))
+some_column (x ∷ xs) l = x

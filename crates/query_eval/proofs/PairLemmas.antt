@@ -52,6 +52,40 @@ pair_and a b c e f mask s t p q = record {
   no = f ∙ is_no mask (λ n. and_of (s n) (t n)) _ (λ n h. within_or (has mask n) (is_false (s n)) (is_false (t n)) _ _ _ (no_at mask s a p n h) (no_at mask t b q n h) (is_false-and_of (s n) (t n)));
 }
 
+-- AND where the second condition is asked for only at the rows of the first that aren't false
+rest_yes : (m : Bool) (s t : Truth) (y u r w : Bool) → y ≡ (m && is_true s) → u ≡ (m && is_false s) → r ≡ (m && not u) → w ≡ (r && is_true t) → (y && w) ≡ (m && is_true (and_of s t))
+rest_yes false s t y u r w ey eu er ew = ap (λ b. b && w) ey
+rest_yes true True t y u r w ey eu er ew = ap (λ b. b && w) ey ∙ ew ∙ ap (λ b. b && is_true t) (er ∙ ap not eu) ∙ sym (is_true-and_of True t)
+rest_yes true False t y u r w ey eu er ew = ap (λ b. b && w) ey ∙ sym (is_true-and_of False t)
+rest_yes true Unknown t y u r w ey eu er ew = ap (λ b. b && w) ey ∙ sym (is_true-and_of Unknown t)
+
+rest_no : (m : Bool) (s t : Truth) (u r w : Bool) → u ≡ (m && is_false s) → r ≡ (m && not u) → w ≡ (r && is_false t) → (u || w) ≡ (m && is_false (and_of s t))
+rest_no false s t u r w eu er ew = ap (λ b. b || w) eu ∙ ew ∙ ap (λ b. b && is_false t) er
+rest_no true True t u r w eu er ew = ap (λ b. b || w) eu ∙ ew ∙ ap (λ b. b && is_false t) (er ∙ ap not eu) ∙ sym (is_false-and_of True t)
+rest_no true False t u r w eu er ew = ap (λ b. b || w) eu ∙ sym (is_false-and_of False t)
+rest_no true Unknown t u r w eu er ew = ap (λ b. b || w) eu ∙ ew ∙ ap (λ b. b && is_false t) (er ∙ ap not eu) ∙ sym (is_false-and_of Unknown t)
+
+pub pair_and_rest : (a b c : Pair) → c.yes ≡ rows_of (λ n. has a.yes n && has b.yes n) → c.no ≡ rows_of (λ n. has a.no n || has b.no n) → (mask rest : List Bool) (s t : ℕ → Truth) → IsPair mask s a → rest ≡ rows_of (λ n. has mask n && not (has a.no n)) → IsPair rest t b → IsPair mask (λ n. and_of (s n) (t n)) c
+pair_and_rest a b c e f mask rest s t p g q = record {
+  yes = e ∙ is_yes mask (λ n. and_of (s n) (t n)) _ (λ n h. rest_yes (has mask n) (s n) (t n) _ _ _ _ (yes_at mask s a p n h) (no_at mask s a p n h) (left n h) (yes_at rest t b q n h));
+  no = f ∙ is_no mask (λ n. and_of (s n) (t n)) _ (λ n h. rest_no (has mask n) (s n) (t n) _ _ _ (no_at mask s a p n h) (left n h) (no_at rest t b q n h));
+}
+  where
+    left : (n : ℕ) → n < 1024 → has rest n ≡ (has mask n && not (has a.no n))
+    left n h = ap (λ m. has m n) g ∙ has-rows_of (λ n. has mask n && not (has a.no n)) n h
+
+yes_nowhere : (mask : List Bool) (s t : ℕ → Truth) → ((n : ℕ) → n < 1024 → has mask n ≡ false) → yes_of mask s ≡ yes_of mask t
+unfolding yes_of
+yes_nowhere mask s t h = rows_of-like _ _ (λ n l. ap (λ b. b && is_true (s n)) (h n l) ∙ sym (ap (λ b. b && is_true (t n)) (h n l)))
+
+no_nowhere : (mask : List Bool) (s t : ℕ → Truth) → ((n : ℕ) → n < 1024 → has mask n ≡ false) → no_of mask s ≡ no_of mask t
+unfolding no_of
+no_nowhere mask s t h = rows_of-like _ _ (λ n l. ap (λ b. b && is_false (s n)) (h n l) ∙ sym (ap (λ b. b && is_false (t n)) (h n l)))
+
+-- over no rows all conditions are alike
+pub pair_nowhere : (mask : List Bool) (s t : ℕ → Truth) (c : Pair) → ((n : ℕ) → n < 1024 → has mask n ≡ false) → IsPair mask s c → IsPair mask t c
+pair_nowhere mask s t c h p = record { yes = p.yes ∙ yes_nowhere mask s t h; no = p.no ∙ no_nowhere mask s t h }
+
 pub pair_or : (a b c : Pair) → c.yes ≡ rows_of (λ n. has a.yes n || has b.yes n) → c.no ≡ rows_of (λ n. has a.no n && has b.no n) → (mask : List Bool) (s t : ℕ → Truth) → IsPair mask s a → IsPair mask t b → IsPair mask (λ n. or_of (s n) (t n)) c
 pair_or a b c e f mask s t p q = record {
   yes = e ∙ is_yes mask (λ n. or_of (s n) (t n)) _ (λ n h. within_or (has mask n) (is_true (s n)) (is_true (t n)) _ _ _ (yes_at mask s a p n h) (yes_at mask t b q n h) (is_true-or_of (s n) (t n)));

@@ -1,5 +1,5 @@
 -- The first rows of a mask in a vector.
-use Rattle.std.proofs.Common.{◌≡◌, ℕ, ◌+◌, Bool, true, false, cond, List, [], ◌∷◌, ◌++◌, map, Option, Some, None, refl, sym, ap, ◌∙◌, arith, append-nil, append_assoc}
+use Rattle.std.proofs.Common.{◌≡◌, ℕ, ◌+◌, ◌==◌, ◌&&◌, get_or, Bool, true, false, cond, List, [], ◌∷◌, ◌++◌, map, Option, Some, None, refl, sym, ap, ◌∙◌, arith, append-nil, append_assoc}
 use Rattle.std.specs.List.{filter_map, range_with_len}
 use Rattle.std.proofs.lemmas.List.Elements.{filter_map-append}
 use Rattle.std.proofs.lemmas.List.FromFn.{map-range_with_len_more}
@@ -7,17 +7,14 @@ use Rattle.table_model.specs.State.{Cells}
 use Rattle.table_model.specs.Values.{present}
 use Rattle.transpose_order.specs.Mask.{rows_of, has}
 use Rattle.query_eval.specs.Kept.{rows_at}
+use Rattle.query_eval.specs.Places.{rows_below, rows_placed}
 use Rattle.query_eval.specs.Vector.{Vector, row_at}
 
 -- a row of a mask, or nothing
 abbrev pub chosen : Vector → List Bool → ℕ → Option Cells
 chosen v mask n = cond (has mask n) (Some (row_at v n)) None
 
--- the rows of a mask below k, in order
-abbrev pub rows_below : ℕ → Vector → List Bool → List Cells
-rows_below k v mask = present (map (chosen v mask) (range_with_len 0 k))
-
-below_more : (k : ℕ) (v : Vector) (mask : List Bool) (b : Bool) → has mask k ≡ b → rows_below (k + 1) v mask ≡ rows_below k v mask ++ cond b (row_at v k ∷ []) []
+pub below_more : (k : ℕ) (v : Vector) (mask : List Bool) (b : Bool) → has mask k ≡ b → rows_below (k + 1) v mask ≡ rows_below k v mask ++ cond b (row_at v k ∷ []) []
 below_more k v mask b is =
     ap present (map-range_with_len_more (chosen v mask) 0 k k (omega arith)) ∙ filter_map-append (λ x. x) (map (chosen v mask) (range_with_len 0 k)) (chosen v mask k ∷ [])
     ∙ ap (λ c. rows_below k v mask ++ present (cond c (Some (row_at v k)) None ∷ [])) is ∙ ap (λ l. rows_below k v mask ++ l) (one b)
@@ -26,11 +23,18 @@ below_more k v mask b is =
     one true = refl
     one false = refl
 
-pub below_taken : (k : ℕ) (v : Vector) (mask : List Bool) (rows : List Cells) → has mask k ≡ true → (rows ++ rows_below k v mask) ++ row_at v k ∷ [] ≡ rows ++ rows_below (k + 1) v mask
-below_taken k v mask rows is = append_assoc rows (rows_below k v mask) (row_at v k ∷ []) ∙ ap (λ l. rows ++ l) (sym (below_more k v mask true is))
+-- the rows of a mask with a place, one row more
+pub placed_more_rows : (k : ℕ) (v : Vector) (mask : List Bool) (places : List ℕ) (g : ℕ) (b : Bool) → (has mask k && (get_or places k 0 == g)) ≡ b → rows_placed (k + 1) v mask places g ≡ rows_placed k v mask places g ++ cond b (row_at v k ∷ []) []
+placed_more_rows k v mask places g b is =
+    ap present (map-range_with_len_more pick 0 k k (omega arith)) ∙ filter_map-append (λ x. x) (map pick (range_with_len 0 k)) (pick k ∷ [])
+    ∙ ap (λ c. rows_placed k v mask places g ++ present (cond c (Some (row_at v k)) None ∷ [])) is ∙ ap (λ l. rows_placed k v mask places g ++ l) (one b)
+  where
+    pick : ℕ → Option Cells
+    pick n = cond (has mask n && (get_or places n 0 == g)) (Some (row_at v n)) None
 
-pub below_left : (k : ℕ) (v : Vector) (mask : List Bool) (rows : List Cells) → has mask k ≡ false → rows ++ rows_below k v mask ≡ rows ++ rows_below (k + 1) v mask
-below_left k v mask rows is = ap (λ l. rows ++ l) (sym (append-nil (rows_below k v mask)) ∙ sym (below_more k v mask false is))
+    one : (c : Bool) → present (cond c (Some (row_at v k)) None ∷ []) ≡ cond c (row_at v k ∷ []) []
+    one true = refl
+    one false = refl
 
 pub below_all : (k : ℕ) (v : Vector) (mask : List Bool) → k ≡ 1024 → rows_below k v mask ≡ rows_at v mask
 unfolding rows_at rows_of

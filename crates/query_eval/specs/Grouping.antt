@@ -9,6 +9,7 @@ use Rattle.table_model.specs.State.{Cells, same_cells}
 use Rattle.table_model.specs.Table.{Table}
 use Rattle.query_eval.specs.Decoded.{decoded_at}
 use Rattle.query_eval.specs.Finished.{PlanShape}
+use Rattle.query_eval.specs.Places.{rows_placed}
 use Rattle.query_eval.specs.QueryMentions.{aggregate_mentions}
 use Rattle.query_eval.specs.Side.{side_at}
 use Rattle.query_eval.specs.Tally.{IsTally, is_distinct}
@@ -44,45 +45,39 @@ abbrev pub is_once : Aggregate → Bool
 is_once Rows = false
 is_once (Folded fold distinct place) = distinct
 
--- the cells of some sides at each row of a vector
-abbrev pub AreDecoded : Vector → List Side → List Decoded → Type 0
-AreDecoded v sides cells = (n : ℕ) → n < 1024 → map (λ d. decoded_at d n) cells ≡ map (λ side. side_at v side n) sides
-
 -- a tally is that of an aggregate over some rows
 pub record IsHeld (rows : List Cells) (a : Aggregate) (t : Tally) : Type 0 where
   pub values : IsTally (aggregate_values a rows) t
   pub kind : is_distinct t ≡ is_once a
 
--- the tallies are those of the aggregates over some rows, one each
-pub record AreHeld (rows : List Cells) (aggregates : List Aggregate) (tallies : List Tally) : Type 0 where
+-- the tallies at a place are those of the aggregates over some rows, one each
+pub record AreHeld (rows : List Cells) (aggregates : List Aggregate) (tallies : List (Vec Tally)) (place : ℕ) : Type 0 where
   pub size : length tallies ≡ length aggregates
-  pub each : (i : ℕ) (a : Aggregate) (t : Tally) → i < length aggregates → IsHeld rows (slice_index_or aggregates i a) (slice_index_or tallies i t)
+  pub within : (i : ℕ) (column : Vec Tally) → i < length aggregates → place < length (slice_index_or tallies i column).items
+  pub each : (i : ℕ) (a : Aggregate) (column : Vec Tally) (t : Tally) → i < length aggregates → IsHeld rows (slice_index_or aggregates i a) (slice_index_or (slice_index_or tallies i column).items place t)
 
--- the groups of some rows: each list of keys that occurs has the tallies of its rows, and no other has any
-pub record AreGroups (by : List ℕ) (aggregates : List Aggregate) (rows : List Cells) (tallies : Cells → Option (List Tally)) : Type 0 where
-  pub held : (key : Cells) (ts : List Tally) → tallies key ≡ Some ts → AreHeld (rows_with by rows key) aggregates ts
-  pub occurs : (key : Cells) → is_some (tallies key) ≡ list_any (same_cells key) (map (key_of by) rows)
+-- the groups of some rows: each list of keys that occurs has a place with the tallies of its rows, and no other has one
+pub record AreGroups (by : List ℕ) (aggregates : List Aggregate) (rows : List Cells) (index : BTreeMap Cells ℕ) (tallies : List (Vec Tally)) : Type 0 where
+  pub size : length tallies ≡ length aggregates
+  pub columns : (i : ℕ) (column : Vec Tally) → i < length aggregates → length (slice_index_or tallies i column).items ≡ length index.entries
+  pub held : (key : Cells) (place : ℕ) → get key_cmp index key ≡ Some place → AreHeld (rows_with by rows key) aggregates tallies place
+  pub occurs : (key : Cells) → is_some (get key_cmp index key) ≡ list_any (same_cells key) (map (key_of by) rows)
+
+-- so many columns of tallies, each without one
+pub record AreEmpty (n : ℕ) (tallies : List (Vec Tally)) : Type 0 where
+  pub size : length tallies ≡ n
+  pub empty : (i : ℕ) (column : Vec Tally) → i < n → (slice_index_or tallies i column).items ≡ []
+
+-- the tallies of an aggregate have taken in the rows of a mask, each the rows with its place
+pub record IsTaken (a : Aggregate) (v : Vector) (mask : List Bool) (places : List ℕ) (count : ℕ) (old new : List Tally) : Type 0 where
+  pub size : length old ≤ count → length new ≡ count
+  pub known : (place : ℕ) (t : Tally) (rows : List Cells) → length old ≤ count → place < length old → IsHeld rows a (slice_index_or old place t) → IsHeld (rows ++ rows_placed 1024 v mask places place) a (slice_index_or new place t)
+  pub fresh : (place : ℕ) (t : Tally) → length old ≤ place → place < count → IsHeld (rows_placed 1024 v mask places place) a (slice_index_or new place t)
 
 -- the cell of a row as a list: nothing where it is null
 abbrev pub as_list : Option ℤ → List ℤ
 as_list None = []
 as_list (Some z) = z ∷ []
-
--- the first tallies have taken in a row's cells, and the others not yet
-pub record IsAdded (k row : ℕ) (cells : List Decoded) (old now : List Tally) : Type 0 where
-  pub size : length now ≡ length old
-  pub taken : (i : ℕ) (d : Decoded) (t : Tally) (values : List ℤ) → i < k → i < length old → IsTally values (slice_index_or old i t) → IsTally (values ++ as_list (decoded_at (slice_index_or cells i d) row)) (slice_index_or now i t)
-  pub kind : (i : ℕ) (t : Tally) → i < k → i < length old → is_distinct (slice_index_or now i t) ≡ is_distinct (slice_index_or old i t)
-  pub ahead : (i : ℕ) (t : Tally) → k ≤ i → slice_index_or now i t ≡ slice_index_or old i t
-
--- the tallies that a map has at each list of keys
-abbrev pub tallies_in : BTreeMap Cells (Vec Tally) → Cells → Option (List Tally)
-tallies_in m key = option_map (λ ts. ts.items) (get key_cmp m key)
-
--- some decoded columns show each row's key, and others the cells that the aggregates go over
-pub record ShowsRows (by : List ℕ) (aggregates : List Aggregate) (v : Vector) (keys cells : List Decoded) : Type 0 where
-  pub keys_shown : (n : ℕ) → n < 1024 → map (λ d. decoded_at d n) keys ≡ key_of by (row_at v n)
-  pub cells_shown : (n : ℕ) → n < 1024 → map (λ d. decoded_at d n) cells ≡ map (aggregate_cell (row_at v n)) aggregates
 
 -- how many columns GROUP BY and the set functions of a query mention
 abbrev pub plan_mentions : PlanShape → ℕ

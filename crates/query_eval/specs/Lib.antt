@@ -12,3 +12,4 @@ pub mod Tied
 pub mod Tally
 pub mod QueryMentions
 pub mod Grouping
+pub mod Places

@@ -1,12 +1,15 @@
 //! The groups of a query with GROUP BY, when they are finished.
-ghost use Rattle.std.specs.Prelude.{◌≡◌, ◌≤◌, ◌+◌, ◌*◌, ℕ, List, map, length, sum_by, IfOk};
+ghost use Rattle.std.specs.Prelude.{◌≡◌, ◌<◌, ◌≤◌, ◌+◌, ◌*◌, ℕ, List, None, map, length, slice_index_or, sum_by, IfOk};
+ghost use Rattle.std.specs.Global.{Vec as Items};
+ghost use Rattle.std.specs.Option.{IfSome};
+ghost use Rattle.query_eval.specs.declared.tally.Tally.{Tally as ATally};
 ghost use Rattle.std.specs.BTreeMap.{IsOrdered, keys};
 ghost use Rattle.table_model.specs.Group.{group_at, key_cmp};
 ghost use Rattle.table_model.specs.State.{Cells};
 ghost use Rattle.table_model.specs.Table.{Table};
 ghost use Rattle.query_eval.specs.Aggregate.{aggregate_value};
 ghost use Rattle.query_eval.specs.Finished.{finished_groups, finished_of};
-ghost use Rattle.query_eval.specs.Grouping.{AreGroups, AreHeld, IsHeld, tallies_in};
+ghost use Rattle.query_eval.specs.Grouping.{AreGroups, AreHeld, IsHeld};
 ghost use Rattle.query_eval.specs.Kept.{rows_in, AreThere, AreFew};
 ghost use Rattle.query_eval.specs.QueryMentions.{aggregate_mentions};
 
@@ -31,17 +34,29 @@ fn value_of(aggregate: Aggregate, tally: &Tally) -> Field
     }
 }
 
-/// The values of some aggregates by their tallies.
+/// The tally of an aggregate at a place.
+fn tally_at(tallies: &[Vec<Tally>], i: usize, place: usize) -> Option<&Tally>
+    ensures some { IfSome result (λ t. (column : Items ATally) (d : ATally) → t.now ≡ slice_index_or (slice_index_or tallies.now i column).items place d) }
+    ensures none { result ≡ None → (column : Items ATally) → i < length tallies.now → length (slice_index_or tallies.now i column).items ≤ place }
+{
+    match tallies.get(i) {
+        None => None,
+        Some(column) => column.as_slice().get(place),
+    }
+}
+
+/// The values of some aggregates by their tallies at a place.
 fn values_of(
     alloc: Global,
     aggregates: &[Aggregate],
-    tallies: &[Tally],
+    tallies: &[Vec<Tally>],
+    place: usize,
 ) -> Result<Vec<Field>, AllocError>
-    ensures { IfOk result (λ fields. (table : Table) (rows : List Cells) → AreFew table rows → AreHeld rows aggregates.now tallies.now → fields.items ≡ map (λ a. aggregate_value a rows) aggregates.now) }
+    ensures { IfOk result (λ fields. (table : Table) (rows : List Cells) → AreFew table rows → AreHeld rows aggregates.now tallies.now place → fields.items ≡ map (λ a. aggregate_value a rows) aggregates.now) }
 {
     let mut fields = Vec::new(alloc);
     for i in 0..aggregates.len() {
-        let field = match tallies.get(i) {
+        let field = match tally_at(tallies, i, place) {
             None => Field::Null,
             Some(tally) => value_of(aggregates[i], tally),
         };
@@ -54,17 +69,18 @@ fn values_of(
 fn in_order(
     alloc: Global,
     aggregates: &[Aggregate],
-    groups: &mut BTreeMap<Key, Vec<Tally>>,
+    index: &mut BTreeMap<Key, usize>,
+    tallies: &[Vec<Tally>],
 ) -> Result<Vec<FinishedGroup>, AllocError>
-    ensures ordered { IsOrdered key_cmp groups.old }
-    ensures value { IfOk result (λ finished. (table : Table) (by : List ℕ) (rows : List Cells) → AreFew table rows → AreGroups by aggregates.now rows (tallies_in groups.old) → finished.items ≡ map (λ key. finished_of aggregates.now (group_at by rows key)) (keys groups.old)) }
+    ensures ordered { IsOrdered key_cmp index.old }
+    ensures value { IfOk result (λ finished. (table : Table) (by : List ℕ) (rows : List Cells) → AreFew table rows → AreGroups by aggregates.now rows index.old tallies.now → finished.items ≡ map (λ key. finished_of aggregates.now (group_at by rows key)) (keys index.old)) }
 {
     let mut finished = Vec::new(alloc);
-    for _ in 0..groups.len() {
-        match groups.pop_first() {
+    for _ in 0..index.len() {
+        match index.pop_first() {
             None => {}
-            Some((key, tallies)) => {
-                let fields = values_of(alloc, aggregates, tallies.as_slice())?;
+            Some((key, place)) => {
+                let fields = values_of(alloc, aggregates, tallies, place)?;
                 finished.push(FinishedGroup::new(key, fields))?;
             }
         }
@@ -88,7 +104,13 @@ pub fn grouped_table<C: Columns>(
     ensures state { C.state columns.new ≡ C.state columns.old }
     ensures passes { IfOk result (λ _. C.passes columns.new ≤ C.passes columns.old + (length plan.now.grouping + sum_by aggregate_mentions plan.now.aggregates) * length kept.now) }
 {
-    let mut groups = group_vectors(alloc, columns, plan, kept)?;
-    let finished = in_order(alloc, plan.aggregates(), &mut groups)?;
+    let groups = group_vectors(alloc, columns, plan, kept)?;
+    let mut index = groups.places.into_index();
+    let finished = in_order(
+        alloc,
+        plan.aggregates(),
+        &mut index,
+        groups.tallies.as_slice(),
+    )?;
     Ok(finished)
 }

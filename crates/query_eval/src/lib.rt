@@ -18,12 +18,15 @@ mod heading;
 mod kept;
 mod names;
 mod pair;
+mod places;
+mod placing;
 mod plan;
 mod predicates;
 mod rows;
 mod seen;
 mod side;
 mod table_fields;
+mod taking;
 mod tally;
 mod where_masks;
 

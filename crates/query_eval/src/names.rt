@@ -5,7 +5,7 @@ ghost use Rattle.std.specs.Option.{IfSome};
 ghost use Rattle.table_model.specs.Identifier.{same_text};
 ghost use Rattle.table_model.specs.Meaning.{place_of};
 
-use table_model::{same_text, Column, ColumnMention, Schema};
+use table_model::{Column, ColumnMention, Schema, same_text};
 
 /// Which column has the name.
 fn column_at(columns: &[Column], name: &str) -> Option<usize>

@@ -1,5 +1,5 @@
 //! Truth values of a vector's rows, as pairs of masks.
-ghost use Rattle.std.specs.Prelude.{◌≡◌, ◌&&◌, ◌<◌, ◌+◌, ℕ, List, Bool, true};
+ghost use Rattle.std.specs.Prelude.{◌≡◌, ◌&&◌, ◌<◌, ◌+◌, not, ℕ, List, Bool, true};
 ghost use Rattle.table_model.specs.Condition.{asked, not_if};
 ghost use Rattle.table_model.specs.Truth.{and_of, or_of, not_of, same_truth};
 ghost use Rattle.table_model.specs.declared.truth.Truth.{Truth as TruthValue};
@@ -38,9 +38,10 @@ impl Pair {
         }
     }
 
-    /// AND, row by row.
+    /// AND, row by row. The other condition needs no look at the rows at which this one is false.
     pub fn and(&self, other: &Pair) -> Pair
-        ensures { (mask : List Bool) (s t : ℕ → TruthValue) → IsPair mask s self.now → IsPair mask t other.now → IsPair mask (λ n. and_of (s n) (t n)) result }
+        ensures rest { (mask rest : List Bool) (s t : ℕ → TruthValue) → IsPair mask s self.now → rest ≡ rows_of (λ n. has mask n && not (has self.now.no n)) → IsPair rest t other.now → IsPair mask (λ n. and_of (s n) (t n)) result }
+        ensures alike { (mask : List Bool) (s t : ℕ → TruthValue) → IsPair mask s self.now → IsPair mask t other.now → IsPair mask (λ n. and_of (s n) (t n)) result }
     {
         Pair {
             yes: self.yes.and(&other.yes),

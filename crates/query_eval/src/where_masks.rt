@@ -14,7 +14,7 @@ use crate::side::{compare_operands, null_operand};
 use table_model::{Condition, Factor, Predicate, Primary, Term, Test, Truth};
 use transpose_order::Mask;
 
-/// A predicate of WHERE at the rows of a mask: each mention of a column takes at most one pass.
+/// A predicate of WHERE at the rows of a mask: each mention of a column takes at most one pass, and none over no rows.
 pub fn predicate_masks<C: Columns>(
     columns: &mut C,
     batch: usize,
@@ -28,6 +28,9 @@ pub fn predicate_masks<C: Columns>(
     ensures state { C.state columns.new ≡ C.state columns.old }
     ensures passes { C.passes columns.new ≤ C.passes columns.old + predicate_mentions predicate.now }
 {
+    if mask.next_true(0) == 1024 {
+        return Pair::everywhere(Truth::Unknown, mask);
+    }
     match predicate {
         Predicate::Compare { left, op, right } => compare_operands(
             columns, batch, vector, left, *op, right, mask,
@@ -96,7 +99,8 @@ fn term_masks<C: Columns>(
 {
     let mut pair = Pair::everywhere(Truth::True, mask);
     for factor in &term.factors {
-        let next = factor_masks(columns, batch, vector, factor, mask);
+        let rest = mask.and_not(&pair.no);
+        let next = factor_masks(columns, batch, vector, factor, &rest);
         pair = pair.and(&next);
     }
     pair

@@ -1,12 +1,14 @@
 -- The groups of the kept rows, in the order of their keys.
-use Rattle.std.proofs.Common.{List, map, sym, ap, subst, ◌∙◌}
-use Rattle.std.specs.BTreeMap.{keys}
+use Rattle.std.proofs.Common.{ℕ, List, map, sym, ap, subst, ◌∙◌}
+use Rattle.std.specs.BTreeMap.{BTreeMap, keys}
+use Rattle.std.specs.Global.{Vec}
 use Rattle.table_model.specs.Group.{group_at}
 use Rattle.table_model.specs.State.{Cells}
 use Rattle.query_eval.specs.Finished.{finished_of}
-use Rattle.query_eval.specs.Grouping.{AreGroups, tallies_in}
+use Rattle.query_eval.specs.Grouping.{AreGroups}
 use Rattle.query_eval.specs.Kept.{rows_in}
 use Rattle.query_eval.specs.declared.aggregate.Aggregate.{Aggregate}
+use Rattle.query_eval.specs.declared.tally.Tally.{Tally}
 use Rattle.query_eval.proofs.OrderLemmas.{groups_in_order}
 use Rattle.query_eval.proofs.grouped_table.grouped_table.Goals as goal
 
@@ -15,6 +17,11 @@ returns-clause-value g c =
     let by = c.args.plan.now.grouping in
     let rows : List Cells = rows_in (g.C.Columns.state c.args.columns.now) c.args.kept.now in
     let groups = c.in_ok-groups.groups in
-    c.in_ok-finished.ensures.value (g.C.Columns.table c.args.columns.now) by rows c.requires.few (subst (λ (named : List Aggregate). AreGroups by named rows (tallies_in groups)) (sym c.aggregates.ensures) c.in_ok-groups.ensures.groups)
-    ∙ ap (λ (named : List Aggregate). map (λ key. finished_of named (group_at by rows key)) (keys groups)) c.aggregates.ensures
-    ∙ groups_in_order groups c.args.plan.now.aggregates by rows c.requires.grouped c.in_order.ensures.ordered c.in_ok-groups.ensures.groups
+    let index = c.into_index-index.result in
+    let known =
+    subst (λ (m : BTreeMap Cells ℕ). AreGroups by c.args.plan.now.aggregates rows m groups.tallies.items) (sym c.into_index-index.ensures) c.in_ok-groups.ensures.groups in
+    let shown =
+    subst (λ (l : List (Vec Tally)). AreGroups by c.args.plan.now.aggregates rows index l) (sym c.as_slice.ensures.value) known in
+    c.in_ok-finished.ensures.value (g.C.Columns.table c.args.columns.now) by rows c.requires.few (subst (λ (named : List Aggregate). AreGroups by named rows index c.as_slice.result.now) (sym c.aggregates.ensures) shown)
+    ∙ ap (λ (named : List Aggregate). map (λ key. finished_of named (group_at by rows key)) (keys index)) c.aggregates.ensures
+    ∙ groups_in_order index c.args.plan.now.aggregates by rows groups.tallies.items c.requires.grouped c.in_order.ensures.ordered known

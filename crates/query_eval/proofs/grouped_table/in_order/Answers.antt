@@ -10,7 +10,7 @@ use Rattle.table_model.specs.State.{Cells}
 use Rattle.query_eval.specs.Finished.{GroupFields, finished_of}
 use Rattle.query_eval.specs.Grouping.{AreHeld}
 use Rattle.query_eval.specs.declared.tally.Tally.{Tally}
-use Rattle.query_eval.proofs.OrderLemmas.{few_with, finished_more, held_left}
+use Rattle.query_eval.proofs.OrderLemmas.{few_with, finished_more, place_left}
 use Rattle.query_eval.proofs.grouped_table.in_order.Goals as goal
 use Rattle.query_eval.proofs.grouped_table.in_order.Goals.{in-None, in-Some+in_ok-fields-in-Some+in_ok-push-in-Some}
 
@@ -23,7 +23,7 @@ loop-preserved c =
     let named = c.args.aggregates.now in
     elim c.match-pop_first.branch [
       | in-None w ↦
-          let some : 0 < length c.loop.groups.entries = omega (arith, c.loop.invariant.count, c.loop-test.true, c.len-end.ensures.len) in
+          let some : 0 < length c.loop.index.entries = omega (arith, c.loop.invariant.count, c.loop-test.true, c.len-end.ensures.len) in
           absurd (false≢true (sym (ap is_some w.in-None.is) ∙ c.pop_first.ensures.variant.1 some))
       | in-Some+in_ok-fields-in-Some+in_ok-push-in-Some w ↦
           let removal = w.in-Some.ensures.removal in
@@ -32,11 +32,10 @@ loop-preserved c =
             value = λ table by rows few h.
                 let inv = c.loop.invariant.value table by rows few h in
                 let key = w.in-Some.key in
-                let held = inv.0 key w.in-Some.tallies.items (ap (λ (o : Option (Vec Tally)). option_map (λ v. v.items) o) w.in-Some.ensures.value) in
-                let fields = w.in_ok-fields-in-Some.ensures table (rows_with by rows key) (few_with table by rows key few) (subst (AreHeld (rows_with by rows key) named) (sym w.as_slice.ensures.value) held) in
+                let fields = w.in_ok-fields-in-Some.ensures table (rows_with by rows key) (few_with table by rows key few) (inv.0 key w.in-Some.place w.in-Some.ensures.value) in
                 let all = w.new.ensures.fields ∙ fields in (
-                  λ k ts e. inv.0 k ts (held_left _ _ _ (w.in-Some.ensures.updates.0 k) ts e),
-                  finished_more (λ k. finished_of named (group_at by rows k)) key w.new.result c.loop.finished.items c.match-pop_first.finished.items (keys c.loop.groups) (keys c.pop_first.new.self) (keys c.args.groups.now)
+                  λ k place e. inv.0 k place (place_left _ _ _ (w.in-Some.ensures.updates.0 k) place e),
+                  finished_more (λ k. finished_of named (group_at by rows k)) key w.new.result c.loop.finished.items c.match-pop_first.finished.items (keys c.loop.index) (keys c.pop_first.new.self) (keys c.args.index.now)
                       (ap (λ v. v.items) w.finished-is ∙ w.in_ok-push-in-Some.ensures.items) (λ i. record { key = w.new.ensures.key i; fields = all i }) (ap keys_of removal) inv.1,
                 );
           }
@@ -44,6 +43,6 @@ loop-preserved c =
 
 pub returns-clause-value : goal.returns-clause-value
 returns-clause-value c = λ table by rows few h.
-    let none : c.loop.groups.entries ≡ [] = empty c.loop.groups.entries (omega (arith, c.loop.invariant.count, c.loop-test.false, c.loop.auto.counter-end, c.len-end.ensures.len)) in
+    let none : c.loop.index.entries ≡ [] = empty c.loop.index.entries (omega (arith, c.loop.invariant.count, c.loop-test.false, c.loop.auto.counter-end, c.len-end.ensures.len)) in
     let fin : Cells → GroupFields = λ k. finished_of c.args.aggregates.now (group_at by rows k) in
-    sym (append-nil c.loop.finished.items) ∙ sym (ap (λ (es : List (Cells × Vec Tally)). c.loop.finished.items ++ map fin (keys_of es)) none) ∙ (c.loop.invariant.value table by rows few h).1
+    sym (append-nil c.loop.finished.items) ∙ sym (ap (λ (es : List (Cells × ℕ)). c.loop.finished.items ++ map fin (keys_of es)) none) ∙ (c.loop.invariant.value table by rows few h).1

@@ -8,4 +8,4 @@ use Rattle.query_eval.specs.Kept.{AreFew}
 use Rattle.query_eval.proofs.grouped_table.values_of.Given as goal
 
 abbrev pub invariant-loop-i : goal.invariant-loop-i
-invariant-loop-i l = (table : Table) (rows : List Cells) → AreFew table rows → AreHeld rows l.aggregates l.tallies → l.fields.items ≡ map (λ a. aggregate_value a rows) (take l.i l.aggregates)
+invariant-loop-i l = (table : Table) (rows : List Cells) → AreFew table rows → AreHeld rows l.aggregates l.tallies l.place → l.fields.items ≡ map (λ a. aggregate_value a rows) (take l.i l.aggregates)

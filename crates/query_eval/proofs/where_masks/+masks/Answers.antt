@@ -35,9 +35,9 @@ term_masks-loop-factor-preserved g t c =
     let front : Formula = formula_of_factors (take c.loop-factor.factor-index c.deref-factor-items.result.now) in
     let one : Formula = formula_of_factor c.factor-item.result in
     let e = factors_more c.deref-factor-items.result.now c.loop-factor.factor-index c.factor-item.result c.loop-factor-test.true c.factor-item.is in
-    let next = moved _ table _ s c.args.batch c.args.vector one c.args.mask.now c.factor_masks-next.result inv.table inv.state c.factor_masks-next.ensures.value in
+    let next = moved _ table _ s c.args.batch c.args.vector one c.and_not-rest.result c.factor_masks-next.result inv.table inv.state c.factor_masks-next.ensures.value in
     record {
-      value = subst (λ (f : Formula). IsPair c.args.mask.now (truth_in table v f) c.and-pair.result) (sym e) (c.and-pair.ensures c.args.mask.now (truth_in table v front) (truth_in table v one) inv.value next);
+      value = subst (λ (f : Formula). IsPair c.args.mask.now (truth_in table v f) c.and-pair.result) (sym e) (c.and-pair.ensures.rest c.args.mask.now c.and_not-rest.result (truth_in table v front) (truth_in table v one) inv.value c.and_not-rest.ensures next);
       table = c.factor_masks-next.ensures.table ∙ inv.table;
       state = c.factor_masks-next.ensures.state ∙ inv.state;
       passes = omega (arith, ap condition_mentions e, c.factor_masks-next.ensures.passes, inv.passes);

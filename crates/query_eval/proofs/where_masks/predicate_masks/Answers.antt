@@ -1,11 +1,16 @@
 -- Each kind of predicate by its masks.
-use Rattle.std.proofs.Common.{sym, subst}
+use Rattle.std.proofs.Common.{sym, subst, arith}
 use Rattle.table_model.specs.Condition.{predicate_truth}
 use Rattle.table_model.specs.Meaning.{at_row}
 use Rattle.table_model.specs.declared.query.Predicate.{Predicate}
 use Rattle.query_eval.specs.Vector.{row_at, vector_at}
 use Rattle.query_eval.specs.Where.{IsPair}
+use Rattle.query_eval.proofs.PairLemmas.{pair_nowhere}
 use Rattle.query_eval.proofs.where_masks.predicate_masks.Goals as goal
+
+pub returns-then-next_true-eq1024-clause-value : goal.returns-then-next_true-eq1024-clause-value
+returns-then-next_true-eq1024-clause-value g c =
+    pair_nowhere c.args.mask.now _ _ c.everywhere.result (λ n h. c.next_true.ensures.none n (omega arith) (omega (arith, h, c.if-next_true-eq1024.true))) c.everywhere.ensures
 
 pub returns-in-Between-clause-value : goal.returns-in-Between-clause-value
 returns-in-Between-clause-value g c =

@@ -1,0 +1,178 @@
+-- Places of groups: one key more, one row more.
+use Rattle.std.proofs.Common.{◌≡◌, ◌≢◌, ℕ, zero, suc, ◌+◌, ◌==◌, ◌<◌, ◌≤◌, ◌⊎◌, inl, inr, Bool, true, false, cond, ◌&&◌, ◌||◌, List, [], ◌∷◌, ◌++◌, map, filter, length, get_or, set, Option, Some, None, refl, sym, ap, subst, ◌∙◌, arith, append-nil, get_or-set_same, get_or-set_other}
+use Rattle.std.specs.BTreeMap.{BTreeMap, get, is_at}
+use Rattle.std.specs.Global.{Vec}
+use Rattle.std.specs.List.{list_any, range_with_len}
+use Rattle.std.specs.Option.{is_some}
+use Rattle.std.proofs.lemmas.Bool.{cases_lt, false≢true}
+use Rattle.std.proofs.lemmas.List.{map-append}
+use Rattle.table_model.specs.Group.{key_cmp, key_of}
+use Rattle.table_model.specs.State.{Cells, same_cells}
+use Rattle.table_model.proofs.Keys.{tied_keys}
+use Rattle.table_model.proofs.SameRows.{one_row, itself_row}
+use Rattle.transpose_order.specs.Mask.{has}
+use Rattle.query_eval.specs.Places.{ArePlaced, IsGrown, IsIndex, IsTakenIn, rows_below}
+use Rattle.query_eval.specs.Vector.{Vector, row_at}
+use Rattle.query_eval.specs.declared.places.Places.{Places}
+use Rattle.query_eval.specs.declared.places.Recent.{Recent}
+use Rattle.query_eval.proofs.RowsBelow.{below_more}
+
+never : {X : Type 0} {x : X} → None ≡ Some x → ⊥
+never e = cc
+
+pub some_same : {X : Type 0} {x y : X} → Some x ≡ Some y → x ≡ y
+some_same e = cc
+
+or_known : (a b : Bool) → (b ≡ true → a ≡ true) → a ≡ (a || b)
+or_known true b h = refl
+or_known false true h = h refl
+or_known false false h = refl
+
+or_true : (a b : Bool) → b ≡ true → true ≡ (a || b)
+or_true true b e = refl
+or_true false b e = sym e
+
+or_false : (a b : Bool) → b ≡ false → a ≡ (a || b)
+or_false true b e = refl
+or_false false b e = sym e
+
+or_assoc : (a b c : Bool) → ((a || b) || c) ≡ (a || (b || c))
+or_assoc true b c = refl
+or_assoc false b c = refl
+
+turned : (key q : Cells) → same_cells key q ≡ false → same_cells q key ≡ false
+turned key q e = by_test (same_cells q key) refl
+  where
+    by_test : (b : Bool) → same_cells q key ≡ b → b ≡ false
+    by_test false t = refl
+    by_test true t = absurd (false≢true (sym e ∙ ap (same_cells key) (one_row q key t) ∙ itself_row key))
+
+pub grown_same : (m : BTreeMap Cells ℕ) → IsGrown m m
+grown_same m = record { kept = λ key place e. e; fresh = λ key place none e. absurd (never (sym none ∙ e)); longer = omega arith }
+
+-- a key that has a place
+pub taken_known : (key : Cells) (place : ℕ) (m : BTreeMap Cells ℕ) → get key_cmp m key ≡ Some place → IsTakenIn key place m m
+taken_known key place m is = record {
+  grown = grown_same m;
+  now = is;
+  occurs = λ q. or_known (is_some (get key_cmp m q)) (same_cells q key) (λ e. ap (λ (k : Cells). is_some (get key_cmp m k)) (one_row q key e) ∙ ap is_some is);
+}
+
+-- a key that comes gets the next place
+module _ (key : Cells) (old new : BTreeMap Cells ℕ) (n : ℕ) (many : n ≡ length old.entries) (none : get key_cmp old key ≡ None) (updates : (q : Cells) → get key_cmp new q ≡ cond (is_at (key_cmp key) q) (Some n) (get key_cmp old q)) (longer : length new.entries ≡ length old.entries + 1) where
+  here : (q : Cells) (b : Bool) → same_cells key q ≡ b → get key_cmp new q ≡ cond b (Some n) (get key_cmp old q)
+  here q b e = updates q ∙ ap (λ c. cond c (Some n) (get key_cmp old q)) (sym (tied_keys key q) ∙ e)
+
+  one_kept : (q : Cells) (place : ℕ) → get key_cmp old q ≡ Some place → (b : Bool) → same_cells key q ≡ b → get key_cmp new q ≡ Some place
+  one_kept q place is true e = absurd (never (sym none ∙ ap (get key_cmp old) (one_row key q e) ∙ is))
+  one_kept q place is false e = here q false e ∙ is
+
+  one_fresh : (q : Cells) (place : ℕ) → get key_cmp old q ≡ None → get key_cmp new q ≡ Some place → (b : Bool) → same_cells key q ≡ b → length old.entries ≤ place
+  one_fresh q place was is true e = omega (arith, some_same (sym (here q true e) ∙ is), many)
+  one_fresh q place was is false e = absurd (never (sym was ∙ sym (here q false e) ∙ is))
+
+  one_occurs : (q : Cells) (b : Bool) → same_cells key q ≡ b → is_some (get key_cmp new q) ≡ (is_some (get key_cmp old q) || same_cells q key)
+  one_occurs q true e = ap is_some (here q true e) ∙ or_true (is_some (get key_cmp old q)) (same_cells q key) (ap (same_cells q) (one_row key q e) ∙ itself_row q)
+  one_occurs q false e = ap is_some (here q false e) ∙ or_false (is_some (get key_cmp old q)) (same_cells q key) (turned key q e)
+
+  pub taken_new : IsTakenIn key n old new
+  taken_new = record {
+    grown = record {
+      kept = λ q place is. one_kept q place is (same_cells key q) refl;
+      fresh = λ q place was is. one_fresh q place was is (same_cells key q) refl;
+      longer = omega (arith, longer);
+    };
+    now = here key true (itself_row key);
+    occurs = λ q. one_occurs q (same_cells key q) refl;
+  }
+
+  pub index_new : (recent : Vec (Option Recent)) → IsIndex (record { index = old; recent = recent }) → IsIndex (record { index = new; recent = recent })
+  index_new recent h = record {
+    below = λ q place is. one_below q place is (same_cells key q) refl;
+    apart = λ q r place is also. one_apart q r place is also (same_cells key q) (same_cells key r) refl refl;
+    recent = λ i r is. one_kept (r.cell ∷ []) r.place (h.recent i r is) (same_cells key (r.cell ∷ [])) refl;
+  }
+    where
+      one_below : (q : Cells) (place : ℕ) → get key_cmp new q ≡ Some place → (b : Bool) → same_cells key q ≡ b → place < length new.entries
+      one_below q place is true e = omega (arith, some_same (sym (here q true e) ∙ is), many, longer)
+      one_below q place is false e = omega (arith, h.below q place (sym (here q false e) ∙ is), longer)
+
+      one_apart : (q r : Cells) (place : ℕ) → get key_cmp new q ≡ Some place → get key_cmp new r ≡ Some place → (b c : Bool) → same_cells key q ≡ b → same_cells key r ≡ c → q ≡ r
+      one_apart q r place is also true true e f = sym (one_row key q e) ∙ one_row key r f
+      one_apart q r place is also true false e f = absurd (omega (arith, some_same (sym (here q true e) ∙ is), many, h.below r place (sym (here r false f) ∙ also)))
+      one_apart q r place is also false true e f = absurd (omega (arith, some_same (sym (here r true f) ∙ also), many, h.below q place (sym (here q false e) ∙ is)))
+      one_apart q r place is also false false e f = h.apart q r place (sym (here q false e) ∙ is) (sym (here r false f) ∙ also)
+
+-- a cell's place is remembered
+pub index_remembered : (index : BTreeMap Cells ℕ) (before after : Vec (Option Recent)) (entry : Recent) → get key_cmp index (entry.cell ∷ []) ≡ Some entry.place → ((i : ℕ) (r : Recent) → get_or after.items i None ≡ Some r → (r ≡ entry) ⊎ (get_or before.items i None ≡ Some r)) → IsIndex (record { index = index; recent = before }) → IsIndex (record { index = index; recent = after })
+index_remembered index before after entry is from h = record {
+  below = h.below;
+  apart = h.apart;
+  recent = λ i r e. one i r (from i r e);
+}
+  where
+    one : (i : ℕ) (r : Recent) → (r ≡ entry) ⊎ (get_or before.items i None ≡ Some r) → get key_cmp index (r.cell ∷ []) ≡ Some r.place
+    one i r (inl e) = subst (λ (x : Recent). get key_cmp index (x.cell ∷ []) ≡ Some x.place) (sym e) is
+    one i r (inr e) = h.recent i r e
+
+-- no row has a place yet
+pub placed_none : (by : List ℕ) (v : Vector) (mask : List Bool) (m : BTreeMap Cells ℕ) (places : List ℕ) → ArePlaced 0 by v mask m m places
+placed_none by v mask m places = record { grown = grown_same m; placed = λ n l. absurd (omega arith); occurs = λ key. or_false (is_some (get key_cmp m key)) false refl }
+
+pub any-append : (key other : Cells) (ks : List Cells) → list_any (same_cells key) (ks ++ other ∷ []) ≡ (list_any (same_cells key) ks || same_cells key other)
+any-append key other [] = last (same_cells key other)
+  where
+    last : (b : Bool) → (b || false) ≡ b
+    last true = refl
+    last false = refl
+any-append key other (k ∷ ks) = ap (λ b. same_cells key k || b) (any-append key other ks) ∙ sym (or_assoc (same_cells key k) (list_any (same_cells key) ks) (same_cells key other))
+
+module _ (k : ℕ) (by : List ℕ) (v : Vector) (mask : List Bool) (old mid : BTreeMap Cells ℕ) (places : List ℕ) (h : ArePlaced k by v mask old mid places) where
+  -- the next row isn't one of the mask
+  pub placed_left : has mask k ≡ false → ArePlaced (k + 1) by v mask old mid places
+  placed_left off = record {
+    grown = h.grown;
+    placed = λ n l on. one n l on (cases_lt n k);
+    occurs = λ key. h.occurs key ∙ ap (λ rows. is_some (get key_cmp old key) || list_any (same_cells key) (map (key_of by) rows)) (sym (append-nil (rows_below k v mask)) ∙ sym (below_more k v mask false off));
+  }
+    where
+      one : (n : ℕ) → n < k + 1 → has mask n ≡ true → (n < k) ⊎ (k ≤ n) → get key_cmp mid (key_of by (row_at v n)) ≡ Some (get_or places n 0)
+      one n l on (inl m) = h.placed n m on
+      one n l on (inr m) = let e : k ≡ n = omega arith in absurd (false≢true (sym off ∙ ap (has mask) e ∙ on))
+
+  -- the next row has a place
+  pub placed_more : (new : BTreeMap Cells ℕ) (key : Cells) (place : ℕ) (after : List ℕ) → has mask k ≡ true → key ≡ key_of by (row_at v k) → IsTakenIn key place mid new → k < length places → after ≡ set places k place → ArePlaced (k + 1) by v mask old new after
+  placed_more new key place after on is t within now = record {
+    grown = record {
+      kept = λ q p e. t.grown.kept q p (h.grown.kept q p e);
+      fresh = λ q p none e. one_fresh q p none e (get key_cmp mid q) refl;
+      longer = omega (arith, h.grown.longer, t.grown.longer);
+    };
+    placed = λ n l m. one n l m (cases_lt n k);
+    occurs = λ q. t.occurs q ∙ ap (λ b. b || same_cells q key) (h.occurs q) ∙ or_assoc (is_some (get key_cmp old q)) (list_any (same_cells q) (map (key_of by) (rows_below k v mask))) (same_cells q key)
+        ∙ ap (λ b. is_some (get key_cmp old q) || b) (ap (λ (x : Cells). list_any (same_cells q) (map (key_of by) (rows_below k v mask)) || same_cells q x) is ∙ sym (any-append q (key_of by (row_at v k)) (map (key_of by) (rows_below k v mask)))
+        ∙ ap (list_any (same_cells q)) (sym (map-append (key_of by) (rows_below k v mask) (row_at v k ∷ []))) ∙ ap (λ rows. list_any (same_cells q) (map (key_of by) rows)) (sym (below_more k v mask true on)));
+  }
+    where
+      one_fresh : (q : Cells) (p : ℕ) → get key_cmp old q ≡ None → get key_cmp new q ≡ Some p → (o : Option ℕ) → get key_cmp mid q ≡ o → length old.entries ≤ p
+      one_fresh q p none e None m = omega (arith, t.grown.fresh q p m e, h.grown.longer)
+      one_fresh q p none e (Some r) m = let same : r ≡ p = some_same (sym (t.grown.kept q r m) ∙ e) in omega (arith, h.grown.fresh q r none m, same)
+
+      one : (n : ℕ) → n < k + 1 → has mask n ≡ true → (n < k) ⊎ (k ≤ n) → get key_cmp new (key_of by (row_at v n)) ≡ Some (get_or after n 0)
+      one n l m (inl b) = let ne : n ≢ k = omega arith in t.grown.kept (key_of by (row_at v n)) (get_or places n 0) (h.placed n b m) ∙ ap Some (sym (ap (λ xs. get_or xs n 0) now ∙ get_or-set_other places k n place 0 ne))
+      one n l m (inr b) =
+          let e : k ≡ n = omega arith in
+          subst (λ (j : ℕ). get key_cmp new (key_of by (row_at v j)) ≡ Some (get_or after j 0)) e
+          (ap (get key_cmp new) (sym is) ∙ t.now ∙ ap Some (sym (ap (λ xs. get_or xs k 0) now ∙ get_or-set_same places k place 0 within)))
+
+-- what is remembered at a place of the list
+pub entry_at : (entries : List (Option Recent)) (i : ℕ) (found : Option Recent) (recent : Recent) → i < length entries → found ≡ get_or entries i found → found ≡ Some recent → get_or entries i None ≡ Some recent
+entry_at [] i found recent l at is = absurd (omega arith)
+entry_at (e ∷ es) zero found recent l at is = sym at ∙ is
+entry_at (e ∷ es) (suc i) found recent l at is = entry_at es i found recent (omega arith) at is
+
+-- a list of one
+pub only_one : {X Y : Type 0} (f : X → Y) (xs : List X) (x : X) → length xs ≡ 1 → x ≡ get_or xs 0 x → f x ∷ [] ≡ map f xs
+only_one f [] x e at = absurd (omega (arith, e))
+only_one f (y ∷ []) x e at = ap (λ z. f z ∷ []) at
+only_one f (y ∷ z ∷ zs) x e at = absurd (omega (arith, e))

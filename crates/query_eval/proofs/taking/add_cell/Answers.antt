@@ -1,0 +1,17 @@
+-- The value is taken into the tally at its place.
+use Rattle.std.proofs.Common.{rules, FitsSigned, ◌≡◌, ◌++◌, ◌∷◌, [], ℤ, List, Option, cond, Some, get_or, subst, sym, ap, ◌∙◌, ◌==◌, set, refl, arith}
+use Rattle.std.specs.Int.{w128}
+use Rattle.std.proofs.lemmas.Int.{to_z-of_z}
+use Rattle.query_eval.specs.Grouping.{as_list}
+use Rattle.query_eval.specs.Tally.{IsTally, is_distinct}
+use Rattle.query_eval.specs.declared.tally.Tally.{Tally}
+use Rattle.query_eval.proofs.GroupingLemmas.{cell_values}
+use Rattle.query_eval.proofs.taking.add_cell.Goals as goal
+
+pub returns-in_ok-add-in-Some-clause-values : goal.returns-in_ok-add-in-Some-clause-values
+returns-in_ok-add-in-Some-clause-values c = λ g t values l h.
+    let value : FitsSigned w128 c.in-Some.value = search rules in
+    let at : c.index_mut.result.now ≡ get_or c.args.tallies.now.items c.args.place c.index_mut.result.now = search rules in
+    let takes = simp to_z-of_z at c.in_ok-add-in-Some.ensures.values in
+    subst (λ (o : Option ℤ). IsTally (values ++ cond (c.args.place == g) (as_list o) []) (get_or (set c.args.tallies.now.items c.args.place c.add.new.self) g t)) (sym c.in-Some.is)
+    (cell_values c.args.place c.args.tallies.now.items (set c.args.tallies.now.items c.args.place c.add.new.self) c.add.new.self c.index_mut.result.now (omega (arith, c.if-place-len.true, c.len.ensures)) refl (c.in-Some.value ∷ []) (λ vs held. takes vs (subst (IsTally vs) (sym at) held)) g t values l h)

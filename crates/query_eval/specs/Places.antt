@@ -1,0 +1,44 @@
+-- Places of groups by their keys, and of the rows of a vector by their groups.
+use Rattle.std.specs.Prelude.{◌≡◌, ℕ, ◌+◌, ◌==◌, ◌<◌, ◌≤◌, Bool, true, cond, ◌&&◌, ◌||◌, List, [], ◌∷◌, ◌++◌, map, length, slice_index_or, Option, Some, None}
+use Rattle.std.specs.List.{list_any, range_with_len}
+use Rattle.std.specs.BTreeMap.{BTreeMap, get}
+use Rattle.std.specs.Option.{is_some}
+use Rattle.table_model.specs.Group.{key_cmp, key_of}
+use Rattle.table_model.specs.State.{Cells, same_cells}
+use Rattle.table_model.specs.Values.{present}
+use Rattle.transpose_order.specs.Mask.{has}
+use Rattle.query_eval.specs.Vector.{Vector, row_at}
+use Rattle.query_eval.specs.declared.places.Places.{Places}
+use Rattle.query_eval.specs.declared.places.Recent.{Recent}
+
+-- the rows of a mask below k, in order
+abbrev pub rows_below : ℕ → Vector → List Bool → List Cells
+rows_below k v mask = present (map (λ n. cond (has mask n) (Some (row_at v n)) None) (range_with_len 0 k))
+
+-- the rows of a mask below k that have a place, in order
+abbrev pub rows_placed : ℕ → Vector → List Bool → List ℕ → ℕ → List Cells
+rows_placed k v mask places place = present (map (λ n. cond (has mask n && (slice_index_or places n 0 == place)) (Some (row_at v n)) None) (range_with_len 0 k))
+
+-- the places are those below the number of keys, no two keys have the same, and what is remembered of cells is so
+pub record IsIndex (places : Places) : Type 0 where
+  pub below : (key : Cells) (place : ℕ) → get key_cmp places.index key ≡ Some place → place < length places.index.entries
+  pub apart : (key other : Cells) (place : ℕ) → get key_cmp places.index key ≡ Some place → get key_cmp places.index other ≡ Some place → key ≡ other
+  pub recent : (i : ℕ) (recent : Recent) → slice_index_or places.recent.items i None ≡ Some recent → get key_cmp places.index (recent.cell ∷ []) ≡ Some recent.place
+
+-- some keys more: those that had a place keep it, and those that come have new ones
+pub record IsGrown (old new : BTreeMap Cells ℕ) : Type 0 where
+  pub kept : (key : Cells) (place : ℕ) → get key_cmp old key ≡ Some place → get key_cmp new key ≡ Some place
+  pub fresh : (key : Cells) (place : ℕ) → get key_cmp old key ≡ None → get key_cmp new key ≡ Some place → length old.entries ≤ place
+  pub longer : length old.entries ≤ length new.entries
+
+-- a key has a place, and no other key comes
+pub record IsTakenIn (key : Cells) (place : ℕ) (old new : BTreeMap Cells ℕ) : Type 0 where
+  pub grown : IsGrown old new
+  pub now : get key_cmp new key ≡ Some place
+  pub occurs : (other : Cells) → is_some (get key_cmp new other) ≡ (is_some (get key_cmp old other) || same_cells other key)
+
+-- the rows of a mask below k have the places of their keys, and no other key comes
+pub record ArePlaced (k : ℕ) (by : List ℕ) (v : Vector) (mask : List Bool) (old new : BTreeMap Cells ℕ) (places : List ℕ) : Type 0 where
+  pub grown : IsGrown old new
+  pub placed : (n : ℕ) → n < k → has mask n ≡ true → get key_cmp new (key_of by (row_at v n)) ≡ Some (slice_index_or places n 0)
+  pub occurs : (key : Cells) → is_some (get key_cmp new key) ≡ (is_some (get key_cmp old key) || list_any (same_cells key) (map (key_of by) (rows_below k v mask)))
