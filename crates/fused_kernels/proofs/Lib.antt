@@ -14,3 +14,7 @@ pub mod NativeLemmas
 pub mod PackedLemmas
 pub mod FoundLemmas
 pub mod RunFoldLemmas
+pub mod WalkLemmas
+pub mod ListLemmas
+pub mod RaisedLemmas
+pub mod RowsLemmas

@@ -1,3 +1,4 @@
 pub mod Seen
 pub mod Folds
+pub mod Walks
 pub mod VectorSeen

@@ -11,6 +11,7 @@ mod lanes;
 mod meter;
 mod native_16;
 mod native_32;
+mod native_64;
 mod packed;
 mod paths;
 mod ranges;
@@ -18,6 +19,10 @@ mod run_folds;
 mod runs;
 mod sums;
 mod vector_lanes;
+mod walk_16;
+mod walk_32;
+mod walk_64;
+mod walks;
 
 pub use columns::compare_columns;
 pub use comparisons::compare;

@@ -4,7 +4,7 @@ ghost use Rattle.table_model.specs.Truth.{compared};
 ghost use Rattle.table_model.specs.Values.{total, least, greatest};
 ghost use Rattle.transpose_order.specs.Mask.{rows_of};
 ghost use Rattle.segment_core.specs.Coded.{value_in, values_of};
-ghost use Rattle.segment_core.specs.declared.coded.Coded.TheVariants.{Runs as InRuns};
+ghost use Rattle.segment_core.specs.declared.coded.Coded.TheVariants.{For as InFor, Delta as InDelta, Runs as InRuns};
 ghost use Rattle.table_model.specs.Passes.{raised};
 ghost use Rattle.fused_kernels.specs.Seen.{looked_at, values_looked_at, between};
 ghost use Rattle.fused_kernels.specs.VectorSeen.{vector_seen};
@@ -18,6 +18,8 @@ use crate::ranges::compare_range;
 use crate::run_folds::{greatest_of_runs, least_of_runs, sum_of_runs};
 use crate::sums::sum;
 use crate::vector_lanes::VectorLanes;
+use crate::walks::{sum_of_deltas, sum_of_frame};
+use frame_delta::{Delta, For};
 use run_dictionary::Runs;
 use segment_core::{Coded, CodedVector};
 use table_model::Op;
@@ -39,6 +41,36 @@ fn sum_by_runs(vector: &CodedVector, form: &Runs, mask: &Mask) -> i128
     sum_of_runs(form, &rows_of_vector(vector, mask))
 }
 
+/// What `vector_sum` answers, by the native lanes of the vector's frame.
+fn sum_by_frame(vector: &CodedVector, form: &For, mask: &Mask, meter: &mut Meter) -> i128
+    requires { vector.now.coded ≡ InFor form.now }
+    ensures value { result ≡ total (values_looked_at (vector_seen vector.now 0) mask.now) }
+    ensures pass { meter.new ≡ raised 1 meter.old }
+{
+    match sum_of_frame(form, &rows_of_vector(vector, mask)) {
+        None => sum_by_lanes(vector, mask, meter),
+        Some(sum) => {
+            meter.add_pass();
+            sum
+        }
+    }
+}
+
+/// What `vector_sum` answers, by the native lanes of the vector's deltas.
+fn sum_by_deltas(vector: &CodedVector, form: &Delta, mask: &Mask, meter: &mut Meter) -> i128
+    requires { vector.now.coded ≡ InDelta form.now }
+    ensures value { result ≡ total (values_looked_at (vector_seen vector.now 0) mask.now) }
+    ensures pass { meter.new ≡ raised 1 meter.old }
+{
+    match sum_of_deltas(form, &rows_of_vector(vector, mask)) {
+        None => sum_by_lanes(vector, mask, meter),
+        Some(sum) => {
+            meter.add_pass();
+            sum
+        }
+    }
+}
+
 /// The sum of the values of a vector's rows looked at, 0 over none. Rows of the mask that are covered and not null are looked
 /// at. The meter counts one pass more.
 pub fn vector_sum(vector: &CodedVector, mask: &Mask, meter: &mut Meter) -> i128
@@ -50,7 +82,9 @@ pub fn vector_sum(vector: &CodedVector, mask: &Mask, meter: &mut Meter) -> i128
             meter.add_pass();
             sum_by_runs(vector, form.get(), mask)
         }
-        _ => sum_by_lanes(vector, mask, meter),
+        Coded::For(form) => sum_by_frame(vector, form, mask, meter),
+        Coded::Delta(form) => sum_by_deltas(vector, form.get(), mask, meter),
+        Coded::Dict(_) => sum_by_lanes(vector, mask, meter),
     }
 }
 

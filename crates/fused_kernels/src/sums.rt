@@ -48,7 +48,7 @@ fn add_halves(sums: &mut [u64; 16], numbers: &[u64; 16], shift: usize)
 }
 
 /// The sum of sixteen sums.
-fn sum_of_lanes(sums: &[u64; 16]) -> u64
+pub(crate) fn sum_of_lanes(sums: &[u64; 16]) -> u64
     requires { (i : ℕ) → i < 16 → slice_index sums.now i ≤ 2 ^ 40 }
     ensures sum { result ≡ fold_to ◌+◌ 0 16 (slice_index sums.now) }
     ensures bound { result ≤ 2 ^ 44 }

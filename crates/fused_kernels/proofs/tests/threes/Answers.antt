@@ -1,5 +1,5 @@
 -- Zero is of 64 bits.
-use Rattle.std.proofs.Common.{ℤ, pos, FitsSigned, sym, subst, arith}
+use Rattle.std.proofs.Common.{pos, FitsSigned, sym, subst, arith}
 use Rattle.std.specs.Int.{w64}
 use Rattle.std.proofs.lemmas.Int.{ints}
 use Rattle.std.proofs.lemmas.List.{get_or-replicate}

@@ -1,0 +1,32 @@
+-- Lanes gone through step by step, and the numbers that they come to.
+use Rattle.std.specs.Prelude.{ℕ, zero, suc, ◌+◌, ◌^◌, ◌%◌, Bool, cond, List, slice_index}
+use Rattle.transpose_order.specs.Place.{lane_of, step_of}
+use Rattle.bit_interleave.specs.Packing.{packed_value}
+
+-- packed words of so many bits a lane, whether a lane's number is carried from a step to the next, what each lane starts with, and
+-- what each step adds
+pub record Walk : Type 0 where
+  pub lane_width : ℕ
+  pub width : ℕ
+  pub words : List ℕ
+  pub carried : Bool
+  pub starts : List ℕ
+  pub added : ℕ
+
+-- a lane's number before step k: what it starts with, and after each step what is carried, added and packed there, modulo m
+unfoldable pub walked : ℕ → Bool → ℕ → ℕ → (ℕ → ℕ) → ℕ → ℕ
+walked m carried start added number zero = start
+walked m carried start added number (suc k) = (cond carried (walked m carried start added number k) 0 + added + number k) % m
+
+-- the number of a lane of t bits before step k, modulo two to the power of t
+unfoldable pub number_before : Walk → ℕ → ℕ → ℕ
+number_before walk lane k =
+    walked (2 ^ walk.lane_width) walk.carried (slice_index walk.starts lane) walk.added (packed_value walk.lane_width walk.width walk.words lane) k
+
+-- the number of a lane at a step
+abbrev pub number_at : Walk → ℕ → ℕ → ℕ
+number_at walk lane step = number_before walk lane (step + 1)
+
+-- the number of row n
+unfoldable pub number_of_row : Walk → ℕ → ℕ
+number_of_row walk n = number_at walk (lane_of walk.lane_width n) (step_of walk.lane_width n)

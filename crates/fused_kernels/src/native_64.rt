@@ -1,0 +1,60 @@
+//! Packed numbers of 64 bits, all 16 lanes of a step at once, by loops that the compiler makes vectors of.
+ghost use Rattle.std.specs.Prelude.{◌≡◌, ◌==◌, ℕ, ◌+◌, ◌-◌, ◌*◌, ◌/◌, ◌%◌, ◌^◌, ◌<◌, ◌≤◌, ◌&&◌, ◌||◌, nat_le, length, slice_index, bit_or};
+ghost use Rattle.std.specs.Int.{bit_at};
+ghost use Rattle.transpose_order.specs.Mask.{rows_of};
+ghost use Rattle.transpose_order.specs.Place.{lane_of, step_of};
+ghost use Rattle.bit_interleave.specs.Packing.{packed_value};
+
+use transpose_order::Mask;
+
+/// The `width` bits of a word from bit `shift` on.
+#[inline(always)]
+fn within_word(word: u64, shift: usize, width: usize) -> u64
+    requires positive { 0 < width }
+    requires width { width ≤ 64 }
+    requires shift { shift < 64 }
+    ensures { result ≡ word / 2 ^ shift % 2 ^ width }
+{
+    let ones = u64::MAX >> (64 - width);
+    word >> shift & ones
+}
+
+/// The `width` bits from bit `shift` of a low word on, which go on in a high one.
+#[inline(always)]
+fn across_words(low: u64, high: u64, shift: usize, width: usize) -> u64
+    requires positive { 0 < width }
+    requires width { width ≤ 64 }
+    requires some { 0 < shift }
+    requires shift { shift < 64 }
+    ensures { result ≡ bit_or (low / 2 ^ shift) (high * 2 ^ (64 - shift) % 2 ^ 64) % 2 ^ width }
+{
+    let ones = u64::MAX >> (64 - width);
+    (low >> shift | high << (64 - shift)) & ones
+}
+
+/// The numbers of all lanes at a step, of 16 words for each bit of the width.
+#[inline(always)]
+pub(crate) fn numbers_64(width: usize, words: &[u64], step: usize) -> [u64; 16]
+    requires width { width ≤ 64 }
+    requires words { length words.now ≡ width * 16 }
+    requires step { step < 64 }
+    ensures { (lane : ℕ) → lane < 16 → slice_index result lane ≡ packed_value 64 width words.now lane step }
+{
+    let mut numbers = [0; 16];
+    if width == 0 {
+        return numbers;
+    }
+    let bit = step * width;
+    let shift = bit % 64;
+    let at = bit / 64 * 16;
+    if shift + width <= 64 {
+        for i in 0..16 {
+            numbers[i] = within_word(words[at + i], shift, width);
+        }
+        return numbers;
+    }
+    for i in 0..16 {
+        numbers[i] = across_words(words[at + i], words[at + 16 + i], shift, width);
+    }
+    numbers
+}

@@ -1,0 +1,239 @@
+//! Lanes of 16 bits gone through step by step, all 64 of them at once, by loops that the compiler makes vectors of.
+ghost use Rattle.std.specs.Prelude.{◌≡◌, ◌==◌, ℕ, suc, ◌+◌, ◌-◌, ◌*◌, ◌/◌, ◌%◌, ◌^◌, ◌<◌, ◌≤◌, ◌&&◌, cond, length, slice_index, nat_le, min, max, FitsSigned, ℤ, int_lt, pos, ◌+ℤ◌, Some, None};
+ghost use Rattle.std.specs.Int.{bit_at, w16};
+ghost use Rattle.transpose_order.specs.Mask.{has, rows_of};
+ghost use Rattle.transpose_order.specs.Place.{row_at};
+ghost use Rattle.bit_interleave.specs.Packing.{packed_value};
+ghost use Rattle.bit_interleave.specs.Range.{AreInRange, value_at};
+ghost use Rattle.frame_delta.specs.Frame.{frame_value};
+ghost use Rattle.frame_delta.specs.Delta.{delta_value};
+ghost use Rattle.table_model.specs.Values.{lesser, greater};
+ghost use Rattle.fused_kernels.specs.Folds.{fold_to};
+ghost use Rattle.fused_kernels.specs.Walks.{number_before, number_at, number_of_row};
+
+use crate::native_16::numbers_16;
+use frame_delta::{Delta, For};
+use std::marker::Model;
+use transpose_order::Mask;
+
+/// Packed words of 16 bits whose 64 lanes are gone through step by step. A lane's number is at each step what is carried from
+/// the step before, where it is carried, and what is added and packed, modulo two to the power of 16.
+#[derive(Drop)]
+pub(crate) struct Walk16<'a> {
+    width: usize,
+    words: &'a [u16],
+    carried: bool,
+    starts: [u16; 64],
+    added: u16,
+}
+
+impl<'a> Model for Walk16<'a> {
+    ghost use Rattle.std.specs.Prelude.{◌≡◌, ◌*◌, ◌≤◌, length};
+    ghost use Rattle.fused_kernels.specs.Walks.{Walk};
+
+    ghost Value = { Walk };
+
+    ghost view = { λ w. record { lane_width = 16; width = w.width; words = w.words.now; carried = w.carried; starts = w.starts; added = w.added } };
+
+    ghost invariant = { λ w. (w.width ≤ 16) × (length w.words.now ≡ w.width * 64) };
+}
+
+/// What is carried, where it is, and what is added and packed, modulo two to the power of 16.
+#[inline(always)]
+fn stepped(carried: bool, before: u16, added: u16, number: u16) -> u16
+    ensures { result ≡ (cond carried before 0 + added + number) % 2 ^ 16 }
+{
+    let start = if carried { before } else { 0 };
+    start.wrapping_add(added).wrapping_add(number)
+}
+
+/// Takes the numbers of all lanes one step on.
+#[inline(always)]
+fn advance(numbers: &mut [u16; 64], packed: &[u16; 64], carried: bool, added: u16)
+    ensures { (lane : ℕ) → lane < 64 → slice_index numbers.new lane
+        ≡ (cond carried (slice_index numbers.old lane) 0 + added + slice_index packed.now lane) % 2 ^ 16 }
+{
+    for i in 0..64 {
+        numbers[i] = stepped(carried, numbers[i], added, packed[i]);
+    }
+}
+
+/// A number where a lane's bit of a step is set, else another.
+#[inline(always)]
+fn chosen(bits: u16, step: usize, number: u16, other: u16) -> u16
+    requires { step < 16 }
+    ensures { result ≡ cond (bit_at bits step == 1) number other }
+{
+    if bits >> step & 1 == 1 { number } else { other }
+}
+
+/// Adds to two sums of each lane whose bit of a step is set the low and the high 8 bits of its number.
+#[inline(always)]
+fn add_parts(
+    low: &mut [u16; 64],
+    high: &mut [u16; 64],
+    numbers: &[u16; 64],
+    rows: &[u16; 64],
+    step: usize,
+)
+    requires step { step < 16 }
+    requires low { (lane : ℕ) → lane < 64 → slice_index low.old lane ≤ 2 ^ 15 }
+    requires high { (lane : ℕ) → lane < 64 → slice_index high.old lane ≤ 2 ^ 15 }
+    ensures low { (lane : ℕ) → lane < 64 → slice_index low.new lane
+        ≡ slice_index low.old lane + cond (bit_at (slice_index rows.now lane) step == 1) (slice_index numbers.now lane) 0 % 2 ^ 8 }
+    ensures high { (lane : ℕ) → lane < 64 → slice_index high.new lane
+        ≡ slice_index high.old lane + cond (bit_at (slice_index rows.now lane) step == 1) (slice_index numbers.now lane) 0 / 2 ^ 8 }
+{
+    for i in 0..64 {
+        let number = chosen(rows[i], step, numbers[i], 0);
+        low[i] += number & 0xFF;
+        high[i] += number >> 8;
+    }
+}
+
+/// The sum of the sums of 64 lanes.
+fn sum_of_lanes(sums: &[u16; 64]) -> u64
+    ensures sum { result ≡ fold_to ◌+◌ 0 64 (slice_index sums.now) }
+    ensures bound { result ≤ 2 ^ 22 }
+{
+    let mut sum = 0;
+    for i in 0..64 {
+        sum += u64::from(sums[i]);
+    }
+    sum
+}
+
+/// The bits of a mask's rows in their lanes.
+fn lanes_of_mask(mask: &Mask) -> [u16; 64]
+    ensures { (lane step : ℕ) → lane < 64 → step < 16 → (bit_at (slice_index result lane) step == 1) ≡ has mask.now (row_at 16 lane step) }
+{
+    let mut lanes = [0; 64];
+    for lane in 0..64 {
+        lanes[lane] = mask.piece(16, lane) as u16;
+    }
+    lanes
+}
+
+impl<'a> Walk16<'a> {
+    /// The walk through these words.
+    pub(crate) fn new(
+        width: usize,
+        words: &'a [u16],
+        carried: bool,
+        starts: [u16; 64],
+        added: u16,
+    ) -> Self
+        requires width { width ≤ 16 }
+        requires words { length words.now ≡ width * 64 }
+        ensures { result ≡ record { lane_width = 16; width = width; words = words.now; carried = carried; starts = starts; added = added } }
+    {
+        Walk16 {
+            width,
+            words,
+            carried,
+            starts,
+            added,
+        }
+    }
+
+    /// Takes the numbers of all lanes from those before a step to those at it.
+    #[inline(always)]
+    fn go(&self, step: usize, numbers: &mut [u16; 64])
+        requires step { step < 16 }
+        requires before { (lane : ℕ) → lane < 64 → slice_index numbers.old lane ≡ number_before self.now lane step }
+        ensures { (lane : ℕ) → lane < 64 → slice_index numbers.new lane ≡ number_at self.now lane step }
+    {
+        let packed = numbers_16(self.width, self.words, step);
+        advance(numbers, &packed, self.carried, self.added);
+    }
+
+    /// The sum of the numbers of a mask's rows.
+    pub(crate) fn sum(&self, rows: &Mask) -> u128
+        ensures sum { result ≡ fold_to ◌+◌ 0 1024 (λ n. cond (has rows.now n) (number_of_row self.now n) 0) }
+        ensures bound { result ≤ 2 ^ 80 }
+    {
+        let lanes = lanes_of_mask(rows);
+        let mut numbers = self.starts;
+        let mut low = [0; 64];
+        let mut high = [0; 64];
+        for step in 0..16 {
+            self.go(step, &mut numbers);
+            add_parts(&mut low, &mut high, &numbers, &lanes, step);
+        }
+        u128::from(sum_of_lanes(&low)) + u128::from(sum_of_lanes(&high)) * 0x100
+    }
+    /// The sum of the values of a mask's rows, where each row's number is how far its value is above the least of 16 bits.
+    pub(crate) fn sum_of_values(&self, rows: &Mask) -> i128
+        ensures { (value : ℕ → ℤ) → ((n : ℕ) → n < 1024 → pos (number_of_row self.now n) ≡ value n +ℤ pos (2 ^ 15))
+            → result ≡ fold_to ◌+ℤ◌ (pos 0) 1024 (λ n. cond (has rows.now n) (value n) (pos 0)) }
+    {
+        self.sum(rows) as i128 - rows.count_below(1024) as i128 * (1 << 15)
+    }
+}
+
+/// How far a value of 16 bits is above the least of 16 bits.
+#[inline(always)]
+fn raised(value: i64) -> u16
+    requires { FitsSigned w16 value }
+    ensures { pos result ≡ value +ℤ pos (2 ^ 15) }
+{
+    (value as i16).cast_unsigned().wrapping_add(1 << 15)
+}
+
+/// The bits of a value of 16 bits.
+fn bits(value: i64) -> u16
+    requires { FitsSigned w16 value }
+    ensures { pos result ≡ cond (int_lt value (pos 0)) (value +ℤ pos (2 ^ 16)) value }
+{
+    (value as i16).cast_unsigned()
+}
+
+/// How far each of 64 values of 16 bits is above the least of 16 bits.
+fn all_raised(values: &[i64]) -> [u16; 64]
+    requires count { length values.now ≡ 64 }
+    requires fit { AreInRange 16 values.now }
+    ensures { (lane : ℕ) → lane < 64 → pos (slice_index result lane) ≡ value_at values.now lane +ℤ pos (2 ^ 15) }
+{
+    let mut numbers = [0; 64];
+    for lane in 0..64 {
+        numbers[lane] = raised(values[lane]);
+    }
+    numbers
+}
+
+/// The walk of a frame, whose numbers are how far the values are above the least of 16 bits.
+fn walk_of_frame_16(form: &For) -> Walk16<'_>
+    requires { form.now.lane_width ≡ 16 }
+    ensures { (n : ℕ) → n < 1024 → pos (number_of_row result n) ≡ frame_value form.now n +ℤ pos (2 ^ 15) }
+{
+    let _ = form.lane_width();
+    let added = raised(form.reference());
+    Walk16::new(form.width(), form.words().words_16(), false, [0; 64], added)
+}
+
+/// The walk of deltas, whose numbers are how far the values are above the least of 16 bits.
+fn walk_of_deltas_16(form: &Delta) -> Walk16<'_>
+    requires { form.now.lane_width ≡ 16 }
+    ensures { (n : ℕ) → n < 1024 → pos (number_of_row result n) ≡ delta_value form.now n +ℤ pos (2 ^ 15) }
+{
+    let _ = form.lane_width();
+    let starts = all_raised(form.bases());
+    let added = bits(form.least());
+    Walk16::new(form.width(), form.words().words_16(), true, starts, added)
+}
+
+/// The sum of the values of a mask's rows of a frame of 16 bits.
+pub(crate) fn sum_of_frame_16(form: &For, rows: &Mask) -> i128
+    requires { form.now.lane_width ≡ 16 }
+    ensures { result ≡ fold_to ◌+ℤ◌ (pos 0) 1024 (λ n. cond (has rows.now n) (frame_value form.now n) (pos 0)) }
+{
+    walk_of_frame_16(form).sum_of_values(rows)
+}
+
+/// The sum of the values of a mask's rows of deltas of 16 bits.
+pub(crate) fn sum_of_deltas_16(form: &Delta, rows: &Mask) -> i128
+    requires { form.now.lane_width ≡ 16 }
+    ensures { result ≡ fold_to ◌+ℤ◌ (pos 0) 1024 (λ n. cond (has rows.now n) (delta_value form.now n) (pos 0)) }
+{
+    walk_of_deltas_16(form).sum_of_values(rows)
+}

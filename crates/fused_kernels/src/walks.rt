@@ -1,0 +1,36 @@
+//! Set functions of frames and deltas, by walks through their lanes.
+ghost use Rattle.std.specs.Prelude.{◌≡◌, cond, IfSome, pos, ◌+ℤ◌};
+ghost use Rattle.transpose_order.specs.Mask.{has};
+ghost use Rattle.frame_delta.specs.Frame.{frame_value};
+ghost use Rattle.frame_delta.specs.Delta.{delta_value};
+ghost use Rattle.fused_kernels.specs.Folds.{fold_to};
+
+use crate::walk_16::{sum_of_deltas_16, sum_of_frame_16};
+use crate::walk_32::{sum_of_deltas_32, sum_of_frame_32};
+use crate::walk_64::{sum_of_deltas_64, sum_of_frame_64};
+use frame_delta::{Delta, For};
+use transpose_order::Mask;
+
+/// The sum of the values of a mask's rows, or none at a lane width of 8.
+pub(crate) fn sum_of_frame(form: &For, rows: &Mask) -> Option<i128>
+    ensures { IfSome result (λ sum. sum ≡ fold_to ◌+ℤ◌ (pos 0) 1024 (λ n. cond (has rows.now n) (frame_value form.now n) (pos 0))) }
+{
+    match form.lane_width() {
+        16 => Some(sum_of_frame_16(form, rows)),
+        32 => Some(sum_of_frame_32(form, rows)),
+        64 => Some(sum_of_frame_64(form, rows)),
+        _ => None,
+    }
+}
+
+/// The sum of the values of a mask's rows, or none at a lane width of 8.
+pub(crate) fn sum_of_deltas(form: &Delta, rows: &Mask) -> Option<i128>
+    ensures { IfSome result (λ sum. sum ≡ fold_to ◌+ℤ◌ (pos 0) 1024 (λ n. cond (has rows.now n) (delta_value form.now n) (pos 0))) }
+{
+    match form.lane_width() {
+        16 => Some(sum_of_deltas_16(form, rows)),
+        32 => Some(sum_of_deltas_32(form, rows)),
+        64 => Some(sum_of_deltas_64(form, rows)),
+        _ => None,
+    }
+}
