@@ -1,6 +1,7 @@
 //! A batch's columns in bytes, at bytes and places worked out by hand from the format.
 use crate::coded::Coded;
 use crate::segment::Segment;
+use crate::tests::{Pattern, rows_of, segment_of};
 use std::alloc::Global;
 use std::process::Abort;
 use std::test::Fail;
@@ -19,6 +20,26 @@ fn joined(alloc: Global, front: &[u8], zeros: usize, back: &[u8]) -> Result<Vec<
     }
     bytes.extend_from_slice(back)?;
     Ok(bytes)
+}
+
+/// So many of each byte, one after another.
+fn repeated(alloc: Global, parts: &[(usize, u8)]) -> Result<Vec<u8>, Fail> {
+    let mut bytes = Vec::new(alloc);
+    for (count, byte) in parts {
+        for _ in 0..*count {
+            bytes.push(*byte)?;
+        }
+    }
+    Ok(bytes)
+}
+
+/// The bytes of the segment of 1024 rows in one SMALLINT column.
+fn bytes_of(alloc: Global, pattern: Pattern) -> Result<Vec<u8>, Fail> {
+    let rows = rows_of(alloc, 1024, pattern)?;
+    let segment = segment_of(alloc, ColType::SmallInt, &rows)?;
+    let mut writer = Counted::new(Vec::new(alloc));
+    segment.write_bytes(&mut writer)?;
+    Ok(writer.into_inner())
 }
 
 /// Reading one row of one SMALLINT column from such bytes is refused so.
@@ -49,6 +70,76 @@ fn one_row_of_seven_takes_seven_bytes(rt: HostRuntime) -> Result<(), Fail> {
     match vector.coded() {
         Coded::For(form) => assert_eq!(rt; form.value(0), 7),
         _ => assert!(rt; false, "the tag is FOR's"),
+    }
+    let copy = segment.copy(alloc)?;
+    assert!(rt; copy.same_rows(&segment));
+    assert!(rt; copy.has_rows(&rows_of(alloc, 1, Pattern::All(7))?));
+    Ok(())
+}
+
+// Null flag, tag, width and count, then the payload. Row 500 is bit 4 of byte 62 of the start mask. Sixteen rows side by side
+// are a lane, so that codes 0, 1, 0, 1, .. of one bit fill words of AAAA. DELTA has a least delta of 1 and then for each lane its
+// first value less 1: lane 0 begins at row 0, and lane 1 at row 64.
+#[test]
+fn canonical_vectors_have_these_bytes(rt: HostRuntime) -> Result<(), Fail> {
+    let alloc = rt.alloc();
+    let frame = repeated(alloc, &[(5, 0), (1, 7), (1, 0)])?;
+    assert_eq!(rt; bytes_of(alloc, Pattern::All(7))?, frame);
+    let runs = [
+        (1, 0),
+        (1, 2),
+        (1, 1),
+        (1, 2),
+        (63, 0),
+        (1, 16),
+        (67, 0),
+        (1, 255),
+        (1, 127),
+    ];
+    assert_eq!(rt;
+        bytes_of(alloc, Pattern::ChangedAt(500, 0, 32767))?,
+        repeated(alloc, &runs)?
+    );
+    let codes = [
+        (1, 0),
+        (1, 3),
+        (1, 1),
+        (1, 2),
+        (3, 0),
+        (1, 255),
+        (1, 127),
+        (128, 170),
+    ];
+    assert_eq!(rt;
+        bytes_of(alloc, Pattern::Alternating(0, 32767))?,
+        repeated(alloc, &codes)?
+    );
+    let deltas = bytes_of(alloc, Pattern::Counting)?;
+    assert_eq!(rt; deltas.len(), 135);
+    assert!(rt; deltas.starts_with(&[0, 1, 0, 0, 0, 1, 0, 255, 255, 63, 0]));
+    Ok(())
+}
+
+// A width may be the lane's, and no more; a code's may be 16 at every lane width.
+#[test]
+fn widths_have_their_limits_at_each_type(rt: HostRuntime) -> Result<(), Fail> {
+    let alloc = rt.alloc();
+    let cases = [
+        (ColType::Integer, [0, 0, 33], Refusal::BadWidth(2)),
+        (ColType::Integer, [0, 1, 33], Refusal::BadWidth(2)),
+        (ColType::Integer, [0, 3, 17], Refusal::BadWidth(2)),
+        (ColType::Integer, [0, 0, 32], Refusal::Truncated(3)),
+        (ColType::BigInt, [0, 0, 65], Refusal::BadWidth(2)),
+        (ColType::BigInt, [0, 1, 65], Refusal::BadWidth(2)),
+        (ColType::BigInt, [0, 3, 17], Refusal::BadWidth(2)),
+        (ColType::BigInt, [0, 1, 64], Refusal::Truncated(3)),
+        (ColType::BigInt, [0, 2, 2], Refusal::BadWidth(2)),
+        (ColType::BigInt, [0, 3, 16], Refusal::Truncated(3)),
+    ];
+    for (column_type, bytes, fault) in cases {
+        let schema = Schema::new(alloc, "T", &[("A", column_type)])?;
+        let read = Segment::read_bytes(alloc, &schema, 1, &bytes, 0);
+        assert_eq!(rt; read.err(), Some(fault));
     }
     Ok(())
 }

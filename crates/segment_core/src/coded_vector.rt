@@ -3,7 +3,7 @@ ghost use Rattle.std.specs.Prelude.{◌≡◌, ◌<◌, ◌≤◌, ◌↔◌, �
 ghost use Rattle.std.specs.Option.{option_copied};
 ghost use Rattle.transpose_order.specs.Mask.{rows_of};
 ghost use Rattle.transpose_order.specs.Place.{IsLaneWidth};
-ghost use Rattle.segment_core.specs.Coded.{lane_width_of, coding_of};
+ghost use Rattle.segment_core.specs.Coded.{lane_width_of, values_of, coding_of};
 ghost use Rattle.segment_core.specs.CodedVector.{is_null, vector_cell, cells_of, null_rows, some_rows, canonical_vector, canonical_of, recoded_vector, IsVector, AreNulls, StandsFor};
 ghost use Rattle.segment_core.specs.Fill.{cell_or_null, filled, cells_under, AreCellsInRange};
 ghost use Rattle.segment_core.specs.Segment.{column_cells};
@@ -119,13 +119,22 @@ impl CodedVector {
         }
     }
 
+    /// Makes the decoded values the filled vector, each value in the range of the lane width.
+    fn fill_decoded(&self, values: &mut [i64; 1024])
+        requires { values.old ≡ values_of self.now.coded }
+        ensures values { values.new ≡ filled (cells_of self.now) }
+        ensures fit { AreInRange (lane_width_of self.now.coded) values.new }
+    {
+        fill(values, self.rows as usize, &self.null_rows());
+    }
+
     /// Writes the filled vector, each value in the range of the lane width.
     fn write_filled(&self, values: &mut [i64; 1024])
         ensures values { values.new ≡ filled (cells_of self.now) }
         ensures fit { AreInRange (lane_width_of self.now.coded) values.new }
     {
         self.coded.decode(values);
-        fill(values, self.rows as usize, &self.null_rows());
+        self.fill_decoded(values);
     }
 
     /// The canonical vector of 1 to 1024 rows, of which a mask has those that are null, and values stand at the others, in the
@@ -157,8 +166,8 @@ impl CodedVector {
     {
         let mut values = [0; 1024];
         self.coded.decode(&mut values);
-        let mut full = [0; 1024];
-        self.write_filled(&mut full);
+        let mut full = values;
+        self.fill_decoded(&mut full);
         if !same_values(&values, &full) {
             return false;
         }

@@ -31,4 +31,6 @@ pub use writing::{write_number, write_value, write_values, write_whole};
 #[cfg(test)]
 mod bytes_tests;
 #[cfg(test)]
+mod refused_tests;
+#[cfg(test)]
 mod tests;

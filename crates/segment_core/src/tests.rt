@@ -7,7 +7,7 @@ use table_model::{ColType, Refusal, Row, Schema, check_rows};
 
 /// What a test's column holds.
 #[derive(Clone, Copy)]
-enum Pattern {
+pub(super) enum Pattern {
     All(i128),
     Counting,
     Alternating(i128, i128),
@@ -31,7 +31,12 @@ fn cell_of(pattern: Pattern, row: usize) -> Option<i128> {
     }
 }
 
-fn rows_of(alloc: Global, count: usize, pattern: Pattern) -> Result<Vec<Row>, AllocError> {
+/// So many rows of one cell.
+pub(super) fn rows_of(
+    alloc: Global,
+    count: usize,
+    pattern: Pattern,
+) -> Result<Vec<Row>, AllocError> {
     let mut rows = Vec::with_capacity(alloc, count)?;
     for row in 0..count {
         rows.push(Row::from_cells(Vec::from_slice(alloc, &[cell_of(pattern, row)])?))?;
@@ -40,7 +45,11 @@ fn rows_of(alloc: Global, count: usize, pattern: Pattern) -> Result<Vec<Row>, Al
 }
 
 /// The segment of a table with one column.
-fn segment_of(alloc: Global, column_type: ColType, rows: &[Row]) -> Result<Segment, Refusal> {
+pub(super) fn segment_of(
+    alloc: Global,
+    column_type: ColType,
+    rows: &[Row],
+) -> Result<Segment, Refusal> {
     let schema = Schema::new(alloc, "T", &[("A", column_type)])?;
     check_rows(&schema, rows)?;
     Ok(Segment::build(alloc, &schema, rows)?)

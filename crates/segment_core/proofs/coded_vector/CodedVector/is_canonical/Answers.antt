@@ -11,6 +11,9 @@ use Rattle.segment_core.specs.contracts.coding.Coding.{the_type}
 use denote.Enum.Bare.{sameb, same_true}
 use Rattle.segment_core.proofs.coded_vector.CodedVector.is_canonical.Goals as goal
 
+pub fill_decoded-requires : goal.fill_decoded-requires
+fill_decoded-requires c = c.decode.ensures.values ∙ ap (λ (x : VectorForm). values_of x.coded) c.self.view_is
+
 pub returns-then-not-same_values : goal.returns-then-not-same_values
 returns-then-not-same_values c =
     let v : VectorForm = c.args.self.now in
@@ -19,7 +22,7 @@ returns-then-not-same_values c =
     let values : c.decode.new.values ≡ values_of v.coded = c.decode.ensures.values ∙ ap (λ (x : VectorForm). values_of x.coded) c.self.view_is in (
       λ no. absurd (cc),
       λ e. let parts = canonical_parts v t is (lane_width_is v.coded is.form) refl e in
-          c.if-not-same_values.ensures.1 (values ∙ parts.values ∙ sym c.write_filled.ensures.values),
+          c.if-not-same_values.ensures.1 (values ∙ parts.values ∙ sym c.fill_decoded.ensures.values),
     )
 
 pub returns-then-not-is_least : goal.returns-then-not-is_least
@@ -46,11 +49,11 @@ returns c =
     let is : IsVector v = subst (λ (x : VectorForm). IsVector x) c.self.view_is c.self.invariant in
     let coded : c.self.inside.coded ≡ v.coded = ap (λ (x : VectorForm). x.coded) c.self.view_is in
     let values : values_of v.coded ≡ filled (cells_of v) =
-    sym (c.decode.ensures.values ∙ ap values_of coded) ∙ c.if-not-same_values.ensures.0 refl ∙ c.write_filled.ensures.values in
+    sym (c.decode.ensures.values ∙ ap values_of coded) ∙ c.if-not-same_values.ensures.0 refl ∙ c.fill_decoded.ensures.values in
     let least : v.coded ≡ least_form (coding_of v.coded) t (values_of v.coded) =
     sym coded ∙ c.if-not-is_least.ensures.0 refl ∙ ap (λ k. least_form (coding_of k) (lane_width_of k) (values_of k)) coded in
     let chosen : c.choose.result ≡ choice t (filled (cells_of v)) =
-    c.choose.ensures.value ∙ ap (λ u. choice u c.write_filled.new.values) (c.lane_width.ensures.value ∙ ap lane_width_of coded) ∙ ap (choice t) c.write_filled.ensures.values in
+    c.choose.ensures.value ∙ ap (λ u. choice u c.fill_decoded.new.values) (c.lane_width.ensures.value ∙ ap lane_width_of coded) ∙ ap (choice t) c.fill_decoded.ensures.values in
     let coding : c.coding.result ≡ coding_of v.coded = c.coding.ensures ∙ ap coding_of coded in (
       λ yes. canonical_from v t is refl values least (sym chosen ∙ same_true the_type (search rules) _ _ (sym c.eq.ensures ∙ yes) ∙ coding),
       λ e. let parts = canonical_parts v t is (lane_width_is v.coded is.form) refl e in

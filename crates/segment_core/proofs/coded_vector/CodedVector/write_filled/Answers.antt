@@ -1,21 +1,8 @@
--- The decoded values under the null mask are the vector's cells.
-use Rattle.std.proofs.Common.{ℤ, List, sym, ◌∙◌, ap, subst}
-use Rattle.bit_interleave.specs.Range.{AreInRange}
-use Rattle.segment_core.specs.Fill.{filled}
-use Rattle.segment_core.specs.Coded.{lane_width_of, values_of}
-use Rattle.segment_core.specs.CodedVector.{VectorForm, cells_of, IsVector}
-use Rattle.segment_core.proofs.VectorLemmas.{cells_of-under, filled_in_range, cells_in_range, lane_width_is}
+-- What is decoded is the vector's values.
+use Rattle.std.proofs.Common.{◌∙◌, ap}
+use Rattle.segment_core.specs.Coded.{values_of}
+use Rattle.segment_core.specs.CodedVector.{VectorForm}
 use Rattle.segment_core.proofs.coded_vector.CodedVector.write_filled.Goals as goal
 
-pub returns-clause-values : goal.returns-clause-values
-returns-clause-values c =
-    c.fill.ensures
-    ∙ ap filled (cells_of-under c.args.self.now c.self.inside.rows c.null_rows.result c.decode.new.values
-    (sym (ap (λ (v : VectorForm). v.rows) c.self.view_is)) c.self.invariant.limit c.null_rows.ensures
-    (c.decode.ensures.values ∙ ap (λ (v : VectorForm). values_of v.coded) c.self.view_is))
-
-pub returns-clause-fit : goal.returns-clause-fit
-returns-clause-fit c =
-    let is : IsVector c.args.self.now = subst (λ (v : VectorForm). IsVector v) c.self.view_is c.self.invariant in
-    subst (λ (xs : List ℤ). AreInRange (lane_width_of c.args.self.now.coded) xs) (sym (returns-clause-values c))
-    (filled_in_range (lane_width_of c.args.self.now.coded) (cells_of c.args.self.now) (lane_width_is c.args.self.now.coded is.form) (cells_in_range c.args.self.now is))
+pub fill_decoded-requires : goal.fill_decoded-requires
+fill_decoded-requires c = c.decode.ensures.values ∙ ap (λ (v : VectorForm). values_of v.coded) c.self.view_is
