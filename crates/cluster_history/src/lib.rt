@@ -7,6 +7,8 @@ mod laws;
 mod message;
 mod reply;
 mod runner;
+#[cfg(test)]
+mod tests;
 
 pub use cluster::Cluster;
 pub use laws::history_laws;

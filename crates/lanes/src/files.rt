@@ -1,7 +1,7 @@
 //! What the program does with files.
 use crate::fault::Fault;
 use column_file::export;
-use lanes_main::{check_file, query_file};
+use lanes_main::{check_file, query_file_with_notes};
 use replica_store::Store;
 use std::fs::{self, Files};
 use std::io::{self, BufWriter, Write};
@@ -17,17 +17,19 @@ pub fn check<R: Print + Files + AllocGlobal>(rt: &R, name: &str) -> Result<(), F
     Ok(())
 }
 
-/// Writes the answers of queries over a file, one after another.
-pub fn query<R: Print + Files + AllocGlobal>(
+/// Writes the answers of queries over a file, one after another. The hint shows the place at which one of them is refused.
+pub fn query<R: Print + Files + AllocGlobal, H: Write>(
     rt: &R,
     name: &str,
     queries: &[&str],
+    hint: &mut H,
 ) -> Result<(), Fault> {
     let Ok(file) = fs::open(rt, name) else {
         return Err(Fault::from(Refusal::ReadFault));
     };
     let mut writer = Counted::new(io::writer(rt));
-    query_file(rt.alloc(), &mut Counted::new(file), queries, &mut writer)?;
+    let mut reader = Counted::new(file);
+    query_file_with_notes(rt.alloc(), &mut reader, queries, &mut writer, hint)?;
     Ok(())
 }
 

@@ -21,18 +21,26 @@ const WAITING: &str =
     "lanes: reading a script's lines; lanes run --help shows some, and an end of input ends it\n";
 
 fn main(rt: HostRuntime) -> ExitCode {
-    match run(&rt, rt.stdin().is_terminal(), &mut rt.stderr()) {
+    let mut hint = Vec::new(rt.alloc());
+    match run(&rt, rt.stdin().is_terminal(), &mut rt.stderr(), &mut hint) {
         Ok(()) => ExitCode::SUCCESS,
-        Err(fault) => fault.report(&rt),
+        Err(fault) => {
+            let status = fault.report(&rt);
+            if rt.stderr().is_terminal() {
+                let _ = rt.stderr().write_all(hint.as_slice());
+            }
+            status
+        }
     }
 }
 
 /// Does what the command line asks for. Where a person would have to type the script, the notes, which go to standard error,
-/// say that lines are waited for.
-fn run<R: Print + Input + Env + Files + AllocGlobal, N: Write>(
+/// say that lines are waited for. Where a query is refused, the hint shows the place.
+fn run<R: Print + Input + Env + Files + AllocGlobal, N: Write, H: Write>(
     rt: &R,
     is_typed: bool,
     notes: &mut N,
+    hint: &mut H,
 ) -> Result<(), Fault> {
     let words = command_line::arguments(rt)?;
     match command_line::read_request(rt.alloc(), words.as_slice())? {
@@ -42,7 +50,7 @@ fn run<R: Print + Input + Env + Files + AllocGlobal, N: Write>(
         } => run_source(rt, source, is_explained, is_typed, notes),
         Request::Check { file } => files::check(rt, file),
         Request::Merge { out, files } => files::merge(rt, out, files.as_slice()),
-        Request::Query { file, queries } => files::query(rt, file, queries.as_slice()),
+        Request::Query { file, queries } => files::query(rt, file, queries.as_slice(), hint),
     }
 }
 

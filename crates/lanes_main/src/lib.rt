@@ -3,6 +3,8 @@
 #![tactic(auto)]
 
 mod file_check;
+#[cfg(test)]
+mod file_tests;
 mod interpreter;
 mod laws;
 mod line_part;
@@ -17,7 +19,7 @@ pub use cluster_history::{Cluster, Message, Reply, history_laws, run};
 pub use file_check::check_file;
 pub use interpreter::{script, script_with_notes};
 pub use laws::script_laws;
-pub use querying::query_file;
+pub use querying::{query_file, query_file_with_notes};
 pub use reply_format::reply_text;
 pub use script_lines::{
     Command, FileBytes, Sql, Step, TableCommand, parse_line, rows_are_read_as_spelled,

@@ -1,4 +1,4 @@
-//! Notes on the lines that were refused.
+//! Notes on the lines and queries that were refused.
 
 use script_lines::expected;
 use std::alloc::{AllocError, Global};
@@ -51,4 +51,53 @@ impl Notes {
         let _ = writer.write_all(self.text.as_slice());
         self.text.clear();
     }
+}
+
+/// The place in a query at which it is refused, in bytes from 0, where the refusal names one.
+fn place_in_query(refusal: Refusal) -> Option<u64> {
+    match refusal {
+        Refusal::Syntax(at) => Some(at),
+        Refusal::NoSuchColumn(at) => Some(at),
+        Refusal::NotGrouped(at) => Some(at),
+        Refusal::NumberTooLarge(at) => Some(at),
+        _ => None,
+    }
+}
+
+/// What stands before a place and what stands after it, within the place's own line.
+fn line_at(text: &str, at: usize) -> Option<(&str, &str)> {
+    let before = text.get(..at)?;
+    let after = text.get(at..)?;
+    let before = match before.rsplit_once('\n') {
+        Some((_, rest)) => rest,
+        None => before,
+    };
+    let after = match after.split_once('\n') {
+        Some((rest, _)) => rest,
+        None => after,
+    };
+    Some((before, after))
+}
+
+/// Shows where a query is refused, as far as the writer takes it: the line of the place, and a caret under the place. A refusal
+/// that names no place shows nothing.
+pub fn point_at<N: Write>(
+    alloc: Global,
+    query: &str,
+    refusal: Refusal,
+    writer: &mut N,
+) -> Result<(), AllocError> {
+    let Some(at) = place_in_query(refusal) else {
+        return Ok(());
+    };
+    let Some((before, after)) = line_at(query, at as usize) else {
+        return Ok(());
+    };
+    let mut shown = format!(in alloc; "{before}{after}\n")?;
+    for letter in before.chars() {
+        shown.push(if letter == '\t' { '\t' } else { ' ' })?;
+    }
+    shown.push_str("^\n")?;
+    let _ = writer.write_all(shown.as_bytes());
+    Ok(())
 }

@@ -5,7 +5,7 @@ use std::io;
 use std::io::Write;
 use std::test::Fail;
 use table_model::{
-    BatchName, ColType, Counted, Number, Origin, Refusal, Row, RowName, Rows, Schema, Stop,
+    BatchName, ColType, Counted, Number, Origin, Refusal, Row, RowName, Rows, Schema,
 };
 
 /// What a script writes: its text, or the refusal that ended it.
@@ -16,7 +16,7 @@ fn text_of(alloc: Global, input: &[u8]) -> Result<Vec<u8>, Refusal> {
     Ok(writer.into_inner())
 }
 
-const SCRIPTS: [(&str, &str); 29] = [
+const SCRIPTS: [(&str, &str); 26] = [
     (
         "table 2 T A SMALLINT\nappend 1 (7)\nmerge 2 1\nquery 2 SELECT COUNT(*) FROM T\nquery 2 SELECT COUNT(*) FROM U\n",
         "ok\nok 1.1\nok\nok 1\nCOUNT(*)\n1\nrefused NoSuchTable\n",
@@ -26,8 +26,8 @@ const SCRIPTS: [(&str, &str); 29] = [
         "ok\nok\nok 2.1\nok\nok\nok\nok 1\nCOUNT(*)\n2\n",
     ),
     (
-        "table 2 T A SMALLINT\ninsert 1 1.1 (1)\ninsert 2 1.1 (2)\nmerge 1 2\ninsert 1 1.1 (1)\n",
-        "ok\nok new\nok new\nrefused Conflict 1.1\nok already\n",
+        "table 2 T A SMALLINT\ninsert 1 1.1 (1)\ninsert 2 1.1 (2)\nmerge 1 2\nquery 1 SELECT MIN(A) FROM T\ninsert 1 1.1 (1)\n",
+        "ok\nok new\nok new\nrefused Conflict 1.1\nok 1\nMIN(A)\n1\nok already\n",
     ),
     (
         "table 2 T A SMALLINT\ninsert 1 1.4294967295 (1)\nappend 1 (2)\n",
@@ -64,20 +64,10 @@ const SCRIPTS: [(&str, &str); 29] = [
         "table 1 t A SMALLINT\nquery 9 SELECT COUNT(*) FROM U\nquery 9 SELECT COUNT(*) FROM T\nquery 1 \nquery 1\nask 1\n",
         "ok\nrefused NoSuchReplica\nrefused NoSuchReplica\nrefused BadLine\nrefused BadLine\nok 1\n",
     ),
-    // The codings of two replicas: a batch that was put into another coding is the same batch.
-    (
-        "table 2 T A SMALLINT\nappend 1 (7)\nmerge 2 1\nrecode 2 1.1 0 0 DICT\nmerge 1 2\nmerge 2 1\nquery 1 SELECT COUNT(*) FROM T\nquery 2 SELECT COUNT(*) FROM T\n",
-        "ok\nok 1.1\nok\nok\nok\nok\nok 1\nCOUNT(*)\n1\nok 1\nCOUNT(*)\n1\n",
-    ),
     // No such batch, a replica that isn't there, origin 0, a column and a vector past the last, a coding in lower case.
     (
         "table 1 T A SMALLINT\nappend 1 (7)\nrecode 1 9.9 0 0 FOR\nrecode 0 1.1 0 0 FOR\nrecode 1 0.1 0 0 FOR\nrecode 1 1.1 1 0 FOR\nrecode 1 1.1 0 1 RLE\nrecode 1 1.1 0 0 for\nrecode 1 1.1 0 0 RLE \nrecode 1 1.1 0 0 DELTA\n",
         "ok\nok 1.1\nrefused NoSuchVector\nrefused NoSuchReplica\nrefused NoSuchVector\nrefused NoSuchVector\nrefused NoSuchVector\nrefused BadLine\nrefused BadLine\nok\n",
-    ),
-    // A gap is asked for and served, late and twice; deletions that come meanwhile stay.
-    (
-        "table 2 T A SMALLINT\nappend 1 (1)\nappend 1 (2)\nappend 1 (3)\ninsert 2 1.1 (1)\ninsert 2 1.3 (3)\nask 2\nserve 1 1\ndelete 2 1.2 0 0\ntake 2 2\ntake 2 2\nquery 2 SELECT COUNT(*) FROM T\n",
-        "ok\nok 1.1\nok 1.2\nok 1.3\nok new\nok new\nok 1\nok 2\nok\nok\nok\nok 1\nCOUNT(*)\n2\n",
     ),
     // No such message: no such number, a serve of an offer, a take of a summary; and a replica that isn't there comes first.
     (
@@ -89,6 +79,11 @@ const SCRIPTS: [(&str, &str); 29] = [
         "table 2 T A SMALLINT\nappend 1 (7)\nmerge 2 1\nquery 2 SELECT COUNT(*) FROM T\nexport 2\nopen 1 464C43460100010001540201410100000001000000010000000000000000000007000000000000000000\nexport 1\n",
         "ok\nok 1.1\nok\nok 1\nCOUNT(*)\n1\nok 464c43460100010001540201410100000001000000010000000000000000000007000000000000000000\nok\nok 464c43460100010001540201410100000001000000010000000000000000000007000000000000000000\n",
     ),
+    // A file opened where nothing was held brings its row.
+    (
+        "table 2 T A SMALLINT\nappend 1 (7)\nopen 2 464C43460100010001540201410100000001000000010000000000000000000007000000000000000000\nquery 2 SELECT COUNT(*) FROM T\n",
+        "ok\nok 1.1\nok\nok 1\nCOUNT(*)\n1\n",
+    ),
     // Deletions of two replicas, and no batch: one maximal range, a file of 37 bytes.
     (
         "table 2 T A SMALLINT\ndelete 1 1.1 0 4\ndelete 2 1.1 5 9\nmerge 1 2\nexport 1\n",
@@ -98,11 +93,6 @@ const SCRIPTS: [(&str, &str); 29] = [
     (
         "table 1 T A SMALLINT\nopen 1 464\nopen 1 \nopen 1\nopen 1 4G\nopen 2 46\nopen 2 464\nopen 1 46\nopen 1 464C434D0100\nexport 2\nexport\nexport 1 1\n",
         "ok\nrefused BadLine\nrefused BadLine\nrefused BadLine\nrefused BadLine\nrefused NoSuchReplica\nrefused BadLine\nrefused Truncated 1\nrefused BadMagic\nrefused NoSuchReplica\nrefused BadLine\nrefused BadLine\n",
-    ),
-    // Late and stray deletions, and both exports: 198 bytes that end with two ranges.
-    (
-        "table 2 T A SMALLINT\ndelete 1 2.1 0 0\nappend 2 (1),(2),(3)\ndelete 2 2.1 9 9\nmerge 1 2\nmerge 2 1\nquery 1 SELECT COUNT(*),SUM(A) FROM T\n",
-        "ok\nok\nok 2.1\nok\nok\nok\nok 1\nCOUNT(*),SUM(A)\n2,5\n",
     ),
     // Extremes of 64 bits, a null, and a row that is deleted.
     (
@@ -141,13 +131,8 @@ const SCRIPTS: [(&str, &str); 29] = [
     ),
     // Refused queries, each with its place.
     (
-        "table 1 T A SMALLINT\nquery 1 SELECT COUNT(*) FROM T WHERE\nquery 1 SELECT A FROM T\nquery 1 SELECT COUNT(B) FROM T\nquery 1 SELECT COUNT(*) FROM U\nquery 1 SELECT COUNT(*) FROM T WHERE A<1111111111111111111111111111111\nquery 1 SELECT COUNT(*) FROM T WHERE A<111111111111111111111111111111\n",
-        "ok\nrefused Syntax 28\nrefused NotGrouped 7\nrefused NoSuchColumn 13\nrefused NoSuchTable\nrefused NumberTooLarge 31\nok 1\nCOUNT(*)\n0\n",
-    ),
-    // A gap is asked for, and its rows come.
-    (
-        "table 2 T A SMALLINT\nappend 1 (1)\nappend 1 (2)\nappend 1 (3)\ninsert 2 1.1 (1)\ninsert 2 1.3 (3)\nask 2\nserve 1 1\ndelete 2 1.2 0 0\ntake 2 2\ntake 2 2\nquery 2 SELECT COUNT(*),SUM(A) FROM T\n",
-        "ok\nok 1.1\nok 1.2\nok 1.3\nok new\nok new\nok 1\nok 2\nok\nok\nok\nok 1\nCOUNT(*),SUM(A)\n2,4\n",
+        "table 1 T A SMALLINT\nquery 1 SELECT COUNT(*) FROM T WHERE\nquery 1 SELECT A FROM T\nquery 1 SELECT COUNT(B) FROM T\nquery 1 SELECT COUNT(*) FROM U\nquery 1 SELECT COUNT(*) FROM T WHERE A<1111111111111111111111111111111\nquery 1 SELECT COUNT(*) FROM T WHERE A<111111111111111111111111111111\nquery 1 SELECT COUNT(*) FROM T WHERE (((((((((((((((((((((((((((((((((((((((((((((((((((((((((((((((((\n",
+        "ok\nrefused Syntax 28\nrefused NotGrouped 7\nrefused NoSuchColumn 13\nrefused NoSuchTable\nrefused NumberTooLarge 31\nok 1\nCOUNT(*)\n0\nrefused TooDeep\n",
     ),
     ("", ""),
 ];
@@ -228,67 +213,6 @@ fn a_line_of_more_than_its_limit_is_too_long_and_skipped(rt: HostRuntime) -> Res
     assert!(rt; text.as_slice() == b"refused LineTooLong\nok\n".as_slice());
     let text = text_of(rt.alloc(), &input[1..])?;
     assert!(rt; text.as_slice() == b"refused BadLine\nok\n".as_slice());
-    Ok(())
-}
-
-/// A script whose four lines end after 21, 34, 44 and 75 bytes.
-const FOUR_LINES: &[u8] =
-    b"table 2 T A SMALLINT\nappend 1 (7)\nmerge 2 1\nquery 2 SELECT COUNT(*) FROM T\n";
-
-/// What it writes: the replies end after 3, 10, 13 and 29 bytes.
-const FOUR_REPLIES: &[u8] = b"ok\nok 1.1\nok\nok 1\nCOUNT(*)\n1\n";
-
-/// How many bytes of replies are due once so many bytes of the lines were read: those of the whole lines.
-fn due_after(read: usize) -> usize {
-    match read {
-        0..21 => 0,
-        21..34 => 3,
-        34..44 => 10,
-        44..75 => 13,
-        _ => 29,
-    }
-}
-
-// A reader that fails after n bytes, for each n up to the whole script.
-#[test]
-fn after_a_failed_read_the_whole_lines_are_answered(rt: HostRuntime) -> Result<(), Fail> {
-    for left in 0..76 {
-        let mut reader = Counted::new(Stop {
-            inner: FOUR_LINES,
-            left,
-        });
-        let mut writer = Counted::new(Vec::new(rt.alloc()));
-        let outcome = script(rt.alloc(), &mut reader, &mut writer);
-        assert!(rt; outcome == Err(Refusal::ReadFault));
-        assert!(rt; reader.failures() == 1);
-        let written = writer.into_inner();
-        assert!(rt; written.len() == due_after(left), "after {left} bytes");
-        assert!(rt;
-            FOUR_REPLIES.starts_with(written.as_slice()),
-            "after {left} bytes"
-        );
-    }
-    Ok(())
-}
-
-// A writer that fails after n bytes, for each n below the whole text: it has a front of the text.
-#[test]
-fn after_a_failed_write_a_front_of_the_replies_is_written(rt: HostRuntime) -> Result<(), Fail> {
-    for left in 0..29 {
-        let mut reader = Counted::new(FOUR_LINES);
-        let mut writer = Counted::new(Stop {
-            inner: Vec::new(rt.alloc()),
-            left,
-        });
-        let outcome = script(rt.alloc(), &mut reader, &mut writer);
-        assert!(rt; outcome == Err(Refusal::WriteFault));
-        assert!(rt; writer.failures() == 1);
-        let written = writer.into_inner().inner;
-        assert!(rt;
-            written.as_slice() == &FOUR_REPLIES[..left],
-            "after {left} bytes"
-        );
-    }
     Ok(())
 }
 
