@@ -58,12 +58,17 @@ def descending_deletes(count):
         yield f"delete 1 1.{i // 16384 + 1} {row} {row}\n"
 
 
-def batches_below(count):
-    """One replica takes as many batches from another, and appends so many that stand before them."""
+def merged_from_above(count):
+    """One replica takes so many batches from another, whose origin is greater."""
     yield "table 2 T A SMALLINT\n"
     for i in range(count):
         yield f"append 2 {one_row(i)}\n"
     yield "merge 1 2\n"
+
+
+def batches_below(count):
+    """One replica takes as many batches from another, and appends so many that stand before them."""
+    yield from merged_from_above(count)
     for i in range(count):
         yield f"append 1 {one_row(i)}\n"
 
@@ -94,12 +99,22 @@ def run(name, lines):
     seconds = time.monotonic() - start
     os.unlink(script.name)
     print(f"{name:34} {size / 1e6:8.2f} MB {seconds:8.2f} s {size / 1e6 / seconds:8.2f} MB/s {usage.ru_maxrss / 1024:8.1f} MiB peak  status {status >> 8}  last reply {last.decode().strip()}", flush=True)
+    return seconds
+
+
+def appends_after_a_merge(count):
+    """Prints how many times an append into an empty store an append takes after a merge of so many batches of a greater origin."""
+    empty = run(f"{count} batches of one row", small_batches(count))
+    merged = run(f"merge {count} batches", merged_from_above(count))
+    both = run(f"{count} batches below as many", batches_below(count))
+    print(f"an append after a merge takes {(both - merged) / empty:.2f} times one into an empty store", flush=True)
 
 
 def main():
     subprocess.run([os.path.join(TOP, "lanes"), "--help"], stdout=subprocess.DEVNULL, check=True)
     for name, lines in scripts():
         run(name, lines)
+    appends_after_a_merge(32768)
 
 
 if __name__ == "__main__":

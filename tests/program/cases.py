@@ -45,9 +45,10 @@ class Case:
     files: dict = field(default_factory=dict)
     # What files hold afterwards; None: there is no such file.
     writes: dict = field(default_factory=dict)
-    # Where standard input and output go in place of a pipe: "folder" can't be read, "full" takes no byte, "terminal" is one.
+    # Where standard input, output and error go in place of a pipe: "folder" can't be read, "full" takes no byte, "terminal" is one.
     input_from: str = "pipe"
     output_to: str = "pipe"
+    errors_to: str = "pipe"
 
 
 CASES = [
@@ -114,5 +115,17 @@ CASES = [
     Case("another table's query is refused", ["query", "t", "SELECT SUM(A) FROM U"], 1, err=b"refused NoSuchTable\n", files={"t": ONE_ROW}),
     Case("a file is judged before a query", ["query", "t", "SELECT"], 1, err=b"refused Truncated 3\n", files={"t": b"FLC"}),
     Case("an answer that can't be written is a failed write", ["query", "t", "SELECT SUM(A) FROM T"], 1, err=b"refused WriteFault\n", files={"t": ONE_ROW}, output_to="full"),
+    Case(
+        "on a terminal a caret stands under the place where a query is refused",
+        ["query", "t", "SELECT SUM(A) FROM T", "SELECT COUNT(B) FROM T"],
+        1,
+        b"SUM(A)\n7\n",
+        b"refused NoSuchColumn 13\nSELECT COUNT(B) FROM T\n             ^\n",
+        files={"t": ONE_ROW},
+        errors_to="terminal",
+    ),
+    Case("a query that ends too early has the caret at its end", ["query", "t", "SELECT"], 1, err=b"refused Syntax 6\nSELECT\n      ^\n", files={"t": ONE_ROW}, errors_to="terminal"),
+    Case("the caret stands in the line of the place", ["query", "t", "SELECT A\nFROM T"], 1, err=b"refused NotGrouped 7\nSELECT A\n       ^\n", files={"t": ONE_ROW}, errors_to="terminal"),
+    Case("a refusal that names no place of a query has no caret", ["query", "t", "SELECT SUM(A) FROM U"], 1, err=b"refused NoSuchTable\n", files={"t": ONE_ROW}, errors_to="terminal"),
     Case("query wants a file and a query", ["query", "t"], 2, err=[b"SQL"], files={"t": ONE_ROW}),
 ]
