@@ -18,7 +18,7 @@ use table_model::{ColumnMention, Condition, Query, Refusal};
 /// The most parentheses that may be open at once round conditions.
 const MAX_DEPTH: usize = 64;
 
-/// The query that the text is.
+/// The query that the text is, in a profile of the query specifications of ISO/IEC 9075:1992, clause 7.9.
 ///
 /// The first fault is answered: `Syntax` names the first token that no query has there, or the text's length; `NumberTooLarge`
 /// the first digit of a literal of more than 30 digits after its leading zeros; `TooDeep` is the 65th parenthesis open at once

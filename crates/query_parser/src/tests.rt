@@ -185,72 +185,73 @@ const FROM_T: &str = "SELECT COUNT(*) FROM T WHERE ";
 
 // 64 parentheses may be open at once round conditions; a literal has at most 30 digits after its leading zeros, and the place
 // is that of the first digit; a word has at most 64 bytes. At a token that no query has, Syntax comes first.
+const LIMITS: [(&str, &str, usize, &str, Option<Refusal>); 19] = [
+    (FROM_T, "(", 64, "", Some(Refusal::Syntax(93))),
+    (FROM_T, "(", 65, "", Some(Refusal::TooDeep)),
+    (FROM_T, "(", 65, "%", Some(Refusal::TooDeep)),
+    (FROM_T, "(", 64, "A IN(1)", Some(Refusal::Syntax(100))),
+    (
+        "SELECT A FROM T HAVING ",
+        "(",
+        64,
+        "COUNT(A)",
+        Some(Refusal::Syntax(95)),
+    ),
+    (
+        "SELECT A FROM T HAVING ",
+        "(",
+        65,
+        "",
+        Some(Refusal::TooDeep),
+    ),
+    (FROM_T, "(A=1)OR", 100, " A=1", None),
+    ("SELECT COUNT(*) FROM T WHERE A<", "1", 30, "", None),
+    (
+        "SELECT COUNT(*) FROM T WHERE A<",
+        "1",
+        31,
+        "",
+        Some(Refusal::NumberTooLarge(31)),
+    ),
+    ("SELECT COUNT(*) FROM T WHERE A<-", "9", 30, "", None),
+    (
+        "SELECT COUNT(*) FROM T WHERE A<- ",
+        "9",
+        31,
+        "",
+        Some(Refusal::NumberTooLarge(33)),
+    ),
+    ("SELECT COUNT(*) FROM T WHERE A<", "0", 100, "1", None),
+    ("SELECT COUNT(*) FROM T WHERE A IN(0", "1", 30, ")", None),
+    (
+        "SELECT COUNT(*) FROM T WHERE A IN(0",
+        "1",
+        31,
+        ")",
+        Some(Refusal::NumberTooLarge(34)),
+    ),
+    (
+        "SELECT COUNT(*) FROM T WHERE A ",
+        "1",
+        31,
+        "",
+        Some(Refusal::Syntax(31)),
+    ),
+    (
+        "SELECT COUNT(*) FROM T WHERE A<",
+        "1",
+        31,
+        "B",
+        Some(Refusal::Syntax(31)),
+    ),
+    ("SELECT ", "A", 64, " FROM T", None),
+    ("SELECT ", "A", 65, " FROM T", Some(Refusal::Syntax(7))),
+    ("SELECT COUNT(*) FROM ", "T", 64, "", None),
+];
+
 #[test]
 fn limits_are_kept_to_the_last(rt: HostRuntime) -> Result<(), Fail> {
-    let cases: [(&str, &str, usize, &str, Option<Refusal>); 19] = [
-        (FROM_T, "(", 64, "", Some(Refusal::Syntax(93))),
-        (FROM_T, "(", 65, "", Some(Refusal::TooDeep)),
-        (FROM_T, "(", 65, "%", Some(Refusal::TooDeep)),
-        (FROM_T, "(", 64, "A IN(1)", Some(Refusal::Syntax(100))),
-        (
-            "SELECT A FROM T HAVING ",
-            "(",
-            64,
-            "COUNT(A)",
-            Some(Refusal::Syntax(95)),
-        ),
-        (
-            "SELECT A FROM T HAVING ",
-            "(",
-            65,
-            "",
-            Some(Refusal::TooDeep),
-        ),
-        (FROM_T, "(A=1)OR", 100, " A=1", None),
-        ("SELECT COUNT(*) FROM T WHERE A<", "1", 30, "", None),
-        (
-            "SELECT COUNT(*) FROM T WHERE A<",
-            "1",
-            31,
-            "",
-            Some(Refusal::NumberTooLarge(31)),
-        ),
-        ("SELECT COUNT(*) FROM T WHERE A<-", "9", 30, "", None),
-        (
-            "SELECT COUNT(*) FROM T WHERE A<- ",
-            "9",
-            31,
-            "",
-            Some(Refusal::NumberTooLarge(33)),
-        ),
-        ("SELECT COUNT(*) FROM T WHERE A<", "0", 100, "1", None),
-        ("SELECT COUNT(*) FROM T WHERE A IN(0", "1", 30, ")", None),
-        (
-            "SELECT COUNT(*) FROM T WHERE A IN(0",
-            "1",
-            31,
-            ")",
-            Some(Refusal::NumberTooLarge(34)),
-        ),
-        (
-            "SELECT COUNT(*) FROM T WHERE A ",
-            "1",
-            31,
-            "",
-            Some(Refusal::Syntax(31)),
-        ),
-        (
-            "SELECT COUNT(*) FROM T WHERE A<",
-            "1",
-            31,
-            "B",
-            Some(Refusal::Syntax(31)),
-        ),
-        ("SELECT ", "A", 64, " FROM T", None),
-        ("SELECT ", "A", 65, " FROM T", Some(Refusal::Syntax(7))),
-        ("SELECT COUNT(*) FROM ", "T", 64, "", None),
-    ];
-    for (front, piece, count, back, want) in cases {
+    for (front, piece, count, back, want) in LIMITS {
         let text = repeated(rt.alloc(), front, piece, count, back)?;
         assert_eq!(rt; fault(rt.alloc(), text.as_str()), want, "{text}");
     }
@@ -489,6 +490,11 @@ fn keywords_are_read_in_any_case(rt: HostRuntime) -> Result<(), Fail> {
             assert_eq!(rt; fault(rt.alloc(), text.as_str()), None, "{text}");
         }
     }
+    Ok(())
+}
+
+#[test]
+fn each_production_is_read_in_any_case(rt: HostRuntime) -> Result<(), Fail> {
     for every in [true, false] {
         let text = in_case(rt.alloc(), LONG, every)?;
         assert_eq!(rt; fault(rt.alloc(), text.as_str()), None, "{text}");
@@ -496,20 +502,21 @@ fn keywords_are_read_in_any_case(rt: HostRuntime) -> Result<(), Fail> {
     Ok(())
 }
 
+/// A predicate in so many pairs of parentheses, behind a front.
+fn wrapped(
+    alloc: Global,
+    front: &str,
+    predicate: &str,
+    depth: usize,
+) -> Result<String, AllocError> {
+    let open = repeated(alloc, front, "(", depth, predicate)?;
+    repeated(alloc, open.as_str(), ")", depth, "")
+}
+
 /// A text with so many parentheses open at once round a predicate in WHERE, and so many in HAVING.
 fn nested(alloc: Global, where_depth: usize, having_depth: usize) -> Result<String, AllocError> {
-    let mut text = repeated(alloc, FROM_T, "(", where_depth, "A IN(1)")?;
-    for _ in 0..where_depth {
-        text.push(')')?;
-    }
-    text.push_str(" HAVING ")?;
-    for _ in 0..having_depth {
-        text.push('(')?;
-    }
-    text.push_str("COUNT(A)=1")?;
-    for _ in 0..having_depth {
-        text.push(')')?;
-    }
+    let mut text = wrapped(alloc, FROM_T, "A IN(1)", where_depth)?;
+    text.push_str(wrapped(alloc, " HAVING ", "COUNT(A)=1", having_depth)?.as_str())?;
     Ok(text)
 }
 
@@ -575,55 +582,69 @@ fn long_conditions_are_resolved_in_time_linear_in_their_length(
     rt: HostRuntime,
 ) -> Result<(), Fail> {
     let schema = Schema::new(rt.alloc(), "T", &[("A", ColType::SmallInt)])?;
-    let text = repeated(rt.alloc(), FROM_T, "A=1 OR ", 150_000, "B=1")?;
-    let query = parse(rt.alloc(), text.as_str())?;
-    assert_eq!(rt;
-        resolve(&query, &schema),
-        Err(Refusal::NoSuchColumn(1_050_029))
-    );
+    for (piece, count, place) in [
+        ("A=1 OR ", 150_000, 1_050_029),
+        ("A=1 AND ", 125_000, 1_000_029),
+    ] {
+        let text = repeated(rt.alloc(), FROM_T, piece, count, "B=1")?;
+        let query = parse(rt.alloc(), text.as_str())?;
+        assert_eq!(rt; resolve(&query, &schema), Err(Refusal::NoSuchColumn(place)));
+    }
     Ok(())
 }
 
-// The table is T with the columns A and B. The places of columns that T has not come first, then those that GROUP BY doesn't name,
-// wherever they stand; a column in a set function, in WHERE or in GROUP BY need not be grouped.
+// The table is T with the columns A, B and T. The places of columns that T has not come first, then those that GROUP BY doesn't
+// name, wherever they stand; a column in a set function, in WHERE or in GROUP BY need not be grouped. A column may have the
+// table's own name; a table isn't found by the name of a column.
+const NAMES: [(&str, Result<(), Refusal>); 19] = [
+    ("SELECT COUNT(*) FROM U", Err(Refusal::NoSuchTable)),
+    ("SELECT C FROM U", Err(Refusal::NoSuchTable)),
+    ("SELECT A FROM T", Err(Refusal::NotGrouped(7))),
+    ("SELECT COUNT(C) FROM T", Err(Refusal::NoSuchColumn(13))),
+    ("SELECT A FROM T WHERE C=1", Err(Refusal::NoSuchColumn(22))),
+    ("select a from t group by A", Ok(())),
+    (
+        "SELECT B,A FROM T GROUP BY B,B",
+        Err(Refusal::NotGrouped(9)),
+    ),
+    ("SELECT A FROM T GROUP BY C", Err(Refusal::NoSuchColumn(25))),
+    ("SELECT SUM(A),B AS C FROM T GROUP BY B", Ok(())),
+    (
+        "SELECT COUNT(*) FROM T HAVING A=1",
+        Err(Refusal::NotGrouped(30)),
+    ),
+    ("SELECT COUNT(*) FROM T HAVING MAX(A)=1", Ok(())),
+    (
+        "SELECT COUNT(*) FROM T WHERE A=1 AND (B IN(1) OR C BETWEEN D AND 1)",
+        Err(Refusal::NoSuchColumn(49)),
+    ),
+    ("SELECT COUNT(*) FROM T WHERE A IS NULL", Ok(())),
+    ("SELECT B AS T FROM T GROUP BY B", Ok(())),
+    (
+        "SELECT A AS X FROM T GROUP BY X",
+        Err(Refusal::NoSuchColumn(30)),
+    ),
+    (
+        "SELECT A,COUNT(C) FROM T HAVING D=1",
+        Err(Refusal::NoSuchColumn(15)),
+    ),
+    ("SELECT T FROM t WHERE t=1 GROUP BY T", Ok(())),
+    (
+        "SELECT MAX(T) FROM T WHERE T=1 HAVING T=1",
+        Err(Refusal::NotGrouped(38)),
+    ),
+    ("SELECT T FROM A GROUP BY T", Err(Refusal::NoSuchTable)),
+];
+
 #[test]
 fn names_are_those_of_the_table_and_of_group_by(rt: HostRuntime) -> Result<(), Fail> {
-    let cases: [(&str, Result<(), Refusal>); 16] = [
-        ("SELECT COUNT(*) FROM U", Err(Refusal::NoSuchTable)),
-        ("SELECT C FROM U", Err(Refusal::NoSuchTable)),
-        ("SELECT A FROM T", Err(Refusal::NotGrouped(7))),
-        ("SELECT COUNT(C) FROM T", Err(Refusal::NoSuchColumn(13))),
-        ("SELECT A FROM T WHERE C=1", Err(Refusal::NoSuchColumn(22))),
-        ("select a from t group by A", Ok(())),
-        (
-            "SELECT B,A FROM T GROUP BY B,B",
-            Err(Refusal::NotGrouped(9)),
-        ),
-        ("SELECT A FROM T GROUP BY C", Err(Refusal::NoSuchColumn(25))),
-        ("SELECT SUM(A),B AS C FROM T GROUP BY B", Ok(())),
-        (
-            "SELECT COUNT(*) FROM T HAVING A=1",
-            Err(Refusal::NotGrouped(30)),
-        ),
-        ("SELECT COUNT(*) FROM T HAVING MAX(A)=1", Ok(())),
-        (
-            "SELECT COUNT(*) FROM T WHERE A=1 AND (B IN(1) OR C BETWEEN D AND 1)",
-            Err(Refusal::NoSuchColumn(49)),
-        ),
-        ("SELECT COUNT(*) FROM T WHERE A IS NULL", Ok(())),
-        ("SELECT B AS T FROM T GROUP BY B", Ok(())),
-        (
-            "SELECT A AS X FROM T GROUP BY X",
-            Err(Refusal::NoSuchColumn(30)),
-        ),
-        (
-            "SELECT A,COUNT(C) FROM T HAVING D=1",
-            Err(Refusal::NoSuchColumn(15)),
-        ),
+    let columns = [
+        ("A", ColType::SmallInt),
+        ("B", ColType::Integer),
+        ("T", ColType::BigInt),
     ];
-    let columns = [("A", ColType::SmallInt), ("B", ColType::Integer)];
     let schema = Schema::new(rt.alloc(), "T", &columns)?;
-    for (text, want) in cases {
+    for (text, want) in NAMES {
         let query: Query = parse(rt.alloc(), text)?;
         assert_eq!(rt; resolve(&query, &schema), want, "{text}");
     }

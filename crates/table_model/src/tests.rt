@@ -454,6 +454,20 @@ fn a_reader_and_a_writer_stop_after_their_bytes(rt: HostRuntime) -> Result<(), F
     Ok(())
 }
 
+// No length of a piece is refused: what memory holds comes and goes whole.
+#[test]
+fn a_long_piece_is_passed_on_whole(rt: HostRuntime) -> Result<(), Fail> {
+    let piece = Vec::from_elem(rt.alloc(), b'x', 1_000_000)?;
+    let mut writer = Counted::new(Vec::new(rt.alloc()));
+    assert_eq!(rt; writer.write(piece.as_slice()).ok(), Some(1_000_000));
+    assert!(rt; writer.failures() == 0 && writer.into_inner().as_slice() == piece.as_slice());
+    let mut buffer = Vec::from_elem(rt.alloc(), b'.', 1_000_000)?;
+    let mut reader = Counted::new(piece.as_slice());
+    assert_eq!(rt; reader.read(buffer.as_mut_slice()).ok(), Some(1_000_000));
+    assert!(rt; reader.failures() == 0 && buffer.as_slice() == piece.as_slice());
+    Ok(())
+}
+
 #[test]
 fn rows_give_their_parts_back(rt: HostRuntime) -> Result<(), Fail> {
     let row = row_of(rt.alloc(), &[Some(7), None])?;
