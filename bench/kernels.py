@@ -4,9 +4,11 @@
 What it builds stands in a folder outside the repository, which a later run takes up again: there the crates are proved
 once, which takes some minutes. It needs the commands rt and rustc.
 """
-import argparse, os, pathlib, shutil, subprocess, sys, tempfile
+import argparse, pathlib, subprocess, sys
 
-TOP = pathlib.Path(__file__).resolve().parent.parent
+sys.dont_write_bytecode = True
+from workspace import TOP, has_wider, link, say, usual_folder, write_workspace
+
 SOURCES = TOP / "bench" / "kernels"
 NAME = "lane_kernels"
 LIBRARIES = {
@@ -17,59 +19,6 @@ LIBRARIES = {
 }
 WIDER = "x86-64-v3"
 SLOW = 1.5
-
-
-def say(text):
-    print(f"kernels: {text}", file=sys.stderr, flush=True)
-
-
-def run(words, folder):
-    """Runs a command, and stops with what it wrote where it fails."""
-    done = subprocess.run(words, cwd=folder, stdout=subprocess.PIPE, stderr=subprocess.STDOUT, text=True)
-    if done.returncode:
-        sys.exit(f"{done.stdout[-4000:]}\nkernels: {words[0]} failed in {folder}")
-
-
-def copy_crate(name, folder):
-    """Copies a crate's sources, and its kept proof work where the folder has none of its own."""
-    source, crate = TOP / "crates" / name, folder / "crates" / name
-    for part in ("src", "specs", "proofs"):
-        shutil.rmtree(crate / part, ignore_errors=True)
-        if (source / part).is_dir():
-            shutil.copytree(source / part, crate / part)
-    if (source / "out").is_dir() and not (crate / "out").exists():
-        try:
-            shutil.copytree(source / "out", crate / "out")
-        except (OSError, shutil.Error):
-            # A check is at work there, so this crate is proved anew.
-            shutil.rmtree(crate / "out", ignore_errors=True)
-
-
-def write_workspace(folder):
-    """Writes a Rattle workspace of the four crates and of the static library over them."""
-    for name in LIBRARIES:
-        copy_crate(name, folder)
-    exports = folder / "crates" / NAME / "src"
-    shutil.rmtree(exports, ignore_errors=True)
-    exports.mkdir(parents=True)
-    for file in (SOURCES / "exports").glob("*.rattle"):
-        shutil.copy(file, exports / f"{file.stem}.rt")
-    rows = [f"{name}: {' '.join(below)}\n" for name, below in LIBRARIES.items()]
-    rows.append(f"{NAME} staticlib: {' '.join(LIBRARIES)}\n")
-    (folder / "crates.txt").write_text("".join(rows))
-
-
-def build(folder, cpu):
-    """Builds the program for a processor, or for the default one, and gives its path."""
-    crate = folder / "crates" / NAME
-    say(f"proving and building the library for {cpu or 'the default processor'}")
-    run(["rt", "lib", *(["--cpu", cpu] if cpu else [])], crate)
-    kit = pathlib.Path(shutil.which("rt")).resolve().parent.parent
-    program = folder / f"times-{cpu or 'default'}"
-    links = [f"-Clink-arg={crate / 'out' / f'lib{NAME}.a'}", f"-Clink-arg={kit / 'c' / 'liblibc_c.a'}"]
-    target = [f"-Ctarget-cpu={cpu}"] if cpu else []
-    run(["rustc", "--edition=2024", "-Copt-level=3", *target, *links, "-o", str(program), "main.rs"], SOURCES / "timing")
-    return program
 
 
 def timed(programs, runs):
@@ -99,22 +48,16 @@ def print_table(kernel, best, names):
         print(f"| {' | '.join([*key[1:], *speeds])} |")
 
 
-def has_wider():
-    flags = pathlib.Path("/proc/cpuinfo")
-    return flags.exists() and "avx2" in flags.read_text().split()
-
-
 def main():
-    usual = pathlib.Path(tempfile.gettempdir()) / f"lanes-kernels-{os.getuid()}"
+    usual = usual_folder("kernels")
     options = argparse.ArgumentParser(description=__doc__, formatter_class=argparse.RawDescriptionHelpFormatter)
     options.add_argument("--folder", type=pathlib.Path, default=usual, help=f"where to build, {usual} if left out")
     options.add_argument("--runs", type=int, default=3, help="how often each program runs: the best speeds count")
     given = options.parse_args()
     folder = given.folder.resolve()
-    folder.mkdir(parents=True, exist_ok=True)
-    write_workspace(folder)
+    write_workspace(folder, LIBRARIES, NAME, SOURCES / "exports", f" staticlib: {' '.join(LIBRARIES)}")
     cpus = [None, WIDER] if has_wider() else [None]
-    best = timed([build(folder, cpu) for cpu in cpus], given.runs)
+    best = timed([link(folder, NAME, SOURCES / "timing", cpu) for cpu in cpus], given.runs)
     print(f"Values a nanosecond; the ratio is plain Rust's by Rattle's, in bold where it is above {SLOW}.")
     for kernel in dict.fromkeys(key[0] for key in best[0]):
         print_table(kernel, best, [cpu or "default" for cpu in cpus])

@@ -6,10 +6,10 @@ once, which takes some minutes. It needs the command rt. With --beside it also r
 of rows, lines 'encode ms', 'read ms, no checks' and 'canonical check ms all', each with a tab and a number, and gives the
 ratios of both.
 """
-import argparse, os, pathlib, random, shutil, subprocess, sys, tempfile
+import argparse, pathlib, random, shutil, subprocess, sys
 
-sys.path.insert(0, str(pathlib.Path(__file__).resolve().parent))
-from kernels import TOP, copy_crate, run, say
+sys.dont_write_bytecode = True
+from workspace import TOP, run, say, usual_folder, write_workspace
 
 SOURCES = TOP / "bench" / "segments" / "program"
 NAME = "segment_times"
@@ -48,21 +48,6 @@ def write_rows(path, count, seed):
     with open(path, "w") as file:
         for row in rows(count, seed):
             file.write(",".join("\\N" if cell is None else str(cell) for cell in row) + "\n")
-
-
-def write_workspace(folder):
-    """Writes a Rattle workspace of the six crates and of the program over them."""
-    for name in LIBRARIES:
-        copy_crate(name, folder)
-    source = folder / "crates" / NAME / "src"
-    shutil.rmtree(source, ignore_errors=True)
-    source.mkdir(parents=True)
-    for file in SOURCES.glob("*.rattle"):
-        shutil.copy(file, source / f"{file.stem}.rt")
-    lines = [f"{name}: {' '.join(below)}\n" for name, below in LIBRARIES.items()]
-    below = [name for name in LIBRARIES if name != "byteorder"]
-    lines.append(f"{NAME}: {' '.join(below)} thiserror\n")
-    (folder / "crates.txt").write_text("".join(lines))
 
 
 def build(folder, cpu):
@@ -109,7 +94,7 @@ def print_sizes(ours):
 
 
 def main():
-    usual = pathlib.Path(tempfile.gettempdir()) / f"lanes-segments-{os.getuid()}"
+    usual = usual_folder("segments")
     options = argparse.ArgumentParser(description=__doc__, formatter_class=argparse.RawDescriptionHelpFormatter)
     options.add_argument("--folder", type=pathlib.Path, default=usual, help=f"where to build, {usual} if left out")
     options.add_argument("--data", type=pathlib.Path, help="a file of rows; if left out, 1,000,000 are made")
@@ -119,8 +104,8 @@ def main():
     options.add_argument("--runs", type=int, default=5, help="how often each program runs: the least times count")
     given = options.parse_args()
     folder = given.folder.resolve()
-    folder.mkdir(parents=True, exist_ok=True)
-    write_workspace(folder)
+    below = " ".join(name for name in LIBRARIES if name != "byteorder")
+    write_workspace(folder, LIBRARIES, NAME, SOURCES, f": {below} thiserror")
     program = build(folder, given.cpu)
     data = given.data or folder / "rows.csv"
     if not data.exists():

@@ -79,13 +79,16 @@ TABLES = SET_FUNCTIONS + [
         ],
     ),
     Table(
-        "a mean of -1 and a million zeros has no sign",
+        "a mean of -0.0000004 has no sign, and is 0 to HAVING",
         "A SMALLINT",
-        [rows([-1])] + [rows([0] * 50_000)] * 20,
+        [rows([-1] + [0] * 49_999)] + [rows([0] * 50_000)] * 49,
         [
             ("SELECT AVG(A) FROM T", ["AVG(A)", "0.000000"]),
             ("SELECT COUNT(*) FROM T HAVING AVG(A) < 0", ["COUNT(*)"]),
-            ("SELECT COUNT(*) FROM T HAVING AVG(A) = 0", ["COUNT(*)", "1000001"]),
+            ("SELECT COUNT(*) FROM T HAVING AVG(A) = 0", ["COUNT(*)", "2500000"]),
+            ("SELECT COUNT(*) FROM T HAVING AVG(A) IN (0)", ["COUNT(*)", "2500000"]),
+            ("SELECT COUNT(*) FROM T HAVING SUM(A) BETWEEN AVG(A) AND 0", ["COUNT(*)"]),
+            ("SELECT COUNT(*) FROM T HAVING AVG(A) BETWEEN SUM(A) AND 0", ["COUNT(*)", "2500000"]),
         ],
     ),
     Table(
@@ -124,6 +127,8 @@ TABLES = SET_FUNCTIONS + [
             groups_where("SUM(B) < A", "5"),
             groups_where("AVG(B) > 1", "2", "5"),
             groups_where("AVG(B) BETWEEN 1 AND 2", "5"),
+            groups_where("AVG(B) IN (1,9)", "2"),
+            groups_where("AVG(B) NOT IN (1,9)", "5"),
             groups_where("SUM(B) IN (3)", "5"),
             groups_where("SUM(B) NOT IN (3)", "2"),
             groups_where("MIN(B) = MAX(B)", "2"),

@@ -18,3 +18,4 @@ pub mod WalkLemmas
 pub mod ListLemmas
 pub mod RaisedLemmas
 pub mod RowsLemmas
+pub mod WalkFoldLemmas

@@ -1,5 +1,5 @@
 -- Lanes gone through step by step, and the numbers that they come to.
-use Rattle.std.specs.Prelude.{ℕ, zero, suc, ◌+◌, ◌^◌, ◌%◌, Bool, cond, List, slice_index}
+use Rattle.std.specs.Prelude.{ℕ, zero, suc, ◌+◌, ◌-◌, ◌^◌, ◌%◌, Bool, cond, List, slice_index}
 use Rattle.transpose_order.specs.Place.{lane_of, step_of}
 use Rattle.bit_interleave.specs.Packing.{packed_value}
 
@@ -30,3 +30,7 @@ number_at walk lane step = number_before walk lane (step + 1)
 -- the number of row n
 unfoldable pub number_of_row : Walk → ℕ → ℕ
 number_of_row walk n = number_at walk (lane_of walk.lane_width n) (step_of walk.lane_width n)
+
+-- a number, or how far it is below the greatest of t bits
+abbrev pub turned : ℕ → Bool → ℕ → ℕ
+turned t flipped number = cond flipped (2 ^ t - 1 - number) number

@@ -14,6 +14,7 @@ mod native_32;
 mod native_64;
 mod packed;
 mod paths;
+mod raised;
 mod ranges;
 mod run_folds;
 mod runs;

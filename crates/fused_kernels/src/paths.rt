@@ -18,7 +18,10 @@ use crate::ranges::compare_range;
 use crate::run_folds::{greatest_of_runs, least_of_runs, sum_of_runs};
 use crate::sums::sum;
 use crate::vector_lanes::VectorLanes;
-use crate::walks::{sum_of_deltas, sum_of_frame};
+use crate::walks::{
+    greatest_of_deltas, greatest_of_frame, least_of_deltas, least_of_frame, sum_of_deltas,
+    sum_of_frame,
+};
 use frame_delta::{Delta, For};
 use run_dictionary::Runs;
 use segment_core::{Coded, CodedVector};
@@ -104,6 +107,36 @@ fn min_by_runs(vector: &CodedVector, form: &Runs, mask: &Mask) -> Option<i64>
     least_of_runs(form, &rows_of_vector(vector, mask))
 }
 
+/// What `vector_min` answers, by the native lanes of the vector's frame.
+fn min_by_frame(vector: &CodedVector, form: &For, mask: &Mask, meter: &mut Meter) -> Option<i64>
+    requires { vector.now.coded ≡ InFor form.now }
+    ensures value { result ≡ least (values_looked_at (vector_seen vector.now 0) mask.now) }
+    ensures pass { meter.new ≡ raised 1 meter.old }
+{
+    match least_of_frame(form, &rows_of_vector(vector, mask)) {
+        None => min_by_lanes(vector, mask, meter),
+        Some(least) => {
+            meter.add_pass();
+            least
+        }
+    }
+}
+
+/// What `vector_min` answers, by the native lanes of the vector's deltas.
+fn min_by_deltas(vector: &CodedVector, form: &Delta, mask: &Mask, meter: &mut Meter) -> Option<i64>
+    requires { vector.now.coded ≡ InDelta form.now }
+    ensures value { result ≡ least (values_looked_at (vector_seen vector.now 0) mask.now) }
+    ensures pass { meter.new ≡ raised 1 meter.old }
+{
+    match least_of_deltas(form, &rows_of_vector(vector, mask)) {
+        None => min_by_lanes(vector, mask, meter),
+        Some(least) => {
+            meter.add_pass();
+            least
+        }
+    }
+}
+
 /// The least value of a vector's rows looked at, none over none. Rows of the mask that are covered and not null are looked at.
 /// The meter counts one pass more.
 pub fn vector_min(vector: &CodedVector, mask: &Mask, meter: &mut Meter) -> Option<i64>
@@ -115,7 +148,9 @@ pub fn vector_min(vector: &CodedVector, mask: &Mask, meter: &mut Meter) -> Optio
             meter.add_pass();
             min_by_runs(vector, form.get(), mask)
         }
-        _ => min_by_lanes(vector, mask, meter),
+        Coded::For(form) => min_by_frame(vector, form, mask, meter),
+        Coded::Delta(form) => min_by_deltas(vector, form.get(), mask, meter),
+        Coded::Dict(_) => min_by_lanes(vector, mask, meter),
     }
 }
 
@@ -135,6 +170,36 @@ fn max_by_runs(vector: &CodedVector, form: &Runs, mask: &Mask) -> Option<i64>
     greatest_of_runs(form, &rows_of_vector(vector, mask))
 }
 
+/// What `vector_max` answers, by the native lanes of the vector's frame.
+fn max_by_frame(vector: &CodedVector, form: &For, mask: &Mask, meter: &mut Meter) -> Option<i64>
+    requires { vector.now.coded ≡ InFor form.now }
+    ensures value { result ≡ greatest (values_looked_at (vector_seen vector.now 0) mask.now) }
+    ensures pass { meter.new ≡ raised 1 meter.old }
+{
+    match greatest_of_frame(form, &rows_of_vector(vector, mask)) {
+        None => max_by_lanes(vector, mask, meter),
+        Some(greatest) => {
+            meter.add_pass();
+            greatest
+        }
+    }
+}
+
+/// What `vector_max` answers, by the native lanes of the vector's deltas.
+fn max_by_deltas(vector: &CodedVector, form: &Delta, mask: &Mask, meter: &mut Meter) -> Option<i64>
+    requires { vector.now.coded ≡ InDelta form.now }
+    ensures value { result ≡ greatest (values_looked_at (vector_seen vector.now 0) mask.now) }
+    ensures pass { meter.new ≡ raised 1 meter.old }
+{
+    match greatest_of_deltas(form, &rows_of_vector(vector, mask)) {
+        None => max_by_lanes(vector, mask, meter),
+        Some(greatest) => {
+            meter.add_pass();
+            greatest
+        }
+    }
+}
+
 /// The greatest value of a vector's rows looked at, none over none. Rows of the mask that are covered and not null are looked
 /// at. The meter counts one pass more.
 pub fn vector_max(vector: &CodedVector, mask: &Mask, meter: &mut Meter) -> Option<i64>
@@ -146,7 +211,9 @@ pub fn vector_max(vector: &CodedVector, mask: &Mask, meter: &mut Meter) -> Optio
             meter.add_pass();
             max_by_runs(vector, form.get(), mask)
         }
-        _ => max_by_lanes(vector, mask, meter),
+        Coded::For(form) => max_by_frame(vector, form, mask, meter),
+        Coded::Delta(form) => max_by_deltas(vector, form.get(), mask, meter),
+        Coded::Dict(_) => max_by_lanes(vector, mask, meter),
     }
 }
 

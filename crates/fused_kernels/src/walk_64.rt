@@ -9,9 +9,10 @@ ghost use Rattle.frame_delta.specs.Frame.{frame_value};
 ghost use Rattle.frame_delta.specs.Delta.{delta_value};
 ghost use Rattle.table_model.specs.Values.{lesser, greater};
 ghost use Rattle.fused_kernels.specs.Folds.{fold_to};
-ghost use Rattle.fused_kernels.specs.Walks.{number_before, number_at, number_of_row};
+ghost use Rattle.fused_kernels.specs.Walks.{number_before, number_at, number_of_row, turned};
 
 use crate::native_64::numbers_64;
+use crate::raised::value_above;
 use crate::sums::sum_of_lanes;
 use frame_delta::{Delta, For};
 use std::marker::Model;
@@ -92,6 +93,44 @@ fn add_parts(
     }
 }
 
+/// A number, or where `flipped` is true how far it is below the greatest of 64 bits.
+#[inline(always)]
+fn turned(flipped: bool, number: u64) -> u64
+    ensures { result ≡ turned 64 flipped number }
+{
+    if flipped { u64::MAX - number } else { number }
+}
+
+/// Raises each lane's number so far to the lane's number, turned, where its bit of a step is set.
+#[inline(always)]
+fn raise(
+    greatests: &mut [u64; 16],
+    flipped: bool,
+    numbers: &[u64; 16],
+    rows: &[u64; 16],
+    step: usize,
+)
+    requires { step < 64 }
+    ensures { (lane : ℕ) → lane < 16 → slice_index greatests.new lane
+        ≡ max (slice_index greatests.old lane) (cond (bit_at (slice_index rows.now lane) step == 1) (turned 64 flipped (slice_index numbers.now lane)) 0) }
+{
+    for i in 0..16 {
+        let number = chosen(rows[i], step, turned(flipped, numbers[i]), 0);
+        greatests[i] = greatests[i].max(number);
+    }
+}
+
+/// The greatest of the numbers of 16 lanes.
+fn greatest_of_lanes(numbers: &[u64; 16]) -> u64
+    ensures { result ≡ fold_to max 0 16 (slice_index numbers.now) }
+{
+    let mut greatest: u64 = 0;
+    for i in 0..16 {
+        greatest = greatest.max(numbers[i]);
+    }
+    greatest
+}
+
 /// The bits of a mask's rows in their lanes.
 fn lanes_of_mask(mask: &Mask) -> [u64; 16]
     ensures { (lane step : ℕ) → lane < 16 → step < 64 → (bit_at (slice_index result lane) step == 1) ≡ has mask.now (row_at 64 lane step) }
@@ -151,12 +190,48 @@ impl<'a> Walk64<'a> {
         }
         u128::from(sum_of_lanes(&low)) + u128::from(sum_of_lanes(&high)) * 0x1_0000_0000
     }
+
     /// The sum of the values of a mask's rows, where each row's number is how far its value is above the least of 64 bits.
     pub(crate) fn sum_of_values(&self, rows: &Mask) -> i128
         ensures { (value : ℕ → ℤ) → ((n : ℕ) → n < 1024 → pos (number_of_row self.now n) ≡ value n +ℤ pos (2 ^ 63))
             → result ≡ fold_to ◌+ℤ◌ (pos 0) 1024 (λ n. cond (has rows.now n) (value n) (pos 0)) }
     {
         self.sum(rows) as i128 - rows.count_below(1024) as i128 * (1 << 63)
+    }
+
+    /// The greatest of the numbers of a mask's rows, turned, or 0 over none.
+    fn greatest(&self, flipped: bool, rows: &Mask) -> u64
+        ensures value { result ≡ fold_to max 0 1024 (λ n. cond (has rows.now n) (turned 64 flipped (number_of_row self.now n)) 0) }
+        ensures below { (n : ℕ) → number_of_row self.now n ≤ 2 ^ 64 - 1 }
+    {
+        let lanes = lanes_of_mask(rows);
+        let mut numbers = self.starts;
+        let mut greatests = [0; 16];
+        for step in 0..64 {
+            self.go(step, &mut numbers);
+            raise(&mut greatests, flipped, &numbers, &lanes, step);
+        }
+        greatest_of_lanes(&greatests)
+    }
+
+    /// The greatest value of a mask's rows, none over none, where each row's number is how far its value is above the least of
+    /// 64 bits.
+    pub(crate) fn greatest_value(&self, rows: &Mask) -> Option<i64>
+        ensures { (value : ℕ → ℤ) → ((n : ℕ) → n < 1024 → pos (number_of_row self.now n) ≡ value n +ℤ pos (2 ^ 63))
+            → result ≡ fold_to greater None 1024 (λ n. cond (has rows.now n) (Some (value n)) None) }
+    {
+        let greatest = self.greatest(false, rows);
+        value_above(rows, greatest, 1 << 63)
+    }
+
+    /// The least value of a mask's rows, none over none, where each row's number is how far its value is above the least of
+    /// 64 bits.
+    pub(crate) fn least_value(&self, rows: &Mask) -> Option<i64>
+        ensures { (value : ℕ → ℤ) → ((n : ℕ) → n < 1024 → pos (number_of_row self.now n) ≡ value n +ℤ pos (2 ^ 63))
+            → result ≡ fold_to lesser None 1024 (λ n. cond (has rows.now n) (Some (value n)) None) }
+    {
+        let least = u64::MAX - self.greatest(true, rows);
+        value_above(rows, least, 1 << 63)
     }
 }
 
@@ -191,7 +266,7 @@ fn all_raised(values: &[i64]) -> [u64; 16]
 }
 
 /// The walk of a frame, whose numbers are how far the values are above the least of 64 bits.
-fn walk_of_frame_64(form: &For) -> Walk64<'_>
+pub(crate) fn walk_of_frame_64(form: &For) -> Walk64<'_>
     requires { form.now.lane_width ≡ 64 }
     ensures { (n : ℕ) → n < 1024 → pos (number_of_row result n) ≡ frame_value form.now n +ℤ pos (2 ^ 63) }
 {
@@ -201,7 +276,7 @@ fn walk_of_frame_64(form: &For) -> Walk64<'_>
 }
 
 /// The walk of deltas, whose numbers are how far the values are above the least of 64 bits.
-fn walk_of_deltas_64(form: &Delta) -> Walk64<'_>
+pub(crate) fn walk_of_deltas_64(form: &Delta) -> Walk64<'_>
     requires { form.now.lane_width ≡ 64 }
     ensures { (n : ℕ) → n < 1024 → pos (number_of_row result n) ≡ delta_value form.now n +ℤ pos (2 ^ 63) }
 {

@@ -1,13 +1,14 @@
 //! Set functions of frames and deltas, by walks through their lanes.
-ghost use Rattle.std.specs.Prelude.{◌≡◌, cond, IfSome, pos, ◌+ℤ◌};
+ghost use Rattle.std.specs.Prelude.{◌≡◌, cond, IfSome, pos, ◌+ℤ◌, Some, None};
 ghost use Rattle.transpose_order.specs.Mask.{has};
 ghost use Rattle.frame_delta.specs.Frame.{frame_value};
 ghost use Rattle.frame_delta.specs.Delta.{delta_value};
+ghost use Rattle.table_model.specs.Values.{lesser, greater};
 ghost use Rattle.fused_kernels.specs.Folds.{fold_to};
 
-use crate::walk_16::{sum_of_deltas_16, sum_of_frame_16};
-use crate::walk_32::{sum_of_deltas_32, sum_of_frame_32};
-use crate::walk_64::{sum_of_deltas_64, sum_of_frame_64};
+use crate::walk_16::{sum_of_deltas_16, sum_of_frame_16, walk_of_deltas_16, walk_of_frame_16};
+use crate::walk_32::{sum_of_deltas_32, sum_of_frame_32, walk_of_deltas_32, walk_of_frame_32};
+use crate::walk_64::{sum_of_deltas_64, sum_of_frame_64, walk_of_deltas_64, walk_of_frame_64};
 use frame_delta::{Delta, For};
 use transpose_order::Mask;
 
@@ -31,6 +32,54 @@ pub(crate) fn sum_of_deltas(form: &Delta, rows: &Mask) -> Option<i128>
         16 => Some(sum_of_deltas_16(form, rows)),
         32 => Some(sum_of_deltas_32(form, rows)),
         64 => Some(sum_of_deltas_64(form, rows)),
+        _ => None,
+    }
+}
+
+/// The least of the values of a mask's rows, none over none, or none at a lane width of 8.
+pub(crate) fn least_of_frame(form: &For, rows: &Mask) -> Option<Option<i64>>
+    ensures { IfSome result (λ least. least ≡ fold_to lesser None 1024 (λ n. cond (has rows.now n) (Some (frame_value form.now n)) None)) }
+{
+    match form.lane_width() {
+        16 => Some(walk_of_frame_16(form).least_value(rows)),
+        32 => Some(walk_of_frame_32(form).least_value(rows)),
+        64 => Some(walk_of_frame_64(form).least_value(rows)),
+        _ => None,
+    }
+}
+
+/// The least of the values of a mask's rows, none over none, or none at a lane width of 8.
+pub(crate) fn least_of_deltas(form: &Delta, rows: &Mask) -> Option<Option<i64>>
+    ensures { IfSome result (λ least. least ≡ fold_to lesser None 1024 (λ n. cond (has rows.now n) (Some (delta_value form.now n)) None)) }
+{
+    match form.lane_width() {
+        16 => Some(walk_of_deltas_16(form).least_value(rows)),
+        32 => Some(walk_of_deltas_32(form).least_value(rows)),
+        64 => Some(walk_of_deltas_64(form).least_value(rows)),
+        _ => None,
+    }
+}
+
+/// The greatest of the values of a mask's rows, none over none, or none at a lane width of 8.
+pub(crate) fn greatest_of_frame(form: &For, rows: &Mask) -> Option<Option<i64>>
+    ensures { IfSome result (λ greatest. greatest ≡ fold_to greater None 1024 (λ n. cond (has rows.now n) (Some (frame_value form.now n)) None)) }
+{
+    match form.lane_width() {
+        16 => Some(walk_of_frame_16(form).greatest_value(rows)),
+        32 => Some(walk_of_frame_32(form).greatest_value(rows)),
+        64 => Some(walk_of_frame_64(form).greatest_value(rows)),
+        _ => None,
+    }
+}
+
+/// The greatest of the values of a mask's rows, none over none, or none at a lane width of 8.
+pub(crate) fn greatest_of_deltas(form: &Delta, rows: &Mask) -> Option<Option<i64>>
+    ensures { IfSome result (λ greatest. greatest ≡ fold_to greater None 1024 (λ n. cond (has rows.now n) (Some (delta_value form.now n)) None)) }
+{
+    match form.lane_width() {
+        16 => Some(walk_of_deltas_16(form).greatest_value(rows)),
+        32 => Some(walk_of_deltas_32(form).greatest_value(rows)),
+        64 => Some(walk_of_deltas_64(form).greatest_value(rows)),
         _ => None,
     }
 }

@@ -1,26 +1,45 @@
 //! Checks of canonical files.
-ghost use Rattle.std.specs.Prelude.{◌≡◌};
+ghost use Rattle.std.specs.Prelude.{◌≡◌, ◌++◌, OnOk, IfOk, IfErr};
+ghost use Rattle.std.specs.Io.KnownBytes.{IsAtEnd};
+ghost use Rattle.table_model.specs.Faults.{IsWithin, GaveMore};
+ghost use Rattle.lanes_main.specs.FileReport.{checked_text, check_report, Reports, CountsBoth};
 
 use crate::reply_format::write_number;
-use column_file::check;
-use std::alloc::Global;
+use column_file::{Checked, check};
+use std::alloc::{AllocError, Global};
 use std::io::{Read, Write};
 use table_model::{Counted, Refusal};
 
-/// Checks a canonical file, and writes how many batches and maximal ranges it has: `ok batches=B ranges=R` and a line feed.
-///
-/// Refused are the faults of [`column_file::check`], and then a write that fails (`WriteFault`).
-pub fn check_file<R: Read, W: Write>(
-    alloc: Global,
-    reader: &mut Counted<R>,
-    writer: &mut Counted<W>,
-) -> Result<(), Refusal> {
-    let checked = check(alloc, reader)?;
+/// The line of a check: `ok batches=B ranges=R` and a line feed.
+fn checked_line(alloc: Global, checked: Checked) -> Result<Vec<u8>, AllocError>
+    ensures { IfOk result (λ line. line.items ≡ checked_text (checked.batches, checked.ranges)) }
+{
     let mut line = Vec::new(alloc);
     line.extend_from_slice(b"ok batches=")?;
     write_number(&mut line, u64::from(checked.batches))?;
     line.extend_from_slice(b" ranges=")?;
     write_number(&mut line, checked.ranges)?;
     line.extend_from_slice(b"\n")?;
+    Ok(line)
+}
+
+/// Checks a canonical file, and writes how many batches and maximal ranges it has: `ok batches=B ranges=R` and a line feed.
+///
+/// Refused are the faults of [`column_file::check`], and then a write that fails (`WriteFault`), after which what was written is a
+/// front of the line. `ReadFault` is answered only where the reader's count of failures rose or it gave more than 2^48 bytes, and
+/// `WriteFault` only where the writer's rose.
+pub fn check_file<R: Read, W: Write>(
+    alloc: Global,
+    reader: &mut Counted<R>,
+    writer: &mut Counted<W>,
+) -> Result<(), Refusal>
+    ensures told { Reports result (R.remaining reader.old.0) (W.contents writer.old.0) (W.contents writer.new.0) check_report }
+    ensures end { OnOk result (IsAtEnd (R.remaining reader.new.0)) }
+    ensures within { OnOk result (IsWithin (R.remaining reader.old.0)) }
+    ensures kept { OnOk result ((reader.new.1 ≡ reader.old.1) × (writer.new.1 ≡ writer.old.1)) }
+    ensures fault { IfErr result (λ e. CountsBoth (GaveMore (R.remaining reader.old.0) (R.remaining reader.new.0)) e reader.old.1 reader.new.1 writer.old.1 writer.new.1) }
+{
+    let checked = check(alloc, reader)?;
+    let line = checked_line(alloc, checked)?;
     writer.write_whole(line.as_slice())
 }

@@ -1,8 +1,9 @@
 //! Queries over a file.
-ghost use Rattle.std.specs.Prelude.{◌≡◌, OnOk, Ok};
-ghost use Rattle.std.specs.Io.KnownBytes.{Appends};
-ghost use Rattle.table_model.specs.Answer.{AnswerParts, answer_text};
+ghost use Rattle.std.specs.Prelude.{◌≡◌, map, IsTrue, OnOk, IfErr};
+ghost use Rattle.std.specs.Io.KnownBytes.{IsAtEnd};
+ghost use Rattle.table_model.specs.Faults.{IsWithin, GaveMore};
 ghost use Rattle.store_view.specs.Asked.{query_answer};
+ghost use Rattle.lanes_main.specs.FileReport.{answer_report, answers_report, queries_report, no_report, is_refusal_of_answering, Tells, Reports, CountsWrites, CountsBoth};
 
 use crate::notes::point_at;
 use column_file::open;
@@ -20,24 +21,58 @@ fn write_answer<W: Write>(
     query: &str,
     writer: &mut Counted<W>,
 ) -> Result<(), Refusal>
-    ensures { OnOk result ((answer : AnswerParts) × (query_answer query.now store.now.replica.schema store.now.replica.state ≡ Ok answer)
-        × Appends (W.contents writer.old.0) (W.contents writer.new.0) (answer_text answer)) }
+    ensures told { Tells result (W.contents writer.old.0) (W.contents writer.new.0)
+        (answer_report (query_answer query.now store.now.replica.schema store.now.replica.state) no_report) }
+    ensures refused { IfErr result (λ e. IsTrue (is_refusal_of_answering e)) }
+    ensures kept { OnOk result (writer.new.1 ≡ writer.old.1) }
+    ensures fault { IfErr result (λ e. CountsWrites e writer.old.1 writer.new.1) }
 {
     let answer = ask(alloc, store, query)?;
     let lines = text(alloc, &answer)?;
     writer.write_whole(lines.as_slice())
 }
 
+/// Writes the answers of queries over a store as their texts, one after another, up to the first that is refused, which is pointed at.
+fn write_answers<W: Write, N: Write>(
+    alloc: Global,
+    store: &Store,
+    queries: &[&str],
+    writer: &mut Counted<W>,
+    notes: &mut N,
+) -> Result<(), Refusal>
+    ensures told { Tells result (W.contents writer.old.0) (W.contents writer.new.0)
+        (answers_report store.now.replica.schema store.now.replica.state (map (λ query. query.now) queries.now)) }
+    ensures refused { IfErr result (λ e. IsTrue (is_refusal_of_answering e)) }
+    ensures kept { OnOk result (writer.new.1 ≡ writer.old.1) }
+    ensures fault { IfErr result (λ e. CountsWrites e writer.old.1 writer.new.1) }
+{
+    for query in queries {
+        if let Err(refusal) = write_answer(alloc, store, query, writer) {
+            let _ = point_at(alloc, query, refusal, notes);
+            return Err(refusal);
+        }
+    }
+    Ok(())
+}
+
 /// Writes the answers of queries over a canonical file, one after another.
 ///
 /// Refused are, in this order, what [`open`] refuses; and then of one query after another what it is refused as, where the answers
-/// before it are written; `Memory`; `WriteFault`.
+/// before it are written; `Memory`; `WriteFault`. `ReadFault` is answered only where the reader's count of failures rose or it gave
+/// more than 2^48 bytes, and `WriteFault` only where the writer's rose; then, and after `Memory`, what was written is a front of the
+/// answers.
 pub fn query_file<R: Read, W: Write>(
     alloc: Global,
     reader: &mut Counted<R>,
     queries: &[&str],
     writer: &mut Counted<W>,
-) -> Result<(), Refusal> {
+) -> Result<(), Refusal>
+    ensures told { Reports result (R.remaining reader.old.0) (W.contents writer.old.0) (W.contents writer.new.0) (queries_report (map (λ query. query.now) queries.now)) }
+    ensures end { OnOk result (IsAtEnd (R.remaining reader.new.0)) }
+    ensures within { OnOk result (IsWithin (R.remaining reader.old.0)) }
+    ensures kept { OnOk result ((reader.new.1 ≡ reader.old.1) × (writer.new.1 ≡ writer.old.1)) }
+    ensures fault { IfErr result (λ e. CountsBoth (GaveMore (R.remaining reader.old.0) (R.remaining reader.new.0)) e reader.old.1 reader.new.1 writer.old.1 writer.new.1) }
+{
     query_file_with_notes(alloc, reader, queries, writer, &mut io::sink())
 }
 
@@ -49,13 +84,13 @@ pub fn query_file_with_notes<R: Read, W: Write, N: Write>(
     queries: &[&str],
     writer: &mut Counted<W>,
     notes: &mut N,
-) -> Result<(), Refusal> {
+) -> Result<(), Refusal>
+    ensures told { Reports result (R.remaining reader.old.0) (W.contents writer.old.0) (W.contents writer.new.0) (queries_report (map (λ query. query.now) queries.now)) }
+    ensures end { OnOk result (IsAtEnd (R.remaining reader.new.0)) }
+    ensures within { OnOk result (IsWithin (R.remaining reader.old.0)) }
+    ensures kept { OnOk result ((reader.new.1 ≡ reader.old.1) × (writer.new.1 ≡ writer.old.1)) }
+    ensures fault { IfErr result (λ e. CountsBoth (GaveMore (R.remaining reader.old.0) (R.remaining reader.new.0)) e reader.old.1 reader.new.1 writer.old.1 writer.new.1) }
+{
     let store = open(alloc, reader, Origin(1))?;
-    for query in queries {
-        if let Err(refusal) = write_answer(alloc, &store, query, writer) {
-            let _ = point_at(alloc, query, refusal, notes);
-            return Err(refusal);
-        }
-    }
-    Ok(())
+    write_answers(alloc, &store, queries, writer, notes)
 }

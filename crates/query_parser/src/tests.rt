@@ -14,7 +14,7 @@ fn fault(alloc: Global, text: &str) -> Option<Refusal> {
 }
 
 // A place is the byte offset of the first token that no query has there, or the text's length. Each row was worked out by hand.
-const FAULTS: [(&str, Option<Refusal>); 95] = [
+const FAULTS: [(&str, Option<Refusal>); 101] = [
     ("", Some(Refusal::Syntax(0))),
     (" \t\r\n", Some(Refusal::Syntax(4))),
     ("SELECT COUNT(*) FROM T", None),
@@ -146,6 +146,21 @@ const FAULTS: [(&str, Option<Refusal>); 95] = [
     ("SELECT A FROM T HAVING SUM(*)=1", Some(Refusal::Syntax(27))),
     ("SELECT A FROM T HAVING SUM(A) IN(1)OR 1 IS NULL", None),
     ("SELECT A FROM T HAVING AVG(A)=AVG(B)", None),
+    ("SELECT A FROM T HAVING AVG(A)=0", None),
+    ("SELECT A FROM T HAVING AVG(A)IN(0,-1)", None),
+    ("SELECT A FROM T HAVING AVG(ALL A)NOT IN(+1)", None),
+    (
+        "SELECT A FROM T HAVING AVG(A)IN(AVG(A))",
+        Some(Refusal::Syntax(32)),
+    ),
+    (
+        "SELECT A FROM T HAVING SUM(A)NOT BETWEEN AVG(A)AND COUNT(*)",
+        None,
+    ),
+    (
+        "SELECT A FROM T HAVING AVG(A)=-0.0000004",
+        Some(Refusal::Syntax(32)),
+    ),
     (
         "SELECT A FROM T HAVING COUNT(ALL*)=1",
         Some(Refusal::Syntax(32)),

@@ -1,11 +1,11 @@
 -- The canonical vectors of a segment's own cells: a segment of the same rows.
-use Rattle.std.proofs.Common.{◌≡◌, ℕ, zero, suc, ◌<◌, ℤ, List, [], ◌∷◌, map, length, get_or, slice_get, Option, Some, None, refl, sym, ◌∙◌, ap, subst, arith}
+use Rattle.std.proofs.Common.{◌≡◌, true, ℕ, zero, suc, ◌<◌, ℤ, List, [], ◌∷◌, map, length, get_or, slice_get, Option, Some, None, refl, sym, ◌∙◌, ap, subst, arith}
 use Rattle.std.proofs.lemmas.List.{same_lists, length-map}
 use Rattle.std.proofs.lemmas.Option.{slice_get_within, slice_get-get_or}
 use Rattle.table_model.specs.State.{Batch}
 use Rattle.segment_core.specs.Coded.{lane_width_of}
 use Rattle.segment_core.specs.CodedVector.{VectorForm, cells_of, canonical_vector, canonical_of, IsVector}
-use Rattle.segment_core.specs.Segment.{column_cells, cells_in, canonical_column, canonical_forms, canonical_vectors, width_in, widths_in, vector_count, batch_of, IsColumn, IsSegment}
+use Rattle.segment_core.specs.Segment.{column_cells, cells_in, canonical_column, canonical_forms, canonical_vectors, width_in, widths_in, vector_count, batch_of, IsColumn, IsSegment, IsMarked}
 use Rattle.segment_core.proofs.SegmentLemmas.{length-batch_of}
 use Rattle.segment_core.proofs.GatherLemmas.{length-column_cells}
 use Rattle.segment_core.proofs.VectorLemmas.{length-cells_of, get_or-cells_of, get_or-any, cells_in_range, canonical_cell, canonical_is_a_vector, lane_width_is, lane_width-canonical}
@@ -123,3 +123,13 @@ pub widths_in-canonical_copy : (forms : List (List VectorForm)) → widths_in (m
 widths_in-canonical_copy [] = refl
 widths_in-canonical_copy (vectors ∷ forms) =
     ap (λ (t : ℕ). t ∷ widths_in (map canonical_vectors forms)) (width_in-canonical_vectors vectors) ∙ ap (λ (ws : List ℕ). width_in vectors ∷ ws) (widths_in-canonical_copy forms)
+
+-- they are known to be canonical
+pub canonical_copy_is_marked : (rows : ℕ) (forms : List (List VectorForm)) → IsSegment rows forms → IsMarked rows (map canonical_vectors forms) true
+canonical_copy_is_marked rows forms is =
+    record {
+      segment = canonical_copy_is_a_segment rows forms is;
+      canonical = λ _. canonical_copy_forms rows forms is
+          ∙ ap (λ (widths : List ℕ). canonical_forms widths (batch_of rows forms)) (sym (widths_in-canonical_copy forms))
+          ∙ ap (canonical_forms (widths_in (map canonical_vectors forms))) (sym (canonical_copy_rows rows forms is));
+    }

@@ -1,7 +1,10 @@
 -- The first coding of fewest bytes is found by comparing one after another.
-use Rattle.std.proofs.Common.{◌≡◌, ℕ, ◌<◌, ◌≤◌, ◌⊎◌, inl, inr, Bool, true, false, nat_lt, cond, Option, IsSome, is_some, ◌↔◌, refl, sym, ◌∙◌, ap, subst, arith}
+use Rattle.std.proofs.Common.{◌≡◌, ℕ, ◌<◌, ◌≤◌, ◌⊎◌, inl, inr, ◌+◌, ◌*◌, ◌/◌, length, Bool, true, false, nat_lt, cond, ℤ, List, Option, IsSome, is_some, ◌↔◌, refl, sym, ◌∙◌, ap, subst, arith}
 use Rattle.std.proofs.lemmas.Bool.Decides.{nat_tests}
-use Rattle.segment_core.specs.Choice.{fewer, first_fewest, place_in_order, IsFirstFewest}
+use Rattle.transpose_order.specs.Place.{IsLaneWidth}
+use Rattle.run_dictionary.specs.Dict.{distinct}
+use Rattle.run_dictionary.proofs.DictLemmas.{some_distinct}
+use Rattle.segment_core.specs.Choice.{fewer, first_fewest, least_bytes, place_in_order, IsFirstFewest}
 use Rattle.segment_core.specs.declared.coding.Coding.{Coding}
 use Rattle.segment_core.specs.declared.coding.Coding.TheVariants.{For, Delta, Runs, Dict}
 
@@ -125,3 +128,34 @@ dictionary_is bytes best count chosen found h e below =
     e ∙ ap (λ b. cond b Dict best) (some_at found (bytes Dict) count (is_some found) below refl)
     ∙ ap (λ n. cond (nat_lt (bytes Dict) n) Dict best) h.count_is
     ∙ ap (λ (x : Coding). cond (nat_lt (bytes Dict) (bytes (of_three bytes))) Dict x) h.coding
+
+-- a frame is chosen at once where no other coding takes fewer bytes
+pub frame_is_first : (bytes : Coding → ℕ) → bytes For ≤ bytes Delta → bytes For ≤ bytes Runs → bytes For ≤ bytes Dict → first_fewest bytes ≡ For
+unfolding first_fewest
+frame_is_first bytes a b c =
+    let one : nat_lt (bytes Delta) (bytes For) ≡ false = grind (arith, nat_tests) in
+    let two : nat_lt (bytes Runs) (bytes For) ≡ false = grind (arith, nat_tests) in
+    let three : nat_lt (bytes Dict) (bytes For) ≡ false = grind (arith, nat_tests) in
+    ap (λ x. fewer bytes (fewer bytes (cond x Delta For) Runs) Dict) one
+    ∙ ap (λ x. fewer bytes (cond x Runs For) Dict) two
+    ∙ ap (λ x. cond x Dict For) three
+
+some_values : (t n : ℕ) → IsLaneWidth t → 1 ≤ n → t / 8 ≤ n * t / 8
+some_values t n w some = elim w [
+  | inl is ↦ rw is (omega (arith, some))
+  | inr (inl is) ↦ rw is (omega (arith, some))
+  | inr (inr (inl is)) ↦ rw is (omega (arith, some))
+  | inr (inr (inr is)) ↦ rw is (omega (arith, some))
+]
+
+-- no coding takes fewer bytes than a frame without packed values
+pub bare_frame_is_first : (t : ℕ) (values : List ℤ) → IsLaneWidth t → length values ≡ 1024 → least_bytes t values For ≡ t / 8 → first_fewest (least_bytes t values) ≡ For
+bare_frame_is_first t values w long bare =
+    let some = some_values t (length (distinct values)) w (some_distinct values (omega (arith, long))) in
+    let small : t / 8 ≤ 128 = elim w [
+      | inl is ↦ rw is (omega arith)
+      | inr (inl is) ↦ rw is (omega arith)
+      | inr (inr (inl is)) ↦ rw is (omega arith)
+      | inr (inr (inr is)) ↦ rw is (omega arith)
+    ] in
+    frame_is_first (least_bytes t values) (omega (arith, bare)) (omega (arith, bare, small)) (omega (arith, bare, some))

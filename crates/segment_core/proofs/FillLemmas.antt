@@ -162,3 +162,40 @@ full_is_filled rows nulls values long full =
     let below : n < rows = f.0 in
     sym (filled_at-some (cells_under rows nulls values) n (value_at values n) (omega (arith, length-cells_under rows nulls values))
     (get_or-cells_under rows nulls values n None below ∙ ap (λ b. cond b None (Some (value_at values n))) f.1)))
+
+-- one of the rows more
+pub fill_row : (rows : ℕ) (nulls : List Bool) (given now : List ℤ) (n : ℕ) (latest z : ℤ) → rows ≤ 1024 → n < rows → Filling rows nulls given now n latest → z ≡ cond (not (has nulls n)) (value_at now n) latest → Filling rows nulls given (set now n z) (suc n) z
+fill_row rows nulls given now n latest z limit below h e =
+    let test : true ≡ nat_lt n rows = grind (arith, nat_tests) in
+    fill_step rows nulls given now n latest z (omega arith) h (e ∙ ap (λ b. cond (b && not (has nulls n)) (value_at now n) latest) test)
+
+last_of_first : (d : ℤ) (values : List ℤ) → last_or (first_or d values) values ≡ last_or d values
+last_of_first d [] = refl
+last_of_first d (x ∷ xs) = refl
+
+-- after all rows the latest value is the last
+pub filling_last : (rows : ℕ) (nulls : List Bool) (given now : List ℤ) (n : ℕ) (latest : ℤ) → rows ≤ n → Filling rows nulls given now n latest → latest ≡ last_or (pos 0) (present (cells_under rows nulls given))
+filling_last rows nulls given now n latest past h =
+    let cells : List (Option ℤ) = cells_under rows nulls given in
+    let whole : take n cells ≡ cells = take_all n cells (omega (arith, length-cells_under rows nulls given)) in
+    h.latest_is ∙ ap (λ xs. last_or (first_or (pos 0) (present cells)) (present xs)) whole ∙ last_of_first (pos 0) (present cells)
+
+-- past the rows the filled value is the last
+filled_past : (cells : List (Option ℤ)) (n : ℕ) → length cells ≤ n → filled_at cells n ≡ last_or (pos 0) (present cells)
+unfolding filled_at
+filled_past cells n past = ap (λ xs. last_or (first_or (pos 0) (present cells)) (present xs)) (take_all (suc n) cells (omega arith)) ∙ last_of_first (pos 0) (present cells)
+
+filled_part : (rows : ℕ) (nulls : List Bool) (given part now : List ℤ) (last : ℤ) (n : ℕ) → n < 1024
+    → ((k : ℕ) → k < rows → value_at part k ≡ filled_at (cells_under rows nulls given) k) → last ≡ last_or (pos 0) (present (cells_under rows nulls given))
+    → ((k : ℕ) → k < rows → value_at now k ≡ value_at part k) → ((k : ℕ) → rows ≤ k → k < 1024 → value_at now k ≡ last)
+    → (n < rows) ⊎ (rows ≤ n) → value_at now n ≡ filled_at (cells_under rows nulls given) n
+filled_part rows nulls given part now last n within filled is kept rest (inl h) = kept n h ∙ filled n h
+filled_part rows nulls given part now last n within filled is kept rest (inr h) = rest n h within ∙ is ∙ sym (filled_past (cells_under rows nulls given) n (omega (arith, length-cells_under rows nulls given)))
+
+-- the rows are filled, and then the rest with the last value
+pub filled_parts : (rows : ℕ) (nulls : List Bool) (given part now : List ℤ) (last : ℤ) → length now ≡ 1024
+    → ((k : ℕ) → k < rows → value_at part k ≡ filled_at (cells_under rows nulls given) k) → last ≡ last_or (pos 0) (present (cells_under rows nulls given))
+    → ((k : ℕ) → k < rows → value_at now k ≡ value_at part k) → ((k : ℕ) → rows ≤ k → k < 1024 → value_at now k ≡ last)
+    → now ≡ filled (cells_under rows nulls given)
+filled_parts rows nulls given part now last long filled is kept rest =
+    filled_is (cells_under rows nulls given) now long (λ n h. filled_part rows nulls given part now last n h filled is kept rest (cases_lt n rows))

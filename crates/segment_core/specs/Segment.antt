@@ -1,5 +1,5 @@
 -- A segment: the rows of a batch, column by column, each column in coded vectors of up to 1024 rows.
-use Rattle.std.specs.Prelude.{◌≡◌, ℕ, ◌<◌, ◌+◌, ◌-◌, ◌*◌, ◌/◌, ◌%◌, ◌≤◌, min, ℤ, List, [], ◌∷◌, map, take, drop, length, slice_get, slice_index_or, slice_set, Option, Some, None, Result, Ok, Err}
+use Rattle.std.specs.Prelude.{◌≡◌, ℕ, ◌<◌, ◌+◌, ◌-◌, ◌*◌, ◌/◌, ◌%◌, ◌≤◌, min, Bool, IsTrue, ℤ, List, [], ◌∷◌, map, take, drop, length, slice_get, slice_index_or, slice_set, Option, Some, None, Result, Ok, Err}
 use Rattle.std.specs.List.{range_with_len}
 use Rattle.table_model.specs.State.{Cells, Batch}
 use Rattle.table_model.specs.Table.{Table, ColumnShape, bits_of}
@@ -104,6 +104,11 @@ width_in (v ∷ vectors) = lane_width_of v.coded
 -- the lane widths of the columns of a segment
 abbrev pub widths_in : List (List VectorForm) → List ℕ
 widths_in forms = map width_in forms
+
+-- the vectors of a segment, of which it may be known that they are the canonical ones of its rows
+pub record IsMarked (rows : ℕ) (forms : List (List VectorForm)) (known_canonical : Bool) : Type 0 where
+  pub segment : IsSegment rows forms
+  pub canonical : IsTrue known_canonical → forms ≡ canonical_forms (widths_in forms) (batch_of rows forms)
 
 -- a row's cell in a column, null where there is none
 abbrev pub cell_at : Batch → ℕ → ℕ → Option ℤ

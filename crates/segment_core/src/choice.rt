@@ -41,7 +41,7 @@ impl Candidate {
 
 /// The coding whose least form of 1024 values takes the fewest bytes; of several, the first in the order FOR, DELTA, RLE, DICT.
 /// The values are in the range of `lane_width` bits, signed, which are 8, 16, 32 or 64. A dictionary is sized only as far as it
-/// can still win.
+/// can still win, and a frame without packed values, as one value in all rows has it, needs no comparison.
 pub(crate) fn choose(values: &[i64; 1024], lane_width: usize) -> Coding
     requires lane_width { IsLaneWidth lane_width }
     requires fit { AreInRange lane_width values.now }
@@ -52,6 +52,9 @@ pub(crate) fn choose(values: &[i64; 1024], lane_width: usize) -> Coding
         coding: Coding::For,
         bytes: For::size(values, lane_width),
     };
+    if usize::from(frame.bytes) == lane_width / 8 {
+        return Coding::For;
+    }
     let of_two = frame.or_fewer(Coding::Delta, Delta::size(values, lane_width));
     let of_three = of_two.or_fewer(Coding::Runs, Runs::size(values, lane_width));
     of_three.or_dictionary(Dict::size_below(values, lane_width, of_three.bytes))

@@ -1,8 +1,9 @@
 //! Values for the rows of a vector that are null or absent.
-ghost use Rattle.std.specs.Prelude.{◌≡◌, ℕ, ◌<◌, ◌≤◌, false, IsTrue, pos, if◌then◌else◌, nat_lt, ◌&&◌, not};
+ghost use Rattle.std.specs.Prelude.{◌≡◌, ℕ, ◌<◌, ◌≤◌, false, IsTrue, pos, length, if◌then◌else◌};
 ghost use Rattle.transpose_order.specs.Mask.{has};
 ghost use Rattle.table_model.specs.Values.{present};
-ghost use Rattle.segment_core.specs.Fill.{first_or, filled, cells_under};
+ghost use Rattle.bit_interleave.specs.Range.{value_at};
+ghost use Rattle.segment_core.specs.Fill.{first_or, last_or, filled_at, filled, cells_under};
 
 use transpose_order::Mask;
 
@@ -15,10 +16,36 @@ pub(crate) fn fill(values: &mut [i64; 1024], rows: usize, nulls: &Mask)
     if is_full(rows, nulls) {
         return;
     }
-    let mut latest = first_present(values, rows, nulls);
-    for row in 0..1024 {
-        latest = chosen(has_value(row, rows, nulls), values[row], latest);
+    let first = first_present(values, rows, nulls);
+    let latest = fill_rows(values, rows, nulls, first);
+    fill_rest(values, rows, latest);
+}
+
+/// Fills the rows that are null with the latest value before each, or the first of all, and answers the last.
+fn fill_rows(values: &mut [i64; 1024], rows: usize, nulls: &Mask, first: i64) -> i64
+    requires rows { rows ≤ 1024 }
+    requires first { first ≡ first_or (pos 0) (present (cells_under rows nulls.now values.old)) }
+    ensures long { length values.new ≡ length values.old }
+    ensures filled { (n : ℕ) → n < rows → value_at values.new n ≡ filled_at (cells_under rows nulls.now values.old) n }
+    ensures last { result ≡ last_or (pos 0) (present (cells_under rows nulls.now values.old)) }
+{
+    let mut latest = first;
+    for row in 0..rows {
+        latest = chosen(!nulls.get(row), values[row], latest);
         values[row] = latest;
+    }
+    latest
+}
+
+/// Fills the rows past the vector's own with its last value.
+fn fill_rest(values: &mut [i64; 1024], rows: usize, last: i64)
+    requires { rows ≤ 1024 }
+    ensures long { length values.new ≡ length values.old }
+    ensures kept { (n : ℕ) → n < rows → value_at values.new n ≡ value_at values.old n }
+    ensures rest { (n : ℕ) → rows ≤ n → n < 1024 → value_at values.new n ≡ last }
+{
+    for row in rows..1024 {
+        values[row] = last;
     }
 }
 
@@ -41,14 +68,6 @@ fn first_present(values: &[i64; 1024], rows: usize, nulls: &Mask) -> i64
         }
     }
     0
-}
-
-/// Whether a row, 0 to 1023, is one of the rows and not null.
-fn has_value(row: usize, rows: usize, nulls: &Mask) -> bool
-    requires { row < 1024 }
-    ensures { result ≡ (nat_lt row rows && not (has nulls.now row)) }
-{
-    row < rows && !nulls.get(row)
 }
 
 /// A row's own value where it has one, else the latest.

@@ -18,21 +18,22 @@ use std::marker::Model;
 use table_model::{Refusal, Row, Schema};
 
 /// The rows of a batch, column by column, in coded vectors of up to 1024 rows. Contracts see the rows, and beside them the
-/// vectors.
+/// vectors. Whether it is known that each vector is the canonical one of its rows no contract sees.
 #[derive(Drop)]
 pub struct Segment {
-    rows: usize,
+    rows: u32,
+    known_canonical: bool,
     columns: Vec<Vectors>,
 }
 
 impl Model for Segment {
-    ghost use Rattle.segment_core.specs.Segment.{SegmentForm, batch_of, IsSegment};
+    ghost use Rattle.segment_core.specs.Segment.{SegmentForm, batch_of, IsMarked};
 
     ghost Value = { SegmentForm };
 
     ghost view = { λ s. record { rows = batch_of s.rows s.columns.items; forms = s.columns.items } };
 
-    ghost invariant = { λ s. IsSegment s.rows s.columns.items };
+    ghost invariant = { λ s. IsMarked s.rows s.columns.items s.known_canonical };
 }
 
 impl Segment {
@@ -44,7 +45,11 @@ impl Segment {
         ensures rows { result.rows ≡ batch_of rows columns.items }
         ensures valid { (table : Table) → widths_in result.forms ≡ widths_of table → HasBytesIn table result }
     {
-        Segment { rows, columns }
+        Segment {
+            rows: rows as u32,
+            known_canonical: false,
+            columns,
+        }
     }
 
     /// The segment of a table's rows: each vector the canonical one of its cells. Where memory is refused, an `AllocError`.
@@ -56,7 +61,8 @@ impl Segment {
     {
         let columns = canonical_columns(alloc, schema, rows)?;
         Ok(Segment {
-            rows: rows.len(),
+            rows: rows.len() as u32,
+            known_canonical: true,
             columns,
         })
     }
@@ -115,6 +121,7 @@ impl Segment {
         ensures widths { widths_in self.new.forms ≡ widths_in self.old.forms }
         ensures valid { (table : Table) → widths_in self.new.forms ≡ widths_of table → HasBytesIn table self.new }
     {
+        self.known_canonical = false;
         let vectors = &mut self.columns[column];
         vectors.put(vector, made);
     }
@@ -133,7 +140,7 @@ impl Segment {
         ensures form { IsSegment result self.now.forms }
         ensures valid { (table : Table) → widths_in self.now.forms ≡ widths_of table → HasBytesIn table self.now }
     {
-        self.rows
+        self.rows as usize
     }
 
     /// How many columns there are, from 1 to 32.
@@ -162,11 +169,25 @@ impl Segment {
         vectors[ordinal / 1024].value(ordinal % 1024)
     }
 
-    /// Whether each vector is the canonical one of its rows, as `build` makes it. It takes no memory.
+    /// Whether each vector is the canonical one of its rows, as `build` makes it. It takes no memory, and where `build`,
+    /// `canonical_copy` or `judge` made it known, no vector is read.
     pub fn canonical(&self) -> bool
         ensures { IsTrue result ↔ (self.now.forms ≡ canonical_forms (widths_in self.now.forms) self.now.rows) }
     {
+        if self.known_canonical {
+            return true;
+        }
         are_canonical(self.columns.as_slice())
+    }
+
+    /// Whether each vector is the canonical one of its rows, which is known from then on: `canonical`, and copies, no longer read
+    /// the vectors. Nothing that contracts see changes.
+    pub fn judge(&mut self) -> bool
+        ensures value { IsTrue result ↔ (self.old.forms ≡ canonical_forms (widths_in self.old.forms) self.old.rows) }
+        ensures kept { self.new ≡ self.old }
+    {
+        self.known_canonical = self.canonical();
+        self.known_canonical
     }
 
     /// Whether two segments have the same rows, whatever their codings. It takes no memory.
@@ -186,7 +207,7 @@ impl Segment {
     pub fn has_rows(&self, rows: &[Row]) -> bool
         ensures { result ≡ same_rows self.now.rows rows.now }
     {
-        if self.rows != rows.len() {
+        if self.rows as usize != rows.len() {
             return false;
         }
         if !have_length(rows, self.columns.len()) {
@@ -202,6 +223,7 @@ impl Segment {
         let columns = copied_columns(alloc, self.columns.as_slice())?;
         Ok(Segment {
             rows: self.rows,
+            known_canonical: self.known_canonical,
             columns,
         })
     }
@@ -216,6 +238,7 @@ impl Segment {
         let columns = canonical_copies(alloc, self.columns.as_slice())?;
         Ok(Segment {
             rows: self.rows,
+            known_canonical: true,
             columns,
         })
     }

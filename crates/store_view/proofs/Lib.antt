@@ -1,3 +1,4 @@
 pub mod CellLemmas
 pub mod KernelLemmas
+pub mod QueryRefusals
 pub mod StateLemmas

@@ -1,11 +1,12 @@
 -- What the text of a query answers at a table's state.
-use Rattle.std.specs.Prelude.{ℕ, List, Result, Ok, Err}
+use Rattle.std.specs.Prelude.{ℕ, Bool, true, false, List, Result, Ok, Err}
 use Rattle.table_model.specs.Answer.{AnswerParts}
 use Rattle.table_model.specs.Meaning.{answer_of}
 use Rattle.table_model.specs.Query.{QueryShape}
 use Rattle.table_model.specs.State.{State}
 use Rattle.table_model.specs.Table.{Table}
 use Rattle.table_model.specs.declared.refusal.Refusal.{Refusal}
+use Rattle.table_model.specs.declared.refusal.Refusal.TheVariants.{Memory, Syntax, NumberTooLarge, TooDeep, NoSuchTable, NoSuchColumn, NotGrouped}
 use Rattle.query_parser.specs.Descent.{query_of}
 use Rattle.query_parser.specs.Resolve.{resolved}
 
@@ -22,3 +23,14 @@ answer_where table state (Err refusal) = Err refusal
 -- the answer of the query that a text is, over the rows of a state that aren't deleted, or its first refusal
 unfoldable pub query_answer : List ℕ → Table → State → Result AnswerParts Refusal
 query_answer text table state = answer_where table state (query_of text)
+
+-- whether a refusal is one that a query may have: a fault of its text, one of its names, or a want of memory
+abbrev pub is_refusal_of_query : Refusal → Bool
+is_refusal_of_query Memory = true
+is_refusal_of_query (Syntax at) = true
+is_refusal_of_query (NumberTooLarge at) = true
+is_refusal_of_query TooDeep = true
+is_refusal_of_query NoSuchTable = true
+is_refusal_of_query (NoSuchColumn at) = true
+is_refusal_of_query (NotGrouped at) = true
+is_refusal_of_query other = false

@@ -1,7 +1,7 @@
 //! Asking a store a query.
-ghost use Rattle.std.specs.Prelude.{◌≡◌};
+ghost use Rattle.std.specs.Prelude.{◌≡◌, IsTrue, IfErr};
 ghost use Rattle.query_parser.specs.Descent.{Reads};
-ghost use Rattle.store_view.specs.Asked.{query_answer};
+ghost use Rattle.store_view.specs.Asked.{query_answer, is_refusal_of_query};
 
 use crate::view::StoreView;
 use query_eval::answer;
@@ -15,7 +15,8 @@ use table_model::{Answer, Refusal};
 /// Refused are, in this order: `Syntax`, `NumberTooLarge` and `TooDeep`, the one whose token comes first; `NoSuchTable`;
 /// `NoSuchColumn`; `NotGrouped`; `Memory`. The text is read as it is taken apart, so `Memory` may come in the place of any.
 pub fn ask(alloc: Global, store: &Store, text: &str) -> Result<Answer, Refusal>
-    ensures { Reads (λ answer. answer) result (query_answer text.now store.now.replica.schema store.now.replica.state) }
+    ensures read { Reads (λ answer. answer) result (query_answer text.now store.now.replica.schema store.now.replica.state) }
+    ensures refused { IfErr result (λ e. IsTrue (is_refusal_of_query e)) }
 {
     let query = parse(alloc, text)?;
     resolve(&query, store.schema())?;

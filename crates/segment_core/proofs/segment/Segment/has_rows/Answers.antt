@@ -18,7 +18,7 @@ returns-then-not-have_length c =
     let wide : length c.self.inside.columns.items ≡ c.len.result = let a = c.len.ensures in cc in
     test_false c.args.self.now.rows c.args.rows.now
     (λ e.
-    let parts = parts_from_rows c.self.inside.rows c.self.inside.columns.items c.args.rows.now c.self.invariant (own ∙ e) in
+    let parts = parts_from_rows c.self.inside.rows c.self.inside.columns.items c.args.rows.now c.self.invariant.segment (own ∙ e) in
     let f = c.if-not-have_length.ensures.1 (λ n l. parts.arity n (let r = c.if-self-rows.false in omega arith) ∙ wide) in
     absurd (cc))
 
@@ -30,10 +30,10 @@ returns c =
     let wide : c.len.result ≡ length c.self.inside.columns.items = let a = c.len.ensures in cc in
     let arity = c.if-not-have_length.ensures.0 refl in
     decides_rows c.args.self.now.rows c.args.rows.now c.have_cells.result (
-      λ yes. sym own ∙ rows_from_parts c.self.inside.rows c.self.inside.columns.items c.args.rows.now c.self.invariant (record {
+      λ yes. sym own ∙ rows_from_parts c.self.inside.rows c.self.inside.columns.items c.args.rows.now c.self.invariant.segment (record {
         count = sym c.if-self-rows.false;
         arity = λ n l. arity n (let r = c.if-self-rows.false in omega arith) ∙ wide;
         parts = λ k j vectors v e f. each.0 yes k vectors e j v f;
       }),
-      λ e. each.1 (λ k vectors at j v f. (parts_from_rows c.self.inside.rows c.self.inside.columns.items c.args.rows.now c.self.invariant (own ∙ e)).parts k j vectors v at f),
+      λ e. each.1 (λ k vectors at j v f. (parts_from_rows c.self.inside.rows c.self.inside.columns.items c.args.rows.now c.self.invariant.segment (own ∙ e)).parts k j vectors v at f),
     )

@@ -12,4 +12,4 @@ returns-clause-count c = sym (ap (λ s. length s.rows) (sym c.self.view_is) ∙ 
 pub returns-clause-valid : goal.returns-clause-valid
 returns-clause-valid c = λ table.
     subst (λ (s : SegmentForm). widths_in s.forms ≡ widths_of table → HasBytesIn table s) c.self.view_is
-    (has_bytes (record { rows = batch_of c.self.inside.rows c.self.inside.columns.items; forms = c.self.inside.columns.items }) c.self.inside.rows table c.self.invariant refl)
+    (has_bytes (record { rows = batch_of c.self.inside.rows c.self.inside.columns.items; forms = c.self.inside.columns.items }) c.self.inside.rows table c.self.invariant.segment refl)
