@@ -1,5 +1,6 @@
 pub mod Apart
 pub mod Histories
+pub mod Idle
 pub mod Messages
 pub mod Numbers
 pub mod Opened

@@ -1,22 +1,23 @@
 -- Runs: steps that are answered one after another, each with its reply.
-use Rattle.std.specs.Prelude.{◌≡◌, ◌⊎◌, List, [], ◌∷◌, Result, Ok, Err, IsOk}
+use Rattle.std.specs.Prelude.{◌≡◌, ◌≢◌, ◌⊎◌, List, [], ◌∷◌, Result, Ok, Err, IsOk}
 use Rattle.table_model.specs.declared.refusal.Refusal.{Refusal}
 use Rattle.table_model.specs.declared.refusal.Refusal.TheVariants.{Memory}
 use Rattle.cluster_history.specs.Cluster.{ClusterParts, step_of}
 use Rattle.cluster_history.specs.declared.reply.Reply.{Reply}
 use Rattle.cluster_history.specs.declared.reply.Reply.TheVariants.{Refused}
 use Rattle.script_lines.specs.declared.step.Step.{Step}
-use Rattle.script_lines.specs.declared.step.Step.TheVariants.{Open, Query}
+use Rattle.script_lines.specs.declared.step.Step.TheVariants.{Merge, Open, Query}
 
 -- a refused step is answered by its refusal, and leaves the cluster
 abbrev pub answered : Result (Reply × ClusterParts) Refusal → ClusterParts → Reply × ClusterParts
 answered (Ok done) old = done
 answered (Err e) old = (Refused e, old)
 
--- where memory may lack for a step: for what it makes; and as a file and a query's text are taken in while they are read, there also in the place of a refusal
+-- where memory may lack for a step: for what it makes, but not at a merge of a replica with itself, which makes nothing; and as a file and a query's text are taken in while they are read, there also in the place of a refusal
 abbrev pub MayLack : Step → Result (Reply × ClusterParts) Refusal → Type 0
 MayLack (Open replica file) made = Unit {0}
 MayLack (Query replica sql) made = Unit {0}
+MayLack (Merge replica other) made = IsOk made × (replica ≢ other)
 MayLack step made = IsOk made
 
 -- a step is done, and that is what it makes; or it is refused, as it has to be or because memory lacked, and nothing changed

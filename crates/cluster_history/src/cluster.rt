@@ -2,7 +2,7 @@
 ghost use Rattle.std.specs.Prelude.{◌≡◌, ◌≢◌, ◌<◌, ◌≤◌, ◌++◌, codes, length, IfSome, IfOk, Ok};
 ghost use Rattle.query_parser.specs.Descent.{Reads};
 ghost use Rattle.table_model.specs.Outcome.{Acts, Gives};
-ghost use Rattle.cluster_history.specs.Cluster.{new_cluster, new_replicas, replicas_in, empty_replica, place_of, with_message, append_step, insert_step, delete_step, merge_step, ask_step, serve_step, take_step, recode_step, open_step, export_step, merged_in, query_step};
+ghost use Rattle.cluster_history.specs.Cluster.{new_cluster, new_replicas, replicas_in, empty_replica, place_of, with_message, append_step, insert_step, delete_step, ask_step, serve_step, take_step, recode_step, open_step, export_step, merged_in, query_step};
 ghost use Rattle.cluster_history.specs.Message.{carried, messages_in};
 ghost use Rattle.cluster_history.specs.Run.{ActsOn, StepTo};
 
@@ -131,9 +131,9 @@ impl Cluster {
         Ok(Reply::Done)
     }
 
-    /// Merges the other replica into a replica; with itself nothing changes.
+    /// Merges the other replica into a replica; with itself nothing changes, and that takes no memory.
     fn merge(&mut self, alloc: Global, replica: u32, other: u32) -> Result<Reply, Refusal>
-        ensures { Acts (λ reply. reply) self.old result self.new (merge_step self.old replica other) }
+        ensures { ActsOn self.old (Step.Merge replica other) result self.new }
     {
         let Some(place) = self.place_of(replica) else {
             return Err(Refusal::NoSuchReplica);

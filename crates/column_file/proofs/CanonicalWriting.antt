@@ -1,20 +1,17 @@
 -- The canonical file of a store's rows and deletions, from the segments that are held and the copies that were made.
-use Rattle.std.proofs.Common.{◌≡◌, ℕ, ◌+◌, ◌<◌, ◌≤◌, List, [], ◌∷◌, ◌++◌, map, length, get_or, Option, Some, None, Result, Ok, Err, inl, inr, refl, sym, ap, subst, ◌∙◌, arith}
+use Rattle.std.proofs.Common.{◌≡◌, ℕ, ◌+◌, ◌<◌, List, [], ◌∷◌, ◌++◌, map, length, get_or, Option, None, Result, Err, inl, inr, refl, sym, ap, subst, ◌∙◌, arith}
 use Rattle.std.specs.FinMap as finite
-use Rattle.std.specs.FinSet as set
 use Rattle.std.proofs.Math.Seq.{get_or-append_seam}
 use Rattle.std.proofs.lemmas.Bool.{cases_lt}
 use Rattle.std.proofs.lemmas.List.{get_or_append_left, length-append, length-map, map-append, get_or_default}
-use Rattle.std.specs.Io.KnownBytes.{Appends}
-use Rattle.table_model.specs.Counted.{one_more}
-use Rattle.table_model.specs.Name.{name_cmp, row_name_cmp}
+use Rattle.table_model.specs.Name.{name_cmp}
 use Rattle.table_model.specs.State.{State, Batch}
 use Rattle.table_model.specs.Table.{Table}
 use Rattle.table_model.specs.declared.names.BatchName.{BatchName}
 use Rattle.table_model.specs.declared.refusal.Refusal.{Refusal}
 use Rattle.table_model.specs.declared.refusal.Refusal.TheVariants.{Memory, WriteFault}
 use Rattle.catalogue_join.specs.RowRange.{RowRange}
-use Rattle.segment_core.specs.Format.{Format, Writes, number, all, spell_all}
+use Rattle.segment_core.specs.Format.{Writes, number, all, spell_all}
 use Rattle.segment_core.proofs.Writings.{spell_all-append, spell_all-cons, spell_all-nil}
 use Rattle.segment_core.specs.Segment.{SegmentForm, widths_in, widths_of, canonical_forms, canonical_again}
 use Rattle.segment_core.proofs.WidthLemmas.{widths_in-canonical}

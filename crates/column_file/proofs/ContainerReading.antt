@@ -1,9 +1,7 @@
 -- The readings of the parts of a container make that of the whole.
-use Rattle.std.proofs.Common.{◌≡◌, ℕ, ◌-◌, ◌<◌, ◌≤◌, Bool, ◌&&◌, IsTrue, List, [], ◌∷◌, ◌++◌, map, length, get_or, take, drop, min, Result, Ok, All, inl, inr, refl, sym, ap, ◌∙◌, arith}
-use Rattle.std.proofs.lemmas.List.{length-map, get_or_default, take-append-drop, drop_all}
+use Rattle.std.proofs.Common.{◌≡◌, ℕ, ◌-◌, ◌&&◌, IsTrue, List, [], ◌∷◌, ◌++◌, length, take, drop, min, Ok, All, inl, inr, sym, ap, ◌∙◌, arith}
+use Rattle.std.proofs.lemmas.List.{take-append-drop, drop_all}
 use Rattle.std.proofs.lemmas.Bool.{cases_lt}
-use Rattle.std.proofs.Math.ListN.{get_or-map}
-use Rattle.table_model.specs.declared.refusal.Refusal.{Refusal}
 use Rattle.segment_core.specs.Format.{Format, IsLawful, AreBytes}
 use Rattle.segment_core.proofs.FormatLaws.{rest_are_bytes}
 use Rattle.segment_core.proofs.SegmentLaws.{place_after}

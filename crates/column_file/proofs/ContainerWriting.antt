@@ -1,14 +1,13 @@
 -- The bytes of a container's parts.
-use Rattle.std.proofs.Common.{◌≡◌, ℕ, zero, suc, ◌+◌, ◌-◌, ◌<◌, ◌≤◌, List, [], ◌∷◌, ◌++◌, map, length, get_or, take, codes, refl, sym, ap, ◌∙◌, arith}
-use Rattle.std.proofs.lemmas.List.{length-map}
+use Rattle.std.proofs.Common.{◌≡◌, ℕ, zero, suc, ◌-◌, ◌≤◌, List, [], ◌++◌, map, length, codes, refl, sym, ap, ◌∙◌, arith}
 use Rattle.table_model.specs.Table.{Table}
 use Rattle.table_model.specs.declared.names.BatchName.{BatchName}
 use Rattle.catalogue_join.specs.RowRange.{RowRange}
-use Rattle.segment_core.specs.Format.{Format, number, all}
+use Rattle.segment_core.specs.Format.{number, all}
 use Rattle.segment_core.specs.Segment.{SegmentForm, IsSegment, widths_in, widths_of}
 use Rattle.segment_core.specs.SegmentBytes.{batch_columns, columns, segment_bytes}
-use Rattle.column_file.specs.SummaryBytes.{head, any_name, proper_name, batch_name, name_count}
-use Rattle.column_file.specs.ContainerBytes.{one_less, row_count, Entry, entry_of, name_of, batch, batches, Deleted, deleted_of, range_parts, range, ranges, container}
+use Rattle.column_file.specs.SummaryBytes.{head, proper_name, batch_name, name_count}
+use Rattle.column_file.specs.ContainerBytes.{row_count, Entry, entry_of, name_of, batch, batches, Deleted, deleted_of, range_parts, range, ranges, container}
 
 pub segment_spelled : (table : Table) (s : SegmentForm) → widths_in s.forms ≡ widths_of table → segment_bytes s ≡ (batch_columns table (length s.rows)).spell s.forms
 unfolding segment_bytes

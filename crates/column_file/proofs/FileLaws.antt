@@ -1,5 +1,5 @@
 -- A canonical file opens to its table and state, so no other has it.
-use Rattle.std.proofs.Common.{◌≡◌, ℕ, zero, suc, ◌+◌, ◌-◌, ◌^◌, ◌<◌, ◌≤◌, Bool, true, false, ◌&&◌, ◌||◌, eqb, leb, ltb, IsTrue, T, All, List, [], ◌∷◌, ◌++◌, map, length, get_or, codes, Result, Ok, Err, refl, sym, ap, subst, ◌∙◌, arith, lit<}
+use Rattle.std.proofs.Common.{◌≡◌, ℕ, zero, suc, ◌+◌, ◌-◌, ◌≤◌, Bool, true, false, ◌&&◌, ◌||◌, eqb, leb, ltb, T, All, List, [], ◌∷◌, ◌++◌, map, length, get_or, codes, Result, Ok, refl, sym, ap, subst, ◌∙◌, arith, lit<}
 use Rattle.std.specs.List.{AllByRecursion}
 use Rattle.std.specs.Ordering.{nat_cmp, ordering_then, is_lt, is_eq}
 use Rattle.std.specs.FinMap as finite
@@ -11,26 +11,26 @@ use Rattle.std.proofs.lemmas.Bool.Decides.{nat_tests}
 use Rattle.std.proofs.lemmas.List.{map-append, length-append, length-map, append-nil}
 use Rattle.table_model.specs.Name.{name_cmp, is_proper_name}
 use Rattle.table_model.specs.State.{State, Batch}
-use Rattle.table_model.specs.Table.{Table, IsTable, IsBatch}
+use Rattle.table_model.specs.Table.{Table, IsTable}
 use Rattle.table_model.specs.declared.names.BatchName.{BatchName}
 use Rattle.table_model.specs.declared.refusal.Refusal.{Refusal}
-use Rattle.catalogue_join.specs.RowRange.{RowRange, IsRowRange, stands_apart, IsBefore, AreMaximal, rows_in as rows_deleted}
-use Rattle.segment_core.specs.Format.{Format, IsLawful, raw, number, all, valid_all, read_whole, ◌>>=◌}
+use Rattle.catalogue_join.specs.RowRange.{RowRange, IsRowRange, IsBefore, AreMaximal, rows_in as rows_deleted}
+use Rattle.segment_core.specs.Format.{Format, IsLawful, number, valid_all, read_whole, ◌>>=◌}
 use Rattle.table_model.specs.Identifier.{same_text}
-use Rattle.segment_core.specs.Segment.{SegmentForm, batch_of, widths_in, widths_of, canonical_forms, canonical_segment}
-use Rattle.segment_core.specs.SegmentBytes.{batch_columns, HasBytesIn}
+use Rattle.segment_core.specs.Segment.{widths_of, canonical_forms, canonical_segment}
+use Rattle.segment_core.specs.SegmentBytes.{batch_columns}
 use Rattle.segment_core.proofs.BuildLemmas.{canonical_is_segment, canonical_rows}
 use Rattle.segment_core.proofs.NumberLaws.{number_is_valid}
 use Rattle.segment_core.proofs.ValidLemmas.{has_bytes}
 use Rattle.segment_core.proofs.WidthLemmas.{widths_in-canonical}
-use Rattle.replica_store.specs.Replica.{AllFit, IsEntry, IsWithinLimits}
+use Rattle.replica_store.specs.Replica.{AllFit, IsEntry}
 use Rattle.replica_store.specs.Segments.{Entry as Held, IsStored, rows_in, rows_entries}
 use Rattle.replica_store.specs.Exchange.{OfferForm}
 use Rattle.replica_store.proofs.RowsIn.{entries-rows_in}
 use Rattle.column_file.specs.SchemaBytes.{schema}
-use Rattle.column_file.specs.SummaryBytes.{version, head, any_name, proper_name, precedes, is_after, batch_name, name_count}
-use Rattle.column_file.specs.ContainerBytes.{one_less, row_count, Entry, entry_of, name_of, batch, batches, Deleted, deleted_of, is_named, is_range, ends_before, begins_after, range_parts, range, ranges, container, IsFound}
-use Rattle.column_file.specs.Files.{held_of, range_of, segments_of, offer_held, offer_read, ranges_of, file_of, canonical_entry, canonical_file, judged, canonical_read, IsNumbered, HasFile, OpensTo, FilesOpen, SameFileSameState}
+use Rattle.column_file.specs.SummaryBytes.{version, head, any_name, proper_name, is_after, batch_name, name_count}
+use Rattle.column_file.specs.ContainerBytes.{row_count, Entry, entry_of, name_of, batch, batches, Deleted, deleted_of, is_named, is_range, ends_before, begins_after, range_parts, range, ranges, container, IsFound}
+use Rattle.column_file.specs.Files.{range_of, segments_of, offer_held, offer_read, file_of, canonical_entry, canonical_file, judged, canonical_read, IsNumbered, HasFile, FilesOpen, SameFileSameState}
 use Rattle.column_file.proofs.ContainerLaws.{container_is_lawful}
 use Rattle.column_file.proofs.OfferReading.{after_last, held_back, range_back, true_T}
 use Rattle.column_file.proofs.Openings.{same_itself}
@@ -225,7 +225,7 @@ files_open t state h =
     let equal : same_text (canonical_file t state) (canonical_file t (offer_held c).state) ≡ true = ap (λ (s : State). same_text (canonical_file t state) (canonical_file t s)) same ∙ same_itself (canonical_file t state) in
     let judged_ok : judged (canonical_file t state) (offer_held c) ≡ Ok (offer_held c) = rw equal refl in
     let whole : canonical_read (canonical_file t state) ≡ Ok (offer_held c) = ap (λ (r : Result OfferForm Refusal). r >>= judged (canonical_file t state)) is ∙ judged_ok in
-    (offer_held c, whole, refl, same)
+    (offer_held c, whole, refl, same, segments)
 
 pub same_file_same_state : SameFileSameState
 same_file_same_state s t a b h k e =

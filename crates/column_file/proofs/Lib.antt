@@ -16,3 +16,4 @@ pub mod CanonicalWriting
 pub mod Openings
 pub mod FileLaws
 pub mod Comparisons
+pub mod OpenedSegments

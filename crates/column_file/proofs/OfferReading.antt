@@ -1,30 +1,27 @@
 -- What was read of a container makes an offer.
-use Rattle.std.proofs.Common.{◌≡◌, ℕ, zero, suc, ◌+◌, ◌-◌, ◌<◌, ◌≤◌, Bool, true, false, ◌&&◌, ◌||◌, eqb, leb, ltb, IsTrue, T, All, List, [], ◌∷◌, ◌++◌, map, length, get_or, take, codes, Result, Ok, Err, refl, sym, ap, subst, ◌∙◌, append_assoc, arith}
+use Rattle.std.proofs.Common.{◌≡◌, ℕ, suc, ◌+◌, ◌-◌, ◌<◌, ◌≤◌, Bool, true, false, ◌&&◌, ◌||◌, eqb, leb, ltb, T, All, List, [], ◌∷◌, ◌++◌, map, length, get_or, take, codes, Ok, refl, sym, ap, ◌∙◌, append_assoc, arith}
 use Rattle.std.specs.List.{AllByRecursion, list_any}
 use Rattle.std.specs.Ordering.{nat_cmp, ordering_then, is_lt, eq_by_cmp}
 use Rattle.std.specs.FinMap as finite
 use Rattle.std.specs.FinMap.Entries.{below_all, is_sorted}
 use Rattle.std.specs.FinSet as set
 use Rattle.std.proofs.Math.Seq.{get_or-append_seam}
-use Rattle.std.proofs.lemmas.Bool.{and_parts, and_from, eqb-true, leb-true}
+use Rattle.std.proofs.lemmas.Bool.{and_parts, and_from, leb-true}
 use Rattle.std.proofs.lemmas.Bool.Decides.{nat_tests}
 use Rattle.std.proofs.lemmas.List.{map-append, length-append, length-map, take_more, append-nil}
 use Rattle.std.proofs.lemmas.List.Elements.{All-from_recursion}
 use Rattle.std.proofs.lemmas.List.Folds.{list_any-append}
-use Rattle.table_model.specs.Name.{name_cmp, row_name_cmp, is_proper_name}
+use Rattle.table_model.specs.Name.{name_cmp, row_name_cmp}
 use Rattle.table_model.specs.Table.{Table}
 use Rattle.table_model.specs.declared.names.BatchName.{BatchName}
 use Rattle.table_model.specs.declared.names.RowName.{RowName}
-use Rattle.table_model.specs.declared.refusal.Refusal.{Refusal}
 use Rattle.table_model.proofs.NameOrder.{row_names_total, exact_row_names}
 use Rattle.catalogue_join.specs.RowRange.{RowRange, rows_between, rows_listed, rows_in as rows_deleted}
-use Rattle.segment_core.specs.CodedVector.{VectorForm}
-use Rattle.segment_core.specs.Format.{Format, AreBytes, number, all, valid_all, read_whole, ◌>>=◌}
-use Rattle.segment_core.specs.Segment.{SegmentForm, batch_of}
+use Rattle.segment_core.specs.Format.{AreBytes, number, valid_all, read_whole}
 use Rattle.segment_core.specs.SegmentBytes.{batch_columns}
 use Rattle.replica_store.specs.Segments.{Entry as Held, IsStored, rows_in}
 use Rattle.replica_store.specs.Exchange.{OfferForm, AreOffered}
-use Rattle.column_file.specs.SummaryBytes.{head, any_name, proper_name, precedes, is_after, batch_name, name_count}
+use Rattle.column_file.specs.SummaryBytes.{head, proper_name, precedes, is_after, batch_name, name_count}
 use Rattle.column_file.specs.ContainerBytes.{row_count, Entry, entry_of, name_of, batch, batches, Deleted, deleted_of, is_named, is_range, begins_after, range_parts, range, ranges, container, IsFound}
 use Rattle.column_file.specs.Files.{held_of, range_of, segments_of, offer_held, offer_read, IsRangeGiven}
 use Rattle.column_file.proofs.ContainerLaws.{container_is_lawful}

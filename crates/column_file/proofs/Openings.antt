@@ -1,33 +1,26 @@
 -- Whether bytes are the canonical file of what they hold, and what an open makes of them.
-use Rattle.std.proofs.Common.{◌≡◌, ◌≢◌, ℕ, zero, suc, ◌+◌, ◌-◌, ◌<◌, ◌≤◌, Bool, true, false, cond, ◌&&◌, eqb, IsTrue, All, List, [], ◌∷◌, ◌++◌, map, length, get_or, take, drop, min, Option, Some, None, Result, Ok, Err, IsOk, ◌⊎◌, inl, inr, refl, sym, ap, subst, ◌∙◌, arith}
+use Rattle.std.proofs.Common.{◌≡◌, ◌≢◌, ℕ, suc, ◌+◌, ◌<◌, ◌≤◌, Bool, true, false, cond, ◌&&◌, eqb, All, List, [], ◌∷◌, ◌++◌, map, length, get_or, take, drop, min, Option, Result, Ok, Err, ◌⊎◌, inl, inr, refl, sym, ap, subst, ◌∙◌, arith}
 use Rattle.std.specs.FinMap as finite
-use Rattle.std.specs.List.{AllByRecursion}
 use Rattle.std.proofs.lemmas.Bool.{and_parts, and_from, eqb-true, eq-eqb}
 use Rattle.std.proofs.lemmas.Bool.Decides.{nat_tests}
 use Rattle.std.proofs.lemmas.List.{drop_more, drop_all, append-nil, length-append, take_more, take_all}
-use Rattle.table_model.specs.Outcome.{Gives}
 use Rattle.table_model.specs.Table.{Table}
-use Rattle.table_model.specs.declared.names.Origin.{Origin}
-use Rattle.table_model.specs.declared.names.BatchName.{BatchName}
 use Rattle.table_model.specs.declared.refusal.Refusal.{Refusal}
-use Rattle.table_model.specs.declared.refusal.Refusal.TheVariants.{Memory, BadName, NotCanonical, WriteFault}
-use Rattle.catalogue_join.specs.RowRange.{RowRange, AreMaximal, rows_in as rows_deleted}
-use Rattle.segment_core.specs.Format.{Format, AreBytes, Reads, Writes, read_whole, ◌>>=◌}
+use Rattle.table_model.specs.declared.refusal.Refusal.TheVariants.{NotCanonical, WriteFault}
+use Rattle.catalogue_join.specs.RowRange.{RowRange}
+use Rattle.segment_core.specs.Format.{AreBytes, Writes, read_whole}
 use Rattle.table_model.specs.Faults.{AppendsFront}
 use Rattle.table_model.specs.Identifier.{same_text}
-use Rattle.segment_core.specs.Segment.{SegmentForm, widths_in, widths_of, canonical_forms}
-use Rattle.replica_store.specs.Segments.{Entry as Held, IsStored, rows_in, rows_entries}
-use Rattle.replica_store.specs.Replica.{Replica}
-use Rattle.replica_store.specs.Exchange.{OfferForm, AreOffered, offering, opened}
-use Rattle.column_file.specs.ContainerBytes.{Entry, entry_of, deleted_of, container, IsFound}
-use Rattle.column_file.specs.Files.{ranges_of, canonical_as_read, canonical_file, first_difference, judged, offer_read, offer_held, canonical_read, opened_from, checked_from, IsCanonicalHeld, is_same_range, Exports}
+use Rattle.segment_core.specs.Segment.{widths_in, widths_of, canonical_forms}
+use Rattle.replica_store.specs.Segments.{Entry as Held, IsStored, rows_in}
+use Rattle.replica_store.specs.Exchange.{OfferForm, AreOffered}
+use Rattle.column_file.specs.ContainerBytes.{Entry, entry_of, deleted_of, container}
+use Rattle.column_file.specs.Files.{ranges_of, canonical_as_read, canonical_file, first_difference, judged, offer_read, canonical_read, checked_from, IsCanonicalHeld, is_same_range, Exports}
 use Rattle.column_file.specs.Comparing.{told}
-use Rattle.column_file.specs.Input.{Judges}
 use Rattle.column_file.proofs.Comparisons.{more_after, told_apart}
 use Rattle.column_file.proofs.ContainerLaws.{container_is_lawful}
 use Rattle.column_file.proofs.CanonicalWriting.{canonical_spelled}
 use Rattle.column_file.proofs.FaultsOfBytes.{Judged, then_judged, offer_read_judged}
-use Rattle.column_file.proofs.RangeLists.{ranges_are}
 use Rattle.column_file.proofs.SummaryWriting.{whole_read}
 
 -- ---- the first place that differs

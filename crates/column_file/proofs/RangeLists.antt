@@ -1,16 +1,16 @@
 -- The maximal ranges of a set of rows are the one list of ranges that don't touch and have these rows.
-use Rattle.std.proofs.Common.{◌≡◌, ℕ, zero, suc, ◌+◌, ◌-◌, ◌*◌, ◌<◌, ◌≤◌, Bool, true, false, cond, not, ◌&&◌, ◌||◌, eqb, ltb, IsTrue, List, [], ◌∷◌, ◌++◌, refl, sym, ap, subst, ◌∙◌, arith}
+use Rattle.std.proofs.Common.{◌≡◌, ℕ, zero, suc, ◌+◌, ◌-◌, ◌*◌, ◌<◌, ◌≤◌, true, false, ◌&&◌, ◌||◌, eqb, ltb, IsTrue, List, [], ◌∷◌, ◌++◌, refl, sym, ap, subst, ◌∙◌, arith}
 use Rattle.std.proofs.lemmas.Bool.Decides.{nat_tests}
-use Rattle.std.specs.List.{list_any, AllByRecursion}
+use Rattle.std.specs.List.{AllByRecursion}
 use Rattle.std.specs.List.Sorted.{IsStrictlySortedBy}
-use Rattle.std.specs.Ordering.{nat_cmp, ordering_then, is_lt, is_eq, eq_by_cmp}
+use Rattle.std.specs.Ordering.{nat_cmp, ordering_then, is_lt, is_eq}
 use Rattle.std.specs.declared.cmp.Ordering.TheVariants.{Less}
 use Rattle.std.specs.FinSet as set
 use Rattle.table_model.specs.Name.{row_name_cmp}
 use Rattle.table_model.specs.declared.names.BatchName.{BatchName}
 use Rattle.table_model.specs.declared.names.RowName.{RowName}
 use Rattle.table_model.proofs.NameOrder.{row_names_total, exact_row_names}
-use Rattle.catalogue_join.specs.RowRange.{RowRange, row_names, rows_between, rows_listed, rows_in, IsRowRange, stands_apart, IsBefore, AreMaximal, row_place}
+use Rattle.catalogue_join.specs.RowRange.{RowRange, row_names, rows_listed, rows_in, IsRowRange, stands_apart, IsBefore, AreMaximal, row_place}
 use Rattle.catalogue_join.proofs.SortedLists.{same_sorted}
 use Rattle.column_file.specs.Ordered.{in_order}
 use Rattle.column_file.specs.Files.{is_just_before, with_row, gathered, ranges_of}

@@ -1,17 +1,15 @@
 -- What a schema is has bytes, and which bytes these are.
-use Rattle.std.proofs.Common.{◌≡◌, ℕ, zero, suc, ◌+◌, ◌<◌, ◌≤◌, Bool, true, false, cond, not, ◌&&◌, ◌||◌, eqb, leb, ltb, List, [], ◌∷◌, ◌++◌, map, length, Result, Ok, Err, All, refl, sym, ap, ◌∙◌, append_assoc, arith, lit<}
+use Rattle.std.proofs.Common.{◌≡◌, ℕ, ◌≤◌, Bool, true, false, not, ◌&&◌, ◌||◌, eqb, leb, List, [], ◌∷◌, ◌++◌, map, length, All, refl, ap, ◌∙◌, append_assoc, arith, lit<}
 use Rattle.std.specs.Char.{to_ascii_uppercase}
 use Rattle.std.specs.List.{list_all, list_any, AllByRecursion}
 use Rattle.std.proofs.lemmas.Bool.{eq-eqb, le-leb, leb-true, and_parts, and_from}
-use Rattle.std.proofs.lemmas.List.{length-map}
 use Rattle.std.proofs.lemmas.List.Elements.{All-from_recursion}
 use Rattle.table_model.specs.Identifier.{folded, is_word, is_word_byte, is_keyword, is_identifier}
 use Rattle.table_model.specs.Table.{Table, ColumnShape, IsTable, has_name, are_distinct, is_named, name_of, asked_of, column_of, is_schema, folded_table}
 use Rattle.table_model.specs.declared.schema.ColType.{ColType}
 use Rattle.table_model.specs.declared.schema.ColType.TheVariants.{SmallInt, Integer, BigInt}
-use Rattle.table_model.specs.declared.refusal.Refusal.{Refusal}
 use Rattle.table_model.specs.declared.refusal.Refusal.TheVariants.{BadSchema}
-use Rattle.segment_core.specs.Format.{Format, is_byte, AreBytes, raw, number, all, valid_all}
+use Rattle.segment_core.specs.Format.{is_byte, AreBytes, number, all, valid_all}
 use Rattle.segment_core.proofs.FormatLaws.{bytes_at, guard_ok}
 use Rattle.segment_core.proofs.NumberLaws.{number_is_valid}
 use Rattle.column_file.specs.SchemaBytes.{text, is_upper, is_name, name, tag_of, column_type, is_new, column, column_count, schema}

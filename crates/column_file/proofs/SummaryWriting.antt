@@ -1,5 +1,5 @@
 -- The bytes of a summary's parts, and what is true of one that was read.
-use Rattle.std.proofs.Common.{◌≡◌, ℕ, ◌≤◌, ◌<◌, ◌&&◌, Bool, eqb, leb, List, [], ◌∷◌, ◌++◌, length, get_or, slice_get, codes, Some, Result, Ok, Err, cond, true, ◌-◌, IsTrue, All, refl, sym, ap, ◌∙◌, subst, arith}
+use Rattle.std.proofs.Common.{◌≡◌, ℕ, ◌≤◌, ◌<◌, ◌&&◌, eqb, leb, List, [], ◌∷◌, ◌++◌, length, get_or, codes, Some, Ok, Err, cond, true, ◌-◌, IsTrue, All, refl, sym, ◌∙◌, arith}
 use Rattle.std.specs.List.{AllByRecursion}
 use Rattle.std.specs.FinSet as set
 use Rattle.std.proofs.lemmas.Bool.{and_parts, eqb-true, leb-true}
@@ -8,10 +8,9 @@ use Rattle.std.proofs.lemmas.Option.{slice_get-get_or}
 use Rattle.table_model.specs.Name.{name_cmp, is_proper_name}
 use Rattle.table_model.specs.Table.{Table}
 use Rattle.table_model.specs.declared.names.BatchName.{BatchName}
-use Rattle.table_model.specs.declared.refusal.Refusal.{Refusal}
 use Rattle.table_model.specs.declared.refusal.Refusal.TheVariants.{TrailingBytes}
 use Rattle.catalogue_join.specs.Held.{IsNameAt}
-use Rattle.segment_core.specs.Format.{Format, AreBytes, number, all, valid_all, read_whole, ◌>>=◌}
+use Rattle.segment_core.specs.Format.{Format, AreBytes, number, all, valid_all, read_whole}
 use Rattle.segment_core.proofs.FormatLaws.{bind_ok, guard_ok}
 use Rattle.replica_store.specs.Exchange.{AreListable}
 use Rattle.column_file.specs.Ordered.{in_order}

@@ -12,7 +12,7 @@ use Rattle.table_model.specs.declared.names.Origin.{Origin}
 use Rattle.table_model.specs.declared.refusal.Refusal.{Refusal}
 use Rattle.table_model.specs.declared.refusal.Refusal.TheVariants.{Memory, BadName, NotCanonical}
 use Rattle.catalogue_join.specs.RowRange.{RowRange, AreMaximal, rows_in as rows_deleted}
-use Rattle.segment_core.specs.Format.{Format, read_whole, Writes, ◌>>=◌}
+use Rattle.segment_core.specs.Format.{read_whole, Writes, ◌>>=◌}
 use Rattle.table_model.specs.Identifier.{same_text}
 use Rattle.segment_core.specs.Segment.{SegmentForm, batch_of, widths_in, canonical_forms, canonical_segment, canonical_again}
 use Rattle.replica_store.specs.Segments.{rows_in}
@@ -88,6 +88,10 @@ canonical_entry table e = (e.0, canonical_segment table e.1)
 abbrev pub canonical_file : Table → State → List ℕ
 canonical_file table state = file_of table (each (canonical_entry table) (map.entries state.batches)) state.deleted
 
+-- segments are the canonical ones of a table's batches
+abbrev pub AreCanonicalOf : Table → map.FinMap name_cmp Batch → map.FinMap name_cmp SegmentForm → Type 0
+AreCanonicalOf table batches segments = map.entries segments ≡ each (canonical_entry table) (map.entries batches)
+
 -- a batch that is held, as the canonical file has it
 abbrev pub canonical_as_read : Table → Held → Entry
 canonical_as_read table e = entry_of (canonical_entry table (e.0, e.1.rows))
@@ -152,9 +156,10 @@ pub record HasFile (table : Table) (state : State) : Type 0 where
   pub rows : rows_deleted ranges ≡ state.deleted
   pub count : length ranges < 18446744073709551616
 
--- what a file is opened to: the table and the state that it was exported from
+-- what a file is opened to: the table and the state that it was exported from, in canonical segments
 abbrev pub OpensTo : List ℕ → Table → State → Type 0
-OpensTo bytes table state = (o : OfferForm) × (canonical_read bytes ≡ Ok o) × (o.schema ≡ table) × (o.state ≡ state)
+OpensTo bytes table state =
+    (o : OfferForm) × (canonical_read bytes ≡ Ok o) × (o.schema ≡ table) × (o.state ≡ state) × AreCanonicalOf table state.batches o.segments
 
 -- a canonical file opens to its table and state
 abbrev pub FilesOpen : Type 0

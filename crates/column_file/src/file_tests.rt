@@ -16,12 +16,12 @@ pub(crate) const ONE_ROW: &[u8] =
 
 /// What stands in the place of the bytes of that file from the first offset to before the second: pieces, each of them some bytes
 /// and then so many, up to 256, that are 0.
-type Change = (usize, usize, &'static [(&'static [u8], usize)]);
+pub(crate) type Change = (usize, usize, &'static [(&'static [u8], usize)]);
 
 const ZEROS: &[u8] = &[0; 256];
 
 /// That file with a change.
-fn changed(alloc: Global, change: &Change) -> Result<Vec<u8>, AllocError> {
+pub(crate) fn changed(alloc: Global, change: &Change) -> Result<Vec<u8>, AllocError> {
     let (front, _) = ONE_ROW.split_at(change.0.min(ONE_ROW.len()));
     let (_, back) = ONE_ROW.split_at(change.1.min(ONE_ROW.len()));
     let mut bytes = Vec::from_slice(alloc, front)?;
@@ -76,7 +76,7 @@ fn is_no_offer(alloc: Global, bytes: &[u8], fault: Refusal) -> bool {
 }
 
 /// One row 1, 2, 3 of batch 2.1 and the deleted rows 2.1.0 and 2.1.9: 198 bytes. The three values are runs.
-const THREE_ROWS: Change = (
+pub(crate) const THREE_ROWS: Change = (
     13,
     42,
     &[

@@ -4,7 +4,7 @@ ghost use Rattle.std.specs.Io.KnownBytes.{IsAtEnd};
 ghost use Rattle.std.specs.List.{All};
 ghost use Rattle.table_model.specs.Faults.{IsWithin, GaveMore};
 ghost use Rattle.segment_core.specs.Format.{Reads};
-ghost use Rattle.column_file.specs.Files.{IsCanonicalHeld, is_same_range, judged, canonical_read, opened_from, checked_from};
+ghost use Rattle.column_file.specs.Files.{IsCanonicalHeld, AreCanonicalOf, is_same_range, judged, canonical_read, opened_from, checked_from};
 ghost use Rattle.column_file.specs.Input.{Judges, CountsFailure, is_refusal_of_reading};
 
 use crate::canonical_writing::export_offer;
@@ -27,13 +27,13 @@ pub struct Checked {
     pub ranges: u64,
 }
 
-/// Whether each segment is canonical.
-fn are_canonical(entries: &[(BatchName, Segment)]) -> bool
-    ensures { IsTrue result → All IsCanonicalHeld entries.now }
+/// Whether each segment is canonical. A segment remembers that it is, so that an export doesn't judge it again.
+fn are_canonical(entries: &mut Vec<(BatchName, Segment)>) -> bool
+    ensures canonical { IsTrue result → All IsCanonicalHeld entries.old.items }
+    ensures kept { entries.new.items ≡ entries.old.items }
 {
     for index in 0..entries.len() {
-        let (_, segment) = &entries[index];
-        if !segment.canonical() {
+        if !entries[index].1.judge() {
             return false;
         }
     }
@@ -96,16 +96,21 @@ fn compared(alloc: Global, bytes: &[u8], offer: Offer) -> Result<Offer, Refusal>
 /// The batches and deletions that a canonical file holds. Refused is the first fault of the bytes, then `NotCanonical`, or a want
 /// of memory, which may come in the place of any of them.
 fn canonical_in(alloc: Global, bytes: &[u8]) -> Result<Offer, Refusal>
-    ensures { Reads (λ x. x) result (canonical_read bytes.now) }
+    ensures read { Reads (λ x. x) result (canonical_read bytes.now) }
+    ensures segments { IfOk result (λ o. AreCanonicalOf o.schema o.state.batches o.segments) }
 {
-    let (schema, batches, ranges) = read_container(alloc, bytes)?;
+    let (schema, mut batches, ranges) = read_container(alloc, bytes)?;
     let tombs = tombs_of(alloc, ranges.as_slice())?;
     let maximal = are_same_ranges(ranges.as_slice(), tombs.ranges());
-    let canonical = are_canonical(batches.as_slice());
+    let canonical = are_canonical(&mut batches);
     let offer = Offer::from_parts(schema, batches, tombs);
     if maximal && canonical {
         return Ok(offer);
     }
+    // `column_list` ensures that it is a table's schema, and `batches` that the batches are within the limits.
+    let _columns = offer.schema().column_list();
+    let _count = offer.batches();
+    let _ranges = offer.tombs().ranges().len();
     compared(alloc, bytes, offer)
 }
 
@@ -116,6 +121,7 @@ fn canonical_in(alloc: Global, bytes: &[u8]) -> Result<Offer, Refusal>
 /// input stands for. It grows as it reads, so `Memory` may come in the place of any of them but the first.
 pub fn open<R: Read>(alloc: Global, reader: &mut Counted<R>, own: Origin) -> Result<Store, Refusal>
     ensures read { Judges (λ store. store.replica) result (R.remaining reader.old.0) (opened_from own) }
+    ensures segments { IfOk result (λ store. AreCanonicalOf store.replica.schema store.replica.state.batches store.segments) }
     ensures own { own.0 ≡ 0 → (result ≡ Err Refusal.BadName) × (reader.new ≡ reader.old) }
     ensures refused { IfErr result (λ e. IsTrue (is_refusal_of_reading e)) }
     ensures end { OnOk result (IsAtEnd (R.remaining reader.new.0)) }

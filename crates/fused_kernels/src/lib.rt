@@ -41,4 +41,8 @@ pub use sums::sum;
 pub use vector_lanes::VectorLanes;
 
 #[cfg(test)]
+mod plain_lanes;
+#[cfg(test)]
 mod tests;
+#[cfg(test)]
+mod vector_tests;

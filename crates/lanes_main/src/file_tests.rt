@@ -1,16 +1,9 @@
 //! Scripts that export and open files. The files' bytes are worked out by hand, field by field, from the rules of files.
+use crate::tests::text_of;
 use crate::{query_file_with_notes, script};
 use std::alloc::Global;
 use std::test::Fail;
 use table_model::{Counted, Refusal, Stop};
-
-/// What a script writes: its text, or the refusal that ended it.
-fn text_of(alloc: Global, input: &[u8]) -> Result<Vec<u8>, Refusal> {
-    let mut reader = Counted::new(input);
-    let mut writer = Counted::new(Vec::new(alloc));
-    script(alloc, &mut reader, &mut writer)?;
-    Ok(writer.into_inner())
-}
 
 /// A file's bytes in hexadecimal digits: parts, each followed by so many bytes 00.
 type Parts = &'static [(&'static str, usize)];

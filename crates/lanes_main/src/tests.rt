@@ -9,7 +9,7 @@ use table_model::{
 };
 
 /// What a script writes: its text, or the refusal that ended it.
-fn text_of(alloc: Global, input: &[u8]) -> Result<Vec<u8>, Refusal> {
+pub(crate) fn text_of(alloc: Global, input: &[u8]) -> Result<Vec<u8>, Refusal> {
     let mut reader = Counted::new(input);
     let mut writer = Counted::new(Vec::new(alloc));
     script(alloc, &mut reader, &mut writer)?;

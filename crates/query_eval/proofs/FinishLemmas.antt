@@ -6,15 +6,14 @@ use Rattle.std.proofs.lemmas.List.{map-append, take_more}
 use Rattle.std.proofs.lemmas.List.Elements.{filter-append}
 use Rattle.table_model.specs.Condition.{predicate_truth, condition_truth, field_comparison, between, is_among, is_null, not_if, asked}
 use Rattle.table_model.specs.Formula.{Formula, says, in_parentheses, is_truth, negation, no_factor, both, no_term, either}
-use Rattle.table_model.specs.Group.{Group, groups_of}
-use Rattle.table_model.specs.Meaning.{at_group, function_value, grouping_of, groups_having, is_kept, item_text, item_value, rows_where, answer_over}
+use Rattle.table_model.specs.Group.{Group}
+use Rattle.table_model.specs.Meaning.{at_group, function_value, grouping_of, is_kept, item_value}
 use Rattle.table_model.specs.Query.{QueryShape}
 use Rattle.table_model.specs.State.{Cells}
-use Rattle.table_model.specs.Table.{Table, ColumnShape}
+use Rattle.table_model.specs.Table.{ColumnShape}
 use Rattle.table_model.specs.Truth.{is_true, and_of, or_of, not_of, truth_of}
 use Rattle.table_model.specs.declared.answer.Field.{Field}
 use Rattle.table_model.specs.declared.answer.Field.TheVariants.{Null}
-use Rattle.table_model.specs.declared.op.Op.TheVariants.{GreaterOrEqual, LessOrEqual}
 use Rattle.table_model.specs.declared.query.Fold.{Fold}
 use Rattle.table_model.specs.declared.query.Fold.TheVariants.{Count, Sum, Avg, Min, Max}
 use Rattle.table_model.specs.declared.query.Item.{Item}
@@ -26,9 +25,8 @@ use Rattle.table_model.specs.declared.query.Predicate.{Predicate}
 use Rattle.table_model.specs.declared.query.Predicate.TheVariants.{Compare, Between, In, IsNull}
 use Rattle.table_model.specs.declared.query.SetFunction.{SetFunction}
 use Rattle.table_model.specs.declared.query.SetFunction.TheVariants.{CountRows, Of}
-use Rattle.table_model.specs.declared.truth.Truth.{Truth}
 use Rattle.query_eval.specs.Aggregate.{aggregate_of, aggregate_value, aggregates_of, condition_functions, fold_number, functions_of, having_functions, item_functions, operand_functions, predicate_functions, same_aggregate, same_flag}
-use Rattle.query_eval.specs.Finished.{GroupFields, PlanShape, finished_of, finished_groups, plan_of, seen_aggregate, seen_item, seen_operand}
+use Rattle.query_eval.specs.Finished.{PlanShape, finished_of, plan_of, seen_aggregate, seen_item, seen_operand}
 use Rattle.query_eval.specs.declared.aggregate.Aggregate.{Aggregate}
 use Rattle.query_eval.specs.declared.aggregate.Aggregate.TheVariants.{Rows, Folded}
 

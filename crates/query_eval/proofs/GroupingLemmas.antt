@@ -1,5 +1,5 @@
 -- Groups under way: one row more, one vector more.
-use Rattle.std.proofs.Common.{◌≡◌, ◌≢◌, ℕ, zero, suc, ◌+◌, ◌==◌, ◌<◌, ◌≤◌, ◌⊎◌, inl, inr, Bool, true, false, cond, ◌&&◌, ◌||◌, List, [], ◌∷◌, ◌++◌, map, filter, length, get_or, set, take, Option, Some, None, ℤ, pos, refl, sym, ap, subst, ◌∙◌, arith, append-nil, append_assoc, length-append, length-set, get_or-set_same, get_or-set_other}
+use Rattle.std.proofs.Common.{◌≡◌, ◌≢◌, ℕ, zero, suc, ◌+◌, ◌==◌, ◌<◌, ◌≤◌, ◌⊎◌, inl, inr, Bool, true, false, cond, ◌&&◌, ◌||◌, List, [], ◌∷◌, ◌++◌, map, length, get_or, set, Option, Some, None, ℤ, pos, refl, sym, ap, subst, ◌∙◌, arith, append-nil, append_assoc, length-append, length-set, get_or-set_same, get_or-set_other}
 use Rattle.std.specs.List.{filter_map, list_any}
 use Rattle.std.specs.BTreeMap.{BTreeMap, get, is_at}
 use Rattle.std.specs.Global.{Vec}
@@ -9,12 +9,11 @@ use Rattle.std.proofs.Math.ListN.{get_or-append}
 use Rattle.std.proofs.Math.Seq.{get_or-append_seam}
 use Rattle.std.proofs.lemmas.Bool.{cases_lt, false≢true}
 use Rattle.std.proofs.lemmas.Bool.Decides.{Decides-eqb}
-use Rattle.std.proofs.lemmas.List.{map-append, take_more}
-use Rattle.std.proofs.lemmas.List.Elements.{filter-append, filter_map-append}
+use Rattle.std.proofs.lemmas.List.{map-append}
+use Rattle.std.proofs.lemmas.List.Elements.{filter-append}
 use Rattle.table_model.specs.Group.{cell, key_cmp, key_of, rows_with, values_in}
 use Rattle.table_model.specs.State.{Cells, same_cells}
 use Rattle.table_model.proofs.Groups.{values_in-append}
-use Rattle.table_model.proofs.Keys.{tied_keys}
 use Rattle.table_model.proofs.Parts.{neither}
 use Rattle.table_model.proofs.SameRows.{one_row, itself_row}
 use Rattle.query_eval.specs.Decoded.{decoded_at}
@@ -30,7 +29,6 @@ use Rattle.query_eval.specs.Tally.{IsTally, is_distinct}
 use Rattle.query_eval.specs.declared.aggregate.Aggregate.{Aggregate}
 use Rattle.query_eval.specs.declared.aggregate.Aggregate.TheVariants.{Rows, Folded}
 use Rattle.query_eval.specs.declared.decoded.Decoded.{Decoded}
-use Rattle.query_eval.specs.declared.decoded.Decoded.TheVariants.{Fixed}
 use Rattle.query_eval.specs.declared.tally.Tally.{Tally}
 
 none_values : (a : Aggregate) → aggregate_values a [] ≡ []

@@ -24,3 +24,4 @@ pub mod VectorLemmas
 pub mod MentionLemmas
 pub mod AnswerLemmas
 pub mod OrderLemmas
+pub mod PlainLemmas

@@ -1,6 +1,6 @@
 -- The groups that a map has are the groups of the rows, in the order of the map's keys.
-use Rattle.std.proofs.Common.{◌≡◌, ℕ, zero, suc, ◌+◌, ◌*◌, ◌^◌, ◌≤◌, ◌<◌, Bool, true, false, cond, ◌||◌, List, [], ◌∷◌, ◌++◌, map, filter, length, get_or, take, Option, Some, None, ℤ, pos, All, AllPairs, refl, sym, ap, subst, ◌∙◌, arith, append_assoc}
-use Rattle.std.specs.BTreeMap.{BTreeMap, IsOrdered, get, is_at, keys}
+use Rattle.std.proofs.Common.{◌≡◌, ℕ, zero, suc, ◌+◌, ◌^◌, ◌≤◌, ◌<◌, Bool, true, false, cond, ◌||◌, List, [], ◌∷◌, ◌++◌, map, filter, length, get_or, take, Option, Some, None, ℤ, pos, All, AllPairs, refl, sym, ap, ◌∙◌, arith, append_assoc}
+use Rattle.std.specs.BTreeMap.{BTreeMap, IsOrdered, is_at, keys}
 use Rattle.std.specs.FinMap as finite
 use Rattle.std.specs.Map.{keys_of, lookup}
 use Rattle.std.specs.Global.{Vec}
@@ -13,7 +13,7 @@ use Rattle.std.specs.Ordering.{eq_by_cmp}
 use Rattle.std.specs.declared.cmp.Ordering.TheVariants.{Less}
 use Rattle.std.proofs.lemmas.Int.{ints}
 use Rattle.std.proofs.lemmas.List.{map-append, take_more}
-use Rattle.table_model.specs.Group.{Group, IsWithin, key_cmp, key_of, group_at, groups_of, keys_in, rows_with, values_in}
+use Rattle.table_model.specs.Group.{key_cmp, key_of, group_at, groups_of, keys_in, rows_with, values_in}
 use Rattle.table_model.specs.Meaning.{fold_value, once_if}
 use Rattle.table_model.specs.State.{Cells, same_cells}
 use Rattle.table_model.specs.Table.{Table, ColumnShape, IsRow, AreRows}
@@ -26,7 +26,7 @@ use Rattle.table_model.proofs.KeyLists.{keys_are}
 use Rattle.table_model.proofs.Keys.{tied_keys}
 use Rattle.query_eval.specs.Aggregate.{aggregate_value}
 use Rattle.query_eval.specs.Finished.{GroupFields, finished_groups, finished_of}
-use Rattle.query_eval.specs.Grouping.{AreGroups, IsHeld, aggregate_values, is_once}
+use Rattle.query_eval.specs.Grouping.{AreGroups, IsHeld, aggregate_values}
 use Rattle.query_eval.specs.Kept.{AreFew}
 use Rattle.query_eval.specs.Tally.{IsTally, is_distinct}
 use Rattle.query_eval.specs.declared.aggregate.Aggregate.{Aggregate}

@@ -1,8 +1,8 @@
 -- Places of groups: one key more, one row more.
-use Rattle.std.proofs.Common.{◌≡◌, ◌≢◌, ℕ, zero, suc, ◌+◌, ◌==◌, ◌<◌, ◌≤◌, ◌⊎◌, inl, inr, Bool, true, false, cond, ◌&&◌, ◌||◌, List, [], ◌∷◌, ◌++◌, map, filter, length, get_or, set, Option, Some, None, refl, sym, ap, subst, ◌∙◌, arith, append-nil, get_or-set_same, get_or-set_other}
+use Rattle.std.proofs.Common.{◌≡◌, ◌≢◌, ℕ, zero, suc, ◌+◌, ◌<◌, ◌≤◌, ◌⊎◌, inl, inr, Bool, true, false, cond, ◌||◌, List, [], ◌∷◌, ◌++◌, map, length, get_or, set, Option, Some, None, refl, sym, ap, subst, ◌∙◌, arith, append-nil, get_or-set_same, get_or-set_other}
 use Rattle.std.specs.BTreeMap.{BTreeMap, get, is_at}
 use Rattle.std.specs.Global.{Vec}
-use Rattle.std.specs.List.{list_any, range_with_len}
+use Rattle.std.specs.List.{list_any}
 use Rattle.std.specs.Option.{is_some}
 use Rattle.std.proofs.lemmas.Bool.{cases_lt, false≢true}
 use Rattle.std.proofs.lemmas.List.{map-append}
@@ -13,7 +13,6 @@ use Rattle.table_model.proofs.SameRows.{one_row, itself_row}
 use Rattle.transpose_order.specs.Mask.{has}
 use Rattle.query_eval.specs.Places.{ArePlaced, IsGrown, IsIndex, IsTakenIn, rows_below}
 use Rattle.query_eval.specs.Vector.{Vector, row_at}
-use Rattle.query_eval.specs.declared.places.Places.{Places}
 use Rattle.query_eval.specs.declared.places.Recent.{Recent}
 use Rattle.query_eval.proofs.RowsBelow.{below_more}
 

@@ -1,5 +1,5 @@
 -- One value more, and what set functions are in the end.
-use Rattle.std.proofs.Common.{◌≡◌, ℕ, zero, suc, ◌+◌, ◌-◌, ◌*◌, ◌^◌, ◌≤◌, ◌<◌, min, Bool, true, false, cond, not, ◌||◌, List, [], ◌∷◌, ◌++◌, length, Option, Some, None, ℤ, pos, ◌+ℤ◌, ◌*ℤ◌, ◌≤ℤ◌, FitsSigned, refl, sym, ap, subst, ◌∙◌, arith, length-append}
+use Rattle.std.proofs.Common.{◌≡◌, ℕ, ◌+◌, ◌-◌, ◌*◌, ◌^◌, ◌≤◌, min, Bool, true, false, cond, not, ◌||◌, List, [], ◌∷◌, ◌++◌, length, Some, ℤ, pos, ◌+ℤ◌, ◌*ℤ◌, FitsSigned, refl, sym, ap, subst, ◌∙◌, arith, length-append}
 use Rattle.std.specs.Int.{w128}
 use Rattle.std.specs.List.{list_any}
 use Rattle.std.specs.Ordering.{int_eq}
@@ -7,12 +7,10 @@ use Rattle.std.proofs.lemmas.Bool.{false≢true}
 use Rattle.std.proofs.lemmas.Bool.Decides.{Decides-int_eq}
 use Rattle.std.proofs.lemmas.Cmp.{int_eq_equiv}
 use Rattle.std.proofs.lemmas.Int.{ints}
-use Rattle.table_model.specs.Answer.{whole, millionths}
 use Rattle.table_model.specs.Group.{IsWithin}
-use Rattle.table_model.specs.Meaning.{fold_value, once_if}
-use Rattle.table_model.specs.Values.{distinct, total, total_or_null, mean, least, greatest, lesser, greater}
+use Rattle.table_model.specs.Meaning.{fold_value}
+use Rattle.table_model.specs.Values.{distinct, total, lesser, greater}
 use Rattle.table_model.specs.declared.answer.Field.{Field}
-use Rattle.table_model.specs.declared.answer.Field.TheVariants.{Null, Whole, Millionths}
 use Rattle.table_model.specs.declared.query.Fold.{Fold}
 use Rattle.table_model.proofs.Alike.{length-alike}
 use Rattle.table_model.proofs.AnswerOrder.{fold_value-alike}

@@ -11,7 +11,6 @@ use Rattle.table_model.specs.declared.answer.Field.{Field}
 use Rattle.table_model.specs.declared.answer.Field.TheVariants.{Whole}
 use Rattle.table_model.specs.declared.query.Fold.{Fold}
 use Rattle.table_model.specs.declared.query.Fold.TheVariants.{Count, Sum, Avg, Min, Max}
-use Rattle.table_model.specs.declared.query.Item.{Item}
 use Rattle.table_model.specs.declared.query.ItemValue.{ItemValue}
 use Rattle.table_model.specs.declared.query.ItemValue.TheVariants.{Grouped, Computed}
 use Rattle.table_model.specs.declared.query.Operand.{Operand}

@@ -1,5 +1,5 @@
 -- Groups as HAVING and the select list see them: their keys, and the values of their set functions.
-use Rattle.std.specs.Prelude.{ℕ, ◌==◌, List, map, filter, slice_index_or, Option, Some, None}
+use Rattle.std.specs.Prelude.{ℕ, ◌==◌, List, map, slice_index_or, None}
 use Rattle.std.specs.List.{position_or_len}
 use Rattle.table_model.specs.Answer.{whole}
 use Rattle.table_model.specs.Group.{Group, groups_of}
@@ -13,7 +13,6 @@ use Rattle.table_model.specs.declared.query.ItemValue.{ItemValue}
 use Rattle.table_model.specs.declared.query.ItemValue.TheVariants.{Grouped, Computed}
 use Rattle.table_model.specs.declared.query.Operand.{Operand}
 use Rattle.table_model.specs.declared.query.Operand.TheVariants.{Column, Literal, Function}
-use Rattle.table_model.specs.declared.query.SetFunction.{SetFunction}
 use Rattle.query_eval.specs.Aggregate.{aggregate_of, aggregate_value, aggregates_of, same_aggregate}
 use Rattle.query_eval.specs.declared.aggregate.Aggregate.{Aggregate}
 

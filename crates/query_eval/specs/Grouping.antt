@@ -1,22 +1,19 @@
 -- Groups under way: for each list of keys that came, the tallies of the rows that have it.
-use Rattle.std.specs.Prelude.{◌≡◌, ℕ, ◌+◌, ◌<◌, ◌≤◌, ◌++◌, Bool, true, false, cond, nat_lt, List, [], ◌∷◌, map, length, slice_index_or, sum_by, Option, Some, None, ℤ, pos}
+use Rattle.std.specs.Prelude.{◌≡◌, ℕ, ◌+◌, ◌<◌, ◌≤◌, ◌++◌, Bool, false, cond, nat_lt, List, [], ◌∷◌, map, length, slice_index_or, sum_by, Option, Some, None, ℤ, pos}
 use Rattle.std.specs.List.{list_any}
 use Rattle.std.specs.BTreeMap.{BTreeMap, get}
-use Rattle.std.specs.Option.{is_some, option_map}
+use Rattle.std.specs.Option.{is_some}
 use Rattle.std.specs.Global.{Vec}
 use Rattle.table_model.specs.Group.{cell, key_cmp, key_of, rows_with, values_in}
 use Rattle.table_model.specs.State.{Cells, same_cells}
 use Rattle.table_model.specs.Table.{Table}
-use Rattle.query_eval.specs.Decoded.{decoded_at}
 use Rattle.query_eval.specs.Finished.{PlanShape}
 use Rattle.query_eval.specs.Places.{rows_placed}
 use Rattle.query_eval.specs.QueryMentions.{aggregate_mentions}
-use Rattle.query_eval.specs.Side.{side_at}
 use Rattle.query_eval.specs.Tally.{IsTally, is_distinct}
-use Rattle.query_eval.specs.Vector.{Vector, row_at}
+use Rattle.query_eval.specs.Vector.{Vector}
 use Rattle.query_eval.specs.declared.aggregate.Aggregate.{Aggregate}
 use Rattle.query_eval.specs.declared.aggregate.Aggregate.TheVariants.{Rows, Folded}
-use Rattle.query_eval.specs.declared.decoded.Decoded.{Decoded}
 use Rattle.query_eval.specs.declared.side.Side.{Side}
 use Rattle.query_eval.specs.declared.side.Side.TheVariants.{Column, Fixed}
 use Rattle.query_eval.specs.declared.tally.Tally.{Tally}

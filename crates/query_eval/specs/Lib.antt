@@ -13,3 +13,4 @@ pub mod Tally
 pub mod QueryMentions
 pub mod Grouping
 pub mod Places
+pub mod PlainRows

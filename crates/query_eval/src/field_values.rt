@@ -43,7 +43,7 @@ pub fn mean_field(count: u128, sum: i128) -> Field
 }
 
 /// The sum of some values.
-fn sum_of(values: &[i64]) -> i128
+pub(crate) fn sum_of(values: &[i64]) -> i128
     requires { length values.now ≤ 2 ^ 32 }
     ensures value { result ≡ total values.now }
     ensures within { IsWithin (2 ^ 95) result }
@@ -56,7 +56,7 @@ fn sum_of(values: &[i64]) -> i128
 }
 
 /// The least of some values.
-fn least_of(values: &[i64]) -> Option<i64>
+pub(crate) fn least_of(values: &[i64]) -> Option<i64>
     ensures { result ≡ least values.now }
 {
     let mut least = None;
@@ -67,7 +67,7 @@ fn least_of(values: &[i64]) -> Option<i64>
 }
 
 /// The greatest of some values.
-fn greatest_of(values: &[i64]) -> Option<i64>
+pub(crate) fn greatest_of(values: &[i64]) -> Option<i64>
     ensures { result ≡ greatest values.now }
 {
     let mut greatest = None;

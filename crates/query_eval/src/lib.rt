@@ -20,6 +20,8 @@ mod names;
 mod pair;
 mod places;
 mod placing;
+#[cfg(test)]
+mod plain_columns;
 mod plan;
 mod predicates;
 mod rows;
@@ -28,6 +30,8 @@ mod side;
 mod table_fields;
 mod taking;
 mod tally;
+#[cfg(test)]
+mod tests;
 mod where_masks;
 
 pub use aggregate::{Aggregate, place_or_end};

@@ -15,4 +15,8 @@ pub use store::{MAX_BATCHES, Store};
 pub use summary::Summary;
 
 #[cfg(test)]
+mod exchange_tests;
+#[cfg(test)]
+mod recode_tests;
+#[cfg(test)]
 mod tests;

@@ -10,7 +10,7 @@ ghost use Rattle.table_model.specs.Table.{IsBatch};
 ghost use Rattle.segment_core.specs.Segment.{canonical_segment, widths_in, widths_of};
 ghost use Rattle.segment_core.specs.SegmentBytes.{HasBytesIn};
 ghost use Rattle.replica_store.specs.Exchange.{summary_of, offered, unlisted, applied, opened};
-ghost use Rattle.replica_store.specs.Replica.{IsWithinLimits, new_replica, entries_of, names_of, appended, inserted, merged, merge_fault, next_name, place_for, replica_with, with_batch, joined_with, live_count, is_live_row, deleted_rows, delete_fault, recoded_rows, recode_fault};
+ghost use Rattle.replica_store.specs.Replica.{Replica, IsWithinLimits, new_replica, entries_of, names_of, appended, inserted, merged, merge_fault, next_name, place_for, replica_with, with_batch, joined_with, live_count, is_live_row, deleted_rows, delete_fault, recoded_rows, recode_fault};
 ghost use Rattle.replica_store.specs.Segments.{rows_in, union_in, recoded_in, live_in, AreShort, AreStored, IsStored, IsSoundStore, HasVector};
 ghost use Rattle.segment_core.specs.declared.coding.Coding.{Coding};
 ghost use Rattle.replica_store.specs.declared.inserted.Inserted.TheVariants.{New, Already};
@@ -175,7 +175,7 @@ impl Store {
     ///
     /// Refused are, in this order: the faults of [`check_rows`], `BadName` where the origin or the number is 0, `Conflict`
     /// where the name is held with other rows, `Full` where 65,536 batches are held, `Memory`. A name that is held with the
-    /// same rows is `Already`, also in a full store.
+    /// same rows is `Already`, also in a full store, and takes no memory.
     pub fn insert(
         &mut self,
         alloc: Global,
@@ -185,6 +185,7 @@ impl Store {
         ensures acts { Acts (λ answer. answer) self.old.replica result self.new.replica (inserted self.old.replica name rows.now) }
         ensures new { result ≡ Ok New → self.new.segments ≡ map.insert self.old.segments name (canonical_segment self.old.replica.schema rows.now) }
         ensures already { result ≡ Ok Already → self.new ≡ self.old }
+        ensures held { (r : Replica) → inserted self.old.replica name rows.now ≡ Ok (Already, r) → result ≡ Ok Already }
         ensures refused { OnErr result (self.new ≡ self.old) }
     {
         match self.place_for(name, rows)? {

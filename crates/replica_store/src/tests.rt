@@ -1,24 +1,24 @@
 //! Stores at values worked out by hand from the rules of names, refusals, states and merges.
 use super::*;
-use segment_core::{Coding, Segment};
+use segment_core::Segment;
 use std::alloc::{AllocError, Global};
 use std::test::Fail;
 use table_model::{BatchName, ColType, Number, Origin, Refusal, Row, RowName, Schema};
 
 /// A batch of the tests: its origin, its number, and the one cell of each row.
-type OneColumn<'a> = (u32, u32, &'a [i128]);
+pub(crate) type OneColumn<'a> = (u32, u32, &'a [i128]);
 
 /// Deleted rows of the tests: the batch's origin and number, and the first and the last ordinal.
-type Deleted = (u32, u32, u16, u16);
+pub(crate) type Deleted = (u32, u32, u16, u16);
 
 /// What a replica is told.
 #[derive(Clone, Copy)]
-enum Told {
+pub(crate) enum Told {
     Batch(u32, u32, &'static [i128]),
     Deletion(u32, u32, u16, u16),
 }
 
-fn name(origin: u32, number: u32) -> BatchName {
+pub(crate) fn name(origin: u32, number: u32) -> BatchName {
     BatchName {
         origin: Origin(origin),
         number: Number(number),
@@ -53,7 +53,7 @@ fn store_with(alloc: Global, own: u32, column_type: ColType) -> Result<Store, Re
     Store::new(alloc, &schema, Origin(own))
 }
 
-fn store_of(alloc: Global, own: u32) -> Result<Store, Refusal> {
+pub(crate) fn store_of(alloc: Global, own: u32) -> Result<Store, Refusal> {
     store_with(alloc, own, ColType::BigInt)
 }
 
@@ -66,7 +66,7 @@ fn delete(alloc: Global, store: &mut Store, rows: Deleted) -> Result<(), Refusal
     store.delete(alloc, row_name(rows.0, rows.1, rows.2), rows.3)
 }
 
-fn tell(alloc: Global, store: &mut Store, told: &[Told]) -> Result<(), Refusal> {
+pub(crate) fn tell(alloc: Global, store: &mut Store, told: &[Told]) -> Result<(), Refusal> {
     for step in told {
         match *step {
             Told::Batch(origin, number, values) => {
@@ -82,14 +82,14 @@ fn tell(alloc: Global, store: &mut Store, told: &[Told]) -> Result<(), Refusal> 
     Ok(())
 }
 
-fn told_store(alloc: Global, own: u32, told: &[Told]) -> Result<Store, Refusal> {
+pub(crate) fn told_store(alloc: Global, own: u32, told: &[Told]) -> Result<Store, Refusal> {
     let mut store = store_of(alloc, own)?;
     tell(alloc, &mut store, told)?;
     Ok(store)
 }
 
 /// Whether the segment has one column with these values.
-fn has_values(segment: &Segment, values: &[i128]) -> bool {
+pub(crate) fn has_values(segment: &Segment, values: &[i128]) -> bool {
     if segment.rows() != values.len() || segment.columns() != 1 {
         return false;
     }
@@ -110,7 +110,7 @@ fn has_batch(store: &Store, index: usize, batch: OneColumn<'_>) -> bool {
 }
 
 /// Whether these are the batches of the store, in their order.
-fn has_batches(store: &Store, batches: &[OneColumn<'_>]) -> bool {
+pub(crate) fn has_batches(store: &Store, batches: &[OneColumn<'_>]) -> bool {
     for (index, batch) in batches.iter().enumerate() {
         if !has_batch(store, index, *batch) {
             return false;
@@ -130,20 +130,23 @@ fn has_deleted(store: &Store, deleted: &[Deleted]) -> bool {
 }
 
 /// Whether these are the store's batches and deletions, each in order, and how many of its rows are live.
-fn is_state(store: &Store, batches: &[OneColumn<'_>], deleted: &[Deleted], live: u64) -> bool {
+pub(crate) fn is_state(
+    store: &Store,
+    batches: &[OneColumn<'_>],
+    deleted: &[Deleted],
+    live: u64,
+) -> bool {
     has_batches(store, batches) && has_deleted(store, deleted) && store.live_count() == live
 }
 
-/// Our store after a merge of theirs, and what the merge answered.
-fn merged_store(
-    alloc: Global,
-    ours: &[Told],
-    theirs: &[Told],
-) -> Result<(Result<(), Refusal>, Store), Refusal> {
-    let mut store = told_store(alloc, 1, ours)?;
+pub(crate) fn merge(alloc: Global, store: &mut Store, other: &Store) -> Result<(), Refusal> {
+    store.merge(alloc, other)
+}
+
+/// What a store answers to a merge of a store that was told these.
+fn merge_told(alloc: Global, store: &mut Store, theirs: &[Told]) -> Result<(), Refusal> {
     let other = told_store(alloc, 2, theirs)?;
-    let answer = store.merge(alloc, &other);
-    Ok((answer, store))
+    merge(alloc, store, &other)
 }
 
 type Merge<'a> = (
@@ -213,14 +216,18 @@ const MERGES: [Merge<'static>; 4] = [
     ),
 ];
 
+/// Whether our store answers a merge of theirs as wanted, and then has what is wanted.
+fn is_merged(alloc: Global, merge: Merge<'_>) -> Result<bool, Refusal> {
+    let (ours, theirs, want, batches, deleted, live) = merge;
+    let mut store = told_store(alloc, 1, ours)?;
+    let answer = merge_told(alloc, &mut store, theirs);
+    Ok(answer == want && is_state(&store, batches, deleted, live))
+}
+
 #[test]
 fn a_merge_joins_states_or_names_the_least_conflict(rt: HostRuntime) -> Result<(), Fail> {
-    for (ours, theirs, want, batches, deleted, live) in MERGES {
-        let (answer, store) = merged_store(rt.alloc(), ours, theirs)?;
-        assert!(rt;
-            answer == want && is_state(&store, batches, deleted, live),
-            "merged {answer:?}"
-        );
+    for merge in MERGES {
+        assert!(rt; is_merged(rt.alloc(), merge)?, "merged to {:?}", merge.2);
     }
     Ok(())
 }
@@ -321,13 +328,17 @@ fn an_append_has_1_to_65_536_rows(rt: HostRuntime) -> Result<(), Fail> {
     Ok(())
 }
 
-// The tables T(A SMALLINT) and T(A BIGINT).
+/// What a store of T(A SMALLINT) answers to a merge of one of T(A BIGINT) with a batch.
+fn merge_another_table(alloc: Global, ours: &mut Store) -> Result<(), Refusal> {
+    let mut theirs = store_with(alloc, 2, ColType::BigInt)?;
+    let _ = insert(alloc, &mut theirs, (2, 1, &[5]))?;
+    merge(alloc, ours, &theirs)
+}
+
 #[test]
 fn stores_of_different_tables_are_not_merged(rt: HostRuntime) -> Result<(), Fail> {
     let mut ours = store_with(rt.alloc(), 1, ColType::SmallInt)?;
-    let mut theirs = store_with(rt.alloc(), 2, ColType::BigInt)?;
-    let _ = insert(rt.alloc(), &mut theirs, (2, 1, &[5]))?;
-    let answer = ours.merge(rt.alloc(), &theirs);
+    let answer = merge_another_table(rt.alloc(), &mut ours);
     assert!(rt;
         answer == Err(Refusal::SchemaDiffers),
         "answered {answer:?}"
@@ -336,25 +347,33 @@ fn stores_of_different_tables_are_not_merged(rt: HostRuntime) -> Result<(), Fail
     Ok(())
 }
 
-/// The three stores, of which each was told a part, merged from the left: the first with the second, and both with the third.
-fn merged_from_the_left(alloc: Global, parts: [&[Told]; 3]) -> Result<Store, Refusal> {
-    let mut store = told_store(alloc, 1, parts[0])?;
-    let second = told_store(alloc, 2, parts[1])?;
-    store.merge(alloc, &second)?;
-    let third = told_store(alloc, 3, parts[2])?;
-    store.merge(alloc, &third)?;
+/// Two stores that were each told a part, the second merged into the first.
+fn merged_pair(alloc: Global, first: &[Told], second: &[Told]) -> Result<Store, Refusal> {
+    let mut store = told_store(alloc, 1, first)?;
+    merge_told(alloc, &mut store, second)?;
     Ok(store)
 }
 
+/// Whether three stores, of which each was told a part, have it all where they are merged from the left: the first with the
+/// second, and both with the third.
+fn is_all_from_the_left(alloc: Global, parts: [&[Told]; 3]) -> Result<bool, Refusal> {
+    let mut store = merged_pair(alloc, parts[0], parts[1])?;
+    merge_told(alloc, &mut store, parts[2])?;
+    Ok(has_all(&store))
+}
+
+/// Merges a store into another, twice.
+fn merge_twice(alloc: Global, store: &mut Store, other: &Store) -> Result<(), Refusal> {
+    merge(alloc, store, other)?;
+    merge(alloc, store, other)
+}
+
 /// The same from the right, and the last merge twice.
-fn merged_from_the_right(alloc: Global, parts: [&[Told]; 3]) -> Result<Store, Refusal> {
-    let mut second = told_store(alloc, 2, parts[1])?;
-    let third = told_store(alloc, 3, parts[2])?;
-    second.merge(alloc, &third)?;
-    let mut store = told_store(alloc, 1, parts[0])?;
-    store.merge(alloc, &second)?;
-    store.merge(alloc, &second)?;
-    Ok(store)
+fn is_all_from_the_right(alloc: Global, parts: [&[Told]; 3]) -> Result<bool, Refusal> {
+    let other = merged_pair(alloc, parts[1], parts[2])?;
+    let mut store = told_store(alloc, 3, parts[0])?;
+    merge_twice(alloc, &mut store, &other)?;
+    Ok(has_all(&store))
 }
 
 const FIRST: Told = Told::Batch(1, 1, &[10, 11]);
@@ -375,6 +394,12 @@ fn has_all(store: &Store) -> bool {
     is_state(store, &batches, &[(2, 1, 4, 4), (3, 1, 1, 9)], 4)
 }
 
+/// Whether a store that was told these has it all.
+fn is_all_in_order(alloc: Global, order: &[Told]) -> Result<bool, Refusal> {
+    let store = told_store(alloc, 5, order)?;
+    Ok(has_all(&store))
+}
+
 // Three replicas take the same in different orders, with repeats, and with deletions before and after their rows.
 #[test]
 fn neither_order_nor_repeats_nor_lateness_matter(rt: HostRuntime) -> Result<(), Fail> {
@@ -384,8 +409,7 @@ fn neither_order_nor_repeats_nor_lateness_matter(rt: HostRuntime) -> Result<(), 
         &[EARLY, SECOND, UNSEEN, THIRD, LATE, SECOND, FIRST, LATE],
     ];
     for order in orders {
-        let store = told_store(rt.alloc(), 5, order)?;
-        assert!(rt; has_all(&store));
+        assert!(rt; is_all_in_order(rt.alloc(), order)?);
     }
     Ok(())
 }
@@ -402,59 +426,8 @@ fn neither_order_nor_bracketing_of_merges_matters(rt: HostRuntime) -> Result<(),
         [three, one, two],
         [three, two, one],
     ] {
-        let left = merged_from_the_left(rt.alloc(), parts)?;
-        let right = merged_from_the_right(rt.alloc(), parts)?;
-        assert!(rt; has_all(&left) && has_all(&right));
+        assert!(rt; is_all_from_the_left(rt.alloc(), parts)?);
+        assert!(rt; is_all_from_the_right(rt.alloc(), parts)?);
     }
-    Ok(())
-}
-
-/// The coding of the first vector of the first batch.
-fn first_coding(store: &Store) -> Option<Coding> {
-    if store.batches() == 0 {
-        return None;
-    }
-    let (_, segment) = store.batch(0);
-    if segment.rows() == 0 || segment.columns() == 0 {
-        return None;
-    }
-    Some(segment.coding(0, 0))
-}
-
-/// Vectors that aren't there: a batch's origin and number, a column and a vector.
-const NO_VECTORS: [(u32, u32, u32, u32); 4] = [
-    (9, 9, 0, 0),
-    (0, 1, 0, 0),
-    (1, 1, 1, 0),
-    (1, 1, 0, 1),
-];
-
-// A value alone is coded as FOR, whose payload of none is the smallest; merges keep the codings of either side.
-#[test]
-fn a_recoded_batch_merges_and_keeps_its_coding(rt: HostRuntime) -> Result<(), Fail> {
-    let mut first = told_store(rt.alloc(), 1, &[Told::Batch(1, 1, &[7])])?;
-    let mut second = store_of(rt.alloc(), 2)?;
-    second.merge(rt.alloc(), &first)?;
-    for coding in [Coding::For, Coding::Delta, Coding::Runs, Coding::Dict] {
-        second.recode(rt.alloc(), name(1, 1), 0, 0, coding)?;
-        assert!(rt; first_coding(&second) == Some(coding) && has_batches(&second, &[(1, 1, &[7])]));
-    }
-    first.merge(rt.alloc(), &second)?;
-    second.merge(rt.alloc(), &first)?;
-    assert!(rt;
-        first_coding(&first) == Some(Coding::For) && first_coding(&second) == Some(Coding::Dict)
-    );
-    assert!(rt; first.live_count() == 1 && second.live_count() == 1);
-    for (origin, number, column, vector) in NO_VECTORS {
-        let answer = second.recode(
-            rt.alloc(),
-            name(origin, number),
-            column,
-            vector,
-            Coding::For,
-        );
-        assert!(rt; answer == Err(Refusal::NoSuchVector));
-    }
-    assert!(rt; first_coding(&second) == Some(Coding::Dict));
     Ok(())
 }

@@ -1,4 +1,4 @@
-use Rattle.std.proofs.Common.{◌≡◌, ◌++◌, ◌∷◌, ◌+◌, [], List, ℕ, Option, length, ap, sym, subst, ◌∙◌, rules, arith}
+use Rattle.std.proofs.Common.{◌≡◌, ◌++◌, ◌∷◌, ◌+◌, [], List, Option, length, ap, sym, subst, rules, arith}
 use Rattle.std.proofs.lemmas.List.{length-append}
 use Rattle.segment_core.specs.Segment.{SegmentForm}
 use Rattle.column_file.proofs.CanonicalWriting.{ChosenBelow, chosen_more}

@@ -3,7 +3,7 @@ use Rattle.std.specs.FinMap as finite
 use Rattle.std.proofs.lemmas.List.{length-append}
 use Rattle.replica_store.proofs.RowsIn.{len-rows_in}
 use Rattle.table_model.specs.Table.{Table}
-use Rattle.segment_core.specs.Format.{Format, Writes}
+use Rattle.segment_core.specs.Format.{Writes}
 use Rattle.replica_store.specs.Segments.{Entry as Held}
 use Rattle.column_file.specs.ContainerBytes.{deleted_of, container}
 use Rattle.column_file.specs.Files.{canonical_as_read, canonical_file}

@@ -1,7 +1,7 @@
 use Rattle.std.proofs.Common.{◌≡◌, ◌∙◌, ◌++◌, [], List, ℕ, map, ap, subst}
 use Rattle.std.proofs.lemmas.List.{append-nil}
 use Rattle.table_model.specs.Table.{Table}
-use Rattle.segment_core.specs.Format.{Format, Writes}
+use Rattle.segment_core.specs.Format.{Writes}
 use Rattle.replica_store.specs.Segments.{Entry as Held}
 use Rattle.column_file.specs.ContainerBytes.{deleted_of, container}
 use Rattle.column_file.specs.Files.{canonical_as_read, canonical_file}

@@ -1,9 +1,8 @@
-use Rattle.std.proofs.Common.{◌≡◌, ◌+◌, ◌++◌, List, ℕ, map, length, sym, ap, subst, ◌∙◌, arith}
+use Rattle.std.proofs.Common.{◌+◌, ◌++◌, List, ℕ, map, length}
 use Rattle.std.proofs.lemmas.Result.{err_from_is_err_and}
-use Rattle.std.proofs.lemmas.List.{length-map, length-append}
-use Rattle.segment_core.specs.Format.{Format, Writes, number, all}
+use Rattle.segment_core.specs.Format.{number, all}
 use Rattle.replica_store.specs.Segments.{Entry as Held}
-use Rattle.column_file.specs.ContainerBytes.{batch, batches}
+use Rattle.column_file.specs.ContainerBytes.{batch}
 use Rattle.column_file.specs.Files.{canonical_as_read}
 use Rattle.column_file.proofs.CanonicalWriting.{two_lists_spelled}
 use Rattle.segment_core.proofs.Writings.{writes_both, writes_front}

@@ -1,4 +1,4 @@
-use Rattle.std.proofs.Common.{◌≡◌, ◌∙◌, ◌<◌, List, ℕ, Err, [], length, map, get_or, take, refl, sym, ap, subst, arith}
+use Rattle.std.proofs.Common.{◌≡◌, ◌∙◌, ◌<◌, List, Err, [], length, map, get_or, take, refl, sym, ap, subst, arith}
 use Rattle.std.specs.Io.KnownBytes.{Appends}
 use Rattle.std.proofs.lemmas.List.{take_all, length-map}
 use Rattle.std.proofs.lemmas.Result.{err_from_is_err_and}
@@ -7,7 +7,7 @@ use Rattle.segment_core.proofs.Writings.{appends_none, spell_all-nil, item_done,
 use Rattle.std.proofs.Common.{Option, None}
 use Rattle.std.proofs.Math.ListN.{get_or-map}
 use Rattle.std.proofs.lemmas.List.{get_or_default}
-use Rattle.segment_core.specs.Segment.{SegmentForm, widths_in, widths_of, canonical_again}
+use Rattle.segment_core.specs.Segment.{SegmentForm, canonical_again}
 use Rattle.replica_store.specs.Segments.{Entry as Held, IsStored}
 use Rattle.column_file.specs.ContainerBytes.{Entry, entry_of, batch}
 use Rattle.column_file.specs.Files.{chosen, canonical_as_read}

@@ -1,4 +1,4 @@
-use Rattle.std.proofs.Common.{◌≡◌, ◌∙◌, List, length, sym, ap, subst}
+use Rattle.std.proofs.Common.{◌∙◌, length, sym, ap, subst}
 use Rattle.table_model.specs.State.{Batch}
 use Rattle.table_model.specs.Table.{IsBatch}
 use Rattle.column_file.proofs.FitLemmas.{length-batch_of, segment_fits}

@@ -1,4 +1,4 @@
-use Rattle.std.proofs.Common.{◌++◌, [], ◌-◌, ◌≤◌, length, arith}
+use Rattle.std.proofs.Common.{◌++◌, [], ◌-◌, ◌≤◌, length}
 use Rattle.std.proofs.lemmas.Result.{err_from_is_err_and}
 use Rattle.segment_core.specs.Format.{number}
 use Rattle.segment_core.specs.SegmentBytes.{segment_bytes}

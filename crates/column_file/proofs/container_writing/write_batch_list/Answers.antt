@@ -1,11 +1,11 @@
-use Rattle.std.proofs.Common.{◌≡◌, ◌∙◌, ◌<◌, List, ℕ, Err, [], length, map, get_or, take, refl, sym, ap, subst, arith}
+use Rattle.std.proofs.Common.{◌≡◌, ◌∙◌, ◌<◌, List, Err, [], length, map, get_or, take, refl, sym, ap, subst, arith}
 use Rattle.std.specs.Io.KnownBytes.{Appends}
 use Rattle.std.proofs.lemmas.List.{take_all, length-map}
 use Rattle.std.proofs.lemmas.Result.{err_from_is_err_and}
 use Rattle.segment_core.specs.Format.{Writes, spell_all}
 use Rattle.segment_core.proofs.Writings.{appends_none, spell_all-nil, item_done, item_fault}
 use Rattle.std.proofs.Math.ListN.{get_or-map}
-use Rattle.segment_core.specs.Segment.{SegmentForm, widths_in, widths_of}
+use Rattle.segment_core.specs.Segment.{widths_in, widths_of}
 use Rattle.replica_store.specs.Segments.{Entry as Held}
 use Rattle.column_file.specs.ContainerBytes.{Entry, entry_of, batch}
 use Rattle.column_file.proofs.container_writing.write_batch_list.Goals as goal

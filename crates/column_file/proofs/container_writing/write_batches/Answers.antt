@@ -1,4 +1,4 @@
-use Rattle.std.proofs.Common.{◌++◌, map, length}
+use Rattle.std.proofs.Common.{map, length}
 use Rattle.std.proofs.lemmas.Result.{err_from_is_err_and}
 use Rattle.std.proofs.lemmas.List.{length-map}
 use Rattle.segment_core.specs.Format.{number, all}

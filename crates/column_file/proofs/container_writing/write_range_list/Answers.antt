@@ -1,10 +1,9 @@
-use Rattle.std.proofs.Common.{◌≡◌, ◌∙◌, ◌<◌, List, ℕ, Err, [], length, map, get_or, take, refl, sym, ap, subst, arith}
+use Rattle.std.proofs.Common.{◌≡◌, ◌∙◌, ◌<◌, List, Err, [], length, map, get_or, take, refl, sym, subst, arith}
 use Rattle.std.specs.Io.KnownBytes.{Appends}
 use Rattle.std.proofs.lemmas.List.{take_all, length-map}
 use Rattle.std.proofs.lemmas.Result.{err_from_is_err_and}
 use Rattle.segment_core.specs.Format.{Writes, spell_all}
 use Rattle.segment_core.proofs.Writings.{appends_none, spell_all-nil, item_done, item_fault}
-use Rattle.catalogue_join.specs.RowRange.{RowRange}
 use Rattle.std.proofs.Math.ListN.{get_or-map}
 use Rattle.column_file.specs.ContainerBytes.{Deleted, deleted_of, range}
 use Rattle.column_file.proofs.ContainerWriting.{no_range}

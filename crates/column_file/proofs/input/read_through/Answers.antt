@@ -1,5 +1,5 @@
-use Rattle.std.proofs.Common.{◌≡◌, ◌∙◌, ◌+◌, ◌<◌, ◌≤◌, [], List, ℕ, length, refl, sym, ap, subst, inr, arith}
-use Rattle.std.specs.Io.KnownBytes.{Consumes, IsAtEnd}
+use Rattle.std.proofs.Common.{◌≡◌, ◌∙◌, ◌+◌, ◌<◌, List, ℕ, length, refl, sym, ap, subst, inr, arith}
+use Rattle.std.specs.Io.KnownBytes.{Consumes}
 use Rattle.table_model.specs.declared.counted.TheConstants.{READ_LIMIT}
 use Rattle.column_file.proofs.Inputs.{consumes_none, consumes_no_more, consumes_chunk, gave_more, is_within}
 use Rattle.column_file.proofs.input.read_through.Goals as goal

@@ -1,4 +1,4 @@
-use Rattle.std.proofs.Common.{◌≡◌, ◌∙◌, List, map, All, sym, ap, subst, arith}
+use Rattle.std.proofs.Common.{◌∙◌, List, map, All, sym, ap, subst, arith}
 use Rattle.catalogue_join.specs.RowRange.{RowRange, rows_in}
 use Rattle.segment_core.proofs.FormatLaws.{bytes_at}
 use Rattle.column_file.specs.ContainerBytes.{entry_of, deleted_of}

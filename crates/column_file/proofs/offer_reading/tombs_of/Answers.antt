@@ -1,4 +1,4 @@
-use Rattle.std.proofs.Common.{◌≡◌, ◌∙◌, get_or, sym, ap}
+use Rattle.std.proofs.Common.{◌∙◌, get_or, sym, ap}
 use Rattle.std.specs.FinSet as set
 use Rattle.table_model.specs.Name.{row_name_cmp}
 use Rattle.catalogue_join.specs.RowRange.{RowRange, rows_between}

@@ -1,11 +1,9 @@
-use Rattle.std.proofs.Common.{◌≡◌, ◌∙◌, List, ℕ, All, length, map, sym, ap, subst}
-use Rattle.std.specs.FinMap as finite
+use Rattle.std.proofs.Common.{◌≡◌, ◌∙◌, List, ℕ, All, map, sym, subst}
 use Rattle.table_model.specs.Table.{Table}
-use Rattle.catalogue_join.specs.RowRange.{RowRange}
-use Rattle.segment_core.specs.Format.{Format, Writes}
-use Rattle.replica_store.specs.Segments.{Entry as Held, IsStored}
+use Rattle.segment_core.specs.Format.{Writes}
+use Rattle.replica_store.specs.Segments.{IsStored}
 use Rattle.column_file.specs.ContainerBytes.{entry_of, deleted_of, container}
-use Rattle.column_file.specs.Files.{file_of, ranges_of, offer_bytes}
+use Rattle.column_file.specs.Files.{file_of, offer_bytes}
 use Rattle.column_file.proofs.RangeLists.{ranges_are}
 use Rattle.column_file.proofs.offer_writing.write_offer.Goals as goal
 

@@ -13,18 +13,18 @@ use Rattle.column_file.proofs.opening.check.Goals as goal
 pub returns-in_err-offer-clause-refused : goal.returns-in_err-offer-clause-refused
 returns-in_err-offer-clause-refused g c =
     let p = err_from_is_err_and c.from_residual-in_err-offer.result c.from_residual-in_err-offer.ensures.1 in
-    rw (p.1, p.2) (refusal_listed {X = OfferForm} (λ (x : OfferForm). x) (Err c.in_err-offer.field-0.0) (canonical_read c.as_slice.result.now) c.in_err-offer.ensures (canonical_read_judged c.as_slice.result.now))
+    rw (p.1, p.2) (refusal_listed {X = OfferForm} (λ (x : OfferForm). x) (Err c.in_err-offer.field-0.0) (canonical_read c.as_slice.result.now) c.in_err-offer.ensures.read (canonical_read_judged c.as_slice.result.now))
 
 pub returns-in_err-offer-clause-fault : goal.returns-in_err-offer-clause-fault
 returns-in_err-offer-clause-fault g c =
     let p = err_from_is_err_and c.from_residual-in_err-offer.result c.from_residual-in_err-offer.ensures.1 in
-    rw (p.1, p.2) (counts_none {X = OfferForm} (λ (x : OfferForm). x) (Err c.in_err-offer.field-0.0) (canonical_read c.as_slice.result.now) (GaveMore (g.R.Read.remaining c.args.reader.now.0) (g.R.Read.remaining c.read_input.new.reader.0)) c.args.reader.now.1 c.read_input.new.reader.1 c.in_err-offer.ensures (canonical_read_judged c.as_slice.result.now) c.in_ok-input.ensures.kept)
+    rw (p.1, p.2) (counts_none {X = OfferForm} (λ (x : OfferForm). x) (Err c.in_err-offer.field-0.0) (canonical_read c.as_slice.result.now) (GaveMore (g.R.Read.remaining c.args.reader.now.0) (g.R.Read.remaining c.read_input.new.reader.0)) c.args.reader.now.1 c.read_input.new.reader.1 c.in_err-offer.ensures.read (canonical_read_judged c.as_slice.result.now) c.in_ok-input.ensures.kept)
 
 pub returns-clause-read : goal.returns-clause-read
 returns-clause-read g c =
     let ranges = ranges_are c.ranges-2.result.now c.in_ok-offer.offer.state.deleted c.ranges-2.ensures.maximal (c.ranges-2.ensures.rows ∙ c.tombs.ensures) in
     let P : List ℕ → Type 0 = λ bytes. checked_from bytes ≡ Ok (c.batches.result, length c.ranges-2.result.now) in
     let whole : checked_from c.in_ok-input.input.items ≡ Ok (c.batches.result, length c.ranges-2.result.now) =
-    subst P c.as_slice.ensures.value (checked_is c.as_slice.result.now c.in_ok-offer.offer c.batches.result (length c.ranges-2.result.now) c.in_ok-offer.ensures c.batches.ensures.value (ap length (sym ranges))) in
+    subst P c.as_slice.ensures.value (checked_is c.as_slice.result.now c.in_ok-offer.offer c.batches.result (length c.ranges-2.result.now) c.in_ok-offer.ensures.read c.batches.ensures.value (ap length (sym ranges))) in
     let made : Checked = record { batches = c.batches.result; ranges = length c.ranges-2.result.now } in
     judged (λ (k : Checked). (k.batches, k.ranges)) (Ok made) (g.R.Read.remaining c.args.reader.now.0) (g.R.Read.remaining c.read_input.new.reader.0) c.in_ok-input.input.items checked_from c.in_ok-input.ensures.bytes c.in_ok-input.ensures.end whole

@@ -1,4 +1,3 @@
-use Rattle.std.proofs.Common.{◌++◌}
 use Rattle.std.proofs.lemmas.Result.{err_from_is_err_and}
 use Rattle.segment_core.specs.Format.{number}
 use Rattle.column_file.specs.SchemaBytes.{tag_of, name}

@@ -1,4 +1,4 @@
-use Rattle.std.proofs.Common.{◌≡◌, ◌∙◌, get_or, take, ap}
+use Rattle.std.proofs.Common.{◌∙◌, get_or, ap}
 use Rattle.std.specs.FinSet as set
 use Rattle.table_model.specs.Name.{name_cmp}
 use Rattle.table_model.specs.declared.names.BatchName.{BatchName}

@@ -1,5 +1,4 @@
-use Rattle.std.proofs.Common.{◌≡◌, List, ℕ, Result, subst}
-use Rattle.table_model.specs.declared.refusal.Refusal.{Refusal}
+use Rattle.std.proofs.Common.{List, ℕ, subst}
 use Rattle.segment_core.specs.Format.{Reads}
 use Rattle.replica_store.specs.Exchange.{SummaryForm}
 use Rattle.column_file.specs.SummaryBytes.{summary_read}

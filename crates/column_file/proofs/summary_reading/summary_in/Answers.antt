@@ -1,4 +1,4 @@
-use Rattle.std.proofs.Common.{◌≡◌, ◌∙◌, List, All, IsTrue, sym, ap, subst, arith}
+use Rattle.std.proofs.Common.{◌∙◌, List, All, IsTrue, sym, ap, subst, arith}
 use Rattle.std.specs.FinSet as set
 use Rattle.table_model.specs.Name.{name_cmp, is_proper_name}
 use Rattle.table_model.specs.declared.names.BatchName.{BatchName}

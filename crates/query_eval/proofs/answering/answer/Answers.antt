@@ -1,10 +1,10 @@
 -- The groups of the rows that are kept are those of the query; each mention takes its passes.
-use Rattle.std.proofs.Common.{◌≡◌, ◌≤◌, ◌+◌, ◌*◌, length, sum_by, Option, sym, ap, ◌∙◌, subst, arith}
+use Rattle.std.proofs.Common.{◌≡◌, ◌≤◌, ◌+◌, ◌*◌, length, Option, ap, ◌∙◌, subst, arith}
 use Rattle.table_model.specs.Formula.{Formula}
 use Rattle.table_model.specs.Query.{QueryShape}
 use Rattle.table_model.specs.State.{State}
 use Rattle.table_model.specs.Table.{Table}
-use Rattle.query_eval.specs.Finished.{finished_groups, plan_of}
+use Rattle.query_eval.specs.Finished.{plan_of}
 use Rattle.query_eval.specs.Kept.{rows_in, rows_kept, rows_alive, where_mentions, live_vectors}
 use Rattle.query_eval.proofs.AnswerLemmas.{answered, passes-answer}
 use Rattle.query_eval.proofs.answering.answer.Goals as goal

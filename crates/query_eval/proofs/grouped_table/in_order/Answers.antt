@@ -1,15 +1,12 @@
 -- One group more.
-use Rattle.std.proofs.Common.{◌≡◌, ◌++◌, ◌∷◌, ◌<◌, ℕ, refl, Bool, List, [], Option, Some, None, length, map, sym, ap, subst, ◌∙◌, arith, append-nil}
-use Rattle.std.specs.BTreeMap.{BTreeMap, is_at, keys}
-use Rattle.std.specs.Global.{Vec}
+use Rattle.std.proofs.Common.{◌≡◌, ◌++◌, ◌∷◌, ◌<◌, ℕ, refl, List, [], length, map, sym, ap, ◌∙◌, arith, append-nil}
+use Rattle.std.specs.BTreeMap.{keys}
 use Rattle.std.specs.Map.{keys_of}
-use Rattle.std.specs.Option.{is_some, option_map}
+use Rattle.std.specs.Option.{is_some}
 use Rattle.std.proofs.lemmas.Bool.{false≢true}
-use Rattle.table_model.specs.Group.{group_at, key_cmp, rows_with}
+use Rattle.table_model.specs.Group.{group_at, rows_with}
 use Rattle.table_model.specs.State.{Cells}
 use Rattle.query_eval.specs.Finished.{GroupFields, finished_of}
-use Rattle.query_eval.specs.Grouping.{AreHeld}
-use Rattle.query_eval.specs.declared.tally.Tally.{Tally}
 use Rattle.query_eval.proofs.OrderLemmas.{few_with, finished_more, place_left}
 use Rattle.query_eval.proofs.grouped_table.in_order.Goals as goal
 use Rattle.query_eval.proofs.grouped_table.in_order.Goals.{in-None, in-Some+in_ok-fields-in-Some+in_ok-push-in-Some}

@@ -1,5 +1,5 @@
 -- One field more.
-use Rattle.std.proofs.Common.{◌≡◌, ℕ, refl, get_or, length, sym, ap, subst, ◌∙◌, arith}
+use Rattle.std.proofs.Common.{refl, get_or, sym, subst, ◌∙◌, arith}
 use Rattle.query_eval.specs.Grouping.{IsHeld}
 use Rattle.query_eval.specs.declared.aggregate.Aggregate.TheVariants.{Rows}
 use Rattle.query_eval.specs.declared.tally.Tally.{Tally}

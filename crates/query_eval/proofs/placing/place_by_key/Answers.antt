@@ -1,5 +1,5 @@
 -- One row more.
-use Rattle.std.proofs.Common.{true, false, ◌≡◌, ◌+◌, ◌∷◌, [], ℕ, ℤ, List, Option, length, length-set, set, sym, subst, ap, ◌∙◌, arith}
+use Rattle.std.proofs.Common.{true, false, ◌≡◌, ◌+◌, ℕ, length, length-set, sym, subst, ap, ◌∙◌, arith}
 use Rattle.transpose_order.specs.Mask.{has}
 use Rattle.query_eval.specs.Places.{ArePlaced, IsIndex}
 use Rattle.query_eval.specs.declared.places.Places.{Places}

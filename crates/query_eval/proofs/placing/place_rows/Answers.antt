@@ -1,5 +1,5 @@
 -- One column's cells are the keys.
-use Rattle.std.proofs.Common.{ap, sym, ◌∙◌, arith}
+use Rattle.std.proofs.Common.{◌∙◌, arith}
 use Rattle.query_eval.specs.Decoded.{decoded_at}
 use Rattle.query_eval.proofs.PlaceLemmas.{only_one}
 use Rattle.query_eval.proofs.placing.place_rows.Goals as goal

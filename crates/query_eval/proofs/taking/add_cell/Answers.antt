@@ -1,10 +1,9 @@
 -- The value is taken into the tally at its place.
-use Rattle.std.proofs.Common.{rules, FitsSigned, ◌≡◌, ◌++◌, ◌∷◌, [], ℤ, List, Option, cond, Some, get_or, subst, sym, ap, ◌∙◌, ◌==◌, set, refl, arith}
+use Rattle.std.proofs.Common.{rules, FitsSigned, ◌≡◌, ◌++◌, ◌∷◌, [], ℤ, Option, cond, get_or, subst, sym, ◌==◌, set, refl, arith}
 use Rattle.std.specs.Int.{w128}
 use Rattle.std.proofs.lemmas.Int.{to_z-of_z}
 use Rattle.query_eval.specs.Grouping.{as_list}
-use Rattle.query_eval.specs.Tally.{IsTally, is_distinct}
-use Rattle.query_eval.specs.declared.tally.Tally.{Tally}
+use Rattle.query_eval.specs.Tally.{IsTally}
 use Rattle.query_eval.proofs.GroupingLemmas.{cell_values}
 use Rattle.query_eval.proofs.taking.add_cell.Goals as goal
 

@@ -1,7 +1,6 @@
 -- One row more.
-use Rattle.std.proofs.Common.{true, false, ◌≡◌, ◌<◌, ◌+◌, ◌++◌, ℕ, List, length, get_or, refl, sym, subst, ap, ◌∙◌, arith}
+use Rattle.std.proofs.Common.{true, false, ◌≡◌, ◌<◌, ◌+◌, ◌++◌, ℕ, length, get_or, refl, sym, subst, ap, ◌∙◌, arith}
 use Rattle.std.specs.Global.{Vec}
-use Rattle.table_model.specs.State.{Cells}
 use Rattle.transpose_order.specs.Mask.{has}
 use Rattle.query_eval.specs.Grouping.{IsHeld}
 use Rattle.query_eval.specs.Places.{rows_placed}

@@ -1,5 +1,4 @@
 -- The tallies of the groups that came, and then the cells.
-use Rattle.std.proofs.Common.{◌∙◌}
 use Rattle.query_eval.proofs.GroupingLemmas.{taken}
 use Rattle.query_eval.proofs.taking.add_column.Goals as goal
 

@@ -1,5 +1,5 @@
 -- One group more.
-use Rattle.std.proofs.Common.{get_or, ap, length, ◌∙◌, arith, length-append, [], ◌∷◌}
+use Rattle.std.proofs.Common.{ap, length, ◌∙◌, arith, length-append, [], ◌∷◌}
 use Rattle.query_eval.proofs.GroupingLemmas.{fresh_push, held_none, known_push}
 use Rattle.query_eval.proofs.taking.add_groups.Goals as goal
 

@@ -1,4 +1,4 @@
-use Rattle.std.proofs.Common.{◌≡◌, ◌∙◌, ◌&&◌, eqb, List, ℕ, length, ap}
+use Rattle.std.proofs.Common.{◌∙◌, ◌&&◌, eqb, List, ℕ, length, ap}
 use Rattle.column_file.specs.Files.{first_difference}
 use Rattle.column_file.proofs.Comparisons.{whole_is, not_whole}
 use Rattle.column_file.proofs.comparing.Comparison.is_whole.Goals as goal

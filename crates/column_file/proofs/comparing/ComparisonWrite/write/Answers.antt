@@ -1,6 +1,5 @@
-use Rattle.std.proofs.Common.{◌≡◌, ◌∙◌, ◌+◌, ◌-◌, ◌++◌, ◌≤◌, List, ℕ, length, take, drop, sym, ap, subst, arith}
-use Rattle.column_file.specs.Comparing.{came, told}
-use Rattle.column_file.specs.Files.{first_difference}
+use Rattle.std.proofs.Common.{◌∙◌, ◌+◌, ◌-◌, ◌++◌, List, ℕ, length, take, ap, arith}
+use Rattle.column_file.specs.Comparing.{told}
 use Rattle.column_file.proofs.Comparisons.{none_here, inside_first, inside_second, same_came, other_came, place_moved}
 use Rattle.column_file.proofs.comparing.ComparisonWrite.write.Goals as goal
 

@@ -1,11 +1,11 @@
 -- A remembered place is that of the cell's key, and else the key is looked for.
 use Rattle.std.proofs.Common.{◌≡◌, ◌∷◌, ◌++◌, [], ◌&&◌, List, length, get_or, true, Option, Some, None, ap, sym, subst, ◌∙◌}
-use Rattle.std.specs.BTreeMap.{BTreeMap, get}
+use Rattle.std.specs.BTreeMap.{get}
 use Rattle.std.proofs.lemmas.Bool.Decides.{Decides-ltb}
 use Rattle.table_model.specs.Group.{key_cmp}
 use Rattle.table_model.specs.State.{Cells}
 use Rattle.table_model.proofs.SameRows.{one_row}
-use Rattle.query_eval.specs.Places.{IsIndex, IsTakenIn}
+use Rattle.query_eval.specs.Places.{IsIndex}
 use Rattle.query_eval.specs.declared.places.Recent.{Recent}
 use Rattle.query_eval.proofs.PlaceLemmas.{entry_at, index_remembered, taken_known}
 use Rattle.query_eval.proofs.places.Places.of_cell.Goals as goal

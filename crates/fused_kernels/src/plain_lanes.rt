@@ -1,0 +1,173 @@
+//! A test's own lanes, over a plain list of values in row order.
+ghost use Rattle.std.specs.Prelude.{◌≡◌, ◌+◌, ◌*◌, ◌<◌, ◌≤◌, false, FitsSigned};
+ghost use Rattle.std.specs.Int.{w64};
+ghost use Rattle.std.specs.List.{All};
+ghost use Rattle.transpose_order.specs.Place.{IsLaneWidth};
+ghost use Rattle.transpose_order.specs.Mask.{rows_of};
+ghost use Rattle.bit_interleave.specs.Packing.{sixteen_of};
+ghost use Rattle.bit_interleave.specs.Range.{value_at};
+ghost use Rattle.fused_kernels.specs.Seen.{LanesSeen};
+
+use crate::lanes::Lanes;
+use crate::{compare, compare_range, decode_into, max, min, sum};
+use std::marker::Model;
+use std::simd::prelude::*;
+use std::test::Fail;
+use table_model::Op;
+use transpose_order::{Mask, place_in_word};
+
+/// 1024 values in row order, all covered and none null, given in the pieces of a lane width.
+#[derive(Drop)]
+struct PlainLanes {
+    lane_width: usize,
+    rows: usize,
+    nulls: Mask,
+    values: [i64; 1024],
+    given: usize,
+}
+
+impl Model for PlainLanes {
+    ghost use Rattle.fused_kernels.specs.Seen.{LanesSeen, AreLanes};
+
+    ghost Value = { LanesSeen };
+
+    ghost view = { λ l. record { lane_width = l.lane_width; rows = l.rows; nulls = l.nulls; values = l.values; given = l.given } };
+
+    ghost invariant = { λ l. AreLanes (record { lane_width = l.lane_width; rows = l.rows; nulls = l.nulls; values = l.values; given = l.given }) };
+}
+
+impl PlainLanes {
+    /// The lanes of some values, of which no piece was given.
+    fn new(lane_width: usize, values: &[i64; 1024]) -> PlainLanes
+        requires width { IsLaneWidth lane_width }
+        requires fit { All (λ value. FitsSigned w64 value) values.now }
+        ensures { result ≡ record { lane_width = lane_width; rows = 1024; nulls = rows_of (λ _. false); values = values.now; given = 0 } }
+    {
+        PlainLanes {
+            lane_width,
+            rows: 1024,
+            nulls: Mask::none(),
+            values: *values,
+            given: 0,
+        }
+    }
+}
+
+/// The values at a place of each of sixteen words of 64 rows.
+fn values_at(values: &[i64; 1024], place: usize) -> Simd<i64, 16>
+    requires { place < 64 }
+    ensures { result ≡ sixteen_of (λ i. value_at values.now (64 * i + place)) }
+{
+    let mut piece = [0; 16];
+    for i in 0..16 {
+        piece[i] = values[64 * i + place];
+    }
+    Simd::from_array(piece)
+}
+
+impl Lanes for PlainLanes {
+    ghost seen = { λ l. l };
+
+    fn lane_width(&self) -> usize {
+        self.lane_width
+    }
+
+    fn rows(&self) -> usize {
+        self.rows
+    }
+
+    fn nulls(&self) -> Mask {
+        self.nulls
+    }
+
+    fn next_piece(&mut self) -> Simd<i64, 16> {
+        let place = place_in_word(self.lane_width, self.given);
+        self.given += 1;
+        values_at(&self.values, place)
+    }
+}
+
+/// The multiples of three from 0 on.
+fn threes() -> [i64; 1024]
+    ensures { All (λ value. FitsSigned w64 value) result }
+{
+    let mut values = [0; 1024];
+    for row in 0..1024 {
+        values[row] = 3 * row as i64;
+    }
+    values
+}
+
+/// 1024 times the least value of 64 bits.
+fn leasts() -> [i64; 1024]
+    ensures { All (λ value. FitsSigned w64 value) result }
+{
+    let mut values = [0; 1024];
+    for row in 0..1024 {
+        values[row] = i64::MIN;
+    }
+    values
+}
+
+/// The rows from `first` up to `end`, which is not included.
+fn rows(first: usize, end: usize) -> Mask
+    requires order { first ≤ end }
+    requires within { end ≤ 1024 }
+{
+    let mut mask = Mask::none();
+    mask.set_range(first, end, true);
+    mask
+}
+
+/// The sum over all rows, and over rows 30 to 33 the sum, the least and the greatest value.
+type Folds = (i128, i128, Option<i64>, Option<i64>);
+
+fn folds(lane_width: usize, values: &[i64; 1024]) -> Folds
+    requires width { IsLaneWidth lane_width }
+    requires fit { All (λ value. FitsSigned w64 value) values.now }
+{
+    let some = rows(30, 34);
+    (
+        sum(&mut PlainLanes::new(lane_width, values), &Mask::all()),
+        sum(&mut PlainLanes::new(lane_width, values), &some),
+        min(&mut PlainLanes::new(lane_width, values), &some),
+        max(&mut PlainLanes::new(lane_width, values), &some),
+    )
+}
+
+// Over all rows the sum is 3 * 1023 * 1024 / 2, and rows 30 to 33 have 90, 93, 96 and 99.
+#[test]
+fn any_lanes_are_folded(rt: HostRuntime) -> Result<(), Fail> {
+    let expected = (1571328, 378, Some(90), Some(99));
+    assert_eq!(rt; folds(8, &threes()), expected);
+    assert_eq!(rt; folds(16, &threes()), expected);
+    assert_eq!(rt; folds(32, &threes()), expected);
+    assert_eq!(rt; folds(64, &threes()), expected);
+    Ok(())
+}
+
+// 1024 times, and 4 times, minus two to the power of 63.
+#[test]
+fn a_sum_of_any_lanes_does_not_wrap(rt: HostRuntime) -> Result<(), Fail> {
+    let least = Some(i64::MIN);
+    assert_eq!(rt;
+        folds(64, &leasts()),
+        (-9444732965739290427392, -36893488147419103232, least, least)
+    );
+    Ok(())
+}
+
+// 96 is the value of row 32.
+#[test]
+fn any_lanes_are_compared_and_decoded(rt: HostRuntime) -> Result<(), Fail> {
+    let mut lanes = PlainLanes::new(32, &threes());
+    let (yes, no) = compare(&mut lanes, Op::Less, 96, &Mask::all());
+    assert_eq!(rt; (yes == rows(0, 32), no == rows(32, 1024)), (true, true));
+    let mut lanes = PlainLanes::new(16, &threes());
+    let (yes, _) = compare_range(&mut lanes, 90, 99, &Mask::all());
+    assert_eq!(rt; yes == rows(30, 34), true);
+    let mut values = [0; 1024];
+    decode_into(&mut PlainLanes::new(64, &threes()), &mut values);
+    assert_eq!(rt; values == threes(), true);
+    Ok(())
+}

@@ -1,0 +1,162 @@
+//! Queries over plain rows: answers worked out by hand, and the passes that their mentions of columns allow.
+use super::*;
+use crate::plain_columns::PlainColumns;
+use std::alloc::{AllocError, Global};
+use std::test::Fail;
+use table_model::{
+    ColType, ColumnMention, Condition, Factor, Fold, Item, ItemValue, Name, Op, Operand, Predicate,
+    Primary, Query, Row, Rows, Schema, SetFunction, Term, Test,
+};
+
+type Columns2 = [Option<i128>; 2];
+
+fn name(alloc: Global, text: &str) -> Result<Name, AllocError> {
+    Ok(Name::from_string(String::from_str(alloc, text)?))
+}
+
+fn column(alloc: Global, text: &str) -> Result<ColumnMention, AllocError> {
+    Ok(ColumnMention {
+        name: name(alloc, text)?,
+        at: 0,
+    })
+}
+
+fn function(alloc: Global, fold: Fold, text: &str) -> Result<ItemValue, AllocError> {
+    Ok(ItemValue::Computed(SetFunction::Of {
+        fold,
+        distinct: false,
+        column: column(alloc, text)?,
+    }))
+}
+
+fn grouped(alloc: Global, text: &str) -> Result<ItemValue, AllocError> {
+    Ok(ItemValue::Grouped(column(alloc, text)?))
+}
+
+/// A query of table T with these items and no condition, grouped by the columns of these names.
+fn query(alloc: Global, values: Vec<ItemValue>, grouping: &[&str]) -> Result<Query, AllocError> {
+    let mut items = Vec::new(alloc);
+    for value in values {
+        items.push(Item { value, alias: None })?;
+    }
+    let mut by = Vec::new(alloc);
+    for text in grouping {
+        by.push(column(alloc, *text)?)?;
+    }
+    Ok(Query {
+        items,
+        table: name(alloc, "T")?,
+        filter: None,
+        grouping: by,
+        having: None,
+    })
+}
+
+/// The condition that a column is at least a number.
+fn at_least(alloc: Global, text: &str, least: i128) -> Result<Condition, AllocError> {
+    let predicate = Predicate::Compare {
+        left: Operand::Column(column(alloc, text)?),
+        op: Op::GreaterOrEqual,
+        right: Operand::Literal(least),
+    };
+    let mut factors = Vec::new(alloc);
+    factors.push(Factor {
+        negated: false,
+        test: Test {
+            primary: Primary::Predicate(predicate),
+            is: None,
+        },
+    })?;
+    let mut terms = Vec::new(alloc);
+    terms.push(Term { factors })?;
+    Ok(Condition { terms })
+}
+
+/// Plain columns A and B of 64 bits with these rows.
+fn columns_of(alloc: Global, rows: &[Columns2]) -> Result<PlainColumns, Fail> {
+    let schema = Schema::new(
+        alloc,
+        "T",
+        &[("A", ColType::BigInt), ("B", ColType::BigInt)],
+    )?;
+    let mut made = Vec::with_capacity(alloc, rows.len())?;
+    for row in rows {
+        made.push(Row::from_cells(Vec::from_slice(alloc, row.as_slice())?))?;
+    }
+    Ok(PlainColumns::new(schema, Rows::from_vec(made))?)
+}
+
+/// The text of the answer of a query, and how many passes it took.
+fn answered(
+    alloc: Global,
+    columns: &mut PlainColumns,
+    query: &Query,
+) -> Result<(String, u128), Fail> {
+    let before = columns.passes();
+    let answer = answer(alloc, columns, query)?;
+    let written = String::from_utf8(text(alloc, &answer)?)?;
+    Ok((written, columns.passes().saturating_sub(before)))
+}
+
+// Three columns are mentioned beside the grouping column, and there is one vector.
+#[test]
+fn null_keys_are_a_group_and_null_cells_are_left_out(rt: HostRuntime) -> Result<(), Fail> {
+    let alloc = rt.alloc();
+    let rows = [
+        [Some(1), None],
+        [Some(1), Some(3)],
+        [None, Some(4)],
+        [None, None],
+    ];
+    let mut columns = columns_of(alloc, &rows)?;
+    let values = vec![in alloc;
+        grouped(alloc, "A")?,
+        ItemValue::Computed(SetFunction::CountRows),
+        function(alloc, Fold::Count, "B")?,
+        function(alloc, Fold::Sum, "B")?,
+    ]?;
+    let query = query(alloc, values, &["A"])?;
+    let (written, passes) = answered(alloc, &mut columns, &query)?;
+    assert_eq!(rt;
+        written.as_str(),
+        "A,COUNT(*),COUNT(B),SUM(B)\nNULL,2,1,4\n1,2,1,3\n"
+    );
+    assert!(rt; passes <= 4);
+    Ok(())
+}
+
+// 1,025 rows of 0 are two vectors. COUNT(*) without WHERE mentions no column.
+#[test]
+fn a_mention_takes_at_most_one_pass_a_vector(rt: HostRuntime) -> Result<(), Fail> {
+    let alloc = rt.alloc();
+    let mut columns = columns_of(alloc, &[[Some(0), None]; 1025])?;
+    let rows = vec![in alloc; ItemValue::Computed(SetFunction::CountRows)]?;
+    let (written, passes) = answered(alloc, &mut columns, &query(alloc, rows, &[])?)?;
+    assert_eq!(rt; (written.as_str(), passes), ("COUNT(*)\n1025\n", 0));
+    let sum = vec![in alloc; function(alloc, Fold::Sum, "A")?]?;
+    let mut kept = query(alloc, sum, &[])?;
+    kept.filter = Some(at_least(alloc, "A", 0)?);
+    let (written, passes) = answered(alloc, &mut columns, &kept)?;
+    assert_eq!(rt; written.as_str(), "SUM(A)\n0\n");
+    assert!(rt; passes <= 4);
+    Ok(())
+}
+
+// The column is mentioned three times, whatever the number of groups.
+#[test]
+fn ten_groups_take_no_pass_each(rt: HostRuntime) -> Result<(), Fail> {
+    let alloc = rt.alloc();
+    let mut rows = [[None, None]; 10];
+    for n in 0..10 {
+        rows[n][0] = Some(n as i128 + 1);
+    }
+    let mut columns = columns_of(alloc, &rows)?;
+    let values = vec![in alloc; grouped(alloc, "A")?, function(alloc, Fold::Sum, "A")?]?;
+    let (written, passes) = answered(alloc, &mut columns, &query(alloc, values, &["A"])?)?;
+    assert_eq!(rt;
+        written.as_str(),
+        "A,SUM(A)\n1,1\n2,2\n3,3\n4,4\n5,5\n6,6\n7,7\n8,8\n9,9\n10,10\n"
+    );
+    assert!(rt; passes <= 3);
+    Ok(())
+}
