@@ -11,7 +11,7 @@ use Rattle.table_model.specs.Name.{row_name_cmp}
 use Rattle.table_model.specs.declared.names.BatchName.{BatchName}
 use Rattle.table_model.specs.declared.names.RowName.{RowName}
 use Rattle.table_model.proofs.NameOrder.{row_names_total, exact_row_names}
-use Rattle.catalogue_join.specs.Span.{among, covers, Rises, apart, IsRangeAt}
+use Rattle.catalogue_join.specs.Span.{among, covers, Rises, apart, IsRangeAt, Lacks}
 use Rattle.catalogue_join.proofs.Spans.{same_ranges}
 use Rattle.catalogue_join.specs.RowRange.{RowRange, row_names, rows_between, rows_listed, rows_in, IsRowRange, stands_apart, AreMaximal, row_place, is_named_range, row_range_shape}
 use Rattle.catalogue_join.specs.RowRangeShape.{bounds_of, named_from, row_range_IsShape}
@@ -158,6 +158,25 @@ pub same_ranges_of_rows : (rs ts : List RowRange) → Rises row_range_shape 0 rs
 same_ranges_of_rows rs ts r q is =
     same_ranges row_range_shape row_range_IsShape rs ts 0 0 r q
     (λ p. among_row_at rs p r ∙ ap (λ (s : set.FinSet row_name_cmp). set.contains s (row_at p)) is ∙ sym (among_row_at ts p q))
+
+-- ranges that have all places of others have all their rows
+pub rows_within : (rs ts : List RowRange) → Rises row_range_shape 0 rs → Rises row_range_shape 0 ts → ((p : ℕ) → among row_range_shape ts p ≡ true → among row_range_shape rs p ≡ true) → set.is_subset (rows_in ts) (rows_in rs) ≡ true
+rows_within rs ts rising others has =
+    set.contains-is_subset row_names_total (rows_in ts) (rows_in rs)
+    (λ q there.
+    let parts = and_parts (is_bounded q) (among row_range_shape ts (spot q)) (sym (contains-rows_in ts q others) ∙ there) in
+    contains-rows_in rs q rising ∙ and_from (is_bounded q) (among row_range_shape rs (spot q)) parts.0 (has (spot q) parts.1))
+
+-- ranges that lack a place of others lack one of their rows
+pub rows_lacking : (rs ts : List RowRange) → Rises row_range_shape 0 rs → Rises row_range_shape 0 ts → Lacks row_range_shape rs ts → set.is_subset (rows_in ts) (rows_in rs) ≡ false
+rows_lacking rs ts rising others lacking =
+    let row = row_at lacking.place in
+    let there : set.contains (rows_in ts) row ≡ true = sym (among_row_at ts lacking.place others) ∙ lacking.among_others in
+    let missing : set.contains (rows_in rs) row ≡ false = sym (among_row_at rs lacking.place rising) ∙ lacking.not_among in
+    elim (cases_Bool (set.is_subset (rows_in ts) (rows_in rs))) [
+      | inl within ↦ absurd (false≢true (sym missing ∙ set.is_subset-contains row_names_total (rows_in ts) (rows_in rs) within row there))
+      | inr past ↦ past
+    ]
 
 -- by batch and ordinal two ranges stand apart exactly where they do on the line
 stands_apart_is : (r q : RowRange) → is_named_range r ≡ true → is_named_range q ≡ true → stands_apart r q ≡ apart row_range_shape r q

@@ -48,6 +48,12 @@ module _ {S : Type 0} (shape : Shape S) where
   bridged [] = []
   bridged (s ∷ ss) = bridged_from s ss
 
+  -- a place that the list lacks, and the other list has
+  pub record Lacks (ss ts : List S) : Type 0 where
+    pub place : ℕ
+    pub among_others : among ts place ≡ true
+    pub not_among : among ss place ≡ false
+
   -- the range of the list that has a place: all its places are in the list, and the one past its end is not
   pub record IsRangeAt (ss : List S) (p : ℕ) (s : S) : Type 0 where
     pub has : covers s p ≡ true

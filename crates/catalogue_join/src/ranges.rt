@@ -1,6 +1,6 @@
 //! A set of names as the ascending list of its maximal ranges.
 ghost use Rattle.std.specs.Prelude.{◌≡◌, List, [], OnOk, OnErr, IfOk, ℕ, ◌≤◌, ◌<◌, ◌+◌, false, true, ◌||◌, MatchOption, length, slice_index_or, take, drop, ◌++◌, ◌∷◌};
-ghost use Rattle.catalogue_join.specs.Span.{among, covers, Rises, IsRangeAt, IsOverlap};
+ghost use Rattle.catalogue_join.specs.Span.{among, covers, Rises, IsRangeAt, IsOverlap, Lacks};
 
 use crate::join::joined;
 use crate::search::{overlap, place_of, range_at};
@@ -72,6 +72,31 @@ impl<S: Span> Ranges<S> {
         ensures { IsOverlap S.shape self.now range result.now }
     {
         overlap(&self.ranges, range)
+    }
+
+    /// Whether all names of the range are in the set.
+    fn has_range(&self, range: S) -> bool
+        requires { S.shape.low range ≤ S.shape.high range }
+        ensures has { result ≡ true → (p : ℕ) → covers S.shape range p ≡ true → among S.shape self.now p ≡ true }
+        ensures lacks { result ≡ false → Lacks S.shape self.now (range ∷ []) }
+    {
+        match self.find(range) {
+            Some(found) => range.ends_by(found),
+            None => false,
+        }
+    }
+
+    /// Whether all names of another set are in this one: a search for each of the other's ranges.
+    pub fn has_all(&self, other: &Ranges<S>) -> bool
+        ensures has { result ≡ true → (p : ℕ) → among S.shape other.now p ≡ true → among S.shape self.now p ≡ true }
+        ensures lacks { result ≡ false → Lacks S.shape self.now other.now }
+    {
+        for range in &other.ranges {
+            if !self.has_range(*range) {
+                return false;
+            }
+        }
+        true
     }
 
     /// The names of both sets, in one step for each of their ranges.

@@ -19,6 +19,10 @@ impl Span for (RowName, u16) {
         self.0 <= other.0
     }
 
+    fn ends_by(self, other: Self) -> bool {
+        self.0.batch < other.0.batch || self.0.batch == other.0.batch && self.1 <= other.1
+    }
+
     fn reaches(self, other: Self) -> bool {
         other.0.batch < self.0.batch || other.0.batch == self.0.batch && other.0.ordinal <= self.1
     }

@@ -39,6 +39,11 @@ impl Span for Run {
         self.first <= other.first
     }
 
+    fn ends_by(self, other: Self) -> bool {
+        self.first.origin < other.first.origin
+            || self.first.origin == other.first.origin && self.last <= other.last
+    }
+
     fn reaches(self, other: Self) -> bool {
         other.first.origin < self.first.origin
             || other.first.origin == self.first.origin && other.first.number <= self.last

@@ -14,6 +14,10 @@ pub trait Span: Copy {
     fn begins_by(self, other: Self) -> bool
         ensures { result ≡ nat_le (shape.low self) (shape.low other) };
 
+    /// Whether this range ends where `other` does or before.
+    fn ends_by(self, other: Self) -> bool
+        ensures { result ≡ nat_le (shape.high self) (shape.high other) };
+
     /// Whether this range ends where `other` begins or after.
     fn reaches(self, other: Self) -> bool
         ensures { result ≡ nat_le (shape.low other) (shape.high self) };

@@ -148,3 +148,27 @@ fn rows_that_are_not_deleted_are_live(rt: HostRuntime) -> Result<(), Fail> {
     assert!(rt; !tombs.live_mask(batch(1, 1), 1, 6).get(2));
     Ok(())
 }
+
+// Worked out by hand: two sets of rows of batch 1.1, given by first and last ordinals, none where the first is the greater, and
+// whether the first set has all rows of the second.
+#[test]
+fn a_set_has_all_rows_of_another_or_lacks_one(rt: HostRuntime) -> Result<(), Fail> {
+    let alloc = rt.alloc();
+    for (ours, others, all) in [
+        ((2, 6), (2, 6), true),
+        ((2, 6), (3, 5), true),
+        ((2, 6), (2, 7), false),
+        ((2, 6), (1, 6), false),
+        ((2, 6), (8, 9), false),
+        ((2, 6), (1, 0), true),
+        ((1, 0), (0, 0), false),
+        ((1, 0), (1, 0), true),
+    ] {
+        let tombs = tombs_of(alloc, ours)?;
+        let other = tombs_of(alloc, others)?;
+        let both = tombs.joined(&other)?;
+        assert!(rt; tombs.has_all(&other) == all);
+        assert!(rt; both.has_all(&tombs) && both.has_all(&other));
+    }
+    Ok(())
+}

@@ -69,6 +69,13 @@ impl Tombs {
         })
     }
 
+    /// Whether all rows of another set are in this one. It takes no memory.
+    pub fn has_all(&self, other: &Tombs) -> bool
+        ensures { result ≡ set.is_subset other.now self.now }
+    {
+        self.ranges.has_all(&other.ranges)
+    }
+
     /// The rows of both sets.
     pub fn joined(&self, other: &Tombs) -> Result<Tombs, AllocError>
         ensures { IfOk result (λ both. both ≡ set.union self.now other.now) }

@@ -2,21 +2,23 @@
 use Rattle.std.specs.Prelude.{◌≡◌, ◌≢◌, ◌⊎◌, List, [], ◌∷◌, Result, Ok, Err, IsOk}
 use Rattle.table_model.specs.declared.refusal.Refusal.{Refusal}
 use Rattle.table_model.specs.declared.refusal.Refusal.TheVariants.{Memory}
+use Rattle.replica_store.specs.declared.inserted.Inserted.TheVariants.{Already}
 use Rattle.cluster_history.specs.Cluster.{ClusterParts, step_of}
 use Rattle.cluster_history.specs.declared.reply.Reply.{Reply}
-use Rattle.cluster_history.specs.declared.reply.Reply.TheVariants.{Refused}
+use Rattle.cluster_history.specs.declared.reply.Reply.TheVariants.{Refused, Put}
 use Rattle.script_lines.specs.declared.step.Step.{Step}
-use Rattle.script_lines.specs.declared.step.Step.TheVariants.{Merge, Open, Query}
+use Rattle.script_lines.specs.declared.step.Step.TheVariants.{Insert, Merge, Open, Query}
 
 -- a refused step is answered by its refusal, and leaves the cluster
 abbrev pub answered : Result (Reply × ClusterParts) Refusal → ClusterParts → Reply × ClusterParts
 answered (Ok done) old = done
 answered (Err e) old = (Refused e, old)
 
--- where memory may lack for a step: for what it makes, but not at a merge of a replica with itself, which makes nothing; and as a file and a query's text are taken in while they are read, there also in the place of a refusal
+-- where memory may lack for a step: for what it makes, but not at an insert of a batch that is held already nor at a merge of a replica with itself, which make nothing; and as a file and a query's text are taken in while they are read, there also in the place of a refusal
 abbrev pub MayLack : Step → Result (Reply × ClusterParts) Refusal → Type 0
 MayLack (Open replica file) made = Unit {0}
 MayLack (Query replica sql) made = Unit {0}
+MayLack (Insert replica name rows) made = IsOk made × ((c : ClusterParts) → made ≢ Ok (Put Already, c))
 MayLack (Merge replica other) made = IsOk made × (replica ≢ other)
 MayLack step made = IsOk made
 

@@ -2,7 +2,7 @@
 ghost use Rattle.std.specs.Prelude.{◌≡◌, ◌≢◌, ◌<◌, ◌≤◌, ◌++◌, codes, length, IfSome, IfOk, Ok};
 ghost use Rattle.query_parser.specs.Descent.{Reads};
 ghost use Rattle.table_model.specs.Outcome.{Acts, Gives};
-ghost use Rattle.cluster_history.specs.Cluster.{new_cluster, new_replicas, replicas_in, empty_replica, place_of, with_message, append_step, insert_step, delete_step, ask_step, serve_step, take_step, recode_step, open_step, export_step, merged_in, query_step};
+ghost use Rattle.cluster_history.specs.Cluster.{new_cluster, new_replicas, replicas_in, empty_replica, place_of, with_message, append_step, delete_step, ask_step, serve_step, take_step, recode_step, open_step, export_step, merged_in, query_step};
 ghost use Rattle.cluster_history.specs.Message.{carried, messages_in};
 ghost use Rattle.cluster_history.specs.Run.{ActsOn, StepTo};
 
@@ -97,7 +97,7 @@ impl Cluster {
         Ok(Reply::Named(name))
     }
 
-    /// Inserts the rows at a replica.
+    /// Inserts the rows at a replica; a batch that is held with these rows stays, and that takes no memory.
     fn insert(
         &mut self,
         alloc: Global,
@@ -105,7 +105,7 @@ impl Cluster {
         name: BatchName,
         rows: &[Row],
     ) -> Result<Reply, Refusal>
-        ensures { Acts (λ reply. reply) self.old result self.new (insert_step self.old replica name rows.now) }
+        ensures { ActsOn self.old (Step.Insert replica name rows.now) result self.new }
     {
         let Some(place) = self.place_of(replica) else {
             return Err(Refusal::NoSuchReplica);

@@ -1,7 +1,8 @@
 //! Checks of canonical files.
-ghost use Rattle.std.specs.Prelude.{◌≡◌, ◌++◌, OnOk, IfOk, IfErr};
+ghost use Rattle.std.specs.Prelude.{◌≡◌, ◌≢◌, ◌++◌, OnOk, IfOk, IfErr};
 ghost use Rattle.std.specs.Io.KnownBytes.{IsAtEnd};
 ghost use Rattle.table_model.specs.Faults.{IsWithin, GaveMore};
+ghost use Rattle.table_model.specs.declared.refusal.Refusal.TheVariants.{WriteFault};
 ghost use Rattle.lanes_main.specs.FileReport.{checked_text, check_report, Reports, CountsBoth};
 
 use crate::reply_format::write_number;
@@ -26,7 +27,7 @@ fn checked_line(alloc: Global, checked: Checked) -> Result<Vec<u8>, AllocError>
 /// Checks a canonical file, and writes how many batches and maximal ranges it has: `ok batches=B ranges=R` and a line feed.
 ///
 /// Refused are the faults of [`column_file::check`], and then a write that fails (`WriteFault`), after which what was written is a
-/// front of the line. `ReadFault` is answered only where the reader's count of failures rose or it gave more than 2^48 bytes, and
+/// front of the line; before any other refusal nothing is written. `ReadFault` is answered only where the reader's count of failures rose or it gave more than 2^48 bytes, and
 /// `WriteFault` only where the writer's rose.
 pub fn check_file<R: Read, W: Write>(
     alloc: Global,
@@ -34,6 +35,7 @@ pub fn check_file<R: Read, W: Write>(
     writer: &mut Counted<W>,
 ) -> Result<(), Refusal>
     ensures told { Reports result (R.remaining reader.old.0) (W.contents writer.old.0) (W.contents writer.new.0) check_report }
+    ensures unwritten { IfErr result (λ e. e ≢ WriteFault → writer.new ≡ writer.old) }
     ensures end { OnOk result (IsAtEnd (R.remaining reader.new.0)) }
     ensures within { OnOk result (IsWithin (R.remaining reader.old.0)) }
     ensures kept { OnOk result ((reader.new.1 ≡ reader.old.1) × (writer.new.1 ≡ writer.old.1)) }

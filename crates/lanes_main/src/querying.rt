@@ -1,8 +1,9 @@
 //! Queries over a file.
-ghost use Rattle.std.specs.Prelude.{◌≡◌, map, IsTrue, OnOk, IfErr};
+ghost use Rattle.std.specs.Prelude.{◌≡◌, map, IsTrue, OnOk, IfErr, Err};
 ghost use Rattle.std.specs.Io.KnownBytes.{IsAtEnd};
 ghost use Rattle.table_model.specs.Faults.{IsWithin, GaveMore};
 ghost use Rattle.store_view.specs.Asked.{query_answer};
+ghost use Rattle.table_model.specs.declared.refusal.Refusal.TheVariants.{ReadFault};
 ghost use Rattle.lanes_main.specs.FileReport.{answer_report, answers_report, queries_report, no_report, is_refusal_of_answering, Tells, Reports, CountsWrites, CountsBoth};
 
 use crate::notes::point_at;
@@ -59,8 +60,8 @@ fn write_answers<W: Write, N: Write>(
 ///
 /// Refused are, in this order, what [`open`] refuses; and then of one query after another what it is refused as, where the answers
 /// before it are written; `Memory`; `WriteFault`. `ReadFault` is answered only where the reader's count of failures rose or it gave
-/// more than 2^48 bytes, and `WriteFault` only where the writer's rose; then, and after `Memory`, what was written is a front of the
-/// answers.
+/// more than 2^48 bytes, and then nothing is written; `WriteFault` only where the writer's rose; then, and after `Memory`, what was
+/// written is a front of the answers.
 pub fn query_file<R: Read, W: Write>(
     alloc: Global,
     reader: &mut Counted<R>,
@@ -68,6 +69,7 @@ pub fn query_file<R: Read, W: Write>(
     writer: &mut Counted<W>,
 ) -> Result<(), Refusal>
     ensures told { Reports result (R.remaining reader.old.0) (W.contents writer.old.0) (W.contents writer.new.0) (queries_report (map (λ query. query.now) queries.now)) }
+    ensures unread { result ≡ Err ReadFault → writer.new ≡ writer.old }
     ensures end { OnOk result (IsAtEnd (R.remaining reader.new.0)) }
     ensures within { OnOk result (IsWithin (R.remaining reader.old.0)) }
     ensures kept { OnOk result ((reader.new.1 ≡ reader.old.1) × (writer.new.1 ≡ writer.old.1)) }
@@ -86,6 +88,7 @@ pub fn query_file_with_notes<R: Read, W: Write, N: Write>(
     notes: &mut N,
 ) -> Result<(), Refusal>
     ensures told { Reports result (R.remaining reader.old.0) (W.contents writer.old.0) (W.contents writer.new.0) (queries_report (map (λ query. query.now) queries.now)) }
+    ensures unread { result ≡ Err ReadFault → writer.new ≡ writer.old }
     ensures end { OnOk result (IsAtEnd (R.remaining reader.new.0)) }
     ensures within { OnOk result (IsWithin (R.remaining reader.old.0)) }
     ensures kept { OnOk result ((reader.new.1 ≡ reader.old.1) × (writer.new.1 ≡ writer.old.1)) }

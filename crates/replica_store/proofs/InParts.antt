@@ -1,13 +1,11 @@
 -- Batches in two parts by an own origin: what is in order, found, put in, merged and put into another coding there.
-use Rattle.std.specs.Prelude.{◌≡◌, ◌⊎◌, ℕ, zero, suc, ◌+◌, ◌<◌, ◌≤◌, ◌-◌, ◌==◌, Bool, true, false, cond, nat_lt, nat_le, T, List, [], ◌∷◌, ◌++◌, length, take, drop, slice_get, slice_set, Option, Some, None, Result}
-use Rattle.std.proofs.Common.{refl, sym, ap, subst, ◌∙◌, arith, inl, inr, get_or, append_assoc, append-nil, Less, Equal, Greater}
+use Rattle.std.specs.Prelude.{◌≡◌, ℕ, zero, suc, ◌+◌, ◌<◌, ◌≤◌, ◌-◌, ◌==◌, true, false, cond, nat_lt, T, List, [], ◌∷◌, ◌++◌, length, take, drop, slice_get, slice_set, Option, Some, None, Result}
+use Rattle.std.proofs.Common.{refl, sym, ap, subst, ◌∙◌, arith, inl, inr, get_or, Less}
 use Rattle.std.proofs.lemmas.Bool.Decides.{nat_tests}
-use Rattle.std.proofs.lemmas.Cmp.{ranked}
 use Rattle.std.proofs.lemmas.List.{get_or-drop, get_or-take, length-append, length-drop, length-take-le, get_or_append_left, get_or-append-add}
 use Rattle.std.proofs.lemmas.List.Edits.{insert-append_left, insert-append_right}
 use Rattle.std.specs.List.{All, insert}
-use Rattle.std.specs.Ordering.{nat_cmp, is_lt, is_eq, eq_by_cmp}
-use Rattle.std.specs.declared.cmp.Ordering.{Ordering}
+use Rattle.std.specs.Ordering.{is_lt, is_eq, eq_by_cmp}
 use Rattle.std.specs.FinMap as map
 use Rattle.std.specs.FinMap.Entries.{is_sorted, below_all}
 use Rattle.std.specs.FinSet as set
@@ -17,7 +15,6 @@ use Rattle.table_model.specs.declared.names.BatchName.{BatchName}
 use Rattle.table_model.specs.declared.names.Origin.{Origin}
 use Rattle.table_model.specs.declared.refusal.Refusal.{Refusal}
 use Rattle.table_model.proofs.Joins.{or_else}
-use Rattle.table_model.proofs.Operations.{same_name}
 use Rattle.segment_core.specs.Segment.{SegmentForm}
 use Rattle.segment_core.specs.declared.coding.Coding.{Coding}
 use Rattle.replica_store.specs.Entries.{count_below, merge}

@@ -1,10 +1,10 @@
 -- What is refused in a merge depends on the other side's table and its batches alone.
-use Rattle.std.specs.Prelude.{◌≡◌, ◌≤◌, cond, Option, Some, None, Result, Ok, Err, IsOk}
-use Rattle.std.proofs.Common.{refl, sym, ap, subst, ◌∙◌}
+use Rattle.std.specs.Prelude.{◌≡◌, cond, Option, Some, None, Ok, Err, IsOk}
+use Rattle.std.proofs.Common.{refl, sym, ap, ◌∙◌}
 use Rattle.std.specs.FinMap as map
 use Rattle.table_model.specs.Outcome.{unless}
 use Rattle.table_model.specs.Name.{name_cmp}
-use Rattle.table_model.specs.State.{Batch, union_of}
+use Rattle.table_model.specs.State.{Batch}
 use Rattle.table_model.specs.Table.{Table, same_table}
 use Rattle.table_model.specs.declared.names.BatchName.{BatchName}
 use Rattle.table_model.specs.declared.refusal.Refusal.{Refusal}

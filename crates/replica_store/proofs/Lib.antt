@@ -20,4 +20,5 @@ pub mod RowValues
 pub mod VectorPlaces
 pub mod ExchangeAnswers
 pub mod Growth
+pub mod Idle
 pub mod RecodeAnswers

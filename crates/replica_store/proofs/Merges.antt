@@ -1,12 +1,12 @@
 -- A merge of two lists in order: one step of it, and that it is the union of the two maps.
-use Rattle.std.specs.Prelude.{◌≡◌, suc, ◌+◌, Bool, true, false, cond, T, List, [], ◌∷◌, ◌++◌, length, reverse, Option, Some, None, is_some}
+use Rattle.std.specs.Prelude.{◌≡◌, suc, ◌+◌, ◌≤◌, Bool, true, false, cond, T, List, [], ◌∷◌, ◌++◌, length, reverse, Option, Some, None, is_some}
 use Rattle.std.proofs.Common.{refl, sym, ap, subst, ◌∙◌, arith, append-nil, Less, Equal, Greater}
 use Rattle.std.specs.Option.{option_to_list}
 use Rattle.std.specs.Ordering.{is_lt, is_eq, eq_by_cmp, ordering_reverse}
 use Rattle.std.specs.FinMap as map
 use Rattle.std.specs.FinSet as set
 use Rattle.std.specs.FinMap.Entries.{find, is_sorted, below_all}
-use Rattle.std.proofs.lemmas.List.{reverse-append}
+use Rattle.std.proofs.lemmas.List.{reverse-append, nil_from_length}
 use Rattle.table_model.specs.Name.{name_cmp}
 use Rattle.table_model.specs.declared.names.BatchName.{BatchName}
 use Rattle.table_model.proofs.NameOrder.{names_total}
@@ -198,3 +198,18 @@ module _ {X : Type 0} where
       let by_entries : map.len (union_in (as_map es) n) ≡ map.len (as_map es) + length (lacked_by (names_of (as_map es)) (map.entries n)) =
       ap map.len (sym (as_map-merge es n g)) ∙ len-as_map _ (Sorted-union es n g) ∙ length-merge es _ ∙ ap (λ k. k + length (lacked_by (names_of (as_map es)) (map.entries n))) (sym (len-as_map es g)) in
       subst (λ (x : map.FinMap name_cmp X). map.len (union_in x n) ≡ map.len x + length (lacked_by (names_of x) (map.entries n))) same by_entries
+
+  -- a union that has no more batches than the one is the one
+  pub union-same : (m n : map.FinMap name_cmp X) → map.len (union_in m n) ≤ map.len m → union_in m n ≡ m
+  union-same m n few =
+      let fs = map.entries n in
+      let none : lacked_by (names_of m) fs ≡ [] = nil_from_length (lacked_by (names_of m) fs) (omega (arith, len-union m n)) in
+      same_maps (union_in m n) m (λ q.
+      get-union_in m n q
+      ∙ ap (or_else (map.get m q)) (map.get-entries n q)
+      ∙ sym (lacked_or m q fs (map.get m q) refl)
+      ∙ ap (λ (xs : List (BatchName × X)). or_else (map.get m q) (map.find name_cmp q xs)) none
+      ∙ or_none (map.get m q)) where
+        or_none : (o : Option X) → or_else o None ≡ o
+        or_none None = refl
+        or_none (Some x) = refl

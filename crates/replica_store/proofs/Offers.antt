@@ -1,6 +1,6 @@
 -- The batches whose names a set lacks: of a list in order, of a map, and of the rows of its segments.
-use Rattle.std.specs.Prelude.{◌≡◌, ℕ, zero, suc, ◌<◌, ◌≤◌, ◌+◌, ◌||◌, Bool, true, false, cond, not, List, [], ◌∷◌, length, Option, Some, None, is_some, drop}
-use Rattle.std.proofs.Common.{refl, sym, ap, subst, ◌∙◌, arith, get_or}
+use Rattle.std.specs.Prelude.{◌≡◌, ℕ, zero, suc, ◌<◌, ◌≤◌, ◌+◌, ◌||◌, Bool, true, false, cond, not, List, [], ◌∷◌, length, Option, None, is_some, drop}
+use Rattle.std.proofs.Common.{refl, sym, ap, ◌∙◌, arith, get_or}
 use Rattle.std.proofs.lemmas.List.{drop_all}
 use Rattle.std.specs.List.{All}
 use Rattle.std.specs.Option.{option_map}
@@ -18,7 +18,7 @@ use Rattle.replica_store.specs.Replica.{lacked_by, names_of}
 use Rattle.replica_store.specs.Segments.{Entry, IsStored, AreStored, rows_in}
 use Rattle.replica_store.specs.Exchange.{AreOffered, unlisted}
 use Rattle.replica_store.proofs.Maps.{Sorted, as_map, get-as_map}
-use Rattle.replica_store.proofs.Merges.{Sorted-lacked, find-lacked, map_of_entries}
+use Rattle.replica_store.proofs.Merges.{Sorted-lacked, find-lacked}
 use Rattle.replica_store.proofs.Names.{contains-names_of, some_cond}
 use Rattle.replica_store.proofs.RowsIn.{rows, get-rows_in}
 use Rattle.replica_store.proofs.Stored.{All-stored}

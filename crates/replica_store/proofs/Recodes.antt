@@ -1,5 +1,5 @@
 -- A segment in the place of one under the same name: the order of names stays, and the map has it there.
-use Rattle.std.specs.Prelude.{◌≡◌, ◌⊎◌, ℕ, zero, suc, ◌<◌, Bool, true, false, cond, ◌&&◌, T, List, [], ◌∷◌, ◌++◌, length, take, drop, slice_get, slice_set, Option, Some, None, option_map, is_some, Result, Ok, Err, IsOk}
+use Rattle.std.specs.Prelude.{◌≡◌, ℕ, zero, suc, ◌<◌, Bool, true, false, cond, ◌&&◌, T, List, [], ◌∷◌, ◌++◌, length, take, drop, slice_get, slice_set, Option, Some, option_map, is_some, Result, Ok, Err, IsOk}
 use Rattle.std.proofs.Common.{refl, sym, ap, subst, ◌∙◌, arith, inl, inr, Less, Equal, Greater}
 use Rattle.std.specs.Ordering.{is_lt, is_eq, eq_by_cmp, ordering_reverse}
 use Rattle.std.specs.declared.cmp.Ordering.{Ordering}
@@ -10,12 +10,11 @@ use Rattle.table_model.specs.Outcome.{Acts}
 use Rattle.table_model.specs.Name.{name_cmp}
 use Rattle.table_model.specs.declared.names.BatchName.{BatchName}
 use Rattle.table_model.specs.declared.refusal.Refusal.{Refusal}
-use Rattle.table_model.specs.declared.refusal.Refusal.TheVariants.{NoSuchVector}
 use Rattle.table_model.proofs.NameOrder.{names_total, exact_names}
 use Rattle.table_model.proofs.Operations.{same_name, itself}
 use Rattle.segment_core.specs.Segment.{SegmentForm, recoded}
 use Rattle.segment_core.specs.declared.coding.Coding.{Coding}
-use Rattle.replica_store.specs.Segments.{Entry, HoldsAt, RecodesEntries, rows_in, rows_entries, recoded_in, recoded_held, put_under}
+use Rattle.replica_store.specs.Segments.{Entry, HoldsAt, RecodesEntries, rows_in, recoded_in, recoded_held, put_under}
 use Rattle.replica_store.specs.Replica.{AreKept, names_of}
 use Rattle.replica_store.proofs.Maps.{Sorted, as_map, entries-as_map, get-as_map}
 use Rattle.replica_store.proofs.Names.{contains-names_of}

@@ -1,8 +1,7 @@
 -- A segment has a vector at a place exactly where its rows have a cell and reach so far; so a replica tells which vectors there are.
-use Rattle.std.specs.Prelude.{◌≡◌, ℕ, zero, suc, ◌+◌, ◌/◌, ◌<◌, ◌≤◌, Bool, true, false, cond, ◌&&◌, nat_lt, List, [], ◌∷◌, length, slice_get, Option, Some, None, option_map, is_some, Result, Ok, Err, IsOk}
+use Rattle.std.specs.Prelude.{◌≡◌, ℕ, zero, suc, ◌≤◌, Bool, true, false, cond, ◌&&◌, nat_lt, List, [], ◌∷◌, length, slice_get, Option, Some, None, is_some, Result, Ok, Err, IsOk}
 use Rattle.std.proofs.Common.{refl, sym, ap, subst, ◌∙◌, arith, get_or}
 use Rattle.std.proofs.lemmas.Bool.Decides.{nat_tests}
-use Rattle.std.proofs.lemmas.Option.{slice_get_read}
 use Rattle.std.specs.Ordering.{eq_by_cmp}
 use Rattle.std.specs.FinMap as map
 use Rattle.table_model.specs.Name.{name_cmp}
@@ -12,10 +11,10 @@ use Rattle.table_model.specs.declared.names.BatchName.{BatchName}
 use Rattle.table_model.specs.declared.refusal.Refusal.{Refusal}
 use Rattle.table_model.specs.declared.refusal.Refusal.TheVariants.{NoSuchVector}
 use Rattle.segment_core.specs.CodedVector.{VectorForm}
-use Rattle.segment_core.specs.Segment.{SegmentForm, batch_of, row_of, vector_at, vector_count, recoded, recoded_found, put_in, IsSegment}
+use Rattle.segment_core.specs.Segment.{SegmentForm, batch_of, vector_at, vector_count, recoded, recoded_found, put_in, IsSegment}
 use Rattle.segment_core.specs.declared.coding.Coding.{Coding}
-use Rattle.replica_store.specs.Replica.{Replica, AllFit, IsEntry, has_vector, recode_fault, vectors_of}
-use Rattle.replica_store.specs.Segments.{rows_in, recoded_in, recoded_held, put_under, HasVector}
+use Rattle.replica_store.specs.Replica.{Replica, AllFit, has_vector, recode_fault}
+use Rattle.replica_store.specs.Segments.{recoded_in, recoded_held, put_under, HasVector}
 use Rattle.replica_store.proofs.RowValues.{length-row_of, row-batch_of}
 
 lt_suc : (i n : ℕ) → nat_lt (suc i) (suc n) ≡ nat_lt i n

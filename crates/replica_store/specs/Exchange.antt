@@ -1,5 +1,5 @@
 -- Exchange: a summary tells which batches a replica has, and an offer brings it those that another replica has beside them.
-use Rattle.std.specs.Prelude.{◌≡◌, ◌≤◌, cond, ◌==◌, T, IsTrue, List, length, Result, Ok, Err, refl}
+use Rattle.std.specs.Prelude.{◌≤◌, cond, ◌==◌, T, IsTrue, List, length, Result, Ok, Err, refl}
 use Rattle.std.specs.Coded.{Coded, code_by, coded×}
 use Rattle.std.specs.List.{All}
 use Rattle.std.specs.FinMap as map

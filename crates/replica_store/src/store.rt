@@ -1,5 +1,5 @@
 //! A replica's store: a table's schema, an own origin, and a state that appends, inserts and merges change.
-ghost use Rattle.std.specs.Prelude.{◌++◌, ◌≡◌, ◌<◌, ◌≤◌, length, slice_get, Some, None, Ok, Err, IsOk, IfOk, IfErr, OnOk, OnErr, IsTrue, T};
+ghost use Rattle.std.specs.Prelude.{◌++◌, ◌≡◌, ◌<◌, ◌≤◌, length, slice_get, Some, None, Ok, Err, true, IsOk, IfOk, IfErr, OnOk, OnErr, IsTrue, T};
 ghost use Rattle.std.specs.FinMap as map;
 ghost use Rattle.std.specs.List.{All};
 ghost use Rattle.table_model.specs.Name.{name_cmp, is_proper_name};
@@ -214,14 +214,18 @@ impl Store {
     /// Takes in the other store's batches and deletions, so that the state becomes the join of both.
     ///
     /// Refused are, in this order: `SchemaDiffers`, `Conflict` with the least name that has two lists of rows, `Full` where
-    /// the union has more than 65,536 batches, `Memory`. The own origin stays.
+    /// the union has more than 65,536 batches, `Memory`. The own origin stays. Where nothing is lacked it takes no memory.
     pub fn merge(&mut self, alloc: Global, other: &Store) -> Result<(), Refusal>
         ensures acts { Acts (λ done. done) self.old.replica result self.new.replica (merged self.old.replica other.now.replica) }
         ensures segments { OnOk result (self.new.segments ≡ union_in self.old.segments other.now.segments) }
+        ensures idle { merged self.old.replica other.now.replica ≡ Ok (tt, self.old.replica) → IsOk result }
         ensures refused { OnErr result (self.new ≡ self.old) }
     {
         let (first, second) = other.batches.parts();
         self.merge_fault(&other.schema, first, second)?;
+        if self.has_all(first, second, &other.tombs) {
+            return Ok(());
+        }
         self.take_all(alloc, first, second, other.batches.names(), &other.tombs)?;
         Ok(())
     }
@@ -258,17 +262,22 @@ impl Store {
     /// and one that comes has those of the offer.
     ///
     /// Refused are, in this order: `SchemaDiffers`, `Conflict` with the least name that has two lists of rows, `Full` where
-    /// the union has more than 65,536 batches, `Memory`. The own origin stays.
+    /// the union has more than 65,536 batches, `Memory`. The own origin stays. Where nothing is lacked it takes no memory.
     pub fn apply(&mut self, alloc: Global, offer: &Offer) -> Result<(), Refusal>
         ensures acts { Acts (λ done. done) self.old.replica result self.new.replica (applied self.old.replica offer.now) }
         ensures segments { OnOk result (self.new.segments ≡ union_in self.old.segments offer.now.segments) }
+        ensures idle { applied self.old.replica offer.now ≡ Ok (tt, self.old.replica) → IsOk result }
         ensures refused { OnErr result (self.new ≡ self.old) }
     {
         let entries = offer.entries();
+        let tombs = offer.tombs();
         let (first, second) = entries.split_at(entries.len());
         self.merge_fault(offer.schema(), first, second)?;
+        if self.has_all(first, second, tombs) {
+            return Ok(());
+        }
         let names = names_held(alloc, entries)?;
-        self.take_all(alloc, first, second, &names, offer.tombs())?;
+        self.take_all(alloc, first, second, &names, tombs)?;
         Ok(())
     }
 
@@ -381,6 +390,25 @@ impl Store {
             return Err(Refusal::Full);
         }
         Ok(())
+    }
+
+    /// Whether batches of all these names, which come in two parts that follow each other, and all these deletions are here, so
+    /// that their join changes nothing.
+    fn has_all(
+        &self,
+        first: &[(BatchName, Segment)],
+        second: &[(BatchName, Segment)],
+        tombs: &Tombs,
+    ) -> bool
+        requires { T (map.is_sorted name_cmp (first.now ++ second.now)) }
+        ensures state { result ≡ true → joined_with self.now.replica (record { batches = rows_in (map.from_sorted (first.now ++ second.now)); deleted = tombs.now }) ≡ self.now.replica }
+        ensures segments { result ≡ true → union_in self.now.segments (map.from_sorted (first.now ++ second.now)) ≡ self.now.segments }
+        ensures lacking { joined_with self.now.replica (record { batches = rows_in (map.from_sorted (first.now ++ second.now)); deleted = tombs.now }) ≡ self.now.replica → result ≡ true }
+    {
+        self.tombs.has_all(tombs)
+            && !self
+                .batches
+                .union_exceeds(first, second, self.batches.len())
     }
 
     /// Takes in batches, in two parts that follow each other in ascending order of name and have these names, and deletions.

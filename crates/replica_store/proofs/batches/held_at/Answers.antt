@@ -1,5 +1,5 @@
 -- A name is held exactly at its place.
-use Rattle.std.proofs.Common.{rules, arith, ap, sym, ◌∙◌, ◌≡◌, drop, ℕ, List}
+use Rattle.std.proofs.Common.{rules, arith, sym}
 use Rattle.table_model.specs.Name.{name_cmp}
 use Rattle.table_model.proofs.NameOrder.{names_total}
 use Rattle.replica_store.proofs.Places.{count_below-le, find-none, find-other}

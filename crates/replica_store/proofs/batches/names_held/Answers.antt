@@ -1,5 +1,5 @@
 -- Each name is taken over from what is left to the names so far.
-use Rattle.std.proofs.Common.{arith, sym, ap, ◌∙◌}
+use Rattle.std.proofs.Common.{arith, ap, ◌∙◌}
 use Rattle.std.specs.Prelude.{◌||◌, is_some}
 use Rattle.std.specs.FinMap as map
 use Rattle.std.specs.FinSet as set

@@ -1,7 +1,5 @@
 -- The batches are parted by origin, where the point of parting is.
-use Rattle.std.specs.Prelude.{◌≡◌, ◌≤◌, take, drop, ℕ, List}
-use Rattle.std.proofs.Common.{rules, arith, sym, ap, ◌∙◌, get_or}
-use Rattle.std.proofs.lemmas.Bool.Decides.{nat_tests}
+use Rattle.std.proofs.Common.{rules}
 use Rattle.std.proofs.lemmas.List.Sorted.{IsPartitionPoint-from_clause}
 use Rattle.replica_store.proofs.InParts.{parted-at}
 use Rattle.replica_store.proofs.Numbers.{is_up_to, parted_by_origin}

@@ -1,5 +1,5 @@
 -- The entry goes in at its place.
-use Rattle.std.proofs.Common.{arith, sym, ap, ◌∙◌, ◌≡◌, ℕ, List, Bool, true, cond}
+use Rattle.std.proofs.Common.{arith, ap, ◌∙◌, ◌≡◌, ℕ, List, Bool, true, cond}
 use Rattle.std.specs.List.{insert}
 use Rattle.table_model.specs.Name.{name_cmp}
 use Rattle.segment_core.specs.Segment.{SegmentForm}

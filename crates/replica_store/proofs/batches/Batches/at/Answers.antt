@@ -1,13 +1,11 @@
 -- A place is in the first part, or as many places on in the second.
-use Rattle.std.specs.Prelude.{◌≡◌, ◌+◌, ◌-◌, ◌++◌, List, length, slice_get, Some}
+use Rattle.std.specs.Prelude.{◌≡◌, ◌+◌, ◌-◌, ◌++◌, List, length, slice_get}
 use Rattle.std.proofs.Common.{arith, sym, ap, ◌∙◌}
 use Rattle.std.proofs.lemmas.List.{length-append}
 use Rattle.std.specs.FinMap as map
-use Rattle.table_model.specs.Name.{name_cmp}
-use Rattle.segment_core.specs.Segment.{SegmentForm}
 use Rattle.replica_store.specs.Segments.{Entry}
 use Rattle.replica_store.proofs.InParts.{get-front, get-back}
-use Rattle.replica_store.proofs.Maps.{as_map, entries-as_map, len-as_map}
+use Rattle.replica_store.proofs.Maps.{entries-as_map, len-as_map}
 use Rattle.replica_store.proofs.batches.Batches.at.Goals as goal
 
 pub entry_at-requires-else-index-before : goal.entry_at-requires-else-index-before

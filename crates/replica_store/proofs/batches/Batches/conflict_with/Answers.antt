@@ -1,7 +1,6 @@
 -- The search goes over the other segments, part by part, and their rows are the other batches.
 use Rattle.std.specs.Prelude.{◌++◌, List}
 use Rattle.std.proofs.Common.{sym, ap, ◌∙◌}
-use Rattle.std.specs.FinMap as map
 use Rattle.replica_store.specs.Replica.{conflict_with}
 use Rattle.replica_store.specs.Segments.{Entry, rows_in, rows_entries}
 use Rattle.replica_store.proofs.InParts.{conflict-front, conflict-back}

@@ -1,5 +1,5 @@
 -- The greatest number of both parts is the greater one.
-use Rattle.std.specs.Prelude.{◌≡◌, ◌++◌, List, max}
+use Rattle.std.specs.Prelude.{◌≡◌, ◌++◌, List}
 use Rattle.std.proofs.Common.{sym, ap, subst, ◌∙◌, arith}
 use Rattle.std.specs.FinMap as map
 use Rattle.replica_store.specs.Replica.{greatest_number}

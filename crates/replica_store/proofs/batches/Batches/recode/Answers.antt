@@ -10,7 +10,7 @@ use Rattle.table_model.specs.declared.names.BatchName.{BatchName}
 use Rattle.table_model.specs.declared.refusal.Refusal.{Refusal}
 use Rattle.segment_core.specs.Segment.{SegmentForm}
 use Rattle.segment_core.specs.declared.coding.Coding.{Coding}
-use Rattle.replica_store.specs.Parted.{IsUpTo, IsPast, AreKeptInParts}
+use Rattle.replica_store.specs.Parted.{AreKeptInParts}
 use Rattle.replica_store.specs.Segments.{Entry, AreStored, RecodesEntries, rows_in, recoded_in}
 use Rattle.replica_store.proofs.InParts.{Sorted-front, Sorted-back, recodes-up_to, recodes-past}
 use Rattle.replica_store.proofs.Maps.{Sorted, as_map}

@@ -1,12 +1,11 @@
 -- The limits are kept: by a batch that goes in, and where none does.
 use Rattle.std.proofs.Common.{sym, ap, subst, ◌∙◌, ◌≡◌, ◌<◌}
 use Rattle.std.specs.FinMap as map
-use Rattle.std.specs.Prelude.{None}
 use Rattle.table_model.specs.Name.{name_cmp}
 use Rattle.table_model.specs.State.{Batch}
-use Rattle.table_model.specs.Table.{IsBatch, Table}
+use Rattle.table_model.specs.Table.{IsBatch}
 use Rattle.segment_core.specs.Segment.{SegmentForm, canonical_segment}
-use Rattle.replica_store.specs.Replica.{Replica, IsWithinLimits, with_batch}
+use Rattle.replica_store.specs.Replica.{IsWithinLimits, with_batch}
 use Rattle.replica_store.specs.Segments.{StoreForm, IsSoundStore, IsStored, AreStored, rows_in}
 use Rattle.replica_store.proofs.Limits.{IsWithinLimits-insert}
 use Rattle.replica_store.proofs.RowsIn.{rows_in-insert, unheld}

@@ -1,15 +1,13 @@
 -- The vector's place is the map's, and each of the map's batches has a proper name and rows that fit.
-use Rattle.std.specs.Prelude.{◌≡◌, ℕ, ◌<◌, List, length, Some}
-use Rattle.std.proofs.Common.{arith, get_or, sym, ap, subst, ◌∙◌, refl}
+use Rattle.std.specs.Prelude.{◌≡◌, ℕ, ◌<◌, Some}
+use Rattle.std.proofs.Common.{arith, sym, ap, subst, ◌∙◌}
 use Rattle.std.specs.FinMap as map
 use Rattle.std.specs.List.{slice_get}
-use Rattle.std.proofs.lemmas.Option.{slice_get_read}
 use Rattle.table_model.specs.Name.{name_cmp}
-use Rattle.table_model.specs.State.{Batch}
-use Rattle.table_model.specs.Table.{Table, IsBatch}
+use Rattle.table_model.specs.Table.{IsBatch}
 use Rattle.segment_core.specs.Segment.{SegmentForm, widths_of}
 use Rattle.replica_store.specs.Replica.{entries_of}
-use Rattle.replica_store.specs.Segments.{StoreForm, Entry, rows_in, rows_entries}
+use Rattle.replica_store.specs.Segments.{StoreForm, Entry, rows_in}
 use Rattle.replica_store.proofs.RowsIn.{entries-rows_in, len-rows_in, slice_get-rows}
 use Rattle.replica_store.proofs.Stored.{IsStored-at}
 use Rattle.replica_store.proofs.store.Store.batch.Goals as goal

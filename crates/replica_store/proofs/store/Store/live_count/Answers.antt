@@ -1,10 +1,10 @@
 -- The live rows of the state are counted batch by batch, in both parts.
-use Rattle.std.specs.Prelude.{◌≡◌, ◌+◌, ◌++◌, List}
+use Rattle.std.specs.Prelude.{◌+◌}
 use Rattle.std.proofs.Common.{arith, sym, ap, subst, ◌∙◌, length}
 use Rattle.std.proofs.lemmas.List.{length-append}
 use Rattle.std.specs.FinMap as map
 use Rattle.replica_store.specs.Replica.{AllShort, live_count, live_total}
-use Rattle.replica_store.specs.Segments.{StoreForm, Entry, rows_in, rows_entries, live_in, AreShort}
+use Rattle.replica_store.specs.Segments.{StoreForm, rows_in, live_in, AreShort}
 use Rattle.replica_store.proofs.Counts.{AllShort-fit, length-live_rows}
 use Rattle.replica_store.proofs.InParts.{live-append, short-front, short-back}
 use Rattle.replica_store.proofs.RowsIn.{entries-rows_in, len-rows_in, live-rows, live_in-le, short-rows}

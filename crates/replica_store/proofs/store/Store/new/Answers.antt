@@ -1,13 +1,12 @@
 -- A new store has no batch.
-use Rattle.std.proofs.Common.{sym, ap, subst, ◌∙◌, arith}
+use Rattle.std.proofs.Common.{sym, subst, arith}
 use Rattle.std.specs.FinMap as map
 use Rattle.std.proofs.lemmas.Bool.Decides.{nat_tests}
 use Rattle.table_model.specs.Name.{name_cmp}
 use Rattle.table_model.specs.State.{Batch}
 use Rattle.replica_store.specs.Replica.{IsWithinLimits}
-use Rattle.replica_store.specs.Segments.{AreStored, rows_in}
+use Rattle.replica_store.specs.Segments.{AreStored}
 use Rattle.replica_store.proofs.Limits.{IsWithinLimits-empty}
-use Rattle.replica_store.proofs.RowsIn.{rows_in-empty}
 use Rattle.replica_store.proofs.Stored.{AreStored-empty}
 use Rattle.replica_store.proofs.store.Store.new.Goals as goal
 

@@ -1,5 +1,5 @@
 -- The batches that the summary lacks are those of the map that aren't listed.
-use Rattle.std.specs.Prelude.{◌≡◌, Bool, true, cond, List, Result, Ok, Err}
+use Rattle.std.specs.Prelude.{◌≡◌, Bool, true, cond, Result, Ok, Err}
 use Rattle.std.proofs.Common.{arith, sym, ap, subst, ◌∙◌}
 use Rattle.std.specs.FinMap as map
 use Rattle.table_model.specs.Name.{name_cmp}
@@ -9,7 +9,7 @@ use Rattle.table_model.specs.Table.{Table, same_table}
 use Rattle.table_model.specs.declared.refusal.Refusal.{Refusal}
 use Rattle.table_model.specs.declared.refusal.Refusal.TheVariants.{SchemaDiffers}
 use Rattle.replica_store.specs.Replica.{Replica, lacked_by}
-use Rattle.replica_store.specs.Segments.{StoreForm, Entry, rows_in}
+use Rattle.replica_store.specs.Segments.{StoreForm, rows_in}
 use Rattle.replica_store.specs.Exchange.{SummaryForm, AreOffered, unlisted, unlisted_state, offered}
 use Rattle.replica_store.proofs.Maps.{as_map}
 use Rattle.replica_store.proofs.Merges.{map_of_entries}

@@ -1,5 +1,5 @@
 -- The entries are those of the map of segments, and each of them may be held.
-use Rattle.std.specs.Prelude.{◌++◌, List}
+use Rattle.std.specs.Prelude.{List}
 use Rattle.std.proofs.Common.{sym, ap, subst, ◌∙◌}
 use Rattle.std.specs.List.{All}
 use Rattle.std.specs.FinMap as map

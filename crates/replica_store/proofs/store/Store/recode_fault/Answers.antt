@@ -1,10 +1,9 @@
 -- The held segment's rows tell whether it has the vector.
 use Rattle.std.proofs.Common.{◌≡◌, ◌∙◌, sym, ap, subst}
-use Rattle.std.specs.Prelude.{true, false, Some, None, Option, IsOk}
+use Rattle.std.specs.Prelude.{true, false, Some, None, IsOk}
 use Rattle.std.specs.Option.{option_copied, option_map}
 use Rattle.std.specs.FinMap as map
 use Rattle.table_model.specs.Outcome.{unless}
-use Rattle.segment_core.specs.Segment.{SegmentForm}
 use Rattle.replica_store.specs.Replica.{Replica, recode_fault}
 use Rattle.replica_store.specs.Segments.{StoreForm, rows_in, recoded_in, HasVector}
 use Rattle.replica_store.proofs.RowsIn.{rows, get-rows_in}

@@ -1,11 +1,7 @@
 -- The names that are held are listable, and those of the batches.
 use Rattle.std.proofs.Common.{arith, sym, ap, subst, ◌∙◌, Ok}
-use Rattle.std.specs.FinMap as map
-use Rattle.std.specs.FinSet as set
-use Rattle.table_model.specs.Name.{name_cmp}
-use Rattle.replica_store.specs.Replica.{names_of}
-use Rattle.replica_store.specs.Segments.{StoreForm, rows_in}
-use Rattle.replica_store.specs.Exchange.{SummaryForm, AreListable, summary_of}
+use Rattle.replica_store.specs.Segments.{StoreForm}
+use Rattle.replica_store.specs.Exchange.{AreListable, summary_of}
 use Rattle.replica_store.proofs.RowsIn.{len-rows_in}
 use Rattle.replica_store.proofs.Summaries.{AreListable-names, names_of-rows_in}
 use Rattle.replica_store.proofs.store.Store.summary.Goals as goal

@@ -4,9 +4,8 @@ use Rattle.std.proofs.Common.{sym, ap, subst, ◌∙◌, ◌≡◌, ◌≤◌}
 use Rattle.std.specs.FinMap as map
 use Rattle.table_model.specs.Name.{name_cmp}
 use Rattle.table_model.specs.State.{State, Batch, union_of}
-use Rattle.table_model.specs.Table.{Table}
 use Rattle.segment_core.specs.Segment.{SegmentForm}
-use Rattle.replica_store.specs.Replica.{Replica, IsWithinLimits, joined_with}
+use Rattle.replica_store.specs.Replica.{IsWithinLimits, joined_with}
 use Rattle.replica_store.specs.Segments.{StoreForm, IsSoundStore, AreStored, rows_in, union_in}
 use Rattle.replica_store.proofs.Limits.{IsWithinLimits-union}
 use Rattle.replica_store.proofs.Maps.{as_map}

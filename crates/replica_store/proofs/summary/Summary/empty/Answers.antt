@@ -1,7 +1,5 @@
 -- No name is listed, so each is proper.
-use Rattle.std.proofs.Common.{arith, sym, ap, subst, ◌∙◌}
-use Rattle.std.specs.FinSet as set
-use Rattle.table_model.specs.Name.{name_cmp}
+use Rattle.std.proofs.Common.{sym, subst}
 use Rattle.replica_store.specs.Exchange.{AreListable}
 use Rattle.replica_store.proofs.Summaries.{AreListable-empty}
 use Rattle.replica_store.proofs.summary.Summary.empty.Goals as goal
