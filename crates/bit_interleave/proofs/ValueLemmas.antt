@@ -3,10 +3,11 @@ use Rattle.std.proofs.Common.{◌≡◌, ℕ, ◌*◌, ◌/◌, ◌%◌, ◌^◌
 use Rattle.std.specs.List.{All}
 use Rattle.std.proofs.lemmas.List.Elements.{All-from_get_or}
 use Rattle.std.proofs.lemmas.List.FromFn.{length-map-range_with_len}
-use Rattle.transpose_order.specs.Place.{lane_of, step_of}
+use Rattle.transpose_order.specs.Place.{IsLaneWidth, lane_of, step_of}
+use Rattle.transpose_order.proofs.WidthLemmas.{at_widths}
 use Rattle.transpose_order.specs.MaskWords.{length-rows_of, get_or-rows_of}
 use Rattle.bit_interleave.specs.Packing.{packed_value, unpacked, packed_word, packed}
-use Rattle.bit_interleave.specs.PackedWords.{words_packing, HasWidth}
+use Rattle.bit_interleave.specs.PackedWords.{PackedWords, words_packing, HasWidth, packed_width}
 use Rattle.bit_interleave.proofs.StepLemmas.{packed_value-below}
 
 -- ---- values
@@ -31,3 +32,12 @@ length-packed t w values =
 
 pub HasWidth-words_packing : (t w : ℕ) (values : List ℕ) → w ≤ t → HasWidth (words_packing t w values) w
 HasWidth-words_packing t w values h = record { fits = h; count = length-packed t w values }
+
+-- words have no width but one
+pub packed_width-of : (words : PackedWords) (w : ℕ) → IsLaneWidth words.lane_width → HasWidth words w → packed_width words ≡ w
+packed_width-of words w width has =
+    at_widths (λ t. length words.numbers ≡ w * (1024 / t) → length words.numbers / (1024 / t) ≡ w) (λ e. omega (arith, e)) (λ e. omega (arith, e)) (λ e. omega (arith, e)) (λ e. omega (arith, e)) words.lane_width width has.count
+
+pub packed_width-words_packing : (t w : ℕ) (values : List ℕ) → IsLaneWidth t → w ≤ t → packed_width (words_packing t w values) ≡ w
+packed_width-words_packing t w values width within =
+    packed_width-of (words_packing t w values) w width (HasWidth-words_packing t w values within)

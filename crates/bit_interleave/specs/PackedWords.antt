@@ -20,3 +20,7 @@ words_packing t w values = record { lane_width = t; numbers = packed t w values 
 pub record HasWidth (words : PackedWords) (w : ℕ) : Type 0 where
   pub fits : w ≤ words.lane_width
   pub count : length words.numbers ≡ w * (1024 / words.lane_width)
+
+-- the bits of each value where words pack 1024 of them: no other width has as many words
+abbrev pub packed_width : PackedWords → ℕ
+packed_width words = length words.numbers / (1024 / words.lane_width)

@@ -4,7 +4,7 @@ ghost use Rattle.std.specs.List.{All};
 ghost use Rattle.std.specs.Simd.Lanes.{Each1};
 ghost use Rattle.transpose_order.specs.Place.{IsLaneWidth};
 ghost use Rattle.bit_interleave.specs.Packing.{sixteen_of, packed_value, unpacked, packed};
-ghost use Rattle.bit_interleave.specs.PackedWords.{PackedWords, words_packing, HasWidth, FitLanes};
+ghost use Rattle.bit_interleave.specs.PackedWords.{PackedWords, words_packing, HasWidth, FitLanes, packed_width};
 ghost use Rattle.bit_interleave.specs.PackedBytes.{bytes_of, words_of_bytes};
 
 use crate::lane_word::LaneWord;
@@ -189,6 +189,18 @@ impl Words {
         ensures { IsTrue result ↔ (length self.now.numbers ≡ 0) }
     {
         self.len() == 0
+    }
+
+    /// The bits of each value, where the words pack 1024 of them: `len()` by the number of lanes, `1024 / lane_width`.
+    pub fn packed_width(&self) -> usize
+        ensures { result ≡ packed_width self.now }
+    {
+        match &self.stored {
+            Stored::U8(words) => words.len() / 128,
+            Stored::U16(words) => words.len() / 64,
+            Stored::U32(words) => words.len() / 32,
+            Stored::U64(words) => words.len() / 16,
+        }
     }
 
     /// The number of word `i`, which is below `len()`.

@@ -30,7 +30,7 @@ use Rattle.replica_store.proofs.RowsIn.{entries-rows_in}
 use Rattle.column_file.specs.SchemaBytes.{schema}
 use Rattle.column_file.specs.SummaryBytes.{version, head, any_name, proper_name, is_after, batch_name, name_count}
 use Rattle.column_file.specs.ContainerBytes.{row_count, Entry, entry_of, name_of, batch, batches, Deleted, deleted_of, is_named, is_range, ends_before, begins_after, range_parts, range, ranges, container, IsFound}
-use Rattle.column_file.specs.Files.{range_of, segments_of, offer_held, offer_read, file_of, canonical_entry, canonical_file, judged, canonical_read, IsNumbered, HasFile, FilesOpen, SameFileSameState}
+use Rattle.column_file.specs.Files.{range_of, segments_of, offer_held, offer_read, file_of, canonical_entry, canonical_file, judged, canonical_read, IsNumbered, HasFile, OpensTo, FilesOpen, FilesOpenToOne, SameFileSameState}
 use Rattle.column_file.proofs.ContainerLaws.{container_is_lawful}
 use Rattle.column_file.proofs.OfferReading.{after_last, held_back, range_back, true_T}
 use Rattle.column_file.proofs.Openings.{same_itself}
@@ -227,13 +227,17 @@ files_open t state h =
     let whole : canonical_read (canonical_file t state) ≡ Ok (offer_held c) = ap (λ (r : Result OfferForm Refusal). r >>= judged (canonical_file t state)) is ∙ judged_ok in
     (offer_held c, whole, refl, same, segments)
 
-pub same_file_same_state : SameFileSameState
-same_file_same_state s t a b h k e =
-    let f = files_open s a h in
-    let g = files_open t b k in
-    let both : one f.0 ≡ one g.0 = sym f.1 ∙ ap canonical_read e ∙ g.1 in
+-- what bytes open to is one table and one state
+pub files_open_to_one : FilesOpenToOne
+files_open_to_one bytes s t a b f g =
+    let both : one f.0 ≡ one g.0 = sym f.1 ∙ g.1 in
     let same : f.0 ≡ g.0 = cc in
     (sym f.2 ∙ ap (λ (o : OfferForm). o.schema) same ∙ g.2, sym f.3 ∙ ap (λ (o : OfferForm). o.state) same ∙ g.3)
   where
     one : OfferForm → Result OfferForm Refusal
     one o = Ok o
+
+pub same_file_same_state : SameFileSameState
+same_file_same_state s t a b h k e =
+    let P : List ℕ → Type 0 = λ bytes. OpensTo bytes t b in
+    files_open_to_one (canonical_file s a) s t a b (files_open s a h) (subst P (sym e) (files_open t b k))

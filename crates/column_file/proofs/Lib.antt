@@ -15,5 +15,6 @@ pub mod OfferReading
 pub mod CanonicalWriting
 pub mod Openings
 pub mod FileLaws
+pub mod HasFiles
 pub mod Comparisons
 pub mod OpenedSegments

@@ -22,11 +22,11 @@ use Rattle.segment_core.proofs.NumberLaws.{number_valid}
 use Rattle.replica_store.specs.Replica.{Replica, IsWithinLimits}
 use Rattle.replica_store.specs.Segments.{Entry as Held, StoreForm, IsStored, rows_in, rows_entries}
 use Rattle.replica_store.specs.Exchange.{OfferForm, AreOffered, offering, opened}
-use Rattle.replica_store.proofs.RowsIn.{entries-rows_in}
 use Rattle.column_file.specs.SummaryBytes.{any_name, proper_name, is_after, batch_name}
 use Rattle.column_file.specs.ContainerBytes.{row_count, Entry, entry_of, name_of, batch, Deleted, container}
-use Rattle.column_file.specs.Files.{canonical_entry, canonical_file, judged, canonical_read, first_difference, AreCanonicalOf, IsCanonicalHeld, IsNumbered, HasFile}
+use Rattle.column_file.specs.Files.{canonical_entry, canonical_file, judged, canonical_read, first_difference, AreCanonicalOf, IsCanonicalHeld, IsNumbered, AreNumbered, HasFile}
 use Rattle.column_file.proofs.FileLaws.{files_open}
+use Rattle.column_file.proofs.HasFiles.{entries_are, has_file}
 use Rattle.column_file.proofs.OfferReading.{container_parts}
 
 -- ---- batches that were read canonical
@@ -40,13 +40,10 @@ canonical_entries t (e ∷ items) stored canonical =
     let rest = canonical_entries t items (λ k d below. stored (suc k) d (omega (arith, below))) (λ k d below. canonical (suc k) d (omega (arith, below))) in
     λ i. (e.0, record { rows = e.1.rows; forms = same i }) ∷ rest i
 
-entries_are : (o : OfferForm) (items : List Held) → o.state.batches ≡ rows_in o.segments → finite.entries o.segments ≡ items → finite.entries o.state.batches ≡ rows_entries items
-entries_are o items batches entries = ap finite.entries batches ∙ entries-rows_in o.segments ∙ ap rows_entries entries
-
 pub canonical_segments : (o : OfferForm) (items : List Held) → AreOffered o.schema items → o.state.batches ≡ rows_in o.segments → finite.entries o.segments ≡ items → All IsCanonicalHeld items → AreCanonicalOf o.schema o.state.batches o.segments
 canonical_segments o items offered batches entries canonical =
     entries ∙ canonical_entries o.schema items offered.stored canonical
-    ∙ ap (λ (es : List (BatchName × Batch)). map (canonical_entry o.schema) es) (sym (entries_are o items batches entries))
+    ∙ ap (λ (es : List (BatchName × Batch)). map (canonical_entry o.schema) es) (sym (entries_are o.state.batches o.segments items batches entries))
 
 -- ---- what was read has a file
 
@@ -61,7 +58,7 @@ numbered t front e valid =
     let serial = number_valid 4 e.0.number.0 y.1 in
     record { origin = omega arith; number = omega arith }
 
-each_numbered : (t : Table) (front : List Entry) (items : List Held) → valid_all (batch t) front (map entry_of items) ≡ true → AllByRecursion (λ (e : BatchName × Batch). IsNumbered e.0) (rows_entries items)
+each_numbered : (t : Table) (front : List Entry) (items : List Held) → valid_all (batch t) front (map entry_of items) ≡ true → AllByRecursion (λ (e : Held). IsNumbered e.0) items
 unfolding valid_all
 each_numbered t front [] valid = tt
 each_numbered t front (x ∷ items) valid =
@@ -72,17 +69,8 @@ pub read_has_file : (bytes : List ℕ) (o : OfferForm) (items : List Held) (ds :
     → finite.entries o.segments ≡ items → AreMaximal rs → rows_deleted rs ≡ o.state.deleted → length rs < 18446744073709551616 → HasFile o.schema o.state
 read_has_file bytes o items ds rs fit is table within batches entries maximal rows count =
     let p = container_parts bytes o.schema (map entry_of items) ds fit is in
-    let AllOf : List (BatchName × Batch) → Type 0 = λ es. All (λ (e : BatchName × Batch). IsNumbered e.0) es in
-    let listed = All-from_recursion (λ (e : BatchName × Batch). IsNumbered e.0) (rows_entries items) (each_numbered o.schema [] items p.batches) in
-    record {
-      schema = table;
-      within = within;
-      names = subst AllOf (sym (entries_are o items batches entries)) listed;
-      ranges = rs;
-      maximal = maximal;
-      rows = rows;
-      count = count;
-    }
+    let numbered : AreNumbered items = All-from_recursion (λ (e : Held). IsNumbered e.0) items (each_numbered o.schema [] items p.batches) in
+    has_file o.schema o.state o.segments items rs table within batches entries numbered maximal rows count
 
 -- ---- what was compared
 

@@ -145,6 +145,10 @@ pub record IsNumbered (name : BatchName) : Type 0 where
   pub origin : name.origin.0 < 4294967296
   pub number : name.number.0 < 4294967296
 
+-- the names of batches are in their ranges
+abbrev pub AreNumbered : List Held → Type 0
+AreNumbered entries = All (λ (e : Held). IsNumbered e.0) entries
+
 -- What a table's state has that has a file: a schema, batches within the limits, whose names are numbered, and deleted rows in maximal
 -- ranges, not more than 8 bytes count.
 pub record HasFile (table : Table) (state : State) : Type 0 where
@@ -169,3 +173,7 @@ FilesOpen = (table : Table) (state : State) → HasFile table state → OpensTo 
 abbrev pub SameFileSameState : Type 0
 SameFileSameState =
     (s t : Table) (a b : State) → HasFile s a → HasFile t b → canonical_file s a ≡ canonical_file t b → (s ≡ t) × (a ≡ b)
+
+-- a file opens to one table and one state
+abbrev pub FilesOpenToOne : Type 0
+FilesOpenToOne = (bytes : List ℕ) (s t : Table) (a b : State) → OpensTo bytes s a → OpensTo bytes t b → (s ≡ t) × (a ≡ b)

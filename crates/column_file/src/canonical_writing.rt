@@ -1,11 +1,11 @@
 //! Writing the canonical file of a table's rows and deletions: each vector in its canonical form, and maximal ranges.
-ghost use Rattle.std.specs.Prelude.{◌≡◌, ◌≤◌, ◌+◌, ◌++◌, List, length, map, IfOk};
+ghost use Rattle.std.specs.Prelude.{◌≡◌, ◌≤◌, ◌+◌, ◌++◌, List, length, map, IfOk, OnOk};
 ghost use Rattle.std.specs.List.{All};
 ghost use Rattle.segment_core.specs.Format.{Format, Writes, all};
 ghost use Rattle.segment_core.specs.Segment.{canonical_again};
 ghost use Rattle.replica_store.specs.Segments.{IsStored};
 ghost use Rattle.column_file.specs.ContainerBytes.{batch, batches, deleted_of, container};
-ghost use Rattle.column_file.specs.Files.{chosen, AreChosen, canonical_as_read, canonical_file, Exports};
+ghost use Rattle.column_file.specs.Files.{chosen, AreChosen, AreNumbered, canonical_as_read, canonical_file, Exports, HasFile, OpensTo};
 
 use crate::container_reading::CONTAINER;
 use crate::container_writing::{write_batch, write_ranges};
@@ -61,8 +61,9 @@ fn write_canonical_list<W: Write>(
 ) -> Result<(), Refusal>
     requires stored { All (IsStored schema.now) entries.now }
     requires made { AreChosen entries.now made.now }
-    ensures { Writes result (W.contents writer.old.0) (W.contents writer.new.0) writer.old.1 writer.new.1
+    ensures bytes { Writes result (W.contents writer.old.0) (W.contents writer.new.0) writer.old.1 writer.new.1
         ((all (length entries.now) (batch schema.now)).spell (map (canonical_as_read schema.now) entries.now)) }
+    ensures numbered { OnOk result (AreNumbered entries.now) }
 {
     let _ = schema;
     for index in 0..entries.len() {
@@ -88,8 +89,9 @@ fn write_canonical_batches<W: Write>(
     requires first_made { AreChosen first.now first_made.now }
     requires second { All (IsStored schema.now) second.now }
     requires second_made { AreChosen second.now second_made.now }
-    ensures { Writes result (W.contents writer.old.0) (W.contents writer.new.0) writer.old.1 writer.new.1
+    ensures bytes { Writes result (W.contents writer.old.0) (W.contents writer.new.0) writer.old.1 writer.new.1
         ((batches schema.now).spell (map (canonical_as_read schema.now) (first.now ++ second.now))) }
+    ensures numbered { OnOk result (AreNumbered (first.now ++ second.now)) }
 {
     write_number(writer, (first.len() + second.len()) as u64, 4)?;
     write_canonical_list(writer, schema, first, first_made)?;
@@ -111,8 +113,9 @@ fn write_canonical<W: Write>(
     requires first_made { AreChosen first.now first_made.now }
     requires second { All (IsStored schema.now) second.now }
     requires second_made { AreChosen second.now second_made.now }
-    ensures { Writes result (W.contents writer.old.0) (W.contents writer.new.0) writer.old.1 writer.new.1
+    ensures bytes { Writes result (W.contents writer.old.0) (W.contents writer.new.0) writer.old.1 writer.new.1
         (container.spell (schema.now, (map (canonical_as_read schema.now) (first.now ++ second.now), map deleted_of deleted.now))) }
+    ensures numbered { OnOk result (AreNumbered (first.now ++ second.now)) }
 {
     write_head(writer, &CONTAINER, schema)?;
     write_canonical_batches(writer, schema, first, first_made, second, second_made)?;
@@ -130,16 +133,22 @@ pub fn export<W: Write>(
     store: &Store,
     writer: &mut Counted<W>,
 ) -> Result<(), Refusal>
-    ensures { Exports result (W.contents writer.old.0) (W.contents writer.new.0) writer.old.1 writer.new.1 (canonical_file store.now.replica.schema store.now.replica.state) }
+    ensures written { Exports result (W.contents writer.old.0) (W.contents writer.new.0) writer.old.1 writer.new.1 (canonical_file store.now.replica.schema store.now.replica.state) }
+    ensures file { OnOk result (HasFile store.now.replica.schema store.now.replica.state) }
+
+    // What was written opens to the store's schema and state.
+    ensures opens { OnOk result (OpensTo (canonical_file store.now.replica.schema store.now.replica.state) store.now.replica.schema store.now.replica.state) }
 {
-    // `batches` ensures that there are at most 65,536.
+    // `batches` ensures that there are at most 65,536, within the limits, and `column_list` that the schema is a table's.
     let _count = store.batches();
+    let schema = store.schema();
+    let _columns = schema.column_list();
     let (first, second) = store.parts();
     let first_made = canonical_copies(alloc, first)?;
     let second_made = canonical_copies(alloc, second)?;
     write_canonical(
         writer,
-        store.schema(),
+        schema,
         first,
         first_made.as_slice(),
         second,

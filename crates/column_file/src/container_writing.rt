@@ -7,6 +7,7 @@ ghost use Rattle.segment_core.specs.Format.{Format, Writes, all};
 ghost use Rattle.segment_core.specs.Segment.{widths_in, widths_of};
 ghost use Rattle.replica_store.specs.Segments.{IsStored};
 ghost use Rattle.column_file.specs.ContainerBytes.{Entry, entry_of, batch, batches, Deleted, deleted_of, range, ranges, container};
+ghost use Rattle.column_file.specs.Files.{IsNumbered};
 
 use crate::container_reading::CONTAINER;
 use crate::summary_writing::{write_batch_name, write_head};
@@ -20,8 +21,9 @@ pub(crate) fn write_batch<W: Write>(
     name: BatchName,
     segment: &Segment,
 ) -> Result<(), Refusal>
-    ensures { (table : Table) (front : List Entry) → widths_in segment.now.forms ≡ widths_of table
+    ensures bytes { (table : Table) (front : List Entry) → widths_in segment.now.forms ≡ widths_of table
         → Writes result (W.contents writer.old.0) (W.contents writer.new.0) writer.old.1 writer.new.1 ((batch table front).spell (entry_of (name, segment.now))) }
+    ensures numbered { IsNumbered name }
 {
     let rows = segment.rows();
     write_batch_name(writer, name)?;

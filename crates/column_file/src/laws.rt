@@ -1,6 +1,6 @@
 //! The laws of the formats of files and messages.
 ghost use Rattle.column_file.specs.ContainerBytes.{ContainersComeBack};
-ghost use Rattle.column_file.specs.Files.{FilesOpen, SameFileSameState};
+ghost use Rattle.column_file.specs.Files.{FilesOpen, FilesOpenToOne, SameFileSameState};
 ghost use Rattle.column_file.specs.SchemaBytes.{SchemasComeBack};
 ghost use Rattle.column_file.specs.SummaryBytes.{SummariesComeBack};
 
@@ -19,9 +19,10 @@ pub fn containers_and_bytes_come_back()
     ensures { ContainersComeBack }
 {}
 
-/// The law that a canonical file opens to the table and the state that it was exported from, and that no other table or state has
-/// it.
+/// The law that a canonical file opens to the table and the state that it was exported from, that no other table or state has it,
+/// and that bytes open to one table and state. [`export`](crate::export) ensures what this asks of a table and a state.
 pub fn files_and_states_come_back()
     ensures opens { FilesOpen }
     ensures same { SameFileSameState }
+    ensures one { FilesOpenToOne }
 {}

@@ -19,23 +19,24 @@ use transpose_order::{place, place_in_word};
 
 /// A vector of 1024 signed integers of 8, 16, 32 or 64 bits, in each lane a base and the differences of neighbours, each the
 /// least delta plus a packed number, modulo two to the power of the lane width. Coded in the manner of FastLanes (VLDB 2023),
-/// delta coding; the order of rows, the least delta below the packed numbers and the payload are our own.
+/// delta coding; the order of rows, the least delta below the packed numbers and the payload are our own. The width of the packed
+/// numbers is told by how many words there are.
 #[derive(Drop)]
 pub struct Delta {
-    width: usize,
     least: i64,
     bases: Vec<i64>,
     words: Words,
 }
 
 impl Model for Delta {
+    ghost use Rattle.bit_interleave.specs.PackedWords.{packed_width};
     ghost use Rattle.frame_delta.specs.Delta.{DeltaForm, IsDeltaForm};
 
     ghost Value = { DeltaForm };
 
-    ghost view = { λ c. record { lane_width = c.words.lane_width; width = c.width; least = c.least; bases = c.bases.items; words = c.words } };
+    ghost view = { λ c. record { lane_width = c.words.lane_width; width = packed_width c.words; least = c.least; bases = c.bases.items; words = c.words } };
 
-    ghost invariant = { λ c. IsDeltaForm (record { lane_width = c.words.lane_width; width = c.width; least = c.least; bases = c.bases.items; words = c.words }) };
+    ghost invariant = { λ c. IsDeltaForm (record { lane_width = c.words.lane_width; width = packed_width c.words; least = c.least; bases = c.bases.items; words = c.words }) };
 }
 
 /// The bits of sixteen bases from place `at` on.
@@ -122,7 +123,6 @@ impl Delta {
         let bases = bases_of(alloc, lane_width, least, values)?;
         let words = Words::pack(alloc, lane_width, width, &gaps)?;
         Ok(Delta {
-            width,
             least,
             bases,
             words,
@@ -146,10 +146,9 @@ impl Delta {
         requires bases { AreInRange lane_width bases.items }
         ensures { result ≡ record { lane_width = lane_width; width = width; least = least; bases = bases.items; words = words } }
     {
-        // `len` ensures that the words fit their lanes, which a form's rule names.
-        let _ = (lane_width, words.len());
+        // `len` ensures that the words fit their lanes, which a form's rule names; the width is told by the words.
+        let _ = (lane_width, width, words.len());
         Delta {
-            width,
             least,
             bases,
             words,
@@ -161,7 +160,8 @@ impl Delta {
         ensures values { values.new ≡ delta_values self.now }
         ensures fit { AreInRange self.now.lane_width values.new }
     {
-        let (width, least, words) = (self.width, self.least, &self.words);
+        let (least, words) = (self.least, &self.words);
+        let width = words.packed_width();
         let bases = self.bases.as_slice();
         match words.lane_width() {
             8 => write_sums(width, least, bases, words.words_8(), values),
@@ -179,10 +179,11 @@ impl Delta {
     {
         let lane_width = self.words.lane_width();
         let (lane, last) = place(lane_width, row);
+        let width = self.words.packed_width();
         let least = self.least.cast_unsigned();
         let mut sum = self.bases[lane].cast_unsigned();
         for step in 0..last + 1 {
-            let number = self.words.value(self.width, lane, step);
+            let number = self.words.value(width, lane, step);
             sum = sum.wrapping_add(least).wrapping_add(number);
         }
         wrap(lane_width, sum)
@@ -201,7 +202,8 @@ impl Delta {
         let group = piece / lane_width;
         let step = piece % lane_width;
         let from = lanes_before(step, before, self.bases.as_slice(), 16 * group);
-        let numbers = self.words.step(self.width, group, step);
+        let width = self.words.packed_width();
+        let numbers = self.words.step(width, group, step);
         added(raised(from, self.least.cast_unsigned()), numbers)
     }
 
@@ -210,14 +212,15 @@ impl Delta {
         ensures { IsTrue result ↔ (self.now ≡ least_delta self.now.lane_width (delta_values self.now)) }
     {
         let lane_width = self.words.lane_width();
+        let width = self.words.packed_width();
         let mut numbers = [0; 1024];
-        self.words.unpack(self.width, &mut numbers);
+        self.words.unpack(width, &mut numbers);
         if !starts_at_zero(lane_width, &numbers) {
             return false;
         }
         let any = numbers[1];
         fill_first_steps(lane_width, any, &mut numbers);
-        spread_of(&numbers).is_tight(lane_width, self.width, self.least)
+        spread_of(&numbers).is_tight(lane_width, width, self.least)
     }
 
     /// The lane width in bits: 8, 16, 32 or 64.
@@ -234,7 +237,7 @@ impl Delta {
         ensures value { result ≡ self.now.width }
         ensures bound { result ≤ self.now.lane_width }
     {
-        self.width
+        self.words.packed_width()
     }
 
     /// The least delta, in the range of the lane width, signed.
@@ -266,7 +269,7 @@ impl Delta {
     pub fn bytes_len(&self) -> u16
         ensures { result ≡ delta_bytes self.now }
     {
-        (self.words.lane_width() / 8 + 128 + 128 * self.width) as u16
+        (self.words.lane_width() / 8 + 128 + 128 * self.words.packed_width()) as u16
     }
 
     /// The same vector in memory of its own. Where memory is refused, an `AllocError`.
@@ -276,7 +279,6 @@ impl Delta {
         let bases = Vec::from_slice(alloc, self.bases.as_slice())?;
         let words = self.words.copy(alloc)?;
         Ok(Delta {
-            width: self.width,
             least: self.least,
             bases,
             words,

@@ -19,3 +19,4 @@ pub mod ListLemmas
 pub mod RaisedLemmas
 pub mod RowsLemmas
 pub mod WalkFoldLemmas
+pub mod CodeLemmas

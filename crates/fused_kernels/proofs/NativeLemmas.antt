@@ -1,6 +1,7 @@
 -- Bits of lanes, and of words that hold the bits of several lanes.
 use Rattle.std.proofs.Common.{true, false, ◌≡◌, ℕ, ◌+◌, ◌-◌, ◌*◌, ◌^◌, ◌%◌, ◌<◌, ◌≤◌, ◌&&◌, nat_le, ◌⊎◌, inl, inr, List, get_or, sym, ap, ◌∙◌, arith}
 use Rattle.std.specs.Int.{bit_at}
+use Rattle.std.proofs.Math.Nat.{mod-eq_of_lt, add-mod-mod, add-mod_left}
 use Rattle.std.proofs.lemmas.Bool.{cases_lt}
 use Rattle.std.proofs.lemmas.Bool.Decides.{nat_tests}
 use Rattle.std.proofs.lemmas.Nat.Bits.{bit_at_cat_low, bit_at_cat_high}
@@ -48,48 +49,51 @@ bits_of_two_lanes bits j word p fits is h l = by_lane (cases_lt p 32)
         high_lane 32 (get_or bits (16 + j) 0) (get_or bits j 0) word p is fits a
         ∙ at_lane bits (16 + j) (lane_of 32 (64 * j + p)) (p - 32) (p % 32) (omega arith) (omega arith)
 
--- a number of 16 bits is in a range exactly where its distance from the first, modulo two to the power of 16, is at most the last's
-pub shifted_16 : (n first last : ℕ) → n < 2 ^ 16 → last < 2 ^ 16 → first ≤ last → nat_le ((n + (2 ^ 16 - first) % 2 ^ 16) % 2 ^ 16) (last - first) ≡ (nat_le first n && nat_le n last)
-shifted_16 n first last h l order = by_place (cases_lt n first) (cases_lt last n)
-  where
-    by_place : (n < first) ⊎ (first ≤ n) → (last < n) ⊎ (n ≤ last) → nat_le ((n + (2 ^ 16 - first) % 2 ^ 16) % 2 ^ 16) (last - first) ≡ (nat_le first n && nat_le n last)
-    by_place (inl a) _ =
-        let is : (n + (2 ^ 16 - first) % 2 ^ 16) % 2 ^ 16 ≡ 2 ^ 16 - first + n = omega arith in
-        let far : nat_le (2 ^ 16 - first + n) (last - first) ≡ false = grind (arith, nat_tests) in
-        let out : nat_le first n ≡ false = grind (arith, nat_tests) in
-        ap (λ x. nat_le x (last - first)) is ∙ far ∙ sym (ap (λ b. b && nat_le n last) out)
-    by_place (inr a) (inl b) =
-        let is : (n + (2 ^ 16 - first) % 2 ^ 16) % 2 ^ 16 ≡ n - first = omega arith in
-        let far : nat_le (n - first) (last - first) ≡ false = grind (arith, nat_tests) in
-        let into : nat_le first n ≡ true = grind (arith, nat_tests) in
-        let out : nat_le n last ≡ false = grind (arith, nat_tests) in
-        ap (λ x. nat_le x (last - first)) is ∙ far ∙ sym (ap (λ b. b && nat_le n last) into ∙ out)
-    by_place (inr a) (inr b) =
-        let is : (n + (2 ^ 16 - first) % 2 ^ 16) % 2 ^ 16 ≡ n - first = omega arith in
-        let near : nat_le (n - first) (last - first) ≡ true = grind (arith, nat_tests) in
-        let into : nat_le first n ≡ true = grind (arith, nat_tests) in
-        let up : nat_le n last ≡ true = grind (arith, nat_tests) in
-        ap (λ x. nat_le x (last - first)) is ∙ near ∙ sym (ap (λ b. b && nat_le n last) into ∙ up)
+-- ---- a number is in a range exactly where its distance from the first, modulo all of the lane's numbers, is at most the last's
+distance_below : (m n first : ℕ) → n < first → first < m → (n + (m - first) % m) % m ≡ m - first + n
+distance_below m n first h l =
+    let order : n + (m - first) ≡ m - first + n = omega arith in
+    add-mod-mod n (m - first) m ∙ ap (λ (k : ℕ). k % m) order ∙ mod-eq_of_lt (omega arith)
 
--- a number of 32 bits is in a range exactly where its distance from the first, modulo two to the power of 32, is at most the last's
-pub shifted_32 : (n first last : ℕ) → n < 2 ^ 32 → last < 2 ^ 32 → first ≤ last → nat_le ((n + (2 ^ 32 - first) % 2 ^ 32) % 2 ^ 32) (last - first) ≡ (nat_le first n && nat_le n last)
-shifted_32 n first last h l order = by_place (cases_lt n first) (cases_lt last n)
+distance_from : (m n first : ℕ) → first ≤ n → n < m → (n + (m - first) % m) % m ≡ n - first
+distance_from m n first h l =
+    let past : n + (m - first) ≡ m + (n - first) = omega arith in
+    add-mod-mod n (m - first) m ∙ ap (λ (k : ℕ). k % m) past ∙ add-mod_left m (n - first) ∙ mod-eq_of_lt (omega arith)
+
+pub shifted : (m n first last : ℕ) → n < m → last < m → first ≤ last → nat_le ((n + (m - first) % m) % m) (last - first) ≡ (nat_le first n && nat_le n last)
+shifted m n first last h l order = by_place (cases_lt n first) (cases_lt last n)
   where
-    by_place : (n < first) ⊎ (first ≤ n) → (last < n) ⊎ (n ≤ last) → nat_le ((n + (2 ^ 32 - first) % 2 ^ 32) % 2 ^ 32) (last - first) ≡ (nat_le first n && nat_le n last)
+    by_place : (n < first) ⊎ (first ≤ n) → (last < n) ⊎ (n ≤ last) → nat_le ((n + (m - first) % m) % m) (last - first) ≡ (nat_le first n && nat_le n last)
     by_place (inl a) _ =
-        let is : (n + (2 ^ 32 - first) % 2 ^ 32) % 2 ^ 32 ≡ 2 ^ 32 - first + n = omega arith in
-        let far : nat_le (2 ^ 32 - first + n) (last - first) ≡ false = grind (arith, nat_tests) in
+        let far : nat_le (m - first + n) (last - first) ≡ false = grind (arith, nat_tests) in
         let out : nat_le first n ≡ false = grind (arith, nat_tests) in
-        ap (λ x. nat_le x (last - first)) is ∙ far ∙ sym (ap (λ b. b && nat_le n last) out)
+        ap (λ x. nat_le x (last - first)) (distance_below m n first a (omega arith)) ∙ far ∙ sym (ap (λ b. b && nat_le n last) out)
     by_place (inr a) (inl b) =
-        let is : (n + (2 ^ 32 - first) % 2 ^ 32) % 2 ^ 32 ≡ n - first = omega arith in
         let far : nat_le (n - first) (last - first) ≡ false = grind (arith, nat_tests) in
         let into : nat_le first n ≡ true = grind (arith, nat_tests) in
         let out : nat_le n last ≡ false = grind (arith, nat_tests) in
-        ap (λ x. nat_le x (last - first)) is ∙ far ∙ sym (ap (λ b. b && nat_le n last) into ∙ out)
+        ap (λ x. nat_le x (last - first)) (distance_from m n first a h) ∙ far ∙ sym (ap (λ b. b && nat_le n last) into ∙ out)
     by_place (inr a) (inr b) =
-        let is : (n + (2 ^ 32 - first) % 2 ^ 32) % 2 ^ 32 ≡ n - first = omega arith in
         let near : nat_le (n - first) (last - first) ≡ true = grind (arith, nat_tests) in
         let into : nat_le first n ≡ true = grind (arith, nat_tests) in
         let up : nat_le n last ≡ true = grind (arith, nat_tests) in
-        ap (λ x. nat_le x (last - first)) is ∙ near ∙ sym (ap (λ b. b && nat_le n last) into ∙ up)
+        ap (λ x. nat_le x (last - first)) (distance_from m n first a h) ∙ near ∙ sym (ap (λ b. b && nat_le n last) into ∙ up)
+
+-- where none or all of the numbers are in the range
+pub none_within : (n first last : ℕ) → last < first → (nat_le first n && nat_le n last) ≡ false
+none_within n first last h = by_place (cases_lt n first)
+  where
+    by_place : (n < first) ⊎ (first ≤ n) → (nat_le first n && nat_le n last) ≡ false
+    by_place (inl a) =
+        let out : nat_le first n ≡ false = grind (arith, nat_tests) in
+        ap (λ b. b && nat_le n last) out
+    by_place (inr a) =
+        let into : nat_le first n ≡ true = grind (arith, nat_tests) in
+        let out : nat_le n last ≡ false = grind (arith, nat_tests) in
+        ap (λ b. b && nat_le n last) into ∙ out
+
+pub each_within : (n first last top : ℕ) → first ≡ 0 → last ≡ top → n ≤ top → (nat_le first n && nat_le n last) ≡ true
+each_within n first last top e d h =
+    let into : nat_le first n ≡ true = grind (arith, nat_tests) in
+    let up : nat_le n last ≡ true = grind (arith, nat_tests) in
+    ap (λ b. b && nat_le n last) into ∙ up

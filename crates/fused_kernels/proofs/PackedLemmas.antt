@@ -4,6 +4,8 @@ use Rattle.std.specs.Int.{w64, int_min, int_max}
 use Rattle.std.proofs.lemmas.Int.{ints, clamps, int_wrap_fits, to_z-of_z}
 use Rattle.std.proofs.lemmas.Bool.{cases_Bool}
 use Rattle.std.proofs.lemmas.Bool.Decides.{nat_tests}
+use Rattle.transpose_order.specs.Mask.{rows_of}
+use Rattle.transpose_order.specs.MaskWords.{rows_of-like}
 use Rattle.transpose_order.specs.Place.{IsLaneWidth, lane_of, step_of}
 use Rattle.transpose_order.proofs.WidthLemmas.{at_widths}
 use Rattle.bit_interleave.specs.Arithmetic.{integer_width}
@@ -152,3 +154,7 @@ code_is width codes n = refl
 pub passed_between : (low high v : ℤ) → FitsSigned w64 low → FitsSigned w64 high → between (to_z w64 (of_z w64 low)) (to_z w64 (of_z w64 high)) v ≡ between low high v
 passed_between low high v fl fh =
     ap (λ x. between x (to_z w64 (of_z w64 high)) v) (to_z-of_z w64 low fl) ∙ ap (λ x. between low x v) (to_z-of_z w64 high fh)
+
+pub rows_passed : (low high : ℤ) (value : ℕ → ℤ) → FitsSigned w64 low → FitsSigned w64 high → rows_of (λ n. between (to_z w64 (of_z w64 low)) (to_z w64 (of_z w64 high)) (value n)) ≡ rows_of (λ n. between low high (value n))
+rows_passed low high value fl fh =
+    rows_of-like (λ n. between (to_z w64 (of_z w64 low)) (to_z w64 (of_z w64 high)) (value n)) (λ n. between low high (value n)) (λ n h. passed_between low high (value n) fl fh)

@@ -1,7 +1,8 @@
 -- Numbers of a lane's bits that say how far a signed value is above the least of those bits.
-use Rattle.std.proofs.Common.{◌≡◌, ℕ, zero, suc, ◌+◌, ◌-◌, ◌*◌, ◌/◌, ◌%◌, ◌^◌, ◌<◌, Bool, true, false, cond, ℤ, pos, negsuc, ◌+ℤ◌, FitsSigned, List, length, slice_index, sym, ap, ◌∙◌, subst, arith}
-use Rattle.std.specs.Int.{w8, w16, w32, w64, int_wrap}
-use Rattle.std.proofs.lemmas.Int.{ints, int_wrap_fits, int_wrap-add_left}
+use Rattle.std.proofs.Common.{◌≡◌, ℕ, zero, suc, ◌+◌, ◌-◌, ◌*◌, ◌/◌, ◌%◌, ◌^◌, ◌<◌, Bool, true, false, cond, ◌&&◌, nat_le, int_le, int_lt, ℤ, pos, negsuc, ◌+ℤ◌, FitsSigned, List, length, slice_index, sym, ap, ◌∙◌, subst, arith}
+use Rattle.std.specs.Int.{w8, w16, w32, w64, int_wrap, int_min, int_max}
+use Rattle.std.proofs.lemmas.Bool.Decides.{nat_tests}
+use Rattle.std.proofs.lemmas.Int.{ints, clamps, int_wrap_fits, int_wrap-add_left}
 use Rattle.std.proofs.lemmas.List.Elements.{All-get_or}
 use Rattle.transpose_order.specs.Mask.{count_below}
 use Rattle.transpose_order.proofs.MaskLemmas.{count_below-zero, count_below-suc}
@@ -15,6 +16,7 @@ use Rattle.bit_interleave.proofs.WrapLemmas.{int_wrap_pos, int_wrap_negsuc}
 use Rattle.frame_delta.specs.Frame.{FrameForm, frame_value}
 use Rattle.frame_delta.specs.Delta.{DeltaForm, IsDeltaForm, sum_to, delta_of, delta_at, delta_value}
 use Rattle.fused_kernels.specs.Folds.{fold_to}
+use Rattle.fused_kernels.specs.Seen.{between}
 use Rattle.fused_kernels.specs.Walks.{Walk, number_before, number_of_row}
 use Rattle.fused_kernels.proofs.FoldLemmas.{fold_to-zero, fold_to-suc}
 use Rattle.fused_kernels.proofs.WalkLemmas.{number_before-zero, one_step, number_at-is}
@@ -113,3 +115,17 @@ delta_raised form starts added j n is start more h =
     let next : step_of t n + 1 ≡ suc (step_of t n) = omega arith in
     ap (λ k. pos (number_before walk lane k)) next
     ∙ delta_before form starts added j lane (suc (step_of t n)) is.lane_width (start lane place.0) (All-get_or (λ z. FitsSigned (integer_width t) z) form.bases lane (pos 0) inside is.bases) more
+
+-- ---- a range of values among a lane's numbers
+pub range_of_ends : (a b t low high value : ℤ) (first last number half : ℕ) → 0 < half → a ≡ low +ℤ pos half → b ≡ high +ℤ pos half → t ≡ pos (half - 1 + half) → pos first ≡ int_min (int_max a (pos 0)) (pos (half - 1 + half)) → pos last ≡ int_min (int_max b (pos 0)) (pos (half - 1 + half))
+    → int_lt t a ≡ false → int_lt b (pos 0) ≡ false → number < 2 * half → pos number ≡ value +ℤ pos half → (nat_le first number && nat_le number last) ≡ between low high value
+range_of_ends a b t low high value first last number half some al bh top from upto within after fits is =
+    let start : pos first ≡ int_max a (pos 0) = grind (arith, ints, clamps) in
+    let stop : pos last ≡ int_min b (pos (half - 1 + half)) = grind (arith, ints, clamps) in
+    ap (λ x. x && nat_le number last) (lower a low value first number half al start is) ∙ ap (λ x. int_le low value && x) (upper b high value last number half bh stop fits is)
+  where
+    lower : (a low value : ℤ) (first number half : ℕ) → a ≡ low +ℤ pos half → pos first ≡ int_max a (pos 0) → pos number ≡ value +ℤ pos half → nat_le first number ≡ int_le low value
+    lower a low value first number half al start is = grind (arith, ints, clamps, nat_tests)
+
+    upper : (b high value : ℤ) (last number half : ℕ) → b ≡ high +ℤ pos half → pos last ≡ int_min b (pos (half - 1 + half)) → number < 2 * half → pos number ≡ value +ℤ pos half → nat_le number last ≡ int_le value high
+    upper b high value last number half bh stop fits is = grind (arith, ints, clamps, nat_tests)

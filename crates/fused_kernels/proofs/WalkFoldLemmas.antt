@@ -31,6 +31,12 @@ number_of_row-below walk t n is =
     let below : number_at walk (lane_of walk.lane_width n) (step_of walk.lane_width n) < 2 ^ t = subst (λ (w : ℕ). number_at walk (lane_of walk.lane_width n) (step_of walk.lane_width n) < 2 ^ w) is (number_at-below walk (lane_of walk.lane_width n) (step_of walk.lane_width n)) in
     omega (arith, below)
 
+-- a row's number is that of its lane at its step
+pub row_in_lane : (walk : Walk) (t n : ℕ) → walk.lane_width ≡ t → number_at walk (lane_of t n) (step_of t n) ≡ number_of_row walk n
+unfolding number_of_row
+row_in_lane walk t n is =
+    ap (λ (w : ℕ). number_at walk (lane_of w n) (step_of w n)) (sym is)
+
 -- ---- the greatest
 one_greater : (b : Bool) (x n count half : ℕ) (v : ℤ) (o : Option ℤ) → (count ≡ 0 → x ≡ 0) → pos n ≡ v +ℤ pos half → o ≡ cond (nat_lt 0 count) (Some (pos x -ℤ pos half)) None
     → greater o (cond b (Some v) None) ≡ cond (nat_lt 0 (count + cond b 1 0)) (Some (pos (max x (cond b n 0)) -ℤ pos half)) None
@@ -53,7 +59,7 @@ one_greater false x n count half v o none raised is =
     unit None = refl
     unit (Some x) = refl
 
-none_taken : (b : ℕ → Bool) (number : ℕ → ℕ) (k : ℕ) → count_below b k ≡ 0 → fold_to max 0 k (λ n. cond (b n) (number n) 0) ≡ 0
+pub none_taken : (b : ℕ → Bool) (number : ℕ → ℕ) (k : ℕ) → count_below b k ≡ 0 → fold_to max 0 k (λ n. cond (b n) (number n) 0) ≡ 0
 none_taken b number zero none = fold_to-zero max 0 (λ n. cond (b n) (number n) 0)
 none_taken b number (suc k) none =
     let split : count_below b k + cond (b k) 1 0 ≡ 0 = sym (count_below-suc b k) ∙ none in

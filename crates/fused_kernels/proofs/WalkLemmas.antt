@@ -31,7 +31,7 @@ fold_to-both {X = X} join none laws (suc k) f g =
         laws.assoc a b (join c d) ∙ ap (join a) (sym (laws.assoc b c d) ∙ ap (λ x. join x d) (laws.comm b c) ∙ laws.assoc c b d)
         ∙ sym (laws.assoc a c (join b d))
 
-fold_to-swap : {X : Type 0} (join : X → X → X) (none : X) → IsJoin join none → (m n : ℕ) (f : ℕ → ℕ → X) → fold_to join none m (λ a. fold_to join none n (f a)) ≡ fold_to join none n (λ b. fold_to join none m (λ a. f a b))
+pub fold_to-swap : {X : Type 0} (join : X → X → X) (none : X) → IsJoin join none → (m n : ℕ) (f : ℕ → ℕ → X) → fold_to join none m (λ a. fold_to join none n (f a)) ≡ fold_to join none n (λ b. fold_to join none m (λ a. f a b))
 fold_to-swap join none laws zero n f =
     fold_to-zero join none (λ a. fold_to join none n (f a)) ∙ sym (fold_to-none join none laws n)
     ∙ fold_to-same join none n (λ _. none) (λ b. fold_to join none 0 (λ a. f a b)) (λ b h. sym (fold_to-zero join none (λ a. f a b)))

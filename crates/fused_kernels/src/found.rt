@@ -1,6 +1,7 @@
 //! The rows of a coded vector whose value is in a range, found by the way that its coding has.
 ghost use Rattle.std.specs.Prelude.{◌≡◌, ℕ, ◌&&◌, not, IfSome, if◌then◌else◌};
 ghost use Rattle.transpose_order.specs.Mask.{rows_of, has};
+ghost use Rattle.frame_delta.specs.Frame.{frame_value};
 ghost use Rattle.segment_core.specs.Coded.{value_in};
 ghost use Rattle.fused_kernels.specs.Seen.{looked_at, between};
 ghost use Rattle.fused_kernels.specs.VectorSeen.{vector_seen};
@@ -9,6 +10,8 @@ use crate::lanes::rows_among;
 use crate::packed::{dict_between, frame_between};
 use crate::ranges::{first_from, last_up_to};
 use crate::runs::runs_between;
+use crate::walks::{deltas_within, frame_within};
+use frame_delta::For;
 use segment_core::{Coded, CodedVector};
 use transpose_order::Mask;
 
@@ -19,22 +22,38 @@ pub(crate) fn rows_of_vector(vector: &CodedVector, mask: &Mask) -> Mask
     rows_among(vector.rows(), &vector.null_rows(), mask)
 }
 
-/// The rows whose value is neither below `low` nor above `high`, or none where the lanes have to be looked at.
+/// The rows whose value is neither below `low` nor above `high`, or none at a lane width of 8 where values may wrap or a word has
+/// to be read.
+fn found_in_frame(form: &For, low: i64, high: i64) -> Option<Mask>
+    ensures { IfSome result (λ found. found ≡ rows_of (λ n. between low high (frame_value form.now n))) }
+{
+    match frame_between(form, low, high) {
+        None => frame_within(form, low, high),
+        Some(found) => Some(found),
+    }
+}
+
+/// The rows whose value is neither below `low` nor above `high`, or none where the lanes have to be looked at, which are of 8 bits
+/// then.
 fn found_by_coding(coded: &Coded, low: i64, high: i64) -> Option<Mask>
     ensures { IfSome result (λ found. found ≡ rows_of (λ n. between low high (value_in coded.now n))) }
 {
     match coded {
         Coded::For(form) => {
-            let found = frame_between(form, low, high)?;
+            let found = found_in_frame(form.get(), low, high)?;
             Some(found)
         }
-        Coded::Delta(_) => None,
+        Coded::Delta(form) => {
+            let found = deltas_within(form.get(), low, high)?;
+            Some(found)
+        }
         Coded::Runs(form) => Some(runs_between(form.get(), low, high)),
         Coded::Dict(form) => Some(dict_between(form.get(), low, high)),
     }
 }
 
-/// The rows whose value is neither below `low` nor above `high`, or none where the lanes have to be looked at.
+/// The rows whose value is neither below `low` nor above `high`, or none where the lanes have to be looked at, which are of 8 bits
+/// then.
 pub(crate) fn found_between(coded: &Coded, low: i128, high: i128) -> Option<Mask>
     ensures { IfSome result (λ found. found ≡ rows_of (λ n. between low high (value_in coded.now n))) }
 {

@@ -1,6 +1,7 @@
 //! Comparisons and set functions over vectors that stay packed, sixteen lanes at a time.
 #![tactic(auto)]
 
+mod codes;
 mod columns;
 mod comparisons;
 mod counts;

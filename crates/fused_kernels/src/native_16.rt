@@ -78,7 +78,7 @@ fn with_step(bits: u16, step: usize, set: bool) -> u16
 
 /// Sets a step's bit of each lane whose number plus an offset, modulo two to the power of 16, is at most a span.
 #[inline(always)]
-fn mark(marks: &mut [u16; 64], numbers: &[u16; 64], offset: u16, span: u16, step: usize)
+pub(crate) fn mark(marks: &mut [u16; 64], numbers: &[u16; 64], offset: u16, span: u16, step: usize)
     requires { step < 16 }
     ensures { (lane r : ℕ) → lane < 64 → r < 16 → (bit_at (slice_index marks.new lane) r == 1)
         ≡ ((nat_le ((slice_index numbers.now lane + offset) % 2 ^ 16) span && (r == step)) || (bit_at (slice_index marks.old lane) r == 1)) }

@@ -78,7 +78,7 @@ fn with_step(bits: u32, step: usize, set: bool) -> u32
 
 /// Sets a step's bit of each lane whose number plus an offset, modulo two to the power of 32, is at most a span.
 #[inline(always)]
-fn mark(marks: &mut [u32; 32], numbers: &[u32; 32], offset: u32, span: u32, step: usize)
+pub(crate) fn mark(marks: &mut [u32; 32], numbers: &[u32; 32], offset: u32, span: u32, step: usize)
     requires { step < 32 }
     ensures { (lane r : ℕ) → lane < 32 → r < 32 → (bit_at (slice_index marks.new lane) r == 1)
         ≡ ((nat_le ((slice_index numbers.now lane + offset) % 2 ^ 32) span && (r == step)) || (bit_at (slice_index marks.old lane) r == 1)) }

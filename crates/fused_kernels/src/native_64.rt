@@ -5,6 +5,7 @@ ghost use Rattle.transpose_order.specs.Mask.{rows_of};
 ghost use Rattle.transpose_order.specs.Place.{lane_of, step_of};
 ghost use Rattle.bit_interleave.specs.Packing.{packed_value};
 
+use crate::ranges::with_bit;
 use transpose_order::Mask;
 
 /// The `width` bits of a word from bit `shift` on.
@@ -57,4 +58,31 @@ pub(crate) fn numbers_64(width: usize, words: &[u64], step: usize) -> [u64; 16]
         numbers[i] = across_words(words[at + i], words[at + 16 + i], shift, width);
     }
     numbers
+}
+
+/// Whether a number plus an offset, modulo two to the power of 64, is at most a span.
+#[inline(always)]
+fn is_within(number: u64, offset: u64, span: u64) -> bool
+    ensures { result ≡ nat_le ((number + offset) % 2 ^ 64) span }
+{
+    number.wrapping_add(offset) <= span
+}
+
+/// Sets a step's bit of each lane whose number plus an offset, modulo two to the power of 64, is at most a span.
+#[inline(always)]
+pub(crate) fn mark(marks: &mut [u64; 16], numbers: &[u64; 16], offset: u64, span: u64, step: usize)
+    requires { step < 64 }
+    ensures { (lane r : ℕ) → lane < 16 → r < 64 → (bit_at (slice_index marks.new lane) r == 1)
+        ≡ ((nat_le ((slice_index numbers.now lane + offset) % 2 ^ 64) span && (r == step)) || (bit_at (slice_index marks.old lane) r == 1)) }
+{
+    for i in 0..16 {
+        marks[i] = with_bit(marks[i], step, is_within(numbers[i], offset, span));
+    }
+}
+
+/// The mask whose rows are the bits of 16 lanes, one for each of 64 steps.
+pub(crate) fn mask_of_lanes(marks: &[u64; 16]) -> Mask
+    ensures { result ≡ rows_of (λ n. bit_at (slice_index marks.now (lane_of 64 n)) (step_of 64 n) == 1) }
+{
+    Mask::from_words(*marks)
 }

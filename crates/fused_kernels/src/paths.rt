@@ -4,11 +4,12 @@ ghost use Rattle.table_model.specs.Truth.{compared};
 ghost use Rattle.table_model.specs.Values.{total, least, greatest};
 ghost use Rattle.transpose_order.specs.Mask.{rows_of};
 ghost use Rattle.segment_core.specs.Coded.{value_in, values_of};
-ghost use Rattle.segment_core.specs.declared.coded.Coded.TheVariants.{For as InFor, Delta as InDelta, Runs as InRuns};
+ghost use Rattle.segment_core.specs.declared.coded.Coded.TheVariants.{For as InFor, Delta as InDelta, Runs as InRuns, Dict as InDict};
 ghost use Rattle.table_model.specs.Passes.{raised};
 ghost use Rattle.fused_kernels.specs.Seen.{looked_at, values_looked_at, between};
 ghost use Rattle.fused_kernels.specs.VectorSeen.{vector_seen};
 
+use crate::codes::{greatest_of_codes, least_of_codes, sum_of_codes};
 use crate::columns::{compare_columns, rows_where};
 use crate::comparisons::{compare, range_of};
 use crate::extremes::{max, min};
@@ -23,7 +24,7 @@ use crate::walks::{
     sum_of_frame,
 };
 use frame_delta::{Delta, For};
-use run_dictionary::Runs;
+use run_dictionary::{Dict, Runs};
 use segment_core::{Coded, CodedVector};
 use table_model::Op;
 use transpose_order::Mask;
@@ -42,6 +43,14 @@ fn sum_by_runs(vector: &CodedVector, form: &Runs, mask: &Mask) -> i128
     ensures { result ≡ total (values_looked_at (vector_seen vector.now 0) mask.now) }
 {
     sum_of_runs(form, &rows_of_vector(vector, mask))
+}
+
+/// What `vector_sum` answers, by the codes of the vector's dictionary.
+fn sum_by_codes(vector: &CodedVector, form: &Dict, mask: &Mask) -> i128
+    requires { vector.now.coded ≡ InDict form.now }
+    ensures { result ≡ total (values_looked_at (vector_seen vector.now 0) mask.now) }
+{
+    sum_of_codes(form, &rows_of_vector(vector, mask))
 }
 
 /// What `vector_sum` answers, by the native lanes of the vector's frame.
@@ -85,9 +94,12 @@ pub fn vector_sum(vector: &CodedVector, mask: &Mask, meter: &mut Meter) -> i128
             meter.add_pass();
             sum_by_runs(vector, form.get(), mask)
         }
-        Coded::For(form) => sum_by_frame(vector, form, mask, meter),
+        Coded::For(form) => sum_by_frame(vector, form.get(), mask, meter),
         Coded::Delta(form) => sum_by_deltas(vector, form.get(), mask, meter),
-        Coded::Dict(_) => sum_by_lanes(vector, mask, meter),
+        Coded::Dict(form) => {
+            meter.add_pass();
+            sum_by_codes(vector, form.get(), mask)
+        }
     }
 }
 
@@ -105,6 +117,14 @@ fn min_by_runs(vector: &CodedVector, form: &Runs, mask: &Mask) -> Option<i64>
     ensures { result ≡ least (values_looked_at (vector_seen vector.now 0) mask.now) }
 {
     least_of_runs(form, &rows_of_vector(vector, mask))
+}
+
+/// What `vector_min` answers, by the codes of the vector's dictionary.
+fn min_by_codes(vector: &CodedVector, form: &Dict, mask: &Mask) -> Option<i64>
+    requires { vector.now.coded ≡ InDict form.now }
+    ensures { result ≡ least (values_looked_at (vector_seen vector.now 0) mask.now) }
+{
+    least_of_codes(form, &rows_of_vector(vector, mask))
 }
 
 /// What `vector_min` answers, by the native lanes of the vector's frame.
@@ -148,9 +168,12 @@ pub fn vector_min(vector: &CodedVector, mask: &Mask, meter: &mut Meter) -> Optio
             meter.add_pass();
             min_by_runs(vector, form.get(), mask)
         }
-        Coded::For(form) => min_by_frame(vector, form, mask, meter),
+        Coded::For(form) => min_by_frame(vector, form.get(), mask, meter),
         Coded::Delta(form) => min_by_deltas(vector, form.get(), mask, meter),
-        Coded::Dict(_) => min_by_lanes(vector, mask, meter),
+        Coded::Dict(form) => {
+            meter.add_pass();
+            min_by_codes(vector, form.get(), mask)
+        }
     }
 }
 
@@ -168,6 +191,14 @@ fn max_by_runs(vector: &CodedVector, form: &Runs, mask: &Mask) -> Option<i64>
     ensures { result ≡ greatest (values_looked_at (vector_seen vector.now 0) mask.now) }
 {
     greatest_of_runs(form, &rows_of_vector(vector, mask))
+}
+
+/// What `vector_max` answers, by the codes of the vector's dictionary.
+fn max_by_codes(vector: &CodedVector, form: &Dict, mask: &Mask) -> Option<i64>
+    requires { vector.now.coded ≡ InDict form.now }
+    ensures { result ≡ greatest (values_looked_at (vector_seen vector.now 0) mask.now) }
+{
+    greatest_of_codes(form, &rows_of_vector(vector, mask))
 }
 
 /// What `vector_max` answers, by the native lanes of the vector's frame.
@@ -211,9 +242,12 @@ pub fn vector_max(vector: &CodedVector, mask: &Mask, meter: &mut Meter) -> Optio
             meter.add_pass();
             max_by_runs(vector, form.get(), mask)
         }
-        Coded::For(form) => max_by_frame(vector, form, mask, meter),
+        Coded::For(form) => max_by_frame(vector, form.get(), mask, meter),
         Coded::Delta(form) => max_by_deltas(vector, form.get(), mask, meter),
-        Coded::Dict(_) => max_by_lanes(vector, mask, meter),
+        Coded::Dict(form) => {
+            meter.add_pass();
+            max_by_codes(vector, form.get(), mask)
+        }
     }
 }
 

@@ -11,7 +11,7 @@ use transpose_order::{Mask, place_in_word};
 
 /// How far a number is above the least of 64 bits where it is taken, else 0.
 #[inline(always)]
-fn raised_if(taken: bool, number: i64) -> u64
+pub(crate) fn raised_if(taken: bool, number: i64) -> u64
     ensures { pos result ≡ cond taken (number +ℤ pos (2 ^ 63)) (pos 0) }
 {
     if taken {

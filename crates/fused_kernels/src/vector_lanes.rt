@@ -110,7 +110,7 @@ fn coded_piece(coded: &Coded, piece: usize, sums: &mut [u64; 16]) -> Simd<i64, 1
 {
     let _ = coded.lane_width();
     match coded {
-        Coded::For(form) => form.piece(piece),
+        Coded::For(form) => form.get().piece(piece),
         Coded::Delta(form) => delta_piece(form.get(), piece, sums),
         Coded::Runs(form) => run_piece(form.get(), piece, sums),
         Coded::Dict(form) => form.get().piece(piece),
@@ -122,7 +122,7 @@ impl<'a> Lanes for VectorLanes<'a> {
 
     fn lane_width(&self) -> usize {
         match self.vector.coded() {
-            Coded::For(form) => form.lane_width(),
+            Coded::For(form) => form.get().lane_width(),
             Coded::Delta(form) => form.get().lane_width(),
             Coded::Runs(form) => form.get().lane_width(),
             Coded::Dict(_) => 16,

@@ -9,10 +9,11 @@ ghost use Rattle.frame_delta.specs.Frame.{frame_value};
 ghost use Rattle.frame_delta.specs.Delta.{delta_value};
 ghost use Rattle.table_model.specs.Values.{lesser, greater};
 ghost use Rattle.fused_kernels.specs.Folds.{fold_to};
+ghost use Rattle.fused_kernels.specs.Seen.{between};
 ghost use Rattle.fused_kernels.specs.Walks.{number_before, number_at, number_of_row, turned};
 
-use crate::native_16::numbers_16;
-use crate::raised::value_above;
+use crate::native_16::{mark, mask_of_lanes, numbers_16};
+use crate::raised::{raised_range, value_above};
 use frame_delta::{Delta, For};
 use std::marker::Model;
 use transpose_order::Mask;
@@ -143,7 +144,7 @@ fn greatest_of_lanes(numbers: &[u16; 64]) -> u16
 }
 
 /// The bits of a mask's rows in their lanes.
-fn lanes_of_mask(mask: &Mask) -> [u16; 64]
+pub(crate) fn lanes_of_mask(mask: &Mask) -> [u16; 64]
     ensures { (lane step : ℕ) → lane < 64 → step < 16 → (bit_at (slice_index result lane) step == 1) ≡ has mask.now (row_at 16 lane step) }
 {
     let mut lanes = [0; 64];
@@ -187,6 +188,7 @@ impl<'a> Walk16<'a> {
     }
 
     /// The sum of the numbers of a mask's rows.
+    #[inline(always)]
     pub(crate) fn sum(&self, rows: &Mask) -> u128
         ensures sum { result ≡ fold_to ◌+◌ 0 1024 (λ n. cond (has rows.now n) (number_of_row self.now n) 0) }
         ensures bound { result ≤ 2 ^ 80 }
@@ -203,6 +205,7 @@ impl<'a> Walk16<'a> {
     }
 
     /// The sum of the values of a mask's rows, where each row's number is how far its value is above the least of 16 bits.
+    #[inline(always)]
     pub(crate) fn sum_of_values(&self, rows: &Mask) -> i128
         ensures { (value : ℕ → ℤ) → ((n : ℕ) → n < 1024 → pos (number_of_row self.now n) ≡ value n +ℤ pos (2 ^ 15))
             → result ≡ fold_to ◌+ℤ◌ (pos 0) 1024 (λ n. cond (has rows.now n) (value n) (pos 0)) }
@@ -211,7 +214,8 @@ impl<'a> Walk16<'a> {
     }
 
     /// The greatest of the numbers of a mask's rows, turned, or 0 over none.
-    fn greatest(&self, flipped: bool, rows: &Mask) -> u16
+    #[inline(always)]
+    pub(crate) fn greatest(&self, flipped: bool, rows: &Mask) -> u16
         ensures value { result ≡ fold_to max 0 1024 (λ n. cond (has rows.now n) (turned 16 flipped (number_of_row self.now n)) 0) }
         ensures below { (n : ℕ) → number_of_row self.now n ≤ 2 ^ 16 - 1 }
     {
@@ -227,6 +231,7 @@ impl<'a> Walk16<'a> {
 
     /// The greatest value of a mask's rows, none over none, where each row's number is how far its value is above the least of
     /// 16 bits.
+    #[inline(always)]
     pub(crate) fn greatest_value(&self, rows: &Mask) -> Option<i64>
         ensures { (value : ℕ → ℤ) → ((n : ℕ) → n < 1024 → pos (number_of_row self.now n) ≡ value n +ℤ pos (2 ^ 15))
             → result ≡ fold_to greater None 1024 (λ n. cond (has rows.now n) (Some (value n)) None) }
@@ -237,12 +242,56 @@ impl<'a> Walk16<'a> {
 
     /// The least value of a mask's rows, none over none, where each row's number is how far its value is above the least of
     /// 16 bits.
+    #[inline(always)]
     pub(crate) fn least_value(&self, rows: &Mask) -> Option<i64>
         ensures { (value : ℕ → ℤ) → ((n : ℕ) → n < 1024 → pos (number_of_row self.now n) ≡ value n +ℤ pos (2 ^ 15))
             → result ≡ fold_to lesser None 1024 (λ n. cond (has rows.now n) (Some (value n)) None) }
     {
         let least = u16::MAX - self.greatest(true, rows);
         value_above(rows, u64::from(least), 1 << 15)
+    }
+
+    /// For each lane, the bits of the steps at which the number plus an offset, modulo two to the power of 16, is at most a span.
+    #[inline(always)]
+    fn marks(&self, offset: u16, span: u16) -> [u16; 64]
+        ensures { (lane step : ℕ) → lane < 64 → step < 16 → (bit_at (slice_index result lane) step == 1)
+            ≡ nat_le ((number_at self.now lane step + offset) % 2 ^ 16) span }
+    {
+        let mut numbers = self.starts;
+        let mut marks = [0; 64];
+        for step in 0..16 {
+            self.go(step, &mut numbers);
+            mark(&mut marks, &numbers, offset, span, step);
+        }
+        marks
+    }
+
+    /// The rows whose number is neither below `first` nor above `last`. Where those are none or all, no word is read.
+    #[inline(always)]
+    fn rows_between(&self, first: u16, last: u16) -> Mask
+        ensures rows { result ≡ rows_of (λ n. nat_le first (number_of_row self.now n) && nat_le (number_of_row self.now n) last) }
+        ensures below { (n : ℕ) → number_of_row self.now n ≤ 2 ^ 16 - 1 }
+    {
+        let _width = self.width;
+        if last < first {
+            return Mask::none();
+        }
+        if first == 0 && last == u16::MAX {
+            return Mask::all();
+        }
+        let marks = self.marks(0_u16.wrapping_sub(first), last - first);
+        mask_of_lanes(&marks)
+    }
+
+    /// The rows whose value is neither below `low` nor above `high`, where each row's number is how far its value is above the
+    /// least of 16 bits. Where none or all of the values of 16 bits are, no word is read.
+    #[inline(always)]
+    pub(crate) fn values_between(&self, low: i64, high: i64) -> Mask
+        ensures { (value : ℕ → ℤ) → ((n : ℕ) → n < 1024 → pos (number_of_row self.now n) ≡ value n +ℤ pos (2 ^ 15))
+            → result ≡ rows_of (λ n. between low high (value n)) }
+    {
+        let (first, last) = raised_range(1 << 15, low, high);
+        self.rows_between(first as u16, last as u16)
     }
 }
 
@@ -277,6 +326,7 @@ fn all_raised(values: &[i64]) -> [u16; 64]
 }
 
 /// The walk of a frame, whose numbers are how far the values are above the least of 16 bits.
+#[inline(always)]
 pub(crate) fn walk_of_frame_16(form: &For) -> Walk16<'_>
     requires { form.now.lane_width ≡ 16 }
     ensures { (n : ℕ) → n < 1024 → pos (number_of_row result n) ≡ frame_value form.now n +ℤ pos (2 ^ 15) }
@@ -287,6 +337,7 @@ pub(crate) fn walk_of_frame_16(form: &For) -> Walk16<'_>
 }
 
 /// The walk of deltas, whose numbers are how far the values are above the least of 16 bits.
+#[inline(always)]
 pub(crate) fn walk_of_deltas_16(form: &Delta) -> Walk16<'_>
     requires { form.now.lane_width ≡ 16 }
     ensures { (n : ℕ) → n < 1024 → pos (number_of_row result n) ≡ delta_value form.now n +ℤ pos (2 ^ 15) }

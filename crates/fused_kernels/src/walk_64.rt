@@ -9,10 +9,11 @@ ghost use Rattle.frame_delta.specs.Frame.{frame_value};
 ghost use Rattle.frame_delta.specs.Delta.{delta_value};
 ghost use Rattle.table_model.specs.Values.{lesser, greater};
 ghost use Rattle.fused_kernels.specs.Folds.{fold_to};
+ghost use Rattle.fused_kernels.specs.Seen.{between};
 ghost use Rattle.fused_kernels.specs.Walks.{number_before, number_at, number_of_row, turned};
 
-use crate::native_64::numbers_64;
-use crate::raised::value_above;
+use crate::native_64::{mark, mask_of_lanes, numbers_64};
+use crate::raised::{raised_range, value_above};
 use crate::sums::sum_of_lanes;
 use frame_delta::{Delta, For};
 use std::marker::Model;
@@ -176,6 +177,7 @@ impl<'a> Walk64<'a> {
     }
 
     /// The sum of the numbers of a mask's rows.
+    #[inline(always)]
     pub(crate) fn sum(&self, rows: &Mask) -> u128
         ensures sum { result ≡ fold_to ◌+◌ 0 1024 (λ n. cond (has rows.now n) (number_of_row self.now n) 0) }
         ensures bound { result ≤ 2 ^ 80 }
@@ -192,6 +194,7 @@ impl<'a> Walk64<'a> {
     }
 
     /// The sum of the values of a mask's rows, where each row's number is how far its value is above the least of 64 bits.
+    #[inline(always)]
     pub(crate) fn sum_of_values(&self, rows: &Mask) -> i128
         ensures { (value : ℕ → ℤ) → ((n : ℕ) → n < 1024 → pos (number_of_row self.now n) ≡ value n +ℤ pos (2 ^ 63))
             → result ≡ fold_to ◌+ℤ◌ (pos 0) 1024 (λ n. cond (has rows.now n) (value n) (pos 0)) }
@@ -200,6 +203,7 @@ impl<'a> Walk64<'a> {
     }
 
     /// The greatest of the numbers of a mask's rows, turned, or 0 over none.
+    #[inline(always)]
     fn greatest(&self, flipped: bool, rows: &Mask) -> u64
         ensures value { result ≡ fold_to max 0 1024 (λ n. cond (has rows.now n) (turned 64 flipped (number_of_row self.now n)) 0) }
         ensures below { (n : ℕ) → number_of_row self.now n ≤ 2 ^ 64 - 1 }
@@ -216,6 +220,7 @@ impl<'a> Walk64<'a> {
 
     /// The greatest value of a mask's rows, none over none, where each row's number is how far its value is above the least of
     /// 64 bits.
+    #[inline(always)]
     pub(crate) fn greatest_value(&self, rows: &Mask) -> Option<i64>
         ensures { (value : ℕ → ℤ) → ((n : ℕ) → n < 1024 → pos (number_of_row self.now n) ≡ value n +ℤ pos (2 ^ 63))
             → result ≡ fold_to greater None 1024 (λ n. cond (has rows.now n) (Some (value n)) None) }
@@ -226,12 +231,56 @@ impl<'a> Walk64<'a> {
 
     /// The least value of a mask's rows, none over none, where each row's number is how far its value is above the least of
     /// 64 bits.
+    #[inline(always)]
     pub(crate) fn least_value(&self, rows: &Mask) -> Option<i64>
         ensures { (value : ℕ → ℤ) → ((n : ℕ) → n < 1024 → pos (number_of_row self.now n) ≡ value n +ℤ pos (2 ^ 63))
             → result ≡ fold_to lesser None 1024 (λ n. cond (has rows.now n) (Some (value n)) None) }
     {
         let least = u64::MAX - self.greatest(true, rows);
         value_above(rows, least, 1 << 63)
+    }
+
+    /// For each lane, the bits of the steps at which the number plus an offset, modulo two to the power of 64, is at most a span.
+    #[inline(always)]
+    fn marks(&self, offset: u64, span: u64) -> [u64; 16]
+        ensures { (lane step : ℕ) → lane < 16 → step < 64 → (bit_at (slice_index result lane) step == 1)
+            ≡ nat_le ((number_at self.now lane step + offset) % 2 ^ 64) span }
+    {
+        let mut numbers = self.starts;
+        let mut marks = [0; 16];
+        for step in 0..64 {
+            self.go(step, &mut numbers);
+            mark(&mut marks, &numbers, offset, span, step);
+        }
+        marks
+    }
+
+    /// The rows whose number is neither below `first` nor above `last`. Where those are none or all, no word is read.
+    #[inline(always)]
+    fn rows_between(&self, first: u64, last: u64) -> Mask
+        ensures rows { result ≡ rows_of (λ n. nat_le first (number_of_row self.now n) && nat_le (number_of_row self.now n) last) }
+        ensures below { (n : ℕ) → number_of_row self.now n ≤ 2 ^ 64 - 1 }
+    {
+        let _width = self.width;
+        if last < first {
+            return Mask::none();
+        }
+        if first == 0 && last == u64::MAX {
+            return Mask::all();
+        }
+        let marks = self.marks(0_u64.wrapping_sub(first), last - first);
+        mask_of_lanes(&marks)
+    }
+
+    /// The rows whose value is neither below `low` nor above `high`, where each row's number is how far its value is above the
+    /// least of 64 bits. Where none or all of the values of 64 bits are, no word is read.
+    #[inline(always)]
+    pub(crate) fn values_between(&self, low: i64, high: i64) -> Mask
+        ensures { (value : ℕ → ℤ) → ((n : ℕ) → n < 1024 → pos (number_of_row self.now n) ≡ value n +ℤ pos (2 ^ 63))
+            → result ≡ rows_of (λ n. between low high (value n)) }
+    {
+        let (first, last) = raised_range(1 << 63, low, high);
+        self.rows_between(first, last)
     }
 }
 
@@ -266,6 +315,7 @@ fn all_raised(values: &[i64]) -> [u64; 16]
 }
 
 /// The walk of a frame, whose numbers are how far the values are above the least of 64 bits.
+#[inline(always)]
 pub(crate) fn walk_of_frame_64(form: &For) -> Walk64<'_>
     requires { form.now.lane_width ≡ 64 }
     ensures { (n : ℕ) → n < 1024 → pos (number_of_row result n) ≡ frame_value form.now n +ℤ pos (2 ^ 63) }
@@ -276,6 +326,7 @@ pub(crate) fn walk_of_frame_64(form: &For) -> Walk64<'_>
 }
 
 /// The walk of deltas, whose numbers are how far the values are above the least of 64 bits.
+#[inline(always)]
 pub(crate) fn walk_of_deltas_64(form: &Delta) -> Walk64<'_>
     requires { form.now.lane_width ≡ 64 }
     ensures { (n : ℕ) → n < 1024 → pos (number_of_row result n) ≡ delta_value form.now n +ℤ pos (2 ^ 63) }

@@ -1,10 +1,11 @@
-//! Set functions of frames and deltas, by walks through their lanes.
+//! Set functions and comparisons of frames and deltas, by walks through their lanes.
 ghost use Rattle.std.specs.Prelude.{◌≡◌, cond, IfSome, pos, ◌+ℤ◌, Some, None};
-ghost use Rattle.transpose_order.specs.Mask.{has};
+ghost use Rattle.transpose_order.specs.Mask.{has, rows_of};
 ghost use Rattle.frame_delta.specs.Frame.{frame_value};
 ghost use Rattle.frame_delta.specs.Delta.{delta_value};
 ghost use Rattle.table_model.specs.Values.{lesser, greater};
 ghost use Rattle.fused_kernels.specs.Folds.{fold_to};
+ghost use Rattle.fused_kernels.specs.Seen.{between};
 
 use crate::walk_16::{sum_of_deltas_16, sum_of_frame_16, walk_of_deltas_16, walk_of_frame_16};
 use crate::walk_32::{sum_of_deltas_32, sum_of_frame_32, walk_of_deltas_32, walk_of_frame_32};
@@ -80,6 +81,32 @@ pub(crate) fn greatest_of_deltas(form: &Delta, rows: &Mask) -> Option<Option<i64
         16 => Some(walk_of_deltas_16(form).greatest_value(rows)),
         32 => Some(walk_of_deltas_32(form).greatest_value(rows)),
         64 => Some(walk_of_deltas_64(form).greatest_value(rows)),
+        _ => None,
+    }
+}
+
+/// The rows whose value is neither below `low` nor above `high`, or none at a lane width of 8. Where none or all of the values of
+/// the lane's bits are, no word is read.
+pub(crate) fn frame_within(form: &For, low: i64, high: i64) -> Option<Mask>
+    ensures { IfSome result (λ found. found ≡ rows_of (λ n. between low high (frame_value form.now n))) }
+{
+    match form.lane_width() {
+        16 => Some(walk_of_frame_16(form).values_between(low, high)),
+        32 => Some(walk_of_frame_32(form).values_between(low, high)),
+        64 => Some(walk_of_frame_64(form).values_between(low, high)),
+        _ => None,
+    }
+}
+
+/// The rows whose value is neither below `low` nor above `high`, or none at a lane width of 8. Where none or all of the values of
+/// the lane's bits are, no word is read.
+pub(crate) fn deltas_within(form: &Delta, low: i64, high: i64) -> Option<Mask>
+    ensures { IfSome result (λ found. found ≡ rows_of (λ n. between low high (delta_value form.now n))) }
+{
+    match form.lane_width() {
+        16 => Some(walk_of_deltas_16(form).values_between(low, high)),
+        32 => Some(walk_of_deltas_32(form).values_between(low, high)),
+        64 => Some(walk_of_deltas_64(form).values_between(low, high)),
         _ => None,
     }
 }

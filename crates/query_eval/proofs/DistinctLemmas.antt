@@ -105,7 +105,10 @@ alike xs zs d h = distinct-alike xs zs (apart xs d) h
 pub folded-alike : (xs zs : List ℤ) → IsDistinct int_eq xs → ((z : ℤ) → list_any (int_eq z) xs ≡ list_any (int_eq z) zs) → (fold : Fold) → fold_value fold xs ≡ fold_value fold (distinct zs)
 folded-alike xs zs d h fold = fold_value-alike fold xs (distinct zs) (alike xs zs d h)
 
+pub set_few : (xs zs : List ℤ) → IsDistinct int_eq xs → ((z : ℤ) → list_any (int_eq z) xs ≡ list_any (int_eq z) zs) → length xs ≤ length zs
+set_few xs zs d h =
+    let same = length-alike xs (distinct zs) (alike xs zs d h) in
+    omega (arith, same, length-distinct zs)
+
 pub distinct-few : (xs : List ℤ) (column : ℕ) (rows : List Cells) → IsDistinct int_eq xs → ((z : ℤ) → list_any (int_eq z) xs ≡ list_any (int_eq z) (values_in column rows)) → length xs ≤ length rows
-distinct-few xs column rows d h =
-    let same = length-alike xs (distinct (values_in column rows)) (alike xs (values_in column rows) d h) in
-    omega (arith, same, length-distinct (values_in column rows), length-values_in rows column)
+distinct-few xs column rows d h = omega (arith, set_few xs (values_in column rows) d h, length-values_in rows column)

@@ -1,5 +1,6 @@
 -- Groups under way: one row more, one vector more.
-use Rattle.std.proofs.Common.{◌≡◌, ◌≢◌, ℕ, zero, suc, ◌+◌, ◌==◌, ◌<◌, ◌≤◌, ◌⊎◌, inl, inr, Bool, true, false, cond, ◌&&◌, ◌||◌, List, [], ◌∷◌, ◌++◌, map, length, get_or, set, Option, Some, None, ℤ, pos, refl, sym, ap, subst, ◌∙◌, arith, append-nil, append_assoc, length-append, length-set, get_or-set_same, get_or-set_other}
+use Rattle.std.proofs.Common.{◌≡◌, ◌≢◌, ℕ, zero, suc, ◌+◌, ◌*◌, ◌/◌, ◌%◌, ◌==◌, ◌<◌, ◌≤◌, ◌⊎◌, inl, inr, Bool, true, false, cond, not, ◌&&◌, ◌||◌, List, [], ◌∷◌, ◌++◌, map, length, get_or, set, Option, Some, None, ℤ, pos, refl, sym, ap, subst, ◌∙◌, arith, append-nil, append_assoc, length-append, length-set, get_or-set_same, get_or-set_other}
+use Rattle.std.specs.Int.{bit_at}
 use Rattle.std.specs.List.{filter_map, list_any}
 use Rattle.std.specs.BTreeMap.{BTreeMap, get, is_at}
 use Rattle.std.specs.Global.{Vec}
@@ -16,19 +17,21 @@ use Rattle.table_model.specs.State.{Cells, same_cells}
 use Rattle.table_model.proofs.Groups.{values_in-append}
 use Rattle.table_model.proofs.Parts.{neither}
 use Rattle.table_model.proofs.SameRows.{one_row, itself_row}
-use Rattle.query_eval.specs.Decoded.{decoded_at}
-use Rattle.query_eval.specs.Grouping.{AreEmpty, AreGroups, AreHeld, IsHeld, IsTaken, aggregate_cell, aggregate_values, as_list, is_once}
+use Rattle.query_eval.specs.Decoded.{shown_at}
+use Rattle.query_eval.specs.Grouping.{AreEmpty, AreGroups, AreHeld, IsHeld, IsTaken, AreShown, aggregate_cell, aggregate_values, as_list}
 use Rattle.query_eval.specs.Places.{ArePlaced, IsIndex, rows_below, rows_placed}
 use Rattle.query_eval.specs.Kept.{rows_at}
 use Rattle.query_eval.specs.Vector.{Vector, row_at}
 use Rattle.query_eval.specs.declared.places.Places.{Places}
 use Rattle.query_eval.proofs.PlaceLemmas.{some_same}
 use Rattle.query_eval.proofs.RowsBelow.{below_all, below_more, placed_more_rows}
-use Rattle.transpose_order.specs.Mask.{has}
-use Rattle.query_eval.specs.Tally.{IsTally, is_distinct}
+use Rattle.transpose_order.specs.Mask.{has, rows_of, truth_at}
+use Rattle.transpose_order.specs.MaskWords.{has-rows_of}
+use Rattle.query_eval.specs.Tally.{IsTally, kind_of}
+use Rattle.query_eval.specs.TallyKinds.{aggregate_kind}
 use Rattle.query_eval.specs.declared.aggregate.Aggregate.{Aggregate}
 use Rattle.query_eval.specs.declared.aggregate.Aggregate.TheVariants.{Rows, Folded}
-use Rattle.query_eval.specs.declared.decoded.Decoded.{Decoded}
+use Rattle.query_eval.specs.declared.decoded_columns.AggregateCells.{AggregateCells}
 use Rattle.query_eval.specs.declared.tally.Tally.{Tally}
 
 none_values : (a : Aggregate) → aggregate_values a [] ≡ []
@@ -36,7 +39,7 @@ unfolding values_in
 none_values Rows = refl
 none_values (Folded fold distinct place) = refl
 
-pub held_none : (a : Aggregate) (t : Tally) → IsTally [] t → is_distinct t ≡ is_once a → IsHeld [] a t
+pub held_none : (a : Aggregate) (t : Tally) → IsTally [] t → kind_of t ≡ aggregate_kind a → IsHeld [] a t
 held_none a t h e = record { values = subst (λ (vs : List ℤ). IsTally vs t) (sym (none_values a)) h; kind = e }
 
 map-at : {X Y : Type 0} (f : X → Y) (xs : List X) (i : ℕ) (x : X) (y : Y) → i < length xs → get_or (map f xs) i y ≡ f (get_or xs i x)
@@ -83,7 +86,7 @@ module _ (k : ℕ) (v : Vector) (mask : List Bool) (places : List ℕ) (g : ℕ)
       subst (λ (l : List Cells). IsHeld (rows ++ l) a t) (sym (append-nil (rows_placed k v mask places g)) ∙ sym (placed_more_rows k v mask places g false (ap (λ b. b && (get_or places k 0 == g)) off))) h
 
   -- the next row's cell is taken into the tally at its place
-  pub held_cell : (t u : Tally) (place : ℕ) (cell : Option ℤ) → has mask k ≡ true → place ≡ get_or places k 0 → cell ≡ aggregate_cell (row_at v k) a → ((values : List ℤ) → IsTally values t → IsTally (values ++ cond (place == g) (as_list cell) []) u) → is_distinct u ≡ is_distinct t → IsHeld (rows ++ rows_placed k v mask places g) a t → IsHeld (rows ++ rows_placed (k + 1) v mask places g) a u
+  pub held_cell : (t u : Tally) (place : ℕ) (cell : Option ℤ) → has mask k ≡ true → place ≡ get_or places k 0 → cell ≡ aggregate_cell (row_at v k) a → ((values : List ℤ) → IsTally values t → IsTally (values ++ cond (place == g) (as_list cell) []) u) → kind_of u ≡ kind_of t → IsHeld (rows ++ rows_placed k v mask places g) a t → IsHeld (rows ++ rows_placed (k + 1) v mask places g) a u
   held_cell t u place cell on at is takes same h = one (place == g) refl
     where
       before : List Cells
@@ -110,6 +113,34 @@ module _ (k : ℕ) (v : Vector) (mask : List Bool) (places : List ℕ) (g : ℕ)
             kind = same ∙ h.kind;
           }
 
+  chosen_one : (b : Bool) (o : Option ℤ) (z : ℤ) → cond b o None ≡ Some z → (b ≡ true) × (o ≡ Some z)
+  chosen_one true o z e = (refl, e)
+  chosen_one false o z e = absurd (never e)
+    where
+      never : None ≡ Some z → ⊥
+      never q = cc
+
+  -- the next row's value is taken into the tally at its place
+  pub held_on : (chosen : List Bool) (values : List ℤ) (t u : Tally) → k < 1024 → AreShown a v mask chosen values → has chosen k ≡ true → ((taken : List ℤ) → IsTally taken t → IsTally (taken ++ cond (get_or places k 0 == g) (get_or values k (pos 0) ∷ []) []) u) → kind_of u ≡ kind_of t → IsHeld (rows ++ rows_placed k v mask places g) a t → IsHeld (rows ++ rows_placed (k + 1) v mask places g) a u
+  held_on chosen values t u l shown on takes same h =
+      let z : ℤ = get_or values k (pos 0) in
+      let both = chosen_one (has mask k) (aggregate_cell (row_at v k) a) z (shown k l ∙ ap (λ b. cond b (Some z) None) on) in
+      held_cell t u (get_or places k 0) (Some z) both.0 refl (sym both.1) takes same h
+
+  -- the next row has no value, or isn't one of the mask
+  pub held_off : (chosen : List Bool) (values : List ℤ) (t : Tally) → k < 1024 → AreShown a v mask chosen values → has chosen k ≡ false → IsHeld (rows ++ rows_placed k v mask places g) a t → IsHeld (rows ++ rows_placed (k + 1) v mask places g) a t
+  held_off chosen values t l shown off h = by_test (has mask k) refl
+    where
+      nothing : (b : Bool) → cond b (as_list None) [] ≡ []
+      nothing true = refl
+      nothing false = refl
+
+      by_test : (b : Bool) → has mask k ≡ b → IsHeld (rows ++ rows_placed (k + 1) v mask places g) a t
+      by_test false e = held_left t e h
+      by_test true e =
+          let null : None ≡ aggregate_cell (row_at v k) a = sym (ap (λ b. cond b (aggregate_cell (row_at v k) a) None) (sym e) ∙ shown k l ∙ ap (λ b. cond b (Some (get_or values k (pos 0))) None) off) in
+          held_cell t t (get_or places k 0) None e refl null (λ taken q. subst (λ (vs : List ℤ). IsTally vs t) (sym (ap (λ l2. taken ++ l2) (nothing (get_or places k 0 == g)) ∙ append-nil taken)) q) refl h
+
 -- within a list it doesn't matter what stands past its end
 pub within_any : {X : Type 0} (xs : List X) (i : ℕ) (a b : X) → i < length xs → get_or xs i a ≡ get_or xs i b
 within_any [] i a b l = absurd (omega arith)
@@ -130,16 +161,16 @@ module _ (place : ℕ) (old new : List Tally) (u d : Tally) (within : place < le
           let ne : g ≢ place = λ q. false≢true (sym e ∙ (Decides-eqb place g).1 (sym q)) in
           subst (λ (vs : List ℤ). IsTally vs (get_or new g t)) (sym (append-nil values)) (subst (IsTally values) (sym (ap (λ ts. get_or ts g t) is ∙ get_or-set_other old place g u t ne)) h)
 
-  pub cell_kind : is_distinct u ≡ is_distinct (get_or old place d) → (g : ℕ) (t : Tally) → g < length old → is_distinct (get_or new g t) ≡ is_distinct (get_or old g t)
+  pub cell_kind : kind_of u ≡ kind_of (get_or old place d) → (g : ℕ) (t : Tally) → g < length old → kind_of (get_or new g t) ≡ kind_of (get_or old g t)
   cell_kind same g t l = one (place == g) refl
     where
-      one : (b : Bool) → (place == g) ≡ b → is_distinct (get_or new g t) ≡ is_distinct (get_or old g t)
+      one : (b : Bool) → (place == g) ≡ b → kind_of (get_or new g t) ≡ kind_of (get_or old g t)
       one true e =
           let at : place ≡ g = (Decides-eqb place g).0 e in
-          ap is_distinct (ap (λ ts. get_or ts g t) is ∙ ap (λ j. get_or (set old place u) j t) (sym at) ∙ get_or-set_same old place u t within) ∙ same ∙ ap is_distinct (within_any old place d t within ∙ ap (λ j. get_or old j t) at)
+          ap kind_of (ap (λ ts. get_or ts g t) is ∙ ap (λ j. get_or (set old place u) j t) (sym at) ∙ get_or-set_same old place u t within) ∙ same ∙ ap kind_of (within_any old place d t within ∙ ap (λ j. get_or old j t) at)
       one false e =
           let ne : g ≢ place = λ q. false≢true (sym e ∙ (Decides-eqb place g).1 (sym q)) in
-          ap is_distinct (ap (λ ts. get_or ts g t) is ∙ get_or-set_other old place g u t ne)
+          ap kind_of (ap (λ ts. get_or ts g t) is ∙ get_or-set_other old place g u t ne)
 
 -- one tally more
 pub known_push : (old ts next : List Tally) (u : Tally) → next ≡ ts ++ u ∷ [] → length old ≤ length ts → ((g : ℕ) (t : Tally) → g < length old → get_or ts g t ≡ get_or old g t) → (g : ℕ) (t : Tally) → g < length old → get_or next g t ≡ get_or old g t
@@ -281,16 +312,16 @@ empty_push n ts next u is e h = record {
         ap (λ xs. (get_or xs i c).items) is ∙ ap (λ j. (get_or (ts ++ u ∷ []) j c).items) at ∙ ap (λ x. x.items) (get_or-append_seam ts u [] c) ∙ e
 
 -- one aggregate more has taken in the rows
-module _ (named : List Aggregate) (cells : List Decoded) (mask : List Bool) (places : List ℕ) (count i : ℕ) (old now : List (Vec Tally)) (m u : Vec Tally) (d0 : Decoded) (size : length now ≡ length old) (ln : i < length named) (lc : i < length cells) (lo : i < length old) (ahead : (j : ℕ) (c : Vec Tally) → i ≤ j → get_or now j c ≡ get_or old j c) where
+module _ (named : List Aggregate) (cells : List AggregateCells) (mask : List Bool) (places : List ℕ) (count i : ℕ) (old now : List (Vec Tally)) (m u : Vec Tally) (d0 : AggregateCells) (size : length now ≡ length old) (ln : i < length named) (lc : i < length cells) (lo : i < length old) (ahead : (j : ℕ) (c : Vec Tally) → i ≤ j → get_or now j c ≡ get_or old j c) where
   pub columns_size : length (set now i u) ≡ length old
   columns_size = length-set now i u ∙ size
 
   pub columns_ahead : (j : ℕ) (c : Vec Tally) → i + 1 ≤ j → get_or (set now i u) j c ≡ get_or old j c
   columns_ahead j c l = let ne : j ≢ i = omega arith in get_or-set_other now i j u c ne ∙ ahead j c (omega (arith, l))
 
-  pub columns_taken : m ≡ get_or now i m → d0 ≡ get_or cells i d0 → ((j : ℕ) (a : Aggregate) (d : Decoded) (c : Vec Tally) (v : Vector) → j < i → ((n : ℕ) → n < 1024 → decoded_at (get_or cells j d) n ≡ aggregate_cell (row_at v n) (get_or named j a)) → IsTaken (get_or named j a) v mask places count (get_or old j c).items (get_or now j c).items)
-      → ((v : Vector) → ((n : ℕ) → n < 1024 → decoded_at d0 n ≡ aggregate_cell (row_at v n) (get_or named i Rows)) → IsTaken (get_or named i Rows) v mask places count m.items u.items)
-      → (j : ℕ) (a : Aggregate) (d : Decoded) (c : Vec Tally) (v : Vector) → j < i + 1 → ((n : ℕ) → n < 1024 → decoded_at (get_or cells j d) n ≡ aggregate_cell (row_at v n) (get_or named j a)) → IsTaken (get_or named j a) v mask places count (get_or old j c).items (get_or (set now i u) j c).items
+  pub columns_taken : m ≡ get_or now i m → d0 ≡ get_or cells i d0 → ((j : ℕ) (a : Aggregate) (d : AggregateCells) (c : Vec Tally) (v : Vector) → j < i → ((n : ℕ) → n < 1024 → shown_at (get_or cells j d) n ≡ aggregate_cell (row_at v n) (get_or named j a)) → IsTaken (get_or named j a) v mask places count (get_or old j c).items (get_or now j c).items)
+      → ((v : Vector) → ((n : ℕ) → n < 1024 → shown_at d0 n ≡ aggregate_cell (row_at v n) (get_or named i Rows)) → IsTaken (get_or named i Rows) v mask places count m.items u.items)
+      → (j : ℕ) (a : Aggregate) (d : AggregateCells) (c : Vec Tally) (v : Vector) → j < i + 1 → ((n : ℕ) → n < 1024 → shown_at (get_or cells j d) n ≡ aggregate_cell (row_at v n) (get_or named j a)) → IsTaken (get_or named j a) v mask places count (get_or old j c).items (get_or (set now i u) j c).items
   columns_taken mine cell taken one j a d c v l shown = by_place (cases_lt j i)
     where
       by_place : (j < i) ⊎ (i ≤ j) → IsTaken (get_or named j a) v mask places count (get_or old j c).items (get_or (set now i u) j c).items
@@ -300,9 +331,45 @@ module _ (named : List Aggregate) (cells : List Decoded) (mask : List Bool) (pla
       by_place (inr b) =
           let e : i ≡ j = omega arith in
           let inside : i < length now = omega (arith, lo, size) in
-          let here = subst (λ (k : ℕ). (n : ℕ) → n < 1024 → decoded_at (get_or cells k d) n ≡ aggregate_cell (row_at v n) (get_or named k a)) (sym e) shown in
-          let its = one v (λ n q. ap (λ x. decoded_at x n) (cell ∙ within_any cells i d0 d lc) ∙ here n q ∙ ap (aggregate_cell (row_at v n)) (within_any named i a Rows ln)) in
+          let here = subst (λ (k : ℕ). (n : ℕ) → n < 1024 → shown_at (get_or cells k d) n ≡ aggregate_cell (row_at v n) (get_or named k a)) (sym e) shown in
+          let its = one v (λ n q. ap (λ x. shown_at x n) (cell ∙ within_any cells i d0 d lc) ∙ here n q ∙ ap (aggregate_cell (row_at v n)) (within_any named i a Rows ln)) in
           subst (λ (k : ℕ). IsTaken (get_or named k a) v mask places count (get_or old k c).items (get_or (set now i u) k c).items) e
           (subst (λ (x : Vec Tally). IsTaken (get_or named i a) v mask places count (get_or old i c).items x.items) (sym (get_or-set_same now i u c inside))
           (subst (λ (x : Vec Tally). IsTaken (get_or named i a) v mask places count x.items u.items) (mine ∙ within_any now i m c inside ∙ ahead i c (omega arith))
           (subst (λ (x : Aggregate). IsTaken x v mask places count m.items u.items) (within_any named i Rows a ln) its)))
+
+-- where each row has a value, the rows of the mask have one
+pub shown_every : (a : Aggregate) (v : Vector) (mask : List Bool) (values : List ℤ) → ((n : ℕ) → n < 1024 → get_or values n (pos 0) ≡ pos 0) → ((n : ℕ) → n < 1024 → Some (pos 0) ≡ aggregate_cell (row_at v n) a) → AreShown a v mask mask values
+shown_every a v mask values are shown n l = ap (λ o. cond (has mask n) o None) (sym (shown n l) ∙ ap Some (sym (are n l)))
+
+-- of a column, the rows of the mask that aren't null have one
+pub shown_values : (a : Aggregate) (v : Vector) (mask nulls rows : List Bool) (values : List ℤ) → rows ≡ rows_of (λ n. has mask n && not (has nulls n)) → ((n : ℕ) → n < 1024 → cond (has nulls n) None (Some (get_or values n (pos 0))) ≡ aggregate_cell (row_at v n) a) → AreShown a v mask rows values
+shown_values a v mask nulls rows values e shown n l =
+    ap (λ o. cond (has mask n) o None) (sym (shown n l)) ∙ one (has mask n) (has nulls n)
+    ∙ ap (λ b. cond b (Some (get_or values n (pos 0))) None) (sym (ap (λ m. has m n) e ∙ has-rows_of (λ m. has mask m && not (has nulls m)) n l))
+  where
+    one : (b c : Bool) → cond b (cond c None (Some (get_or values n (pos 0)))) None ≡ cond (b && not c) (Some (get_or values n (pos 0))) None
+    one true true = refl
+    one true false = refl
+    one false c = refl
+
+-- where no row has a value, none has
+pub shown_missing : (a : Aggregate) (v : Vector) (mask rows : List Bool) (values : List ℤ) → rows ≡ rows_of (λ _. false) → ((n : ℕ) → n < 1024 → None ≡ aggregate_cell (row_at v n) a) → AreShown a v mask rows values
+shown_missing a v mask rows values e shown n l =
+    ap (λ o. cond (has mask n) o None) (sym (shown n l)) ∙ one (has mask n)
+    ∙ ap (λ b. cond b (Some (get_or values n (pos 0))) None) (sym (ap (λ m. has m n) e ∙ has-rows_of (λ _. false) n l))
+  where
+    nothing : Option ℤ
+    nothing = None
+
+    one : (b : Bool) → cond b nothing nothing ≡ nothing
+    one true = refl
+    one false = refl
+
+-- bit b of word j is row 64 * j + b
+pub word_bits : (words : List ℕ) (rows : List Bool) (j b : ℕ) → j < 16 → b < 64 → rows ≡ rows_of (truth_at words) → (bit_at (get_or words j 0) b == 1) ≡ has rows (64 * j + b)
+word_bits words rows j b lj lb e =
+    let word : (64 * j + b) / 64 ≡ j = omega arith in
+    let bit : (64 * j + b) % 64 ≡ b = omega arith in
+    sym (ap (λ m. has m (64 * j + b)) e ∙ has-rows_of (truth_at words) (64 * j + b) (omega (arith, lj, lb)) ∙ ap (λ k. bit_at (get_or words k 0) ((64 * j + b) % 64) == 1) word
+    ∙ ap (λ k. bit_at (get_or words j 0) k == 1) bit)

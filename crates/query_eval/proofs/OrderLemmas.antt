@@ -28,7 +28,8 @@ use Rattle.query_eval.specs.Aggregate.{aggregate_value}
 use Rattle.query_eval.specs.Finished.{GroupFields, finished_groups, finished_of}
 use Rattle.query_eval.specs.Grouping.{AreGroups, IsHeld, aggregate_values}
 use Rattle.query_eval.specs.Kept.{AreFew}
-use Rattle.query_eval.specs.Tally.{IsTally, is_distinct}
+use Rattle.query_eval.specs.Tally.{IsTally, kind_of}
+use Rattle.query_eval.specs.TallyKinds.{fold_kind}
 use Rattle.query_eval.specs.declared.aggregate.Aggregate.{Aggregate}
 use Rattle.query_eval.specs.declared.aggregate.Aggregate.TheVariants.{Rows, Folded}
 use Rattle.query_eval.specs.declared.tally.Tally.{Tally}
@@ -51,17 +52,15 @@ values_few Rows table rows few = omega (arith, zeros_length rows, few.few)
 values_few (Folded fold distinct place) table rows few = omega (arith, length-values_in rows place, few.few)
 
 -- COUNT(*) counts the rows
-pub rows_value : (table : Table) (rows : List Cells) (t : Tally) (field : Field) → ((values : List ℤ) → length values ≤ 2 ^ 32 → AreSmall values → IsTally values t → field ≡ fold_value Count (once_if (is_distinct t) values)) → AreFew table rows → IsHeld rows Rows t → field ≡ aggregate_value Rows rows
+pub rows_value : (table : Table) (rows : List Cells) (t : Tally) (field : Field) → ((distinct : Bool) (values : List ℤ) → length values ≤ 2 ^ 32 → AreSmall values → IsTally values t → kind_of t ≡ fold_kind distinct Count → field ≡ fold_value Count (once_if distinct values)) → AreFew table rows → IsHeld rows Rows t → field ≡ aggregate_value Rows rows
 rows_value table rows t field is few h =
-    is (aggregate_values Rows rows) (values_few Rows table rows few) (values_small Rows table rows few) h.values
-    ∙ ap (λ b. fold_value Count (once_if b (aggregate_values Rows rows))) h.kind
+    is false (aggregate_values Rows rows) (values_few Rows table rows few) (values_small Rows table rows few) h.values h.kind
     ∙ ap (λ n. Whole (pos n)) (zeros_length rows)
 
 -- a set function of a column
-pub folded_value : (fold : Fold) (distinct : Bool) (place : ℕ) (table : Table) (rows : List Cells) (t : Tally) (field : Field) → ((values : List ℤ) → length values ≤ 2 ^ 32 → AreSmall values → IsTally values t → field ≡ fold_value fold (once_if (is_distinct t) values)) → AreFew table rows → IsHeld rows (Folded fold distinct place) t → field ≡ aggregate_value (Folded fold distinct place) rows
+pub folded_value : (fold : Fold) (distinct : Bool) (place : ℕ) (table : Table) (rows : List Cells) (t : Tally) (field : Field) → ((each : Bool) (values : List ℤ) → length values ≤ 2 ^ 32 → AreSmall values → IsTally values t → kind_of t ≡ fold_kind each fold → field ≡ fold_value fold (once_if each values)) → AreFew table rows → IsHeld rows (Folded fold distinct place) t → field ≡ aggregate_value (Folded fold distinct place) rows
 folded_value fold distinct place table rows t field is few h =
-    is (values_in place rows) (values_few (Folded fold distinct place) table rows few) (values_small (Folded fold distinct place) table rows few) h.values
-    ∙ ap (λ b. fold_value fold (once_if b (values_in place rows))) h.kind
+    is distinct (values_in place rows) (values_few (Folded fold distinct place) table rows few) (values_small (Folded fold distinct place) table rows few) h.values h.kind
 
 row_chosen : (columns : List ColumnShape) (row : Cells) (rows : List Cells) (b : Bool) → IsRow columns row → AreRows columns rows → AreRows columns (cond b (row ∷ rows) rows)
 row_chosen columns row rows true h rest = (h, rest)

@@ -85,11 +85,12 @@ module _ (key : Cells) (old new : BTreeMap Cells ℕ) (n : ℕ) (many : n ≡ le
     occurs = λ q. one_occurs q (same_cells key q) refl;
   }
 
-  pub index_new : (recent : Vec (Option Recent)) → IsIndex (record { index = old; recent = recent }) → IsIndex (record { index = new; recent = recent })
-  index_new recent h = record {
+  pub index_new : (recent : Vec (Option Recent)) (null : Option ℕ) → IsIndex (record { index = old; recent = recent; null = null }) → IsIndex (record { index = new; recent = recent; null = null })
+  index_new recent null h = record {
     below = λ q place is. one_below q place is (same_cells key q) refl;
     apart = λ q r place is also. one_apart q r place is also (same_cells key q) (same_cells key r) refl refl;
-    recent = λ i r is. one_kept (r.cell ∷ []) r.place (h.recent i r is) (same_cells key (r.cell ∷ [])) refl;
+    recent = λ i r is. one_kept (Some r.value ∷ []) r.place (h.recent i r is) (same_cells key (Some r.value ∷ [])) refl;
+    null = λ place is. one_kept (None ∷ []) place (h.null place is) (same_cells key (None ∷ [])) refl;
   }
     where
       one_below : (q : Cells) (place : ℕ) → get key_cmp new q ≡ Some place → (b : Bool) → same_cells key q ≡ b → place < length new.entries
@@ -102,17 +103,27 @@ module _ (key : Cells) (old new : BTreeMap Cells ℕ) (n : ℕ) (many : n ≡ le
       one_apart q r place is also false true e f = absurd (omega (arith, some_same (sym (here r true f) ∙ also), many, h.below q place (sym (here q false e) ∙ is)))
       one_apart q r place is also false false e f = h.apart q r place (sym (here q false e) ∙ is) (sym (here r false f) ∙ also)
 
--- a cell's place is remembered
-pub index_remembered : (index : BTreeMap Cells ℕ) (before after : Vec (Option Recent)) (entry : Recent) → get key_cmp index (entry.cell ∷ []) ≡ Some entry.place → ((i : ℕ) (r : Recent) → get_or after.items i None ≡ Some r → (r ≡ entry) ⊎ (get_or before.items i None ≡ Some r)) → IsIndex (record { index = index; recent = before }) → IsIndex (record { index = index; recent = after })
-index_remembered index before after entry is from h = record {
+-- a value's place is remembered
+pub index_remembered : (index : BTreeMap Cells ℕ) (before after : Vec (Option Recent)) (null : Option ℕ) (entry : Recent) → get key_cmp index (Some entry.value ∷ []) ≡ Some entry.place → ((i : ℕ) (r : Recent) → get_or after.items i None ≡ Some r → (r ≡ entry) ⊎ (get_or before.items i None ≡ Some r)) → IsIndex (record { index = index; recent = before; null = null }) → IsIndex (record { index = index; recent = after; null = null })
+index_remembered index before after null entry is from h = record {
   below = h.below;
   apart = h.apart;
   recent = λ i r e. one i r (from i r e);
+  null = h.null;
 }
   where
-    one : (i : ℕ) (r : Recent) → (r ≡ entry) ⊎ (get_or before.items i None ≡ Some r) → get key_cmp index (r.cell ∷ []) ≡ Some r.place
-    one i r (inl e) = subst (λ (x : Recent). get key_cmp index (x.cell ∷ []) ≡ Some x.place) (sym e) is
+    one : (i : ℕ) (r : Recent) → (r ≡ entry) ⊎ (get_or before.items i None ≡ Some r) → get key_cmp index (Some r.value ∷ []) ≡ Some r.place
+    one i r (inl e) = subst (λ (x : Recent). get key_cmp index (Some x.value ∷ []) ≡ Some x.place) (sym e) is
     one i r (inr e) = h.recent i r e
+
+-- the place of null is remembered
+pub index_null : (index : BTreeMap Cells ℕ) (recent : Vec (Option Recent)) (before : Option ℕ) (place : ℕ) → get key_cmp index (None ∷ []) ≡ Some place → IsIndex (record { index = index; recent = recent; null = before }) → IsIndex (record { index = index; recent = recent; null = Some place })
+index_null index recent before place is h = record {
+  below = h.below;
+  apart = h.apart;
+  recent = h.recent;
+  null = λ p e. is ∙ ap Some (some_same e);
+}
 
 -- no row has a place yet
 pub placed_none : (by : List ℕ) (v : Vector) (mask : List Bool) (m : BTreeMap Cells ℕ) (places : List ℕ) → ArePlaced 0 by v mask m m places

@@ -1,5 +1,5 @@
 -- Groups under way: for each list of keys that came, the tallies of the rows that have it.
-use Rattle.std.specs.Prelude.{◌≡◌, ℕ, ◌+◌, ◌<◌, ◌≤◌, ◌++◌, Bool, false, cond, nat_lt, List, [], ◌∷◌, map, length, slice_index_or, sum_by, Option, Some, None, ℤ, pos}
+use Rattle.std.specs.Prelude.{◌≡◌, ℕ, ◌+◌, ◌<◌, ◌≤◌, ◌++◌, Bool, cond, nat_lt, List, [], ◌∷◌, map, length, slice_index_or, sum_by, Option, Some, None, ℤ, pos}
 use Rattle.std.specs.List.{list_any}
 use Rattle.std.specs.BTreeMap.{BTreeMap, get}
 use Rattle.std.specs.Option.{is_some}
@@ -10,8 +10,10 @@ use Rattle.table_model.specs.Table.{Table}
 use Rattle.query_eval.specs.Finished.{PlanShape}
 use Rattle.query_eval.specs.Places.{rows_placed}
 use Rattle.query_eval.specs.QueryMentions.{aggregate_mentions}
-use Rattle.query_eval.specs.Tally.{IsTally, is_distinct}
-use Rattle.query_eval.specs.Vector.{Vector}
+use Rattle.query_eval.specs.Tally.{IsTally, kind_of}
+use Rattle.query_eval.specs.TallyKinds.{aggregate_kind}
+use Rattle.query_eval.specs.Vector.{Vector, row_at}
+use Rattle.transpose_order.specs.Mask.{has}
 use Rattle.query_eval.specs.declared.aggregate.Aggregate.{Aggregate}
 use Rattle.query_eval.specs.declared.aggregate.Aggregate.TheVariants.{Rows, Folded}
 use Rattle.query_eval.specs.declared.side.Side.{Side}
@@ -37,15 +39,10 @@ abbrev pub aggregate_values : Aggregate → List Cells → List ℤ
 aggregate_values Rows rows = map (λ _. pos 0) rows
 aggregate_values (Folded fold distinct place) rows = values_in place rows
 
--- whether an aggregate goes over each value once
-abbrev pub is_once : Aggregate → Bool
-is_once Rows = false
-is_once (Folded fold distinct place) = distinct
-
 -- a tally is that of an aggregate over some rows
 pub record IsHeld (rows : List Cells) (a : Aggregate) (t : Tally) : Type 0 where
   pub values : IsTally (aggregate_values a rows) t
-  pub kind : is_distinct t ≡ is_once a
+  pub kind : kind_of t ≡ aggregate_kind a
 
 -- the tallies at a place are those of the aggregates over some rows, one each
 pub record AreHeld (rows : List Cells) (aggregates : List Aggregate) (tallies : List (Vec Tally)) (place : ℕ) : Type 0 where
@@ -75,6 +72,10 @@ pub record IsTaken (a : Aggregate) (v : Vector) (mask : List Bool) (places : Lis
 abbrev pub as_list : Option ℤ → List ℤ
 as_list None = []
 as_list (Some z) = z ∷ []
+
+-- decoded values at some rows are those that an aggregate goes over at the rows of a mask
+abbrev pub AreShown : Aggregate → Vector → List Bool → List Bool → List ℤ → Type 0
+AreShown a v mask rows values = (n : ℕ) → n < 1024 → cond (has mask n) (aggregate_cell (row_at v n) a) None ≡ cond (has rows n) (Some (slice_index_or values n (pos 0))) None
 
 -- how many columns GROUP BY and the set functions of a query mention
 abbrev pub plan_mentions : PlanShape → ℕ

@@ -10,6 +10,7 @@ pub mod Finished
 pub mod Kept
 pub mod Tied
 pub mod Tally
+pub mod TallyKinds
 pub mod QueryMentions
 pub mod Grouping
 pub mod Places

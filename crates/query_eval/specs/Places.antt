@@ -19,11 +19,12 @@ rows_below k v mask = present (map (λ n. cond (has mask n) (Some (row_at v n)) 
 abbrev pub rows_placed : ℕ → Vector → List Bool → List ℕ → ℕ → List Cells
 rows_placed k v mask places place = present (map (λ n. cond (has mask n && (slice_index_or places n 0 == place)) (Some (row_at v n)) None) (range_with_len 0 k))
 
--- the places are those below the number of keys, no two keys have the same, and what is remembered of cells is so
+-- the places are those below the number of keys, no two keys have the same, and what is remembered of values and null is so
 pub record IsIndex (places : Places) : Type 0 where
   pub below : (key : Cells) (place : ℕ) → get key_cmp places.index key ≡ Some place → place < length places.index.entries
   pub apart : (key other : Cells) (place : ℕ) → get key_cmp places.index key ≡ Some place → get key_cmp places.index other ≡ Some place → key ≡ other
-  pub recent : (i : ℕ) (recent : Recent) → slice_index_or places.recent.items i None ≡ Some recent → get key_cmp places.index (recent.cell ∷ []) ≡ Some recent.place
+  pub recent : (i : ℕ) (recent : Recent) → slice_index_or places.recent.items i None ≡ Some recent → get key_cmp places.index (Some recent.value ∷ []) ≡ Some recent.place
+  pub null : (place : ℕ) → places.null ≡ Some place → get key_cmp places.index (None ∷ []) ≡ Some place
 
 -- some keys more: those that had a place keep it, and those that come have new ones
 pub record IsGrown (old new : BTreeMap Cells ℕ) : Type 0 where

@@ -29,7 +29,7 @@ fn add_values(set: &mut HashSet<i64>, rows: &Mask, values: &[i64; 1024]) -> Resu
 }
 
 /// The values of a set, in any order.
-fn set_values(alloc: Global, set: &HashSet<i64>) -> Result<Vec<i64>, AllocError>
+pub(crate) fn set_values(alloc: Global, set: &HashSet<i64>) -> Result<Vec<i64>, AllocError>
     ensures values { IfOk result (λ values. values.items ≡ set.now.keys) }
     ensures apart { IsDistinct int_eq set.now.keys }
 {

@@ -25,12 +25,12 @@ use std::collections::BTreeMap;
 use table_model::{Field, Fold};
 
 /// The value of an aggregate by its tally.
-fn value_of(aggregate: Aggregate, tally: &Tally) -> Field
-    ensures { (table : Table) (rows : List Cells) → AreFew table rows → IsHeld rows aggregate tally.now → result ≡ aggregate_value aggregate rows }
+fn value_of(alloc: Global, aggregate: Aggregate, tally: &Tally) -> Result<Field, AllocError>
+    ensures { IfOk result (λ field. (table : Table) (rows : List Cells) → AreFew table rows → IsHeld rows aggregate tally.now → field ≡ aggregate_value aggregate rows) }
 {
     match aggregate {
-        Aggregate::Rows => tally.field(Fold::Count),
-        Aggregate::Folded { fold, .. } => tally.field(fold),
+        Aggregate::Rows => Ok(tally.field(alloc, Fold::Count)?),
+        Aggregate::Folded { fold, .. } => Ok(tally.field(alloc, fold)?),
     }
 }
 
@@ -58,7 +58,7 @@ fn values_of(
     for i in 0..aggregates.len() {
         let field = match tally_at(tallies, i, place) {
             None => Field::Null,
-            Some(tally) => value_of(aggregates[i], tally),
+            Some(tally) => value_of(alloc, aggregates[i], tally)?,
         };
         fields.push(field)?;
     }

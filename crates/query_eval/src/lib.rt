@@ -4,6 +4,7 @@
 mod aggregate;
 mod answer_text;
 mod answering;
+mod bits;
 mod column_folds;
 mod columns;
 mod decoded;
@@ -42,6 +43,7 @@ pub use column_folds::{
 };
 pub use columns::Columns;
 pub use decoded::{Decoded, decode};
+pub use decoded_columns::AggregateCells;
 pub use distinct::distinct_values;
 pub use field_values::{mean_field, sum_field, values_field, whole_field};
 pub use finished::{FinishedGroup, Key};
@@ -54,5 +56,5 @@ pub use rows::{among_rows, between_rows};
 pub use seen::{is_kept, item_at};
 pub use side::{Side, compare_operands, compare_sides, null_operand, null_rows, side_of};
 pub use table_fields::whole_table;
-pub use tally::{Sums, Tally};
+pub use tally::{Tally, TallyKind};
 pub use where_masks::{condition_masks, predicate_masks};

@@ -1,42 +1,39 @@
 //! Places of groups by their keys, and of the rows of a vector by their groups.
-ghost use Rattle.std.specs.Prelude.{◌≡◌, ◌∷◌, [], ◌⊎◌, ℕ, length, slice_index_or, None, Some, IfOk};
+ghost use Rattle.std.specs.Prelude.{◌≡◌, ◌∷◌, [], ◌⊎◌, ℕ, cond, length, slice_index_or, None, Some, IfOk};
 ghost use Rattle.query_eval.specs.Places.{IsIndex, IsTakenIn};
 
 use crate::finished::Key;
 use std::alloc::{AllocError, Global};
 use std::collections::BTreeMap;
 
-/// How many cells are remembered with the places of their groups.
+/// How many values are remembered with the places of their groups.
 const REMEMBERED: usize = 1024;
 
-/// The cell of a group in the one grouping column, and the group's place.
+/// A value in the one grouping column, and the place of its group.
 #[derive(Clone, Copy, Debug)]
 pub struct Recent {
-    cell: Option<i128>,
+    value: i64,
     place: usize,
 }
 
 /// The places of groups by their keys, from 0 on in the order in which the keys came.
 ///
-/// Where one column groups, the places of cells are also remembered by the cells' low bits, so that few rows need a search.
+/// Where one column groups, the places of values are also remembered by the values' low bits, and that of null, so that few
+/// rows need a search.
 #[derive(Drop)]
 pub struct Places {
     index: BTreeMap<Key, usize>,
     recent: Vec<Option<Recent>>,
+    null: Option<usize>,
 }
 
-/// Where a cell's place is remembered, below 1024.
-fn slot_of(cell: Option<i128>) -> usize {
-    match cell {
-        None => 0,
-        Some(value) => {
-            let [low, high, ..] = value.to_le_bytes();
-            usize::from(low) + 256 * usize::from(high % 4)
-        }
-    }
+/// Where a value's place is remembered, below 1024.
+fn slot_of(value: i64) -> usize {
+    let [low, high, ..] = value.to_le_bytes();
+    usize::from(low) + 256 * usize::from(high % 4)
 }
 
-/// Remembers a cell's place in place of what was remembered there.
+/// Remembers a value's place in place of what was remembered there.
 fn remember(recent: &mut Vec<Option<Recent>>, slot: usize, entry: Recent)
     ensures { (i : ℕ) (r : Recent) → slice_index_or recent.new.items i None ≡ Some r → (r ≡ entry) ⊎ (slice_index_or recent.old.items i None ≡ Some r) }
 {
@@ -54,6 +51,7 @@ impl Places {
         Ok(Places {
             index: BTreeMap::new(alloc),
             recent: vec![in alloc; None; REMEMBERED]?,
+            null: None,
         })
     }
 
@@ -84,21 +82,56 @@ impl Places {
         Ok(place)
     }
 
-    /// The place of the group of a cell in the one grouping column, a new one where the cell hasn't come before.
-    pub fn of_cell(&mut self, alloc: Global, cell: Option<i128>) -> Result<usize, AllocError>
+    /// The place of the group of a cell in the one grouping column, by a search.
+    fn of_cell(&mut self, alloc: Global, cell: Option<i128>) -> Result<usize, AllocError>
         ensures index { IfOk result (λ place. IsIndex self.old → IsIndex self.new) }
-        ensures taken { IfOk result (λ place. IsIndex self.old → IsTakenIn (cell ∷ []) place self.old.index self.new.index) }
+        ensures taken { IfOk result (λ place. IsTakenIn (cell ∷ []) place self.old.index self.new.index) }
     {
-        let slot = slot_of(cell);
+        let mut key = Key::empty(alloc);
+        key.push(cell)?;
+        self.of_key(alloc, &key)
+    }
+
+    /// The place of the group of a value in the one grouping column, a new one where the value hasn't come before.
+    fn of_value(&mut self, alloc: Global, value: i64) -> Result<usize, AllocError>
+        ensures index { IfOk result (λ place. IsIndex self.old → IsIndex self.new) }
+        ensures taken { IfOk result (λ place. IsIndex self.old → IsTakenIn (Some value ∷ []) place self.old.index self.new.index) }
+    {
+        let slot = slot_of(value);
         if let Some(Some(recent)) = self.recent.get(slot) {
-            if recent.cell == cell {
+            if recent.value == value {
                 return Ok(recent.place);
             }
         }
-        let mut key = Key::empty(alloc);
-        key.push(cell)?;
-        let place = self.of_key(alloc, &key)?;
-        remember(&mut self.recent, slot, Recent { cell, place });
+        let place = self.of_cell(alloc, Some(i128::from(value)))?;
+        remember(&mut self.recent, slot, Recent { value, place });
+        Ok(place)
+    }
+
+    /// The place of the group of null in the one grouping column, a new one where null hasn't come before.
+    fn of_null(&mut self, alloc: Global) -> Result<usize, AllocError>
+        ensures index { IfOk result (λ place. IsIndex self.old → IsIndex self.new) }
+        ensures taken { IfOk result (λ place. IsIndex self.old → IsTakenIn (None ∷ []) place self.old.index self.new.index) }
+    {
+        if let Some(place) = self.null {
+            return Ok(place);
+        }
+        let place = self.of_cell(alloc, None)?;
+        self.null = Some(place);
+        Ok(place)
+    }
+
+    /// The place of the group of a cell in the one grouping column, which is null or a value; a new one where the cell hasn't
+    /// come before.
+    pub fn of_row(&mut self, alloc: Global, null: bool, value: i64) -> Result<usize, AllocError>
+        ensures index { IfOk result (λ place. IsIndex self.old → IsIndex self.new) }
+        ensures taken { IfOk result (λ place. IsIndex self.old → IsTakenIn (cond null None (Some value) ∷ []) place self.old.index self.new.index) }
+    {
+        if null {
+            let place = self.of_null(alloc)?;
+            return Ok(place);
+        }
+        let place = self.of_value(alloc, value)?;
         Ok(place)
     }
 }

@@ -1,10 +1,15 @@
 //! Places of the rows of a vector by their groups.
-ghost use Rattle.std.specs.Prelude.{◌≡◌, ◌<◌, ◌∷◌, [], ℕ, List, map, OnOk};
+ghost use Rattle.std.specs.Prelude.{◌≡◌, ◌==◌, ◌+◌, ◌<◌, ◌≤◌, ◌∷◌, [], ℕ, Bool, List, None, Some, cond, map, pos, slice_index_or, OnOk};
+ghost use Rattle.std.specs.BTreeMap.{BTreeMap};
+ghost use Rattle.std.specs.Int.{bit_at};
 ghost use Rattle.table_model.specs.Group.{key_of};
+ghost use Rattle.table_model.specs.State.{Cells};
 ghost use Rattle.query_eval.specs.Decoded.{decoded_at};
 ghost use Rattle.query_eval.specs.Places.{IsIndex, ArePlaced};
 ghost use Rattle.query_eval.specs.Vector.{Vector, row_at};
+ghost use Rattle.transpose_order.specs.Mask.{has};
 
+use crate::bits::is_set;
 use crate::decoded::Decoded;
 use crate::finished::Key;
 use crate::places::Places;
@@ -23,22 +28,56 @@ fn read_key(key: &mut Key, columns: &[Decoded], row: usize) -> Result<(), AllocE
     Ok(())
 }
 
-/// Writes the place of each row of a mask, by its cell in the one grouping column.
-fn place_by_cell(
+/// Writes the place of each row of a word of a mask, by its cell in the one grouping column: bit `b` is row `first + b`, of the
+/// word of nulls too.
+fn place_word(
     alloc: Global,
     places: &mut Places,
-    column: &Decoded,
+    nulls: u64,
+    values: &[i64; 1024],
+    word: u64,
+    first: usize,
+    out: &mut [usize; 1024],
+) -> Result<(), AllocError>
+    requires { first + 64 ≤ 1024 }
+    ensures index { OnOk result (IsIndex places.old → IsIndex places.new) }
+    ensures placed { OnOk result ((by : List ℕ) (v : Vector) (mask null_rows : List Bool) (before : BTreeMap Cells ℕ) → ((n : ℕ) → n < 1024 → cond (has null_rows n) None (Some (slice_index_or values.now n (pos 0))) ∷ [] ≡ key_of by (row_at v n)) → ((b : ℕ) → b < 64 → (bit_at word b == 1) ≡ has mask (first + b)) → ((b : ℕ) → b < 64 → (bit_at nulls b == 1) ≡ has null_rows (first + b)) → IsIndex places.old → ArePlaced first by v mask before places.old.index out.old → ArePlaced (first + 64) by v mask before places.new.index out.new) }
+{
+    for bit in 0..64 {
+        if is_set(word, bit) {
+            let row = first + bit;
+            let null = is_set(nulls, bit);
+            let place = places.of_row(alloc, null, values[row])?;
+            out[row] = place;
+        }
+    }
+    Ok(())
+}
+
+/// Writes the place of each row of a mask, by its cell in the one grouping column, 64 rows at a time.
+fn place_by_value(
+    alloc: Global,
+    places: &mut Places,
+    nulls: &Mask,
+    values: &[i64; 1024],
     mask: &Mask,
     out: &mut [usize; 1024],
 ) -> Result<(), AllocError>
     ensures index { OnOk result (IsIndex places.old → IsIndex places.new) }
-    ensures placed { OnOk result ((by : List ℕ) (v : Vector) → ((n : ℕ) → n < 1024 → decoded_at column.now n ∷ [] ≡ key_of by (row_at v n)) → IsIndex places.old → ArePlaced 1024 by v mask.now places.old.index places.new.index out.new) }
+    ensures placed { OnOk result ((by : List ℕ) (v : Vector) → ((n : ℕ) → n < 1024 → cond (has nulls.now n) None (Some (slice_index_or values.now n (pos 0))) ∷ [] ≡ key_of by (row_at v n)) → IsIndex places.old → ArePlaced 1024 by v mask.now places.old.index places.new.index out.new) }
 {
-    for row in 0..1024 {
-        if mask.get(row) {
-            let place = places.of_cell(alloc, column.at(row))?;
-            out[row] = place;
-        }
+    let words = mask.words();
+    let null_words = nulls.words();
+    for index in 0..16 {
+        place_word(
+            alloc,
+            places,
+            null_words[index],
+            values,
+            words[index],
+            64 * index,
+            out,
+        )?;
     }
     Ok(())
 }
@@ -77,8 +116,10 @@ pub fn place_rows(
     ensures placed { OnOk result ((by : List ℕ) (v : Vector) → ((n : ℕ) → n < 1024 → map (λ d. decoded_at d n) columns.now ≡ key_of by (row_at v n)) → IsIndex places.old → ArePlaced 1024 by v mask.now places.old.index places.new.index out.new) }
 {
     if columns.len() == 1 {
-        place_by_cell(alloc, places, &columns[0], mask, out)?;
-        return Ok(());
+        if let Decoded::Column { nulls, values } = &columns[0] {
+            place_by_value(alloc, places, nulls, values, mask, out)?;
+            return Ok(());
+        }
     }
     place_by_key(alloc, places, columns, mask, out)?;
     Ok(())

@@ -1,14 +1,18 @@
 //! Set functions of a group, value by value.
-ghost use Rattle.std.specs.Prelude.{◌≡◌, ◌≤◌, ◌^◌, ◌++◌, ◌∷◌, [], ◌+ℤ◌, ℤ, List, length, Some, IfOk, OnOk, FitsSigned, cond, not, true};
+ghost use Rattle.std.specs.Prelude.{◌≡◌, ◌≤◌, ◌^◌, ◌++◌, ◌∷◌, [], ◌+ℤ◌, ℤ, Bool, List, length, IfOk, OnOk, FitsSigned, cond, false, true};
 ghost use Rattle.std.specs.List.{list_any};
 ghost use Rattle.std.specs.Ordering.{int_eq};
 ghost use Rattle.std.specs.Int.{w128};
-ghost use Rattle.table_model.specs.Answer.{whole};
 ghost use Rattle.table_model.specs.Meaning.{fold_value, once_if};
-ghost use Rattle.table_model.specs.Values.{greater, lesser};
+ghost use Rattle.table_model.specs.Values.{distinct};
 ghost use Rattle.table_model.proofs.Bounds.{AreSmall};
-ghost use Rattle.query_eval.specs.Tally.{AreSums, AreTold, IsTally, is_distinct};
+ghost use Rattle.query_eval.specs.Tally.{AreTold, IsTally, kind_of};
+ghost use Rattle.query_eval.specs.declared.tally.TallyKind.TheVariants as kinds;
+ghost use Rattle.query_eval.specs.TallyKinds.{fold_kind};
 
+use crate::column_folds::{greater, lesser};
+use crate::distinct::set_values;
+use crate::field_values::{sum_field, values_field, whole_field};
 use std::alloc::{AllocError, Global};
 use std::collections::HashSet;
 use table_model::{Field, Fold};
@@ -16,88 +20,79 @@ use table_model::{Field, Fold};
 /// How many millionths a whole is.
 const MILLION: i128 = 1_000_000;
 
-/// What the set functions make of some values: how many there are, their sum, the least and the greatest.
-///
-/// It is exact of up to 2^32 values of a column; no sum wraps, whatever the values are.
+/// How many values of a column a set function is exact of.
+const MOST: usize = 1 << 32;
+
+/// What a set function keeps of a group's values.
+#[derive(Clone, Copy, Debug)]
+pub enum TallyKind {
+    Count,
+    Sum,
+    Least,
+    Greatest,
+    Distinct,
+}
+
+/// How many values there are, and their sum.
 #[derive(Clone, Copy, Debug)]
 pub struct Sums {
     count: u64,
     sum: i128,
-    least: Option<i128>,
-    greatest: Option<i128>,
 }
 
-/// The lesser of two values, of which the first may be missing.
-fn lesser(a: Option<i128>, b: i128) -> Option<i128>
-    ensures { result ≡ lesser a (Some b) }
-{
-    match a {
-        None => Some(b),
-        Some(a) => Some(a.min(b)),
-    }
-}
-
-/// The greater of two values, of which the first may be missing.
-fn greater(a: Option<i128>, b: i128) -> Option<i128>
-    ensures { result ≡ greater a (Some b) }
-{
-    match a {
-        None => Some(b),
-        Some(a) => Some(a.max(b)),
-    }
+/// A set function under way: of the values so far, what the function needs.
+///
+/// It is exact of up to 2^32 values of a column; no sum wraps, whatever the values are.
+#[derive(Drop)]
+pub enum Tally {
+    /// How many values there are.
+    Count(u64),
+    /// How many values there are and their sum, for SUM and AVG.
+    Sum(Sums),
+    /// The least value, `None` of no values.
+    Least(Option<i64>),
+    /// The greatest value, `None` of no values.
+    Greatest(Option<i64>),
+    /// The values, each once, under DISTINCT.
+    Distinct(HashSet<i64>),
 }
 
 /// The sum of two values where 128 bits hold it, else the first.
-fn added(a: i128, b: i128) -> i128
+fn added(a: i128, b: i64) -> i128
     ensures { FitsSigned w128 (a +ℤ b) → result ≡ a +ℤ b }
 {
-    match a.checked_add(b) {
+    match a.checked_add(i128::from(b)) {
         None => a,
         Some(sum) => sum,
     }
 }
 
+/// Adds a value to a set.
+fn insert(seen: &mut HashSet<i64>, value: i64) -> Result<(), AllocError>
+    ensures { OnOk result ((z : ℤ) → list_any (int_eq z) seen.new.keys ≡ cond (int_eq value z) true (list_any (int_eq z) seen.old.keys)) }
+{
+    let _added = seen.insert(value)?;
+    Ok(())
+}
+
 impl Sums {
-    /// What they make of no values.
-    pub fn none() -> Sums
-        ensures { AreSums [] result }
+    /// Takes in one value more.
+    fn add(&mut self, value: i64)
+        ensures { (values : List ℤ) → AreTold values self.old → AreTold (values ++ value ∷ []) self.new }
     {
-        Sums {
-            count: 0,
-            sum: 0,
-            least: None,
-            greatest: None,
-        }
+        self.count = self.count.saturating_add(1);
+        self.sum = added(self.sum, value);
     }
 
-    /// What they make of one value more.
-    pub fn with(self, value: i128) -> Sums
-        ensures { (values : List ℤ) → AreTold values self → AreTold (values ++ value ∷ []) result }
-    {
-        Sums {
-            count: self.count.saturating_add(1),
-            sum: added(self.sum, value),
-            least: lesser(self.least, value),
-            greatest: greater(self.greatest, value),
-        }
-    }
-
-    /// A set function of the values.
-    pub fn field(self, fold: Fold) -> Field
-        ensures { (values : List ℤ) → length values ≤ 2 ^ 32 → AreSmall values → AreTold values self → result ≡ fold_value fold values }
+    /// AVG of the values, where the fold is that, and else SUM.
+    fn field(self, fold: Fold) -> Field
+        ensures { (values : List ℤ) → length values ≤ 2 ^ 32 → AreSmall values → AreTold values self → kinds.Sum ≡ fold_kind false fold → result ≡ fold_value fold values }
     {
         match fold {
-            Fold::Count => Field::Whole(i128::from(self.count)),
-            Fold::Sum => {
-                if self.count == 0 {
-                    Field::Null
-                } else {
-                    Field::Whole(self.sum)
-                }
-            }
             Fold::Avg => self.mean(),
-            Fold::Min => or_null(self.least),
-            Fold::Max => or_null(self.greatest),
+            Fold::Count | Fold::Sum | Fold::Min | Fold::Max => {
+                sum_field(u128::from(self.count), self.sum)
+            }
         }
     }
 
@@ -115,72 +110,57 @@ impl Sums {
     }
 }
 
-/// A whole number or null as a field.
-fn or_null(value: Option<i128>) -> Field
-    ensures { result ≡ whole value }
+/// A set function of a set's values, which are at most 2^32.
+fn set_field(alloc: Global, fold: Fold, seen: &HashSet<i64>) -> Result<Field, AllocError>
+    ensures { IfOk result (λ field. (values : List ℤ) → length values ≤ 2 ^ 32 → ((z : ℤ) → list_any (int_eq z) seen.now.keys ≡ list_any (int_eq z) values) → field ≡ fold_value fold (distinct values)) }
 {
-    match value {
-        None => Field::Null,
-        Some(value) => Field::Whole(value),
+    let values = set_values(alloc, seen)?;
+    if values.len() > MOST {
+        return Ok(Field::Null);
     }
-}
-
-/// Adds a value to a set, and tells whether the set hadn't it.
-fn insert(seen: &mut HashSet<i128>, value: i128) -> Result<bool, AllocError>
-    ensures added { IfOk result (λ added. added ≡ not (list_any (int_eq value) seen.old.keys)) }
-    ensures known { OnOk result ((z : ℤ) → list_any (int_eq z) seen.new.keys ≡ cond (int_eq value z) true (list_any (int_eq z) seen.old.keys)) }
-{
-    let added = seen.insert(value)?;
-    Ok(added)
-}
-
-/// A set function under way: what it makes of the values so far or, under DISTINCT, of each of them once.
-#[derive(Drop)]
-pub enum Tally {
-    Plain(Sums),
-    Distinct { seen: HashSet<i128>, sums: Sums },
+    Ok(values_field(fold, values.as_slice()))
 }
 
 impl Tally {
     /// The set function of no values. It takes no memory.
-    pub fn new(alloc: Global, distinct: bool) -> Tally
+    pub fn new(alloc: Global, kind: TallyKind) -> Tally
         ensures values { IsTally [] result }
-        ensures kind { is_distinct result ≡ distinct }
+        ensures kind { kind_of result ≡ kind }
     {
-        let sums = Sums::none();
-        if distinct {
-            Tally::Distinct {
-                seen: HashSet::new(alloc),
-                sums,
-            }
-        } else {
-            Tally::Plain(sums)
+        match kind {
+            TallyKind::Count => Tally::Count(0),
+            TallyKind::Sum => Tally::Sum(Sums { count: 0, sum: 0 }),
+            TallyKind::Least => Tally::Least(None),
+            TallyKind::Greatest => Tally::Greatest(None),
+            TallyKind::Distinct => Tally::Distinct(HashSet::new(alloc)),
         }
     }
 
     /// Takes in one value more.
-    pub fn add(&mut self, value: i128) -> Result<(), AllocError>
+    pub fn add(&mut self, value: i64) -> Result<(), AllocError>
         ensures values { OnOk result ((values : List ℤ) → IsTally values self.old → IsTally (values ++ value ∷ []) self.new) }
-        ensures kind { is_distinct self.new ≡ is_distinct self.old }
+        ensures kind { kind_of self.new ≡ kind_of self.old }
     {
         match self {
-            Tally::Plain(sums) => *sums = sums.with(value),
-            Tally::Distinct { seen, sums } => {
-                if insert(seen, value)? {
-                    *sums = sums.with(value);
-                }
-            }
+            Tally::Count(count) => *count = count.saturating_add(1),
+            Tally::Sum(sums) => sums.add(value),
+            Tally::Least(least) => *least = lesser(*least, Some(value)),
+            Tally::Greatest(greatest) => *greatest = greater(*greatest, Some(value)),
+            Tally::Distinct(seen) => insert(seen, value)?,
         }
         Ok(())
     }
 
-    /// The set function's value.
-    pub fn field(&self, fold: Fold) -> Field
-        ensures { (values : List ℤ) → length values ≤ 2 ^ 32 → AreSmall values → IsTally values self.now → result ≡ fold_value fold (once_if (is_distinct self.now) values) }
+    /// The set function's value. DISTINCT takes memory for the values.
+    pub fn field(&self, alloc: Global, fold: Fold) -> Result<Field, AllocError>
+        ensures { IfOk result (λ field. (distinct : Bool) (values : List ℤ) → length values ≤ 2 ^ 32 → AreSmall values → IsTally values self.now → kind_of self.now ≡ fold_kind distinct fold → field ≡ fold_value fold (once_if distinct values)) }
     {
         match self {
-            Tally::Plain(sums) => sums.field(fold),
-            Tally::Distinct { sums, .. } => sums.field(fold),
+            Tally::Count(count) => Ok(Field::Whole(i128::from(*count))),
+            Tally::Sum(sums) => Ok(sums.field(fold)),
+            Tally::Least(least) => Ok(whole_field(*least)),
+            Tally::Greatest(greatest) => Ok(whole_field(*greatest)),
+            Tally::Distinct(seen) => set_field(alloc, fold, seen),
         }
     }
 }

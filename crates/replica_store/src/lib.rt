@@ -19,4 +19,6 @@ mod exchange_tests;
 #[cfg(test)]
 mod recode_tests;
 #[cfg(test)]
+mod refused_tests;
+#[cfg(test)]
 mod tests;

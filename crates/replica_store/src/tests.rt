@@ -25,14 +25,14 @@ pub(crate) fn name(origin: u32, number: u32) -> BatchName {
     }
 }
 
-fn row_name(origin: u32, number: u32, ordinal: u16) -> RowName {
+pub(crate) fn row_name(origin: u32, number: u32, ordinal: u16) -> RowName {
     RowName {
         batch: name(origin, number),
         ordinal,
     }
 }
 
-fn rows_of(alloc: Global, values: &[i128]) -> Result<Vec<Row>, AllocError> {
+pub(crate) fn rows_of(alloc: Global, values: &[i128]) -> Result<Vec<Row>, AllocError> {
     let mut rows = Vec::with_capacity(alloc, values.len())?;
     for value in values {
         rows.push(Row::from_cells(Vec::from_slice(alloc, &[Some(*value)])?))?;

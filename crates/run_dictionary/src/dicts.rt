@@ -23,8 +23,8 @@ use transpose_order::place;
 /// section on light-weight encodings; the order of rows and the payload are our own.
 #[derive(Drop)]
 pub struct Dict {
-    lane_width: usize,
-    width: usize,
+    lane_width: u8,
+    width: u8,
     values: Vec<i64>,
     codes: Words,
 }
@@ -81,8 +81,8 @@ impl Dict {
         write_codes(dictionary, values, &mut codes);
         let width = width_of(count as u64 - 1);
         Ok(Dict {
-            lane_width,
-            width,
+            lane_width: lane_width as u8,
+            width: width as u8,
             values: Vec::from_slice(alloc, dictionary)?,
             codes: Words::pack(alloc, 16, width, &codes)?,
         })
@@ -115,8 +115,8 @@ impl Dict {
         // What the words' numbers are below is in the contract of their calls.
         let _ = codes.len();
         Dict {
-            lane_width,
-            width,
+            lane_width: lane_width as u8,
+            width: width as u8,
             values,
             codes,
         }
@@ -128,7 +128,7 @@ impl Dict {
         ensures fit { AreInRange self.now.lane_width values.new }
     {
         let mut codes = [0; 1024];
-        self.codes.unpack(self.width, &mut codes);
+        self.codes.unpack(self.width as usize, &mut codes);
         write_values(&self.values, &codes, values);
     }
 
@@ -139,7 +139,7 @@ impl Dict {
         ensures fits { FitsSigned (integer_width self.now.lane_width) result }
     {
         let (lane, step) = place(16, row);
-        self.values[self.codes.value(self.width, lane, step) as usize]
+        self.values[self.codes.value(self.width as usize, lane, step) as usize]
     }
 
     /// Sixteen of the values, each in the range of the lane width, for a piece from 0 to 63 of lanes of 16 bits: element i is
@@ -148,7 +148,7 @@ impl Dict {
         requires { piece < 64 }
         ensures { result ≡ sixteen_of (λ i. dict_value self.now (64 * i + place_of 16 piece)) }
     {
-        let codes = self.codes.step(self.width, piece / 16, piece % 16);
+        let codes = self.codes.step(self.width as usize, piece / 16, piece % 16);
         values_at(&self.values, &codes.to_array())
     }
 
@@ -169,7 +169,11 @@ impl Dict {
     pub fn bytes_len(&self) -> u16
         ensures { result ≡ dict_bytes self.now }
     {
-        payload_bytes(self.lane_width, self.values.len(), self.width)
+        payload_bytes(
+            self.lane_width as usize,
+            self.values.len(),
+            self.width as usize,
+        )
     }
 
     /// Whether this is the least form of the values that it decodes to, part for part.
@@ -177,9 +181,9 @@ impl Dict {
         ensures { IsTrue result ↔ (self.now ≡ least_dict self.now.lane_width (dict_values self.now)) }
     {
         let mut codes = [0; 1024];
-        self.codes.unpack(self.width, &mut codes);
+        self.codes.unpack(self.width as usize, &mut codes);
         let count = self.values.len();
-        self.width == width_of(count as u64 - 1) && all_used(&codes, count)
+        self.width as usize == width_of(count as u64 - 1) && all_used(&codes, count)
     }
 
     /// The same vector in memory of its own. Where memory is refused, an `AllocError`.
@@ -200,7 +204,7 @@ impl Dict {
         ensures lanes { IsLaneWidth result }
         ensures form { IsDictForm self.now }
     {
-        self.lane_width
+        self.lane_width as usize
     }
 
     /// The width of a code in bits, from 0 to 16.
@@ -208,7 +212,7 @@ impl Dict {
         ensures value { result ≡ self.now.width }
         ensures bound { result ≤ 16 }
     {
-        self.width
+        self.width as usize
     }
 
     /// The values of the dictionary in ascending order, from 1 to 1024 of them, each in the range of the lane width, signed.

@@ -1,3 +1,5 @@
+pub mod Cover
+pub mod KeptCover
 pub mod Fill
 pub mod Coded
 pub mod Choice

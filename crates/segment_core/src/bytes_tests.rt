@@ -68,7 +68,7 @@ fn one_row_of_seven_takes_seven_bytes(rt: HostRuntime) -> Result<(), Fail> {
     let vector = segment.vector(0, 0);
     assert_eq!(rt; (vector.rows(), vector.nulls().is_none()), (1, true));
     match vector.coded() {
-        Coded::For(form) => assert_eq!(rt; form.value(0), 7),
+        Coded::For(form) => assert_eq!(rt; form.get().value(0), 7),
         _ => assert!(rt; false, "the tag is FOR's"),
     }
     let copy = segment.copy(alloc)?;

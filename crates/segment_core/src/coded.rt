@@ -11,11 +11,11 @@ use frame_delta::{Delta, For};
 use run_dictionary::{Dict, Runs};
 use std::alloc::{AllocError, Global};
 
-/// 1024 values in one of the four codings. All but the smallest lie apart.
+/// 1024 values in one of the four codings, which lie apart.
 #[derive(Drop)]
 pub enum Coded {
     /// Frame of reference.
-    For(For),
+    For(Boxed<For>),
     /// Deltas.
     Delta(Boxed<Delta>),
     /// Runs of equal values.
@@ -38,7 +38,10 @@ impl Coded {
         ensures { IfOk result (λ coded. coded ≡ least_form coding lane_width values.now) }
     {
         match coding {
-            Coding::For => Ok(Coded::For(For::encode(alloc, values, lane_width)?)),
+            Coding::For => {
+                let form = For::encode(alloc, values, lane_width)?;
+                Ok(Coded::For(Boxed::new(alloc, form)?))
+            }
             Coding::Delta => {
                 let form = Delta::encode(alloc, values, lane_width)?;
                 Ok(Coded::Delta(Boxed::new(alloc, form)?))
@@ -73,7 +76,7 @@ impl Coded {
         ensures form { IsCodedForm self.now }
     {
         match self {
-            Coded::For(form) => form.lane_width(),
+            Coded::For(form) => form.get().lane_width(),
             Coded::Delta(form) => form.get().lane_width(),
             Coded::Runs(form) => form.get().lane_width(),
             Coded::Dict(form) => form.get().lane_width(),
@@ -86,7 +89,7 @@ impl Coded {
         ensures fit { AreInRange (lane_width_of self.now) values.new }
     {
         match self {
-            Coded::For(form) => form.decode(values),
+            Coded::For(form) => form.get().decode(values),
             Coded::Delta(form) => form.get().decode(values),
             Coded::Runs(form) => form.get().decode(values),
             Coded::Dict(form) => form.get().decode(values),
@@ -100,7 +103,7 @@ impl Coded {
         ensures fits { FitsSigned (integer_width (lane_width_of self.now)) result }
     {
         match self {
-            Coded::For(form) => form.value(row),
+            Coded::For(form) => form.get().value(row),
             Coded::Delta(form) => form.get().value(row),
             Coded::Runs(form) => form.get().value(row),
             Coded::Dict(form) => form.get().value(row),
@@ -112,7 +115,7 @@ impl Coded {
         ensures { IsTrue result ↔ (self.now ≡ least_form (coding_of self.now) (lane_width_of self.now) (values_of self.now)) }
     {
         match self {
-            Coded::For(form) => form.is_least(),
+            Coded::For(form) => form.get().is_least(),
             Coded::Delta(form) => form.get().is_least(),
             Coded::Runs(form) => form.get().is_least(),
             Coded::Dict(form) => form.get().is_least(),
@@ -124,7 +127,7 @@ impl Coded {
         ensures { result ≡ payload_bytes self.now }
     {
         match self {
-            Coded::For(form) => form.bytes_len(),
+            Coded::For(form) => form.get().bytes_len(),
             Coded::Delta(form) => form.get().bytes_len(),
             Coded::Runs(form) => form.get().bytes_len(),
             Coded::Dict(form) => form.get().bytes_len(),
@@ -136,7 +139,7 @@ impl Coded {
         ensures { IfOk result (λ coded. coded ≡ self.now) }
     {
         match self {
-            Coded::For(form) => Ok(Coded::For(form.copy(alloc)?)),
+            Coded::For(form) => Ok(Coded::For(Boxed::new(alloc, form.get().copy(alloc)?)?)),
             Coded::Delta(form) => Ok(Coded::Delta(Boxed::new(alloc, form.get().copy(alloc)?)?)),
             Coded::Runs(form) => Ok(Coded::Runs(Boxed::new(alloc, form.get().copy(alloc)?)?)),
             Coded::Dict(form) => Ok(Coded::Dict(Boxed::new(alloc, form.get().copy(alloc)?)?)),

@@ -14,8 +14,11 @@ use crate::build::cell_at;
 use crate::choice::choose;
 use crate::coded::Coded;
 use crate::coding::Coding;
+use crate::cover::Cover;
 use crate::fill::fill;
-use crate::same_form::{same_form, same_nulls};
+use crate::same_form::same_form;
+use frame_delta::{Delta, For};
+use run_dictionary::{Dict, Runs};
 use std::alloc::{AllocError, Global};
 use std::marker::Model;
 use table_model::Row;
@@ -25,22 +28,30 @@ use transpose_order::Mask;
 /// and past the rows, any value may stand.
 #[derive(Drop)]
 pub struct CodedVector {
+    cover: Cover,
     coded: Coded,
-    nulls: Option<Boxed<Mask>>,
-    rows: u16,
 }
 
-/// A vector takes this many bytes at most beside its words, its values and its masks.
-const _: () = prove!(size_of::<CodedVector>() <= 96);
+/// A vector takes 96 bytes at most beside its words, its bases, its values and its masks: 80 by frame of reference, 64 by runs,
+/// and 96 by deltas or by a dictionary.
+const _: () = prove!(size_of::<CodedVector>() == 32);
+
+const _: () = prove!(size_of::<CodedVector>() + size_of::<For>() == 80);
+
+const _: () = prove!(size_of::<CodedVector>() + size_of::<Delta>() == 96);
+
+const _: () = prove!(size_of::<CodedVector>() + size_of::<Runs>() == 64 + size_of::<Mask>());
+
+const _: () = prove!(size_of::<CodedVector>() + size_of::<Dict>() == 96);
 
 impl Model for CodedVector {
     ghost use Rattle.segment_core.specs.CodedVector.{VectorForm, IsVector};
 
     ghost Value = { VectorForm };
 
-    ghost view = { λ v. record { rows = v.rows; nulls = v.nulls; coded = v.coded } };
+    ghost view = { λ v. record { rows = v.cover.rows; nulls = v.cover.nulls; coded = v.coded } };
 
-    ghost invariant = { λ v. IsVector (record { rows = v.rows; nulls = v.nulls; coded = v.coded }) };
+    ghost invariant = { λ v. IsVector (record { rows = v.cover.rows; nulls = v.cover.nulls; coded = v.coded }) };
 }
 
 impl CodedVector {
@@ -54,7 +65,8 @@ impl CodedVector {
         ensures form { IsVector result }
     {
         let _lane_width = coded.lane_width();
-        CodedVector { coded, nulls, rows }
+        let cover = Cover::new(rows, nulls);
+        CodedVector { cover, coded }
     }
 
     /// How many rows it covers, from 1 to 1024.
@@ -62,17 +74,14 @@ impl CodedVector {
         ensures value { result ≡ self.now.rows }
         ensures form { IsVector self.now }
     {
-        self.rows as usize
+        self.cover.rows() as usize
     }
 
     /// The rows that are null, if there is one.
     pub fn nulls(&self) -> Option<&Mask>
         ensures { option_copied result ≡ self.now.nulls }
     {
-        match &self.nulls {
-            None => None,
-            Some(mask) => Some(mask.get()),
-        }
+        self.cover.nulls()
     }
 
     /// The values, coded.
@@ -101,9 +110,9 @@ impl CodedVector {
     pub fn null_rows(&self) -> Mask
         ensures { result ≡ rows_of (is_null self.now.nulls) }
     {
-        match &self.nulls {
+        match self.cover.nulls() {
             None => Mask::none(),
-            Some(mask) => *mask.get(),
+            Some(mask) => *mask,
         }
     }
 
@@ -112,7 +121,7 @@ impl CodedVector {
         requires { row < self.now.rows }
         ensures { result ≡ vector_cell self.now row }
     {
-        if is_null(&self.nulls, row) {
+        if self.cover.is_null(row) {
             None
         } else {
             Some(self.coded.value(row))
@@ -125,7 +134,7 @@ impl CodedVector {
         ensures values { values.new ≡ filled (cells_of self.now) }
         ensures fit { AreInRange (lane_width_of self.now.coded) values.new }
     {
-        fill(values, self.rows as usize, &self.null_rows());
+        fill(values, self.rows(), &self.null_rows());
     }
 
     /// Writes the filled vector, each value in the range of the lane width.
@@ -157,7 +166,8 @@ impl CodedVector {
         fill(&mut full, rows as usize, nulls);
         let coded = Coded::encode(alloc, &full, lane_width, choose(&full, lane_width))?;
         let nulls = some_rows(alloc, nulls)?;
-        Ok(CodedVector { coded, nulls, rows })
+        let cover = Cover::new(rows, nulls);
+        Ok(CodedVector { cover, coded })
     }
 
     /// Whether this is the canonical vector of its cells. It takes no memory.
@@ -181,10 +191,11 @@ impl CodedVector {
     pub fn same_cells(&self, other: &CodedVector) -> bool
         ensures { IsTrue result ↔ (cells_of self.now ≡ cells_of other.now) }
     {
-        if self.rows != other.rows {
+        let rows = self.rows();
+        if rows != other.rows() {
             return false;
         }
-        if same_nulls(&self.nulls, &other.nulls) && same_form(&self.coded, &other.coded) {
+        if self.cover.same_nulls(&other.cover) && same_form(&self.coded, &other.coded) {
             return true;
         }
         let mut values = [0; 1024];
@@ -192,7 +203,7 @@ impl CodedVector {
         let mut others = [0; 1024];
         other.coded.decode(&mut others);
         let (nulls, other_nulls) = (self.null_rows(), other.null_rows());
-        are_same_cells(self.rows as usize, &nulls, &values, &other_nulls, &others)
+        are_same_cells(rows, &nulls, &values, &other_nulls, &others)
     }
 
     /// Whether the vector's cells are those of a column of some rows. It takes no memory.
@@ -200,7 +211,7 @@ impl CodedVector {
         requires { (n : ℕ) → n < length rows.now → column < length (slice_index_or rows.now n []) }
         ensures { IsTrue result ↔ (cells_of self.now ≡ column_cells rows.now column) }
     {
-        if self.rows as usize != rows.len() {
+        if self.rows() != rows.len() {
             return false;
         }
         let mut values = [0; 1024];
@@ -217,12 +228,8 @@ impl CodedVector {
         let mut full = [0; 1024];
         self.write_filled(&mut full);
         let coded = Coded::encode(alloc, &full, self.coded.lane_width(), coding)?;
-        let nulls = copied_nulls(alloc, &self.nulls)?;
-        Ok(CodedVector {
-            coded,
-            nulls,
-            rows: self.rows,
-        })
+        let cover = self.cover.copy(alloc)?;
+        Ok(CodedVector { cover, coded })
     }
 
     /// The canonical vector of the same cells. Where memory is refused, an `AllocError`.
@@ -233,49 +240,17 @@ impl CodedVector {
         self.write_filled(&mut full);
         let lane_width = self.coded.lane_width();
         let coded = Coded::encode(alloc, &full, lane_width, choose(&full, lane_width))?;
-        let nulls = copied_nulls(alloc, &self.nulls)?;
-        Ok(CodedVector {
-            coded,
-            nulls,
-            rows: self.rows,
-        })
+        let cover = self.cover.copy(alloc)?;
+        Ok(CodedVector { cover, coded })
     }
 
     /// The same vector in memory of its own. Where memory is refused, an `AllocError`.
     pub fn copy(&self, alloc: Global) -> Result<CodedVector, AllocError>
         ensures { IfOk result (λ vector. vector ≡ self.now) }
     {
-        let nulls = copied_nulls(alloc, &self.nulls)?;
+        let cover = self.cover.copy(alloc)?;
         let coded = self.coded.copy(alloc)?;
-        Ok(CodedVector {
-            coded,
-            nulls,
-            rows: self.rows,
-        })
-    }
-}
-
-/// The same null mask in memory of its own. Where memory is refused, an `AllocError`.
-fn copied_nulls(
-    alloc: Global,
-    nulls: &Option<Boxed<Mask>>,
-) -> Result<Option<Boxed<Mask>>, AllocError>
-    ensures { IfOk result (λ copied. copied ≡ nulls.now) }
-{
-    match nulls {
-        None => Ok(None),
-        Some(mask) => Ok(Some(Boxed::new(alloc, *mask.get())?)),
-    }
-}
-
-/// Whether a row, 0 to 1023, is null.
-fn is_null(nulls: &Option<Boxed<Mask>>, row: usize) -> bool
-    requires { row < 1024 }
-    ensures { result ≡ is_null nulls.now row }
-{
-    match nulls {
-        None => false,
-        Some(mask) => mask.get().get(row),
+        Ok(CodedVector { cover, coded })
     }
 }
 

@@ -8,6 +8,7 @@ mod choice;
 mod coded;
 mod coded_vector;
 mod coding;
+mod cover;
 mod fill;
 mod formats;
 mod same_form;

@@ -1,7 +1,6 @@
 //! Whether two vectors are one, part for part: then they have the same cells, and nothing needs to be decoded.
 ghost use Rattle.std.specs.Prelude.{◌≡◌, IsTrue};
 
-use crate::boxed::Boxed;
 use crate::coded::Coded;
 use bit_interleave::Words;
 use frame_delta::{Delta, For};
@@ -32,7 +31,7 @@ fn same_values(values: &[i64], others: &[i64]) -> bool
 }
 
 /// Whether two masks have the same rows.
-fn same_mask(mask: &Mask, other: &Mask) -> bool
+pub(crate) fn same_mask(mask: &Mask, other: &Mask) -> bool
     ensures { IsTrue result → mask.now ≡ other.now }
 {
     *mask == *other
@@ -83,21 +82,10 @@ pub(crate) fn same_form(coded: &Coded, other: &Coded) -> bool
     ensures { IsTrue result → coded.now ≡ other.now }
 {
     match (coded, other) {
-        (Coded::For(form), Coded::For(other)) => same_frame(form, other),
+        (Coded::For(form), Coded::For(other)) => same_frame(form.get(), other.get()),
         (Coded::Delta(form), Coded::Delta(other)) => same_deltas(form.get(), other.get()),
         (Coded::Runs(form), Coded::Runs(other)) => same_runs(form.get(), other.get()),
         (Coded::Dict(form), Coded::Dict(other)) => same_dictionary(form.get(), other.get()),
-        _ => false,
-    }
-}
-
-/// Whether two null masks are the same, or neither is there.
-pub(crate) fn same_nulls(nulls: &Option<Boxed<Mask>>, others: &Option<Boxed<Mask>>) -> bool
-    ensures { IsTrue result → nulls.now ≡ others.now }
-{
-    match (nulls, others) {
-        (None, None) => true,
-        (Some(mask), Some(other)) => same_mask(mask.get(), other.get()),
         _ => false,
     }
 }

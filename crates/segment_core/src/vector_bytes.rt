@@ -361,7 +361,7 @@ fn read_payload(
     match header.coding {
         Coding::For => {
             let (form, rest) = read_frame(alloc, total, bytes, lane_width, header.width)?;
-            Ok((Coded::For(form), rest))
+            Ok((Coded::For(Boxed::new(alloc, form)?), rest))
         }
         Coding::Delta => {
             let (form, rest) = read_deltas(alloc, total, bytes, lane_width, header.width)?;

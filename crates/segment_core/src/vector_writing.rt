@@ -92,7 +92,7 @@ fn head_of(form: &Coded) -> Header
     match form {
         Coded::For(form) => Header {
             coding: Coding::For,
-            width: form.width(),
+            width: form.get().width(),
             count: 0,
         },
         Coded::Delta(form) => Header {
@@ -119,7 +119,7 @@ fn write_payload<W: Write>(writer: &mut Counted<W>, form: &Coded) -> Result<(), 
         ((payload (lane_width_of form.now) (header_of form.now)).spell form.now) }
 {
     match form {
-        Coded::For(form) => write_frame(writer, form),
+        Coded::For(form) => write_frame(writer, form.get()),
         Coded::Delta(form) => write_deltas(writer, form.get()),
         Coded::Runs(form) => write_runs(writer, form.get()),
         Coded::Dict(form) => write_dict(writer, form.get()),

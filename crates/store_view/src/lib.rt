@@ -2,6 +2,8 @@
 #![tactic(auto)]
 
 mod asking;
+#[cfg(test)]
+mod refused_tests;
 mod view;
 
 pub use asking::ask;

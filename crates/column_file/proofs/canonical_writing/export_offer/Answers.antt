@@ -20,4 +20,4 @@ returns g c =
     ap (λ (es : List Held). container.spell (c.schema.result.now, (map (canonical_as_read c.schema.result.now) es, map deleted_of c.ranges-2.result.now))) (append-nil entries)
     ∙ ap (λ (t : Table). container.spell (t, (map (canonical_as_read t) entries, map deleted_of c.ranges-2.result.now))) c.schema.ensures ∙ text in
     let P : List ℕ → Type 0 = λ bytes. Writes c.write_canonical.result (g.W.Write.contents c.args.writer.now.0) (g.W.Write.contents c.write_canonical.new.writer.0) c.args.writer.now.1 c.write_canonical.new.writer.1 bytes in
-    exports_from c.write_canonical.result (g.W.Write.contents c.args.writer.now.0) (g.W.Write.contents c.write_canonical.new.writer.0) c.args.writer.now.1 c.write_canonical.new.writer.1 (canonical_file table state) (subst P same c.write_canonical.ensures)
+    exports_from c.write_canonical.result (g.W.Write.contents c.args.writer.now.0) (g.W.Write.contents c.write_canonical.new.writer.0) c.args.writer.now.1 c.write_canonical.new.writer.1 (canonical_file table state) (subst P same c.write_canonical.ensures.bytes)

@@ -1,6 +1,7 @@
 use Rattle.std.proofs.Common.{◌≡◌, ◌∙◌, ◌<◌, List, Err, [], length, map, get_or, take, refl, sym, ap, subst, arith}
 use Rattle.std.specs.Io.KnownBytes.{Appends}
 use Rattle.std.proofs.lemmas.List.{take_all, length-map}
+use Rattle.std.proofs.lemmas.List.Elements.{All-more}
 use Rattle.std.proofs.lemmas.Result.{err_from_is_err_and}
 use Rattle.segment_core.specs.Format.{Writes, spell_all}
 use Rattle.segment_core.proofs.Writings.{appends_none, spell_all-nil, item_done, item_fault}
@@ -10,7 +11,7 @@ use Rattle.std.proofs.lemmas.List.{get_or_default}
 use Rattle.segment_core.specs.Segment.{SegmentForm, canonical_again}
 use Rattle.replica_store.specs.Segments.{Entry as Held, IsStored}
 use Rattle.column_file.specs.ContainerBytes.{Entry, entry_of, batch}
-use Rattle.column_file.specs.Files.{chosen, canonical_as_read}
+use Rattle.column_file.specs.Files.{chosen, canonical_as_read, IsNumbered, AreNumbered}
 use Rattle.column_file.proofs.CanonicalWriting.{written_entry, written_widths}
 use Rattle.column_file.proofs.canonical_writing.write_canonical_list.Goals as goal
 
@@ -18,10 +19,11 @@ pub loop-index-init : goal.loop-index-init
 loop-index-init g c = record {
   written = rw (spell_all-nil {A = Entry} (batch c.args.schema.now) []) (appends_none (g.W.Write.contents c.args.writer.now.0));
   kept = refl;
+  numbered = λ k d below. absurd (omega (arith, below));
 }
 
-pub returns-in_err-write_batch : goal.returns-in_err-write_batch
-returns-in_err-write_batch g c =
+pub returns-in_err-write_batch-clause-bytes : goal.returns-in_err-write_batch-clause-bytes
+returns-in_err-write_batch-clause-bytes g c =
     let p = err_from_is_err_and c.from_residual.result c.from_residual.ensures.1 in
     let xs = (map (canonical_as_read c.args.schema.now) c.args.entries.now) in
     let front = take c.loop-index.index xs in
@@ -40,7 +42,7 @@ returns-in_err-write_batch g c =
     let P : Entry → Type 0 = λ x. Writes (Err c.in_err-write_batch.field-0.0) (g.W.Write.contents c.loop-index.writer.0) (g.W.Write.contents c.write_batch.new.writer.0) c.loop-index.writer.1 c.write_batch.new.writer.1 (((batch c.args.schema.now) front).spell x) in
     item_fault {A = Entry} (batch c.args.schema.now) xs c.loop-index.index one c.from_residual.result c.in_err-write_batch.field-0.0
     (g.W.Write.contents c.args.writer.now.0) (g.W.Write.contents c.loop-index.writer.0) (g.W.Write.contents c.write_batch.new.writer.0) c.args.writer.now.1 c.loop-index.writer.1 c.write_batch.new.writer.1
-    below (rw (← p.2) p.1) c.loop-index.invariant.written c.loop-index.invariant.kept (subst P same (c.in_err-write_batch.ensures table front widths))
+    below (rw (← p.2) p.1) c.loop-index.invariant.written c.loop-index.invariant.kept (subst P same (c.in_err-write_batch.ensures.bytes table front widths))
 
 pub loop-index-preserved : goal.loop-index-preserved
 loop-index-preserved g c =
@@ -58,17 +60,22 @@ loop-index-preserved g c =
     let segment : c.chosen-segment.result.now ≡ canonical_again held.1 = c.chosen-segment.ensures ∙ picked in
     let widths = written_widths table held c.chosen-segment.result.now here segment in
     let same : entry_of (held.0, c.chosen-segment.result.now) ≡ get_or xs c.loop-index.index one = written_entry table held c.chosen-segment.result.now here segment ∙ ap (canonical_as_read table) c.index-entries-index.is ∙ sym (get_or-map (canonical_as_read table) c.args.entries.now c.loop-index.index held) in
-    let h = c.in_ok-write_batch.ensures table front widths in
+    let h = c.in_ok-write_batch.ensures.bytes table front widths in
     let P : Entry → Type 0 = λ x. Appends (g.W.Write.contents c.loop-index.writer.0) (g.W.Write.contents c.write_batch.new.writer.0) (((batch c.args.schema.now) front).spell x) in
     record {
       written = item_done {A = Entry} (batch c.args.schema.now) xs c.loop-index.index one (g.W.Write.contents c.args.writer.now.0) (g.W.Write.contents c.loop-index.writer.0) (g.W.Write.contents c.write_batch.new.writer.0)
           below c.loop-index.invariant.written (subst P same h.0);
       kept = h.1 ∙ c.loop-index.invariant.kept;
+      numbered = All-more (λ (e : Held). IsNumbered e.0) c.args.entries.now c.loop-index.index held c.loop-index-test.true c.loop-index.invariant.numbered
+          (subst (λ (e : Held). IsNumbered e.0) c.index-entries-index.is c.in_ok-write_batch.ensures.numbered);
     }
 
-pub returns : goal.returns
-returns g c =
+pub returns-clause-bytes : goal.returns-clause-bytes
+returns-clause-bytes g c =
     let xs = (map (canonical_as_read c.args.schema.now) c.args.entries.now) in
     let all : take c.loop-index.index xs ≡ xs = take_all c.loop-index.index xs (omega (arith, length-map c.args.entries.now (canonical_as_read c.args.schema.now))) in
     let P : List (Entry) → Type 0 = λ ys. Appends (g.W.Write.contents c.args.writer.now.0) (g.W.Write.contents c.loop-index.writer.0) (spell_all (batch c.args.schema.now) [] ys) in
     (subst P all c.loop-index.invariant.written, c.loop-index.invariant.kept)
+
+pub returns-clause-numbered : goal.returns-clause-numbered
+returns-clause-numbered g c = subst AreNumbered (take_all c.loop-index.index c.args.entries.now (omega arith)) c.loop-index.invariant.numbered

@@ -30,7 +30,7 @@ returns-in_err-write_batch g c =
     let P : Entry → Type 0 = λ x. Writes (Err c.in_err-write_batch.field-0.0) (g.W.Write.contents c.loop-index.writer.0) (g.W.Write.contents c.write_batch.new.writer.0) c.loop-index.writer.1 c.write_batch.new.writer.1 (((batch c.args.schema.now) front).spell x) in
     item_fault {A = Entry} (batch c.args.schema.now) xs c.loop-index.index one c.from_residual.result c.in_err-write_batch.field-0.0
     (g.W.Write.contents c.args.writer.now.0) (g.W.Write.contents c.loop-index.writer.0) (g.W.Write.contents c.write_batch.new.writer.0) c.args.writer.now.1 c.loop-index.writer.1 c.write_batch.new.writer.1
-    below (rw (← p.2) p.1) c.loop-index.invariant.written c.loop-index.invariant.kept (subst P same (c.in_err-write_batch.ensures c.args.schema.now front widths))
+    below (rw (← p.2) p.1) c.loop-index.invariant.written c.loop-index.invariant.kept (subst P same (c.in_err-write_batch.ensures.bytes c.args.schema.now front widths))
 
 pub loop-index-preserved : goal.loop-index-preserved
 loop-index-preserved g c =
@@ -42,7 +42,7 @@ loop-index-preserved g c =
     let same : entry_of held ≡ get_or xs c.loop-index.index one = ap entry_of c.index-entries-index.is ∙ sym (get_or-map entry_of c.args.entries.now c.loop-index.index held) in
     let stored = c.requires c.loop-index.index held c.loop-index-test.true in
     let widths : widths_in held.1.forms ≡ widths_of c.args.schema.now = ap (λ (e : Held). widths_in e.1.forms) c.index-entries-index.is ∙ stored.widths in
-    let h = c.in_ok-write_batch.ensures c.args.schema.now front widths in
+    let h = c.in_ok-write_batch.ensures.bytes c.args.schema.now front widths in
     let P : Entry → Type 0 = λ x. Appends (g.W.Write.contents c.loop-index.writer.0) (g.W.Write.contents c.write_batch.new.writer.0) (((batch c.args.schema.now) front).spell x) in
     record {
       written = item_done {A = Entry} (batch c.args.schema.now) xs c.loop-index.index one (g.W.Write.contents c.args.writer.now.0) (g.W.Write.contents c.loop-index.writer.0) (g.W.Write.contents c.write_batch.new.writer.0)

@@ -7,7 +7,7 @@ use Rattle.transpose_order.specs.MaskWords.{rows_of-like}
 use Rattle.transpose_order.proofs.PlaceLemmas.{row_at-lane_of}
 use Rattle.bit_interleave.specs.Packing.{packed_value}
 use Rattle.bit_interleave.proofs.StepLemmas.{packed_value-below}
-use Rattle.fused_kernels.proofs.NativeLemmas.{shifted_16}
+use Rattle.fused_kernels.proofs.NativeLemmas.{shifted}
 use Rattle.fused_kernels.proofs.native_16.rows_between_16.Goals as goal
 
 pub returns : goal.returns
@@ -22,4 +22,4 @@ returns c =
     let fits : number n < 2 ^ 16 = omega (arith, packed_value-below 16 c.args.width c.args.words.now (lane_of 16 n) (step_of 16 n), bound) in
     c.packed_marks-found.ensures (lane_of 16 n) (step_of 16 n) place.0 place.1
     ∙ ap (λ (o : ℕ). nat_le ((number n + o % 2 ^ 16) % 2 ^ 16) (c.args.last - c.args.first)) none
-    ∙ shifted_16 (number n) c.args.first c.args.last fits c.ranges.last.fits c.requires.order)
+    ∙ shifted (2 ^ 16) (number n) c.args.first c.args.last fits c.ranges.last.fits c.requires.order)

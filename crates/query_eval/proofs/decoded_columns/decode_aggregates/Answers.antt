@@ -2,7 +2,7 @@
 use Rattle.std.proofs.Common.{get_or, ap, ◌∙◌, arith}
 use Rattle.std.proofs.lemmas.List.Sums.{sum_by_more}
 use Rattle.table_model.specs.State.{State}
-use Rattle.query_eval.specs.Decoded.{decoded_at}
+use Rattle.query_eval.specs.Decoded.{shown_at}
 use Rattle.query_eval.specs.Grouping.{aggregate_cell}
 use Rattle.query_eval.specs.QueryMentions.{aggregate_mentions}
 use Rattle.query_eval.specs.Vector.{row_at, vector_at}
@@ -18,7 +18,7 @@ loop-aggregate-preserved g c =
     let more = sum_by_more aggregate_mentions c.args.aggregates.now c.loop-aggregate.aggregate-index Rows c.loop-aggregate-test.true in
     record {
       cells = λ n h.
-          shown_more (λ d. decoded_at d n) (aggregate_cell (row_at v n)) c.loop-aggregate.cells.items c.push.new.self.items c.decode_aggregate.result c.args.aggregates.now c.loop-aggregate.aggregate-index Rows c.loop-aggregate-test.true (inv.cells n h) c.in_ok-push.ensures.items
+          shown_more (λ d. shown_at d n) (aggregate_cell (row_at v n)) c.loop-aggregate.cells.items c.push.new.self.items c.decode_aggregate.result c.args.aggregates.now c.loop-aggregate.aggregate-index Rows c.loop-aggregate-test.true (inv.cells n h) c.in_ok-push.ensures.items
           (c.decode_aggregate.ensures.value n h ∙ ap (λ (x : State). aggregate_cell (row_at (vector_at x c.args.batch c.args.vector) n) (get_or c.args.aggregates.now c.loop-aggregate.aggregate-index Rows)) inv.state);
       table = c.decode_aggregate.ensures.table ∙ inv.table;
       state = c.decode_aggregate.ensures.state ∙ inv.state;

@@ -6,12 +6,12 @@ use Rattle.query_eval.specs.declared.aggregate.Aggregate.{Aggregate}
 use Rattle.query_eval.proofs.OrderLemmas.{rows_value, folded_value}
 use Rattle.query_eval.proofs.grouped_table.value_of.Goals as goal
 
-pub returns-in-Rows : goal.returns-in-Rows
-returns-in-Rows c = λ table rows few h.
-    rows_value table rows c.args.tally.now c.field.result c.field.ensures few (subst (λ (a : Aggregate). IsHeld rows a c.args.tally.now) c.in-Rows.is h)
+pub returns-in_ok-field-in-Rows : goal.returns-in_ok-field-in-Rows
+returns-in_ok-field-in-Rows c = λ table rows few h.
+    rows_value table rows c.args.tally.now _ c.in_ok-field-in-Rows.ensures few (subst (λ (a : Aggregate). IsHeld rows a c.args.tally.now) c.in-Rows.is h)
     ∙ ap (λ a. aggregate_value a rows) (sym c.in-Rows.is)
 
-pub returns-in-Folded : goal.returns-in-Folded
-returns-in-Folded c = λ table rows few h.
-    folded_value c.in-Folded.fold _ _ table rows c.args.tally.now c.field-in-Folded.result c.field-in-Folded.ensures few (subst (λ (a : Aggregate). IsHeld rows a c.args.tally.now) c.in-Folded.is h)
+pub returns-in_ok-field-in-Folded : goal.returns-in_ok-field-in-Folded
+returns-in_ok-field-in-Folded c = λ table rows few h.
+    folded_value c.in-Folded.fold _ _ table rows c.args.tally.now _ c.in_ok-field-in-Folded.ensures few (subst (λ (a : Aggregate). IsHeld rows a c.args.tally.now) c.in-Folded.is h)
     ∙ ap (λ a. aggregate_value a rows) (sym c.in-Folded.is)

@@ -11,5 +11,5 @@ loop-preserved c =
     record {
       size = omega (arith, inv.size, ap length c.in_ok-push.ensures.items, length-append now (c.new.result ∷ []));
       known = known_push old now c.push.new.self.items c.new.result c.in_ok-push.ensures.items (omega (arith, inv.size)) inv.known;
-      fresh = fresh_push (length old) c.args.aggregate now c.push.new.self.items c.new.result c.in_ok-push.ensures.items (held_none c.args.aggregate c.new.result c.new.ensures.values (c.new.ensures.kind ∙ c.is_once.ensures)) inv.fresh;
+      fresh = fresh_push (length old) c.args.aggregate now c.push.new.self.items c.new.result c.in_ok-push.ensures.items (held_none c.args.aggregate c.new.result c.new.ensures.values (c.new.ensures.kind ∙ c.aggregate_kind.ensures)) inv.fresh;
     }

@@ -1,8 +1,10 @@
 -- The form is the least one exactly where each lane starts at 0 and the packed numbers are tight after that.
-use Rattle.std.proofs.Common.{◌≡◌, ℕ, ◌<◌, List, ℤ, Bool, false, get_or, sym, subst, rules, FitsSigned, IsTrue}
+use Rattle.std.proofs.Common.{◌≡◌, ℕ, ◌<◌, List, ℤ, Bool, false, get_or, of_z, to_z, sym, ap, ◌∙◌, subst, rules, FitsSigned, IsTrue}
 use Rattle.std.specs.Int.{w64}
 use Rattle.std.proofs.lemmas.Int.{to_z-of_z}
 use Rattle.std.proofs.lemmas.Bool.{false≢true}
+use Rattle.bit_interleave.specs.Packing.{unpacked}
+use Rattle.bit_interleave.specs.PackedWords.{PackedWords, words_packing, packed_width}
 use Rattle.frame_delta.specs.Extremes.{IsSpread, IsTightFrame}
 use Rattle.frame_delta.specs.Delta.{DeltaForm, is_later, delta_values, least_delta}
 use Rattle.frame_delta.proofs.LeastDelta.{numbers_of_delta, tight_is_least, least_is_tight, least_starts_at_zero}
@@ -16,11 +18,13 @@ StartAtZero t xs = (n : ℕ) → n < 1024 → is_later t n ≡ false → get_or 
 pub returns-then-not-starts_at_zero : goal.returns-then-not-starts_at_zero
 unfolding numbers_of_delta
 returns-then-not-starts_at_zero c =
-    let words = c.self.inside.words in
-    let form : DeltaForm = record { lane_width = words.lane_width; width = c.self.inside.width; least = c.self.inside.least; bases = c.self.inside.bases.items; words = words } in
+    let words : PackedWords = c.self.inside.words in
+    let form : DeltaForm = record { lane_width = words.lane_width; width = packed_width words; least = c.self.inside.least; bases = c.self.inside.bases.items; words = words } in
     let same = c.lane_width-lane_width.ensures.value in
+    let told = c.packed_width-width.ensures in
+    let read : c.unpack.new.values ≡ numbers_of_delta form = c.unpack.ensures.values ∙ ap (λ w. unpacked words.lane_width w words.numbers) told in
     let zeros : StartAtZero form.lane_width (numbers_of_delta form) → IsTrue c.starts_at_zero.result =
-    λ z. c.starts_at_zero.ensures.1 (subst (λ (t : ℕ). StartAtZero t c.unpack.new.values) (sym same) (subst (λ (xs : List ℕ). StartAtZero form.lane_width xs) (sym c.unpack.ensures.values) z)) in
+    λ z. c.starts_at_zero.ensures.1 (subst (λ (t : ℕ). StartAtZero t c.unpack.new.values) (sym same) (subst (λ (xs : List ℕ). StartAtZero form.lane_width xs) (sym read) z)) in
     subst (λ (f : DeltaForm). (IsTrue false → f ≡ least_delta f.lane_width (delta_values f)) × (f ≡ least_delta f.lane_width (delta_values f) → IsTrue false)) c.self.view_is (
       λ no. absurd (false≢true no),
       λ is. subst (λ (b : Bool). IsTrue b) c.if-not-starts_at_zero.true (zeros (least_starts_at_zero form c.self.invariant.lane_width is)),
@@ -29,25 +33,29 @@ returns-then-not-starts_at_zero c =
 pub returns : goal.returns
 unfolding numbers_of_delta
 returns c =
-    let words = c.self.inside.words in
-    let form : DeltaForm = record { lane_width = words.lane_width; width = c.self.inside.width; least = c.self.inside.least; bases = c.self.inside.bases.items; words = words } in
+    let words : PackedWords = c.self.inside.words in
+    let form : DeltaForm = record { lane_width = words.lane_width; width = packed_width words; least = c.self.inside.least; bases = c.self.inside.bases.items; words = words } in
     let same = c.lane_width-lane_width.ensures.value in
+    let told = c.packed_width-width.ensures in
+    let read : c.unpack.new.values ≡ numbers_of_delta form = c.unpack.ensures.values ∙ ap (λ w. unpacked words.lane_width w words.numbers) told in
     let r = c.self.inside.least in
     let low = c.spread_of.result.least in
     let high = c.spread_of.result.greatest in
     let yes : IsTrue c.starts_at_zero.result = c.if-not-starts_at_zero.false in
     let zeros : StartAtZero form.lane_width (numbers_of_delta form) =
-    subst (λ (t : ℕ). StartAtZero t (numbers_of_delta form)) same (subst (λ (xs : List ℕ). StartAtZero c.lane_width-lane_width.result xs) c.unpack.ensures.values (c.starts_at_zero.ensures.0 yes)) in
+    subst (λ (t : ℕ). StartAtZero t (numbers_of_delta form)) same (subst (λ (xs : List ℕ). StartAtZero c.lane_width-lane_width.result xs) read (c.starts_at_zero.ensures.0 yes)) in
     let spread : IsSpread (is_later form.lane_width) (λ n. get_or (numbers_of_delta form) n 0) low high =
-    subst (λ (t : ℕ). IsSpread (is_later t) (λ n. get_or (numbers_of_delta form) n 0) low high) same (subst (λ (xs : List ℕ). IsSpread (is_later c.lane_width-lane_width.result) (λ n. get_or xs n 0) low high) c.unpack.ensures.values
+    subst (λ (t : ℕ). IsSpread (is_later t) (λ n. get_or (numbers_of_delta form) n 0) low high) same (subst (λ (xs : List ℕ). IsSpread (is_later c.lane_width-lane_width.result) (λ n. get_or xs n 0) low high) read
     (spread_of_filled c.lane_width-lane_width.result c.unpack.new.values c.fill_first_steps.new.rows low high c.lane_width-lane_width.ensures.width c.fill_first_steps.ensures.first c.fill_first_steps.ensures.later c.spread_of.ensures)) in
+    let back : words ≡ words_packing words.lane_width form.width (unpacked words.lane_width form.width words.numbers) =
+    subst (λ (w : ℕ). words ≡ words_packing words.lane_width w (unpacked words.lane_width w words.numbers)) told c.unpack.ensures.back in
     let fits : FitsSigned w64 r = search rules in
     let whole = to_z-of_z w64 r fits in
     let there = subst (λ (t : ℕ). IsTrue c.is_tight.result → IsTightFrame t form.width r low high) same
-    (subst (λ (z : ℤ). IsTrue c.is_tight.result → IsTightFrame c.lane_width-lane_width.result form.width z low high) whole c.is_tight.ensures.0) in
+    (subst (λ (z : ℤ). IsTrue c.is_tight.result → IsTightFrame c.lane_width-lane_width.result form.width z low high) whole (subst (λ (w : ℕ). IsTrue c.is_tight.result → IsTightFrame c.lane_width-lane_width.result w (to_z w64 (of_z w64 r)) low high) told c.is_tight.ensures.0)) in
     let here = subst (λ (t : ℕ). IsTightFrame t form.width r low high → IsTrue c.is_tight.result) same
-    (subst (λ (z : ℤ). IsTightFrame c.lane_width-lane_width.result form.width z low high → IsTrue c.is_tight.result) whole c.is_tight.ensures.1) in
+    (subst (λ (z : ℤ). IsTightFrame c.lane_width-lane_width.result form.width z low high → IsTrue c.is_tight.result) whole (subst (λ (w : ℕ). IsTightFrame c.lane_width-lane_width.result w (to_z w64 (of_z w64 r)) low high → IsTrue c.is_tight.result) told c.is_tight.ensures.1)) in
     subst (λ (f : DeltaForm). (IsTrue c.is_tight.result → f ≡ least_delta f.lane_width (delta_values f)) × (f ≡ least_delta f.lane_width (delta_values f) → IsTrue c.is_tight.result)) c.self.view_is (
-      λ tight. tight_is_least form low high c.self.invariant.lane_width c.self.invariant.packed.fits c.self.invariant.least c.self.invariant.base_count c.self.invariant.bases c.unpack.ensures.back zeros spread (there tight),
+      λ tight. tight_is_least form low high c.self.invariant.lane_width c.self.invariant.packed.fits c.self.invariant.least c.self.invariant.base_count c.self.invariant.bases back zeros spread (there tight),
       λ is. here (least_is_tight form low high c.self.invariant.lane_width c.self.invariant.packed.fits c.self.invariant.least spread is),
     )

@@ -5,6 +5,7 @@ use Rattle.std.proofs.lemmas.Int.{to_z-of_z}
 use Rattle.transpose_order.specs.Place.{IsLaneWidth}
 use Rattle.bit_interleave.specs.Arithmetic.{integer_width}
 use Rattle.bit_interleave.specs.Packing.{packed_value}
+use Rattle.bit_interleave.specs.PackedWords.{packed_width}
 use Rattle.bit_interleave.proofs.SixteenLemmas.{get_or-sixteen_of}
 use Rattle.bit_interleave.proofs.WrapLemmas.{fits_wide}
 use Rattle.bit_interleave.specs.Range.{value_at}
@@ -33,8 +34,8 @@ returns c =
     let t = c.lane_width-lane_width.result in
     let q = c.args.piece in
     let r = c.self.inside.least in
-    let w = c.self.inside.width in
     let words = c.self.inside.words in
+    let w = packed_width words in
     let bases : List ℤ = c.self.inside.bases.items in
     let form : ℕ → DeltaForm = λ n. record { lane_width = n; width = w; least = r; bases = bases; words = words } in
     let width = c.lane_width-lane_width.ensures.width in
@@ -45,7 +46,7 @@ returns c =
     let count : length bases ≡ 1024 / t = c.self.invariant.base_count ∙ ap (λ (n : ℕ). 1024 / n) (sym same) in
     let group = group_is_there t q width c.requires.piece in
     let lane : (i : ℕ) → i < 16 → get_or c.step-numbers.result i 0 ≡ packed_value t w words.numbers (16 * (q / t) + i) (q % t) =
-    λ i h. ap (λ xs. get_or xs i 0) c.step-numbers.ensures.values ∙ get_or-sixteen_of (λ k. packed_value words.lane_width w words.numbers (16 * (q / t) + k) (q % t)) i 0 h ∙ ap (λ n. packed_value n w words.numbers (16 * (q / t) + i) (q % t)) (sym same) in
+    λ i h. ap (λ xs. get_or xs i 0) c.step-numbers.ensures.values ∙ get_or-sixteen_of (λ k. packed_value words.lane_width c.packed_width-width.result words.numbers (16 * (q / t) + k) (q % t)) i 0 h ∙ ap (λ v. packed_value words.lane_width v words.numbers (16 * (q / t) + i) (q % t)) c.packed_width-width.ensures ∙ ap (λ n. packed_value n w words.numbers (16 * (q / t) + i) (q % t)) (sym same) in
     let base_fits : (i : ℕ) → i < 16 → FitsSigned w64 (value_at bases (16 * (q / t) + i)) =
     λ i h. fits_wide words.lane_width (value_at bases (16 * (q / t) + i)) c.self.invariant.lane_width (column_fits words.lane_width bases (16 * (q / t) + i) (omega (arith, count, group)) c.self.invariant.bases) in
     let view : form t ≡ c.args.self.now = ap form same ∙ c.self.view_is in

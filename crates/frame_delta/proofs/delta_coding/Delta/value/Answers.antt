@@ -7,6 +7,7 @@ use Rattle.transpose_order.specs.Place.{step_of}
 use Rattle.transpose_order.proofs.PlaceLemmas.{row_at-lane_of}
 use Rattle.bit_interleave.specs.Arithmetic.{integer_width}
 use Rattle.bit_interleave.specs.Packing.{packed_value}
+use Rattle.bit_interleave.specs.PackedWords.{packed_width}
 use Rattle.bit_interleave.specs.Range.{value_at}
 use Rattle.bit_interleave.proofs.WrapLemmas.{fits_wide}
 use Rattle.frame_delta.specs.Delta.{DeltaForm, sum_to, delta_at, delta_value}
@@ -25,7 +26,7 @@ loop-step-init c =
     let found : FitsSigned w64 c.index.result.now = search rules in
     let fits : FitsSigned w64 (value_at bases lane) = fits_wide words.lane_width (value_at bases lane) c.self.invariant.lane_width (column_fits words.lane_width bases lane near c.self.invariant.bases) in
     ap (λ x. int_wrap (integer_width t) (pos x)) (c.cast_unsigned-sum.ensures ∙ ap (cast_unsigned w64) (to_z-of_z w64 c.index.result.now found ∙ get_or_read bases lane c.index.result.now near c.index.ensures (pos 0)))
-    ∙ sums_start t (value_at bases lane) (λ s. c.self.inside.least +ℤ pos (packed_value t c.self.inside.width words.numbers lane s)) c.lane_width-lane_width.ensures.width fits
+    ∙ sums_start t (value_at bases lane) (λ s. c.self.inside.least +ℤ pos (packed_value t (packed_width words) words.numbers lane s)) c.lane_width-lane_width.ensures.width fits
 
 pub loop-step-preserved : goal.loop-step-preserved
 loop-step-preserved c =
@@ -33,13 +34,13 @@ loop-step-preserved c =
     let lane = c.place-lane.result.0 in
     let k = c.loop-step.step in
     let r = c.self.inside.least in
-    let w = c.self.inside.width in
     let words = c.self.inside.words in
+    let w = packed_width words in
     let base = value_at c.self.inside.bases.items lane in
     let g : ℕ → ℤ = λ s. r +ℤ pos (packed_value t w words.numbers lane s) in
     let fits : FitsSigned w64 r = search rules in
     let bits = c.cast_unsigned-least.ensures ∙ ap (cast_unsigned w64) (to_z-of_z w64 r fits) in
-    let number : c.value-number.result ≡ packed_value t w words.numbers lane k = c.value-number.ensures.value ∙ ap (λ n. packed_value n w words.numbers lane k) (sym c.lane_width-lane_width.ensures.value) in
+    let number : c.value-number.result ≡ packed_value t w words.numbers lane k = c.value-number.ensures.value ∙ ap (λ v. packed_value words.lane_width v words.numbers lane k) c.packed_width-width.ensures ∙ ap (λ n. packed_value n w words.numbers lane k) (sym c.lane_width-lane_width.ensures.value) in
     ap (λ x. int_wrap (integer_width t) (pos (((c.loop-step.sum + x) % 2 ^ 64 + c.value-number.result) % 2 ^ 64))) bits
     ∙ sums_step t c.loop-step.sum c.value-number.result k base r g c.lane_width-lane_width.ensures.width fits c.loop-step.invariant (ap (λ x. r +ℤ pos x) (sym number))
     ∙ ap (λ (n : ℕ). int_wrap (integer_width t) (base +ℤ sum_to n g)) (sym (add-one k))
@@ -50,8 +51,8 @@ returns-clause-value c =
     let t = c.lane_width-lane_width.result in
     let n = c.args.row in
     let r = c.self.inside.least in
-    let w = c.self.inside.width in
     let words = c.self.inside.words in
+    let w = packed_width words in
     let bases : List ℤ = c.self.inside.bases.items in
     let form : ℕ → DeltaForm = λ k. record { lane_width = k; width = w; least = r; bases = bases; words = words } in
     let sum_at : ℕ → ℕ → ℤ = λ l s. int_wrap (integer_width t) (value_at bases l +ℤ sum_to s (λ i. r +ℤ pos (packed_value t w words.numbers l i))) in

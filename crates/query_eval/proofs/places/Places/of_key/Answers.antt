@@ -17,7 +17,7 @@ returns-clause-index c =
     index_new c.args.key.now c.args.self.now.index c.insert.new.self c.len-place.result c.len-place.ensures.len none
     (λ q. c.in_ok-insert.ensures.updates.0 q ∙ ap (λ (x : Cells). cond (is_at (key_cmp x) q) (Some c.len-place.result) (get key_cmp c.args.self.now.index q)) c.in_ok-copy.ensures)
     (c.in_ok-insert.ensures.len ∙ ap (λ (o : Option ℕ). length c.args.self.now.index.entries + (if is_some o then 0 else 1)) (c.in_ok-insert.ensures.old ∙ ap (get key_cmp c.args.self.now.index) c.in_ok-copy.ensures ∙ none))
-    c.args.self.now.recent
+    c.args.self.now.recent c.args.self.now.null
 
 pub returns-clause-taken : goal.returns-clause-taken
 returns-clause-taken c =

@@ -4,6 +4,7 @@ use Rattle.bit_interleave.specs.Range.{AreInRange}
 use Rattle.segment_core.specs.Fill.{filled, cells_under}
 use Rattle.segment_core.specs.Coded.{least_form}
 use Rattle.segment_core.specs.Choice.{canonical_form}
+use Rattle.segment_core.specs.Cover.{Cover}
 use Rattle.segment_core.specs.CodedVector.{VectorForm, null_mask, some_rows, IsVector}
 use Rattle.segment_core.specs.declared.coding.Coding.{Coding}
 use Rattle.segment_core.proofs.FillLemmas.{length-cells_under}
@@ -28,8 +29,8 @@ some_rows-requires c = ap length c.requires.nulls ∙ length-null_rows (cells_un
 pub returns : goal.returns
 returns c =
     let cells : List (Option ℤ) = cells_under c.args.rows c.args.nulls.now c.args.values.now in
-    let rows : c.args.rows ≡ length cells = sym (length-cells_under c.args.rows c.args.nulls.now c.args.values.now) in
-    let nulls : c.in_ok-nulls.nulls ≡ null_mask cells = c.in_ok-nulls.ensures ∙ ap some_rows c.requires.nulls in
+    let rows : c.new-cover.result.rows ≡ length cells = ap (λ (x : Cover). x.rows) c.new-cover.ensures ∙ sym (length-cells_under c.args.rows c.args.nulls.now c.args.values.now) in
+    let nulls : c.new-cover.result.nulls ≡ null_mask cells = ap (λ (x : Cover). x.nulls) c.new-cover.ensures ∙ c.in_ok-nulls.ensures ∙ ap some_rows c.requires.nulls in
     let coded : c.in_ok-coded.coded ≡ canonical_form c.args.lane_width (filled cells) =
     c.in_ok-coded.ensures ∙ ap (λ (k : Coding). least_form k c.args.lane_width c.fill.new.values) c.choose.ensures.value
     ∙ ap (λ (xs : List ℤ). canonical_form c.args.lane_width xs) c.fill.ensures in

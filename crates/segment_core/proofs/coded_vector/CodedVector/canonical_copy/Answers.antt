@@ -3,6 +3,7 @@ use Rattle.std.proofs.Common.{◌≡◌, ℤ, List, length, sym, ◌∙◌, ap, 
 use Rattle.segment_core.specs.Fill.{filled}
 use Rattle.segment_core.specs.Coded.{lane_width_of, least_form}
 use Rattle.segment_core.specs.Choice.{canonical_form}
+use Rattle.segment_core.specs.Cover.{Cover}
 use Rattle.segment_core.specs.CodedVector.{VectorForm, cells_of, null_mask, IsVector}
 use Rattle.segment_core.specs.declared.coding.Coding.{Coding}
 use Rattle.segment_core.proofs.VectorLemmas.{length-cells_of, null_mask-cells_of}
@@ -13,8 +14,8 @@ pub returns : goal.returns
 returns c =
     let v : VectorForm = c.args.self.now in
     let is : IsVector v = subst (λ (x : VectorForm). IsVector x) c.self.view_is c.self.invariant in
-    let rows : c.self.inside.rows ≡ length (cells_of v) = ap (λ (x : VectorForm). x.rows) c.self.view_is ∙ sym (length-cells_of v) in
-    let nulls : c.in_ok-nulls.nulls ≡ null_mask (cells_of v) = c.in_ok-nulls.ensures ∙ ap (λ (x : VectorForm). x.nulls) c.self.view_is ∙ sym (null_mask-cells_of v is) in
+    let rows : c.in_ok-cover.cover.rows ≡ length (cells_of v) = ap (λ (x : Cover). x.rows) c.in_ok-cover.ensures ∙ ap (λ (x : VectorForm). x.rows) c.self.view_is ∙ sym (length-cells_of v) in
+    let nulls : c.in_ok-cover.cover.nulls ≡ null_mask (cells_of v) = ap (λ (x : Cover). x.nulls) c.in_ok-cover.ensures ∙ ap (λ (x : VectorForm). x.nulls) c.self.view_is ∙ sym (null_mask-cells_of v is) in
     let width : c.lane_width-lane_width.result ≡ lane_width_of v.coded = c.lane_width-lane_width.ensures.value ∙ ap (λ (x : VectorForm). lane_width_of x.coded) c.self.view_is in
     let coded : c.in_ok-coded.coded ≡ canonical_form (lane_width_of v.coded) (filled (cells_of v)) =
     c.in_ok-coded.ensures ∙ ap (λ (k : Coding). least_form k c.lane_width-lane_width.result c.write_filled.new.values) c.choose.ensures.value

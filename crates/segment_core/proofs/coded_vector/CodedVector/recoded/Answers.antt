@@ -3,14 +3,15 @@ use Rattle.std.proofs.Common.{◌≡◌, ℤ, List, sym, ◌∙◌, ap, subst}
 use Rattle.transpose_order.specs.Place.{IsLaneWidth}
 use Rattle.segment_core.specs.Fill.{filled}
 use Rattle.segment_core.specs.Coded.{lane_width_of, least_form}
+use Rattle.segment_core.specs.Cover.{Cover}
 use Rattle.segment_core.specs.CodedVector.{VectorForm, cells_of, IsVector, StandsFor}
 use Rattle.segment_core.proofs.VectorLemmas.{recoded_stands, recoded_is_a_vector}
 use Rattle.segment_core.proofs.coded_vector.CodedVector.recoded.Goals as goal
 
 pub returns-clause-value : goal.returns-clause-value
 returns-clause-value c =
-    let rows : c.self.inside.rows ≡ c.args.self.now.rows = ap (λ (v : VectorForm). v.rows) c.self.view_is in
-    let nulls : c.in_ok-nulls.nulls ≡ c.args.self.now.nulls = c.in_ok-nulls.ensures ∙ ap (λ (v : VectorForm). v.nulls) c.self.view_is in
+    let rows : c.in_ok-cover.cover.rows ≡ c.args.self.now.rows = ap (λ (x : Cover). x.rows) c.in_ok-cover.ensures ∙ ap (λ (v : VectorForm). v.rows) c.self.view_is in
+    let nulls : c.in_ok-cover.cover.nulls ≡ c.args.self.now.nulls = ap (λ (x : Cover). x.nulls) c.in_ok-cover.ensures ∙ ap (λ (v : VectorForm). v.nulls) c.self.view_is in
     let width : c.lane_width.result ≡ lane_width_of c.args.self.now.coded = c.lane_width.ensures.value ∙ ap (λ (v : VectorForm). lane_width_of v.coded) c.self.view_is in
     let coded : c.in_ok-coded.coded ≡ least_form c.args.coding (lane_width_of c.args.self.now.coded) (filled (cells_of c.args.self.now)) =
     c.in_ok-coded.ensures ∙ ap (λ t. least_form c.args.coding t c.write_filled.new.values) width

@@ -1,0 +1,13 @@
+-- the steps so far are added up, each over its lanes
+use Rattle.std.proofs.Common.{◌≡◌, ◌*◌, ◌^◌, ◌≤◌, cond, pos, ◌+ℤ◌}
+use Rattle.transpose_order.specs.Mask.{has}
+use Rattle.transpose_order.specs.Place.{row_at}
+use Rattle.run_dictionary.specs.Dict.{dict_value}
+use Rattle.fused_kernels.specs.Folds.{fold_to}
+use Rattle.fused_kernels.proofs.codes.raised_sum_of_codes.Given as goal
+
+abbrev pub invariant-loop-step : goal.invariant-loop-step
+invariant-loop-step l = record {
+  sum : pos l.sum ≡ fold_to ◌+ℤ◌ (pos 0) l.step (λ s. fold_to ◌+ℤ◌ (pos 0) 64 (λ lane. cond (has l.rows (row_at 16 lane s)) (dict_value l.form (row_at 16 lane s) +ℤ pos (2 ^ 63)) (pos 0)));
+  bound : l.sum ≤ 2 ^ 64 * (64 * l.step);
+}

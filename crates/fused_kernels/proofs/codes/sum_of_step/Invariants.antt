@@ -1,0 +1,12 @@
+-- the lanes so far are added up
+use Rattle.std.proofs.Common.{◌≡◌, ◌==◌, ◌*◌, ◌^◌, ◌≤◌, cond, pos, ◌+ℤ◌, slice_index}
+use Rattle.std.specs.Int.{bit_at}
+use Rattle.bit_interleave.specs.Range.{value_at}
+use Rattle.fused_kernels.specs.Folds.{fold_to}
+use Rattle.fused_kernels.proofs.codes.sum_of_step.Given as goal
+
+abbrev pub invariant-loop-i : goal.invariant-loop-i
+invariant-loop-i l = record {
+  sum : pos l.sum ≡ fold_to ◌+ℤ◌ (pos 0) l.i (λ lane. cond (bit_at (slice_index l.rows lane) l.step == 1) (value_at l.values (slice_index l.codes lane) +ℤ pos (2 ^ 63)) (pos 0));
+  bound : l.sum ≤ 2 ^ 64 * l.i;
+}

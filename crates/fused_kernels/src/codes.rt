@@ -1,0 +1,89 @@
+//! Set functions of dictionaries, by the codes.
+ghost use Rattle.std.specs.Prelude.{◌≡◌, ◌==◌, ℕ, ◌*◌, ◌^◌, ◌<◌, ◌≤◌, cond, length, slice_index, pos, ◌+ℤ◌, Some, None};
+ghost use Rattle.std.specs.Int.{bit_at};
+ghost use Rattle.transpose_order.specs.Mask.{has};
+ghost use Rattle.bit_interleave.specs.Range.{value_at};
+ghost use Rattle.run_dictionary.specs.Dict.{code_at, dict_value};
+ghost use Rattle.table_model.specs.Values.{lesser, greater};
+ghost use Rattle.fused_kernels.specs.Folds.{fold_to};
+ghost use Rattle.fused_kernels.specs.Walks.{number_of_row};
+
+use crate::native_16::numbers_16;
+use crate::sums::raised_if;
+use crate::walk_16::{Walk16, lanes_of_mask};
+use run_dictionary::Dict;
+use transpose_order::Mask;
+
+/// The walk whose numbers are the codes of a dictionary's rows.
+fn walk_of_codes(form: &Dict) -> Walk16<'_>
+    ensures { (n : ℕ) → n < 1024 → number_of_row result n ≡ code_at form.now n }
+{
+    let _ = form.lane_width();
+    Walk16::new(form.width(), form.codes().words_16(), false, [0; 64], 0)
+}
+
+/// The greatest value of a mask's rows, none over none. It is that of the greatest code, since a dictionary's values ascend.
+pub(crate) fn greatest_of_codes(form: &Dict, rows: &Mask) -> Option<i64>
+    ensures { result ≡ fold_to greater None 1024 (λ n. cond (has rows.now n) (Some (dict_value form.now n)) None) }
+{
+    let _ = form.lane_width();
+    if rows.count_below(1024) == 0 {
+        return None;
+    }
+    let code = walk_of_codes(form).greatest(false, rows);
+    Some(form.values()[usize::from(code)])
+}
+
+/// The least value of a mask's rows, none over none. It is that of the least code, since a dictionary's values ascend.
+pub(crate) fn least_of_codes(form: &Dict, rows: &Mask) -> Option<i64>
+    ensures { result ≡ fold_to lesser None 1024 (λ n. cond (has rows.now n) (Some (dict_value form.now n)) None) }
+{
+    let _ = form.lane_width();
+    if rows.count_below(1024) == 0 {
+        return None;
+    }
+    let code = u16::MAX - walk_of_codes(form).greatest(true, rows);
+    Some(form.values()[usize::from(code)])
+}
+
+/// How far the values of a step's codes are above the least of 64 bits, added up where the lane's bit of the step is set.
+#[inline(always)]
+fn sum_of_step(values: &[i64], codes: &[u16; 64], rows: &[u16; 64], step: usize) -> u128
+    requires step { step < 16 }
+    requires codes { (lane : ℕ) → lane < 64 → slice_index codes.now lane < length values.now }
+    ensures sum { pos result ≡ fold_to ◌+ℤ◌ (pos 0) 64 (λ lane.
+        cond (bit_at (slice_index rows.now lane) step == 1) (value_at values.now (slice_index codes.now lane) +ℤ pos (2 ^ 63)) (pos 0)) }
+    ensures bound { result ≤ 2 ^ 64 * 64 }
+{
+    let mut sum = 0;
+    for i in 0..64 {
+        let value = values[usize::from(codes[i])];
+        sum += u128::from(raised_if(rows[i] >> step & 1 == 1, value));
+    }
+    sum
+}
+
+/// How far the values of a mask's rows are above the least of 64 bits, added up.
+fn raised_sum_of_codes(form: &Dict, rows: &Mask) -> u128
+    ensures sum { pos result ≡ fold_to ◌+ℤ◌ (pos 0) 1024 (λ n. cond (has rows.now n) (dict_value form.now n +ℤ pos (2 ^ 63)) (pos 0)) }
+    ensures bound { result ≤ 2 ^ 64 * 1024 }
+{
+    let _ = form.lane_width();
+    let width = form.width();
+    let words = form.codes().words_16();
+    let values = form.values();
+    let lanes = lanes_of_mask(rows);
+    let mut sum = 0;
+    for step in 0..16 {
+        let codes = numbers_16(width, words, step);
+        sum += sum_of_step(values, &codes, &lanes, step);
+    }
+    sum
+}
+
+/// The sum of the values of a mask's rows.
+pub(crate) fn sum_of_codes(form: &Dict, rows: &Mask) -> i128
+    ensures { result ≡ fold_to ◌+ℤ◌ (pos 0) 1024 (λ n. cond (has rows.now n) (dict_value form.now n) (pos 0)) }
+{
+    raised_sum_of_codes(form, rows) as i128 - rows.count_below(1024) as i128 * (1 << 63)
+}
