@@ -1,5 +1,5 @@
 -- A refusal's number, and how it is written: its name, and then its values, each after one space.
-use Rattle.std.specs.Prelude.{ℕ, List, ◌++◌, codes}
+use Rattle.std.specs.Prelude.{ℕ, List, [], ◌++◌, codes}
 use Rattle.std.specs.Fmt.{decimal}
 use Rattle.table_model.specs.Name.{name_text}
 use Rattle.table_model.specs.declared.refusal.Refusal.{Refusal}
@@ -45,46 +45,72 @@ number_of refusals.BadLine = 35
 number_of refusals.NoSuchReplica = 36
 number_of refusals.NoSuchMessage = 37
 
+-- its name, with its values left out
+abbrev pub refusal_name : Refusal → List ℕ
+refusal_name refusals.Memory = codes "Memory"
+refusal_name (refusals.Conflict name) = codes "Conflict"
+refusal_name refusals.Full = codes "Full"
+refusal_name refusals.EmptyBatch = codes "EmptyBatch"
+refusal_name refusals.BatchTooLong = codes "BatchTooLong"
+refusal_name (refusals.WrongArity at) = codes "WrongArity"
+refusal_name (refusals.OutOfType row column) = codes "OutOfType"
+refusal_name refusals.SchemaDiffers = codes "SchemaDiffers"
+refusal_name refusals.NumbersSpent = codes "NumbersSpent"
+refusal_name refusals.NoSuchVector = codes "NoSuchVector"
+refusal_name refusals.BadName = codes "BadName"
+refusal_name refusals.BadSchema = codes "BadSchema"
+refusal_name (refusals.Truncated at) = codes "Truncated"
+refusal_name refusals.BadMagic = codes "BadMagic"
+refusal_name refusals.BadVersion = codes "BadVersion"
+refusal_name (refusals.BadOrder at) = codes "BadOrder"
+refusal_name (refusals.BadCount at) = codes "BadCount"
+refusal_name (refusals.BadWidth at) = codes "BadWidth"
+refusal_name (refusals.BadTag at) = codes "BadTag"
+refusal_name (refusals.BadMask at) = codes "BadMask"
+refusal_name (refusals.BadDictionary at) = codes "BadDictionary"
+refusal_name (refusals.BadCode at) = codes "BadCode"
+refusal_name (refusals.BadRange at) = codes "BadRange"
+refusal_name (refusals.TrailingBytes at) = codes "TrailingBytes"
+refusal_name (refusals.NotCanonical at) = codes "NotCanonical"
+refusal_name (refusals.Syntax at) = codes "Syntax"
+refusal_name refusals.NoSuchTable = codes "NoSuchTable"
+refusal_name (refusals.NoSuchColumn at) = codes "NoSuchColumn"
+refusal_name (refusals.NotGrouped at) = codes "NotGrouped"
+refusal_name (refusals.NumberTooLarge at) = codes "NumberTooLarge"
+refusal_name refusals.TooDeep = codes "TooDeep"
+refusal_name refusals.LineTooLong = codes "LineTooLong"
+refusal_name refusals.ReadFault = codes "ReadFault"
+refusal_name refusals.WriteFault = codes "WriteFault"
+refusal_name refusals.BadLine = codes "BadLine"
+refusal_name refusals.NoSuchReplica = codes "NoSuchReplica"
+refusal_name refusals.NoSuchMessage = codes "NoSuchMessage"
+
 -- one value after a space
 abbrev pub word_of : ℕ → List ℕ
 word_of n = codes " " ++ decimal n
 
+-- its values, each after one space
+abbrev pub refusal_values : Refusal → List ℕ
+refusal_values (refusals.Conflict name) = codes " " ++ name_text name
+refusal_values (refusals.WrongArity at) = word_of at
+refusal_values (refusals.OutOfType row column) = word_of row ++ word_of column
+refusal_values (refusals.Truncated at) = word_of at
+refusal_values (refusals.BadOrder at) = word_of at
+refusal_values (refusals.BadCount at) = word_of at
+refusal_values (refusals.BadWidth at) = word_of at
+refusal_values (refusals.BadTag at) = word_of at
+refusal_values (refusals.BadMask at) = word_of at
+refusal_values (refusals.BadDictionary at) = word_of at
+refusal_values (refusals.BadCode at) = word_of at
+refusal_values (refusals.BadRange at) = word_of at
+refusal_values (refusals.TrailingBytes at) = word_of at
+refusal_values (refusals.NotCanonical at) = word_of at
+refusal_values (refusals.Syntax at) = word_of at
+refusal_values (refusals.NoSuchColumn at) = word_of at
+refusal_values (refusals.NotGrouped at) = word_of at
+refusal_values (refusals.NumberTooLarge at) = word_of at
+refusal_values other = []
+
 -- as it is written: Full, or Conflict 1.7, or OutOfType 0 1
 abbrev pub refusal_text : Refusal → List ℕ
-refusal_text refusals.Memory = codes "Memory"
-refusal_text (refusals.Conflict name) = codes "Conflict " ++ name_text name
-refusal_text refusals.Full = codes "Full"
-refusal_text refusals.EmptyBatch = codes "EmptyBatch"
-refusal_text refusals.BatchTooLong = codes "BatchTooLong"
-refusal_text (refusals.WrongArity at) = codes "WrongArity " ++ decimal at
-refusal_text (refusals.OutOfType row column) = codes "OutOfType " ++ (decimal row ++ (codes " " ++ decimal column))
-refusal_text refusals.SchemaDiffers = codes "SchemaDiffers"
-refusal_text refusals.NumbersSpent = codes "NumbersSpent"
-refusal_text refusals.NoSuchVector = codes "NoSuchVector"
-refusal_text refusals.BadName = codes "BadName"
-refusal_text refusals.BadSchema = codes "BadSchema"
-refusal_text (refusals.Truncated at) = codes "Truncated " ++ decimal at
-refusal_text refusals.BadMagic = codes "BadMagic"
-refusal_text refusals.BadVersion = codes "BadVersion"
-refusal_text (refusals.BadOrder at) = codes "BadOrder " ++ decimal at
-refusal_text (refusals.BadCount at) = codes "BadCount " ++ decimal at
-refusal_text (refusals.BadWidth at) = codes "BadWidth " ++ decimal at
-refusal_text (refusals.BadTag at) = codes "BadTag " ++ decimal at
-refusal_text (refusals.BadMask at) = codes "BadMask " ++ decimal at
-refusal_text (refusals.BadDictionary at) = codes "BadDictionary " ++ decimal at
-refusal_text (refusals.BadCode at) = codes "BadCode " ++ decimal at
-refusal_text (refusals.BadRange at) = codes "BadRange " ++ decimal at
-refusal_text (refusals.TrailingBytes at) = codes "TrailingBytes " ++ decimal at
-refusal_text (refusals.NotCanonical at) = codes "NotCanonical " ++ decimal at
-refusal_text (refusals.Syntax at) = codes "Syntax " ++ decimal at
-refusal_text refusals.NoSuchTable = codes "NoSuchTable"
-refusal_text (refusals.NoSuchColumn at) = codes "NoSuchColumn " ++ decimal at
-refusal_text (refusals.NotGrouped at) = codes "NotGrouped " ++ decimal at
-refusal_text (refusals.NumberTooLarge at) = codes "NumberTooLarge " ++ decimal at
-refusal_text refusals.TooDeep = codes "TooDeep"
-refusal_text refusals.LineTooLong = codes "LineTooLong"
-refusal_text refusals.ReadFault = codes "ReadFault"
-refusal_text refusals.WriteFault = codes "WriteFault"
-refusal_text refusals.BadLine = codes "BadLine"
-refusal_text refusals.NoSuchReplica = codes "NoSuchReplica"
-refusal_text refusals.NoSuchMessage = codes "NoSuchMessage"
+refusal_text refusal = refusal_name refusal ++ refusal_values refusal

@@ -1,7 +1,7 @@
 //! Refusals: why a call changed nothing.
 ghost use Rattle.std.specs.Prelude.{◌≡◌};
 ghost use Rattle.table_model.specs.declared.refusal.Refusal.TheVariants.{Memory};
-ghost use Rattle.table_model.specs.RefusalText.{number_of};
+ghost use Rattle.table_model.specs.RefusalText.{number_of, refusal_name};
 
 use crate::names::BatchName;
 use std::alloc::{AllocError, AllocFailed};
@@ -149,6 +149,51 @@ impl Refusal {
             Refusal::NoSuchMessage => 37,
         }
     }
+
+    /// The refusal's name, without its values: `Conflict`.
+    pub fn name(&self) -> &'static str
+        ensures { result.now ≡ refusal_name self.now }
+    {
+        match self {
+            Refusal::Memory => "Memory",
+            Refusal::Conflict(_) => "Conflict",
+            Refusal::Full => "Full",
+            Refusal::EmptyBatch => "EmptyBatch",
+            Refusal::BatchTooLong => "BatchTooLong",
+            Refusal::WrongArity(_) => "WrongArity",
+            Refusal::OutOfType { .. } => "OutOfType",
+            Refusal::SchemaDiffers => "SchemaDiffers",
+            Refusal::NumbersSpent => "NumbersSpent",
+            Refusal::NoSuchVector => "NoSuchVector",
+            Refusal::BadName => "BadName",
+            Refusal::BadSchema => "BadSchema",
+            Refusal::Truncated(_) => "Truncated",
+            Refusal::BadMagic => "BadMagic",
+            Refusal::BadVersion => "BadVersion",
+            Refusal::BadOrder(_) => "BadOrder",
+            Refusal::BadCount(_) => "BadCount",
+            Refusal::BadWidth(_) => "BadWidth",
+            Refusal::BadTag(_) => "BadTag",
+            Refusal::BadMask(_) => "BadMask",
+            Refusal::BadDictionary(_) => "BadDictionary",
+            Refusal::BadCode(_) => "BadCode",
+            Refusal::BadRange(_) => "BadRange",
+            Refusal::TrailingBytes(_) => "TrailingBytes",
+            Refusal::NotCanonical(_) => "NotCanonical",
+            Refusal::Syntax(_) => "Syntax",
+            Refusal::NoSuchTable => "NoSuchTable",
+            Refusal::NoSuchColumn(_) => "NoSuchColumn",
+            Refusal::NotGrouped(_) => "NotGrouped",
+            Refusal::NumberTooLarge(_) => "NumberTooLarge",
+            Refusal::TooDeep => "TooDeep",
+            Refusal::LineTooLong => "LineTooLong",
+            Refusal::ReadFault => "ReadFault",
+            Refusal::WriteFault => "WriteFault",
+            Refusal::BadLine => "BadLine",
+            Refusal::NoSuchReplica => "NoSuchReplica",
+            Refusal::NoSuchMessage => "NoSuchMessage",
+        }
+    }
 }
 
 /// The refusal's name, and then its values, each after one space: `Conflict 1.7`.
@@ -159,44 +204,27 @@ impl fmt::Display for Refusal {
     ghost output = { λ refusal. Some (refusal_text refusal) };
 
     fn fmt<W: fmt::Write>(&self, f: &mut fmt::Formatter<W>) -> fmt::Result {
+        f.write_str(self.name())?;
         match self {
-            Refusal::Memory => write!(f, "Memory"),
-            Refusal::Conflict(name) => write!(f, "Conflict {name}"),
-            Refusal::Full => write!(f, "Full"),
-            Refusal::EmptyBatch => write!(f, "EmptyBatch"),
-            Refusal::BatchTooLong => write!(f, "BatchTooLong"),
-            Refusal::WrongArity(at) => write!(f, "WrongArity {at}"),
-            Refusal::OutOfType { row, column } => write!(f, "OutOfType {row} {column}"),
-            Refusal::SchemaDiffers => write!(f, "SchemaDiffers"),
-            Refusal::NumbersSpent => write!(f, "NumbersSpent"),
-            Refusal::NoSuchVector => write!(f, "NoSuchVector"),
-            Refusal::BadName => write!(f, "BadName"),
-            Refusal::BadSchema => write!(f, "BadSchema"),
-            Refusal::Truncated(at) => write!(f, "Truncated {at}"),
-            Refusal::BadMagic => write!(f, "BadMagic"),
-            Refusal::BadVersion => write!(f, "BadVersion"),
-            Refusal::BadOrder(at) => write!(f, "BadOrder {at}"),
-            Refusal::BadCount(at) => write!(f, "BadCount {at}"),
-            Refusal::BadWidth(at) => write!(f, "BadWidth {at}"),
-            Refusal::BadTag(at) => write!(f, "BadTag {at}"),
-            Refusal::BadMask(at) => write!(f, "BadMask {at}"),
-            Refusal::BadDictionary(at) => write!(f, "BadDictionary {at}"),
-            Refusal::BadCode(at) => write!(f, "BadCode {at}"),
-            Refusal::BadRange(at) => write!(f, "BadRange {at}"),
-            Refusal::TrailingBytes(at) => write!(f, "TrailingBytes {at}"),
-            Refusal::NotCanonical(at) => write!(f, "NotCanonical {at}"),
-            Refusal::Syntax(at) => write!(f, "Syntax {at}"),
-            Refusal::NoSuchTable => write!(f, "NoSuchTable"),
-            Refusal::NoSuchColumn(at) => write!(f, "NoSuchColumn {at}"),
-            Refusal::NotGrouped(at) => write!(f, "NotGrouped {at}"),
-            Refusal::NumberTooLarge(at) => write!(f, "NumberTooLarge {at}"),
-            Refusal::TooDeep => write!(f, "TooDeep"),
-            Refusal::LineTooLong => write!(f, "LineTooLong"),
-            Refusal::ReadFault => write!(f, "ReadFault"),
-            Refusal::WriteFault => write!(f, "WriteFault"),
-            Refusal::BadLine => write!(f, "BadLine"),
-            Refusal::NoSuchReplica => write!(f, "NoSuchReplica"),
-            Refusal::NoSuchMessage => write!(f, "NoSuchMessage"),
+            Refusal::Conflict(name) => write!(f, " {name}"),
+            Refusal::WrongArity(at) => write!(f, " {at}"),
+            Refusal::OutOfType { row, column } => write!(f, " {row} {column}"),
+            Refusal::Truncated(at)
+            | Refusal::BadOrder(at)
+            | Refusal::BadCount(at)
+            | Refusal::BadWidth(at)
+            | Refusal::BadTag(at)
+            | Refusal::BadMask(at)
+            | Refusal::BadDictionary(at)
+            | Refusal::BadCode(at)
+            | Refusal::BadRange(at)
+            | Refusal::TrailingBytes(at)
+            | Refusal::NotCanonical(at)
+            | Refusal::Syntax(at)
+            | Refusal::NoSuchColumn(at)
+            | Refusal::NotGrouped(at)
+            | Refusal::NumberTooLarge(at) => write!(f, " {at}"),
+            _ => Ok(()),
         }
     }
 }

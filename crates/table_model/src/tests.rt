@@ -110,7 +110,7 @@ const FAULTS: [(&[&[Option<i128>]], Result<(), Refusal>); 14] = [
 #[test]
 fn the_first_fault_of_a_batch_is_named(rt: HostRuntime) -> Result<(), Fail> {
     let schema = Schema::new(rt.alloc(), "T", &COLUMNS[..3])?;
-    for (rows, want) in FAULTS {
+    for &(rows, want) in &FAULTS {
         let rows = rows_of(rt.alloc(), rows)?;
         assert_eq!(rt; check_rows(&schema, rows.as_slice()), want);
     }
@@ -338,7 +338,7 @@ const ALL_REFUSALS: [Refusal; 37] = [
 #[test]
 fn refusals_have_their_numbers_and_texts(rt: HostRuntime) -> Result<(), Fail> {
     let mut text = String::new(rt.alloc());
-    for refusal in ALL_REFUSALS {
+    for &refusal in &ALL_REFUSALS {
         let number = refusal.number();
         text.push_str(format!(in rt.alloc(); "{number} {refusal}\n")?.as_str())?;
     }
@@ -514,7 +514,7 @@ const CONNECTIVES: [(Truth, Truth, Truth, Truth); 9] = [
 
 #[test]
 fn truth_values_are_joined_by_the_standards_tables(rt: HostRuntime) {
-    for (left, right, and, or) in CONNECTIVES {
+    for &(left, right, and, or) in &CONNECTIVES {
         assert_eq!(rt; (left.and(right), left.or(right)), (and, or));
     }
     let negated = [Truth::True, Truth::False, Truth::Unknown].map(|truth| truth.not());
@@ -534,7 +534,7 @@ const COMPARISONS: [(Op, bool, bool, bool); 6] = [
 
 #[test]
 fn comparisons_are_known_unless_a_side_is_null(rt: HostRuntime) {
-    for (op, below, same, above) in COMPARISONS {
+    for &(op, below, same, above) in &COMPARISONS {
         assert_eq!(rt;
             (op.holds(1, 2), op.holds(2, 2), op.holds(2, 1)),
             (below, same, above)
