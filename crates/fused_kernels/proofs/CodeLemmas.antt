@@ -15,11 +15,11 @@ use Rattle.bit_interleave.specs.Range.{value_at}
 use Rattle.bit_interleave.proofs.StepLemmas.{packed_value-below}
 use Rattle.run_dictionary.specs.Dict.{DictForm, IsDictForm, IsAscending, code_at}
 use Rattle.run_dictionary.proofs.DictLemmas.{Ascends-from_neighbours, less_at}
-use Rattle.fused_kernels.specs.Folds.{fold_to}
-use Rattle.fused_kernels.specs.Walks.{Walk, number_of_row}
-use Rattle.fused_kernels.proofs.FoldLemmas.{fold_to-zero, fold_to-suc}
-use Rattle.fused_kernels.proofs.WalkLemmas.{number_at-is}
-use Rattle.fused_kernels.proofs.WalkFoldLemmas.{none_taken}
+use Rattle.native_lanes.specs.Folds.{fold_to}
+use Rattle.native_lanes.specs.Walks.{Walk, number_of_row}
+use Rattle.native_lanes.proofs.FoldLemmas.{fold_to-zero, fold_to-suc}
+use Rattle.native_lanes.proofs.WalkLemmas.{number_at-is}
+use Rattle.native_lanes.proofs.WalkFoldLemmas.{none_taken}
 
 -- a later place below a bound has no lesser value
 abbrev pub Rises : (ℕ → ℤ) → ℕ → Type 0

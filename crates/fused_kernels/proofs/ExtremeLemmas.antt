@@ -9,11 +9,11 @@ use Rattle.transpose_order.specs.Place.{IsLaneWidth, place_of}
 use Rattle.transpose_order.specs.Mask.{rows_of, has}
 use Rattle.transpose_order.specs.MaskWords.{has-rows_of}
 use Rattle.bit_interleave.specs.Range.{value_at}
-use Rattle.fused_kernels.specs.Folds.{fold_to}
+use Rattle.native_lanes.specs.Folds.{fold_to}
 use Rattle.fused_kernels.specs.Seen.{LanesSeen, AreLanes, looked_at, looked_cell, values_looked_at}
 use Rattle.frame_delta.proofs.PieceRows.{row_of_piece}
 use Rattle.fused_kernels.proofs.RangeLemmas.{value_fits}
-use Rattle.fused_kernels.proofs.FoldLemmas.{IsJoin, fold_to-zero, fold_to-suc, fold_to-same, fold_to-pieces}
+use Rattle.native_lanes.proofs.FoldLemmas.{IsJoin, fold_to-zero, fold_to-suc, fold_to-same, fold_to-pieces}
 use Rattle.fused_kernels.proofs.SumLemmas.{present-more}
 
 -- the value, or another where there is none

@@ -7,10 +7,10 @@ use Rattle.table_model.specs.Values.{total, lesser, greater, least, greatest}
 use Rattle.segment_core.specs.Coded.{value_in}
 use Rattle.segment_core.specs.CodedVector.{VectorForm}
 use Rattle.segment_core.proofs.CodedLemmas.{value_at-values_of}
-use Rattle.fused_kernels.specs.Folds.{fold_to}
+use Rattle.native_lanes.specs.Folds.{fold_to}
 use Rattle.fused_kernels.specs.Seen.{LanesSeen, looked_at, looked_cell, values_looked_at}
 use Rattle.fused_kernels.specs.VectorSeen.{vector_seen}
-use Rattle.fused_kernels.proofs.FoldLemmas.{fold_to-same}
+use Rattle.native_lanes.proofs.FoldLemmas.{fold_to-same}
 use Rattle.fused_kernels.proofs.ExtremeLemmas.{least-looked_at, greatest-looked_at}
 use Rattle.fused_kernels.proofs.SumLemmas.{term_of, term_of_cell, total-looked_at}
 

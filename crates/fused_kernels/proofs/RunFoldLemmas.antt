@@ -1,13 +1,15 @@
 -- A fold over the rows of a run, which have one value, from how many of them are taken.
-use Rattle.std.proofs.Common.{◌≡◌, ℕ, zero, suc, ◌+◌, ◌-◌, ◌*◌, ◌^◌, ◌<◌, ◌≤◌, Bool, true, false, cond, nat_lt, ℤ, pos, neg_ℤ, ◌+ℤ◌, ◌*ℤ◌, ◌≤ℤ◌, FitsSigned, Option, Some, None, refl, sym, ap, ◌∙◌, subst, arith}
+use Rattle.std.proofs.Common.{◌≡◌, ℕ, zero, suc, ◌+◌, ◌-◌, ◌*◌, ◌^◌, ◌<◌, ◌≤◌, ◌⊎◌, inl, inr, Bool, true, false, cond, nat_lt, ℤ, pos, neg_ℤ, ◌+ℤ◌, ◌*ℤ◌, ◌≤ℤ◌, FitsSigned, Option, Some, None, refl, sym, ap, ◌∙◌, subst, arith}
 use Rattle.std.specs.Int.{w64, w128, int_min, int_max}
 use Rattle.std.proofs.lemmas.Int.{ints, clamps}
+use Rattle.std.proofs.lemmas.Bool.{cases_lt}
 use Rattle.std.proofs.lemmas.Bool.Decides.{nat_tests}
 use Rattle.table_model.specs.Values.{lesser, greater}
 use Rattle.transpose_order.specs.Mask.{count_below}
 use Rattle.transpose_order.proofs.MaskLemmas.{count_below-zero, count_below-suc, count_below-add}
-use Rattle.fused_kernels.specs.Folds.{fold_to}
-use Rattle.fused_kernels.proofs.FoldLemmas.{fold_to-zero, fold_to-suc, fold_to-same, fold_to-add}
+use Rattle.run_dictionary.proofs.CountLemmas.{count_below-yes, count_below-rises, count_below-stays}
+use Rattle.native_lanes.specs.Folds.{fold_to}
+use Rattle.native_lanes.proofs.FoldLemmas.{fold_to-zero, fold_to-suc, fold_to-same, fold_to-add}
 use Rattle.fused_kernels.proofs.SumLemmas.{sum_is_join}
 use Rattle.fused_kernels.proofs.ExtremeLemmas.{lesser_is_join, greater_is_join}
 
@@ -62,6 +64,22 @@ sum_more f b v row end order same =
     ∙ sym (fold_to-add ◌+ℤ◌ (pos 0) sum_is_join row d f) ∙ ap (λ k. fold_to ◌+ℤ◌ (pos 0) k f) whole
 
 -- ---- the least and the greatest
+-- a run has a row that is taken exactly where the next one that is taken stands before its end
+pub taken_where : (b : ℕ → Bool) (row end next : ℕ) → row ≤ end → end ≤ 1024 → row ≤ next → ((n : ℕ) → row ≤ n → n < next → b n ≡ false) → (next < 1024 → b next ≡ true) → nat_lt next end ≡ nat_lt (count_below b row) (count_below b end)
+taken_where b row end next order within from none here = by_place (cases_lt next end)
+  where
+    by_place : (next < end) ⊎ (end ≤ next) → nat_lt next end ≡ nat_lt (count_below b row) (count_below b end)
+    by_place (inl l) =
+        let up = count_below-rises b row next from in
+        let one = count_below-yes b next (here (omega arith)) in
+        let rest = count_below-rises b (suc next) end (omega arith) in
+        let less : count_below b row < count_below b end = omega (arith, up, one, rest) in
+        grind (arith, nat_tests)
+    by_place (inr l) =
+        let same = count_below-stays b row end order (λ n h k. none n h (omega arith)) in
+        let not_less : count_below b end ≤ count_below b row = omega (arith, same) in
+        grind (arith, nat_tests)
+
 least_one_more : (b : Bool) (v : ℤ) (n : ℕ) → lesser (cond (nat_lt 0 n) (Some v) None) (cond b (Some v) None) ≡ cond (nat_lt 0 (n + cond b 1 0)) (Some v) None
 least_one_more b v zero = by_truth b
   where

@@ -12,9 +12,9 @@ use Rattle.transpose_order.proofs.MaskLemmas.{count_below-zero, count_below-suc,
 use Rattle.transpose_order.specs.MaskWords.{has-rows_of}
 use Rattle.transpose_order.specs.Place.{IsLaneWidth, place_of}
 use Rattle.bit_interleave.specs.Range.{value_at}
-use Rattle.fused_kernels.specs.Folds.{fold_to}
+use Rattle.native_lanes.specs.Folds.{fold_to}
 use Rattle.fused_kernels.specs.Seen.{LanesSeen, looked_at, looked_cell, values_looked_at}
-use Rattle.fused_kernels.proofs.FoldLemmas.{IsJoin, fold_to-zero, fold_to-suc, fold_to-same, fold_to-pieces}
+use Rattle.native_lanes.proofs.FoldLemmas.{IsJoin, fold_to-zero, fold_to-suc, fold_to-same, fold_to-pieces}
 
 pub sum_is_join : IsJoin ◌+ℤ◌ (pos 0)
 sum_is_join = record { unit = λ x. omega (arith, ints); assoc = λ x y z. omega (arith, ints); comm = λ x y. omega (arith, ints) }

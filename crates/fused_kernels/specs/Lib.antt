@@ -1,4 +1,2 @@
 pub mod Seen
-pub mod Folds
-pub mod Walks
 pub mod VectorSeen

@@ -1,5 +1,5 @@
 -- What lanes are seen as, and the rows that a kernel looks at.
-use Rattle.std.specs.Prelude.{◌≡◌, ℕ, ◌+◌, ◌*◌, ◌≤◌, ℤ, int_le, Bool, not, cond, nat_lt, ◌&&◌, List, length, Option, Some, None, FitsSigned}
+use Rattle.std.specs.Prelude.{◌≡◌, ℕ, ◌+◌, ◌*◌, ◌≤◌, ℤ, Bool, not, cond, nat_lt, ◌&&◌, List, length, Option, Some, None, FitsSigned}
 use Rattle.std.specs.Int.{w64}
 use Rattle.std.specs.List.{All}
 use Rattle.transpose_order.specs.Mask.{has, rows_of}
@@ -7,6 +7,7 @@ use Rattle.transpose_order.specs.Place.{IsLaneWidth, place_of}
 use Rattle.bit_interleave.specs.Packing.{sixteen_of}
 use Rattle.bit_interleave.specs.Range.{value_at}
 use Rattle.table_model.specs.Values.{present}
+pub use Rattle.native_lanes.specs.Between.{between}
 
 -- a lane width, how many rows are covered, which rows are null, 1024 values in row order, and how many of the 64 pieces were
 -- given
@@ -43,7 +44,3 @@ looked_cell s mask n = cond (looked_at s mask n) (Some (value_at s.values n)) No
 -- the values of the rows looked at, in row order
 unfoldable pub values_looked_at : LanesSeen → List Bool → List ℤ
 values_looked_at s mask = present (rows_of (looked_cell s mask))
-
--- a number is neither below the first nor above the second
-abbrev pub between : ℤ → ℤ → ℤ → Bool
-between low high value = int_le low value && int_le value high

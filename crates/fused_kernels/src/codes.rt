@@ -1,16 +1,16 @@
-//! Set functions of dictionaries, by the codes.
+//! Set functions and comparisons of dictionaries, by the codes.
 ghost use Rattle.std.specs.Prelude.{◌≡◌, ◌==◌, ℕ, ◌*◌, ◌^◌, ◌<◌, ◌≤◌, cond, length, slice_index, pos, ◌+ℤ◌, Some, None};
 ghost use Rattle.std.specs.Int.{bit_at};
-ghost use Rattle.transpose_order.specs.Mask.{has};
+ghost use Rattle.transpose_order.specs.Mask.{has, rows_of};
 ghost use Rattle.bit_interleave.specs.Range.{value_at};
 ghost use Rattle.run_dictionary.specs.Dict.{code_at, dict_value};
 ghost use Rattle.table_model.specs.Values.{lesser, greater};
-ghost use Rattle.fused_kernels.specs.Folds.{fold_to};
-ghost use Rattle.fused_kernels.specs.Walks.{number_of_row};
+ghost use Rattle.native_lanes.specs.Between.{between};
+ghost use Rattle.native_lanes.specs.Folds.{fold_to};
+ghost use Rattle.native_lanes.specs.Walks.{number_of_row};
 
-use crate::native_16::numbers_16;
 use crate::sums::raised_if;
-use crate::walk_16::{Walk16, lanes_of_mask};
+use native_lanes::{Walk16, lanes_of_mask_16, numbers_16, rows_between_16};
 use run_dictionary::Dict;
 use transpose_order::Mask;
 
@@ -72,7 +72,7 @@ fn raised_sum_of_codes(form: &Dict, rows: &Mask) -> u128
     let width = form.width();
     let words = form.codes().words_16();
     let values = form.values();
-    let lanes = lanes_of_mask(rows);
+    let lanes = lanes_of_mask_16(rows);
     let mut sum = 0;
     for step in 0..16 {
         let codes = numbers_16(width, words, step);
@@ -86,4 +86,24 @@ pub(crate) fn sum_of_codes(form: &Dict, rows: &Mask) -> i128
     ensures { result ≡ fold_to ◌+ℤ◌ (pos 0) 1024 (λ n. cond (has rows.now n) (dict_value form.now n) (pos 0)) }
 {
     raised_sum_of_codes(form, rows) as i128 - rows.count_below(1024) as i128 * (1 << 63)
+}
+
+/// The rows whose value is neither below `low` nor above `high`. Where the dictionary decides, no word is read.
+pub(crate) fn dict_between(form: &Dict, low: i64, high: i64) -> Mask
+    ensures { result ≡ rows_of (λ n. between low high (dict_value form.now n)) }
+{
+    let _ = form.lane_width();
+    let (first, end) = form.places_between(low, high);
+    if end <= first {
+        return Mask::none();
+    }
+    if first == 0 && end == form.values().len() {
+        return Mask::all();
+    }
+    rows_between_16(
+        form.width(),
+        form.codes().words_16(),
+        first as u16,
+        (end - 1) as u16,
+    )
 }

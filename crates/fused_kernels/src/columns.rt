@@ -9,7 +9,7 @@ ghost use Rattle.fused_kernels.specs.Seen.{LanesSeen, looked_at};
 
 use crate::decoding::decode_into;
 use crate::lanes::{Lanes, rows_to_look_at};
-use crate::ranges::with_bit;
+use native_lanes::with_bit;
 use table_model::Op;
 use transpose_order::Mask;
 

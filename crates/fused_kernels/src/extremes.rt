@@ -4,7 +4,7 @@ ghost use Rattle.std.specs.Int.{bit_at, int_min, int_max};
 ghost use Rattle.table_model.specs.Values.{least, greatest};
 ghost use Rattle.bit_interleave.specs.Range.{value_at};
 ghost use Rattle.fused_kernels.specs.Seen.{LanesSeen, values_looked_at};
-ghost use Rattle.fused_kernels.specs.Folds.{fold_to};
+ghost use Rattle.native_lanes.specs.Folds.{fold_to};
 
 use crate::lanes::{Lanes, next_values, rows_to_look_at};
 use transpose_order::{Mask, place_in_word};

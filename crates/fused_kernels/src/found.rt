@@ -6,12 +6,12 @@ ghost use Rattle.segment_core.specs.Coded.{value_in};
 ghost use Rattle.fused_kernels.specs.Seen.{looked_at, between};
 ghost use Rattle.fused_kernels.specs.VectorSeen.{vector_seen};
 
+use crate::codes::dict_between;
 use crate::lanes::rows_among;
-use crate::packed::{dict_between, frame_between};
 use crate::ranges::{first_from, last_up_to};
 use crate::runs::runs_between;
-use crate::walks::{deltas_within, frame_within};
 use frame_delta::For;
+use native_lanes::{deltas_within, frame_between, frame_within};
 use segment_core::{Coded, CodedVector};
 use transpose_order::Mask;
 

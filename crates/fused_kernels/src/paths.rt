@@ -19,11 +19,11 @@ use crate::ranges::compare_range;
 use crate::run_folds::{greatest_of_runs, least_of_runs, sum_of_runs};
 use crate::sums::sum;
 use crate::vector_lanes::VectorLanes;
-use crate::walks::{
+use frame_delta::{Delta, For};
+use native_lanes::{
     greatest_of_deltas, greatest_of_frame, least_of_deltas, least_of_frame, sum_of_deltas,
     sum_of_frame,
 };
-use frame_delta::{Delta, For};
 use run_dictionary::{Dict, Runs};
 use segment_core::{Coded, CodedVector};
 use table_model::Op;

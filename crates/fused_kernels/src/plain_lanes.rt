@@ -119,6 +119,27 @@ fn rows(first: usize, end: usize) -> Mask
     mask
 }
 
+fn sum_of(lane_width: usize, values: &[i64; 1024], mask: &Mask) -> i128
+    requires width { IsLaneWidth lane_width }
+    requires fit { All (λ value. FitsSigned w64 value) values.now }
+{
+    sum(&mut PlainLanes::new(lane_width, values), mask)
+}
+
+fn least_of(lane_width: usize, values: &[i64; 1024], mask: &Mask) -> Option<i64>
+    requires width { IsLaneWidth lane_width }
+    requires fit { All (λ value. FitsSigned w64 value) values.now }
+{
+    min(&mut PlainLanes::new(lane_width, values), mask)
+}
+
+fn greatest_of(lane_width: usize, values: &[i64; 1024], mask: &Mask) -> Option<i64>
+    requires width { IsLaneWidth lane_width }
+    requires fit { All (λ value. FitsSigned w64 value) values.now }
+{
+    max(&mut PlainLanes::new(lane_width, values), mask)
+}
+
 /// The sum over all rows, and over rows 30 to 33 the sum, the least and the greatest value.
 type Folds = (i128, i128, Option<i64>, Option<i64>);
 
@@ -128,10 +149,10 @@ fn folds(lane_width: usize, values: &[i64; 1024]) -> Folds
 {
     let some = rows(30, 34);
     (
-        sum(&mut PlainLanes::new(lane_width, values), &Mask::all()),
-        sum(&mut PlainLanes::new(lane_width, values), &some),
-        min(&mut PlainLanes::new(lane_width, values), &some),
-        max(&mut PlainLanes::new(lane_width, values), &some),
+        sum_of(lane_width, values, &Mask::all()),
+        sum_of(lane_width, values, &some),
+        least_of(lane_width, values, &some),
+        greatest_of(lane_width, values, &some),
     )
 }
 
@@ -157,17 +178,37 @@ fn a_sum_of_any_lanes_does_not_wrap(rt: HostRuntime) -> Result<(), Fail> {
     Ok(())
 }
 
+/// The rows of the multiples of three that are below a literal, and the others.
+fn compared(lane_width: usize, literal: i128) -> (Mask, Mask)
+    requires { IsLaneWidth lane_width }
+{
+    let mut lanes = PlainLanes::new(lane_width, &threes());
+    compare(&mut lanes, Op::Less, literal, &Mask::all())
+}
+
+/// The rows of the multiples of three that are in a range.
+fn in_range(lane_width: usize, low: i128, high: i128) -> Mask
+    requires { IsLaneWidth lane_width }
+{
+    let mut lanes = PlainLanes::new(lane_width, &threes());
+    compare_range(&mut lanes, low, high, &Mask::all()).0
+}
+
+/// The multiples of three, decoded.
+fn decoded(lane_width: usize) -> [i64; 1024]
+    requires { IsLaneWidth lane_width }
+{
+    let mut values = [0; 1024];
+    decode_into(&mut PlainLanes::new(lane_width, &threes()), &mut values);
+    values
+}
+
 // 96 is the value of row 32.
 #[test]
 fn any_lanes_are_compared_and_decoded(rt: HostRuntime) -> Result<(), Fail> {
-    let mut lanes = PlainLanes::new(32, &threes());
-    let (yes, no) = compare(&mut lanes, Op::Less, 96, &Mask::all());
+    let (yes, no) = compared(32, 96);
     assert_eq!(rt; (yes == rows(0, 32), no == rows(32, 1024)), (true, true));
-    let mut lanes = PlainLanes::new(16, &threes());
-    let (yes, _) = compare_range(&mut lanes, 90, 99, &Mask::all());
-    assert_eq!(rt; yes == rows(30, 34), true);
-    let mut values = [0; 1024];
-    decode_into(&mut PlainLanes::new(64, &threes()), &mut values);
-    assert_eq!(rt; values == threes(), true);
+    assert_eq!(rt; in_range(16, 90, 99) == rows(30, 34), true);
+    assert_eq!(rt; decoded(64) == threes(), true);
     Ok(())
 }

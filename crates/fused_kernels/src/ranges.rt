@@ -6,16 +6,8 @@ ghost use Rattle.bit_interleave.specs.Range.{value_at};
 ghost use Rattle.fused_kernels.specs.Seen.{LanesSeen, AreLanes, looked_at, between};
 
 use crate::lanes::{Lanes, next_values, rows_to_look_at};
+use native_lanes::with_bit;
 use transpose_order::{Mask, place_in_word};
-
-/// A word with a bit set where that is asked.
-#[inline(always)]
-pub(crate) fn with_bit(word: u64, place: usize, set: bool) -> u64
-    requires { place < 64 }
-    ensures { (p : ℕ) → p < 64 → (bit_at result p == 1) ≡ ((set && (p == place)) || (bit_at word p == 1)) }
-{
-    word | u64::from(set) << place
-}
 
 /// Whether a number is neither below `low` nor above `high`.
 #[inline(always)]

@@ -3,7 +3,7 @@ ghost use Rattle.std.specs.Prelude.{◌≡◌, ◌≤◌, ℕ, cond, pos, ◌+�
 ghost use Rattle.transpose_order.specs.Mask.{has};
 ghost use Rattle.run_dictionary.specs.Runs.{run_value};
 ghost use Rattle.table_model.specs.Values.{lesser, greater};
-ghost use Rattle.fused_kernels.specs.Folds.{fold_to};
+ghost use Rattle.native_lanes.specs.Folds.{fold_to};
 
 use run_dictionary::Runs;
 use transpose_order::Mask;
@@ -63,12 +63,10 @@ pub(crate) fn least_of_runs(form: &Runs, rows: &Mask) -> Option<i64>
     let _ = form.lane_width();
     let mut least = None;
     let mut row = 0;
-    let mut before = 0;
     for value in form.values() {
         let end = form.starts().next_true(row + 1);
-        let upto = rows.count_below(end);
-        least = lesser_if(before < upto, least, *value);
-        before = upto;
+        let taken = rows.next_true(row);
+        least = lesser_if(taken < end, least, *value);
         row = end;
     }
     least
@@ -81,12 +79,10 @@ pub(crate) fn greatest_of_runs(form: &Runs, rows: &Mask) -> Option<i64>
     let _ = form.lane_width();
     let mut greatest = None;
     let mut row = 0;
-    let mut before = 0;
     for value in form.values() {
         let end = form.starts().next_true(row + 1);
-        let upto = rows.count_below(end);
-        greatest = greater_if(before < upto, greatest, *value);
-        before = upto;
+        let taken = rows.next_true(row);
+        greatest = greater_if(taken < end, greatest, *value);
         row = end;
     }
     greatest

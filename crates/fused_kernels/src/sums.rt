@@ -3,10 +3,11 @@ ghost use Rattle.std.specs.Prelude.{◌≡◌, ◌==◌, ℕ, ◌+◌, ◌-◌, 
 ghost use Rattle.std.specs.Int.{bit_at};
 ghost use Rattle.table_model.specs.Values.{total};
 ghost use Rattle.bit_interleave.specs.Range.{value_at};
-ghost use Rattle.fused_kernels.specs.Folds.{fold_to};
+ghost use Rattle.native_lanes.specs.Folds.{fold_to};
 ghost use Rattle.fused_kernels.specs.Seen.{LanesSeen, values_looked_at};
 
 use crate::lanes::{Lanes, next_values, rows_to_look_at};
+use native_lanes::sum_of_lanes;
 use transpose_order::{Mask, place_in_word};
 
 /// How far a number is above the least of 64 bits where it is taken, else 0.
@@ -45,19 +46,6 @@ fn add_halves(sums: &mut [u64; 16], numbers: &[u64; 16], shift: usize)
     for i in 0..16 {
         sums[i] += numbers[i] >> shift & 0xFFFF_FFFF;
     }
-}
-
-/// The sum of sixteen sums.
-pub(crate) fn sum_of_lanes(sums: &[u64; 16]) -> u64
-    requires { (i : ℕ) → i < 16 → slice_index sums.now i ≤ 2 ^ 40 }
-    ensures sum { result ≡ fold_to ◌+◌ 0 16 (slice_index sums.now) }
-    ensures bound { result ≤ 2 ^ 44 }
-{
-    let mut sum = 0;
-    for i in 0..16 {
-        sum += sums[i];
-    }
-    sum
 }
 
 /// The sum of the values of the rows looked at, 0 over none, of lanes of which no piece was given. Rows of the mask that are

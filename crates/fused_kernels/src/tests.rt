@@ -5,6 +5,7 @@ ghost use Rattle.std.specs.Prelude.{◌≤◌};
 use super::*;
 use segment_core::{Coded, CodedVector, Coding};
 use std::alloc::Global;
+use std::process::Abort;
 use std::test::Fail;
 use table_model::Op;
 use transpose_order::Mask;
@@ -28,33 +29,55 @@ fn rows(first: usize, end: usize) -> Mask
     mask
 }
 
+fn sum_of(vector: &CodedVector, mask: &Mask, meter: &mut Meter) -> i128 {
+    sum(&mut VectorLanes::new(vector, meter), mask)
+}
+
+fn least_of(vector: &CodedVector, mask: &Mask, meter: &mut Meter) -> Option<i64> {
+    min(&mut VectorLanes::new(vector, meter), mask)
+}
+
+fn greatest_of(vector: &CodedVector, mask: &Mask, meter: &mut Meter) -> Option<i64> {
+    max(&mut VectorLanes::new(vector, meter), mask)
+}
+
+/// What the kernels answer of the multiples of three, in whatever coding.
+fn check_folds(rt: &impl Abort, vector: &CodedVector) {
+    let mut meter = Meter::new();
+    let some = rows(30, 34);
+    assert_eq!(rt; sum_of(vector, &Mask::all(), &mut meter), 1571328);
+    assert_eq!(rt; sum_of(vector, &some, &mut meter), 378);
+    assert_eq!(rt; least_of(vector, &some, &mut meter), Some(90));
+    assert_eq!(rt; greatest_of(vector, &some, &mut meter), Some(99));
+    assert_eq!(rt; greatest_of(vector, &Mask::none(), &mut meter), None);
+    assert_eq!(rt; (count(vector, &some), meter.count()), (4, 5));
+}
+
 #[test]
 fn sums_and_extremes_are_those_of_the_rows_looked_at(rt: HostRuntime) -> Result<(), Fail> {
     for coding in [Coding::For, Coding::Delta, Coding::Runs, Coding::Dict] {
-        let vector = threes(rt.alloc(), coding)?;
-        let mut meter = Meter::new();
-        let all = Mask::all();
-        let some = rows(30, 34);
-        assert_eq!(rt;
-            sum(&mut VectorLanes::new(&vector, &mut meter), &all),
-            1571328
-        );
-        assert_eq!(rt; sum(&mut VectorLanes::new(&vector, &mut meter), &some), 378);
-        assert_eq!(rt;
-            min(&mut VectorLanes::new(&vector, &mut meter), &some),
-            Some(90)
-        );
-        assert_eq!(rt;
-            max(&mut VectorLanes::new(&vector, &mut meter), &some),
-            Some(99)
-        );
-        assert_eq!(rt;
-            max(&mut VectorLanes::new(&vector, &mut meter), &Mask::none()),
-            None
-        );
-        assert_eq!(rt; (count(&vector, &some), meter.count()), (4, 5));
+        check_folds(&rt, &threes(rt.alloc(), coding)?);
     }
     Ok(())
+}
+
+fn compared(vector: &CodedVector, op: Op, literal: i128, meter: &mut Meter) -> (Mask, Mask) {
+    compare(
+        &mut VectorLanes::new(vector, meter),
+        op,
+        literal,
+        &Mask::all(),
+    )
+}
+
+fn in_range(vector: &CodedVector, low: i128, high: i128, meter: &mut Meter) -> Mask {
+    compare_range(
+        &mut VectorLanes::new(vector, meter),
+        low,
+        high,
+        &Mask::all(),
+    )
+    .0
 }
 
 // 96 is the value of row 32; 10 to the power of 29 is above every number of 64 bits.
@@ -62,25 +85,20 @@ fn sums_and_extremes_are_those_of_the_rows_looked_at(rt: HostRuntime) -> Result<
 fn a_comparison_parts_the_rows_looked_at(rt: HostRuntime) -> Result<(), Fail> {
     let vector = threes(rt.alloc(), Coding::Delta)?;
     let mut meter = Meter::new();
-    let all = Mask::all();
-    let (yes, no) = compare(
-        &mut VectorLanes::new(&vector, &mut meter),
-        Op::Less,
-        96,
-        &all,
-    );
+    let (yes, no) = compared(&vector, Op::Less, 96, &mut meter);
     assert_eq!(rt; (yes == rows(0, 32), no == rows(32, 1024)), (true, true));
     let large = 100_000_000_000_000_000_000_000_000_000;
-    let (yes, no) = compare(
-        &mut VectorLanes::new(&vector, &mut meter),
-        Op::Less,
-        large,
-        &all,
-    );
+    let (yes, no) = compared(&vector, Op::Less, large, &mut meter);
     assert_eq!(rt; (yes.count(), no.count()), (1024, 0));
-    let (yes, _) = compare_range(&mut VectorLanes::new(&vector, &mut meter), 90, 99, &all);
-    assert_eq!(rt; yes == rows(30, 34), true);
+    assert_eq!(rt; in_range(&vector, 90, 99, &mut meter) == rows(30, 34), true);
     Ok(())
+}
+
+/// Rows 5 to 8 of two vectors, at which the left value is at most the right one, and the others.
+fn compared_columns(left: &CodedVector, right: &CodedVector, meter: &mut Meter) -> (Mask, Mask) {
+    let mut lefts = VectorLanes::new(left, meter);
+    let mut rights = VectorLanes::new(right, meter);
+    compare_columns(&mut lefts, Op::LessOrEqual, &mut rights, &rows(5, 9))
 }
 
 #[test]
@@ -88,9 +106,7 @@ fn two_columns_are_compared_row_by_row(rt: HostRuntime) -> Result<(), Fail> {
     let left = threes(rt.alloc(), Coding::For)?;
     let right = threes(rt.alloc(), Coding::Dict)?;
     let mut meter = Meter::new();
-    let mut lefts = VectorLanes::new(&left, &mut meter);
-    let mut rights = VectorLanes::new(&right, &mut meter);
-    let (yes, no) = compare_columns(&mut lefts, Op::LessOrEqual, &mut rights, &rows(5, 9));
+    let (yes, no) = compared_columns(&left, &right, &mut meter);
     assert_eq!(rt;
         (yes == rows(5, 9), no.count(), meter.count()),
         (true, 0, 2)

@@ -7,6 +7,8 @@ use std::test::Fail;
 use table_model::{ColType, Op, Row, Schema, check_rows};
 use transpose_order::Mask;
 
+const TYPES: [ColType; 3] = [ColType::SmallInt, ColType::Integer, ColType::BigInt];
+
 const CODINGS: [Coding; 4] = [Coding::For, Coding::Delta, Coding::Runs, Coding::Dict];
 
 /// What a test's column holds.
@@ -59,6 +61,19 @@ fn canonical(
     Ok(segment.vector(0, 0).copy(alloc)?)
 }
 
+/// That column in a coding.
+fn coded(
+    rt: &impl Abort,
+    alloc: Global,
+    column_type: ColType,
+    count: usize,
+    pattern: Pattern,
+    coding: Coding,
+) -> Result<CodedVector, Fail> {
+    let vector = canonical(rt, alloc, column_type, count, pattern)?;
+    Ok(vector.recoded(alloc, coding)?)
+}
+
 /// The rows from `first` on, up to `end`, which is not included.
 fn rows(rt: &impl Abort, first: usize, end: usize) -> Mask {
     assert!(rt; first <= end);
@@ -84,37 +99,64 @@ fn folds(rt: &impl Abort, vector: &CodedVector, mask: &Mask) -> Folds {
     folds
 }
 
+fn check_equal(rt: &impl Abort, vector: &CodedVector, value: i64) {
+    assert_eq!(rt;
+        folds(rt, vector, &Mask::all()),
+        (i128::from(value) * 1024, Some(value), Some(value), 1024)
+    );
+}
+
+fn check_ends(rt: &impl Abort, vector: &CodedVector, least: i64, greatest: i64) {
+    assert_eq!(rt;
+        folds(rt, vector, &Mask::all()),
+        (-512, Some(least), Some(greatest), 1024)
+    );
+    assert_eq!(rt;
+        folds(rt, vector, &rows(rt, 7, 8)),
+        (i128::from(greatest), Some(greatest), Some(greatest), 1)
+    );
+}
+
+/// The column of the least value alone, and that of both ends by turns, in each coding.
+fn check_ends_of(
+    rt: &impl Abort,
+    alloc: Global,
+    column_type: ColType,
+    least: i64,
+    greatest: i64,
+) -> Result<(), Fail> {
+    let all = Pattern::All(i128::from(least));
+    let ends = Pattern::Alternating(i128::from(least), i128::from(greatest));
+    for coding in CODINGS {
+        let vector = coded(rt, alloc, column_type, 1024, all, coding)?;
+        check_equal(rt, &vector, least);
+        let vector = coded(rt, alloc, column_type, 1024, ends, coding)?;
+        check_ends(rt, &vector, least, greatest);
+    }
+    Ok(())
+}
+
 // 1024 times the least value, and 512 times both: the least and the greatest come to -1.
 #[test]
 fn the_ends_of_each_lane_width_add_up(rt: HostRuntime) -> Result<(), Fail> {
-    let ends = [
-        (ColType::SmallInt, i64::from(i16::MIN), i64::from(i16::MAX)),
-        (ColType::Integer, i64::from(i32::MIN), i64::from(i32::MAX)),
-        (ColType::BigInt, i64::MIN, i64::MAX),
-    ];
-    for (column_type, least, greatest) in ends {
-        let (low, high) = (i128::from(least), i128::from(greatest));
-        let equal = canonical(&rt, rt.alloc(), column_type, 1024, Pattern::All(low))?;
-        let pattern = Pattern::Alternating(low, high);
-        let ends = canonical(&rt, rt.alloc(), column_type, 1024, pattern)?;
-        for coding in CODINGS {
-            let equal = equal.recoded(rt.alloc(), coding)?;
-            assert_eq!(rt;
-                folds(&rt, &equal, &Mask::all()),
-                (low * 1024, Some(least), Some(least), 1024)
-            );
-            let ends = ends.recoded(rt.alloc(), coding)?;
-            assert_eq!(rt;
-                folds(&rt, &ends, &Mask::all()),
-                (-512, Some(least), Some(greatest), 1024)
-            );
-            assert_eq!(rt;
-                folds(&rt, &ends, &rows(&rt, 7, 8)),
-                (high, Some(greatest), Some(greatest), 1)
-            );
-        }
-    }
-    Ok(())
+    let (least, greatest) = (i64::from(i16::MIN), i64::from(i16::MAX));
+    check_ends_of(&rt, rt.alloc(), ColType::SmallInt, least, greatest)?;
+    let (least, greatest) = (i64::from(i32::MIN), i64::from(i32::MAX));
+    check_ends_of(&rt, rt.alloc(), ColType::Integer, least, greatest)?;
+    check_ends_of(&rt, rt.alloc(), ColType::BigInt, i64::MIN, i64::MAX)
+}
+
+fn check_some(rt: &impl Abort, vector: &CodedVector, first: usize, end: usize, expected: Folds) {
+    assert_eq!(rt; folds(rt, vector, &rows(rt, first, end)), expected);
+}
+
+fn check_thirds(rt: &impl Abort, vector: &CodedVector) {
+    check_some(rt, vector, 10, 20, (100, Some(10), Some(19), 7));
+    check_some(rt, vector, 0, 1024, (348843, Some(1), Some(1022), 682));
+    check_some(rt, vector, 1022, 1024, (1022, Some(1022), Some(1022), 1));
+    check_some(rt, vector, 1023, 1024, (0, None, None, 0));
+    check_some(rt, vector, 9, 10, (0, None, None, 0));
+    check_some(rt, vector, 0, 0, (0, None, None, 0));
 }
 
 // Rows 10 to 19 without the multiples of three are 10, 11, 13, 14, 16, 17 and 19. Rows 0 to 1022 add up to 522753, of which the
@@ -123,37 +165,11 @@ fn the_ends_of_each_lane_width_add_up(rt: HostRuntime) -> Result<(), Fail> {
 fn rows_past_the_end_null_or_out_of_the_mask_are_not_looked_at(
     rt: HostRuntime,
 ) -> Result<(), Fail> {
-    for column_type in [ColType::SmallInt, ColType::Integer, ColType::BigInt] {
-        let vector = canonical(&rt, rt.alloc(), column_type, 1023, Pattern::ThirdsNull)?;
+    for column_type in TYPES {
         for coding in CODINGS {
-            let vector = vector.recoded(rt.alloc(), coding)?;
-            let cases = [
-                (rows(&rt, 10, 20), (100, Some(10), Some(19), 7)),
-                (Mask::all(), (348843, Some(1), Some(1022), 682)),
-                (rows(&rt, 1022, 1024), (1022, Some(1022), Some(1022), 1)),
-                (rows(&rt, 1023, 1024), (0, None, None, 0)),
-                (rows(&rt, 9, 10), (0, None, None, 0)),
-                (Mask::none(), (0, None, None, 0)),
-            ];
-            for (mask, expected) in cases {
-                assert_eq!(rt; folds(&rt, &vector, &mask), expected);
-            }
-        }
-    }
-    Ok(())
-}
-
-#[test]
-fn a_vector_may_have_one_row(rt: HostRuntime) -> Result<(), Fail> {
-    for column_type in [ColType::SmallInt, ColType::Integer, ColType::BigInt] {
-        let vector = canonical(&rt, rt.alloc(), column_type, 1, Pattern::All(-7))?;
-        for coding in CODINGS {
-            let vector = vector.recoded(rt.alloc(), coding)?;
-            let all = Mask::all();
-            assert_eq!(rt; folds(&rt, &vector, &all), (-7, Some(-7), Some(-7), 1));
-            let mut meter = Meter::new();
-            let (yes, no) = compare_vector(&vector, Op::Equal, -7, &all, &mut meter);
-            assert_eq!(rt; (yes == rows(&rt, 0, 1), no.count()), (true, 0));
+            let pattern = Pattern::ThirdsNull;
+            let vector = coded(&rt, rt.alloc(), column_type, 1023, pattern, coding)?;
+            check_thirds(&rt, &vector);
         }
     }
     Ok(())
@@ -169,109 +185,198 @@ fn lists(mask: &Mask, listed: &[usize]) -> bool {
     mask.count() == listed.len()
 }
 
+/// A comparison counts one pass, and parts the rows looked at into those listed.
+fn check_parts(
+    rt: &impl Abort,
+    vector: &CodedVector,
+    mask: &Mask,
+    (op, literal): (Op, i128),
+    yes: &[usize],
+    no: &[usize],
+) {
+    let mut meter = Meter::new();
+    let (holds, fails) = compare_vector(vector, op, literal, mask, &mut meter);
+    assert_eq!(rt;
+        (lists(&holds, yes), lists(&fails, no), meter.count()),
+        (true, true, 1)
+    );
+}
+
+/// A range counts one pass, and parts the rows looked at into those listed.
+fn check_range(
+    rt: &impl Abort,
+    vector: &CodedVector,
+    mask: &Mask,
+    (low, high): (i128, i128),
+    yes: &[usize],
+    no: &[usize],
+) {
+    let mut meter = Meter::new();
+    let (holds, fails) = compare_vector_range(vector, low, high, mask, &mut meter);
+    assert_eq!(rt;
+        (lists(&holds, yes), lists(&fails, no), meter.count()),
+        (true, true, 1)
+    );
+}
+
+fn check_one_row(rt: &impl Abort, vector: &CodedVector) {
+    let all = Mask::all();
+    assert_eq!(rt; folds(rt, vector, &all), (-7, Some(-7), Some(-7), 1));
+    check_parts(rt, vector, &all, (Op::Equal, -7), &[0], &[]);
+}
+
+#[test]
+fn a_vector_may_have_one_row(rt: HostRuntime) -> Result<(), Fail> {
+    for column_type in TYPES {
+        for coding in CODINGS {
+            let vector = coded(&rt, rt.alloc(), column_type, 1, Pattern::All(-7), coding)?;
+            check_one_row(&rt, &vector);
+        }
+    }
+    Ok(())
+}
+
+fn check_thirds_compared(rt: &impl Abort, vector: &CodedVector) {
+    let some = rows(rt, 10, 20);
+    let each = [10, 11, 13, 14, 16, 17, 19];
+    check_parts(
+        rt,
+        vector,
+        &some,
+        (Op::Less, 14),
+        &[10, 11, 13],
+        &[14, 16, 17, 19],
+    );
+    check_parts(
+        rt,
+        vector,
+        &some,
+        (Op::NotEqual, 16),
+        &[10, 11, 13, 14, 17, 19],
+        &[16],
+    );
+    check_range(
+        rt,
+        vector,
+        &some,
+        (11, 16),
+        &[11, 13, 14, 16],
+        &[10, 17, 19],
+    );
+    check_parts(rt, vector, &some, (Op::Greater, i128::MIN), &each, &[]);
+}
+
 // Of 10, 11, 13, 14, 16, 17 and 19, and at the ends of what numbers there are.
 #[test]
 fn a_comparison_parts_the_rows_looked_at_in_each_coding(rt: HostRuntime) -> Result<(), Fail> {
-    for column_type in [ColType::SmallInt, ColType::Integer, ColType::BigInt] {
-        let vector = canonical(&rt, rt.alloc(), column_type, 1023, Pattern::ThirdsNull)?;
+    for column_type in TYPES {
         for coding in CODINGS {
-            let vector = vector.recoded(rt.alloc(), coding)?;
-            let some = rows(&rt, 10, 20);
-            let mut meter = Meter::new();
-            let (yes, no) = compare_vector(&vector, Op::Less, 14, &some, &mut meter);
-            assert_eq!(rt;
-                (lists(&yes, &[10, 11, 13]), lists(&no, &[14, 16, 17, 19])),
-                (true, true)
-            );
-            let (yes, no) = compare_vector(&vector, Op::NotEqual, 16, &some, &mut meter);
-            assert_eq!(rt;
-                (lists(&yes, &[10, 11, 13, 14, 17, 19]), lists(&no, &[16])),
-                (true, true)
-            );
-            let (yes, no) = compare_vector_range(&vector, 11, 16, &some, &mut meter);
-            assert_eq!(rt;
-                (lists(&yes, &[11, 13, 14, 16]), lists(&no, &[10, 17, 19])),
-                (true, true)
-            );
-            let (yes, no) = compare_vector(&vector, Op::Greater, i128::MIN, &some, &mut meter);
-            assert_eq!(rt; (yes.count(), no.count(), meter.count()), (7, 0, 4));
+            let pattern = Pattern::ThirdsNull;
+            let vector = coded(&rt, rt.alloc(), column_type, 1023, pattern, coding)?;
+            check_thirds_compared(&rt, &vector);
         }
+    }
+    Ok(())
+}
+
+fn check_ends_compared(rt: &impl Abort, vector: &CodedVector, low: i128, high: i128) {
+    let pair = rows(rt, 6, 8);
+    check_parts(rt, vector, &pair, (Op::LessOrEqual, low), &[6], &[7]);
+    check_parts(rt, vector, &pair, (Op::GreaterOrEqual, high), &[7], &[6]);
+    check_parts(rt, vector, &pair, (Op::Greater, high), &[], &[6, 7]);
+    check_range(rt, vector, &pair, (-1, 1), &[], &[6, 7]);
+}
+
+/// The ends of a type's numbers by turns, compared in each coding.
+fn check_ends_of_compared(
+    rt: &impl Abort,
+    alloc: Global,
+    column_type: ColType,
+    low: i128,
+    high: i128,
+) -> Result<(), Fail> {
+    for coding in CODINGS {
+        let pattern = Pattern::Alternating(low, high);
+        let vector = coded(rt, alloc, column_type, 1024, pattern, coding)?;
+        check_ends_compared(rt, &vector, low, high);
     }
     Ok(())
 }
 
 #[test]
 fn the_ends_of_each_lane_width_are_compared(rt: HostRuntime) -> Result<(), Fail> {
-    let ends = [
-        (
-            ColType::SmallInt,
-            i128::from(i16::MIN),
-            i128::from(i16::MAX),
-        ),
-        (ColType::Integer, i128::from(i32::MIN), i128::from(i32::MAX)),
-        (ColType::BigInt, i128::from(i64::MIN), i128::from(i64::MAX)),
-    ];
-    for (column_type, low, high) in ends {
-        let pattern = Pattern::Alternating(low, high);
-        let vector = canonical(&rt, rt.alloc(), column_type, 1024, pattern)?;
-        for coding in CODINGS {
-            let vector = vector.recoded(rt.alloc(), coding)?;
-            let (first, second) = (rows(&rt, 6, 7), rows(&rt, 7, 8));
-            let pair = rows(&rt, 6, 8);
-            let mut meter = Meter::new();
-            let (yes, no) = compare_vector(&vector, Op::LessOrEqual, low, &pair, &mut meter);
-            assert_eq!(rt; (yes == first, no == second), (true, true));
-            let (yes, no) = compare_vector(&vector, Op::GreaterOrEqual, high, &pair, &mut meter);
-            assert_eq!(rt; (yes == second, no == first), (true, true));
-            let (yes, no) = compare_vector(&vector, Op::Greater, high, &pair, &mut meter);
-            assert_eq!(rt; (yes.count(), no == pair), (0, true));
-            let (yes, no) = compare_vector_range(&vector, -1, 1, &pair, &mut meter);
-            assert_eq!(rt; (yes.count(), no == pair), (0, true));
-        }
-    }
-    Ok(())
+    let (low, high) = (i128::from(i16::MIN), i128::from(i16::MAX));
+    check_ends_of_compared(&rt, rt.alloc(), ColType::SmallInt, low, high)?;
+    let (low, high) = (i128::from(i32::MIN), i128::from(i32::MAX));
+    check_ends_of_compared(&rt, rt.alloc(), ColType::Integer, low, high)?;
+    let (low, high) = (i128::from(i64::MIN), i128::from(i64::MAX));
+    check_ends_of_compared(&rt, rt.alloc(), ColType::BigInt, low, high)
+}
+
+/// A comparison of two vectors, which counts two passes.
+fn parted_by(
+    rt: &impl Abort,
+    left: &CodedVector,
+    op: Op,
+    right: &CodedVector,
+    mask: &Mask,
+) -> (Mask, Mask) {
+    let mut meter = Meter::new();
+    let parts = compare_vectors(left, op, right, mask, &mut meter);
+    assert_eq!(rt; meter.count(), 2);
+    parts
+}
+
+fn check_two(rt: &impl Abort, left: &CodedVector, right: &CodedVector) {
+    let (yes, no) = parted_by(rt, left, Op::LessOrEqual, right, &Mask::all());
+    assert_eq!(rt; (yes.count(), no.count()), (501, 523));
+    let (yes, no) = parted_by(rt, left, Op::Less, right, &rows(rt, 998, 1002));
+    assert_eq!(rt;
+        (lists(&yes, &[999]), lists(&no, &[998, 1000, 1001])),
+        (true, true)
+    );
 }
 
 // A row's number is at most 0 at row 0 alone, and at most 1000 at the 500 odd rows up to 999.
 #[test]
 fn two_vectors_of_any_codings_are_compared(rt: HostRuntime) -> Result<(), Fail> {
     let left = canonical(&rt, rt.alloc(), ColType::SmallInt, 1024, Pattern::Counting)?;
-    let pattern = Pattern::Alternating(0, 1000);
-    let right = canonical(&rt, rt.alloc(), ColType::BigInt, 1024, pattern)?;
-    for coding in CODINGS {
-        let left = left.recoded(rt.alloc(), coding)?;
+    let ends = Pattern::Alternating(0, 1000);
+    for left_coding in CODINGS {
+        let left = left.recoded(rt.alloc(), left_coding)?;
         for coding in CODINGS {
-            let right = right.recoded(rt.alloc(), coding)?;
-            let mut meter = Meter::new();
-            let all = Mask::all();
-            let (yes, no) = compare_vectors(&left, Op::LessOrEqual, &right, &all, &mut meter);
-            assert_eq!(rt; (yes.count(), no.count(), meter.count()), (501, 523, 2));
-            let some = rows(&rt, 998, 1002);
-            let (yes, no) = compare_vectors(&left, Op::Less, &right, &some, &mut meter);
-            assert_eq!(rt;
-                (lists(&yes, &[999]), lists(&no, &[998, 1000, 1001])),
-                (true, true)
-            );
+            let right = coded(&rt, rt.alloc(), ColType::BigInt, 1024, ends, coding)?;
+            check_two(&rt, &left, &right);
         }
     }
     Ok(())
 }
 
+fn are_counting(values: &[i64; 1024]) -> bool {
+    for row in 0..1024 {
+        if values[row] != row as i64 {
+            return false;
+        }
+    }
+    true
+}
+
 #[test]
 fn a_vector_is_decoded_in_row_order(rt: HostRuntime) -> Result<(), Fail> {
-    let vector = canonical(&rt, rt.alloc(), ColType::Integer, 1024, Pattern::Counting)?;
+    let column_type = ColType::Integer;
     for coding in CODINGS {
-        let vector = vector.recoded(rt.alloc(), coding)?;
+        let vector = coded(
+            &rt,
+            rt.alloc(),
+            column_type,
+            1024,
+            Pattern::Counting,
+            coding,
+        )?;
         let mut values = [-1; 1024];
         let mut meter = Meter::new();
         decode_vector(&vector, &mut values, &mut meter);
-        let mut right = true;
-        for row in 0..1024 {
-            if values[row] != row as i64 {
-                right = false;
-            }
-        }
-        assert_eq!(rt; (right, meter.count()), (true, 1));
+        assert_eq!(rt; (are_counting(&values), meter.count()), (true, 1));
     }
     Ok(())
 }

@@ -6,9 +6,9 @@ use Rattle.std.proofs.lemmas.Bool.Decides.{nat_tests}
 use Rattle.transpose_order.specs.Mask.{has, count_below}
 use Rattle.bit_interleave.specs.Range.{value_at}
 use Rattle.run_dictionary.specs.Dict.{DictForm, IsDictForm, code_at}
-use Rattle.fused_kernels.specs.Folds.{fold_to}
-use Rattle.fused_kernels.specs.Walks.{number_of_row}
-use Rattle.fused_kernels.proofs.FoldLemmas.{fold_to-same}
+use Rattle.native_lanes.specs.Folds.{fold_to}
+use Rattle.native_lanes.specs.Walks.{number_of_row}
+use Rattle.native_lanes.proofs.FoldLemmas.{fold_to-same}
 use Rattle.fused_kernels.proofs.CodeLemmas.{ascending_rises, some_values, greatest_below, greatest_coded}
 use Rattle.fused_kernels.proofs.codes.greatest_of_codes.Goals as goal
 

@@ -9,10 +9,10 @@ use Rattle.bit_interleave.specs.PackedWords.{PackedWords}
 use Rattle.bit_interleave.specs.Range.{value_at}
 use Rattle.run_dictionary.specs.Dict.{DictForm, IsDictForm, code_at, dict_value}
 use Rattle.run_dictionary.proofs.DictLemmas.{code_at-row_at}
-use Rattle.fused_kernels.specs.Folds.{fold_to}
-use Rattle.fused_kernels.proofs.FoldLemmas.{fold_to-zero, fold_to-more, fold_to-same}
+use Rattle.native_lanes.specs.Folds.{fold_to}
+use Rattle.native_lanes.proofs.FoldLemmas.{fold_to-zero, fold_to-more, fold_to-same}
 use Rattle.fused_kernels.proofs.SumLemmas.{sum_is_join}
-use Rattle.fused_kernels.proofs.WalkLemmas.{fold_to-lanes, fold_to-swap}
+use Rattle.native_lanes.proofs.WalkLemmas.{fold_to-lanes, fold_to-swap}
 use Rattle.fused_kernels.proofs.codes.raised_sum_of_codes.Goals as goal
 
 abbrev term_of : DictForm → List Bool → ℕ → ℤ
@@ -46,7 +46,7 @@ loop-step-preserved c =
     let rows = c.args.rows.now in
     let step = c.loop-step.step in
     let values = c.values-values.result.now in
-    let lanes = c.lanes_of_mask-lanes.result in
+    let lanes = c.lanes_of_mask_16-lanes.result in
     let codes = c.numbers_16-codes.result in
     let code : (lane : ℕ) → lane < 64 → slice_index codes lane ≡ code_at form (row_at 16 lane step) =
     (λ lane h.
@@ -58,7 +58,7 @@ loop-step-preserved c =
     c.sum_of_step-sum.ensures.sum
     ∙ fold_to-same ◌+ℤ◌ (pos 0) 64 (λ lane. cond (bit_at (slice_index lanes lane) step == 1) (value_at values (slice_index codes lane) +ℤ pos (2 ^ 63)) (pos 0)) (λ lane. term_of form rows (row_at 16 lane step))
     (λ lane h.
-    ap (λ (b : Bool). cond b (value_at values (slice_index codes lane) +ℤ pos (2 ^ 63)) (pos 0)) (c.lanes_of_mask-lanes.ensures lane step h c.loop-step-test.true)
+    ap (λ (b : Bool). cond b (value_at values (slice_index codes lane) +ℤ pos (2 ^ 63)) (pos 0)) (c.lanes_of_mask_16-lanes.ensures lane step h c.loop-step-test.true)
     ∙ ap (λ (k : ℕ). cond (has rows (row_at 16 lane step)) (value_at values k +ℤ pos (2 ^ 63)) (pos 0)) (code lane h)
     ∙ ap (λ (xs : List ℤ). cond (has rows (row_at 16 lane step)) (value_at xs (code_at form (row_at 16 lane step)) +ℤ pos (2 ^ 63)) (pos 0)) c.values-values.ensures.values) in
     let steps : ℕ → ℤ = λ s. fold_to ◌+ℤ◌ (pos 0) 64 (λ lane. term_of form rows (row_at 16 lane s)) in

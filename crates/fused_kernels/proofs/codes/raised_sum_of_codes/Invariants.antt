@@ -3,7 +3,7 @@ use Rattle.std.proofs.Common.{◌≡◌, ◌*◌, ◌^◌, ◌≤◌, cond, pos,
 use Rattle.transpose_order.specs.Mask.{has}
 use Rattle.transpose_order.specs.Place.{row_at}
 use Rattle.run_dictionary.specs.Dict.{dict_value}
-use Rattle.fused_kernels.specs.Folds.{fold_to}
+use Rattle.native_lanes.specs.Folds.{fold_to}
 use Rattle.fused_kernels.proofs.codes.raised_sum_of_codes.Given as goal
 
 abbrev pub invariant-loop-step : goal.invariant-loop-step

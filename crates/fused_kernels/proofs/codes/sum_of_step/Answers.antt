@@ -4,8 +4,8 @@ use Rattle.std.specs.Int.{bit_at, w64}
 use Rattle.std.proofs.lemmas.Int.{to_z-of_z}
 use Rattle.std.proofs.lemmas.Nat.Bits.{shr_and_one}
 use Rattle.bit_interleave.specs.Range.{value_at}
-use Rattle.fused_kernels.specs.Folds.{fold_to}
-use Rattle.fused_kernels.proofs.FoldLemmas.{fold_to-zero, fold_to-more}
+use Rattle.native_lanes.specs.Folds.{fold_to}
+use Rattle.native_lanes.proofs.FoldLemmas.{fold_to-zero, fold_to-more}
 use Rattle.fused_kernels.proofs.codes.sum_of_step.Goals as goal
 
 pub loop-i-init : goal.loop-i-init

@@ -2,7 +2,7 @@
 use Rattle.std.proofs.Common.{◌≡◌, ◌==◌, ◌*◌, ◌^◌, ◌≤◌, cond, pos, ◌+ℤ◌, slice_index}
 use Rattle.std.specs.Int.{bit_at}
 use Rattle.bit_interleave.specs.Range.{value_at}
-use Rattle.fused_kernels.specs.Folds.{fold_to}
+use Rattle.native_lanes.specs.Folds.{fold_to}
 use Rattle.fused_kernels.proofs.codes.sum_of_step.Given as goal
 
 abbrev pub invariant-loop-i : goal.invariant-loop-i

@@ -2,8 +2,8 @@
 use Rattle.std.proofs.Common.{◌≡◌, ℕ, false, List, replicate, ap, ◌∙◌}
 use Rattle.bit_interleave.specs.PackedWords.{PackedWords}
 use Rattle.run_dictionary.specs.Dict.{DictForm}
-use Rattle.fused_kernels.specs.Walks.{Walk, number_of_row}
-use Rattle.fused_kernels.proofs.PackedLemmas.{code_is}
+use Rattle.native_lanes.specs.Walks.{Walk, number_of_row}
+use Rattle.fused_kernels.proofs.CodeRangeLemmas.{code_is}
 use Rattle.fused_kernels.proofs.CodeLemmas.{plain_number, code_width}
 use Rattle.fused_kernels.proofs.codes.walk_of_codes.Goals as goal
 

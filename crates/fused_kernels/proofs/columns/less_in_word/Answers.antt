@@ -3,7 +3,7 @@ use Rattle.std.proofs.Common.{rules, ◌≡◌, ◌==◌, ◌&&◌, ◌||◌, �
 use Rattle.std.specs.Int.{bit_at, w64}
 use Rattle.std.proofs.lemmas.Int.{to_z-of_z}
 use Rattle.bit_interleave.specs.Range.{value_at}
-use Rattle.fused_kernels.proofs.MarkLemmas.{bit_more}
+use Rattle.native_lanes.proofs.MarkLemmas.{bit_more}
 use Rattle.fused_kernels.proofs.columns.less_in_word.Goals as goal
 
 pub loop-p-preserved : goal.loop-p-preserved

@@ -3,7 +3,7 @@ use Rattle.std.proofs.Common.{rules, ◌-◌, ◌^◌, negsuc, FitsSigned, to_z,
 use Rattle.std.specs.Int.{w64, int_max}
 use Rattle.std.proofs.lemmas.Int.{to_z-of_z}
 use Rattle.bit_interleave.specs.Range.{value_at}
-use Rattle.fused_kernels.proofs.FoldLemmas.{fold_to-zero, fold_to-more}
+use Rattle.native_lanes.proofs.FoldLemmas.{fold_to-zero, fold_to-more}
 use Rattle.fused_kernels.proofs.extremes.greatest_of.Goals as goal
 
 pub loop-i-init : goal.loop-i-init

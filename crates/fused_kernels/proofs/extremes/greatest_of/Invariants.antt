@@ -2,7 +2,7 @@
 use Rattle.std.proofs.Common.{◌≡◌, ◌-◌, ◌^◌, negsuc}
 use Rattle.std.specs.Int.{int_max}
 use Rattle.bit_interleave.specs.Range.{value_at}
-use Rattle.fused_kernels.specs.Folds.{fold_to}
+use Rattle.native_lanes.specs.Folds.{fold_to}
 use Rattle.fused_kernels.proofs.extremes.greatest_of.Given as goal
 
 abbrev pub invariant-loop-i : goal.invariant-loop-i

@@ -3,7 +3,7 @@ use Rattle.std.proofs.Common.{rules, ◌-◌, ◌^◌, pos, FitsSigned, to_z, sy
 use Rattle.std.specs.Int.{w64, int_min}
 use Rattle.std.proofs.lemmas.Int.{to_z-of_z}
 use Rattle.bit_interleave.specs.Range.{value_at}
-use Rattle.fused_kernels.proofs.FoldLemmas.{fold_to-zero, fold_to-more}
+use Rattle.native_lanes.proofs.FoldLemmas.{fold_to-zero, fold_to-more}
 use Rattle.fused_kernels.proofs.extremes.least_of.Goals as goal
 
 pub loop-i-init : goal.loop-i-init

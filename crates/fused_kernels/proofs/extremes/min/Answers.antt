@@ -9,9 +9,9 @@ use Rattle.transpose_order.proofs.MaskLemmas.{has-word, count_by-rows_of}
 use Rattle.table_model.specs.Values.{lesser, least}
 use Rattle.bit_interleave.specs.Range.{value_at}
 use Rattle.bit_interleave.proofs.PieceLemmas.{place_of-place_of}
-use Rattle.fused_kernels.specs.Folds.{fold_to}
+use Rattle.native_lanes.specs.Folds.{fold_to}
 use Rattle.fused_kernels.specs.Seen.{LanesSeen, looked_at, values_looked_at}
-use Rattle.fused_kernels.proofs.FoldLemmas.{fold_to-zero, fold_to-more}
+use Rattle.native_lanes.proofs.FoldLemmas.{fold_to-zero, fold_to-more}
 use Rattle.fused_kernels.proofs.CountLemmas.{length-looked_at}
 use Rattle.fused_kernels.proofs.ExtremeLemmas.{or_else, taken_by_lesser, least_by_lanes, least_of_none, least_of_some}
 use Rattle.fused_kernels.proofs.RangeLemmas.{value_fits}

@@ -4,7 +4,7 @@ use Rattle.transpose_order.specs.Place.{place_of}
 use Rattle.transpose_order.specs.Mask.{has}
 use Rattle.table_model.specs.Values.{lesser}
 use Rattle.bit_interleave.specs.Range.{value_at}
-use Rattle.fused_kernels.specs.Folds.{fold_to}
+use Rattle.native_lanes.specs.Folds.{fold_to}
 use Rattle.fused_kernels.specs.Seen.{given_of}
 use Rattle.fused_kernels.proofs.ExtremeLemmas.{or_else}
 use Rattle.fused_kernels.proofs.extremes.min.Given as goal

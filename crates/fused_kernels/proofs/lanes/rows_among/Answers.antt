@@ -2,7 +2,7 @@
 use Rattle.std.proofs.Common.{◌≡◌, ℕ, Bool, ◌&&◌, not, true, false, cond, nat_lt, nat_le, ap, ◌∙◌}
 use Rattle.transpose_order.specs.Mask.{has}
 use Rattle.transpose_order.specs.MaskWords.{rows_of-like, has-rows_of}
-use Rattle.fused_kernels.proofs.BoolLemmas.{cond_true_false, zero_le}
+use Rattle.native_lanes.proofs.BoolLemmas.{cond_true_false, zero_le}
 use Rattle.fused_kernels.proofs.lanes.rows_among.Goals as goal
 
 pub returns : goal.returns

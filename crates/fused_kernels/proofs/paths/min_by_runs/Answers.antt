@@ -9,7 +9,7 @@ use Rattle.segment_core.specs.declared.coded.Coded.{Coded}
 use Rattle.segment_core.proofs.CodedLemmas.{value_at-values_of}
 use Rattle.fused_kernels.specs.Seen.{LanesSeen, looked_at, looked_cell}
 use Rattle.fused_kernels.specs.VectorSeen.{vector_seen}
-use Rattle.fused_kernels.proofs.FoldLemmas.{fold_to-same}
+use Rattle.native_lanes.proofs.FoldLemmas.{fold_to-same}
 use Rattle.fused_kernels.proofs.ExtremeLemmas.{least-looked_at}
 use Rattle.fused_kernels.proofs.paths.min_by_runs.Goals as goal
 

@@ -11,7 +11,7 @@ use Rattle.segment_core.specs.declared.coded.Coded.{Coded}
 use Rattle.segment_core.proofs.CodedLemmas.{value_at-values_of}
 use Rattle.fused_kernels.specs.Seen.{LanesSeen, looked_at, looked_cell}
 use Rattle.fused_kernels.specs.VectorSeen.{vector_seen}
-use Rattle.fused_kernels.proofs.FoldLemmas.{fold_to-same}
+use Rattle.native_lanes.proofs.FoldLemmas.{fold_to-same}
 use Rattle.fused_kernels.proofs.SumLemmas.{term_of, term_of_cell, total-looked_at}
 use Rattle.fused_kernels.proofs.paths.sum_by_runs.Goals as goal
 

@@ -9,7 +9,7 @@ use Rattle.transpose_order.proofs.MaskLemmas.{rows_of-words}
 use Rattle.bit_interleave.specs.Range.{value_at}
 use Rattle.bit_interleave.proofs.PieceLemmas.{place_of-place_of}
 use Rattle.fused_kernels.specs.Seen.{LanesSeen, between}
-use Rattle.fused_kernels.proofs.MarkLemmas.{marked_more}
+use Rattle.native_lanes.proofs.MarkLemmas.{marked_more}
 use Rattle.fused_kernels.proofs.SeenLemmas.{one_more, next_is, width_of}
 use Rattle.fused_kernels.proofs.ranges.rows_between.Goals as goal
 

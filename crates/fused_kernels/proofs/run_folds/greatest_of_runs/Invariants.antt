@@ -1,15 +1,14 @@
 -- the greatest of the rows before the row
 use Rattle.std.proofs.Common.{◌≡◌, cond, Some, None}
 use Rattle.table_model.specs.Values.{greater}
-use Rattle.transpose_order.specs.Mask.{has, count_below}
+use Rattle.transpose_order.specs.Mask.{has}
 use Rattle.run_dictionary.specs.Runs.{run_value}
-use Rattle.fused_kernels.specs.Folds.{fold_to}
+use Rattle.native_lanes.specs.Folds.{fold_to}
 use Rattle.fused_kernels.proofs.RunLemmas.{BeginsRun}
 use Rattle.fused_kernels.proofs.run_folds.greatest_of_runs.Given as goal
 
 abbrev pub invariant-loop-value : goal.invariant-loop-value
 invariant-loop-value l = record {
   begins : BeginsRun l.form l.row l.value-index;
-  before : l.before ≡ count_below (has l.rows) l.row;
   greatest : l.greatest ≡ fold_to greater None l.row (λ n. cond (has l.rows n) (Some (run_value l.form n)) None);
 }

@@ -3,19 +3,17 @@ use Rattle.std.proofs.Common.{rules, ◌≡◌, ℕ, ◌+◌, ◌<◌, ◌≤◌
 use Rattle.std.specs.Int.{w64}
 use Rattle.std.proofs.lemmas.Int.{to_z-of_z}
 use Rattle.table_model.specs.Values.{lesser}
-use Rattle.transpose_order.specs.Mask.{has, count_below}
-use Rattle.transpose_order.proofs.MaskLemmas.{count_below-zero}
+use Rattle.transpose_order.specs.Mask.{has}
 use Rattle.run_dictionary.specs.Runs.{run_value}
-use Rattle.fused_kernels.specs.Folds.{fold_to}
-use Rattle.fused_kernels.proofs.FoldLemmas.{fold_to-zero}
+use Rattle.native_lanes.specs.Folds.{fold_to}
+use Rattle.native_lanes.proofs.FoldLemmas.{fold_to-zero}
 use Rattle.fused_kernels.proofs.RunLemmas.{first_run, next_run, value_of_run, all_runs}
-use Rattle.fused_kernels.proofs.RunFoldLemmas.{least_more}
+use Rattle.fused_kernels.proofs.RunFoldLemmas.{taken_where, least_more}
 use Rattle.fused_kernels.proofs.run_folds.least_of_runs.Goals as goal
 
 pub loop-value-init : goal.loop-value-init
 loop-value-init c = record {
   begins = first_run c.args.form.now;
-  before = sym (count_below-zero (has c.args.rows.now));
   least = sym (fold_to-zero lesser None (λ n. cond (has c.args.rows.now n) (Some (run_value c.args.form.now n)) None));
 }
 
@@ -25,6 +23,7 @@ loop-value-preserved c =
     let b : ℕ → Bool = has c.args.rows.now in
     let row = c.loop-value.row in
     let end = c.next_true-end.result in
+    let next = c.next_true-taken.result in
     let index = c.loop-value.value-index in
     let items = c.values-value-items.result.now in
     let value : ℤ = slice_index_or items index (pos 0) in
@@ -39,11 +38,9 @@ loop-value-preserved c =
     let old : Option ℤ = c.loop-value.least in
     record {
       begins = next_run form row end index c.lane_width.ensures.form c.loop-value.invariant.begins left c.next_true-end.ensures.order c.next_true-end.ensures.within none start;
-      before = c.count_below-upto.ensures;
       least = c.lesser_if-least.ensures
-          ∙ ap (λ z. cond (nat_lt c.loop-value.before c.count_below-upto.result) (lesser old (Some z)) old) (to_z-of_z w64 value fits ∙ is)
-          ∙ ap (λ (k : ℕ). cond (nat_lt c.loop-value.before k) (lesser old (Some v)) old) c.count_below-upto.ensures
-          ∙ ap (λ (k : ℕ). cond (nat_lt k (count_below b end)) (lesser old (Some v)) old) c.loop-value.invariant.before
+          ∙ ap (λ z. cond (nat_lt next end) (lesser old (Some z)) old) (to_z-of_z w64 value fits ∙ is)
+          ∙ ap (λ t. cond t (lesser old (Some v)) old) (taken_where b row end next order c.next_true-end.ensures.within c.next_true-taken.ensures.order c.next_true-taken.ensures.none c.next_true-taken.ensures.here)
           ∙ least_more f b v row end old c.loop-value.invariant.least order (λ n from below. ap (λ z. cond (b n) (Some z) None) (value_of_run form row end index n c.loop-value.invariant.begins left none from below));
     }
 

@@ -6,8 +6,8 @@ use Rattle.transpose_order.specs.Mask.{has, count_below}
 use Rattle.transpose_order.proofs.MaskLemmas.{count_below-zero, count_below-le}
 use Rattle.run_dictionary.specs.Runs.{run_value}
 use Rattle.run_dictionary.proofs.CountLemmas.{count_below-rises}
-use Rattle.fused_kernels.specs.Folds.{fold_to}
-use Rattle.fused_kernels.proofs.FoldLemmas.{fold_to-zero}
+use Rattle.native_lanes.specs.Folds.{fold_to}
+use Rattle.native_lanes.proofs.FoldLemmas.{fold_to-zero}
 use Rattle.fused_kernels.proofs.RunLemmas.{first_run, next_run, value_of_run, all_runs}
 use Rattle.fused_kernels.proofs.RunFoldLemmas.{sum_more, sum_fits}
 use Rattle.segment_core.specs.declared.coded.Coded.TheVariants.{Runs}

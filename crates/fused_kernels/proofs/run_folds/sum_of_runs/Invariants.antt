@@ -2,7 +2,7 @@
 use Rattle.std.proofs.Common.{◌≡◌, cond, pos, ◌+ℤ◌}
 use Rattle.transpose_order.specs.Mask.{has, count_below}
 use Rattle.run_dictionary.specs.Runs.{run_value}
-use Rattle.fused_kernels.specs.Folds.{fold_to}
+use Rattle.native_lanes.specs.Folds.{fold_to}
 use Rattle.fused_kernels.proofs.RunLemmas.{BeginsRun}
 use Rattle.fused_kernels.proofs.run_folds.sum_of_runs.Given as goal
 

@@ -6,7 +6,7 @@ use Rattle.std.proofs.lemmas.List.{get_or-set_same, get_or-set_other, length-set
 use Rattle.transpose_order.specs.Mask.{truth_at}
 use Rattle.transpose_order.specs.MaskWords.{truth_at-place}
 use Rattle.transpose_order.proofs.BitLemmas.{bit_is_set-or}
-use Rattle.fused_kernels.proofs.BoolLemmas.{or_swap}
+use Rattle.native_lanes.proofs.BoolLemmas.{or_swap}
 use Rattle.fused_kernels.proofs.RunLemmas.{in_word, not_in_word, at_row}
 use Rattle.fused_kernels.proofs.runs.set_run.Goals as goal
 

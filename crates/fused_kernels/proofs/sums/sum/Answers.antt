@@ -9,9 +9,9 @@ use Rattle.table_model.specs.Values.{total}
 use Rattle.transpose_order.proofs.MaskLemmas.{has-word, count_by-rows_of, count_below-le}
 use Rattle.bit_interleave.specs.Range.{value_at}
 use Rattle.bit_interleave.proofs.PieceLemmas.{place_of-place_of}
-use Rattle.fused_kernels.specs.Folds.{fold_to}
+use Rattle.native_lanes.specs.Folds.{fold_to}
 use Rattle.fused_kernels.specs.Seen.{LanesSeen, looked_at, values_looked_at}
-use Rattle.fused_kernels.proofs.FoldLemmas.{fold_to-zero, fold_to-more}
+use Rattle.native_lanes.proofs.FoldLemmas.{fold_to-zero, fold_to-more}
 use Rattle.fused_kernels.proofs.SumLemmas.{halves, raised_fits, sum_by_lanes}
 use Rattle.fused_kernels.proofs.RangeLemmas.{value_fits}
 use Rattle.fused_kernels.proofs.SeenLemmas.{none_given, one_more, next_is, width_of}

@@ -3,7 +3,7 @@ use Rattle.std.proofs.Common.{◌≡◌, ℕ, ◌+◌, ◌*◌, ◌^◌, ◌<◌
 use Rattle.transpose_order.specs.Place.{place_of}
 use Rattle.transpose_order.specs.Mask.{has}
 use Rattle.bit_interleave.specs.Range.{value_at}
-use Rattle.fused_kernels.specs.Folds.{fold_to}
+use Rattle.native_lanes.specs.Folds.{fold_to}
 use Rattle.fused_kernels.specs.Seen.{given_of}
 use Rattle.fused_kernels.proofs.sums.sum.Given as goal
 

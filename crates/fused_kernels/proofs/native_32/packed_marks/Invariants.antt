@@ -1,9 +1,0 @@
--- the steps so far are marked
-use Rattle.std.proofs.Common.{◌≡◌, ◌==◌, ℕ, ◌+◌, ◌%◌, ◌^◌, ◌<◌, ◌&&◌, nat_lt, nat_le, slice_index}
-use Rattle.std.specs.Int.{bit_at}
-use Rattle.bit_interleave.specs.Packing.{packed_value}
-use Rattle.fused_kernels.proofs.native_32.packed_marks.Given as goal
-
-abbrev pub invariant-loop-step : goal.invariant-loop-step
-invariant-loop-step l =
-    (lane r : ℕ) → lane < 32 → r < 32 → (bit_at (slice_index l.marks lane) r == 1) ≡ (nat_lt r l.step && nat_le ((packed_value 32 l.width l.words lane r + l.offset) % 2 ^ 32) l.span)

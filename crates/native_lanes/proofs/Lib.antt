@@ -1,0 +1,10 @@
+pub mod BoolLemmas
+pub mod MarkLemmas
+pub mod FoldLemmas
+pub mod AcrossLemmas
+pub mod NativeLemmas
+pub mod PackedLemmas
+pub mod WalkLemmas
+pub mod ListLemmas
+pub mod RaisedLemmas
+pub mod WalkFoldLemmas

@@ -1,0 +1,11 @@
+-- The walk's numbers are the raised values.
+use Rattle.std.proofs.Common.{rules, FitsSigned, ◌∙◌}
+use Rattle.std.specs.Int.{w128}
+use Rattle.std.proofs.lemmas.Int.{to_z-of_z}
+use Rattle.frame_delta.specs.Delta.{delta_value}
+use Rattle.native_lanes.proofs.walk_32.sum_of_deltas_32.Goals as goal
+
+pub returns : goal.returns
+returns c =
+    let wide : FitsSigned w128 c.sum_of_values.result = search rules in
+    to_z-of_z w128 c.sum_of_values.result wide ∙ c.sum_of_values.ensures (delta_value c.args.form.now) c.walk_of_deltas_32.ensures

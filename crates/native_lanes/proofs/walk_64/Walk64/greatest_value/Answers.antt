@@ -1,0 +1,12 @@
+-- The greatest number is the greatest value, raised.
+use Rattle.std.proofs.Common.{ℕ, ◌^◌, cond, nat_lt, pos, ◌-ℤ◌, Some, None, sym, ap, ◌∙◌}
+use Rattle.transpose_order.specs.Mask.{has, count_below}
+use Rattle.native_lanes.specs.Walks.{number_of_row}
+use Rattle.native_lanes.proofs.WalkFoldLemmas.{greatest_raised}
+use Rattle.native_lanes.proofs.walk_64.Walk64.greatest_value.Goals as goal
+
+pub returns : goal.returns
+returns c = λ value raised.
+    c.value_above.ensures
+    ∙ ap (λ (n : ℕ). cond (nat_lt 0 (count_below (has c.args.rows.now) 1024)) (Some (pos n -ℤ pos (2 ^ 63))) None) (c.greatest-greatest.ensures.value)
+    ∙ sym (greatest_raised (2 ^ 63) (has c.args.rows.now) (number_of_row c.args.self.now) value 1024 raised)

@@ -1,0 +1,112 @@
+//! Set functions and comparisons of frames and deltas, by walks through their lanes.
+ghost use Rattle.std.specs.Prelude.{◌≡◌, cond, IfSome, pos, ◌+ℤ◌, Some, None};
+ghost use Rattle.transpose_order.specs.Mask.{has, rows_of};
+ghost use Rattle.frame_delta.specs.Frame.{frame_value};
+ghost use Rattle.frame_delta.specs.Delta.{delta_value};
+ghost use Rattle.table_model.specs.Values.{lesser, greater};
+ghost use Rattle.native_lanes.specs.Folds.{fold_to};
+ghost use Rattle.native_lanes.specs.Between.{between};
+
+use crate::walk_16::{sum_of_deltas_16, sum_of_frame_16, walk_of_deltas_16, walk_of_frame_16};
+use crate::walk_32::{sum_of_deltas_32, sum_of_frame_32, walk_of_deltas_32, walk_of_frame_32};
+use crate::walk_64::{sum_of_deltas_64, sum_of_frame_64, walk_of_deltas_64, walk_of_frame_64};
+use frame_delta::{Delta, For};
+use transpose_order::Mask;
+
+/// The sum of the values of a mask's rows, or none at a lane width of 8.
+pub fn sum_of_frame(form: &For, rows: &Mask) -> Option<i128>
+    ensures { IfSome result (λ sum. sum ≡ fold_to ◌+ℤ◌ (pos 0) 1024 (λ n. cond (has rows.now n) (frame_value form.now n) (pos 0))) }
+{
+    match form.lane_width() {
+        16 => Some(sum_of_frame_16(form, rows)),
+        32 => Some(sum_of_frame_32(form, rows)),
+        64 => Some(sum_of_frame_64(form, rows)),
+        _ => None,
+    }
+}
+
+/// The sum of the values of a mask's rows, or none at a lane width of 8.
+pub fn sum_of_deltas(form: &Delta, rows: &Mask) -> Option<i128>
+    ensures { IfSome result (λ sum. sum ≡ fold_to ◌+ℤ◌ (pos 0) 1024 (λ n. cond (has rows.now n) (delta_value form.now n) (pos 0))) }
+{
+    match form.lane_width() {
+        16 => Some(sum_of_deltas_16(form, rows)),
+        32 => Some(sum_of_deltas_32(form, rows)),
+        64 => Some(sum_of_deltas_64(form, rows)),
+        _ => None,
+    }
+}
+
+/// The least of the values of a mask's rows, none over none, or none at a lane width of 8.
+pub fn least_of_frame(form: &For, rows: &Mask) -> Option<Option<i64>>
+    ensures { IfSome result (λ least. least ≡ fold_to lesser None 1024 (λ n. cond (has rows.now n) (Some (frame_value form.now n)) None)) }
+{
+    match form.lane_width() {
+        16 => Some(walk_of_frame_16(form).least_value(rows)),
+        32 => Some(walk_of_frame_32(form).least_value(rows)),
+        64 => Some(walk_of_frame_64(form).least_value(rows)),
+        _ => None,
+    }
+}
+
+/// The least of the values of a mask's rows, none over none, or none at a lane width of 8.
+pub fn least_of_deltas(form: &Delta, rows: &Mask) -> Option<Option<i64>>
+    ensures { IfSome result (λ least. least ≡ fold_to lesser None 1024 (λ n. cond (has rows.now n) (Some (delta_value form.now n)) None)) }
+{
+    match form.lane_width() {
+        16 => Some(walk_of_deltas_16(form).least_value(rows)),
+        32 => Some(walk_of_deltas_32(form).least_value(rows)),
+        64 => Some(walk_of_deltas_64(form).least_value(rows)),
+        _ => None,
+    }
+}
+
+/// The greatest of the values of a mask's rows, none over none, or none at a lane width of 8.
+pub fn greatest_of_frame(form: &For, rows: &Mask) -> Option<Option<i64>>
+    ensures { IfSome result (λ greatest. greatest ≡ fold_to greater None 1024 (λ n. cond (has rows.now n) (Some (frame_value form.now n)) None)) }
+{
+    match form.lane_width() {
+        16 => Some(walk_of_frame_16(form).greatest_value(rows)),
+        32 => Some(walk_of_frame_32(form).greatest_value(rows)),
+        64 => Some(walk_of_frame_64(form).greatest_value(rows)),
+        _ => None,
+    }
+}
+
+/// The greatest of the values of a mask's rows, none over none, or none at a lane width of 8.
+pub fn greatest_of_deltas(form: &Delta, rows: &Mask) -> Option<Option<i64>>
+    ensures { IfSome result (λ greatest. greatest ≡ fold_to greater None 1024 (λ n. cond (has rows.now n) (Some (delta_value form.now n)) None)) }
+{
+    match form.lane_width() {
+        16 => Some(walk_of_deltas_16(form).greatest_value(rows)),
+        32 => Some(walk_of_deltas_32(form).greatest_value(rows)),
+        64 => Some(walk_of_deltas_64(form).greatest_value(rows)),
+        _ => None,
+    }
+}
+
+/// The rows whose value is neither below `low` nor above `high`, or none at a lane width of 8. Where none or all of the values of
+/// the lane's bits are, no word is read.
+pub fn frame_within(form: &For, low: i64, high: i64) -> Option<Mask>
+    ensures { IfSome result (λ found. found ≡ rows_of (λ n. between low high (frame_value form.now n))) }
+{
+    match form.lane_width() {
+        16 => Some(walk_of_frame_16(form).values_between(low, high)),
+        32 => Some(walk_of_frame_32(form).values_between(low, high)),
+        64 => Some(walk_of_frame_64(form).values_between(low, high)),
+        _ => None,
+    }
+}
+
+/// The rows whose value is neither below `low` nor above `high`, or none at a lane width of 8. Where none or all of the values of
+/// the lane's bits are, no word is read.
+pub fn deltas_within(form: &Delta, low: i64, high: i64) -> Option<Mask>
+    ensures { IfSome result (λ found. found ≡ rows_of (λ n. between low high (delta_value form.now n))) }
+{
+    match form.lane_width() {
+        16 => Some(walk_of_deltas_16(form).values_between(low, high)),
+        32 => Some(walk_of_deltas_32(form).values_between(low, high)),
+        64 => Some(walk_of_deltas_64(form).values_between(low, high)),
+        _ => None,
+    }
+}
