@@ -3,6 +3,7 @@ pub mod LeastWidthLemmas
 pub mod BitLemmas
 pub mod SixteenLemmas
 pub mod StepLemmas
+pub mod NativeLemmas
 pub mod PackLemmas
 pub mod WriteLemmas
 pub mod PieceLemmas

@@ -61,14 +61,14 @@ pub shifted_lanes : (xs : List ℕ) (shift width : ℕ) → length xs ≡ 16 →
 shifted_lanes xs shift width long within =
     subst (λ (n : ℕ). zip2 bit_and (zip2 (λ a b. a / 2 ^ b) xs (replicate n shift)) (replicate n ((2 ^ 64 - 1) / 2 ^ (64 - width))) ≡ map (λ x. x / 2 ^ shift % 2 ^ width) xs) long (shifted xs shift width within)
 
-joined : (xs ys : List ℕ) (shift kept width : ℕ) → width ≤ 64 → length ys ≡ length xs → zip2 bit_and (zip2 bit_or (zip2 (λ a b. a / 2 ^ b) xs (replicate (length xs) shift)) (zip2 (λ a b. a * 2 ^ b % 2 ^ 64) ys (replicate (length xs) kept))) (replicate (length xs) ((2 ^ 64 - 1) / 2 ^ (64 - width))) ≡ zip2 (λ x y. bit_or (x / 2 ^ shift) (y * 2 ^ kept % 2 ^ 64) % 2 ^ width) xs ys
-joined [] ys shift kept width within e = refl
-joined (x ∷ xs) [] shift kept width within e = absurd (omega arith)
-joined (x ∷ xs) (y ∷ ys) shift kept width within e =
-    ap (λ b. b ∷ zip2 bit_and (zip2 bit_or (zip2 (λ a b. a / 2 ^ b) xs (replicate (length xs) shift)) (zip2 (λ a b. a * 2 ^ b % 2 ^ 64) ys (replicate (length xs) kept))) (replicate (length xs) ((2 ^ 64 - 1) / 2 ^ (64 - width)))) (low_ones (bit_or (x / 2 ^ shift) (y * 2 ^ kept % 2 ^ 64)) width within)
-    ∙ ap (λ bs. bit_or (x / 2 ^ shift) (y * 2 ^ kept % 2 ^ 64) % 2 ^ width ∷ bs) (joined xs ys shift kept width within (omega arith))
+joined : (t : ℕ) (xs ys : List ℕ) (shift kept width : ℕ) → width ≤ 64 → length ys ≡ length xs → zip2 bit_and (zip2 bit_or (zip2 (λ a b. a / 2 ^ b) xs (replicate (length xs) shift)) (zip2 (λ a b. a * 2 ^ b % 2 ^ t) ys (replicate (length xs) kept))) (replicate (length xs) ((2 ^ 64 - 1) / 2 ^ (64 - width))) ≡ zip2 (λ x y. bit_or (x / 2 ^ shift) (y * 2 ^ kept % 2 ^ t) % 2 ^ width) xs ys
+joined t [] ys shift kept width within e = refl
+joined t (x ∷ xs) [] shift kept width within e = absurd (omega arith)
+joined t (x ∷ xs) (y ∷ ys) shift kept width within e =
+    ap (λ b. b ∷ zip2 bit_and (zip2 bit_or (zip2 (λ a b. a / 2 ^ b) xs (replicate (length xs) shift)) (zip2 (λ a b. a * 2 ^ b % 2 ^ t) ys (replicate (length xs) kept))) (replicate (length xs) ((2 ^ 64 - 1) / 2 ^ (64 - width)))) (low_ones (bit_or (x / 2 ^ shift) (y * 2 ^ kept % 2 ^ t)) width within)
+    ∙ ap (λ bs. bit_or (x / 2 ^ shift) (y * 2 ^ kept % 2 ^ t) % 2 ^ width ∷ bs) (joined t xs ys shift kept width within (omega arith))
 
 -- the bits from `shift` on of a lower lane, and above them those of a higher lane, cut to `width`
-pub joined_lanes : (xs ys : List ℕ) (shift kept width : ℕ) → length xs ≡ 16 → length ys ≡ 16 → width ≤ 64 → zip2 bit_and (zip2 bit_or (zip2 (λ a b. a / 2 ^ b) xs (replicate 16 shift)) (zip2 (λ a b. a * 2 ^ b % 2 ^ 64) ys (replicate 16 kept))) (replicate 16 ((2 ^ 64 - 1) / 2 ^ (64 - width))) ≡ zip2 (λ x y. bit_or (x / 2 ^ shift) (y * 2 ^ kept % 2 ^ 64) % 2 ^ width) xs ys
-joined_lanes xs ys shift kept width long longer within =
-    subst (λ (n : ℕ). zip2 bit_and (zip2 bit_or (zip2 (λ a b. a / 2 ^ b) xs (replicate n shift)) (zip2 (λ a b. a * 2 ^ b % 2 ^ 64) ys (replicate n kept))) (replicate n ((2 ^ 64 - 1) / 2 ^ (64 - width))) ≡ zip2 (λ x y. bit_or (x / 2 ^ shift) (y * 2 ^ kept % 2 ^ 64) % 2 ^ width) xs ys) long (joined xs ys shift kept width within (omega arith))
+pub joined_lanes : (t : ℕ) (xs ys : List ℕ) (shift kept width : ℕ) → length xs ≡ 16 → length ys ≡ 16 → width ≤ 64 → zip2 bit_and (zip2 bit_or (zip2 (λ a b. a / 2 ^ b) xs (replicate 16 shift)) (zip2 (λ a b. a * 2 ^ b % 2 ^ t) ys (replicate 16 kept))) (replicate 16 ((2 ^ 64 - 1) / 2 ^ (64 - width))) ≡ zip2 (λ x y. bit_or (x / 2 ^ shift) (y * 2 ^ kept % 2 ^ t) % 2 ^ width) xs ys
+joined_lanes t xs ys shift kept width long longer within =
+    subst (λ (n : ℕ). zip2 bit_and (zip2 bit_or (zip2 (λ a b. a / 2 ^ b) xs (replicate n shift)) (zip2 (λ a b. a * 2 ^ b % 2 ^ t) ys (replicate n kept))) (replicate n ((2 ^ 64 - 1) / 2 ^ (64 - width))) ≡ zip2 (λ x y. bit_or (x / 2 ^ shift) (y * 2 ^ kept % 2 ^ t) % 2 ^ width) xs ys) long (joined t xs ys shift kept width within (omega arith))

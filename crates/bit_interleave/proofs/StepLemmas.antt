@@ -2,7 +2,7 @@
 use Rattle.std.proofs.Common.{◌≡◌, ℕ, ◌+◌, ◌-◌, ◌*◌, ◌/◌, ◌%◌, ◌^◌, ◌<◌, ◌≤◌, ◌⊎◌, inl, inr, List, map, length, get_or, replicate, max, bit_or, sym, ap, ◌∙◌, subst, arith}
 use Rattle.std.specs.Int.{bit_at}
 use Rattle.std.proofs.lemmas.Nat.{div-mul-add, mod-mul-add, div-add-mod', mod_below, pow_pos}
-use Rattle.std.proofs.lemmas.Nat.Bits.{bit_at_or, bit_at_above, bit_at-lt}
+use Rattle.std.proofs.lemmas.Nat.Bits.{bit_at_or, bit_at_above, bit_at-lt, same_from_bits_below}
 use Rattle.std.proofs.lemmas.Bool.{cases_lt}
 use Rattle.std.specs.Simd.Lanes.{zip2, Each1}
 use Rattle.std.proofs.lemmas.Simd.{Each1-get_or}
@@ -71,6 +71,22 @@ across_two_words t w words lane step positive narrow within fit =
     bit_at-mod v w c below ∙ bit_at_or (x / 2 ^ (bit % t)) (y * 2 ^ (t - bit % t) % 2 ^ 64) c
     ∙ bit_across t words lane bit c narrow (mod_below bit t positive) (omega arith) fit (cases_lt c (t - bit % t)))
 
+-- what is cut off at the lane's own bits is cut off at the value's
+cut_or : (a z t w : ℕ) → w ≤ t → t ≤ 64 → bit_or a (z % 2 ^ t) % 2 ^ w ≡ bit_or a (z % 2 ^ 64) % 2 ^ w
+cut_or a z t w h k =
+    same_from_bits_below w (bit_or a (z % 2 ^ t) % 2 ^ w) (bit_or a (z % 2 ^ 64) % 2 ^ w)
+    (mod_below (bit_or a (z % 2 ^ t)) (2 ^ w) (omega (arith, pow_pos w))) (mod_below (bit_or a (z % 2 ^ 64)) (2 ^ w) (omega (arith, pow_pos w)))
+    (λ c l.
+    bit_at-mod (bit_or a (z % 2 ^ t)) w c l ∙ bit_at_or a (z % 2 ^ t) c
+    ∙ ap (max (bit_at a c)) (bit_at-mod z t c (omega arith) ∙ sym (bit_at-mod z 64 c (omega arith)))
+    ∙ sym (bit_at_or a (z % 2 ^ 64) c) ∙ sym (bit_at-mod (bit_or a (z % 2 ^ 64)) w c l))
+
+-- the same value, made in words of the lane's bits
+pub across_native : (t w : ℕ) (words : List ℕ) (lane step : ℕ) → 0 < t → t ≤ 64 → w ≤ t → get_or words (step * w / t * (1024 / t) + lane) 0 < 2 ^ t → bit_or (get_or words (step * w / t * (1024 / t) + lane) 0 / 2 ^ (step * w % t)) (get_or words (step * w / t * (1024 / t) + lane + 1024 / t) 0 * 2 ^ (t - step * w % t) % 2 ^ t) % 2 ^ w ≡ packed_value t w words lane step
+across_native t w words lane step positive narrow within fit =
+    cut_or (get_or words (step * w / t * (1024 / t) + lane) 0 / 2 ^ (step * w % t)) (get_or words (step * w / t * (1024 / t) + lane + 1024 / t) 0 * 2 ^ (t - step * w % t)) t w within narrow
+    ∙ across_two_words t w words lane step positive narrow within fit
+
 -- ---- the sixteen lanes of a group
 at_group : (n lanes group i : ℕ) → n * lanes + 16 * group + i ≡ n * lanes + (16 * group + i)
 at_group n lanes group i = omega arith
@@ -82,11 +98,11 @@ step_within t w words group step low result positive h loads made =
     ∙ sixteen_of-like (λ i. get_or words (step * w / t * (1024 / t) + 16 * group + i) 0 / 2 ^ (step * w % t) % 2 ^ w) (λ i. packed_value t w words (16 * group + i) step) 0
     (λ i _. ap (λ n. get_or words n 0 / 2 ^ (step * w % t) % 2 ^ w) (at_group (step * w / t) (1024 / t) group i) ∙ within_one_word t w words (16 * group + i) step positive h)
 
-pub step_across : (t w : ℕ) (words : List ℕ) (group step : ℕ) (low high result : List ℕ) → 0 < t → t ≤ 64 → w ≤ t → low ≡ sixteen_of (λ i. get_or words (step * w / t * (1024 / t) + 16 * group + i) 0) → high ≡ sixteen_of (λ i. get_or words (step * w / t * (1024 / t) + 16 * group + 1024 / t + i) 0) → Each1 (λ n. n < 2 ^ t) low → result ≡ zip2 (λ x y. bit_or (x / 2 ^ (step * w % t)) (y * 2 ^ (t - step * w % t) % 2 ^ 64) % 2 ^ w) low high → result ≡ sixteen_of (λ i. packed_value t w words (16 * group + i) step)
+pub step_across : (t w : ℕ) (words : List ℕ) (group step : ℕ) (low high result : List ℕ) → 0 < t → t ≤ 64 → w ≤ t → low ≡ sixteen_of (λ i. get_or words (step * w / t * (1024 / t) + 16 * group + i) 0) → high ≡ sixteen_of (λ i. get_or words (step * w / t * (1024 / t) + 16 * group + 1024 / t + i) 0) → Each1 (λ n. n < 2 ^ t) low → result ≡ zip2 (λ x y. bit_or (x / 2 ^ (step * w % t)) (y * 2 ^ (t - step * w % t) % 2 ^ t) % 2 ^ w) low high → result ≡ sixteen_of (λ i. packed_value t w words (16 * group + i) step)
 step_across t w words group step low high result positive narrow within loads more fit made =
     let f : ℕ → ℕ = λ i. get_or words (step * w / t * (1024 / t) + 16 * group + i) 0 in
     let h : ℕ → ℕ = λ i. get_or words (step * w / t * (1024 / t) + 16 * group + 1024 / t + i) 0 in
-    let put : ℕ → ℕ → ℕ = λ x y. bit_or (x / 2 ^ (step * w % t)) (y * 2 ^ (t - step * w % t) % 2 ^ 64) % 2 ^ w in
+    let put : ℕ → ℕ → ℕ = λ x y. bit_or (x / 2 ^ (step * w % t)) (y * 2 ^ (t - step * w % t) % 2 ^ t) % 2 ^ w in
     made ∙ ap (λ xs. zip2 put xs high) loads ∙ ap (zip2 put (sixteen_of f)) more ∙ zip2-sixteen_of put f h
     ∙ sixteen_of-like (λ i. put (f i) (h i)) (λ i. packed_value t w words (16 * group + i) step) 0
     (λ i near.
@@ -95,7 +111,7 @@ step_across t w words group step low high result positive narrow within loads mo
     let second : h i ≡ get_or words (step * w / t * (1024 / t) + (16 * group + i) + 1024 / t) 0 = ap (λ n. get_or words n 0) next in
     let below : f i < 2 ^ t = subst (λ (n : ℕ). n < 2 ^ t) (ap (λ xs. get_or xs i 0) loads ∙ get_or-sixteen_of f i 0 near) (Each1-get_or (λ n. n < 2 ^ t) low i 0 (omega (arith, ap length loads, length-sixteen_of f)) fit) in
     ap (λ x. put x (h i)) first ∙ ap (put (get_or words (step * w / t * (1024 / t) + (16 * group + i)) 0)) second
-    ∙ across_two_words t w words (16 * group + i) step positive narrow within (subst (λ (n : ℕ). n < 2 ^ t) first below))
+    ∙ across_native t w words (16 * group + i) step positive narrow within (subst (λ (n : ℕ). n < 2 ^ t) first below))
 
 -- at width 0 each value is 0
 pub value_of_nothing : (t w : ℕ) (words : List ℕ) (lane step : ℕ) → w ≡ 0 → 0 ≡ packed_value t w words lane step

@@ -7,38 +7,6 @@ use crate::lane_word::LaneWord;
 use std::simd::prelude::*;
 use transpose_order::place_in_word;
 
-/// The `width` bits of each lane from bit `shift` on.
-fn within_words(low: Simd<u64, 16>, shift: usize, width: usize) -> Simd<u64, 16>
-    requires lanes { length low ≡ 16 }
-    requires shift { shift < 64 }
-    requires positive { 0 < width }
-    requires width { width ≤ 64 }
-    ensures { result ≡ map (λ x. x / 2 ^ shift % 2 ^ width) low }
-{
-    let mask = Simd::splat(u64::MAX >> (64 - width));
-    low >> Simd::splat(shift as u64) & mask
-}
-
-/// The `width` bits of each lane from bit `shift` of its low word on, of which the low word has `kept`.
-fn across_words(
-    low: Simd<u64, 16>,
-    high: Simd<u64, 16>,
-    shift: usize,
-    kept: usize,
-    width: usize,
-) -> Simd<u64, 16>
-    requires low { length low ≡ 16 }
-    requires high { length high ≡ 16 }
-    requires shift { shift < 64 }
-    requires kept { kept < 64 }
-    requires positive { 0 < width }
-    requires width { width ≤ 64 }
-    ensures { result ≡ zip2 (λ x y. bit_or (x / 2 ^ shift) (y * 2 ^ kept % 2 ^ 64) % 2 ^ width) low high }
-{
-    let mask = Simd::splat(u64::MAX >> (64 - width));
-    (low >> Simd::splat(shift as u64) | high << Simd::splat(kept as u64)) & mask
-}
-
 /// Sixteen of the values that words pack at `width` bits, 0 to `U::BITS`: element i is the value at lane `16 * group + i` and this step.
 ///
 /// There are `width * lanes` words for `lanes = 1024 / U::BITS` lanes; word `w` of lane `l` is word `w * lanes + l`.
@@ -59,12 +27,10 @@ pub fn step_at<U: LaneWord>(width: usize, words: &[U], group: usize, step: usize
     let bit = step * width;
     let shift = bit % bits;
     let at = bit / bits * lanes + 16 * group;
-    let low = U::load(words, at);
     if shift + width <= bits {
-        return within_words(low, shift, width);
+        return U::within(words, at, shift, width);
     }
-    let high = U::load(words, at + lanes);
-    across_words(low, high, shift, bits - shift, width)
+    U::across(words, at, at + lanes, shift, width)
 }
 
 /// Sixteen of the values that words pack at `W` bits, 0 to `U::BITS`: element i is the value at lane `16 * group + i`

@@ -292,6 +292,12 @@ next_piece t q width =
     at_widths (λ t. (q + 1) % t ≢ 0 → ((q + 1) / t ≡ q / t) × ((q + 1) % t ≡ suc (q % t)))
     (λ h. (omega arith, omega arith)) (λ h. (omega arith, omega arith)) (λ h. (omega arith, omega arith)) (λ h. (omega arith, omega arith)) t width
 
+-- the block after one that doesn't end its lanes is at the next four steps of the same lanes
+pub next_block : (t block : ℕ) → IsLaneWidth t → 4 * (block + 1) % t ≢ 0 → (4 * (block + 1) / t ≡ 4 * block / t) × (4 * (block + 1) % t ≡ suc (4 * block % t + 3))
+next_block t block width =
+    at_widths (λ t. 4 * (block + 1) % t ≢ 0 → (4 * (block + 1) / t ≡ 4 * block / t) × (4 * (block + 1) % t ≡ suc (4 * block % t + 3)))
+    (λ h. (omega arith, omega arith)) (λ h. (omega arith, omega arith)) (λ h. (omega arith, omega arith)) (λ h. (omega arith, omega arith)) t width
+
 -- a piece's sixteen lanes are there
 pub group_is_there : (t q : ℕ) → IsLaneWidth t → q < 64 → 16 * (q / t) + 16 ≤ 1024 / t
 group_is_there t q width =

@@ -7,3 +7,4 @@ pub mod LeastFrame
 pub mod DeltaLemmas
 pub mod LeastDelta
 pub mod DifferenceLemmas
+pub mod TurnLemmas

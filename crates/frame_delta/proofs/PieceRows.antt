@@ -1,8 +1,9 @@
 -- A vector that is written piece by piece holds each row's value in the end, as each row is one lane of one piece.
-use Rattle.std.proofs.Common.{◌≡◌, ◌≢◌, ℕ, ◌+◌, ◌*◌, ◌/◌, ◌%◌, ◌<◌, ◌^◌, ℤ, pos, ◌+ℤ◌, to_z, List, map, length, get_or, replicate, sym, ap, ◌∙◌, arith, below_more}
+use Rattle.std.proofs.Common.{◌≡◌, ◌≢◌, ℕ, ◌+◌, ◌*◌, ◌/◌, ◌%◌, ◌<◌, ◌-◌, ◌^◌, ℤ, pos, ◌+ℤ◌, to_z, List, map, length, get_or, replicate, sym, ap, subst, ◌∙◌, ◌⊎◌, inl, inr, arith}
 use Rattle.std.specs.Int.{w64, int_wrap, cast_unsigned}
 use Rattle.std.specs.Int.RustNames.{FitsSigned}
 use Rattle.std.specs.Simd.Lanes.{zip2}
+use Rattle.std.proofs.lemmas.Bool.{cases_lt}
 use Rattle.std.proofs.lemmas.Int.{int_wrap-add_same, to_z-of_z}
 use Rattle.std.proofs.lemmas.Simd.{get_or-zip2, get_or-replicate, length-replicate}
 use Rattle.transpose_order.specs.Place.{IsLaneWidth, lane_of, step_of, place_of}
@@ -16,15 +17,61 @@ use Rattle.bit_interleave.proofs.PieceLemmas.{place_of-place_of, places_apart, p
 use Rattle.bit_interleave.proofs.WrapLemmas.{int_wrap-mod, int_wrap-bits}
 use Rattle.bit_interleave.specs.Range.{value_at}
 
--- one more piece
-pub pieces_more : (t piece : ℕ) (f : ℕ → ℕ → ℤ) (old new : List ℤ) → IsLaneWidth t → piece < 64 → ((q i : ℕ) → q < piece → i < 16 → value_at old (64 * i + place_of t q) ≡ f (16 * (q / t) + i) (q % t)) → ((i : ℕ) → i < 16 → value_at new (64 * i + place_of t piece) ≡ f (16 * (piece / t) + i) (piece % t)) → ((n : ℕ) → n % 64 ≢ place_of t piece → value_at new n ≡ value_at old n) → (q : ℕ) → q < piece + 1 → (i : ℕ) → i < 16 → value_at new (64 * i + place_of t q) ≡ f (16 * (q / t) + i) (q % t)
-pieces_more t piece f old new width within done written others =
-    below_more (λ (q : ℕ). (i : ℕ) → i < 16 → value_at new (64 * i + place_of t q) ≡ f (16 * (q / t) + i) (q % t)) piece
-    (λ q before i near.
+either : {A B C : Type 0} → A ⊎ B → (A → C) → (B → C) → C
+either (inl a) f g = f a
+either (inr b) f g = g b
+
+-- the four pieces of a block are neighbours: their places, their lanes and their steps
+pub piece_of_block : (t block k : ℕ) → IsLaneWidth t → block < 16 → k < 4 → (place_of t (4 * block + k) ≡ 4 * (place_of t (4 * block) / 4) + k) × ((4 * block + k) / t ≡ 4 * block / t) × ((4 * block + k) % t ≡ 4 * block % t + k)
+piece_of_block t block k width =
+    at_widths (λ t. block < 16 → k < 4 → (place_of t (4 * block + k) ≡ 4 * (place_of t (4 * block) / 4) + k) × ((4 * block + k) / t ≡ 4 * block / t) × ((4 * block + k) % t ≡ 4 * block % t + k))
+    (λ h l. (omega arith, omega arith, omega arith)) (λ h l. (omega arith, omega arith, omega arith))
+    (λ h l. (omega arith, omega arith, omega arith)) (λ h l. (omega arith, omega arith, omega arith)) t width
+
+-- a block's places are a part of the sixteen, and no other block has that part
+pub part_of_block : (t block : ℕ) → IsLaneWidth t → block < 16 → place_of t (4 * block) / 4 < 16
+part_of_block t block width =
+    at_widths (λ t. block < 16 → place_of t (4 * block) / 4 < 16) (λ h. omega arith) (λ h. omega arith) (λ h. omega arith) (λ h. omega arith) t width
+
+-- a block's four steps are steps of its lanes
+pub step_of_block : (t block k : ℕ) → IsLaneWidth t → block < 16 → k < 4 → 4 * block % t + k < t
+step_of_block t block k width =
+    at_widths (λ t. block < 16 → k < 4 → 4 * block % t + k < t) (λ h l. omega arith) (λ h l. omega arith) (λ h l. omega arith) (λ h l. omega arith) t width
+
+blocks_apart : (t block q : ℕ) → IsLaneWidth t → block < 16 → q < 4 * block → place_of t q / 4 ≢ place_of t (4 * block) / 4
+blocks_apart t block q width within before e =
+    let k = q % 4 in
+    let here : q ≡ 4 * (q / 4) + k = omega arith in
+    let mine = piece_of_block t (q / 4) k width (omega arith) (omega arith) in
+    let row : place_of t q ≡ 4 * (place_of t (4 * (q / 4)) / 4) + k = ap (place_of t) here ∙ mine.0 in
+    let theirs = piece_of_block t block k width within (omega arith) in
+    let same : place_of t (4 * block + k) ≡ place_of t q = omega (arith, theirs.0, row, e) in
+    places_apart t (4 * block + k) q width (omega arith) (omega arith) (λ f. omega (arith, f)) same
+
+-- one more block of four pieces
+pub blocks_more : (t block : ℕ) (f : ℕ → ℕ → ℤ) (old new : List ℤ) → IsLaneWidth t → block < 16 → ((q i : ℕ) → q < 4 * block → i < 16 → value_at old (64 * i + place_of t q) ≡ f (16 * (q / t) + i) (q % t)) → ((k i : ℕ) → k < 4 → i < 16 → value_at new (64 * i + 4 * (place_of t (4 * block) / 4) + k) ≡ f (16 * (4 * block / t) + i) (4 * block % t + k)) → ((n : ℕ) → n % 64 / 4 ≢ place_of t (4 * block) / 4 → value_at new n ≡ value_at old n) → (q i : ℕ) → q < 4 * (block + 1) → i < 16 → value_at new (64 * i + place_of t q) ≡ f (16 * (q / t) + i) (q % t)
+blocks_more t block f old new width within done written others q i before near =
+    either (cases_lt q (4 * block))
+    (λ h.
     let small : place_of t q < 64 = (place_of-place_of t q width (omega arith)).0 in
-    let apart = places_apart t q piece width (omega arith) within (omega arith) in
-    others (64 * i + place_of t q) (λ e. apart (omega (arith, e))) ∙ done q i before near)
-    (λ i near. written i near)
+    let place : (64 * i + place_of t q) % 64 / 4 ≡ place_of t q / 4 = omega (arith, small) in
+    others (64 * i + place_of t q) (λ e. blocks_apart t block q width within h (sym place ∙ e)) ∙ done q i h near)
+    (λ h.
+    let k = q - 4 * block in
+    let here : q ≡ 4 * block + k = omega arith in
+    let small : k < 4 = omega arith in
+    let facts = piece_of_block t block k width within small in
+    let row : 64 * i + place_of t q ≡ 64 * i + 4 * (place_of t (4 * block) / 4) + k = omega (arith, ap (place_of t) here, facts.0) in
+    let lane : 4 * block / t ≡ q / t = sym (ap (λ n. n / t) here ∙ facts.1) in
+    let step : 4 * block % t + k ≡ q % t = sym (ap (λ n. n % t) here ∙ facts.2) in
+    ap (value_at new) row ∙ written k i small near ∙ ap (λ l. f (16 * l + i) (4 * block % t + k)) lane ∙ ap (f (16 * (q / t) + i)) step)
+
+-- four facts of a block, one for each of its pieces
+pub each_of_four : (P : ℕ → Type 0) → P 0 → P 1 → P 2 → P 3 → (k : ℕ) → k < 4 → P k
+each_of_four P p0 p1 p2 p3 k small =
+    either (cases_lt k 1) (λ h. let e : 0 ≡ k = omega arith in subst P e p0)
+    (λ g. either (cases_lt k 2) (λ h. let e : 1 ≡ k = omega arith in subst P e p1)
+    (λ g2. either (cases_lt k 3) (λ h. let e : 2 ≡ k = omega arith in subst P e p2) (λ g3. let e : 3 ≡ k = omega arith in subst P e p3)))
 
 -- all pieces
 pub rows_from_pieces : (t : ℕ) (f : ℕ → ℕ → ℤ) (values : List ℤ) → IsLaneWidth t → length values ≡ 1024 → ((q i : ℕ) → q < 64 → i < 16 → value_at values (64 * i + place_of t q) ≡ f (16 * (q / t) + i) (q % t)) → values ≡ rows_of (λ n. f (lane_of t n) (step_of t n))

@@ -10,7 +10,7 @@ ghost use Rattle.frame_delta.specs.Delta.{IsDeltaForm, AreSums, delta_value, del
 
 use crate::differences::{bases_of, differences_within, fill_first_steps, starts_at_zero};
 use crate::extremes::{Frame, gaps_above, spread_of};
-use crate::pieces::{added, put_wrapped, raised};
+use crate::pieces::{added, put_four, raised};
 use bit_interleave::{LaneWord, Words, step_at, wrap};
 use std::alloc::{AllocError, Global};
 use std::marker::Model;
@@ -84,12 +84,18 @@ fn write_sums<U: LaneWord>(
     let bits = U::BITS;
     let by = least.cast_unsigned();
     let mut sums = Simd::splat(0);
-    for piece in 0..64 {
+    for block in 0..16 {
+        let piece = 4 * block;
         let group = piece / bits;
         let step = piece % bits;
         let before = lanes_before(step, sums, bases, 16 * group);
-        sums = added(raised(before, by), step_at(width, words, group, step));
-        put_wrapped(bits, sums, place_in_word(bits, piece), values);
+        let a = added(raised(before, by), step_at(width, words, group, step));
+        let b = added(raised(a, by), step_at(width, words, group, step + 1));
+        let c = added(raised(b, by), step_at(width, words, group, step + 2));
+        let d = added(raised(c, by), step_at(width, words, group, step + 3));
+        let places = place_in_word(bits, piece) / 4;
+        put_four(bits, a, b, c, d, places, values);
+        sums = d;
     }
 }
 

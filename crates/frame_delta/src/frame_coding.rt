@@ -9,7 +9,7 @@ ghost use Rattle.bit_interleave.specs.Range.{AreInRange};
 ghost use Rattle.frame_delta.specs.Frame.{IsFrameForm, frame_value, frame_values, least_frame, frame_bytes};
 
 use crate::extremes::{Frame, gaps_above, spread_of};
-use crate::pieces::{put_wrapped, raised};
+use crate::pieces::{put_four, raised};
 use bit_interleave::{LaneWord, Words, step_at, wrap_lanes, wrapping_sum_with};
 use std::alloc::{AllocError, Global};
 use std::marker::Model;
@@ -44,14 +44,16 @@ fn write_values<U: LaneWord>(width: usize, reference: i64, words: &[U], values: 
 {
     let bits = U::BITS;
     let above = reference.cast_unsigned();
-    for piece in 0..64 {
-        let lanes = step_at(width, words, piece / bits, piece % bits);
-        put_wrapped(
-            bits,
-            raised(lanes, above),
-            place_in_word(bits, piece),
-            values,
-        );
+    for block in 0..16 {
+        let piece = 4 * block;
+        let group = piece / bits;
+        let step = piece % bits;
+        let a = raised(step_at(width, words, group, step), above);
+        let b = raised(step_at(width, words, group, step + 1), above);
+        let c = raised(step_at(width, words, group, step + 2), above);
+        let d = raised(step_at(width, words, group, step + 3), above);
+        let places = place_in_word(bits, piece) / 4;
+        put_four(bits, a, b, c, d, places, values);
     }
 }
 

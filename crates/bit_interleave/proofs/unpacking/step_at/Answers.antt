@@ -1,6 +1,6 @@
 -- The loads are words of sixteen neighbouring lanes, so each lane's part is its packed value.
-use Rattle.std.proofs.Common.{◌≡◌, ℕ, ◌+◌, ◌*◌, ◌<◌, ◌≤◌, ◌/◌, ◌^◌, map, length, sym, ap, subst, ◌∙◌, arith}
-use Rattle.std.specs.Simd.Lanes.{Each1}
+use Rattle.std.proofs.Common.{◌≡◌, ℕ, ◌+◌, ◌*◌, ◌<◌, ◌≤◌, ◌/◌, ◌^◌, ◌-◌, ◌%◌, bit_or, map, length, sym, ap, subst, ◌∙◌, arith}
+use Rattle.std.specs.Simd.Lanes.{Each1, zip2, chunk}
 use Rattle.std.proofs.lemmas.Nat.{row_fits}
 use Rattle.transpose_order.specs.Place.{IsLaneWidth}
 use Rattle.bit_interleave.specs.Packing.{sixteen_of, packed_value}
@@ -29,15 +29,15 @@ returns-then-shift-width-clause-values g c =
     let inside = bits_within t w step (omega arith) (omega (arith, c.requires.step)) in
     let long : length c.args.words.now ≡ w * (1024 / t) = c.requires.words ∙ ap (λ (n : ℕ). w * (1024 / n)) (sym c.BITS-bits.ensures) in
     let low = loaded g.U.LaneWord.number c.args.words.now (step * w / t * (1024 / t) + 16 * c.args.group) (omega (arith, long, word_is_there t w c.args.group (step * w) width inside.1 group)) in
-    subst (λ (n : ℕ). c.within_words.result ≡ sixteen_of (λ i. packed_value n w words (16 * c.args.group + i) step)) c.BITS-bits.ensures
-    (step_within t w words c.args.group step c.load-low.result c.within_words.result (positive_width t width) c.if-shift-width.true (c.load-low.ensures.numbers ∙ low) c.within_words.ensures)
+    subst (λ (n : ℕ). c.within.result ≡ sixteen_of (λ i. packed_value n w words (16 * c.args.group + i) step)) c.BITS-bits.ensures
+    (step_within t w words c.args.group step (map g.U.LaneWord.number (chunk (step * w / t * (1024 / t) + 16 * c.args.group) 16 c.args.words.now)) c.within.result (positive_width t width) c.if-shift-width.true low c.within.ensures)
 
 pub returns-then-shift-width-clause-fit : goal.returns-then-shift-width-clause-fit
 returns-then-shift-width-clause-fit g c =
-    step_fits g.U.LaneWord.BITS c.args.width (map g.U.LaneWord.number c.args.words.now) c.args.group c.args.step c.within_words.result (returns-then-shift-width-clause-values g c)
+    step_fits g.U.LaneWord.BITS c.args.width (map g.U.LaneWord.number c.args.words.now) c.args.group c.args.step c.within.result (returns-then-shift-width-clause-values g c)
 
-pub load-high-requires : goal.load-high-requires
-load-high-requires g c =
+pub across-requires-clause-next : goal.across-requires-clause-next
+across-requires-clause-next g c =
     let t = c.BITS-bits.result in
     let w = c.args.width in
     let step = c.args.step in
@@ -59,10 +59,13 @@ returns-clause-values g c =
     let long : length c.args.words.now ≡ w * (1024 / t) = c.requires.words ∙ ap (λ (n : ℕ). w * (1024 / n)) (sym c.BITS-bits.ensures) in
     let low = loaded g.U.LaneWord.number c.args.words.now (step * w / t * (1024 / t) + 16 * c.args.group) (omega (arith, long, word_is_there t w c.args.group (step * w) width inside.1 group)) in
     let high = loaded g.U.LaneWord.number c.args.words.now (step * w / t * (1024 / t) + 16 * c.args.group + 1024 / t) (omega (arith, long, next_word_is_there t w c.args.group (step * w) width inside.0 c.if-shift-width.false group)) in
-    let fit = subst (λ (n : ℕ). Each1 (λ x. x < 2 ^ n) c.load-low.result) (sym c.BITS-bits.ensures) c.load-low.ensures.fit in
-    subst (λ (n : ℕ). c.across_words.result ≡ sixteen_of (λ i. packed_value n w words (16 * c.args.group + i) step)) c.BITS-bits.ensures
-    (step_across t w words c.args.group step c.load-low.result c.load-high.result c.across_words.result (positive_width t width) (narrow_width t width) (omega (arith, c.requires.width)) (c.load-low.ensures.numbers ∙ low) (c.load-high.ensures.numbers ∙ high) fit c.across_words.ensures)
+    let lows = map g.U.LaneWord.number (chunk (step * w / t * (1024 / t) + 16 * c.args.group) 16 c.args.words.now) in
+    let highs = map g.U.LaneWord.number (chunk (step * w / t * (1024 / t) + 16 * c.args.group + 1024 / t) 16 c.args.words.now) in
+    let fit = subst (λ (n : ℕ). Each1 (λ x. x < 2 ^ n) lows) (sym c.BITS-bits.ensures) c.across.ensures.fit in
+    let made = subst (λ (n : ℕ). c.across.result ≡ zip2 (λ x y. bit_or (x / 2 ^ (step * w % t)) (y * 2 ^ (n - step * w % t) % 2 ^ n) % 2 ^ w) lows highs) (sym c.BITS-bits.ensures) c.across.ensures.numbers in
+    subst (λ (n : ℕ). c.across.result ≡ sixteen_of (λ i. packed_value n w words (16 * c.args.group + i) step)) c.BITS-bits.ensures
+    (step_across t w words c.args.group step lows highs c.across.result (positive_width t width) (narrow_width t width) (omega (arith, c.requires.width)) low high fit made)
 
 pub returns-clause-fit : goal.returns-clause-fit
 returns-clause-fit g c =
-    step_fits g.U.LaneWord.BITS c.args.width (map g.U.LaneWord.number c.args.words.now) c.args.group c.args.step c.across_words.result (returns-clause-values g c)
+    step_fits g.U.LaneWord.BITS c.args.width (map g.U.LaneWord.number c.args.words.now) c.args.group c.args.step c.across.result (returns-clause-values g c)
