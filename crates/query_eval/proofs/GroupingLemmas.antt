@@ -17,11 +17,13 @@ use Rattle.table_model.specs.State.{Cells, same_cells}
 use Rattle.table_model.proofs.Groups.{values_in-append}
 use Rattle.table_model.proofs.Parts.{neither}
 use Rattle.table_model.proofs.SameRows.{one_row, itself_row}
-use Rattle.query_eval.specs.Decoded.{shown_at}
-use Rattle.query_eval.specs.Grouping.{AreEmpty, AreGroups, AreHeld, IsHeld, IsTaken, AreShown, aggregate_cell, aggregate_values, as_list}
+use Rattle.table_model.specs.Answer.{whole}
+use Rattle.table_model.specs.Condition.{is_null}
+use Rattle.table_model.specs.declared.query.Fold.{Fold}
+use Rattle.query_eval.specs.Grouping.{AreEmpty, AreGroups, AreHeld, IsHeld, IsTaken, AreCounted, AreShown, aggregate_cell, aggregate_values, as_list}
 use Rattle.query_eval.specs.Places.{ArePlaced, IsIndex, rows_below, rows_placed}
 use Rattle.query_eval.specs.Kept.{rows_at}
-use Rattle.query_eval.specs.Vector.{Vector, row_at}
+use Rattle.query_eval.specs.Vector.{Vector, cell_at, row_at}
 use Rattle.query_eval.specs.declared.places.Places.{Places}
 use Rattle.query_eval.proofs.PlaceLemmas.{some_same}
 use Rattle.query_eval.proofs.RowsBelow.{below_all, below_more, placed_more_rows}
@@ -31,8 +33,8 @@ use Rattle.query_eval.specs.Tally.{IsTally, kind_of}
 use Rattle.query_eval.specs.TallyKinds.{aggregate_kind}
 use Rattle.query_eval.specs.declared.aggregate.Aggregate.{Aggregate}
 use Rattle.query_eval.specs.declared.aggregate.Aggregate.TheVariants.{Rows, Folded}
-use Rattle.query_eval.specs.declared.decoded_columns.AggregateCells.{AggregateCells}
 use Rattle.query_eval.specs.declared.tally.Tally.{Tally}
+use Rattle.query_eval.specs.declared.tally.TallyKind.{TallyKind}
 
 none_values : (a : Aggregate) → aggregate_values a [] ≡ []
 unfolding values_in
@@ -41,24 +43,6 @@ none_values (Folded fold distinct place) = refl
 
 pub held_none : (a : Aggregate) (t : Tally) → IsTally [] t → kind_of t ≡ aggregate_kind a → IsHeld [] a t
 held_none a t h e = record { values = subst (λ (vs : List ℤ). IsTally vs t) (sym (none_values a)) h; kind = e }
-
-map-at : {X Y : Type 0} (f : X → Y) (xs : List X) (i : ℕ) (x : X) (y : Y) → i < length xs → get_or (map f xs) i y ≡ f (get_or xs i x)
-map-at f [] i x y l = absurd (omega arith)
-map-at f (z ∷ zs) zero x y l = refl
-map-at f (z ∷ zs) (suc i) x y l = map-at f zs i x y (omega arith)
-
-length-mapped : {X Y : Type 0} (f : X → Y) (xs : List X) → length (map f xs) ≡ length xs
-length-mapped f [] = refl
-length-mapped f (x ∷ xs) = ap suc (length-mapped f xs)
-
--- two lists that look alike by two functions
-pub alike_at : {X Y Z : Type 0} (f : X → Z) (g : Y → Z) (xs : List X) (ys : List Y) → map f xs ≡ map g ys → (i : ℕ) (x : X) (y : Y) → i < length ys → f (get_or xs i x) ≡ g (get_or ys i y)
-alike_at f g xs ys e i x y l =
-    let same : length xs ≡ length ys = sym (length-mapped f xs) ∙ ap length e ∙ length-mapped g ys in
-    sym (map-at f xs i x (g y) (omega (arith, same, l))) ∙ ap (λ zs. get_or zs i (g y)) e ∙ map-at g ys i y (g y) l
-
-pub alike_length : {X Y Z : Type 0} (f : X → Z) (g : Y → Z) (xs : List X) (ys : List Y) → map f xs ≡ map g ys → length xs ≡ length ys
-alike_length f g xs ys e = sym (length-mapped f xs) ∙ ap length e ∙ length-mapped g ys
 
 one_value : (place : ℕ) (one : Cells) (o : Option ℤ) → cell one place ≡ o → values_in place (one ∷ []) ≡ as_list o
 unfolding values_in
@@ -141,6 +125,69 @@ module _ (k : ℕ) (v : Vector) (mask : List Bool) (places : List ℕ) (g : ℕ)
           let null : None ≡ aggregate_cell (row_at v k) a = sym (ap (λ b. cond b (aggregate_cell (row_at v k) a) None) (sym e) ∙ shown k l ∙ ap (λ b. cond b (Some (get_or values k (pos 0))) None) off) in
           held_cell t t (get_or places k 0) None e refl null (λ taken q. subst (λ (vs : List ℤ). IsTally vs t) (sym (ap (λ l2. taken ++ l2) (nothing (get_or places k 0 == g)) ∙ append-nil taken)) q) refl h
 
+  -- the next row's cell, none where the row isn't one of the mask, is taken into the tally at its place
+  pub held_next : (t u : Tally) (cell : Option ℤ) → cell ≡ cond (has mask k) (aggregate_cell (row_at v k) a) None → ((values : List ℤ) → IsTally values t → IsTally (values ++ cond (get_or places k 0 == g) (as_list cell) []) u) → kind_of u ≡ kind_of t → IsHeld (rows ++ rows_placed k v mask places g) a t → IsHeld (rows ++ rows_placed (k + 1) v mask places g) a u
+  held_next t u cell is takes same h = by_test (has mask k) refl
+    where
+      before : List ℤ
+      before = aggregate_values a (rows ++ rows_placed k v mask places g)
+
+      nothing : (b : Bool) → cond b (as_list None) [] ≡ []
+      nothing true = refl
+      nothing false = refl
+
+      by_test : (b : Bool) → has mask k ≡ b → IsHeld (rows ++ rows_placed (k + 1) v mask places g) a u
+      by_test true e = held_cell t u (get_or places k 0) cell e refl (is ∙ ap (λ b. cond b (aggregate_cell (row_at v k) a) None) e) takes same h
+      by_test false e =
+          let none : cell ≡ None = is ∙ ap (λ b. cond b (aggregate_cell (row_at v k) a) None) e in
+          held_left u e
+          (record {
+            values =
+                subst (λ (vs : List ℤ). IsTally vs u)
+                (ap (λ o. before ++ cond (get_or places k 0 == g) (as_list o) []) none ∙ ap (λ l. before ++ l) (nothing (get_or places k 0 == g)) ∙ append-nil before) (takes before h.values);
+            kind = same ∙ h.kind;
+          })
+
+  -- the next row's value, where it has one, is taken into the sum at its place
+  pub held_summed : (chosen : List Bool) (values : List ℤ) (comes : Bool) (t u : Tally) → k < 1024 → AreShown a v mask chosen values → comes ≡ has chosen k → ((taken : List ℤ) → IsTally taken t → IsTally (taken ++ cond (get_or places k 0 == g) (cond comes (get_or values k (pos 0) ∷ []) []) []) u) → kind_of u ≡ kind_of t → IsHeld (rows ++ rows_placed k v mask places g) a t → IsHeld (rows ++ rows_placed (k + 1) v mask places g) a u
+  held_summed chosen values comes t u l shown on takes same h =
+      held_next t u (cond comes (Some z) None) (ap (λ b. cond b (Some z) None) on ∙ sym (shown k l))
+      (λ taken q. subst (λ (zs : List ℤ). IsTally (taken ++ cond (get_or places k 0 == g) zs []) u) (listed comes) (takes taken q)) same h
+    where
+      z : ℤ
+      z = get_or values k (pos 0)
+
+      listed : (b : Bool) → cond b (z ∷ []) [] ≡ as_list (cond b (Some z) None)
+      listed true = refl
+      listed false = refl
+
+  -- the next row, where it has a value, is counted at its place
+  pub held_counted : (chosen : List Bool) (comes : Bool) (t u : Tally) → k < 1024 → AreCounted a v mask chosen → comes ≡ has chosen k → ((taken : List ℤ) (z : ℤ) → IsTally taken t → IsTally (taken ++ cond (get_or places k 0 == g) (cond comes (z ∷ []) []) []) u) → kind_of u ≡ kind_of t → IsHeld (rows ++ rows_placed k v mask places g) a t → IsHeld (rows ++ rows_placed (k + 1) v mask places g) a u
+  held_counted chosen comes t u l counted on takes same h =
+      held_next t u (cond (has mask k) (aggregate_cell (row_at v k) a) None) refl (one (cond (has mask k) (aggregate_cell (row_at v k) a) None) (on ∙ sym (counted k l))) same h
+    where
+      one : (o : Option ℤ) → comes ≡ is_some o → (taken : List ℤ) → IsTally taken t → IsTally (taken ++ cond (get_or places k 0 == g) (as_list o) []) u
+      one None e taken q = subst (λ (b : Bool). IsTally (taken ++ cond (get_or places k 0 == g) (cond b (pos 0 ∷ []) []) []) u) e (takes taken (pos 0) q)
+      one (Some z) e taken q = subst (λ (b : Bool). IsTally (taken ++ cond (get_or places k 0 == g) (cond b (z ∷ []) []) []) u) e (takes taken z q)
+
+-- no row has a value
+module _ (v : Vector) (mask : List Bool) (places : List ℕ) (g : ℕ) (a : Aggregate) (rows : List Cells) (t : Tally) (missing : (n : ℕ) → n < 1024 → aggregate_cell (row_at v n) a ≡ None) where
+  nothing_there : (b : Bool) → cond b (as_list None) [] ≡ []
+  nothing_there true = refl
+  nothing_there false = refl
+
+  missing_at : (k : ℕ) → k < 1024 → (b : Bool) → None ≡ cond b (aggregate_cell (row_at v k) a) None
+  missing_at k l true = sym (missing k l)
+  missing_at k l false = refl
+
+  pub held_without : (k : ℕ) → k ≤ 1024 → IsHeld rows a t → IsHeld (rows ++ rows_placed k v mask places g) a t
+  held_without zero l h = subst (λ (xs : List Cells). IsHeld xs a t) (sym (append-nil rows)) h
+  held_without (suc k) l h =
+      let e : k + 1 ≡ suc k = omega arith in
+      let inside : k < 1024 = omega (arith, l) in
+      subst (λ (n : ℕ). IsHeld (rows ++ rows_placed n v mask places g) a t) e
+      (held_next k v mask places g a rows t t None (missing_at k inside (has mask k)) (λ taken q. subst (λ (vs : List ℤ). IsTally vs t) (sym (ap (λ zs. taken ++ zs) (nothing_there (get_or places k 0 == g)) ∙ append-nil taken)) q) refl (held_without k (omega (arith, l)) h))
+
 -- within a list it doesn't matter what stands past its end
 pub within_any : {X : Type 0} (xs : List X) (i : ℕ) (a b : X) → i < length xs → get_or xs i a ≡ get_or xs i b
 within_any [] i a b l = absurd (omega arith)
@@ -148,7 +195,7 @@ within_any (x ∷ xs) zero a b l = refl
 within_any (x ∷ xs) (suc i) a b l = within_any xs i a b (omega arith)
 
 -- the tally at a place takes in a value
-module _ (place : ℕ) (old new : List Tally) (u d : Tally) (within : place < length old) (is : new ≡ set old place u) where
+module _ (place : ℕ) (old new : List Tally) (u d : Tally) (within : place < length old) (new_is : new ≡ set old place u) where
   pub cell_values : (added : List ℤ) → ((values : List ℤ) → IsTally values (get_or old place d) → IsTally (values ++ added) u) → (g : ℕ) (t : Tally) (values : List ℤ) → g < length old → IsTally values (get_or old g t) → IsTally (values ++ cond (place == g) added []) (get_or new g t)
   cell_values added takes g t values l h = one (place == g) refl
     where
@@ -156,10 +203,22 @@ module _ (place : ℕ) (old new : List Tally) (u d : Tally) (within : place < le
       one true e =
           let same : place ≡ g = (Decides-eqb place g).0 e in
           let before : IsTally values (get_or old place d) = subst (IsTally values) (ap (λ j. get_or old j t) (sym same) ∙ within_any old place t d within) h in
-          subst (IsTally (values ++ added)) (sym (ap (λ ts. get_or ts g t) is ∙ ap (λ j. get_or (set old place u) j t) (sym same) ∙ get_or-set_same old place u t within)) (takes values before)
+          subst (IsTally (values ++ added)) (sym (ap (λ ts. get_or ts g t) new_is ∙ ap (λ j. get_or (set old place u) j t) (sym same) ∙ get_or-set_same old place u t within)) (takes values before)
       one false e =
           let ne : g ≢ place = λ q. false≢true (sym e ∙ (Decides-eqb place g).1 (sym q)) in
-          subst (λ (vs : List ℤ). IsTally vs (get_or new g t)) (sym (append-nil values)) (subst (IsTally values) (sym (ap (λ ts. get_or ts g t) is ∙ get_or-set_other old place g u t ne)) h)
+          subst (λ (vs : List ℤ). IsTally vs (get_or new g t)) (sym (append-nil values)) (subst (IsTally values) (sym (ap (λ ts. get_or ts g t) new_is ∙ get_or-set_other old place g u t ne)) h)
+
+  pub cell_values_of : (kind : TallyKind) (added : List ℤ) → ((values : List ℤ) → kind_of (get_or old place d) ≡ kind → IsTally values (get_or old place d) → IsTally (values ++ added) u) → (g : ℕ) (t : Tally) (values : List ℤ) → g < length old → kind_of (get_or old g t) ≡ kind → IsTally values (get_or old g t) → IsTally (values ++ cond (place == g) added []) (get_or new g t)
+  cell_values_of kind added takes g t values l is h = one (place == g) refl
+    where
+      one : (b : Bool) → (place == g) ≡ b → IsTally (values ++ cond b added []) (get_or new g t)
+      one true e =
+          let same : place ≡ g = (Decides-eqb place g).0 e in
+          let here : get_or old place d ≡ get_or old g t = within_any old place d t within ∙ ap (λ j. get_or old j t) same in
+          subst (IsTally (values ++ added)) (sym (ap (λ ts. get_or ts g t) new_is ∙ ap (λ j. get_or (set old place u) j t) (sym same) ∙ get_or-set_same old place u t within)) (takes values (ap kind_of here ∙ is) (subst (IsTally values) (sym here) h))
+      one false e =
+          let ne : g ≢ place = λ q. false≢true (sym e ∙ (Decides-eqb place g).1 (sym q)) in
+          subst (λ (vs : List ℤ). IsTally vs (get_or new g t)) (sym (append-nil values)) (subst (IsTally values) (sym (ap (λ ts. get_or ts g t) new_is ∙ get_or-set_other old place g u t ne)) h)
 
   pub cell_kind : kind_of u ≡ kind_of (get_or old place d) → (g : ℕ) (t : Tally) → g < length old → kind_of (get_or new g t) ≡ kind_of (get_or old g t)
   cell_kind same g t l = one (place == g) refl
@@ -167,10 +226,10 @@ module _ (place : ℕ) (old new : List Tally) (u d : Tally) (within : place < le
       one : (b : Bool) → (place == g) ≡ b → kind_of (get_or new g t) ≡ kind_of (get_or old g t)
       one true e =
           let at : place ≡ g = (Decides-eqb place g).0 e in
-          ap kind_of (ap (λ ts. get_or ts g t) is ∙ ap (λ j. get_or (set old place u) j t) (sym at) ∙ get_or-set_same old place u t within) ∙ same ∙ ap kind_of (within_any old place d t within ∙ ap (λ j. get_or old j t) at)
+          ap kind_of (ap (λ ts. get_or ts g t) new_is ∙ ap (λ j. get_or (set old place u) j t) (sym at) ∙ get_or-set_same old place u t within) ∙ same ∙ ap kind_of (within_any old place d t within ∙ ap (λ j. get_or old j t) at)
       one false e =
           let ne : g ≢ place = λ q. false≢true (sym e ∙ (Decides-eqb place g).1 (sym q)) in
-          ap kind_of (ap (λ ts. get_or ts g t) is ∙ get_or-set_other old place g u t ne)
+          ap kind_of (ap (λ ts. get_or ts g t) new_is ∙ get_or-set_other old place g u t ne)
 
 -- one tally more
 pub known_push : (old ts next : List Tally) (u : Tally) → next ≡ ts ++ u ∷ [] → length old ≤ length ts → ((g : ℕ) (t : Tally) → g < length old → get_or ts g t ≡ get_or old g t) → (g : ℕ) (t : Tally) → g < length old → get_or next g t ≡ get_or old g t
@@ -312,35 +371,48 @@ empty_push n ts next u is e h = record {
         ap (λ xs. (get_or xs i c).items) is ∙ ap (λ j. (get_or (ts ++ u ∷ []) j c).items) at ∙ ap (λ x. x.items) (get_or-append_seam ts u [] c) ∙ e
 
 -- one aggregate more has taken in the rows
-module _ (named : List Aggregate) (cells : List AggregateCells) (mask : List Bool) (places : List ℕ) (count i : ℕ) (old now : List (Vec Tally)) (m u : Vec Tally) (d0 : AggregateCells) (size : length now ≡ length old) (ln : i < length named) (lc : i < length cells) (lo : i < length old) (ahead : (j : ℕ) (c : Vec Tally) → i ≤ j → get_or now j c ≡ get_or old j c) where
+module _ (named : List Aggregate) (v : Vector) (mask : List Bool) (places : List ℕ) (count i : ℕ) (old now : List (Vec Tally)) (m u : Vec Tally) (size : length now ≡ length old) (ln : i < length named) (lo : i < length old) (ahead : (j : ℕ) (c : Vec Tally) → i ≤ j → get_or now j c ≡ get_or old j c) where
   pub columns_size : length (set now i u) ≡ length old
   columns_size = length-set now i u ∙ size
 
   pub columns_ahead : (j : ℕ) (c : Vec Tally) → i + 1 ≤ j → get_or (set now i u) j c ≡ get_or old j c
   columns_ahead j c l = let ne : j ≢ i = omega arith in get_or-set_other now i j u c ne ∙ ahead j c (omega (arith, l))
 
-  pub columns_taken : m ≡ get_or now i m → d0 ≡ get_or cells i d0 → ((j : ℕ) (a : Aggregate) (d : AggregateCells) (c : Vec Tally) (v : Vector) → j < i → ((n : ℕ) → n < 1024 → shown_at (get_or cells j d) n ≡ aggregate_cell (row_at v n) (get_or named j a)) → IsTaken (get_or named j a) v mask places count (get_or old j c).items (get_or now j c).items)
-      → ((v : Vector) → ((n : ℕ) → n < 1024 → shown_at d0 n ≡ aggregate_cell (row_at v n) (get_or named i Rows)) → IsTaken (get_or named i Rows) v mask places count m.items u.items)
-      → (j : ℕ) (a : Aggregate) (d : AggregateCells) (c : Vec Tally) (v : Vector) → j < i + 1 → ((n : ℕ) → n < 1024 → shown_at (get_or cells j d) n ≡ aggregate_cell (row_at v n) (get_or named j a)) → IsTaken (get_or named j a) v mask places count (get_or old j c).items (get_or (set now i u) j c).items
-  columns_taken mine cell taken one j a d c v l shown = by_place (cases_lt j i)
+  pub columns_taken : m ≡ get_or now i m → ((j : ℕ) (a : Aggregate) (c : Vec Tally) → j < i → IsTaken (get_or named j a) v mask places count (get_or old j c).items (get_or now j c).items) → IsTaken (get_or named i Rows) v mask places count m.items u.items
+      → (j : ℕ) (a : Aggregate) (c : Vec Tally) → j < i + 1 → IsTaken (get_or named j a) v mask places count (get_or old j c).items (get_or (set now i u) j c).items
+  columns_taken mine taken one j a c l = by_place (cases_lt j i)
     where
       by_place : (j < i) ⊎ (i ≤ j) → IsTaken (get_or named j a) v mask places count (get_or old j c).items (get_or (set now i u) j c).items
       by_place (inl b) =
           let ne : j ≢ i = omega arith in
-          subst (λ (x : Vec Tally). IsTaken (get_or named j a) v mask places count (get_or old j c).items x.items) (sym (get_or-set_other now i j u c ne)) (taken j a d c v b shown)
+          subst (λ (x : Vec Tally). IsTaken (get_or named j a) v mask places count (get_or old j c).items x.items) (sym (get_or-set_other now i j u c ne)) (taken j a c b)
       by_place (inr b) =
           let e : i ≡ j = omega arith in
           let inside : i < length now = omega (arith, lo, size) in
-          let here = subst (λ (k : ℕ). (n : ℕ) → n < 1024 → shown_at (get_or cells k d) n ≡ aggregate_cell (row_at v n) (get_or named k a)) (sym e) shown in
-          let its = one v (λ n q. ap (λ x. shown_at x n) (cell ∙ within_any cells i d0 d lc) ∙ here n q ∙ ap (aggregate_cell (row_at v n)) (within_any named i a Rows ln)) in
           subst (λ (k : ℕ). IsTaken (get_or named k a) v mask places count (get_or old k c).items (get_or (set now i u) k c).items) e
           (subst (λ (x : Vec Tally). IsTaken (get_or named i a) v mask places count (get_or old i c).items x.items) (sym (get_or-set_same now i u c inside))
           (subst (λ (x : Vec Tally). IsTaken (get_or named i a) v mask places count x.items u.items) (mine ∙ within_any now i m c inside ∙ ahead i c (omega arith))
-          (subst (λ (x : Aggregate). IsTaken x v mask places count m.items u.items) (within_any named i Rows a ln) its)))
+          (subst (λ (x : Aggregate). IsTaken x v mask places count m.items u.items) (within_any named i Rows a ln) one)))
 
--- where each row has a value, the rows of the mask have one
-pub shown_every : (a : Aggregate) (v : Vector) (mask : List Bool) (values : List ℤ) → ((n : ℕ) → n < 1024 → get_or values n (pos 0) ≡ pos 0) → ((n : ℕ) → n < 1024 → Some (pos 0) ≡ aggregate_cell (row_at v n) a) → AreShown a v mask mask values
-shown_every a v mask values are shown n l = ap (λ o. cond (has mask n) o None) (sym (shown n l) ∙ ap Some (sym (are n l)))
+-- COUNT(*) counts each row of the mask
+pub counted_every : (v : Vector) (mask : List Bool) → AreCounted Rows v mask mask
+counted_every v mask n l = one (has mask n)
+  where
+    one : (b : Bool) → is_some (cond b (Some (pos 0)) None) ≡ b
+    one true = refl
+    one false = refl
+
+-- of a column, the rows of the mask that aren't null count
+pub counted_values : (fold : Fold) (distinct : Bool) (v : Vector) (column : ℕ) (mask nulls rows : List Bool) → nulls ≡ rows_of (λ n. is_null (whole (cell_at v column n))) → rows ≡ rows_of (λ n. has mask n && not (has nulls n)) → AreCounted (Folded fold distinct column) v mask rows
+counted_values fold distinct v column mask nulls rows are e n l =
+    one (has mask n) (cell_at v column n)
+    ∙ ap (λ b. has mask n && not b) (sym (ap (λ m. has m n) are ∙ has-rows_of (λ m. is_null (whole (cell_at v column m))) n l))
+    ∙ sym (ap (λ m. has m n) e ∙ has-rows_of (λ m. has mask m && not (has nulls m)) n l)
+  where
+    one : (b : Bool) (o : Option ℤ) → is_some (cond b o None) ≡ (b && not (is_null (whole o)))
+    one true None = refl
+    one true (Some z) = refl
+    one false o = refl
 
 -- of a column, the rows of the mask that aren't null have one
 pub shown_values : (a : Aggregate) (v : Vector) (mask nulls rows : List Bool) (values : List ℤ) → rows ≡ rows_of (λ n. has mask n && not (has nulls n)) → ((n : ℕ) → n < 1024 → cond (has nulls n) None (Some (get_or values n (pos 0))) ≡ aggregate_cell (row_at v n) a) → AreShown a v mask rows values
@@ -352,19 +424,6 @@ shown_values a v mask nulls rows values e shown n l =
     one true true = refl
     one true false = refl
     one false c = refl
-
--- where no row has a value, none has
-pub shown_missing : (a : Aggregate) (v : Vector) (mask rows : List Bool) (values : List ℤ) → rows ≡ rows_of (λ _. false) → ((n : ℕ) → n < 1024 → None ≡ aggregate_cell (row_at v n) a) → AreShown a v mask rows values
-shown_missing a v mask rows values e shown n l =
-    ap (λ o. cond (has mask n) o None) (sym (shown n l)) ∙ one (has mask n)
-    ∙ ap (λ b. cond b (Some (get_or values n (pos 0))) None) (sym (ap (λ m. has m n) e ∙ has-rows_of (λ _. false) n l))
-  where
-    nothing : Option ℤ
-    nothing = None
-
-    one : (b : Bool) → cond b nothing nothing ≡ nothing
-    one true = refl
-    one false = refl
 
 -- bit b of word j is row 64 * j + b
 pub word_bits : (words : List ℕ) (rows : List Bool) (j b : ℕ) → j < 16 → b < 64 → rows ≡ rows_of (truth_at words) → (bit_at (get_or words j 0) b == 1) ≡ has rows (64 * j + b)

@@ -1,6 +1,7 @@
 -- One value more, and what set functions are in the end.
-use Rattle.std.proofs.Common.{◌≡◌, ℕ, ◌+◌, ◌-◌, ◌*◌, ◌^◌, ◌≤◌, min, Bool, true, false, cond, ◌||◌, List, [], ◌∷◌, ◌++◌, length, Option, Some, ℤ, pos, ◌+ℤ◌, ◌*ℤ◌, FitsSigned, refl, sym, ap, subst, ◌∙◌, arith, length-append}
+use Rattle.std.proofs.Common.{◌≡◌, ℕ, ◌+◌, ◌-◌, ◌*◌, ◌^◌, ◌≤◌, min, Bool, true, false, cond, ◌||◌, List, [], ◌∷◌, ◌++◌, length, Option, Some, ℤ, pos, ◌+ℤ◌, ◌*ℤ◌, FitsSigned, refl, sym, ap, subst, ◌∙◌, arith, append-nil, length-append}
 use Rattle.std.specs.Int.{w128}
+use Rattle.std.specs.Int.{from_bool}
 use Rattle.std.specs.List.{list_any}
 use Rattle.std.specs.Ordering.{int_eq}
 use Rattle.std.proofs.lemmas.Cmp.{int_eq_equiv}
@@ -9,7 +10,7 @@ use Rattle.table_model.specs.Group.{IsWithin}
 use Rattle.table_model.specs.Values.{total, lesser, greater, least, greatest}
 use Rattle.table_model.proofs.Appended.{total-append, least-append, greatest-append}
 use Rattle.table_model.proofs.Bounds.{AreSmall, total-small}
-use Rattle.query_eval.specs.Tally.{AreTold}
+use Rattle.query_eval.specs.Tally.{AreSums, AreTold}
 use Rattle.query_eval.specs.declared.tally.Sums.{Sums}
 
 -- ---- bounds
@@ -49,6 +50,19 @@ told_more s t z count sum values told few small =
     record {
       count = omega (arith, count, now.count, longer, few);
       sum = sum fits ∙ ap (λ x. x +ℤ z) now.sum ∙ sym whole_sum;
+    }
+
+pub told_where : (s t : Sums) (z more : ℤ) (by : ℕ) (comes : Bool) → by ≡ from_bool comes → more ≡ cond comes z (pos 0) → t.count ≡ min (s.count + by) (2 ^ 64 - 1) → (FitsSigned w128 (s.sum +ℤ more) → t.sum ≡ s.sum +ℤ more) → FitsSigned w128 s.sum → (values : List ℤ) → AreTold values s → length (values ++ cond comes (z ∷ []) []) ≤ 2 ^ 32 → AreSmall (values ++ cond comes (z ∷ []) []) → AreSums (values ++ cond comes (z ∷ []) []) t
+told_where s t z more by true one is count sum held values told few small =
+    told_more s t z (count ∙ ap (λ n. min (s.count + n) (2 ^ 64 - 1)) one) (subst (λ (x : ℤ). FitsSigned w128 (s.sum +ℤ x) → t.sum ≡ s.sum +ℤ x) is sum) values told few small
+told_where s t z more by false one is count sum held values told few small =
+    let e : values ++ [] ≡ values = append-nil values in
+    let none : by ≡ 0 = one in
+    let now = told (subst (λ (l : List ℤ). length l ≤ 2 ^ 32) e few) (subst AreSmall e small) in
+    let same : s.sum +ℤ more ≡ s.sum = omega (arith, ints, is) in
+    record {
+      count = omega (arith, count, none, now.count, ap length e, few);
+      sum = sum (subst (FitsSigned w128) (sym same) held) ∙ same ∙ now.sum ∙ ap total (sym e);
     }
 
 pub least_more : (before after : Option ℤ) (z : ℤ) → after ≡ lesser before (Some z) → (values : List ℤ) → before ≡ least values → after ≡ least (values ++ z ∷ [])

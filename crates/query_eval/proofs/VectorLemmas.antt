@@ -2,43 +2,32 @@
 use Rattle.std.proofs.Common.{◌≡◌, ℕ, ◌+◌, ◌*◌, ◌<◌, ◌≤◌, Bool, List, [], ◌∷◌, ◌++◌, map, length, get_or, take, sym, ap, subst, ◌∙◌, arith}
 use Rattle.std.specs.Global.{Vec}
 use Rattle.std.proofs.lemmas.List.{take_more}
-use Rattle.table_model.specs.Group.{key_of}
 use Rattle.table_model.specs.State.{Cells, State}
-use Rattle.query_eval.specs.Decoded.{decoded_at, shown_at}
-use Rattle.query_eval.specs.Grouping.{AreGroups, IsTaken, aggregate_cell}
+use Rattle.query_eval.specs.Grouping.{AreGroups, IsTaken}
 use Rattle.query_eval.specs.Kept.{rows_at, rows_in}
 use Rattle.query_eval.specs.Places.{ArePlaced, IsIndex}
-use Rattle.query_eval.specs.Vector.{Vector, row_at, vector_at}
+use Rattle.query_eval.specs.Vector.{Vector, vector_at}
 use Rattle.query_eval.specs.declared.aggregate.Aggregate.{Aggregate}
-use Rattle.query_eval.specs.declared.decoded.Decoded.{Decoded}
-use Rattle.query_eval.specs.declared.decoded_columns.AggregateCells.{AggregateCells}
-use Rattle.query_eval.specs.declared.decoded_columns.AggregateCells.TheVariants.{Missing}
 use Rattle.query_eval.specs.declared.kept.KeptVector.{KeptVector}
 use Rattle.query_eval.specs.declared.places.Places.{Places}
 use Rattle.query_eval.specs.declared.tally.Tally.{Tally}
-use Rattle.query_eval.proofs.GroupingLemmas.{alike_at, alike_length, groups_more}
+use Rattle.query_eval.proofs.GroupingLemmas.{groups_more}
 use Rattle.query_eval.proofs.KeptSteps.{rows_in-nil, rows_in-push}
 
-pub vector_more : (by places : List ℕ) (named first second : List Aggregate) (v w : Vector) (ks keys : List Decoded) (cs cells : List AggregateCells) (mask : List Bool) (before after : Places) (spots : List ℕ) (count : ℕ) (old new : List (Vec Tally)) → places ≡ by → first ≡ named → second ≡ named → keys ≡ ks → cells ≡ cs → w ≡ v
-    → ((n : ℕ) → n < 1024 → map (λ d. decoded_at d n) ks ≡ key_of places (row_at v n))
-    → ((n : ℕ) → n < 1024 → map (λ d. shown_at d n) cs ≡ map (aggregate_cell (row_at w n)) first)
-    → ((b : List ℕ) (x : Vector) → ((n : ℕ) → n < 1024 → map (λ d. decoded_at d n) keys ≡ key_of b (row_at x n)) → IsIndex before → ArePlaced 1024 b x mask before.index after.index spots)
+pub vector_more : (by places : List ℕ) (named first : List Aggregate) (v w : Vector) (mask : List Bool) (before after : Places) (spots : List ℕ) (count : ℕ) (old new : List (Vec Tally)) → places ≡ by → first ≡ named → w ≡ v
+    → (IsIndex before → ArePlaced 1024 places v mask before.index after.index spots)
     → (IsIndex before → IsIndex after) → count ≡ length after.index.entries → length new ≡ length old
-    → ((i : ℕ) (a : Aggregate) (d : AggregateCells) (c : Vec Tally) (x : Vector) → i < length second → i < length cells → i < length old → ((n : ℕ) → n < 1024 → shown_at (get_or cells i d) n ≡ aggregate_cell (row_at x n) (get_or second i a)) → IsTaken (get_or second i a) x mask spots count (get_or old i c).items (get_or new i c).items)
+    → ((i : ℕ) (a : Aggregate) (c : Vec Tally) → i < length first → i < length old → IsTaken (get_or first i a) w mask spots count (get_or old i c).items (get_or new i c).items)
     → (rows : List Cells) → IsIndex before → AreGroups by named rows before.index old → AreGroups by named (rows ++ rows_at v mask) after.index new
-vector_more by places named first second v w ks keys cs cells mask before after spots count old new p f s k e same shown also placing indexed many size taking rows ib h =
-    groups_more by named v mask rows before after spots old new (indexed ib) (placing by v (λ n l. ap (map (λ d. decoded_at d n)) k ∙ shown n l ∙ ap (λ (b : List ℕ). key_of b (row_at v n)) p) ib) size
-    (λ i a c l m. one i a c (omega (arith, l, ap length s)) m) h
+vector_more by places named first v w mask before after spots count old new p f same placing indexed many size taking rows ib h =
+    groups_more by named v mask rows before after spots old new (indexed ib) (subst (λ (b : List ℕ). ArePlaced 1024 b v mask before.index after.index spots) p (placing ib)) size one h
   where
-    alike : (n : ℕ) → n < 1024 → map (λ d. shown_at d n) cells ≡ map (aggregate_cell (row_at v n)) second
-    alike n l = ap (map (λ d. shown_at d n)) e ∙ also n l ∙ ap (λ (x : Vector). map (aggregate_cell (row_at x n)) first) same ∙ ap (map (aggregate_cell (row_at v n))) (f ∙ sym s)
-
-    one : (i : ℕ) (a : Aggregate) (c : Vec Tally) → i < length second → i < length old → IsTaken (get_or named i a) v mask spots (length after.index.entries) (get_or old i c).items (get_or new i c).items
+    one : (i : ℕ) (a : Aggregate) (c : Vec Tally) → i < length named → i < length old → IsTaken (get_or named i a) v mask spots (length after.index.entries) (get_or old i c).items (get_or new i c).items
     one i a c l m =
-        let cellular : i < length cells = omega (arith, l, alike_length (λ d. shown_at d 0) (aggregate_cell (row_at v 0)) cells second (alike 0 (omega arith))) in
-        subst (λ (l2 : List Aggregate). IsTaken (get_or l2 i a) v mask spots (length after.index.entries) (get_or old i c).items (get_or new i c).items) s
-        (subst (λ (n : ℕ). IsTaken (get_or second i a) v mask spots n (get_or old i c).items (get_or new i c).items) many
-        (taking i a Missing c v l cellular m (λ n b. alike_at (λ d. shown_at d n) (aggregate_cell (row_at v n)) cells second (alike n b) i Missing a l)))
+        subst (λ (l2 : List Aggregate). IsTaken (get_or l2 i a) v mask spots (length after.index.entries) (get_or old i c).items (get_or new i c).items) f
+        (subst (λ (n : ℕ). IsTaken (get_or first i a) v mask spots n (get_or old i c).items (get_or new i c).items) many
+        (subst (λ (x : Vector). IsTaken (get_or first i a) x mask spots count (get_or old i c).items (get_or new i c).items) same
+        (taking i a c (omega (arith, l, ap length f)) m)))
 
 pub vectors_none : (by : List ℕ) (named first : List Aggregate) (s : State) (places : Places) (tallies : List (Vec Tally)) → first ≡ named → AreGroups by first [] places.index tallies → AreGroups by named (rows_in s []) places.index tallies
 vectors_none by named first s places tallies f h =

@@ -3,16 +3,8 @@ use Rattle.std.specs.Prelude.{ℕ, cond, slice_index_or, Option, Some, None, ℤ
 use Rattle.transpose_order.specs.Mask.{has}
 use Rattle.query_eval.specs.declared.decoded.Decoded.{Decoded}
 use Rattle.query_eval.specs.declared.decoded.Decoded.TheVariants.{Column, Fixed}
-use Rattle.query_eval.specs.declared.decoded_columns.AggregateCells.{AggregateCells}
-use Rattle.query_eval.specs.declared.decoded_columns.AggregateCells.TheVariants.{Every, Values, Missing}
 
 -- the cell at a row
 abbrev pub decoded_at : Decoded → ℕ → Option ℤ
 decoded_at (Column nulls values) n = cond (has nulls n) None (Some (slice_index_or values n (pos 0)))
 decoded_at (Fixed cell) n = cell
-
--- the cell that an aggregate goes over at a row
-abbrev pub shown_at : AggregateCells → ℕ → Option ℤ
-shown_at Every n = Some (pos 0)
-shown_at (Values nulls values) n = cond (has nulls n) None (Some (slice_index_or values n (pos 0)))
-shown_at Missing n = None

@@ -77,6 +77,10 @@ as_list (Some z) = z ∷ []
 abbrev pub AreShown : Aggregate → Vector → List Bool → List Bool → List ℤ → Type 0
 AreShown a v mask rows values = (n : ℕ) → n < 1024 → cond (has mask n) (aggregate_cell (row_at v n) a) None ≡ cond (has rows n) (Some (slice_index_or values n (pos 0))) None
 
+-- at which rows of a mask an aggregate has a value
+abbrev pub AreCounted : Aggregate → Vector → List Bool → List Bool → Type 0
+AreCounted a v mask rows = (n : ℕ) → n < 1024 → is_some (cond (has mask n) (aggregate_cell (row_at v n) a) None) ≡ has rows n
+
 -- how many columns GROUP BY and the set functions of a query mention
 abbrev pub plan_mentions : PlanShape → ℕ
 plan_mentions plan = length plan.grouping + sum_by aggregate_mentions plan.aggregates

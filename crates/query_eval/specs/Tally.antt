@@ -33,4 +33,4 @@ IsTally values (Count count) = length values ≤ 2 ^ 32 → count ≡ length val
 IsTally values (Sum sums) = AreTold values sums
 IsTally values (Least value) = value ≡ least values
 IsTally values (Greatest value) = value ≡ greatest values
-IsTally values (Distinct seen) = (z : ℤ) → list_any (int_eq z) seen.keys ≡ list_any (int_eq z) values
+IsTally values (Distinct seen) = (z : ℤ) → list_any (int_eq z) seen.value.keys ≡ list_any (int_eq z) values

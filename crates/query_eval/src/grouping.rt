@@ -8,7 +8,6 @@ ghost use Rattle.query_eval.specs.Vector.{IsThere, vector_at};
 
 use crate::aggregate::Aggregate;
 use crate::columns::Columns;
-use crate::decoded_columns::{decode_aggregates, decode_keys};
 use crate::kept::KeptVector;
 use crate::places::Places;
 use crate::placing::place_rows;
@@ -22,6 +21,13 @@ use std::alloc::{AllocError, Global};
 pub struct Groups {
     pub places: Places,
     pub tallies: Vec<Vec<Tally>>,
+}
+
+/// Room for what is known of a vector's rows, one vector after another: a decoded column, and the places of the rows' groups.
+#[derive(Drop)]
+struct Room {
+    values: [i64; 1024],
+    places: [usize; 1024],
 }
 
 /// No tallies yet, for each aggregate.
@@ -54,6 +60,7 @@ fn group_vector<C: Columns>(
     plan: &Plan,
     groups: &mut Groups,
     kept: &KeptVector,
+    room: &mut Room,
 ) -> Result<(), AllocError>
     requires { IsThere (C.state columns.old) kept.now.batch kept.now.vector }
     ensures index { OnOk result (IsIndex groups.old.places → IsIndex groups.new.places) }
@@ -62,25 +69,29 @@ fn group_vector<C: Columns>(
     ensures state { C.state columns.new ≡ C.state columns.old }
     ensures passes { OnOk result (C.passes columns.new ≤ C.passes columns.old + plan_mentions plan.now) }
 {
-    let keys = decode_keys(alloc, columns, kept.batch, kept.vector, plan.grouping())?;
-    let cells = decode_aggregates(alloc, columns, kept.batch, kept.vector, plan.aggregates())?;
-    let mut places = [0; 1024];
     place_rows(
         alloc,
+        columns,
+        kept.batch,
+        kept.vector,
+        plan.grouping(),
         &mut groups.places,
-        keys.as_slice(),
         &kept.rows,
-        &mut places,
+        &mut room.values,
+        &mut room.places,
     )?;
     let count = groups.places.len();
     add_columns(
         alloc,
-        &mut groups.tallies,
+        columns,
+        kept.batch,
+        kept.vector,
         plan.aggregates(),
-        cells.as_slice(),
-        &places,
+        &mut groups.tallies,
+        &room.places,
         count,
         &kept.rows,
+        &mut room.values,
     )?;
     Ok(())
 }
@@ -100,8 +111,12 @@ pub fn group_vectors<C: Columns>(
     ensures passes { IfOk result (λ _. C.passes columns.new ≤ C.passes columns.old + plan_mentions plan.now * length kept.now) }
 {
     let mut groups = Groups::none(alloc, plan.aggregates())?;
+    let mut room = Room {
+        values: [0; 1024],
+        places: [0; 1024],
+    };
     for vector in kept {
-        group_vector(alloc, columns, plan, &mut groups, vector)?;
+        group_vector(alloc, columns, plan, &mut groups, vector, &mut room)?;
     }
     Ok(groups)
 }

@@ -31,6 +31,7 @@ mod side;
 mod table_fields;
 mod taking;
 mod tally;
+mod tallying;
 #[cfg(test)]
 mod tests;
 mod where_masks;
@@ -43,7 +44,6 @@ pub use column_folds::{
 };
 pub use columns::Columns;
 pub use decoded::{Decoded, decode};
-pub use decoded_columns::AggregateCells;
 pub use distinct::distinct_values;
 pub use field_values::{mean_field, sum_field, values_field, whole_field};
 pub use finished::{FinishedGroup, Key};

@@ -83,6 +83,7 @@ impl Places {
     }
 
     /// The place of the group of a cell in the one grouping column, by a search.
+    #[inline(never)]
     fn of_cell(&mut self, alloc: Global, cell: Option<i128>) -> Result<usize, AllocError>
         ensures index { IfOk result (λ place. IsIndex self.old → IsIndex self.new) }
         ensures taken { IfOk result (λ place. IsTakenIn (cell ∷ []) place self.old.index self.new.index) }

@@ -27,6 +27,7 @@ pub fn side_of<C: Columns>(columns: &C, operand: &Operand) -> Side
     ensures column { HasColumn (C.table columns.now) result }
     ensures mentions { side_mentions result ≤ operand_mentions operand.now }
 {
+    // `batches` ensures that the table and the state are within their limits.
     let _batches = columns.batches();
     match operand {
         Operand::Column(column) => match place_of(columns.schema(), column) {

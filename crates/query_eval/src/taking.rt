@@ -1,22 +1,21 @@
 //! The tallies of an aggregate, a group each, as the rows of a vector come.
-ghost use Rattle.std.specs.Prelude.{◌≡◌, ◌==◌, ◌<◌, ◌≤◌, ◌+◌, ◌++◌, ◌∷◌, [], ℕ, List, Bool, ℤ, cond, length, pos, slice_index_or, OnOk};
+ghost use Rattle.std.specs.Prelude.{◌≡◌, ◌<◌, ◌≤◌, ◌+◌, ◌++◌, [], ℕ, List, Bool, length, slice_index_or, sum_by, OnOk};
 ghost use Rattle.std.specs.Global.{Vec as Items};
-ghost use Rattle.std.specs.Int.{bit_at};
-ghost use Rattle.transpose_order.specs.Mask.{has};
-ghost use Rattle.query_eval.specs.Decoded.{shown_at};
-ghost use Rattle.query_eval.specs.Grouping.{AreShown, IsHeld, IsTaken, aggregate_cell};
+ghost use Rattle.query_eval.specs.Grouping.{IsHeld, IsTaken};
 ghost use Rattle.query_eval.specs.Places.{rows_placed};
+ghost use Rattle.query_eval.specs.QueryMentions.{aggregate_mentions};
 ghost use Rattle.table_model.specs.State.{Cells};
-ghost use Rattle.query_eval.specs.Tally.{IsTally, kind_of};
 ghost use Rattle.query_eval.specs.TallyKinds.{aggregate_kind, fold_kind};
-ghost use Rattle.query_eval.specs.Vector.{Vector, row_at};
+ghost use Rattle.query_eval.specs.Vector.{IsThere, vector_at};
 ghost use Rattle.query_eval.specs.declared.aggregate.Aggregate.{Aggregate as AnAggregate};
+ghost use Rattle.query_eval.specs.declared.aggregate.Aggregate.TheVariants.{Folded};
+ghost use Rattle.table_model.specs.declared.query.Fold.{Fold as AFold};
 ghost use Rattle.query_eval.specs.declared.tally.Tally.{Tally as ATally};
 
 use crate::aggregate::Aggregate;
-use crate::bits::is_set;
-use crate::decoded_columns::AggregateCells;
+use crate::columns::Columns;
 use crate::tally::{Tally, TallyKind};
+use crate::tallying::{add_rows, count_rows, sum_rows};
 use std::alloc::{AllocError, Global};
 use table_model::Fold;
 use transpose_order::Mask;
@@ -59,134 +58,123 @@ fn add_groups(
 {
     let missing = count.saturating_sub(tallies.len());
     for _ in 0..missing {
-        tallies.push(Tally::new(alloc, aggregate_kind(aggregate)))?;
+        let tally = Tally::new(alloc, aggregate_kind(aggregate))?;
+        tallies.push(tally)?;
     }
     Ok(())
 }
 
-/// Takes a value into the tally at a place.
-fn add_value(tallies: &mut Vec<Tally>, place: usize, value: i64) -> Result<(), AllocError>
-    ensures size { OnOk result (length tallies.new.items ≡ length tallies.old.items) }
-    ensures values { OnOk result ((g : ℕ) (t : ATally) (values : List ℤ) → g < length tallies.old.items → IsTally values (slice_index_or tallies.old.items g t) → IsTally (values ++ cond (place == g) (value ∷ []) []) (slice_index_or tallies.new.items g t)) }
-    ensures kind { OnOk result ((g : ℕ) (t : ATally) → g < length tallies.old.items → kind_of (slice_index_or tallies.new.items g t) ≡ kind_of (slice_index_or tallies.old.items g t)) }
-{
-    if place < tallies.len() {
-        tallies[place].add(value)?;
-    }
-    Ok(())
-}
-
-/// Takes the values at the rows of a word of a mask into the tallies at their places: bit `b` is row `first + b`.
-fn add_word(
+/// Takes the values of a column at the rows of a mask into the tallies at their places, in at most one pass: COUNT needs the
+/// nulls alone. A place past the last column has no value. `values` is room for the decoded column.
+fn add_values<C: Columns>(
+    columns: &mut C,
+    batch: usize,
+    vector: usize,
+    column: usize,
+    kind: TallyKind,
     tallies: &mut Vec<Tally>,
-    values: &[i64; 1024],
-    places: &[usize; 1024],
-    word: u64,
-    first: usize,
-) -> Result<(), AllocError>
-    requires { first + 64 ≤ 1024 }
-    ensures size { OnOk result (length tallies.new.items ≡ length tallies.old.items) }
-    ensures held { OnOk result ((a : AnAggregate) (v : Vector) (mask rows : List Bool) → AreShown a v mask rows values.now → ((b : ℕ) → b < 64 → (bit_at word b == 1) ≡ has rows (first + b)) → (g : ℕ) (t : ATally) (taken : List Cells) → g < length tallies.old.items → IsHeld (taken ++ rows_placed first v mask places.now g) a (slice_index_or tallies.old.items g t) → IsHeld (taken ++ rows_placed (first + 64) v mask places.now g) a (slice_index_or tallies.new.items g t)) }
-{
-    for bit in 0..64 {
-        if is_set(word, bit) {
-            let row = first + bit;
-            add_value(tallies, places[row], values[row])?;
-        }
-    }
-    Ok(())
-}
-
-/// Takes the values at the rows of a mask into the tallies at their places, 64 rows at a time.
-fn add_values(
-    tallies: &mut Vec<Tally>,
-    values: &[i64; 1024],
-    places: &[usize; 1024],
-    rows: &Mask,
-) -> Result<(), AllocError>
-    ensures size { OnOk result (length tallies.new.items ≡ length tallies.old.items) }
-    ensures held { OnOk result ((a : AnAggregate) (v : Vector) (mask : List Bool) → AreShown a v mask rows.now values.now → (g : ℕ) (t : ATally) (taken : List Cells) → g < length tallies.old.items → IsHeld taken a (slice_index_or tallies.old.items g t) → IsHeld (taken ++ rows_placed 1024 v mask places.now g) a (slice_index_or tallies.new.items g t)) }
-{
-    let words = rows.words();
-    for index in 0..16 {
-        add_word(tallies, values, places, words[index], 64 * index)?;
-    }
-    Ok(())
-}
-
-/// The value 0 at each row.
-fn zeros() -> [i64; 1024]
-    ensures { (n : ℕ) → n < 1024 → slice_index_or result n (pos 0) ≡ pos 0 }
-{
-    [0; 1024]
-}
-
-/// Takes the cells of the rows of a mask into the tallies at their places.
-fn add_cells(
-    tallies: &mut Vec<Tally>,
-    cells: &AggregateCells,
     places: &[usize; 1024],
     mask: &Mask,
+    values: &mut [i64; 1024],
 ) -> Result<(), AllocError>
+    requires { IsThere (C.state columns.old) batch vector }
     ensures size { OnOk result (length tallies.new.items ≡ length tallies.old.items) }
-    ensures held { OnOk result ((a : AnAggregate) (v : Vector) → ((n : ℕ) → n < 1024 → shown_at cells.now n ≡ aggregate_cell (row_at v n) a) → (g : ℕ) (t : ATally) (rows : List Cells) → g < length tallies.old.items → IsHeld rows a (slice_index_or tallies.old.items g t) → IsHeld (rows ++ rows_placed 1024 v mask.now places.now g) a (slice_index_or tallies.new.items g t)) }
+    ensures held { OnOk result ((fold : AFold) (distinct : Bool) → kind ≡ fold_kind distinct fold → (g : ℕ) (t : ATally) (taken : List Cells) → g < length tallies.old.items → IsHeld taken (Folded fold distinct column) (slice_index_or tallies.old.items g t) → IsHeld (taken ++ rows_placed 1024 (vector_at (C.state columns.old) batch vector) mask.now places.now g) (Folded fold distinct column) (slice_index_or tallies.new.items g t)) }
+    ensures table { C.table columns.new ≡ C.table columns.old }
+    ensures state { C.state columns.new ≡ C.state columns.old }
+    ensures passes { C.passes columns.new ≤ C.passes columns.old + 1 }
 {
-    match cells {
-        AggregateCells::Every => {
-            let values = zeros();
-            add_values(tallies, &values, places, mask)?;
+    // `batches` ensures that the table and the state are within their limits.
+    let _batches = columns.batches();
+    if columns.schema().column_list().len() <= column {
+        return Ok(());
+    }
+    let nulls = columns.nulls(batch, column, vector);
+    let rows = mask.and_not(&nulls);
+    match kind {
+        TallyKind::Count => count_rows(tallies, places, &rows),
+        TallyKind::Sum => {
+            columns.decode_into(batch, column, vector, values);
+            sum_rows(tallies, values, places, &rows);
         }
-        AggregateCells::Values { nulls, values } => {
-            add_values(tallies, values, places, &mask.and_not(nulls))?;
-        }
-        AggregateCells::Missing => {
-            let values = zeros();
-            add_values(tallies, &values, places, &Mask::none())?;
+        TallyKind::Least | TallyKind::Greatest | TallyKind::Distinct => {
+            columns.decode_into(batch, column, vector, values);
+            add_rows(tallies, values, places, &rows)?;
         }
     }
     Ok(())
 }
 
 /// Takes the rows of a mask into the tallies of an aggregate, of which there are so many then.
-fn add_column(
+fn add_column<C: Columns>(
     alloc: Global,
-    tallies: &mut Vec<Tally>,
+    columns: &mut C,
+    batch: usize,
+    vector: usize,
     aggregate: Aggregate,
-    cells: &AggregateCells,
+    tallies: &mut Vec<Tally>,
     places: &[usize; 1024],
     count: usize,
     mask: &Mask,
+    values: &mut [i64; 1024],
 ) -> Result<(), AllocError>
-    ensures { OnOk result ((v : Vector) → ((n : ℕ) → n < 1024 → shown_at cells.now n ≡ aggregate_cell (row_at v n) aggregate) → IsTaken aggregate v mask.now places.now count tallies.old.items tallies.new.items) }
+    requires { IsThere (C.state columns.old) batch vector }
+    ensures taken { OnOk result (IsTaken aggregate (vector_at (C.state columns.old) batch vector) mask.now places.now count tallies.old.items tallies.new.items) }
+    ensures table { C.table columns.new ≡ C.table columns.old }
+    ensures state { C.state columns.new ≡ C.state columns.old }
+    ensures passes { C.passes columns.new ≤ C.passes columns.old + aggregate_mentions aggregate }
 {
     add_groups(alloc, tallies, aggregate, count)?;
-    add_cells(tallies, cells, places, mask)?;
+    match aggregate {
+        Aggregate::Rows => count_rows(tallies, places, mask),
+        Aggregate::Folded {
+            fold,
+            distinct,
+            place,
+        } => {
+            let kind = fold_kind(distinct, fold);
+            add_values(
+                columns, batch, vector, place, kind, tallies, places, mask, values,
+            )?;
+        }
+    }
     Ok(())
 }
 
-/// Takes the rows of a mask into the tallies of some aggregates, of which there are so many each then.
-pub fn add_columns(
+/// Takes the rows of a mask into the tallies of some aggregates, of which there are so many each then. Each mention of a column
+/// takes at most one pass. `values` is room for a decoded column.
+pub fn add_columns<C: Columns>(
     alloc: Global,
-    tallies: &mut Vec<Vec<Tally>>,
+    columns: &mut C,
+    batch: usize,
+    vector: usize,
     aggregates: &[Aggregate],
-    cells: &[AggregateCells],
+    tallies: &mut Vec<Vec<Tally>>,
     places: &[usize; 1024],
     count: usize,
     mask: &Mask,
+    values: &mut [i64; 1024],
 ) -> Result<(), AllocError>
+    requires { IsThere (C.state columns.old) batch vector }
     ensures size { OnOk result (length tallies.new.items ≡ length tallies.old.items) }
-    ensures taken { OnOk result ((i : ℕ) (a : AnAggregate) (d : AggregateCells) (c : Items ATally) (v : Vector) → i < length aggregates.now → i < length cells.now → i < length tallies.old.items → ((n : ℕ) → n < 1024 → shown_at (slice_index_or cells.now i d) n ≡ aggregate_cell (row_at v n) (slice_index_or aggregates.now i a)) → IsTaken (slice_index_or aggregates.now i a) v mask.now places.now count (slice_index_or tallies.old.items i c).items (slice_index_or tallies.new.items i c).items) }
+    ensures taken { OnOk result ((i : ℕ) (a : AnAggregate) (c : Items ATally) → i < length aggregates.now → i < length tallies.old.items → IsTaken (slice_index_or aggregates.now i a) (vector_at (C.state columns.old) batch vector) mask.now places.now count (slice_index_or tallies.old.items i c).items (slice_index_or tallies.new.items i c).items) }
+    ensures table { C.table columns.new ≡ C.table columns.old }
+    ensures state { C.state columns.new ≡ C.state columns.old }
+    ensures passes { C.passes columns.new ≤ C.passes columns.old + sum_by aggregate_mentions aggregates.now }
 {
-    let columns = aggregates.len().min(cells.len()).min(tallies.len());
-    for i in 0..columns {
+    let named = aggregates.len().min(tallies.len());
+    for i in 0..named {
         add_column(
             alloc,
-            &mut tallies[i],
+            columns,
+            batch,
+            vector,
             aggregates[i],
-            &cells[i],
+            &mut tallies[i],
             places,
             count,
             mask,
+            values,
         )?;
     }
     Ok(())

@@ -1,5 +1,5 @@
 //! Set functions of a group, value by value.
-ghost use Rattle.std.specs.Prelude.{◌≡◌, ◌≤◌, ◌^◌, ◌++◌, ◌∷◌, [], ◌+ℤ◌, ℤ, Bool, List, length, IfOk, OnOk, FitsSigned, cond, false, true};
+ghost use Rattle.std.specs.Prelude.{◌≡◌, ◌≤◌, ◌^◌, ◌++◌, ◌∷◌, [], ◌+ℤ◌, ℤ, Bool, List, length, pos, IfOk, OnOk, FitsSigned, cond, false, true};
 ghost use Rattle.std.specs.List.{list_any};
 ghost use Rattle.std.specs.Ordering.{int_eq};
 ghost use Rattle.std.specs.Int.{w128};
@@ -53,8 +53,8 @@ pub enum Tally {
     Least(Option<i64>),
     /// The greatest value, `None` of no values.
     Greatest(Option<i64>),
-    /// The values, each once, under DISTINCT.
-    Distinct(HashSet<i64>),
+    /// The values, each once, under DISTINCT: on the heap, so that the other tallies stay small.
+    Distinct(Box<HashSet<i64>>),
 }
 
 /// The sum of two values where 128 bits hold it, else the first.
@@ -65,6 +65,13 @@ fn added(a: i128, b: i64) -> i128
         None => a,
         Some(sum) => sum,
     }
+}
+
+/// A value where one comes, else 0.
+fn value_or_zero(value: i64, comes: bool) -> i64
+    ensures { result ≡ cond comes value (pos 0) }
+{
+    if comes { value } else { 0 }
 }
 
 /// Adds a value to a set.
@@ -82,6 +89,15 @@ impl Sums {
     {
         self.count = self.count.saturating_add(1);
         self.sum = added(self.sum, value);
+    }
+
+    /// Takes in one value more where one comes. There is no branch on that, since at columns with nulls nothing foretells it.
+    fn add_where(&mut self, value: i64, comes: bool)
+        ensures { (values : List ℤ) → AreTold values self.old → AreTold (values ++ cond comes (value ∷ []) []) self.new }
+    {
+        let more = value_or_zero(value, comes);
+        self.count = self.count.saturating_add(u64::from(comes));
+        self.sum = added(self.sum, more);
     }
 
     /// AVG of the values, where the fold is that, and else SUM.
@@ -122,17 +138,40 @@ fn set_field(alloc: Global, fold: Fold, seen: &HashSet<i64>) -> Result<Field, Al
 }
 
 impl Tally {
-    /// The set function of no values. It takes no memory.
-    pub fn new(alloc: Global, kind: TallyKind) -> Tally
-        ensures values { IsTally [] result }
-        ensures kind { kind_of result ≡ kind }
+    /// The set function of no values. DISTINCT alone takes memory, for its set's place.
+    pub fn new(alloc: Global, kind: TallyKind) -> Result<Tally, AllocError>
+        ensures values { IfOk result (λ tally. IsTally [] tally) }
+        ensures kind { IfOk result (λ tally. kind_of tally ≡ kind) }
     {
         match kind {
-            TallyKind::Count => Tally::Count(0),
-            TallyKind::Sum => Tally::Sum(Sums { count: 0, sum: 0 }),
-            TallyKind::Least => Tally::Least(None),
-            TallyKind::Greatest => Tally::Greatest(None),
-            TallyKind::Distinct => Tally::Distinct(HashSet::new(alloc)),
+            TallyKind::Count => Ok(Tally::Count(0)),
+            TallyKind::Sum => Ok(Tally::Sum(Sums { count: 0, sum: 0 })),
+            TallyKind::Least => Ok(Tally::Least(None)),
+            TallyKind::Greatest => Ok(Tally::Greatest(None)),
+            TallyKind::Distinct => {
+                let seen = Box::new(alloc, HashSet::new(alloc))?;
+                Ok(Tally::Distinct(seen))
+            }
+        }
+    }
+
+    /// Counts one value more where one comes. A tally of another kind stays as it is.
+    pub fn count_where(&mut self, comes: bool)
+        ensures values { (values : List ℤ) (z : ℤ) → kind_of self.old ≡ kinds.Count → IsTally values self.old → IsTally (values ++ cond comes (z ∷ []) []) self.new }
+        ensures kind { kind_of self.new ≡ kind_of self.old }
+    {
+        if let Tally::Count(count) = self {
+            *count = count.saturating_add(u64::from(comes));
+        }
+    }
+
+    /// Takes one value more into a sum where one comes. A tally of another kind stays as it is.
+    pub fn sum_where(&mut self, value: i64, comes: bool)
+        ensures values { (values : List ℤ) → kind_of self.old ≡ kinds.Sum → IsTally values self.old → IsTally (values ++ cond comes (value ∷ []) []) self.new }
+        ensures kind { kind_of self.new ≡ kind_of self.old }
+    {
+        if let Tally::Sum(sums) = self {
+            sums.add_where(value, comes);
         }
     }
 

@@ -1,30 +1,43 @@
 -- One aggregate more.
-use Rattle.std.proofs.Common.{rules, ◌≡◌, ◌<◌, length, get_or, arith}
+use Rattle.std.proofs.Common.{rules, ◌≡◌, ◌<◌, length, get_or, refl, subst, ◌∙◌, arith}
+use Rattle.std.proofs.lemmas.List.Sums.{sum_by_more, sum_by-take-le}
+use Rattle.table_model.specs.State.{State}
+use Rattle.query_eval.specs.Grouping.{IsTaken}
+use Rattle.query_eval.specs.QueryMentions.{aggregate_mentions}
+use Rattle.query_eval.specs.Vector.{vector_at}
+use Rattle.query_eval.specs.declared.aggregate.Aggregate.TheVariants.{Rows}
 use Rattle.query_eval.proofs.GroupingLemmas.{columns_ahead, columns_size, columns_taken}
 use Rattle.query_eval.proofs.taking.add_columns.Goals as goal
 
 pub loop-i-preserved : goal.loop-i-preserved
-loop-i-preserved c =
+loop-i-preserved g c =
     let i = c.loop-i.i in
     let inv = c.loop-i.invariant in
     let named = c.args.aggregates.now in
-    let cells = c.args.cells.now in
     let old = c.args.tallies.now.items in
     let now = c.loop-i.tallies.items in
     let m = c.index_mut.result.now in
     let u = c.add_column.new.tallies in
     let mask = c.args.mask.now in
     let places = c.args.places.now in
-    let ln : i < length named = omega (arith, c.loop-i-test.true, c.min.ensures, c.len.ensures, c.min-columns.ensures) in
-    let lc : i < length cells = omega (arith, c.loop-i-test.true, c.min.ensures, c.len.ensures, c.min-columns.ensures) in
-    let lo : i < length old = omega (arith, c.loop-i-test.true, c.min.ensures, c.len.ensures, c.min-columns.ensures) in
+    let v = vector_at (g.C.Columns.state c.args.columns.now) c.args.batch c.args.vector in
+    let ln : i < length named = omega (arith, c.loop-i-test.true, c.len.ensures, c.min-named.ensures) in
+    let lo : i < length old = omega (arith, c.loop-i-test.true, c.len.ensures, c.min-named.ensures) in
     let mine : m ≡ get_or now i m = search rules in
+    let more = sum_by_more aggregate_mentions named i Rows ln in
+    let one = subst (λ (x : State). IsTaken (get_or named i Rows) (vector_at x c.args.batch c.args.vector) mask places c.args.count m.items u.items) inv.state c.in_ok-add_column.ensures.taken in
     record {
-      size = columns_size named cells mask places c.args.count i old now m u c.index-cells-i.result inv.size ln lc lo inv.ahead;
-      taken = columns_taken named cells mask places c.args.count i old now m u c.index-cells-i.result inv.size ln lc lo inv.ahead mine c.index-cells-i.is inv.taken c.in_ok-add_column.ensures;
-      ahead = columns_ahead named cells mask places c.args.count i old now m u c.index-cells-i.result inv.size ln lc lo inv.ahead;
+      size = columns_size named v mask places c.args.count i old now m u inv.size ln lo inv.ahead;
+      taken = columns_taken named v mask places c.args.count i old now m u inv.size ln lo inv.ahead mine inv.taken one;
+      ahead = columns_ahead named v mask places c.args.count i old now m u inv.size ln lo inv.ahead;
+      table = c.add_column.ensures.table ∙ inv.table;
+      state = c.add_column.ensures.state ∙ inv.state;
+      passes = omega (arith, more, c.add_column.ensures.passes, inv.passes);
     }
 
 pub returns-clause-taken : goal.returns-clause-taken
-returns-clause-taken c = λ i a d col v la lc lo shown.
-    c.loop-i.invariant.taken i a d col v (omega (arith, la, lc, lo, c.loop-i-test.false, c.min.ensures, c.len.ensures, c.min-columns.ensures)) shown
+returns-clause-taken g c = λ i a col la lo.
+    c.loop-i.invariant.taken i a col (omega (arith, la, lo, c.loop-i-test.false, c.len.ensures, c.min-named.ensures))
+
+pub returns-clause-passes : goal.returns-clause-passes
+returns-clause-passes g c = omega (arith, c.loop-i.invariant.passes, sum_by-take-le aggregate_mentions c.args.aggregates.now c.loop-i.i)

@@ -9,7 +9,7 @@ loop-preserved c =
     let old = c.args.tallies.now.items in
     let now = c.loop.tallies.items in
     record {
-      size = omega (arith, inv.size, ap length c.in_ok-push.ensures.items, length-append now (c.new.result ∷ []));
-      known = known_push old now c.push.new.self.items c.new.result c.in_ok-push.ensures.items (omega (arith, inv.size)) inv.known;
-      fresh = fresh_push (length old) c.args.aggregate now c.push.new.self.items c.new.result c.in_ok-push.ensures.items (held_none c.args.aggregate c.new.result c.new.ensures.values (c.new.ensures.kind ∙ c.aggregate_kind.ensures)) inv.fresh;
+      size = omega (arith, inv.size, ap length c.in_ok-push.ensures.items, length-append now (c.in_ok-tally.tally ∷ []));
+      known = known_push old now c.push.new.self.items c.in_ok-tally.tally c.in_ok-push.ensures.items (omega (arith, inv.size)) inv.known;
+      fresh = fresh_push (length old) c.args.aggregate now c.push.new.self.items c.in_ok-tally.tally c.in_ok-push.ensures.items (held_none c.args.aggregate c.in_ok-tally.tally c.in_ok-tally.ensures.values (c.in_ok-tally.ensures.kind ∙ c.aggregate_kind.ensures)) inv.fresh;
     }

@@ -3,7 +3,7 @@ use Rattle.std.proofs.Common.{rules, FitsSigned, w64, ◌≡◌, ◌∷◌, [], 
 use Rattle.std.proofs.lemmas.Int.{to_z-of_z}
 use Rattle.query_eval.specs.Tally.{IsTally}
 use Rattle.query_eval.proofs.GroupingLemmas.{cell_values}
-use Rattle.query_eval.proofs.taking.add_value.Goals as goal
+use Rattle.query_eval.proofs.tallying.add_value.Goals as goal
 
 pub returns-in_ok-add-clause-values : goal.returns-in_ok-add-clause-values
 returns-in_ok-add-clause-values c = λ g t values l h.
