@@ -234,11 +234,14 @@ read_primary clause inner end ts =
     (λ rest. inner rest >>= λ r. read_sign sign.CloseParen end r.1 >>= λ after. Ok (in_parentheses r.0, after))
     (read_predicate clause end ts >>= λ r. Ok (says r.0, r.1))
 
+-- a test whose primary was read: with IS and a truth value behind it, or without
+abbrev pub read_is : Formula → ℕ → Reader Formula
+read_is primary end ts = choose (taken sign.Is ts) (λ rest. read_asked end rest >>= λ r. Ok (is_truth primary r.0, r.1)) (Ok (primary, ts))
+
 -- a test
 unfoldable pub read_test : Clause → Reader Formula → ℕ → Reader Formula
 read_test clause inner end ts =
-    read_primary clause inner end ts >>= λ p.
-    choose (taken sign.Is p.1) (λ rest. read_asked end rest >>= λ r. Ok (is_truth p.0 r.0, r.1)) (Ok (p.0, p.1))
+    read_primary clause inner end ts >>= λ p. read_is p.0 end p.1
 
 -- a factor
 unfoldable pub read_factor : Clause → Reader Formula → ℕ → Reader Formula
@@ -284,17 +287,27 @@ read_columns end ts = read_many (read_name end) sign.Comma one_more [] ts
 unfoldable pub read_grouping : ℕ → Reader (List ColumnMention)
 read_grouping end ts = choose (taken sign.Group ts) (λ rest. read_sign sign.By end rest >>= read_columns end) (Ok ([], ts))
 
+-- the clauses of a query with these items and this table, in whose conditions so many levels of parentheses may open
+abbrev pub read_clauses : List Item → List ℕ → ℕ → ℕ → Reader QueryShape
+read_clauses items table levels end ts =
+    read_filter levels end ts >>= λ filter.
+    read_grouping end filter.1 >>= λ grouping.
+    read_having levels end grouping.1 >>= λ having.
+    Ok (record { items = items; table = table; filter = filter.0; grouping = grouping.0; having = having.0 }, having.1)
+
+-- the table's name and the clauses of a query with these items
+abbrev pub read_table : List Item → ℕ → ℕ → Reader QueryShape
+read_table items levels end ts =
+    read_sign sign.From end ts >>= λ name.
+    read_name end name >>= λ table.
+    read_clauses items table.0.name levels end table.1
+
 -- a query, in whose conditions so many levels of parentheses may open
 unfoldable pub read_query : ℕ → ℕ → Reader QueryShape
 read_query levels end ts =
     read_sign sign.Select end ts >>= λ list.
     read_items end list >>= λ items.
-    read_sign sign.From end items.1 >>= λ name.
-    read_name end name >>= λ table.
-    read_filter levels end table.1 >>= λ filter.
-    read_grouping end filter.1 >>= λ grouping.
-    read_having levels end grouping.1 >>= λ having.
-    Ok (record { items = items.0; table = table.0.name; filter = filter.0; grouping = grouping.0; having = having.0 }, having.1)
+    read_table items.0 levels end items.1
 
 -- a query behind which no token is left
 abbrev pub whole : {V : Type 0} → ℕ → V × List Token → Result V Refusal

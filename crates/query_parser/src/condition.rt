@@ -1,7 +1,7 @@
 //! Conditions: predicates under AND, OR, NOT, IS TRUE and the like, and parentheses.
 ghost use Rattle.std.specs.Prelude.{◌≡◌, ◌<◌, ◌≤◌, length, IfOk, IfSome, MatchOption, Some, None};
 ghost use Rattle.table_model.specs.Query.{formula_of_primary, formula_of_test, formula_of_factor, formula_of_term};
-ghost use Rattle.query_parser.specs.Descent.{Reads, read_condition, read_term, read_factor, read_test, read_primary, read_asked, read_truth_word, nested};
+ghost use Rattle.query_parser.specs.Descent.{Reads, read_condition, read_term, read_factor, read_test, read_is, read_primary, read_asked, read_truth_word, nested};
 
 use crate::cursor::{Read, after, expect, syntax};
 use crate::predicate::{Clause, predicate};
@@ -46,8 +46,8 @@ fn term<'t, 'a>(
     ensures reads { Reads (λ r. (formula_of_term r.0, r.1.now)) result (read_term clause (nested clause levels end) end tokens.now) }
     ensures shorter { IfOk result (λ r. length r.1.now < length tokens.now) }
 {
-    let (first, mut rest) = factor(alloc, clause, levels, tokens, end)?;
     let mut factors = Vec::with_capacity(alloc, 1)?;
+    let (first, mut rest) = factor(alloc, clause, levels, tokens, end)?;
     factors.push(first)?;
     while let Some(next) = after(rest, Sign::And) {
         let (factor, left) = factor(alloc, clause, levels, next, end)?;
@@ -108,18 +108,21 @@ fn test<'t, 'a>(
     ensures shorter { IfOk result (λ r. length r.1.now < length tokens.now) }
 {
     let (primary, rest) = primary(alloc, clause, levels, tokens, end)?;
-    match after(rest, Sign::Is) {
+    truth_test(primary, rest, end)
+}
+
+/// `[IS [NOT] (TRUE | FALSE | UNKNOWN)]`, behind a primary
+fn truth_test<'t, 'a>(primary: Primary, tokens: &'t [Token<'a>], end: u64) -> Read<'t, 'a, Test>
+    ensures reads { Reads (λ r. (formula_of_test r.0, r.1.now)) result (read_is (formula_of_primary primary) end tokens.now) }
+    ensures shorter { IfOk result (λ r. length r.1.now ≤ length tokens.now) }
+{
+    match after(tokens, Sign::Is) {
         Some(rest) => {
             let (is, rest) = asked(rest, end)?;
-            Ok((
-                Test {
-                    primary,
-                    is: Some(is),
-                },
-                rest,
-            ))
+            let is = Some(is);
+            Ok((Test { primary, is }, rest))
         }
-        None => Ok((Test { primary, is: None }, rest)),
+        None => Ok((Test { primary, is: None }, tokens)),
     }
 }
 

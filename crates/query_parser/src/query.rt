@@ -1,6 +1,6 @@
 //! Whole queries.
 ghost use Rattle.std.specs.Prelude.{◌≡◌, ℕ, IfOk, Err, []};
-ghost use Rattle.query_parser.specs.Descent.{Reads, read_query, read_filter, read_having, read_grouping, read_columns, query_of};
+ghost use Rattle.query_parser.specs.Descent.{Reads, read_query, read_table, read_clauses, read_filter, read_having, read_grouping, read_columns, read_whole, query_of};
 ghost use Rattle.query_parser.specs.Grammar.{IsQuery};
 ghost use Rattle.query_parser.specs.Limits.{TakesQueries, IsNoQuery};
 ghost use Rattle.query_parser.specs.Stack.{Finds, text_fault};
@@ -13,7 +13,7 @@ use crate::predicate::Clause;
 use crate::select::items;
 use crate::token::{Sign, Token};
 use std::alloc::Global;
-use table_model::{ColumnMention, Condition, Query, Refusal};
+use table_model::{ColumnMention, Condition, Item, Name, Query, Refusal};
 
 /// The most parentheses that may be open at once round conditions.
 const MAX_DEPTH: usize = 64;
@@ -34,13 +34,21 @@ pub fn parse(alloc: Global, text: &str) -> Result<Query, Refusal>
 }
 
 /// The query that the text is, read by descent.
-#[tactic(auto, unfolding(crate::specs::Descent::query_of, crate::specs::Descent::read_whole))]
+#[tactic(auto, unfolding(crate::specs::Descent::query_of))]
 fn read_text(alloc: Global, text: &str) -> Result<Query, Refusal>
     ensures { Reads (λ q. q) result (query_of text.now) }
 {
     let tokens = tokens_of(alloc, text.as_bytes())?;
     let end = text.len() as u64;
-    let (query, rest) = query(alloc, &tokens, end)?;
+    whole_query(alloc, &tokens, end)
+}
+
+/// The query that the tokens are, all of them.
+#[tactic(auto, unfolding(crate::specs::Descent::read_whole))]
+fn whole_query(alloc: Global, tokens: &[Token<'_>], end: u64) -> Result<Query, Refusal>
+    ensures { Reads (λ q. q) result (read_whole end tokens.now) }
+{
+    let (query, rest) = query(alloc, tokens, end)?;
     if rest.is_empty() {
         Ok(query)
     } else {
@@ -48,22 +56,48 @@ fn read_text(alloc: Global, text: &str) -> Result<Query, Refusal>
     }
 }
 
-/// The query that the tokens begin with.
+// A query is read by three functions, since what is proved of one grows with the square of the steps that it may stop at.
+/// `SELECT item {"," item}`, and the rest of the query that the tokens begin with.
 #[tactic(auto, unfolding(crate::specs::Descent::read_query))]
 fn query<'t, 'a>(alloc: Global, tokens: &'t [Token<'a>], end: u64) -> Read<'t, 'a, Query>
     ensures { Reads (λ r. (r.0, r.1.now)) result (read_query 64 end tokens.now) }
 {
     let rest = expect(tokens, end, Sign::Select)?;
     let (items, rest) = items(alloc, rest, end)?;
-    let rest = expect(rest, end, Sign::From)?;
+    table(alloc, items, rest, end)
+}
+
+/// `FROM identifier` and the clauses, behind the select list.
+fn table<'t, 'a>(
+    alloc: Global,
+    items: Vec<Item>,
+    tokens: &'t [Token<'a>],
+    end: u64,
+) -> Read<'t, 'a, Query>
+    ensures { Reads (λ r. (r.0, r.1.now)) result (read_table items.items 64 end tokens.now) }
+{
+    let rest = expect(tokens, end, Sign::From)?;
     let (table, rest) = identifier(alloc, rest, end)?;
-    let (filter, rest) = filter(alloc, rest, end)?;
+    clauses(alloc, items, table.name, rest, end)
+}
+
+/// `[WHERE cond] [GROUP BY identifier {"," identifier}] [HAVING cond]`, behind the table's name.
+fn clauses<'t, 'a>(
+    alloc: Global,
+    items: Vec<Item>,
+    table: Name,
+    tokens: &'t [Token<'a>],
+    end: u64,
+) -> Read<'t, 'a, Query>
+    ensures { Reads (λ r. (r.0, r.1.now)) result (read_clauses items.items table 64 end tokens.now) }
+{
+    let (filter, rest) = filter(alloc, tokens, end)?;
     let (grouping, rest) = grouping(alloc, rest, end)?;
     let (having, rest) = having(alloc, rest, end)?;
     Ok((
         Query {
             items,
-            table: table.name,
+            table,
             filter,
             grouping,
             having,

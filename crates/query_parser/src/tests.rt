@@ -2,7 +2,7 @@
 use super::*;
 use std::alloc::{AllocError, Global};
 use std::test::Fail;
-use table_model::{ColType, ItemValue, Query, Refusal, Schema};
+use table_model::{ColType, ColumnMention, Item, ItemValue, Refusal, Schema};
 
 // Each production of the grammar, and each choice of it.
 const LONG: &str =
@@ -178,7 +178,7 @@ const CONDITIONS: [(&str, Option<Refusal>); 63] = [
 
 #[test]
 fn the_first_token_that_no_query_has_is_named(rt: HostRuntime) -> Result<(), Fail> {
-    for (text, want) in FAULTS {
+    for &(text, want) in &FAULTS {
         assert_eq!(rt; fault(rt.alloc(), text), want, "{text}");
     }
     Ok(())
@@ -186,7 +186,7 @@ fn the_first_token_that_no_query_has_is_named(rt: HostRuntime) -> Result<(), Fai
 
 #[test]
 fn the_first_token_that_no_condition_has_is_named(rt: HostRuntime) -> Result<(), Fail> {
-    for (text, want) in CONDITIONS {
+    for &(text, want) in &CONDITIONS {
         assert_eq!(rt; fault(rt.alloc(), text), want, "{text}");
     }
     Ok(())
@@ -278,7 +278,7 @@ const LIMITS: [(&str, &str, usize, &str, Option<Refusal>); 19] = [
 
 #[test]
 fn limits_are_kept_to_the_last(rt: HostRuntime) -> Result<(), Fail> {
-    for (front, piece, count, back, want) in LIMITS {
+    for &(front, piece, count, back, want) in &LIMITS {
         let text = repeated(rt.alloc(), front, piece, count, back)?;
         assert_eq!(rt; fault(rt.alloc(), text.as_str()), want, "{text}");
     }
@@ -447,7 +447,7 @@ const PREFIX_FAULTS: [(u64, Place); 86] = [
 
 /// The fault of the long query's prefix of so many bytes.
 fn prefix_fault(length: u64) -> Option<Refusal> {
-    for (last, place) in PREFIX_FAULTS {
+    for &(last, place) in &PREFIX_FAULTS {
         if length <= last {
             return match place {
                 Place::End => Some(Refusal::Syntax(length)),
@@ -463,14 +463,11 @@ fn prefix_fault(length: u64) -> Option<Refusal> {
 fn each_prefix_of_a_long_query_has_its_fault(rt: HostRuntime) -> Result<(), Fail> {
     let mut text = String::new(rt.alloc());
     for letter in LONG.chars() {
-        assert_eq!(rt;
-            fault(rt.alloc(), text.as_str()),
-            prefix_fault(text.len() as u64),
-            "{text}"
-        );
+        let want = prefix_fault(text.len() as u64);
+        assert!(rt; fault(rt.alloc(), text.as_str()) == want, "{text}");
         text.push(letter)?;
     }
-    assert_eq!(rt; fault(rt.alloc(), text.as_str()), None, "{text}");
+    assert!(rt; fault(rt.alloc(), text.as_str()).is_none(), "{text}");
     Ok(())
 }
 
@@ -495,26 +492,29 @@ const KEYWORDS: [&str; 24] = [
     "WHERE",
 ];
 
+/// The fault of a query over the table of this name.
+fn fault_over(alloc: Global, table: &str) -> Result<Option<Refusal>, AllocError> {
+    let text = format!(in alloc; "SELECT A FROM {table}")?;
+    Ok(fault(alloc, text.as_str()))
+}
+
+/// Whether the word names no table, and one with `_` behind it does.
+fn is_keyword(alloc: Global, word: &str) -> Result<bool, AllocError> {
+    let longer = format!(in alloc; "{word}_")?;
+    Ok(
+        fault_over(alloc, word)? == Some(Refusal::Syntax(14))
+            && fault_over(alloc, longer.as_str())?.is_none(),
+    )
+}
+
 // A keyword in any case is no identifier, so no table has its name; with a letter more it is one.
 #[test]
 fn keywords_are_read_in_any_case(rt: HostRuntime) -> Result<(), Fail> {
-    for word in KEYWORDS {
-        let text = format!(in rt.alloc(); "SELECT A FROM {word}")?;
-        assert_eq!(rt;
-            fault(rt.alloc(), text.as_str()),
-            Some(Refusal::Syntax(14)),
-            "{text}"
-        );
+    for &word in &KEYWORDS {
+        assert!(rt; is_keyword(rt.alloc(), word)?, "{word}");
         for every in [true, false] {
-            let word = in_case(rt.alloc(), word, every)?;
-            let text = format!(in rt.alloc(); "SELECT A FROM {word}")?;
-            assert_eq!(rt;
-                fault(rt.alloc(), text.as_str()),
-                Some(Refusal::Syntax(14)),
-                "{text}"
-            );
-            let text = format!(in rt.alloc(); "SELECT A FROM {word}_")?;
-            assert_eq!(rt; fault(rt.alloc(), text.as_str()), None, "{text}");
+            let other = in_case(rt.alloc(), word, every)?;
+            assert!(rt; is_keyword(rt.alloc(), other.as_str())?, "{other}");
         }
     }
     Ok(())
@@ -563,32 +563,44 @@ fn where_and_having_each_open_64_parentheses(rt: HostRuntime) -> Result<(), Fail
     Ok(())
 }
 
+/// Adds a column's name and its place.
+fn add_column(alloc: Global, text: &mut String, column: &ColumnMention) -> Result<(), AllocError> {
+    let shown = format!(in alloc; "{}@{}", column.name.as_str(), column.at)?;
+    text.push_str(shown.as_str())
+}
+
+/// Adds a select item: its column, or `f` for a set function, and its alias.
+fn add_item(alloc: Global, text: &mut String, item: &Item) -> Result<(), AllocError> {
+    match &item.value {
+        ItemValue::Grouped(column) => add_column(alloc, text, column)?,
+        ItemValue::Computed(_) => text.push('f')?,
+    }
+    if let Some(alias) = &item.alias {
+        text.push('=')?;
+        text.push_str(alias.as_str())?;
+    }
+    text.push(' ')
+}
+
 #[test]
 fn names_and_aliases_are_folded_and_places_kept(rt: HostRuntime) -> Result<(), Fail> {
     let query = parse(rt.alloc(), "sElEcT a_1 aS b2,Max(c) fRoM tab_9 group by c")?;
-    assert_eq!(rt; query.table.as_str(), "TAB_9");
+    assert!(rt; query.table.as_str() == "TAB_9");
     let mut names = String::new(rt.alloc());
     for item in &query.items {
-        match &item.value {
-            ItemValue::Grouped(column) => {
-                names.push_str(format!(in rt.alloc();
-                    "{}@{}",
-                    column.name.as_str(),
-                    column.at
-                )?.as_str())?;
-            }
-            ItemValue::Computed(_) => names.push_str("f")?,
-        }
-        if let Some(alias) = &item.alias {
-            names.push_str(format!(in rt.alloc(); "={}", alias.as_str())?.as_str())?;
-        }
-        names.push(' ')?;
+        add_item(rt.alloc(), &mut names, item)?;
     }
     for column in &query.grouping {
-        names.push_str(format!(in rt.alloc(); "{}@{}", column.name.as_str(), column.at)?.as_str())?;
+        add_column(rt.alloc(), &mut names, column)?;
     }
     assert_eq!(rt; names.as_str(), "A_1@7=B2 f C@44");
     Ok(())
+}
+
+/// How resolving a text over the table ends.
+fn resolved(alloc: Global, text: &str, schema: &Schema) -> Result<(), Refusal> {
+    let query = parse(alloc, text)?;
+    resolve(&query, schema)
 }
 
 // Resolving takes one pass too, with no search within a search.
@@ -599,8 +611,7 @@ fn long_lists_are_resolved_in_time_linear_in_their_length(rt: HostRuntime) -> Re
     for _ in 0..250_000 {
         text.push_str(",A")?;
     }
-    let query = parse(rt.alloc(), text.as_str())?;
-    assert_eq!(rt; resolve(&query, &schema), Ok(()));
+    assert!(rt; resolved(rt.alloc(), text.as_str(), &schema) == Ok(()));
     Ok(())
 }
 
@@ -614,8 +625,8 @@ fn long_conditions_are_resolved_in_time_linear_in_their_length(
         ("A=1 AND ", 125_000, 1_000_029),
     ] {
         let text = repeated(rt.alloc(), FROM_T, piece, count, "B=1")?;
-        let query = parse(rt.alloc(), text.as_str())?;
-        assert_eq!(rt; resolve(&query, &schema), Err(Refusal::NoSuchColumn(place)));
+        let outcome = resolved(rt.alloc(), text.as_str(), &schema);
+        assert!(rt; outcome == Err(Refusal::NoSuchColumn(place)), "{piece}");
     }
     Ok(())
 }
@@ -671,9 +682,8 @@ fn names_are_those_of_the_table_and_of_group_by(rt: HostRuntime) -> Result<(), F
         ("T", ColType::BigInt),
     ];
     let schema = Schema::new(rt.alloc(), "T", &columns)?;
-    for (text, want) in NAMES {
-        let query: Query = parse(rt.alloc(), text)?;
-        assert_eq!(rt; resolve(&query, &schema), want, "{text}");
+    for &(text, want) in &NAMES {
+        assert!(rt; resolved(rt.alloc(), text, &schema) == want, "{text}");
     }
     Ok(())
 }
