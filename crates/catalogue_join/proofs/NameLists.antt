@@ -167,7 +167,7 @@ listed_more rs i d h =
     ∙ ap (λ (xs : List BatchName). names_listed (take i rs) ++ xs) (append-nil (names_of (get_or rs i d)))
 
 -- all names, by what stands before a run, in it and behind it
-listed_parts : (rs : List Run) (i : ℕ) (d : Run) → i < length rs → names_listed rs ≡ names_listed (take i rs) ++ (names_of (get_or rs i d) ++ names_listed (drop (i + 1) rs))
+pub listed_parts : (rs : List Run) (i : ℕ) (d : Run) → i < length rs → names_listed rs ≡ names_listed (take i rs) ++ (names_of (get_or rs i d) ++ names_listed (drop (i + 1) rs))
 listed_parts rs i d h =
     ap names_listed (sym (take-append-drop i rs) ∙ ap (λ (xs : List Run). take i rs ++ xs) (drop_more rs i d h))
     ∙ names_listed-append (take i rs) (get_or rs i d ∷ drop (i + 1) rs)

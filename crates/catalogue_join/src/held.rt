@@ -3,7 +3,8 @@ ghost use Rattle.std.specs.Prelude.{◌≡◌, ◌<◌, OnOk, OnErr, IfOk, IsTru
 ghost use Rattle.std.specs.FinSet as set;
 ghost use Rattle.table_model.specs.Name.{is_proper_name};
 ghost use Rattle.catalogue_join.specs.Held.{IsFront, IsListOf, IsNameAt, lacks};
-ghost use Rattle.catalogue_join.specs.Run.{names_of};
+ghost use Rattle.catalogue_join.specs.Run.{names_of, names_listed, run_shape};
+ghost use Rattle.catalogue_join.specs.Span.{Rises};
 
 use crate::ranges::Ranges;
 use crate::run::Run;
@@ -109,6 +110,14 @@ impl Held {
             count += run.len();
         }
         count
+    }
+
+    /// The set's maximal runs, ascending: their names, in order, are those of the set.
+    pub fn runs(&self) -> &[Run]
+        ensures names { IsListOf (names_listed result.now) self.now }
+        ensures maximal { Rises run_shape 0 result.now }
+    {
+        self.runs.as_slice()
     }
 
     /// The name with this index, from 0 on, in ascending order.

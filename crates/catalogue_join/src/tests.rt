@@ -53,19 +53,21 @@ fn lacked_numbers(alloc: Global, held: &Held, other: &Held) -> Result<Vec<u32>, 
     Ok(numbers)
 }
 
-// Worked out by hand: names in ascending order, the front of origin 1, and what a set with 1.1 alone lacks of them.
+// Worked out by hand: names in ascending order, how many runs they make, the front of origin 1, and what a set with 1.1 alone lacks
+// of them.
 #[test]
 fn a_front_rises_exactly_over_gapless_numbers(rt: HostRuntime) -> Result<(), Fail> {
     let alloc = rt.alloc();
     let one = held_of(alloc, &[1])?;
-    for (inserted, names, front, missing) in [
-        ([3, 1, 1], [1, 3].as_slice(), 1, [3].as_slice()),
-        ([3, 1, 2], [1, 2, 3].as_slice(), 3, [2, 3].as_slice()),
-        ([5, 4, 2], [2, 4, 5].as_slice(), 0, [2, 4, 5].as_slice()),
+    for (inserted, names, runs, front, missing) in [
+        ([3, 1, 1], [1, 3].as_slice(), 2, 1, [3].as_slice()),
+        ([3, 1, 2], [1, 2, 3].as_slice(), 1, 3, [2, 3].as_slice()),
+        ([5, 4, 2], [2, 4, 5].as_slice(), 2, 0, [2, 4, 5].as_slice()),
     ] {
         let held = held_of(alloc, &inserted)?;
         let numbers = numbers_of(alloc, &held)?;
         assert_eq!(rt; numbers.as_slice(), names);
+        assert_eq!(rt; held.runs().len(), runs);
         assert_eq!(rt; held.front(Origin(1)), front);
         assert_eq!(rt; held.front(Origin(2)), 0);
         assert!(rt; held.holds(batch(1, 5)) == names.contains(&5));

@@ -4,7 +4,7 @@ use Rattle.table_model.specs.Table.{Table}
 use Rattle.table_model.specs.declared.names.BatchName.{BatchName}
 use Rattle.catalogue_join.specs.RowRange.{RowRange}
 use Rattle.segment_core.specs.Format.{number, all}
-use Rattle.segment_core.specs.Segment.{SegmentForm, IsSegment, widths_in, widths_of}
+use Rattle.segment_core.specs.Segment.{SegmentForm, IsSegment, batch_of, widths_in, widths_of}
 use Rattle.segment_core.specs.SegmentBytes.{batch_columns, columns, segment_bytes}
 use Rattle.column_file.specs.SummaryBytes.{head, proper_name, batch_name, name_count}
 use Rattle.column_file.specs.ContainerBytes.{row_count, Entry, entry_of, name_of, batch, batches, Deleted, deleted_of, range_parts, range, ranges, container}
@@ -58,6 +58,10 @@ container_spelled table es ds = refl
 -- a segment has a row
 pub rows_some : (s : SegmentForm) (n : ℕ) → n ≡ length s.rows → IsSegment n s.forms → 1 ≤ length s.rows
 rows_some s n count segment = let some = segment.some in omega arith
+
+-- a segment's rows are those that its vectors stand for
+pub rows_counted : (s : SegmentForm) (n : ℕ) → n ≡ length s.rows → s.rows ≡ batch_of n s.forms → s.rows ≡ batch_of (length s.rows) s.forms
+rows_counted s n count rows = rows ∙ ap (λ (k : ℕ). batch_of k s.forms) count
 
 -- the range that a read past the end of a list would give
 abbrev pub no_range : RowRange

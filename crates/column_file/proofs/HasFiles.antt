@@ -42,3 +42,8 @@ has_file t state segments items rs table within batches entries numbered maximal
 pub on_ok : {P Q : Type 0} (r : Result (Unit {0}) Refusal) → (P → Q) → OnOk r P → OnOk r Q
 on_ok (Ok done) f h = f h
 on_ok (Err e) f h = h
+
+-- what holds anyway
+pub always : {P : Type 0} (r : Result (Unit {0}) Refusal) → P → OnOk r P
+always (Ok done) h = h
+always (Err e) h = tt

@@ -8,6 +8,7 @@ pub mod FitLemmas
 pub mod ContainerReading
 pub mod OrderedLists
 pub mod SummaryWriting
+pub mod RunWriting
 pub mod FaultsOfBytes
 pub mod ContainerWriting
 pub mod RangeLists
@@ -15,6 +16,7 @@ pub mod OfferReading
 pub mod CanonicalWriting
 pub mod Openings
 pub mod FileLaws
+pub mod SummaryAgain
 pub mod HasFiles
 pub mod Comparisons
 pub mod OpenedSegments

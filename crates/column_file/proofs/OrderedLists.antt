@@ -1,5 +1,5 @@
 -- The members of a set in ascending order are its one strictly ascending list.
-use Rattle.std.proofs.Common.{◌≡◌, ℕ, suc, ◌≤◌, ◌+◌, Bool, true, false, cond, ◌||◌, List, [], ◌∷◌, map, length, get_or, slice_get, take, ◌<◌, Some, is_some, T, IsTrue, All, refl, sym, ap, ◌∙◌, subst, arith}
+use Rattle.std.proofs.Common.{◌≡◌, ℕ, suc, ◌≤◌, ◌+◌, Bool, true, false, cond, ◌||◌, List, [], ◌∷◌, map, length, get_or, take, ◌<◌, is_some, T, IsTrue, All, refl, sym, ap, ◌∙◌, subst, arith}
 use Rattle.std.specs.List.{list_any, AllByRecursion}
 use Rattle.std.specs.List.Sorted.{IsStrictlySortedBy}
 use Rattle.std.specs.Ordering.{eq_by_cmp, is_lt}
@@ -14,8 +14,7 @@ use Rattle.std.proofs.lemmas.List.{take_more}
 use Rattle.table_model.specs.Name.{name_cmp, is_proper_name}
 use Rattle.table_model.specs.declared.names.BatchName.{BatchName}
 use Rattle.table_model.proofs.NameOrder.{names_total, exact_names}
-use Rattle.catalogue_join.specs.Held.{IsListOf, IsNameAt}
-use Rattle.catalogue_join.proofs.SortedLists.{only_list}
+use Rattle.catalogue_join.specs.Held.{IsListOf}
 use Rattle.column_file.specs.Ordered.{in_order}
 
 each_key : {K : Type 0} (ks : List K) → map (λ (e : K × Unit {0}). e.0) (map (λ (k : K). (k, tt {0})) ks) ≡ ks
@@ -61,10 +60,6 @@ listed_names held = record {
   same = set.same_set names_total exact_names (set.from_list (in_order name_cmp held)) held
       (λ q. set.contains-from_list names_total (in_order name_cmp held) q ∙ members-in_order name_cmp names_total held q);
 }
-
--- the name with an index is the one that stands there
-pub name_here : (held : set.FinSet name_cmp) (index : ℕ) (name : BatchName) → IsNameAt held index name → slice_get (in_order name_cmp held) index ≡ Some name
-name_here held index name at = ap (λ (xs : List BatchName). slice_get xs index) (only_list held (in_order name_cmp held) at.names (listed_names held) at.listed) ∙ at.here
 
 absent : (x : BatchName) (xs : List BatchName) → AllByRecursion (λ y. name_cmp x y ≡ Less) xs → list_any (eq_by_cmp name_cmp x) xs ≡ false
 absent x [] a = refl

@@ -1,23 +1,20 @@
 -- The bytes of a summary's parts, and what is true of one that was read.
-use Rattle.std.proofs.Common.{◌≡◌, ℕ, ◌≤◌, ◌<◌, ◌&&◌, eqb, leb, List, [], ◌∷◌, ◌++◌, length, get_or, codes, Some, Ok, Err, cond, true, ◌-◌, IsTrue, All, refl, sym, ◌∙◌, arith}
+use Rattle.std.proofs.Common.{◌≡◌, ℕ, ◌≤◌, ◌&&◌, eqb, leb, List, [], ◌∷◌, ◌++◌, length, codes, Ok, Err, cond, true, ◌-◌, IsTrue, All, refl, ◌∙◌, arith}
 use Rattle.std.specs.List.{AllByRecursion}
 use Rattle.std.specs.FinSet as set
 use Rattle.std.proofs.lemmas.Bool.{and_parts, eqb-true, leb-true}
 use Rattle.std.proofs.lemmas.List.Elements.{All-from_recursion}
-use Rattle.std.proofs.lemmas.Option.{slice_get-get_or}
 use Rattle.table_model.specs.Name.{name_cmp, is_proper_name}
 use Rattle.table_model.specs.Table.{Table}
 use Rattle.table_model.specs.declared.names.BatchName.{BatchName}
 use Rattle.table_model.specs.declared.refusal.Refusal.TheVariants.{TrailingBytes}
-use Rattle.catalogue_join.specs.Held.{IsNameAt}
 use Rattle.segment_core.specs.Format.{Format, AreBytes, number, all, valid_all, read_whole}
 use Rattle.segment_core.proofs.FormatLaws.{bind_ok, guard_ok}
 use Rattle.replica_store.specs.Exchange.{AreListable}
-use Rattle.column_file.specs.Ordered.{in_order}
 use Rattle.column_file.specs.SchemaBytes.{schema}
 use Rattle.column_file.specs.SummaryBytes.{version, head, any_name, proper_name, is_after, batch_name, name_count, names, summary}
 use Rattle.column_file.proofs.SummaryLaws.{summary_is_lawful}
-use Rattle.column_file.proofs.OrderedLists.{name_here, len-from_list-le, proper-from_list}
+use Rattle.column_file.proofs.OrderedLists.{len-from_list-le, proper-from_list}
 
 -- ---- the bytes
 
@@ -36,12 +33,6 @@ names_spelled xs = refl
 pub summary_spelled : (t : Table) (xs : List BatchName) → summary.spell (t, xs) ≡ (head (codes "FLSM")).spell t ++ names.spell xs
 unfolding summary
 summary_spelled t xs = refl
-
--- the name at an index is the one that stands there
-pub name_at_index : (held : set.FinSet name_cmp) (index : ℕ) (name : BatchName) → index < length (in_order name_cmp held) → IsNameAt held index name → name ≡ get_or (in_order name_cmp held) index name
-name_at_index held index name below at =
-    let found : Some name ≡ Some (get_or (in_order name_cmp held) index name) = sym (name_here held index name at) ∙ slice_get-get_or (in_order name_cmp held) index name below in
-    cc
 
 -- ---- what was read
 

@@ -15,12 +15,14 @@ use Rattle.catalogue_join.specs.RowRange.{RowRange, AreMaximal, rows_in as rows_
 use Rattle.segment_core.specs.Format.{read_whole, Writes, ◌>>=◌}
 use Rattle.table_model.specs.Identifier.{same_text}
 use Rattle.segment_core.specs.Segment.{SegmentForm, batch_of, widths_in, canonical_forms, canonical_segment, canonical_again}
+use Rattle.segment_core.specs.SegmentBytes.{HasBytesIn}
 use Rattle.replica_store.specs.Segments.{rows_in}
 use Rattle.replica_store.specs.Segments.{Entry as Held}
-use Rattle.replica_store.specs.Exchange.{OfferForm, offering}
+use Rattle.replica_store.specs.Exchange.{OfferForm, offering, AreOffered, SummaryForm, AreListable}
 use Rattle.replica_store.specs.Replica.{Replica, IsWithinLimits}
 use Rattle.column_file.specs.Ordered.{in_order}
-use Rattle.column_file.specs.ContainerBytes.{Entry, entry_of, Deleted, deleted_of, container}
+use Rattle.column_file.specs.SummaryBytes.{summary_bytes, summary_read}
+use Rattle.column_file.specs.ContainerBytes.{Entry, entry_of, Deleted, deleted_of, container, IsFound}
 
 -- an entry's segment, whose rows are those that its vectors stand for
 abbrev pub held_of : Entry → Held
@@ -177,3 +179,36 @@ SameFileSameState =
 -- a file opens to one table and one state
 abbrev pub FilesOpenToOne : Type 0
 FilesOpenToOne = (bytes : List ℕ) (s t : Table) (a b : State) → OpensTo bytes s a → OpensTo bytes t b → (s ≡ t) × (a ≡ b)
+
+-- A held batch has bytes that come back: a store may hold it, its rows are those that its vectors stand for, which have bytes, and
+-- its name is numbered.
+pub record HasBatchBytes (table : Table) (e : Held) : Type 0 where
+  pub found : IsFound table e
+  pub columns : HasBytesIn table e.1
+  pub numbered : IsNumbered e.0
+
+-- What an offer has that has bytes: a schema, batches within the limits, which are those of its state and have bytes, and deleted rows
+-- in maximal ranges, not more than 8 bytes count.
+pub record HasOfferBytes (o : OfferForm) : Type 0 where
+  pub schema : IsTable o.schema
+  pub offered : AreOffered o.schema (map.entries o.segments)
+  pub rows : o.state.batches ≡ rows_in o.segments
+  pub batches : All (HasBatchBytes o.schema) (map.entries o.segments)
+  pub ranges : List RowRange
+  pub maximal : AreMaximal ranges
+  pub deleted : rows_deleted ranges ≡ o.state.deleted
+  pub count : length ranges < 18446744073709551616
+
+-- the bytes of an offer are read as that offer, codings included
+abbrev pub OffersAreReadAgain : Type 0
+OffersAreReadAgain = (o : OfferForm) → HasOfferBytes o → offer_read (offer_bytes o) ≡ Ok o
+
+-- What a summary has that has bytes: a schema, and names that a summary may have, which are numbered.
+pub record HasSummaryBytes (s : SummaryForm) : Type 0 where
+  pub schema : IsTable s.schema
+  pub listable : AreListable s.names
+  pub numbered : (name : BatchName) → IsTrue (set.contains s.names name) → IsNumbered name
+
+-- the bytes of a summary are read as that summary
+abbrev pub SummariesAreReadAgain : Type 0
+SummariesAreReadAgain = (s : SummaryForm) → HasSummaryBytes s → summary_read (summary_bytes s) ≡ Ok s

@@ -1,13 +1,14 @@
 //! Writing a container to bytes: its own four bytes, the version, a schema, batches in ascending order of name, and ranges of
 //! deleted rows.
-ghost use Rattle.std.specs.Prelude.{◌≡◌, ◌≤◌, List, length, map};
+ghost use Rattle.std.specs.Prelude.{◌≡◌, ◌≤◌, List, length, map, OnOk};
 ghost use Rattle.std.specs.List.{All};
 ghost use Rattle.table_model.specs.Table.{Table};
 ghost use Rattle.segment_core.specs.Format.{Format, Writes, all};
-ghost use Rattle.segment_core.specs.Segment.{widths_in, widths_of};
+ghost use Rattle.segment_core.specs.Segment.{batch_of, widths_in, widths_of};
+ghost use Rattle.segment_core.specs.SegmentBytes.{HasBytesIn};
 ghost use Rattle.replica_store.specs.Segments.{IsStored};
 ghost use Rattle.column_file.specs.ContainerBytes.{Entry, entry_of, batch, batches, Deleted, deleted_of, range, ranges, container};
-ghost use Rattle.column_file.specs.Files.{IsNumbered};
+ghost use Rattle.column_file.specs.Files.{HasBatchBytes, IsNumbered};
 
 use crate::container_reading::CONTAINER;
 use crate::summary_writing::{write_batch_name, write_head};
@@ -24,6 +25,8 @@ pub(crate) fn write_batch<W: Write>(
     ensures bytes { (table : Table) (front : List Entry) → widths_in segment.now.forms ≡ widths_of table
         → Writes result (W.contents writer.old.0) (W.contents writer.new.0) writer.old.1 writer.new.1 ((batch table front).spell (entry_of (name, segment.now))) }
     ensures numbered { IsNumbered name }
+    ensures rows { segment.now.rows ≡ batch_of (length segment.now.rows) segment.now.forms }
+    ensures columns { (table : Table) → widths_in segment.now.forms ≡ widths_of table → HasBytesIn table segment.now }
 {
     let rows = segment.rows();
     write_batch_name(writer, name)?;
@@ -38,7 +41,8 @@ fn write_batch_list<W: Write>(
     entries: &[(BatchName, Segment)],
 ) -> Result<(), Refusal>
     requires { All (IsStored schema.now) entries.now }
-    ensures { Writes result (W.contents writer.old.0) (W.contents writer.new.0) writer.old.1 writer.new.1
+    ensures again { OnOk result (All (HasBatchBytes schema.now) entries.now) }
+    ensures bytes { Writes result (W.contents writer.old.0) (W.contents writer.new.0) writer.old.1 writer.new.1
         ((all (length entries.now) (batch schema.now)).spell (map entry_of entries.now)) }
 {
     let _ = schema;
@@ -57,7 +61,8 @@ fn write_batches<W: Write>(
 ) -> Result<(), Refusal>
     requires limit { length entries.now ≤ 65536 }
     requires stored { All (IsStored schema.now) entries.now }
-    ensures { Writes result (W.contents writer.old.0) (W.contents writer.new.0) writer.old.1 writer.new.1 ((batches schema.now).spell (map entry_of entries.now)) }
+    ensures again { OnOk result (All (HasBatchBytes schema.now) entries.now) }
+    ensures bytes { Writes result (W.contents writer.old.0) (W.contents writer.new.0) writer.old.1 writer.new.1 ((batches schema.now).spell (map entry_of entries.now)) }
 {
     write_number(writer, entries.len() as u64, 4)?;
     write_batch_list(writer, schema, entries)
@@ -106,7 +111,8 @@ pub(crate) fn write_container<W: Write>(
 ) -> Result<(), Refusal>
     requires limit { length entries.now ≤ 65536 }
     requires stored { All (IsStored schema.now) entries.now }
-    ensures { Writes result (W.contents writer.old.0) (W.contents writer.new.0) writer.old.1 writer.new.1
+    ensures again { OnOk result (All (HasBatchBytes schema.now) entries.now) }
+    ensures bytes { Writes result (W.contents writer.old.0) (W.contents writer.new.0) writer.old.1 writer.new.1
         (container.spell (schema.now, (map entry_of entries.now, map deleted_of deleted.now))) }
 {
     write_head(writer, &CONTAINER, schema)?;

@@ -186,6 +186,81 @@ fn what_is_opened_is_exported_and_offered_again(rt: HostRuntime) -> Result<(), F
     Ok(())
 }
 
+/// A null flag and the first byte of a null mask whose one row is null. What follows is 0: the mask's rest, the coding and width of a
+/// frame, and its reference.
+const NULL_CELL: &[u8] = b"\x01\x01";
+
+// 32 columns of three types, with one row of which each cell is null.
+const WIDE: Change = (
+    6,
+    34,
+    &[
+        (b"\x20\0\x01T", 0),
+        (
+            b"\x02\x01A\x04\x01B\x08\x01C\x02\x01D\x04\x01E\x08\x01F\x02\x01G\x04\x01H",
+            0,
+        ),
+        (
+            b"\x08\x01I\x02\x01J\x04\x01K\x08\x01L\x02\x01M\x04\x01N\x08\x01O\x02\x01P",
+            0,
+        ),
+        (
+            b"\x04\x01Q\x08\x01R\x02\x01S\x04\x01T\x08\x01U\x02\x01V\x04\x01W\x08\x01X",
+            0,
+        ),
+        (
+            b"\x02\x01Y\x04\x01Z\x08\x02AA\x02\x02AB\x04\x02AC\x08\x02AD\x02\x02AE\x04\x02AF",
+            0,
+        ),
+        (b"\x01\0\0\0\x01\0\0\0\x01\0\0\0", 2),
+        (NULL_CELL, 133),
+        (NULL_CELL, 135),
+        (NULL_CELL, 139),
+        (NULL_CELL, 133),
+        (NULL_CELL, 135),
+        (NULL_CELL, 139),
+        (NULL_CELL, 133),
+        (NULL_CELL, 135),
+        (NULL_CELL, 139),
+        (NULL_CELL, 133),
+        (NULL_CELL, 135),
+        (NULL_CELL, 139),
+        (NULL_CELL, 133),
+        (NULL_CELL, 135),
+        (NULL_CELL, 139),
+        (NULL_CELL, 133),
+        (NULL_CELL, 135),
+        (NULL_CELL, 139),
+        (NULL_CELL, 133),
+        (NULL_CELL, 135),
+        (NULL_CELL, 139),
+        (NULL_CELL, 133),
+        (NULL_CELL, 135),
+        (NULL_CELL, 139),
+        (NULL_CELL, 133),
+        (NULL_CELL, 135),
+        (NULL_CELL, 139),
+        (NULL_CELL, 133),
+        (NULL_CELL, 135),
+        (NULL_CELL, 139),
+        (NULL_CELL, 133),
+        (NULL_CELL, 135),
+    ],
+);
+
+// 10 bytes before the columns, 102 for them, 14 before the vectors; 11 of 135 bytes, 11 of 137 and 10 of 141; and the count of ranges.
+#[test]
+fn a_file_of_32_columns_without_values_is_exported_again(rt: HostRuntime) -> Result<(), Fail> {
+    let bytes = changed(rt.alloc(), &WIDE)?;
+    let checked = Checked {
+        batches: 1,
+        ranges: 0,
+    };
+    assert_eq!(rt; bytes.len(), 4536);
+    assert!(rt; comes_back(rt.alloc(), &bytes, checked)?);
+    Ok(())
+}
+
 const NO_BATCH: &[u8] = b"\0\0\0\0";
 
 // The head's fields begin at 0, 4, 6, 8 and 10, the batches' at 13, 17, 25, 27, 28, 29, 30 and 32, the ranges' at 34.

@@ -1,6 +1,6 @@
 //! The laws of the formats of files and messages.
 ghost use Rattle.column_file.specs.ContainerBytes.{ContainersComeBack};
-ghost use Rattle.column_file.specs.Files.{FilesOpen, FilesOpenToOne, SameFileSameState};
+ghost use Rattle.column_file.specs.Files.{FilesOpen, FilesOpenToOne, OffersAreReadAgain, SameFileSameState, SummariesAreReadAgain};
 ghost use Rattle.column_file.specs.SchemaBytes.{SchemasComeBack};
 ghost use Rattle.column_file.specs.SummaryBytes.{SummariesComeBack};
 
@@ -25,4 +25,11 @@ pub fn files_and_states_come_back()
     ensures opens { FilesOpen }
     ensures same { SameFileSameState }
     ensures one { FilesOpenToOne }
+{}
+
+/// The law that the bytes of an offer are read as the same offer, codings included, and those of a summary as the same summary.
+/// [`write_offer`](crate::write_offer) and [`write_summary`](crate::write_summary) ensure what this asks of an offer and a summary.
+pub fn offers_and_summaries_are_read_again()
+    ensures offers { OffersAreReadAgain }
+    ensures summaries { SummariesAreReadAgain }
 {}

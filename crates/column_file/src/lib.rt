@@ -17,7 +17,8 @@ mod summary_writing;
 
 pub use canonical_writing::export;
 pub use laws::{
-    containers_and_bytes_come_back, files_and_states_come_back, schemas_and_bytes_come_back,
+    containers_and_bytes_come_back, files_and_states_come_back,
+    offers_and_summaries_are_read_again, schemas_and_bytes_come_back,
     summaries_and_bytes_come_back,
 };
 pub use offer_reading::read_offer;

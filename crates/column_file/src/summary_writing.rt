@@ -1,19 +1,21 @@
 //! Writing a summary to bytes: its own four bytes, the version, a schema, and names in ascending order.
-ghost use Rattle.std.specs.Prelude.{◌≡◌, ◌≤◌, List, length};
+ghost use Rattle.std.specs.Prelude.{◌≡◌, ◌≤◌, List, length, OnOk, Ok};
 ghost use Rattle.std.specs.FinSet as set;
 ghost use Rattle.table_model.specs.declared.names.BatchName.{BatchName};
-ghost use Rattle.segment_core.specs.Format.{Format, Writes, all};
+ghost use Rattle.catalogue_join.specs.Run.{names_of};
+ghost use Rattle.segment_core.specs.Format.{Format, Writes, all, spell_all};
 ghost use Rattle.table_model.specs.Name.{name_cmp};
 ghost use Rattle.column_file.specs.Ordered.{in_order};
-ghost use Rattle.column_file.specs.SummaryBytes.{head, batch_name, names, summary_bytes};
+ghost use Rattle.column_file.specs.SummaryBytes.{head, batch_name, names, summary_bytes, summary_read};
+ghost use Rattle.column_file.specs.Files.{HasSummaryBytes};
 
 use crate::schema_writing::write_schema;
 use crate::summary_reading::SUMMARY;
-use catalogue_join::Held;
+use catalogue_join::{Held, Run};
 use replica_store::Summary;
 use segment_core::{write_number, write_whole};
 use std::io::Write;
-use table_model::{BatchName, Counted, Refusal, Schema};
+use table_model::{BatchName, Counted, Number, Refusal, Schema};
 
 /// The version of all formats.
 const VERSION: u64 = 1;
@@ -42,13 +44,27 @@ pub(crate) fn write_batch_name<W: Write>(
     write_number(writer, name.number.0 as u64, 4)
 }
 
+/// Writes the names of a run in ascending order.
+fn write_run<W: Write>(writer: &mut Counted<W>, run: Run) -> Result<(), Refusal>
+    ensures { (front : List BatchName) → Writes result (W.contents writer.old.0) (W.contents writer.new.0) writer.old.1 writer.new.1 (spell_all batch_name front (names_of run)) }
+{
+    for number in run.first.number.0..=run.last.0 {
+        let name = BatchName {
+            origin: run.first.origin,
+            number: Number(number),
+        };
+        write_batch_name(writer, name)?;
+    }
+    Ok(())
+}
+
 /// Writes the names of a set in ascending order.
 fn write_name_list<W: Write>(writer: &mut Counted<W>, held: &Held) -> Result<(), Refusal>
     ensures { Writes result (W.contents writer.old.0) (W.contents writer.new.0) writer.old.1 writer.new.1
         ((all (length (in_order name_cmp held.now)) batch_name).spell (in_order name_cmp held.now)) }
 {
-    for index in 0..held.len() {
-        write_batch_name(writer, held.name(index))?;
+    for run in held.runs() {
+        write_run(writer, *run)?;
     }
     Ok(())
 }
@@ -64,8 +80,17 @@ fn write_names<W: Write>(writer: &mut Counted<W>, held: &Held) -> Result<(), Ref
 
 /// Writes a summary. Refused is only a write that fails (`WriteFault`); a front of the bytes was written then. It takes no memory.
 pub fn write_summary<W: Write>(summary: &Summary, writer: &mut Counted<W>) -> Result<(), Refusal>
-    ensures { Writes result (W.contents writer.old.0) (W.contents writer.new.0) writer.old.1 writer.new.1 (summary_bytes summary.now) }
+    ensures written { Writes result (W.contents writer.old.0) (W.contents writer.new.0) writer.old.1 writer.new.1 (summary_bytes summary.now) }
+    ensures bytes { OnOk result (HasSummaryBytes summary.now) }
+
+    // What was written is read as the same summary.
+    ensures again { OnOk result (summary_read (summary_bytes summary.now) ≡ Ok summary.now) }
 {
-    write_head(writer, &SUMMARY, summary.schema())?;
-    write_names(writer, summary.names())
+    // `column_list` ensures that the schema is a table's, and `runs` that the names are numbered.
+    let schema = summary.schema();
+    let _columns = schema.column_list();
+    let names = summary.names();
+    let _runs = names.runs();
+    write_head(writer, &SUMMARY, schema)?;
+    write_names(writer, names)
 }

@@ -4,9 +4,9 @@ use std::alloc::Global;
 use std::test::Fail;
 use table_model::Refusal;
 
-/// The summary of T(A SMALLINT) with the names 1.1 and 1.2: 32 bytes.
+/// The summary of T(A SMALLINT) with the names 1.1 and 1.3, between which one is lacked: 33 bytes.
 pub(crate) const TWO_NAMES: &[u8] =
-    b"FLSM\x01\0\x01\0\x01T\x02\x01A\x02\0\0\0\x01\0\0\0\x01\0\0\0\x01\0\0\0\x02\0\0\0";
+    b"FLSM\x01\0\x01\0\x01T\x02\x01A\x02\0\0\0\x01\0\0\0\x01\0\0\0\x01\0\0\0\x03\0\0\0";
 
 /// What stands before the names of that summary, with the count 2: 17 bytes.
 const HEAD: &[u8] = b"FLSM\x01\0\x01\0\x01T\x02\x01A\x02\0\0\0";
@@ -53,7 +53,7 @@ fn the_first_fault_of_a_summary_is_answered_at_its_place(rt: HostRuntime) -> Res
             Refusal::BadName,
         ),
         (
-            b"FLSM\x01\0\x01\0\x01T\x02\x01A\x02\0\0\0\x01\0\0\0\x02\0\0\0\x01\0\0\0\x02\0\0\0",
+            b"FLSM\x01\0\x01\0\x01T\x02\x01A\x02\0\0\0\x01\0\0\0\x01\0\0\0\x01\0\0\0\x01\0\0\0",
             Refusal::BadOrder(25),
         ),
         (

@@ -3,7 +3,7 @@ use Rattle.std.proofs.lemmas.Result.{err_from_is_err_and}
 use Rattle.segment_core.specs.Format.{number}
 use Rattle.segment_core.specs.SegmentBytes.{segment_bytes}
 use Rattle.column_file.specs.SummaryBytes.{batch_name}
-use Rattle.column_file.proofs.ContainerWriting.{batch_spelled, rows_some}
+use Rattle.column_file.proofs.ContainerWriting.{batch_spelled, rows_counted, rows_some}
 use Rattle.segment_core.proofs.Writings.{writes_both, writes_front}
 use Rattle.column_file.proofs.container_writing.write_batch.Goals as goal
 
@@ -35,3 +35,12 @@ returns-clause-bytes g c = λ table front widths.
     (writes_both c.write_bytes.result (g.W.Write.contents c.args.writer.now.0) (g.W.Write.contents c.write_batch_name.new.writer.0) (g.W.Write.contents c.write_bytes.new.writer.0) c.args.writer.now.1 c.write_batch_name.new.writer.1 c.write_bytes.new.writer.1 ((batch_name []).spell c.args.name) (((number 2).spell (length c.args.segment.now.rows - 1)) ++ (segment_bytes c.args.segment.now)) h0.0 h0.1
     (writes_both c.write_bytes.result (g.W.Write.contents c.write_batch_name.new.writer.0) (g.W.Write.contents c.write_number.new.writer.0) (g.W.Write.contents c.write_bytes.new.writer.0) c.write_batch_name.new.writer.1 c.write_number.new.writer.1 c.write_bytes.new.writer.1 ((number 2).spell (length c.args.segment.now.rows - 1)) (segment_bytes c.args.segment.now) h1.0 h1.1
     l))
+
+pub returns-in_err-write_batch_name-clause-rows : goal.returns-in_err-write_batch_name-clause-rows
+returns-in_err-write_batch_name-clause-rows g c = rows_counted c.args.segment.now c.rows-rows.result c.rows-rows.ensures.count c.rows-rows.ensures.rows
+
+pub returns-in_err-write_number-clause-rows : goal.returns-in_err-write_number-clause-rows
+returns-in_err-write_number-clause-rows g c = rows_counted c.args.segment.now c.rows-rows.result c.rows-rows.ensures.count c.rows-rows.ensures.rows
+
+pub returns-clause-rows : goal.returns-clause-rows
+returns-clause-rows g c = rows_counted c.args.segment.now c.rows-rows.result c.rows-rows.ensures.count c.rows-rows.ensures.rows

@@ -1,23 +1,26 @@
-use Rattle.std.proofs.Common.{◌≡◌, ◌∙◌, ◌<◌, List, Err, [], length, map, get_or, take, refl, sym, ap, subst, arith}
+use Rattle.std.proofs.Common.{◌≡◌, ◌∙◌, ◌<◌, All, List, Err, [], length, map, get_or, take, refl, sym, ap, subst, arith}
 use Rattle.std.specs.Io.KnownBytes.{Appends}
 use Rattle.std.proofs.lemmas.List.{take_all, length-map}
+use Rattle.std.proofs.lemmas.List.Elements.{All-more}
 use Rattle.std.proofs.lemmas.Result.{err_from_is_err_and}
 use Rattle.segment_core.specs.Format.{Writes, spell_all}
 use Rattle.segment_core.proofs.Writings.{appends_none, spell_all-nil, item_done, item_fault}
 use Rattle.std.proofs.Math.ListN.{get_or-map}
 use Rattle.segment_core.specs.Segment.{widths_in, widths_of}
-use Rattle.replica_store.specs.Segments.{Entry as Held}
+use Rattle.replica_store.specs.Segments.{Entry as Held, IsStored}
 use Rattle.column_file.specs.ContainerBytes.{Entry, entry_of, batch}
+use Rattle.column_file.specs.Files.{HasBatchBytes}
 use Rattle.column_file.proofs.container_writing.write_batch_list.Goals as goal
 
 pub loop-index-init : goal.loop-index-init
 loop-index-init g c = record {
   written = rw (spell_all-nil {A = Entry} (batch c.args.schema.now) []) (appends_none (g.W.Write.contents c.args.writer.now.0));
   kept = refl;
+  again = λ k d below. absurd (omega (arith, below));
 }
 
-pub returns-in_err-write_batch : goal.returns-in_err-write_batch
-returns-in_err-write_batch g c =
+pub returns-in_err-write_batch-clause-bytes : goal.returns-in_err-write_batch-clause-bytes
+returns-in_err-write_batch-clause-bytes g c =
     let p = err_from_is_err_and c.from_residual.result c.from_residual.ensures.1 in
     let xs = (map entry_of c.args.entries.now) in
     let front = take c.loop-index.index xs in
@@ -48,11 +51,21 @@ loop-index-preserved g c =
       written = item_done {A = Entry} (batch c.args.schema.now) xs c.loop-index.index one (g.W.Write.contents c.args.writer.now.0) (g.W.Write.contents c.loop-index.writer.0) (g.W.Write.contents c.write_batch.new.writer.0)
           below c.loop-index.invariant.written (subst P same h.0);
       kept = h.1 ∙ c.loop-index.invariant.kept;
+      again = All-more (HasBatchBytes c.args.schema.now) c.args.entries.now c.loop-index.index held c.loop-index-test.true c.loop-index.invariant.again
+          (subst (HasBatchBytes c.args.schema.now) c.index-entries-index.is
+          (record {
+            found = record { stored = subst (IsStored c.args.schema.now) (sym c.index-entries-index.is) stored; rows = c.in_ok-write_batch.ensures.rows };
+            columns = c.in_ok-write_batch.ensures.columns c.args.schema.now widths;
+            numbered = c.in_ok-write_batch.ensures.numbered;
+          }));
     }
 
-pub returns : goal.returns
-returns g c =
+pub returns-clause-bytes : goal.returns-clause-bytes
+returns-clause-bytes g c =
     let xs = (map entry_of c.args.entries.now) in
     let all : take c.loop-index.index xs ≡ xs = take_all c.loop-index.index xs (omega (arith, length-map c.args.entries.now entry_of)) in
     let P : List (Entry) → Type 0 = λ ys. Appends (g.W.Write.contents c.args.writer.now.0) (g.W.Write.contents c.loop-index.writer.0) (spell_all (batch c.args.schema.now) [] ys) in
     (subst P all c.loop-index.invariant.written, c.loop-index.invariant.kept)
+
+pub returns-clause-again : goal.returns-clause-again
+returns-clause-again g c = subst (All (HasBatchBytes c.args.schema.now)) (take_all c.loop-index.index c.args.entries.now (omega arith)) c.loop-index.invariant.again

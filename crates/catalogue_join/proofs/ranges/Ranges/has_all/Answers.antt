@@ -1,9 +1,9 @@
 -- Range by range: all places of one are in the set, or one of them isn't, and then the others have a place that the set lacks.
-use Rattle.std.proofs.Common.{◌≡◌, ◌≤◌, ◌+◌, ◌++◌, ◌∷◌, [], ◌||◌, List, ℕ, true, false, take, get_or, refl, sym, ap, ◌∙◌, subst, inl, inr}
+use Rattle.std.proofs.Common.{◌≡◌, ◌≤◌, ◌+◌, ◌++◌, ◌∷◌, [], ◌||◌, true, take, get_or, refl, sym, ap, ◌∙◌, subst, inl, inr}
 use Rattle.std.proofs.Math.Bool.{or-false}
 use Rattle.std.proofs.lemmas.Bool.{or_cases}
 use Rattle.std.proofs.lemmas.List.{take_more}
-use Rattle.catalogue_join.specs.Span.{among, covers, Rises, Lacks}
+use Rattle.catalogue_join.specs.Span.{among, covers, Rises}
 use Rattle.catalogue_join.proofs.Spans.{rises_at, among_within, among-append}
 use Rattle.catalogue_join.proofs.ranges.Ranges.has_all.Goals as goal
 

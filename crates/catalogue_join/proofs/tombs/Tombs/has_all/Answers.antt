@@ -1,8 +1,6 @@
 -- The ranges have all places of the others, or lack one.
-use Rattle.std.proofs.Common.{◌≡◌, ◌∙◌, Bool, true, false, refl, sym, inl, inr}
+use Rattle.std.proofs.Common.{◌∙◌, sym, inl, inr}
 use Rattle.std.proofs.lemmas.Bool.{cases_Bool}
-use Rattle.std.specs.FinSet as set
-use Rattle.catalogue_join.specs.RowRange.{rows_in}
 use Rattle.catalogue_join.proofs.RowSets.{rows_within, rows_lacking}
 use Rattle.catalogue_join.proofs.tombs.Tombs.has_all.Goals as goal
 
