@@ -20,7 +20,8 @@ use Rattle.cluster_history.proofs.Placed.{cluster_with, length-replicas_in}
 abbrev unit : Unit {0} → Unit {0}
 unit u = u
 
-merged_is : (stores : List Replica) (place from : ℕ) (r other : Replica) → slice_get stores place ≡ Some r → slice_get stores from ≡ Some other → merged_in stores place from ≡ stored stores place (merged r other)
+-- a merge of the replicas at two places is that of the two
+pub merged_is : (stores : List Replica) (place from : ℕ) (r other : Replica) → slice_get stores place ≡ Some r → slice_get stores from ≡ Some other → merged_in stores place from ≡ stored stores place (merged r other)
 unfolding merged_in
 merged_is stores place from r other at at_from = λ i. merged_pair stores place (at i) (at_from i)
 
@@ -86,6 +87,19 @@ map-append (s ∷ front) back = ap (λ (rest : List Replica). s.replica ∷ rest
 replica_at : (stores : List StoreForm) (i : ℕ) (s : StoreForm) → i < length stores → s ≡ get_or stores i s → s.replica ≡ get_or (replicas_in stores) i s.replica
 replica_at stores i s below is = ap (λ (x : StoreForm). x.replica) is ∙ sym (get_or-map (λ (x : StoreForm). x.replica) stores i s s.replica below)
 
+-- a store of the front is the replica at its place
+pub in_front : (stores front back : List StoreForm) (i : ℕ) (s : StoreForm) → stores ≡ front ++ back → i < length front → s ≡ get_or front i s → slice_get (replicas_in stores) i ≡ Some s.replica
+in_front stores front back i s parts below is =
+    ap (λ rs. slice_get rs i) (ap replicas_in parts ∙ map-append front back)
+    ∙ at_left (replicas_in front) (replicas_in back) i s.replica (omega (arith, below, length-replicas_in front)) (replica_at front i s below is)
+
+-- and the head of the back is that at the seam
+pub at_head : (stores front back : List StoreForm) (i : ℕ) (s : StoreForm) → stores ≡ front ++ back → length front ≡ i → i < length stores → s ≡ get_or back 0 s → slice_get (replicas_in stores) i ≡ Some s.replica
+at_head stores front back i s parts is_len within is =
+    let lengths : length stores ≡ length front + length back = ap length parts ∙ length-append front back in
+    ap (λ rs. slice_get rs i) (ap replicas_in parts ∙ map-append front back)
+    ∙ at_seam (replicas_in front) (replicas_in back) i s.replica (length-replicas_in front ∙ is_len) (omega (arith, length-replicas_in back)) (replica_at back 0 s (omega arith) is)
+
 -- into the front, from the head of the back
 pub stored_front : (stores front back : List StoreForm) (place from : ℕ) (s other new : StoreForm) (result : Result (Unit {0}) Refusal)
     → stores ≡ front ++ back → length front ≡ from → place < from → from < length stores → s ≡ get_or front place s → other ≡ get_or back 0 other
@@ -138,6 +152,15 @@ merge_others c replica other at from is is_from apart =
     let test : (at == from) ≡ false = grind (arith, nat_tests) in
     merge_found c replica other at (Some from) is is_from ∙ ap (λ (t : Bool). cond t (Ok (Done, c)) (merge_reply c (merged_in c.stores at from))) test
 
+-- what a merge of two replicas makes of a cluster of known parts
+pub merge_parts : (c : ClusterParts) (schema : Table) (stores slice : List StoreForm) (messages : List Carried) (replica other at from : ℕ)
+    → cluster_with schema stores messages ≡ c → slice ≡ stores → Some at ≡ place_of (length c.stores) replica → Some from ≡ place_of (length c.stores) other → at ≢ from
+    → merge_step c replica other ≡ merge_reply c (merged_in (replicas_in slice) at from)
+merge_parts c schema stores slice messages replica other at from view is_slice is is_from apart =
+    merge_others c replica other at from is is_from apart
+    ∙ (λ i. merge_reply c (merged_in (ap (λ (d : ClusterParts). d.stores) (sym view) i) at from))
+    ∙ ap (λ (s : List StoreForm). merge_reply c (merged_in (replicas_in s) at from)) (sym is_slice)
+
 merge_reply_ok : (c : ClusterParts) (made : Result (Unit {0} × List Replica) Refusal) → IsOk made → IsOk (merge_reply c made)
 merge_reply_ok c (Ok done) ok = ok
 merge_reply_ok c (Err e) ok = ok
@@ -147,9 +170,7 @@ pub merge_done : (c : ClusterParts) (schema : Table) (stores slice new : List St
     → Some at ≡ place_of (length c.stores) replica → Some from ≡ place_of (length c.stores) other → at ≢ from → merged_in (replicas_in slice) at from ≡ Ok (u, replicas_in new)
     → merge_step c replica other ≡ Ok (Done, cluster_with schema (take n (new ++ drop (length new) stores)) messages)
 merge_done c schema stores slice new messages n replica other at from u view is_slice is_len same_len is is_from apart made =
-    merge_others c replica other at from is is_from apart
-    ∙ (λ i. merge_reply c (merged_in (ap (λ (d : ClusterParts). d.stores) (sym view) i) at from))
-    ∙ ap (λ (s : List StoreForm). merge_reply c (merged_in (replicas_in s) at from)) (sym is_slice)
+    merge_parts c schema stores slice messages replica other at from view is_slice is is_from apart
     ∙ ap (merge_reply c) made
     ∙ ap (λ (d : ClusterParts). let made : Result (Reply × ClusterParts) Refusal = Ok (Done, cluster_with d.schema new d.messages) in made) (sym view)
     ∙ ap (λ (s : List StoreForm). let made : Result (Reply × ClusterParts) Refusal = Ok (Done, cluster_with schema s messages) in made) (sym (refill n stores new is_len (same_len ∙ ap length is_slice)))
@@ -160,10 +181,7 @@ pub merge_refused : (c : ClusterParts) (schema : Table) (stores slice new : List
     → (replicas_in new ≡ replicas_in slice) × ((merged_in (replicas_in slice) at from ≡ Err e) ⊎ ((e ≡ Memory) × IsOk (merged_in (replicas_in slice) at from)))
     → (cluster_with schema (take n (new ++ drop (length new) stores)) messages ≡ c) × ((merge_step c replica other ≡ Err e) ⊎ ((e ≡ Memory) × IsOk (merge_step c replica other)))
 merge_refused c schema stores slice new messages n replica other at from e view is_slice is_len same_len is is_from apart acts =
-    let step : merge_step c replica other ≡ merge_reply c (merged_in (replicas_in slice) at from) =
-    merge_others c replica other at from is is_from apart
-    ∙ (λ i. merge_reply c (merged_in (ap (λ (d : ClusterParts). d.stores) (sym view) i) at from))
-    ∙ ap (λ (s : List StoreForm). merge_reply c (merged_in (replicas_in s) at from)) (sym is_slice) in (
+    let step = merge_parts c schema stores slice messages replica other at from view is_slice is is_from apart in (
       ap (λ (ss : List StoreForm). cluster_with schema ss messages) (refill n stores new is_len (same_len ∙ ap length is_slice))
           ∙ ap (λ (rs : List Replica). let made : ClusterParts = record { schema = schema; stores = rs; messages = messages } in made) (acts.0 ∙ ap replicas_in is_slice) ∙ view,
       elim acts.1 [

@@ -1,5 +1,5 @@
 -- One step keeps it: the cluster is that of what each replica took and each message brings. So a run does, and the state depends on the members alone.
-use Rattle.std.specs.Prelude.{◌≡◌, ℕ, zero, suc, ◌+◌, ◌-◌, ◌<◌, ◌&&◌, nat_le, nat_lt, Bool, true, false, cond, ◌==◌, List, [], ◌∷◌, ◌++◌, map, length, slice_get, slice_set, slice_index_or, Option, Some, None, IsSome, option_map, option_and_then, Result, Ok, Err}
+use Rattle.std.specs.Prelude.{◌≡◌, ℕ, zero, suc, ◌+◌, nat_lt, true, false, cond, ◌==◌, List, [], ◌∷◌, ◌++◌, map, length, slice_get, slice_set, slice_index_or, Option, Some, None, IsSome, option_map, option_and_then, Result, Ok, Err}
 use Rattle.std.proofs.Common.{refl, sym, ap, subst, ◌∙◌, inl, inr, arith}
 use Rattle.std.proofs.lemmas.Bool.Decides.{nat_tests}
 use Rattle.std.proofs.lemmas.Option.{get_or_from_slice_get}
@@ -9,19 +9,19 @@ use Rattle.table_model.specs.Operation.{Operation, Insert as Inserts, Delete as 
 use Rattle.table_model.specs.State.{State}
 use Rattle.table_model.specs.Table.{Table, same_table}
 use Rattle.table_model.specs.declared.refusal.Refusal.{Refusal}
-use Rattle.table_model.specs.declared.refusal.Refusal.TheVariants.{Memory, BadLine, NoSuchReplica, NoSuchMessage, Full, SchemaDiffers}
+use Rattle.table_model.specs.declared.refusal.Refusal.TheVariants.{Memory, NoSuchReplica, NoSuchMessage, Full, SchemaDiffers}
 use Rattle.table_model.proofs.Operations.{state_of-same, state_of-operations, AreAgreeing-operations}
 use Rattle.replica_store.specs.Replica.{Replica, appended, inserted, deleted_rows, merged, rows_between, recoded_rows, recode_fault, unless_fault}
 use Rattle.column_file.specs.Files.{canonical_file, canonical_read}
 use Rattle.replica_store.specs.Exchange.{summary_of, offered, unlisted_state}
 use Rattle.cluster_history.specs.Cluster.{ClusterParts, new_cluster, new_replicas, place_of, at_replica, at_place, held_at, placed, done_reply, where_room, message_limit, with_message, numbered, ask_of, ask_step, offer_message, serve_of, serve_step, taking, take_step, opening, open_step, told, asked_of, asked_place, asked_at, export_reply, export_step, append_step, insert_step, delete_step, merge_step, recode_step, merge_places, merge_reply, merged_in, merged_pair, stored, query_step, query_reply, step_of}
 use Rattle.cluster_history.specs.Run.{Run, StepTo, answered}
-use Rattle.cluster_history.specs.History.{Brought, Names, Operations, Taken, Addition, names_in, lacking, brought_names, brought_operations, operations_held, ExportsAreCanonical, SameExport, or_empty, operations_by, message_of, AllBringOne, empty_sets, new_taken, set_at, taken_of, with_set, with_added, taken_after, taken_by, replica_of, replicas_of, cluster_of, EachAgrees, AllAgree, StartsEmpty, RepliesFollow, RefusedAddNothing, RunsJoin, ReadsLeaveAll, reading_at, reply_to, replica_numbered, AreAlike, SameAreAlike, SameInHistories, HistoryLaws}
+use Rattle.cluster_history.specs.History.{Brought, Names, Operations, Taken, names_in, lacking, brought_names, brought_operations, operations_held, ExportsAreCanonical, SameExport, or_empty, operations_by, message_of, AllBringOne, empty_sets, new_taken, set_at, taken_of, with_set, taken_after, taken_by, replica_of, replicas_of, cluster_of, EachAgrees, AllAgree, StartsEmpty, RepliesFollow, RefusedAddNothing, RunsJoin, ReadsLeaveAll, reading_at, reply_to, replica_numbered, AreAlike, SameAreAlike, SameInHistories, HistoryLaws}
 use Rattle.cluster_history.specs.declared.reply.Reply.{Reply}
-use Rattle.cluster_history.specs.declared.reply.Reply.TheVariants.{Done, Named, Put, Sent, File, Answered, Refused}
+use Rattle.cluster_history.specs.declared.reply.Reply.TheVariants.{Done, Named, Put, Sent, File, Refused}
 use Rattle.script_lines.specs.declared.step.Step.{Step}
 use Rattle.script_lines.specs.declared.step.Step.TheVariants.{Append, Insert, Delete, Merge, Ask, Serve, Take, Recode, Open, Export, Query}
-use Rattle.cluster_history.specs.Message.{Carried, Listing, Offering, listing_in, offering_in}
+use Rattle.cluster_history.specs.Message.{Carried, Listing, Offering, offering_in}
 use Rattle.cluster_history.proofs.Messages.{listing_of, offering_of, listing_at, offering_at, names-state_of, unlisted-state_of, lacking-agree, bring_one, bring_more, same_messages}
 use Rattle.cluster_history.proofs.Numbers.{messages_stay}
 use Rattle.cluster_history.proofs.Takes.{Takes, append-takes, insert-takes, delete-takes, merge-takes, again-agree, again-state}

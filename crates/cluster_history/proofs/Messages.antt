@@ -1,12 +1,11 @@
 -- What a message brings is decided by what was taken when it was made, and messages stay at their numbers.
-use Rattle.std.specs.Prelude.{◌≡◌, ◌⊎◌, ℕ, zero, suc, ◌+◌, Bool, true, false, cond, not, ◌||◌, nat_lt, List, [], ◌∷◌, ◌++◌, map, length, slice_get, slice_set, Option, Some, None, is_some, option_map, option_and_then, Result, Ok, Err, IsOk}
-use Rattle.std.proofs.Common.{refl, sym, ap, subst, ◌∙◌, inl, inr, append_assoc}
+use Rattle.std.specs.Prelude.{◌≡◌, ℕ, zero, suc, Bool, true, false, cond, not, ◌||◌, List, [], ◌∷◌, ◌++◌, map, length, slice_get, Option, Some, None, is_some, option_map, option_and_then}
+use Rattle.std.proofs.Common.{refl, sym, ap, subst, ◌∙◌, inl, inr}
 use Rattle.std.specs.List.{list_any}
 use Rattle.std.specs.Ordering.{eq_by_cmp}
 use Rattle.std.specs.FinMap as map
 use Rattle.std.specs.FinSet as set
-use Rattle.std.specs.declared.cmp.Ordering.TheVariants.{Equal}
-use Rattle.std.proofs.lemmas.List.{length-map, append-nil}
+use Rattle.std.proofs.lemmas.List.{length-map}
 use Rattle.std.proofs.lemmas.Option.{slice_get-map}
 use Rattle.catalogue_join.specs.Held.{lacks}
 use Rattle.table_model.specs.Name.{name_cmp}
@@ -14,16 +13,15 @@ use Rattle.table_model.specs.State.{State, Batch}
 use Rattle.table_model.specs.Table.{Table}
 use Rattle.table_model.specs.Operation.{Operation, Insert as Inserts, Delete as Deletes, Among, AreAgreeing, inserts_of, deletes_of, state_of}
 use Rattle.table_model.specs.declared.names.BatchName.{BatchName}
-use Rattle.table_model.specs.declared.refusal.Refusal.{Refusal}
 use Rattle.table_model.proofs.NameOrder.{names_total, exact_names}
 use Rattle.table_model.proofs.Joins.{same_states, same_batches}
 use Rattle.table_model.proofs.Operations.{same_name, state_of-same}
-use Rattle.replica_store.specs.Replica.{Replica, names_of}
+use Rattle.replica_store.specs.Replica.{names_of}
 use Rattle.replica_store.specs.Exchange.{SummaryForm, summary_of, unlisted, unlisted_state}
 use Rattle.replica_store.proofs.Names.{contains-names_of}
-use Rattle.cluster_history.specs.Cluster.{ClusterParts, place_of, numbered}
-use Rattle.cluster_history.specs.Message.{Carried, Listing, Offering, listing_in, offering_in}
-use Rattle.cluster_history.specs.History.{Brought, Names, Operations, names_in, lacking, is_listed, brought_names, brought_operations, message_of, AllBringOne, SameBrought, SameMessagesAreEqual, replica_of}
+use Rattle.cluster_history.specs.Cluster.{place_of, numbered}
+use Rattle.cluster_history.specs.Message.{Listing, Offering, listing_in, offering_in}
+use Rattle.cluster_history.specs.History.{Brought, Names, Operations, names_in, lacking, is_listed, brought_names, brought_operations, message_of, AllBringOne, SameMessagesAreEqual, replica_of}
 
 -- the summary of these names
 abbrev pub listing_of : Table → List BatchName → SummaryForm

@@ -1,17 +1,17 @@
 -- No step takes a message away, or gives one another number.
-use Rattle.std.specs.Prelude.{◌≡◌, ◌⊎◌, ℕ, Bool, true, false, cond, ◌==◌, nat_lt, List, [], ◌∷◌, ◌++◌, length, slice_get, Option, Some, None, Result, Ok, Err}
+use Rattle.std.specs.Prelude.{◌≡◌, ℕ, true, false, cond, ◌==◌, nat_lt, List, [], ◌∷◌, ◌++◌, length, slice_get, Option, Some, None, Result, Ok, Err}
 use Rattle.std.proofs.Common.{refl, sym, ap, subst, ◌∙◌, inl, inr, append_assoc}
 use Rattle.std.proofs.lemmas.List.{append-nil}
 use Rattle.table_model.specs.State.{State}
 use Rattle.table_model.specs.Table.{Table}
 use Rattle.table_model.specs.declared.refusal.Refusal.{Refusal}
-use Rattle.table_model.specs.declared.refusal.Refusal.TheVariants.{NoSuchReplica, NoSuchMessage, Full}
-use Rattle.replica_store.specs.Replica.{Replica, appended, inserted, deleted_rows, merged, recoded_rows}
+use Rattle.table_model.specs.declared.refusal.Refusal.TheVariants.{Full}
+use Rattle.replica_store.specs.Replica.{Replica, appended, inserted, deleted_rows, recoded_rows}
 use Rattle.column_file.specs.Files.{canonical_read}
 use Rattle.replica_store.specs.Exchange.{SummaryForm, summary_of, offered}
 use Rattle.cluster_history.specs.Cluster.{ClusterParts, place_of, at_replica, at_place, held_at, placed, done_reply, numbered, message_limit, where_room, with_message, ask_of, ask_step, offer_message, serve_of, serve_step, taking, take_step, opening, open_step, told, asked_of, asked_place, export_reply, export_step, append_step, insert_step, delete_step, recode_step, merge_step, merge_places, merge_reply, merged_in, query_step, query_reply, step_of}
 use Rattle.cluster_history.specs.Message.{Carried, Listing, Offering, listing_in, offering_in}
-use Rattle.cluster_history.specs.Run.{Run, StepTo, answered}
+use Rattle.cluster_history.specs.Run.{StepTo, answered}
 use Rattle.cluster_history.specs.History.{MessagesStay}
 use Rattle.cluster_history.specs.declared.reply.Reply.{Reply}
 use Rattle.cluster_history.specs.declared.reply.Reply.TheVariants.{Done, Named, Put}

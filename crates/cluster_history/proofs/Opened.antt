@@ -1,6 +1,6 @@
 -- What opening a file makes of a cluster, from what the file's opening and the merge after it answered.
-use Rattle.std.specs.Prelude.{◌≡◌, ◌⊎◌, ℕ, ◌<◌, ◌≤◌, Bool, false, cond, ◌==◌, List, length, slice_get, Some, Result, Ok, Err, IsOk}
-use Rattle.std.proofs.Common.{refl, sym, ap, subst, ◌∙◌, inl, inr, arith, get_or}
+use Rattle.std.specs.Prelude.{◌≡◌, ◌⊎◌, ℕ, ◌<◌, ◌≤◌, false, cond, ◌==◌, List, length, Some, Result, Ok, Err, IsOk}
+use Rattle.std.proofs.Common.{refl, sym, ap, subst, ◌∙◌, arith, get_or}
 use Rattle.std.proofs.lemmas.Bool.Decides.{nat_tests}
 use Rattle.std.proofs.lemmas.Option.{slice_get_read}
 use Rattle.segment_core.specs.Format.{◌>>=◌}
@@ -10,7 +10,7 @@ use Rattle.table_model.specs.declared.refusal.Refusal.{Refusal}
 use Rattle.table_model.specs.declared.refusal.Refusal.TheVariants.{Memory, BadName}
 use Rattle.replica_store.specs.Replica.{Replica, merged}
 use Rattle.replica_store.specs.Segments.{StoreForm}
-use Rattle.replica_store.specs.Exchange.{OfferForm, offering}
+use Rattle.replica_store.specs.Exchange.{offering}
 use Rattle.column_file.specs.Files.{canonical_read, opened_from}
 use Rattle.cluster_history.specs.Cluster.{ClusterParts, place_of, placed, at_replica, done_reply, opening}
 use Rattle.cluster_history.specs.Message.{Carried}

@@ -1,13 +1,13 @@
 -- What ask, serve and take make of a cluster, from what the calls of its replicas answered.
-use Rattle.std.specs.Prelude.{◌≡◌, ◌⊎◌, ℕ, zero, suc, ◌+◌, ◌<◌, ◌≤◌, Bool, true, false, cond, nat_lt, List, [], ◌∷◌, length, slice_get, Option, Some, None, option_map, option_and_then, Result, Ok, Err, IsOk}
+use Rattle.std.specs.Prelude.{◌≡◌, ◌⊎◌, ℕ, zero, suc, ◌<◌, ◌≤◌, true, false, cond, nat_lt, List, [], ◌∷◌, length, slice_get, Option, Some, None, option_and_then, Result, Ok, Err, IsOk}
 use Rattle.std.proofs.Common.{refl, sym, ap, subst, ◌∙◌, inl, inr, arith, get_or}
 use Rattle.std.proofs.lemmas.Bool.Decides.{nat_tests}
 use Rattle.std.proofs.lemmas.List.{length-map}
 use Rattle.table_model.specs.State.{State}
 use Rattle.table_model.specs.Table.{Table}
-use Rattle.table_model.specs.Outcome.{Acts, Gives}
+use Rattle.table_model.specs.Outcome.{Acts}
 use Rattle.table_model.specs.declared.refusal.Refusal.{Refusal}
-use Rattle.table_model.specs.declared.refusal.Refusal.TheVariants.{Memory, NoSuchReplica, NoSuchMessage, Full}
+use Rattle.table_model.specs.declared.refusal.Refusal.TheVariants.{Memory, NoSuchMessage, Full}
 use Rattle.replica_store.specs.Replica.{Replica}
 use Rattle.replica_store.specs.Segments.{StoreForm}
 use Rattle.replica_store.specs.Exchange.{SummaryForm, OfferForm, summary_of, offered, applied}

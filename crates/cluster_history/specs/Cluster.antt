@@ -13,7 +13,7 @@ use Rattle.replica_store.specs.Segments.{StoreForm}
 use Rattle.store_view.specs.Asked.{query_answer}
 use Rattle.replica_store.specs.Exchange.{SummaryForm, OfferForm, summary_of, offered, applied}
 use Rattle.column_file.specs.Files.{canonical_file, canonical_read}
-use Rattle.cluster_history.specs.Message.{Carried, Listing, Offering, coded_message, messages_in, listing_in, offering_in}
+use Rattle.cluster_history.specs.Message.{Carried, Listing, Offering, coded_message, listing_in, offering_in}
 use Rattle.cluster_history.specs.declared.reply.Reply.{Reply}
 use Rattle.cluster_history.specs.declared.reply.Reply.TheVariants.{Done, Named, Put, Sent, File, Answered}
 use Rattle.script_lines.specs.declared.step.Step.{Step}

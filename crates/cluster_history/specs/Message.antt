@@ -1,5 +1,5 @@
 -- Messages between the replicas of a cluster, by what they bring: no coding is part of it.
-use Rattle.std.specs.Prelude.{◌≡◌, ◌⊎◌, ℕ, List, map, Option, Some, None, refl}
+use Rattle.std.specs.Prelude.{◌≡◌, ◌⊎◌, List, map, Option, Some, None, refl}
 use Rattle.std.proofs.Common.{inl, inr}
 use Rattle.std.specs.Coded.{Coded, code_by, coded×, coded⊎}
 use Rattle.table_model.specs.State.{State, coded_state}

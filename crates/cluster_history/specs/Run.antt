@@ -5,32 +5,33 @@ use Rattle.table_model.specs.declared.refusal.Refusal.TheVariants.{Memory}
 use Rattle.replica_store.specs.declared.inserted.Inserted.TheVariants.{Already}
 use Rattle.cluster_history.specs.Cluster.{ClusterParts, step_of}
 use Rattle.cluster_history.specs.declared.reply.Reply.{Reply}
-use Rattle.cluster_history.specs.declared.reply.Reply.TheVariants.{Refused, Put}
+use Rattle.cluster_history.specs.declared.reply.Reply.TheVariants.{Done, Refused, Put}
 use Rattle.script_lines.specs.declared.step.Step.{Step}
-use Rattle.script_lines.specs.declared.step.Step.TheVariants.{Insert, Merge, Open, Query}
+use Rattle.script_lines.specs.declared.step.Step.TheVariants.{Insert, Merge, Take, Open, Query}
 
 -- a refused step is answered by its refusal, and leaves the cluster
 abbrev pub answered : Result (Reply × ClusterParts) Refusal → ClusterParts → Reply × ClusterParts
 answered (Ok done) old = done
 answered (Err e) old = (Refused e, old)
 
--- where memory may lack for a step: for what it makes, but not at an insert of a batch that is held already nor at a merge of a replica with itself, which make nothing; and as a file and a query's text are taken in while they are read, there also in the place of a refusal
-abbrev pub MayLack : Step → Result (Reply × ClusterParts) Refusal → Type 0
-MayLack (Open replica file) made = Unit {0}
-MayLack (Query replica sql) made = Unit {0}
-MayLack (Insert replica name rows) made = IsOk made × ((c : ClusterParts) → made ≢ Ok (Put Already, c))
-MayLack (Merge replica other) made = IsOk made × (replica ≢ other)
-MayLack step made = IsOk made
+-- where memory may lack for a step: for what it makes, but not at an insert of a batch that is held already nor at a merge or a take that changes nothing, which make nothing; and as a file and a query's text are taken in while they are read, there also in the place of a refusal
+abbrev pub MayLack : ClusterParts → Step → Result (Reply × ClusterParts) Refusal → Type 0
+MayLack old (Open replica file) made = Unit {0}
+MayLack old (Query replica sql) made = Unit {0}
+MayLack old (Insert replica name rows) made = IsOk made × ((c : ClusterParts) → made ≢ Ok (Put Already, c))
+MayLack old (Merge replica other) made = IsOk made × (made ≢ Ok (Done, old))
+MayLack old (Take replica message) made = IsOk made × (made ≢ Ok (Done, old))
+MayLack old step made = IsOk made
 
 -- a step is done, and that is what it makes; or it is refused, as it has to be or because memory lacked, and nothing changed
 abbrev pub ActsOn : ClusterParts → Step → Result Reply Refusal → ClusterParts → Type 0
 ActsOn old step (Ok reply) new = step_of old step ≡ Ok (reply, new)
-ActsOn old step (Err e) new = (new ≡ old) × ((step_of old step ≡ Err e) ⊎ ((e ≡ Memory) × MayLack step (step_of old step)))
+ActsOn old step (Err e) new = (new ≡ old) × ((step_of old step ≡ Err e) ⊎ ((e ≡ Memory) × MayLack old step (step_of old step)))
 
 -- the reply and the cluster after a step are what the step makes; or memory lacked, and nothing changed
 abbrev pub StepTo : ClusterParts → Step → Reply → ClusterParts → Type 0
 StepTo old step reply new =
-    (answered (step_of old step) old ≡ (reply, new)) ⊎ ((reply ≡ Refused Memory) × (new ≡ old) × MayLack step (step_of old step))
+    (answered (step_of old step) old ≡ (reply, new)) ⊎ ((reply ≡ Refused Memory) × (new ≡ old) × MayLack old step (step_of old step))
 
 -- each step has its reply, and they lead from one cluster to another
 abbrev pub Run : ClusterParts → List Step → List Reply → ClusterParts → Type 0

@@ -1,8 +1,8 @@
 //! Clusters: a table at replicas and the messages between them, both numbered from 1.
-ghost use Rattle.std.specs.Prelude.{◌≡◌, ◌≢◌, ◌<◌, ◌≤◌, ◌++◌, codes, length, IfSome, IfOk, Ok};
+ghost use Rattle.std.specs.Prelude.{◌≡◌, ◌≢◌, ◌<◌, ◌≤◌, ◌++◌, codes, length, IfSome, IfOk, IsOk, Ok};
 ghost use Rattle.query_parser.specs.Descent.{Reads};
 ghost use Rattle.table_model.specs.Outcome.{Acts, Gives};
-ghost use Rattle.cluster_history.specs.Cluster.{new_cluster, new_replicas, replicas_in, empty_replica, place_of, with_message, append_step, delete_step, ask_step, serve_step, take_step, recode_step, open_step, export_step, merged_in, query_step};
+ghost use Rattle.cluster_history.specs.Cluster.{new_cluster, new_replicas, replicas_in, empty_replica, place_of, with_message, append_step, delete_step, ask_step, serve_step, recode_step, open_step, export_step, merged_in, query_step};
 ghost use Rattle.cluster_history.specs.Message.{carried, messages_in};
 ghost use Rattle.cluster_history.specs.Run.{ActsOn, StepTo};
 
@@ -131,7 +131,7 @@ impl Cluster {
         Ok(Reply::Done)
     }
 
-    /// Merges the other replica into a replica; with itself nothing changes, and that takes no memory.
+    /// Merges the other replica into a replica; with itself nothing changes. Where nothing changes it takes no memory.
     fn merge(&mut self, alloc: Global, replica: u32, other: u32) -> Result<Reply, Refusal>
         ensures { ActsOn self.old (Step.Merge replica other) result self.new }
     {
@@ -191,9 +191,9 @@ impl Cluster {
         Ok(Reply::Sent(number))
     }
 
-    /// Applies the offer that a message is at a replica.
+    /// Applies the offer that a message is at a replica; where nothing changes it takes no memory.
     fn take(&mut self, alloc: Global, replica: u32, message: u32) -> Result<Reply, Refusal>
-        ensures { Acts (λ reply. reply) self.old result self.new (take_step self.old replica message) }
+        ensures { ActsOn self.old (Step.Take replica message) result self.new }
     {
         let Some(place) = self.place_of(replica) else {
             return Err(Refusal::NoSuchReplica);
@@ -348,6 +348,7 @@ fn merge_apart(
     requires from { from < length stores.old }
     requires apart { place ≢ from }
     ensures acts { Acts (λ done. done) (replicas_in stores.old) result (replicas_in stores.new) (merged_in (replicas_in stores.old) place from) }
+    ensures idle { merged_in (replicas_in stores.old) place from ≡ Ok (tt, replicas_in stores.old) → IsOk result }
     ensures count { length stores.new ≡ length stores.old }
 {
     if place < from {

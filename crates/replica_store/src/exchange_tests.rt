@@ -65,13 +65,17 @@ const LATE_OFFERS: [Late; 4] = [
 ];
 
 /// The summary of a receiver that was told these.
-fn summary_after(alloc: Global, told: &[Told]) -> Result<Summary, Refusal> {
+pub(crate) fn summary_after(alloc: Global, told: &[Told]) -> Result<Summary, Refusal> {
     let receiver = told_store(alloc, 2, told)?;
     receiver.summary(alloc)
 }
 
 /// What a server that was told these offers to a summary.
-fn offer_after(alloc: Global, told: &[Told], summary: &Summary) -> Result<Offer, Refusal> {
+pub(crate) fn offer_after(
+    alloc: Global,
+    told: &[Told],
+    summary: &Summary,
+) -> Result<Offer, Refusal> {
     let server = told_store(alloc, 1, told)?;
     server.offer(alloc, summary)
 }

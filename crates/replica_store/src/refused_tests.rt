@@ -2,12 +2,16 @@
 //! `AllocError` or `Memory` of its set-up, or, where it was a growth of the call that it is of, with the text `REFUSED` or
 //! `CHANGED`; with none refused it passes. The command `tests/refused-memory` refuses each in turn and counts those texts. A call
 //! whose test's name ends in `grows_nowhere` has none to refuse.
+//!
+//! A function that makes a store, or drops one, is dear to prove on each of its ways out. So each call is made where the store is
+//! only lent, and what the call needs is made by one function for all calls that need the same.
 use super::*;
-use crate::tests::{Told, is_state, name, row_name, rows_of, told_store};
+use crate::exchange_tests::{offer_after, summary_after};
+use crate::tests::{Deleted, OneColumn, Told, is_state, name, row_name, rows_of, told_store};
 use segment_core::Coding;
 use std::alloc::Global;
 use std::test::Fail;
-use table_model::Refusal;
+use table_model::{Refusal, Row};
 
 /// The call answered that memory was refused; what it was given is as it was, and the same call again succeeds.
 const REFUSED: &str = "a growth was refused, and all is as it was";
@@ -24,10 +28,133 @@ const UNDELETED: &[Told] = &[Told::Batch(1, 1, &[10, 11])];
 /// What another store holds, beside which the first lacks a batch and a deletion.
 const BESIDE: &[Told] = &[Told::Batch(2, 1, &[20]), Told::Deletion(2, 1, 5, 9)];
 
-/// The end of a test whose call was refused so.
-fn refused(fault: Refusal, is_as_it_was: bool) -> Result<(), Fail> {
-    let is_kept = fault == Refusal::Memory && is_as_it_was;
-    Err(Fail::new(if is_kept { REFUSED } else { CHANGED }))
+/// What came of a call.
+#[derive(Clone, Copy)]
+enum Came {
+    /// It was done.
+    Done,
+    /// It answered that memory was refused; what it was given is as it was, and the same call again succeeds.
+    Refused,
+    /// It answered otherwise, or what it was given is not as it was.
+    Changed,
+}
+
+/// What came of a call that was refused so.
+fn refused(fault: Refusal, is_as_it_was: bool) -> Came {
+    if fault == Refusal::Memory && is_as_it_was {
+        Came::Refused
+    } else {
+        Came::Changed
+    }
+}
+
+/// The end of a test, by what came of its call.
+fn end(came: Came) -> Result<(), Fail> {
+    match came {
+        Came::Done => Ok(()),
+        Came::Refused => Err(Fail::new(REFUSED)),
+        Came::Changed => Err(Fail::new(CHANGED)),
+    }
+}
+
+/// A call of a store that is given rows at most.
+#[derive(Clone, Copy)]
+enum Call {
+    Append,
+    Insert(u32, u32),
+    Delete,
+    Summary,
+    Recode,
+}
+
+/// Makes an insert of the rows under the name with this origin and number.
+fn insert(
+    alloc: Global,
+    store: &mut Store,
+    place: (u32, u32),
+    rows: &[Row],
+) -> Result<(), Refusal> {
+    let _ = store.insert(alloc, name(place.0, place.1), rows)?;
+    Ok(())
+}
+
+/// Makes a summary.
+fn summary(alloc: Global, store: &Store) -> Result<(), Refusal> {
+    let _ = store.summary(alloc)?;
+    Ok(())
+}
+
+/// Makes the call.
+fn made(alloc: Global, store: &mut Store, call: Call, rows: &[Row]) -> Result<(), Refusal> {
+    match call {
+        Call::Append => store.append(alloc, rows).map(|_| ()),
+        Call::Insert(origin, number) => insert(alloc, store, (origin, number), rows),
+        Call::Delete => store.delete(alloc, row_name(4, 4, 3), 9),
+        Call::Summary => summary(alloc, store),
+        Call::Recode => store.recode(alloc, name(1, 1), 0, 0, Coding::Dict),
+    }
+}
+
+/// What came of the call, made of a store that has the batch of the constants above and these deletions.
+fn came_of(
+    alloc: Global,
+    store: &mut Store,
+    call: Call,
+    rows: &[Row],
+    deleted: &[Deleted],
+    live: u64,
+) -> Came {
+    match made(alloc, store, call, rows) {
+        Ok(()) => Came::Done,
+        Err(fault) => {
+            let is_same = is_state(store, &[(1, 1, &[10, 11])], deleted, live);
+            let again = made(alloc, store, call, rows);
+            refused(fault, is_same && again.is_ok())
+        }
+    }
+}
+
+/// What came of the call, given rows of these values, of a store with the batch and its deletion.
+fn called(alloc: Global, call: Call, values: &[i128]) -> Result<Came, Refusal> {
+    let rows = rows_of(alloc, values)?;
+    let mut store = told_store(alloc, 1, HELD)?;
+    Ok(came_of(alloc, &mut store, call, rows.as_slice(), &[(1, 1, 0, 0)], 1))
+}
+
+#[test]
+fn a_refused_append_leaves_the_store(rt: HostRuntime) -> Result<(), Fail> {
+    end(called(rt.alloc(), Call::Append, &[1, 2, 3])?)
+}
+
+#[test]
+fn a_refused_insert_leaves_the_store(rt: HostRuntime) -> Result<(), Fail> {
+    end(called(rt.alloc(), Call::Insert(3, 3), &[1, 2, 3])?)
+}
+
+#[test]
+fn an_insert_of_a_held_batch_grows_nowhere(rt: HostRuntime) -> Result<(), Fail> {
+    end(called(rt.alloc(), Call::Insert(1, 1), &[10, 11])?)
+}
+
+#[test]
+fn a_refused_summary_leaves_the_store(rt: HostRuntime) -> Result<(), Fail> {
+    end(called(rt.alloc(), Call::Summary, &[])?)
+}
+
+#[test]
+fn a_refused_recode_leaves_the_store(rt: HostRuntime) -> Result<(), Fail> {
+    end(called(rt.alloc(), Call::Recode, &[])?)
+}
+
+/// What came of a delete of a store with the batch alone.
+fn deleted(alloc: Global) -> Result<Came, Refusal> {
+    let mut store = told_store(alloc, 1, UNDELETED)?;
+    Ok(came_of(alloc, &mut store, Call::Delete, &[], &[], 2))
+}
+
+#[test]
+fn a_refused_delete_leaves_the_store(rt: HostRuntime) -> Result<(), Fail> {
+    end(deleted(rt.alloc())?)
 }
 
 /// Whether a store is as it was before the call.
@@ -37,166 +164,94 @@ fn is_held(store: &Store) -> bool {
 
 /// Whether a store has what it held and what the other holds.
 fn is_joined(store: &Store) -> bool {
-    let batches = [(1, 1, [10, 11].as_slice()), (2, 1, [20].as_slice())];
+    let batches: [OneColumn<'_>; 2] = [(1, 1, &[10, 11]), (2, 1, &[20])];
     is_state(store, &batches, &[(1, 1, 0, 0), (2, 1, 5, 9)], 2)
 }
 
-#[test]
-fn a_refused_append_leaves_the_store(rt: HostRuntime) -> Result<(), Fail> {
-    let alloc = rt.alloc();
-    let rows = rows_of(alloc, &[1, 2, 3])?;
-    let mut store = told_store(alloc, 1, HELD)?;
-    match store.append(alloc, rows.as_slice()) {
-        Ok(_) => Ok(()),
+/// What came of a merge of the other store.
+fn came_of_merge(alloc: Global, store: &mut Store, other: &Store) -> Came {
+    match store.merge(alloc, other) {
+        Ok(()) => Came::Done,
         Err(fault) => {
-            let is_same = is_held(&store);
-            let again = store.append(alloc, rows.as_slice());
-            refused(fault, is_same && again.is_ok())
+            let is_same = is_held(store);
+            let again = store.merge(alloc, other);
+            refused(fault, is_same && again.is_ok() && is_joined(store))
         }
     }
 }
 
-#[test]
-fn a_refused_insert_leaves_the_store(rt: HostRuntime) -> Result<(), Fail> {
-    let alloc = rt.alloc();
-    let rows = rows_of(alloc, &[1, 2, 3])?;
+/// What came of a merge of a store that was told these.
+fn merged(alloc: Global, theirs: &[Told]) -> Result<Came, Refusal> {
+    let other = told_store(alloc, 2, theirs)?;
     let mut store = told_store(alloc, 1, HELD)?;
-    match store.insert(alloc, name(3, 3), rows.as_slice()) {
-        Ok(_) => Ok(()),
-        Err(fault) => {
-            let is_same = is_held(&store);
-            let again = store.insert(alloc, name(3, 3), rows.as_slice());
-            refused(fault, is_same && again.is_ok())
-        }
-    }
-}
-
-#[test]
-fn an_insert_of_a_held_batch_grows_nowhere(rt: HostRuntime) -> Result<(), Fail> {
-    let alloc = rt.alloc();
-    let rows = rows_of(alloc, &[10, 11])?;
-    let mut store = told_store(alloc, 1, HELD)?;
-    match store.insert(alloc, name(1, 1), rows.as_slice()) {
-        Ok(_) => Ok(()),
-        Err(fault) => refused(fault, is_held(&store)),
-    }
-}
-
-#[test]
-fn a_refused_delete_leaves_the_store(rt: HostRuntime) -> Result<(), Fail> {
-    let alloc = rt.alloc();
-    let mut store = told_store(alloc, 1, UNDELETED)?;
-    match store.delete(alloc, row_name(4, 4, 3), 9) {
-        Ok(()) => Ok(()),
-        Err(fault) => {
-            let is_same = is_state(&store, &[(1, 1, &[10, 11])], &[], 2);
-            let again = store.delete(alloc, row_name(4, 4, 3), 9);
-            refused(fault, is_same && again.is_ok())
-        }
-    }
-}
-
-/// What is left where a merge was refused.
-fn merged_again(
-    alloc: Global,
-    store: &mut Store,
-    other: &Store,
-    fault: Refusal,
-) -> Result<(), Fail> {
-    let is_same = is_held(store);
-    let again = store.merge(alloc, other);
-    refused(fault, is_same && again.is_ok() && is_joined(store))
+    Ok(came_of_merge(alloc, &mut store, &other))
 }
 
 #[test]
 fn a_refused_merge_leaves_the_store(rt: HostRuntime) -> Result<(), Fail> {
-    let alloc = rt.alloc();
-    let other = told_store(alloc, 2, BESIDE)?;
-    let mut store = told_store(alloc, 1, HELD)?;
-    match store.merge(alloc, &other) {
-        Ok(()) => Ok(()),
-        Err(fault) => merged_again(alloc, &mut store, &other, fault),
-    }
+    end(merged(rt.alloc(), BESIDE)?)
 }
 
 #[test]
 fn a_merge_that_brings_nothing_grows_nowhere(rt: HostRuntime) -> Result<(), Fail> {
-    let alloc = rt.alloc();
-    let other = told_store(alloc, 2, HELD)?;
-    let mut store = told_store(alloc, 1, HELD)?;
-    match store.merge(alloc, &other) {
-        Ok(()) => Ok(()),
-        Err(fault) => refused(fault, is_held(&store)),
+    end(merged(rt.alloc(), HELD)?)
+}
+
+/// Makes an offer to the summary.
+fn offer(alloc: Global, store: &Store, summary: &Summary) -> Result<(), Refusal> {
+    let _ = store.offer(alloc, summary)?;
+    Ok(())
+}
+
+/// What came of an offer to the summary.
+fn came_of_offer(alloc: Global, store: &Store, summary: &Summary) -> Came {
+    match offer(alloc, store, summary) {
+        Ok(()) => Came::Done,
+        Err(fault) => {
+            let again = offer(alloc, store, summary);
+            refused(fault, is_held(store) && again.is_ok())
+        }
     }
 }
 
-#[test]
-fn a_refused_summary_leaves_the_store(rt: HostRuntime) -> Result<(), Fail> {
-    let alloc = rt.alloc();
+/// What came of an offer to a store that holds nothing.
+fn offered(alloc: Global) -> Result<Came, Refusal> {
     let store = told_store(alloc, 1, HELD)?;
-    match store.summary(alloc) {
-        Ok(_) => Ok(()),
+    let summary = summary_after(alloc, &[])?;
+    Ok(came_of_offer(alloc, &store, &summary))
+}
+
+#[test]
+fn a_refused_offer_leaves_the_store(rt: HostRuntime) -> Result<(), Fail> {
+    end(offered(rt.alloc())?)
+}
+
+/// What came of an offer that was applied.
+fn came_of_apply(alloc: Global, store: &mut Store, offer: &Offer) -> Came {
+    match store.apply(alloc, offer) {
+        Ok(()) => Came::Done,
         Err(fault) => {
-            let again = store.summary(alloc);
-            refused(fault, is_held(&store) && again.is_ok())
+            let is_same = is_held(store);
+            let again = store.apply(alloc, offer);
+            refused(fault, is_same && again.is_ok() && is_joined(store))
         }
     }
 }
 
 /// An offer of what another store holds to a store that holds nothing.
 fn offer_beside(alloc: Global) -> Result<Offer, Refusal> {
-    let other = told_store(alloc, 2, BESIDE)?;
-    let summary = told_store(alloc, 1, &[])?.summary(alloc)?;
-    other.offer(alloc, &summary)
+    let summary = summary_after(alloc, &[])?;
+    offer_after(alloc, BESIDE, &summary)
 }
 
-#[test]
-fn a_refused_offer_leaves_the_store(rt: HostRuntime) -> Result<(), Fail> {
-    let alloc = rt.alloc();
-    let store = told_store(alloc, 1, HELD)?;
-    let summary = told_store(alloc, 2, &[])?.summary(alloc)?;
-    match store.offer(alloc, &summary) {
-        Ok(_) => Ok(()),
-        Err(fault) => {
-            let again = store.offer(alloc, &summary);
-            refused(fault, is_held(&store) && again.is_ok())
-        }
-    }
-}
-
-/// What is left where an offer was refused.
-fn applied_again(
-    alloc: Global,
-    store: &mut Store,
-    offer: &Offer,
-    fault: Refusal,
-) -> Result<(), Fail> {
-    let is_same = is_held(store);
-    let again = store.apply(alloc, offer);
-    refused(fault, is_same && again.is_ok() && is_joined(store))
+/// What came of that offer where it was applied.
+fn applied(alloc: Global) -> Result<Came, Refusal> {
+    let offer = offer_beside(alloc)?;
+    let mut store = told_store(alloc, 1, HELD)?;
+    Ok(came_of_apply(alloc, &mut store, &offer))
 }
 
 #[test]
 fn a_refused_apply_leaves_the_store(rt: HostRuntime) -> Result<(), Fail> {
-    let alloc = rt.alloc();
-    let offer = offer_beside(alloc)?;
-    let mut store = told_store(alloc, 1, HELD)?;
-    match store.apply(alloc, &offer) {
-        Ok(()) => Ok(()),
-        Err(fault) => applied_again(alloc, &mut store, &offer, fault),
-    }
-}
-
-#[test]
-fn a_refused_recode_leaves_the_store(rt: HostRuntime) -> Result<(), Fail> {
-    let alloc = rt.alloc();
-    let mut store = told_store(alloc, 1, HELD)?;
-    match store.recode(alloc, name(1, 1), 0, 0, Coding::Dict) {
-        Ok(()) => Ok(()),
-        Err(fault) => {
-            let is_same = is_held(&store);
-            let again = store.recode(alloc, name(1, 1), 0, 0, Coding::Dict);
-            refused(fault, is_same && again.is_ok())
-        }
-    }
+    end(applied(rt.alloc())?)
 }

@@ -1,5 +1,6 @@
 use Rattle.std.proofs.Common.{ap, get_or, arith, ◌≢◌}
 use Rattle.cluster_history.proofs.Apart.{stored_front, stored_back}
+use Rattle.cluster_history.proofs.Idle.{front_same, back_same}
 use Rattle.cluster_history.proofs.cluster.merge_apart.Goals as goal
 
 pub returns-then-place-from-clause-acts : goal.returns-then-place-from-clause-acts
@@ -12,3 +13,16 @@ returns-else-place-from-clause-acts c =
     let apart : c.args.place ≢ c.args.from = c.requires.apart in
     stored_back c.args.stores.now c.split_at_mut-front-else-place-from.result.0.now c.split_at_mut-front-else-place-from.result.1.now c.args.place c.args.from (get_or c.split_at_mut-front-else-place-from.result.1.now 0 c.index-back-0-else-place-from.result) (get_or c.split_at_mut-front-else-place-from.result.0.now c.args.from c.index-front-from.result) c.merge-else-place-from.new.self c.merge-else-place-from.result
     c.split_at_mut-front-else-place-from.ensures.value c.split_at_mut-front-else-place-from.ensures.front_len (omega arith) c.requires.place (ap (get_or c.split_at_mut-front-else-place-from.result.1.now 0) c.index-back-0-else-place-from.is) (ap (get_or c.split_at_mut-front-else-place-from.result.0.now c.args.from) c.index-front-from.is) c.merge-else-place-from.ensures.acts
+
+pub returns-then-place-from-clause-idle : goal.returns-then-place-from-clause-idle
+returns-then-place-from-clause-idle c = λ same.
+    c.merge.ensures.idle
+    (front_same c.args.stores.now c.split_at_mut-front.result.0.now c.split_at_mut-front.result.1.now c.args.place c.args.from (get_or c.split_at_mut-front.result.0.now c.args.place c.index-front-place.result) (get_or c.split_at_mut-front.result.1.now 0 c.index-back-0.result)
+    c.split_at_mut-front.ensures.value c.split_at_mut-front.ensures.front_len c.if-place-from.true c.requires.from (ap (get_or c.split_at_mut-front.result.0.now c.args.place) c.index-front-place.is) (ap (get_or c.split_at_mut-front.result.1.now 0) c.index-back-0.is) same)
+
+pub returns-else-place-from-clause-idle : goal.returns-else-place-from-clause-idle
+returns-else-place-from-clause-idle c = λ same.
+    let apart : c.args.place ≢ c.args.from = c.requires.apart in
+    c.merge-else-place-from.ensures.idle
+    (back_same c.args.stores.now c.split_at_mut-front-else-place-from.result.0.now c.split_at_mut-front-else-place-from.result.1.now c.args.place c.args.from (get_or c.split_at_mut-front-else-place-from.result.1.now 0 c.index-back-0-else-place-from.result) (get_or c.split_at_mut-front-else-place-from.result.0.now c.args.from c.index-front-from.result)
+    c.split_at_mut-front-else-place-from.ensures.value c.split_at_mut-front-else-place-from.ensures.front_len (omega arith) c.requires.place (ap (get_or c.split_at_mut-front-else-place-from.result.1.now 0) c.index-back-0-else-place-from.is) (ap (get_or c.split_at_mut-front-else-place-from.result.0.now c.args.from) c.index-front-from.is) same)

@@ -1,6 +1,5 @@
 use Rattle.std.proofs.Common.{◌≡◌, ◌∙◌, ◌+◌, ◌++◌, ◌∷◌, [], List, ap, sym, arith}
 use Rattle.replica_store.specs.Replica.{Replica}
-use Rattle.replica_store.specs.Segments.{StoreForm}
 use Rattle.cluster_history.specs.Cluster.{empty_replica, new_replicas, replicas_in}
 use Rattle.cluster_history.proofs.Placed.{new_replicas_more}
 use Rattle.cluster_history.proofs.Apart.{map-append}

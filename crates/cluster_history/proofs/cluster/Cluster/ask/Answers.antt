@@ -1,6 +1,6 @@
 use Rattle.std.proofs.Common.{◌≡◌, ◌∙◌, ◌<◌, refl, length, arith}
-use Rattle.replica_store.specs.Exchange.{SummaryForm, summary_of}
-use Rattle.cluster_history.specs.Cluster.{with_message, ask_step}
+use Rattle.replica_store.specs.Exchange.{summary_of}
+use Rattle.cluster_history.specs.Cluster.{ask_step}
 use Rattle.cluster_history.specs.Message.{Listing, messages_in}
 use Rattle.cluster_history.proofs.Sent.{acts_as, numbered_store, ask_sends, has_room, same_ok, summary_sent}
 use Rattle.cluster_history.proofs.cluster.Cluster.ask.Goals as goal

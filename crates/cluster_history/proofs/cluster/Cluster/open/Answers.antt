@@ -1,7 +1,6 @@
-use Rattle.std.proofs.Common.{◌≡◌, ◌∙◌, ap, sym, refl, inl, inr}
+use Rattle.std.proofs.Common.{◌≡◌, ◌∙◌, ap, refl, inl, inr}
 use Rattle.std.proofs.lemmas.Result.{err_from_is_err_and}
 use Rattle.column_file.specs.Files.{canonical_read}
-use Rattle.table_model.specs.declared.names.Origin.{Origin}
 use Rattle.replica_store.specs.Segments.{StoreForm}
 use Rattle.cluster_history.specs.Cluster.{open_step, opening, done_reply}
 use Rattle.cluster_history.specs.Message.{messages_in}

@@ -1,5 +1,4 @@
 use Rattle.std.proofs.Common.{◌≡◌, ◌<◌, refl, length, arith, Some, List}
-use Rattle.replica_store.specs.Exchange.{SummaryForm}
 use Rattle.cluster_history.specs.Cluster.{numbered, serve_step}
 use Rattle.cluster_history.specs.Message.{Carried, Offering, listing_in, messages_in}
 use Rattle.cluster_history.proofs.Sent.{acts_as, numbered_store, said_of, has_room, serve_sends}

@@ -1,10 +1,10 @@
-use Rattle.std.proofs.Common.{◌≡◌, ◌∙◌, sym, ap, refl, inl, Some, None, List, Err}
+use Rattle.std.proofs.Common.{◌≡◌, ◌≢◌, ◌∙◌, Ok, sym, refl, inl, None, List}
+use Rattle.std.proofs.lemmas.Bool.{false≢true}
 use Rattle.std.proofs.lemmas.Result.{err_from_is_err_and}
-use Rattle.table_model.specs.State.{State}
-use Rattle.table_model.specs.Table.{Table}
-use Rattle.table_model.specs.declared.refusal.Refusal.TheVariants.{NoSuchMessage}
-use Rattle.cluster_history.specs.Cluster.{take_step, taking, done_reply, numbered, at_replica}
+use Rattle.cluster_history.specs.Cluster.{take_step, taking, done_reply, numbered}
 use Rattle.cluster_history.specs.Message.{Carried, messages_in, offering_in}
+use Rattle.cluster_history.specs.declared.reply.Reply.TheVariants.{Done}
+use Rattle.cluster_history.proofs.Idle.{refused_where, call_same}
 use Rattle.cluster_history.proofs.Placed.{no_place, call_done, call_refused}
 use Rattle.cluster_history.proofs.Sent.{said_of, taking_is, taking_acts, take_none}
 use Rattle.cluster_history.proofs.cluster.Cluster.take.Goals as goal
@@ -27,9 +27,14 @@ returns-in_err-apply c =
     let offer = c.in-Some-offer_at.offer.now in
     let is = said_of (λ (messages : List Carried). offering_in (numbered messages c.args.message)) c.args.self.now c.self.inside.schema c.self.inside.stores.items c.self.inside.messages.items c.as_slice.result.now _
     c.self.view_is c.as_slice.ensures.value c.in-Some-offer_at.ensures in
-    rw (p.1, p.2) (call_refused done_reply c.args.self.now c.self.inside.schema c.self.inside.stores.items (messages_in c.self.inside.messages.items) c.args.replica c.in-Some.place (taking (offering_in (numbered c.args.self.now.messages c.args.message))) c.index_mut.result.now c.apply.new.self c.in_err-apply.field-0.0
+    let lacks : take_step c.args.self.now c.args.replica c.args.message ≢ Ok (Done, c.args.self.now) = λ same.
+    false≢true (c.in_err-apply.ensures.idle
+    (sym (taking_is c.args.self.now c.args.message offer c.index_mut.result.now.replica is)
+    ∙ call_same c.args.self.now c.self.inside.schema c.self.inside.stores.items (messages_in c.self.inside.messages.items) c.args.replica c.in-Some.place (taking (offering_in (numbered c.args.self.now.messages c.args.message))) c.index_mut.result.now
+    c.self.view_is c.in-Some.ensures.place c.in-Some.ensures.bound c.index_mut.ensures.value same)) in
+    rw (p.1, p.2) (refused_where lacks (call_refused done_reply c.args.self.now c.self.inside.schema c.self.inside.stores.items (messages_in c.self.inside.messages.items) c.args.replica c.in-Some.place (taking (offering_in (numbered c.args.self.now.messages c.args.message))) c.index_mut.result.now c.apply.new.self c.in_err-apply.field-0.0
     c.self.view_is c.in-Some.ensures.place c.in-Some.ensures.bound c.index_mut.ensures.value c.in_err-apply.ensures.refused
-    (taking_acts c.args.self.now c.args.message offer c.index_mut.result.now.replica c.apply.new.self.replica c.in_err-apply.field-0.0 is c.in_err-apply.ensures.acts))
+    (taking_acts c.args.self.now c.args.message offer c.index_mut.result.now.replica c.apply.new.self.replica c.in_err-apply.field-0.0 is c.in_err-apply.ensures.acts)))
 
 pub returns : goal.returns
 unfolding take_step
