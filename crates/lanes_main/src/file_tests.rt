@@ -104,19 +104,31 @@ fn add_exported(text: &mut Vec<u8>, file: Parts) -> Result<(), Refusal> {
     Ok(())
 }
 
+/// These lines, and those that export at both replicas, open the file at the second and export it again.
+fn with_exports(alloc: Global, lines: &str, file: Parts) -> Result<Vec<u8>, Refusal> {
+    let mut input = Vec::from_slice(alloc, lines.as_bytes())?;
+    input.extend_from_slice(b"export 1\nexport 2\n")?;
+    add_open(&mut input, file)?;
+    input.extend_from_slice(b"export 2\n")?;
+    Ok(input)
+}
+
+/// These replies, and those to the exports and to the line that opens the file.
+fn with_files(alloc: Global, replies: &str, file: Parts) -> Result<Vec<u8>, Refusal> {
+    let mut want = Vec::from_slice(alloc, replies.as_bytes())?;
+    add_exported(&mut want, file)?;
+    add_exported(&mut want, file)?;
+    want.extend_from_slice(b"ok\n")?;
+    add_exported(&mut want, file)?;
+    Ok(want)
+}
+
 // Both export the same file; where one opens it, it stays as it is.
 #[test]
 fn replicas_that_took_the_same_export_the_same_file(rt: HostRuntime) -> Result<(), Fail> {
-    for (lines, replies, file) in EXPORTS {
-        let mut input = Vec::from_slice(rt.alloc(), lines.as_bytes())?;
-        input.extend_from_slice(b"export 1\nexport 2\n")?;
-        add_open(&mut input, file)?;
-        input.extend_from_slice(b"export 2\n")?;
-        let mut want = Vec::from_slice(rt.alloc(), replies.as_bytes())?;
-        add_exported(&mut want, file)?;
-        add_exported(&mut want, file)?;
-        want.extend_from_slice(b"ok\n")?;
-        add_exported(&mut want, file)?;
+    for &(lines, replies, file) in &EXPORTS {
+        let input = with_exports(rt.alloc(), lines, file)?;
+        let want = with_files(rt.alloc(), replies, file)?;
         let text = text_of(rt.alloc(), input.as_slice())?;
         assert!(rt; text.as_slice() == want.as_slice(), "at {lines}");
     }
@@ -308,7 +320,7 @@ const OPENED: [(Parts, &str); 24] = [
 
 #[test]
 fn a_file_opens_or_has_its_first_fault(rt: HostRuntime) -> Result<(), Fail> {
-    for (file, want) in OPENED {
+    for &(file, want) in &OPENED {
         let mut input = Vec::from_slice(rt.alloc(), b"table 2 T A SMALLINT\n".as_slice())?;
         add_open(&mut input, file)?;
         let text = text_of(rt.alloc(), input.as_slice())?;
@@ -386,22 +398,22 @@ const REFUSED_QUERIES: [(&[&str], Refusal, &str, &str); 7] = [
     (&["SELECT COUNT(*) FROM U"], Refusal::NoSuchTable, "", ""),
 ];
 
+/// The outcome of queries over the file of one row, what was answered, and what is shown.
+fn asked(alloc: Global, queries: &[&str]) -> Result<(Option<Refusal>, Vec<u8>, Vec<u8>), Fail> {
+    let file = hex::decode(alloc, ONE_ROW_DIGITS)?;
+    let mut reader = Counted::new(file.as_slice());
+    let mut writer = Counted::new(Vec::new(alloc));
+    let mut notes = Vec::new(alloc);
+    let outcome = query_file_with_notes(alloc, &mut reader, queries, &mut writer, &mut notes);
+    Ok((outcome.err(), writer.into_inner(), notes))
+}
+
 #[test]
 fn a_caret_stands_under_the_place_where_a_query_is_refused(rt: HostRuntime) -> Result<(), Fail> {
-    for (queries, refusal, answers, shown) in REFUSED_QUERIES {
-        let file = hex::decode(rt.alloc(), ONE_ROW_DIGITS)?;
-        let mut reader = Counted::new(file.as_slice());
-        let mut writer = Counted::new(Vec::new(rt.alloc()));
-        let mut notes = Vec::new(rt.alloc());
-        let outcome = query_file_with_notes(
-            rt.alloc(),
-            &mut reader,
-            queries,
-            &mut writer,
-            &mut notes,
-        );
-        assert!(rt; outcome == Err(refusal));
-        assert!(rt; writer.into_inner().as_slice() == answers.as_bytes());
+    for &(queries, refusal, answers, shown) in &REFUSED_QUERIES {
+        let (outcome, answered, notes) = asked(rt.alloc(), queries)?;
+        assert!(rt; outcome == Some(refusal));
+        assert!(rt; answered.as_slice() == answers.as_bytes());
         assert!(rt; notes.as_slice() == shown.as_bytes(), "at {shown}");
     }
     Ok(())

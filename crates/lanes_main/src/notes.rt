@@ -79,6 +79,16 @@ fn line_at(text: &str, at: usize) -> Option<(&str, &str)> {
     Some((before, after))
 }
 
+/// The line of a place, of which so much stands before the place and so much after it, and a caret under the place.
+fn pointer(alloc: Global, before: &str, after: &str) -> Result<String, AllocError> {
+    let mut shown = format!(in alloc; "{before}{after}\n")?;
+    for letter in before.chars() {
+        shown.push(if letter == '\t' { '\t' } else { ' ' })?;
+    }
+    shown.push_str("^\n")?;
+    Ok(shown)
+}
+
 /// Shows where a query is refused, as far as the writer takes it: the line of the place, and a caret under the place. A refusal
 /// that names no place shows nothing.
 pub fn point_at<N: Write>(
@@ -90,14 +100,9 @@ pub fn point_at<N: Write>(
     let Some(at) = place_in_query(refusal) else {
         return Ok(());
     };
-    let Some((before, after)) = line_at(query, at as usize) else {
-        return Ok(());
-    };
-    let mut shown = format!(in alloc; "{before}{after}\n")?;
-    for letter in before.chars() {
-        shown.push(if letter == '\t' { '\t' } else { ' ' })?;
+    if let Some((before, after)) = line_at(query, at as usize) {
+        let shown = pointer(alloc, before, after)?;
+        let _ = writer.write_all(shown.as_bytes());
     }
-    shown.push_str("^\n")?;
-    let _ = writer.write_all(shown.as_bytes());
     Ok(())
 }

@@ -139,7 +139,7 @@ const SCRIPTS: [(&str, &str); 26] = [
 
 #[test]
 fn a_script_has_the_reply_to_each_line(rt: HostRuntime) -> Result<(), Fail> {
-    for (input, want) in SCRIPTS {
+    for &(input, want) in &SCRIPTS {
         let text = text_of(rt.alloc(), input.as_bytes())?;
         assert!(rt; text.as_slice() == want.as_bytes(), "at {input}");
     }
@@ -188,19 +188,22 @@ const NOTED: [(&str, &str); 10] = [
     ),
 ];
 
+/// What a script writes, and the notes on its refused lines.
+fn noted(alloc: Global, input: &str) -> Result<(Vec<u8>, Vec<u8>), Refusal> {
+    let mut reader = Counted::new(input.as_bytes());
+    let mut writer = Counted::new(Vec::new(alloc));
+    let mut notes = Vec::new(alloc);
+    script_with_notes(alloc, &mut reader, &mut writer, &mut notes)?;
+    Ok((writer.into_inner(), notes))
+}
+
 #[test]
 fn a_refused_line_is_noted_and_the_replies_stay(rt: HostRuntime) -> Result<(), Fail> {
-    for (input, want) in NOTED {
-        let mut reader = Counted::new(input.as_bytes());
-        let mut writer = Counted::new(Vec::new(rt.alloc()));
-        let mut notes = Vec::new(rt.alloc());
-        script_with_notes(rt.alloc(), &mut reader, &mut writer, &mut notes)?;
+    for &(input, want) in &NOTED {
+        let (replies, notes) = noted(rt.alloc(), input)?;
         assert!(rt; notes.as_slice() == want.as_bytes(), "at {input}");
         let plain = text_of(rt.alloc(), input.as_bytes())?;
-        assert!(rt;
-            writer.into_inner().as_slice() == plain.as_slice(),
-            "at {input}"
-        );
+        assert!(rt; replies.as_slice() == plain.as_slice(), "at {input}");
     }
     Ok(())
 }
@@ -293,9 +296,8 @@ fn insert(alloc: Global, count: usize) -> Result<Step, Refusal> {
     })
 }
 
-/// One step of each kind, and two that are refused.
-fn steps_of_each_kind(alloc: Global) -> Result<Vec<Step>, Refusal> {
-    let sql = String::from_str(alloc, "SELECT COUNT(*) FROM T")?;
+/// Two appends, of which one is refused, and a deletion of rows that aren't there yet.
+fn first_steps(alloc: Global) -> Result<Vec<Step>, Refusal> {
     let mut steps = Vec::new(alloc);
     steps.push(append(alloc, 2)?)?;
     steps.push(append(alloc, 0)?)?;
@@ -307,16 +309,34 @@ fn steps_of_each_kind(alloc: Global) -> Result<Vec<Step>, Refusal> {
         },
         last: 8,
     })?;
+    Ok(steps)
+}
+
+/// Adds two inserts under one name, of which one is refused, and a merge.
+fn add_inserts(alloc: Global, steps: &mut Vec<Step>) -> Result<(), Refusal> {
     steps.push(insert(alloc, 3)?)?;
     steps.push(insert(alloc, 2)?)?;
     steps.push(Step::Merge {
         replica: 1,
         other: 2,
     })?;
-    steps.push(Step::Query {
+    Ok(())
+}
+
+/// A query that counts all rows.
+fn query(alloc: Global) -> Result<Step, Refusal> {
+    let sql = String::from_str(alloc, "SELECT COUNT(*) FROM T")?;
+    Ok(Step::Query {
         replica: 1,
         sql: Sql::from_string(sql),
-    })?;
+    })
+}
+
+/// One step of each kind, and two that are refused.
+fn steps_of_each_kind(alloc: Global) -> Result<Vec<Step>, Refusal> {
+    let mut steps = first_steps(alloc)?;
+    add_inserts(alloc, &mut steps)?;
+    steps.push(query(alloc)?)?;
     Ok(steps)
 }
 
@@ -350,17 +370,22 @@ const ONE_ROW: [u8; 42] = [
     0, 0, 7, 0, 0, 0, 0, 0, 0, 0, 0, 0,
 ];
 
+/// How a check of a file ends, and what it tells.
+fn checked(alloc: Global, file: &[u8]) -> (Option<Refusal>, Vec<u8>) {
+    let mut reader = Counted::new(file);
+    let mut writer = Counted::new(Vec::new(alloc));
+    let outcome = check_file(alloc, &mut reader, &mut writer);
+    (outcome.err(), writer.into_inner())
+}
+
 // One batch of one row, and no deletion.
 #[test]
 fn a_file_is_checked(rt: HostRuntime) -> Result<(), Fail> {
-    let mut reader = Counted::new(ONE_ROW.as_slice());
-    let mut writer = Counted::new(Vec::new(rt.alloc()));
-    check_file(rt.alloc(), &mut reader, &mut writer)?;
-    assert!(rt; writer.into_inner().as_slice() == b"ok batches=1 ranges=0\n".as_slice());
-    let mut reader = Counted::new(&ONE_ROW[1..]);
-    let mut writer = Counted::new(Vec::new(rt.alloc()));
-    let outcome = check_file(rt.alloc(), &mut reader, &mut writer);
-    assert!(rt; outcome == Err(Refusal::BadMagic));
-    assert!(rt; writer.into_inner().is_empty());
+    let (outcome, told) = checked(rt.alloc(), ONE_ROW.as_slice());
+    assert!(rt; outcome.is_none());
+    assert!(rt; told.as_slice() == b"ok batches=1 ranges=0\n".as_slice());
+    let (outcome, told) = checked(rt.alloc(), &ONE_ROW[1..]);
+    assert!(rt; outcome == Some(Refusal::BadMagic));
+    assert!(rt; told.is_empty());
     Ok(())
 }
