@@ -7,11 +7,11 @@ once, which takes some minutes. It needs the commands rt and rustc.
 import argparse, os, pathlib, subprocess, sys
 
 sys.dont_write_bytecode = True
-from workspace import TOP, link, say, usual_folder, write_workspace
+from workspace import TOP, libraries_below, link, say, usual_folder, write_workspace
 
 SOURCES = TOP / "bench" / "parse"
 NAME = "parse_times"
-LIBRARIES = {"table_model": [], "query_parser": ["table_model"]}
+LIBRARIES = libraries_below("query_parser")
 # The C library keeps freed memory for the next call. Else the kernel takes it back after some calls and clears it anew at the
 # next, on one side or on the other as the heap happens to lie.
 KEPT_MEMORY = {"MALLOC_TRIM_THRESHOLD_": "1000000000", "MALLOC_MMAP_THRESHOLD_": "1000000000"}

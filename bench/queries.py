@@ -8,8 +8,9 @@ INTEGER, KIND SMALLINT, EVENTS BIGINT, ERRORS INTEGER, TOTAL BIGINT). PROGRAM be
 prints lines `query NAME MS,MS,.. ANSWER`; the bench then prints both sides and their ratio, and says where the answers differ.
 Without a folder, lanes is timed alone, on 400,000 rows of its own.
 
-A query's time is that of a run that asks it several times more, less that of a run with a cheap query alone, by the number of
-times; the best of N runs counts. The opening of the file so falls out. What is measured on a loaded machine says little.
+A query's time is that of a run that asks a cheap query and then this one many times, less that of a run with the cheap query
+alone, by the number of times: the best of N runs each. The opening of the file so falls out. The times are as many as make the
+run half a second longer, or 8,192. What is measured on a loaded machine says little.
 """
 import argparse, os, subprocess, sys, tempfile, time
 
@@ -60,12 +61,18 @@ def seconds(program, file, queries):
     return time.perf_counter() - start, done.stdout.decode()
 
 
+def least_seconds(program, file, queries, runs):
+    """The best time of a few runs."""
+    return min(seconds(program, file, queries)[0] for _ in range(runs))
+
+
 def milliseconds(program, file, query, runs):
     """The best time of a query, and its answer's rows."""
-    once, text = seconds(program, file, [query])
-    times = max(3, min(200, int(0.3 / max(once, 1e-3))))
-    best = min(seconds(program, file, [CHEAP] + [query] * times)[0] - seconds(program, file, [CHEAP])[0] for _ in range(runs))
-    return best / times * 1000, ";".join(text.splitlines()[1:])
+    opening, times = least_seconds(program, file, [CHEAP], runs), 1
+    while times < 8_192 and seconds(program, file, [CHEAP] + [query] * times)[0] < opening + 0.5:
+        times *= 2
+    best = least_seconds(program, file, [CHEAP] + [query] * times, runs) - opening
+    return best / times * 1000, ";".join(seconds(program, file, [query])[1].splitlines()[1:])
 
 
 def beside(other, folder, runs):

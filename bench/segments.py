@@ -9,18 +9,11 @@ ratios of both.
 import argparse, pathlib, random, shutil, subprocess, sys
 
 sys.dont_write_bytecode = True
-from workspace import TOP, run, say, usual_folder, write_workspace
+from workspace import TOP, libraries_below, run, say, usual_folder, write_workspace
 
 SOURCES = TOP / "bench" / "segments" / "program"
 NAME = "segment_times"
-LIBRARIES = {
-    "table_model": [],
-    "transpose_order": [],
-    "bit_interleave": ["transpose_order"],
-    "frame_delta": ["transpose_order", "bit_interleave"],
-    "run_dictionary": ["transpose_order", "bit_interleave"],
-    "segment_core": ["table_model", "transpose_order", "bit_interleave", "frame_delta", "run_dictionary", "byteorder"],
-}
+LIBRARIES = libraries_below("segment_core")
 BATCH = 20_000
 
 

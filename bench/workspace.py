@@ -25,6 +25,17 @@ def usual_folder(name):
     return pathlib.Path(tempfile.gettempdir()) / f"lanes-{name}-{os.getuid()}"
 
 
+def libraries_below(*names):
+    """The crates of those names and all that they stand on, lowest first, each with its libraries as crates.txt has them."""
+    lines = [line.partition(":") for line in (TOP / "crates.txt").read_text().splitlines() if not line.startswith("#")]
+    below = {name: libraries.split() for name, _, libraries in lines}
+    wanted = set()
+    for name in reversed(list(below)):
+        if name in names or name in wanted:
+            wanted |= {name, *below[name]}
+    return {name: libraries for name, libraries in below.items() if name in wanted}
+
+
 def copy_crate(name, folder):
     """Copies a crate's sources, and its kept proof work where the folder has none of its own."""
     source, crate = TOP / "crates" / name, folder / "crates" / name
