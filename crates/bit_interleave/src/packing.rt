@@ -75,28 +75,78 @@ fn pack_constant<V: LaneWord, U: LaneWord, const W: usize>(values: &[V; 1024], w
     }
 }
 
+/// Packs at a width that is one of these numbers, so that it is known when the program is compiled.
+macro_rules! at_constant_width {
+    ($width:ident, $values:ident, $words:ident, $($w:literal)*, $last:literal) => {
+        match $width {
+            $($w => pack_constant::<V, U, $w>($values, $words),)*
+            _ => pack_constant::<V, U, $last>($values, $words),
+        }
+    };
+}
+
+/// The words that pack 1024 values of `width` bits in row order, for a width from 0 to 15.
+fn pack_narrowest<V: LaneWord, U: LaneWord>(width: usize, values: &[V; 1024], words: &mut [U])
+    requires range { width ≤ 15 }
+    requires width { width ≤ U.BITS }
+    requires fit { All (λ v. V.number v < 2 ^ width) values.now }
+    requires words { length words.old ≡ width * (1024 / U.BITS) }
+    ensures { map U.number words.new ≡ packed U.BITS width (map V.number values.now) }
+{
+    at_constant_width!(width, values, words, 0 1 2 3 4 5 6 7 8 9 10 11 12 13 14, 15);
+}
+
+/// The words that pack 1024 values of `width` bits in row order, for a width from 16 to 31.
+fn pack_narrow<V: LaneWord, U: LaneWord>(width: usize, values: &[V; 1024], words: &mut [U])
+    requires range { 16 ≤ width }
+    requires range_end { width ≤ 31 }
+    requires width { width ≤ U.BITS }
+    requires fit { All (λ v. V.number v < 2 ^ width) values.now }
+    requires words { length words.old ≡ width * (1024 / U.BITS) }
+    ensures { map U.number words.new ≡ packed U.BITS width (map V.number values.now) }
+{
+    at_constant_width!(width, values, words, 16 17 18 19 20 21 22 23 24 25 26 27 28 29 30, 31);
+}
+
+/// The words that pack 1024 values of `width` bits in row order, for a width from 32 to 47.
+fn pack_wide<V: LaneWord, U: LaneWord>(width: usize, values: &[V; 1024], words: &mut [U])
+    requires range { 32 ≤ width }
+    requires range_end { width ≤ 47 }
+    requires width { width ≤ U.BITS }
+    requires fit { All (λ v. V.number v < 2 ^ width) values.now }
+    requires words { length words.old ≡ width * (1024 / U.BITS) }
+    ensures { map U.number words.new ≡ packed U.BITS width (map V.number values.now) }
+{
+    at_constant_width!(width, values, words, 32 33 34 35 36 37 38 39 40 41 42 43 44 45 46, 47);
+}
+
+/// The words that pack 1024 values of `width` bits in row order, for a width from 48 to 64.
+fn pack_widest<V: LaneWord, U: LaneWord>(width: usize, values: &[V; 1024], words: &mut [U])
+    requires range { 48 ≤ width }
+    requires range_end { width ≤ 64 }
+    requires width { width ≤ U.BITS }
+    requires fit { All (λ v. V.number v < 2 ^ width) values.now }
+    requires words { length words.old ≡ width * (1024 / U.BITS) }
+    ensures { map U.number words.new ≡ packed U.BITS width (map V.number values.now) }
+{
+    at_constant_width!(width, values, words, 48 49 50 51 52 53 54 55 56 57 58 59 60 61 62 63, 64);
+}
+
 /// The words that pack 1024 values of `width` bits, 0 to `U::BITS`, in row order, given in words of any type: there are
-/// `width * (1024 / U::BITS)` of them. The width is looked up once, among those that are known when it is compiled.
+/// `width * (1024 / U::BITS)` of them. The width is looked up once, among those that are known when it is compiled; by sixteens,
+/// which a proof takes in better than all at once.
 pub(crate) fn pack_from<V: LaneWord, U: LaneWord>(width: usize, values: &[V; 1024], words: &mut [U])
     requires width { width ≤ U.BITS }
     requires fit { All (λ v. V.number v < 2 ^ width) values.now }
     requires words { length words.old ≡ width * (1024 / U.BITS) }
     ensures { map U.number words.new ≡ packed U.BITS width (map V.number values.now) }
 {
-    macro_rules! at_constant_width {
-        ($($w:literal)*) => {
-            match width {
-                $($w => pack_constant::<V, U, $w>(values, words),)*
-                _ => pack_constant::<V, U, 64>(values, words),
-            }
-        };
+    match width / 16 {
+        0 => pack_narrowest(width, values, words),
+        1 => pack_narrow(width, values, words),
+        2 => pack_wide(width, values, words),
+        _ => pack_widest(width, values, words),
     }
-    at_constant_width!(
-        0 1 2 3 4 5 6 7 8 9 10 11 12 13 14 15
-        16 17 18 19 20 21 22 23 24 25 26 27 28 29 30 31
-        32 33 34 35 36 37 38 39 40 41 42 43 44 45 46 47
-        48 49 50 51 52 53 54 55 56 57 58 59 60 61 62 63
-    );
 }
 
 /// The words that pack 1024 values of `width` bits in row order.

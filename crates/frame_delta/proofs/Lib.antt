@@ -8,3 +8,4 @@ pub mod DeltaLemmas
 pub mod LeastDelta
 pub mod DifferenceLemmas
 pub mod TurnLemmas
+pub mod SameValues

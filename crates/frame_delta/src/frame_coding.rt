@@ -1,11 +1,11 @@
 //! Vectors coded by frame of reference.
-ghost use Rattle.std.specs.Prelude.{◌≡◌, ◌+◌, ◌*◌, ◌/◌, ◌<◌, ◌≤◌, ◌↔◌, map, length, IsTrue, IfOk};
+ghost use Rattle.std.specs.Prelude.{◌≡◌, ◌+◌, ◌*◌, ◌/◌, ◌<◌, ◌≤◌, ◌↔◌, ℕ, ℤ, List, map, length, IsTrue, IfOk};
 ghost use Rattle.std.specs.Int.RustNames.{FitsSigned};
 ghost use Rattle.transpose_order.specs.Place.{IsLaneWidth, place_of};
 ghost use Rattle.bit_interleave.specs.Arithmetic.{integer_width};
 ghost use Rattle.bit_interleave.specs.Packing.{sixteen_of};
 ghost use Rattle.bit_interleave.specs.PackedWords.{HasWidth};
-ghost use Rattle.bit_interleave.specs.Range.{AreInRange};
+ghost use Rattle.bit_interleave.specs.Range.{AreInRange, value_at};
 ghost use Rattle.frame_delta.specs.Frame.{IsFrameForm, frame_value, frame_values, least_frame, frame_bytes};
 
 use crate::extremes::{Frame, gaps_above, spread_of};
@@ -89,6 +89,21 @@ impl For {
         Ok(For {
             width,
             reference,
+            words,
+        })
+    }
+
+    /// The least form of 1024 values that are all `value`: the value as the reference, and no words. The value is in the range of
+    /// `lane_width` bits, signed, which are 8, 16, 32 or 64. Where memory is refused, an `AllocError`.
+    pub fn constant(alloc: Global, lane_width: usize, value: i64) -> Result<Self, AllocError>
+        requires lane_width { IsLaneWidth lane_width }
+        requires fits { FitsSigned (integer_width lane_width) value }
+        ensures { IfOk result (λ coded. (values : List ℤ) → ((n : ℕ) → n < 1024 → value_at values n ≡ value) → coded ≡ least_frame lane_width values) }
+    {
+        let words = Words::from_numbers(alloc, lane_width, &[])?;
+        Ok(For {
+            width: 0,
+            reference: value,
             words,
         })
     }

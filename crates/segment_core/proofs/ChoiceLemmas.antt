@@ -1,5 +1,5 @@
 -- The first coding of fewest bytes is found by comparing one after another.
-use Rattle.std.proofs.Common.{◌≡◌, ℕ, ◌<◌, ◌≤◌, ◌⊎◌, inl, inr, ◌+◌, ◌*◌, ◌/◌, length, Bool, true, false, nat_lt, cond, ℤ, List, Option, IsSome, is_some, ◌↔◌, refl, sym, ◌∙◌, ap, subst, arith}
+use Rattle.std.proofs.Common.{◌≡◌, ℕ, ◌<◌, ◌≤◌, ◌⊎◌, inl, inr, ◌*◌, ◌/◌, length, Bool, true, false, nat_lt, cond, ℤ, List, Option, IsSome, is_some, ◌↔◌, refl, sym, ◌∙◌, ap, subst, arith}
 use Rattle.std.proofs.lemmas.Bool.Decides.{nat_tests}
 use Rattle.transpose_order.specs.Place.{IsLaneWidth}
 use Rattle.run_dictionary.specs.Dict.{distinct}

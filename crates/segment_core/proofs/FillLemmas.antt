@@ -180,8 +180,8 @@ filling_last rows nulls given now n latest past h =
     let whole : take n cells ≡ cells = take_all n cells (omega (arith, length-cells_under rows nulls given)) in
     h.latest_is ∙ ap (λ xs. last_or (first_or (pos 0) (present cells)) (present xs)) whole ∙ last_of_first (pos 0) (present cells)
 
--- past the rows the filled value is the last
-filled_past : (cells : List (Option ℤ)) (n : ℕ) → length cells ≤ n → filled_at cells n ≡ last_or (pos 0) (present cells)
+-- at the last row, and past the rows, the filled value is the last
+pub filled_past : (cells : List (Option ℤ)) (n : ℕ) → length cells ≤ suc n → filled_at cells n ≡ last_or (pos 0) (present cells)
 unfolding filled_at
 filled_past cells n past = ap (λ xs. last_or (first_or (pos 0) (present cells)) (present xs)) (take_all (suc n) cells (omega arith)) ∙ last_of_first (pos 0) (present cells)
 

@@ -1,6 +1,7 @@
 pub mod CodedLemmas
 pub mod ChoiceLemmas
 pub mod FillLemmas
+pub mod SameCells
 pub mod VectorLemmas
 pub mod GatherLemmas
 pub mod BuildLemmas

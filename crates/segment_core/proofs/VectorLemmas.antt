@@ -150,7 +150,7 @@ pub null_rows_is : (cells : List (Option ℤ)) (mask : List Bool) → length mas
 unfolding null_rows
 null_rows_is cells mask l h = rows_of-same (λ n. is_null_cell (get_or cells n (Some (pos 0)))) mask false l h
 
-null_past : (cells : List (Option ℤ)) (n : ℕ) → length cells ≤ n → (n < 1024) ⊎ (1024 ≤ n) → has (null_rows cells) n ≡ false
+pub null_past : (cells : List (Option ℤ)) (n : ℕ) → length cells ≤ n → (n < 1024) ⊎ (1024 ≤ n) → has (null_rows cells) n ≡ false
 null_past cells n h (inl l) = has-null_rows cells n l ∙ ap is_null_cell (get_or_past cells n (Some (pos 0)) h)
 null_past cells n h (inr l) = get_or_past (null_rows cells) n false (omega (arith, length-null_rows cells))
 

@@ -39,3 +39,8 @@ cells_under rows nulls values = map (cell_under nulls values) (range_with_len 0 
 -- each cell is null or in the range of t bits, signed
 abbrev pub AreCellsInRange : ℕ → List (Option ℤ) → Type 0
 AreCellsInRange t cells = (n : ℕ) (value : ℤ) → n < length cells → slice_index_or cells n None ≡ Some value → FitsSigned (integer_width t) value
+
+-- so many cells, each of which has the same value
+pub record AreSame (rows : ℕ) (value : ℤ) (cells : List (Option ℤ)) : Type 0 where
+  pub count : length cells ≡ rows
+  pub each : (n : ℕ) → n < rows → slice_index_or cells n None ≡ Some value

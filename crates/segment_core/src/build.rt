@@ -4,7 +4,7 @@ ghost use Rattle.std.specs.Int.{w64};
 ghost use Rattle.transpose_order.specs.Place.{IsLaneWidth};
 ghost use Rattle.transpose_order.specs.Mask.{has};
 ghost use Rattle.bit_interleave.specs.Range.{value_at};
-ghost use Rattle.segment_core.specs.Fill.{cells_under};
+ghost use Rattle.segment_core.specs.Fill.{cells_under, AreSame};
 ghost use Rattle.segment_core.specs.CodedVector.{is_null_cell, null_rows, canonical_vector};
 ghost use Rattle.segment_core.specs.Segment.{column_cells, canonical_column, vector_count, HasColumn};
 
@@ -60,9 +60,30 @@ fn canonical_vector(
     requires column { HasColumn lane_width rows.now column }
     ensures { IfOk result (λ vector. vector ≡ canonical_vector lane_width (column_cells rows.now column)) }
 {
+    if let Some(value) = only_value(rows, column) {
+        return CodedVector::constant(alloc, lane_width, rows.len() as u16, value);
+    }
     let mut values = [0; 1024];
     let nulls = gather(rows, column, &mut values);
     CodedVector::canonical(alloc, lane_width, rows.len() as u16, &nulls, &values)
+}
+
+/// The value that each of some rows has in a column, where none is null and no two differ.
+fn only_value(rows: &[Row], column: usize) -> Option<i64>
+    requires some { 1 ≤ length rows.now }
+    requires column { HasColumn 64 rows.now column }
+    ensures { IfSome result (λ value. AreSame (length rows.now) value (column_cells rows.now column)) }
+{
+    let first = cell_at(&rows[0], column);
+    for row in rows {
+        if cell_at(row, column) != first {
+            return None;
+        }
+    }
+    match first {
+        None => None,
+        Some(value) => Some(value as i64),
+    }
 }
 
 /// Writes the values of a column of at most 1024 rows, and answers which of its rows are null.

@@ -1,12 +1,13 @@
 //! Coded vectors: up to 1024 rows of a column, with the rows that are null.
-ghost use Rattle.std.specs.Prelude.{◌≡◌, ◌<◌, ◌≤◌, ◌↔◌, ℕ, [], length, slice_index_or, IsTrue, IfOk};
+ghost use Rattle.std.specs.Prelude.{◌≡◌, ◌<◌, ◌≤◌, ◌↔◌, ℕ, ℤ, FitsSigned, List, Option, [], length, slice_index_or, IsTrue, IfOk};
 ghost use Rattle.std.specs.Option.{option_copied};
 ghost use Rattle.transpose_order.specs.Mask.{rows_of};
 ghost use Rattle.transpose_order.specs.Place.{IsLaneWidth};
 ghost use Rattle.segment_core.specs.Coded.{lane_width_of, values_of, coding_of};
 ghost use Rattle.segment_core.specs.CodedVector.{is_null, vector_cell, cells_of, null_rows, some_rows, canonical_vector, canonical_of, recoded_vector, IsVector, AreNulls, StandsFor};
-ghost use Rattle.segment_core.specs.Fill.{cell_or_null, filled, cells_under, AreCellsInRange};
+ghost use Rattle.segment_core.specs.Fill.{cell_or_null, filled, cells_under, AreCellsInRange, AreSame};
 ghost use Rattle.segment_core.specs.Segment.{column_cells};
+ghost use Rattle.bit_interleave.specs.Arithmetic.{integer_width};
 ghost use Rattle.bit_interleave.specs.Range.{AreInRange};
 
 use crate::boxed::Boxed;
@@ -167,6 +168,26 @@ impl CodedVector {
         let coded = Coded::encode(alloc, &full, lane_width, choose(&full, lane_width))?;
         let nulls = some_rows(alloc, nulls)?;
         let cover = Cover::new(rows, nulls);
+        Ok(CodedVector { cover, coded })
+    }
+
+    /// The canonical vector of 1 to 1024 rows of which each has the same value, in the range of `lane_width` bits, signed, which are
+    /// 8, 16, 32 or 64: a frame without packed values. Where memory is refused, an `AllocError`.
+    pub(crate) fn constant(
+        alloc: Global,
+        lane_width: usize,
+        rows: u16,
+        value: i64,
+    ) -> Result<CodedVector, AllocError>
+        requires lane_width { IsLaneWidth lane_width }
+        requires some { 1 ≤ rows }
+        requires limit { rows ≤ 1024 }
+        requires fits { FitsSigned (integer_width lane_width) value }
+        ensures { IfOk result (λ vector. (cells : List (Option ℤ)) → AreSame rows value cells → vector ≡ canonical_vector lane_width cells) }
+    {
+        let form = For::constant(alloc, lane_width, value)?;
+        let coded = Coded::For(Boxed::new(alloc, form)?);
+        let cover = Cover::new(rows, None);
         Ok(CodedVector { cover, coded })
     }
 

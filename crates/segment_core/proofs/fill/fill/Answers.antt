@@ -1,5 +1,5 @@
 -- A row's filled value is its own or the latest before it, and past the rows the last of all.
-use Rattle.std.proofs.Common.{◌≡◌, ◌∙◌, w64, FitsSigned, to_z, of_z, rules, refl}
+use Rattle.std.proofs.Common.{◌∙◌, w64, FitsSigned, rules, refl}
 use Rattle.std.proofs.lemmas.Int.{to_z-of_z}
 use Rattle.segment_core.proofs.FillLemmas.{filled_parts, full_is_filled}
 use Rattle.segment_core.proofs.fill.fill.Goals as goal

@@ -3,7 +3,7 @@ use Rattle.std.proofs.Common.{ℤ, List, arith, sym, ◌∙◌, ap, subst}
 use Rattle.bit_interleave.specs.Range.{AreInRange}
 use Rattle.segment_core.specs.Fill.{filled}
 use Rattle.segment_core.specs.Coded.{lane_width_of}
-use Rattle.segment_core.specs.CodedVector.{VectorForm, cells_of, IsVector}
+use Rattle.segment_core.specs.CodedVector.{cells_of, IsVector}
 use Rattle.segment_core.proofs.VectorLemmas.{cells_of-under, filled_in_range, cells_in_range, lane_width_is}
 use Rattle.segment_core.proofs.coded_vector.CodedVector.fill_decoded.Goals as goal
 
