@@ -1,8 +1,12 @@
 //! The rows of a coded vector whose value is in a range, found by the way that its coding has.
-ghost use Rattle.std.specs.Prelude.{◌≡◌, ℕ, ◌&&◌, not, IfSome, if◌then◌else◌};
+ghost use Rattle.std.specs.Prelude.{◌≡◌, ℕ, ◌<◌, ◌&&◌, not, IfSome, IsSome, if◌then◌else◌};
 ghost use Rattle.transpose_order.specs.Mask.{rows_of, has};
 ghost use Rattle.frame_delta.specs.Frame.{frame_value};
-ghost use Rattle.segment_core.specs.Coded.{value_in};
+ghost use Rattle.run_dictionary.specs.Runs.{RunForm};
+ghost use Rattle.run_dictionary.specs.Dict.{DictForm};
+ghost use Rattle.native_lanes.specs.Frames.{IsPlain, IsDecided};
+ghost use Rattle.segment_core.specs.Coded.{value_in, lane_width_of};
+ghost use Rattle.segment_core.specs.declared.coded.Coded.TheVariants.{Runs as InRuns, Dict as InDict};
 ghost use Rattle.fused_kernels.specs.Seen.{looked_at, between};
 ghost use Rattle.fused_kernels.specs.VectorSeen.{vector_seen};
 
@@ -25,7 +29,9 @@ pub(crate) fn rows_of_vector(vector: &CodedVector, mask: &Mask) -> Mask
 /// The rows whose value is neither below `low` nor above `high`, or none at a lane width of 8 where values may wrap or a word has
 /// to be read.
 fn found_in_frame(form: &For, low: i64, high: i64) -> Option<Mask>
-    ensures { IfSome result (λ found. found ≡ rows_of (λ n. between low high (frame_value form.now n))) }
+    ensures rows { IfSome result (λ found. found ≡ rows_of (λ n. between low high (frame_value form.now n))) }
+    ensures answers { 8 < form.now.lane_width → IsSome result }
+    ensures decided { IsPlain form.now → IsDecided form.now low high → IsSome result }
 {
     match frame_between(form, low, high) {
         None => frame_within(form, low, high),
@@ -36,7 +42,10 @@ fn found_in_frame(form: &For, low: i64, high: i64) -> Option<Mask>
 /// The rows whose value is neither below `low` nor above `high`, or none where the lanes have to be looked at, which are of 8 bits
 /// then.
 fn found_by_coding(coded: &Coded, low: i64, high: i64) -> Option<Mask>
-    ensures { IfSome result (λ found. found ≡ rows_of (λ n. between low high (value_in coded.now n))) }
+    ensures rows { IfSome result (λ found. found ≡ rows_of (λ n. between low high (value_in coded.now n))) }
+    ensures wide { 8 < lane_width_of coded.now → IsSome result }
+    ensures runs { (form : RunForm) → coded.now ≡ InRuns form → IsSome result }
+    ensures dict { (form : DictForm) → coded.now ≡ InDict form → IsSome result }
 {
     match coded {
         Coded::For(form) => {
@@ -55,7 +64,10 @@ fn found_by_coding(coded: &Coded, low: i64, high: i64) -> Option<Mask>
 /// The rows whose value is neither below `low` nor above `high`, or none where the lanes have to be looked at, which are of 8 bits
 /// then.
 pub(crate) fn found_between(coded: &Coded, low: i128, high: i128) -> Option<Mask>
-    ensures { IfSome result (λ found. found ≡ rows_of (λ n. between low high (value_in coded.now n))) }
+    ensures rows { IfSome result (λ found. found ≡ rows_of (λ n. between low high (value_in coded.now n))) }
+    ensures wide { 8 < lane_width_of coded.now → IsSome result }
+    ensures runs { (form : RunForm) → coded.now ≡ InRuns form → IsSome result }
+    ensures dict { (form : DictForm) → coded.now ≡ InDict form → IsSome result }
 {
     let _ = coded.lane_width();
     if i128::from(i64::MAX) < low || high < i128::from(i64::MIN) {

@@ -55,7 +55,7 @@ fn check_folds(rt: &impl Abort, vector: &CodedVector) {
 
 #[test]
 fn sums_and_extremes_are_those_of_the_rows_looked_at(rt: HostRuntime) -> Result<(), Fail> {
-    for coding in [Coding::For, Coding::Delta, Coding::Runs, Coding::Dict] {
+    for &coding in &[Coding::For, Coding::Delta, Coding::Runs, Coding::Dict] {
         check_folds(&rt, &threes(rt.alloc(), coding)?);
     }
     Ok(())

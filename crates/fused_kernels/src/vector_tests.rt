@@ -117,6 +117,21 @@ fn check_ends(rt: &impl Abort, vector: &CodedVector, least: i64, greatest: i64) 
     );
 }
 
+/// The column of one value alone, in each coding.
+fn check_equal_of(
+    rt: &impl Abort,
+    alloc: Global,
+    column_type: ColType,
+    value: i64,
+) -> Result<(), Fail> {
+    let all = Pattern::All(i128::from(value));
+    for &coding in &CODINGS {
+        let vector = coded(rt, alloc, column_type, 1024, all, coding)?;
+        check_equal(rt, &vector, value);
+    }
+    Ok(())
+}
+
 /// The column of the least value alone, and that of both ends by turns, in each coding.
 fn check_ends_of(
     rt: &impl Abort,
@@ -125,11 +140,9 @@ fn check_ends_of(
     least: i64,
     greatest: i64,
 ) -> Result<(), Fail> {
-    let all = Pattern::All(i128::from(least));
+    check_equal_of(rt, alloc, column_type, least)?;
     let ends = Pattern::Alternating(i128::from(least), i128::from(greatest));
-    for coding in CODINGS {
-        let vector = coded(rt, alloc, column_type, 1024, all, coding)?;
-        check_equal(rt, &vector, least);
+    for &coding in &CODINGS {
         let vector = coded(rt, alloc, column_type, 1024, ends, coding)?;
         check_ends(rt, &vector, least, greatest);
     }
@@ -165,8 +178,8 @@ fn check_thirds(rt: &impl Abort, vector: &CodedVector) {
 fn rows_past_the_end_null_or_out_of_the_mask_are_not_looked_at(
     rt: HostRuntime,
 ) -> Result<(), Fail> {
-    for column_type in TYPES {
-        for coding in CODINGS {
+    for &column_type in &TYPES {
+        for &coding in &CODINGS {
             let pattern = Pattern::ThirdsNull;
             let vector = coded(&rt, rt.alloc(), column_type, 1023, pattern, coding)?;
             check_thirds(&rt, &vector);
@@ -227,8 +240,8 @@ fn check_one_row(rt: &impl Abort, vector: &CodedVector) {
 
 #[test]
 fn a_vector_may_have_one_row(rt: HostRuntime) -> Result<(), Fail> {
-    for column_type in TYPES {
-        for coding in CODINGS {
+    for &column_type in &TYPES {
+        for &coding in &CODINGS {
             let vector = coded(&rt, rt.alloc(), column_type, 1, Pattern::All(-7), coding)?;
             check_one_row(&rt, &vector);
         }
@@ -269,8 +282,8 @@ fn check_thirds_compared(rt: &impl Abort, vector: &CodedVector) {
 // Of 10, 11, 13, 14, 16, 17 and 19, and at the ends of what numbers there are.
 #[test]
 fn a_comparison_parts_the_rows_looked_at_in_each_coding(rt: HostRuntime) -> Result<(), Fail> {
-    for column_type in TYPES {
-        for coding in CODINGS {
+    for &column_type in &TYPES {
+        for &coding in &CODINGS {
             let pattern = Pattern::ThirdsNull;
             let vector = coded(&rt, rt.alloc(), column_type, 1023, pattern, coding)?;
             check_thirds_compared(&rt, &vector);
@@ -295,7 +308,7 @@ fn check_ends_of_compared(
     low: i128,
     high: i128,
 ) -> Result<(), Fail> {
-    for coding in CODINGS {
+    for &coding in &CODINGS {
         let pattern = Pattern::Alternating(low, high);
         let vector = coded(rt, alloc, column_type, 1024, pattern, coding)?;
         check_ends_compared(rt, &vector, low, high);
@@ -337,17 +350,23 @@ fn check_two(rt: &impl Abort, left: &CodedVector, right: &CodedVector) {
     );
 }
 
+/// The rows' numbers against 0 and 1000 by turns, in each coding.
+fn check_left(rt: &impl Abort, alloc: Global, left: &CodedVector) -> Result<(), Fail> {
+    let ends = Pattern::Alternating(0, 1000);
+    for &coding in &CODINGS {
+        let right = coded(rt, alloc, ColType::BigInt, 1024, ends, coding)?;
+        check_two(rt, left, &right);
+    }
+    Ok(())
+}
+
 // A row's number is at most 0 at row 0 alone, and at most 1000 at the 500 odd rows up to 999.
 #[test]
 fn two_vectors_of_any_codings_are_compared(rt: HostRuntime) -> Result<(), Fail> {
-    let left = canonical(&rt, rt.alloc(), ColType::SmallInt, 1024, Pattern::Counting)?;
-    let ends = Pattern::Alternating(0, 1000);
-    for left_coding in CODINGS {
-        let left = left.recoded(rt.alloc(), left_coding)?;
-        for coding in CODINGS {
-            let right = coded(&rt, rt.alloc(), ColType::BigInt, 1024, ends, coding)?;
-            check_two(&rt, &left, &right);
-        }
+    let pattern = Pattern::Counting;
+    for &coding in &CODINGS {
+        let left = coded(&rt, rt.alloc(), ColType::SmallInt, 1024, pattern, coding)?;
+        check_left(&rt, rt.alloc(), &left)?;
     }
     Ok(())
 }
@@ -364,7 +383,7 @@ fn are_counting(values: &[i64; 1024]) -> bool {
 #[test]
 fn a_vector_is_decoded_in_row_order(rt: HostRuntime) -> Result<(), Fail> {
     let column_type = ColType::Integer;
-    for coding in CODINGS {
+    for &coding in &CODINGS {
         let vector = coded(
             &rt,
             rt.alloc(),

@@ -1,7 +1,6 @@
 pub mod BoolLemmas
 pub mod MarkLemmas
 pub mod FoldLemmas
-pub mod AcrossLemmas
 pub mod NativeLemmas
 pub mod PackedLemmas
 pub mod WalkLemmas

@@ -1,5 +1,5 @@
 -- A frame whose values don't wrap is in a range exactly where its packed numbers are in one.
-use Rattle.std.proofs.Common.{◌≡◌, ℕ, ◌-◌, ◌^◌, ◌<◌, ◌≤◌, ◌&&◌, Bool, true, false, nat_le, int_le, int_lt, ℤ, pos, ◌+ℤ◌, ◌-ℤ◌, ◌≤ℤ◌, ◌⊎◌, inl, inr, FitsSigned, to_z, of_z, refl, sym, ap, ◌∙◌, subst, arith}
+use Rattle.std.proofs.Common.{◌≡◌, ℕ, ◌-◌, ◌^◌, ◌≤◌, ◌&&◌, Bool, true, false, nat_le, int_le, int_lt, ℤ, pos, ◌+ℤ◌, ◌-ℤ◌, ◌≤ℤ◌, ◌⊎◌, inl, inr, FitsSigned, to_z, of_z, refl, sym, ap, ◌∙◌, subst, arith}
 use Rattle.std.specs.Int.{w64, int_min, int_max}
 use Rattle.std.proofs.lemmas.Int.{ints, clamps, int_wrap_fits, to_z-of_z}
 use Rattle.std.proofs.lemmas.Bool.{cases_Bool}
@@ -13,6 +13,7 @@ use Rattle.bit_interleave.specs.Packing.{packed_value}
 use Rattle.bit_interleave.proofs.StepLemmas.{packed_value-below}
 use Rattle.frame_delta.specs.Frame.{FrameForm, IsFrameForm, frame_value}
 use Rattle.native_lanes.specs.Between.{between}
+use Rattle.native_lanes.specs.Frames.{top_value, IsDecided}
 
 pub fits_below : (t : ℕ) → IsLaneWidth t → (r : ℤ) (n k : ℕ) → FitsSigned (integer_width t) r → n ≤ k → (r +ℤ pos k) ≤ℤ pos (2 ^ (t - 1) - 1) → FitsSigned (integer_width t) (r +ℤ pos n)
 fits_below =
@@ -73,6 +74,15 @@ none_crossed low high v a = by_case (cases_Bool (int_le low v))
         let h : int_le v high ≡ false = grind (arith, ints) in
         ap (λ x. x && int_le v high) l ∙ h
     by_case (inr l) = ap (λ x. x && int_le v high) l
+
+-- what the ends decide, none of the tests leaves
+pub decided_by_ends : (form : FrameForm) (low high r upper below above : ℤ) → r ≡ form.reference → upper ≡ top_value form → below ≡ low → above ≡ high
+    → int_lt above r ≡ false → int_lt upper below ≡ false → int_lt above below ≡ false → (int_le below r ≡ false) ⊎ (int_le upper above ≡ false) → IsDecided form low high → ⊥
+decided_by_ends form low high r upper below above re te le he a b c d (inl h) = absurd (grind (arith, ints, re, te, le, he, a, h))
+decided_by_ends form low high r upper below above re te le he a b c d (inr (inl h)) = absurd (grind (arith, ints, re, te, le, he, b, h))
+decided_by_ends form low high r upper below above re te le he a b c d (inr (inr (inl h))) = absurd (grind (arith, ints, re, te, le, he, c, h))
+decided_by_ends form low high r upper below above re te le he a b c (inl d) (inr (inr (inr h))) = absurd (grind (arith, ints, re, te, le, he, d, h.0))
+decided_by_ends form low high r upper below above re te le he a b c (inr d) (inr (inr (inr h))) = absurd (grind (arith, ints, re, te, le, he, d, h.1))
 
 -- the part of a range that lies between two ends
 pub ends_cross_not : (low high least greatest : ℤ) → least ≤ℤ greatest → int_lt high least ≡ false → int_lt greatest low ≡ false → int_lt high low ≡ false → int_max low least ≤ℤ int_min high greatest

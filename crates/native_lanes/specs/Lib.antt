@@ -1,3 +1,4 @@
 pub mod Between
 pub mod Folds
+pub mod Frames
 pub mod Walks

@@ -1,11 +1,12 @@
 //! Comparisons of frames with a range of numbers, on the packed numbers.
-ghost use Rattle.std.specs.Prelude.{◌≡◌, ℕ, ◌-◌, ◌^◌, ◌<◌, ◌≤◌, ◌&&◌, nat_le, IfSome, pos, ◌+ℤ◌, ◌-ℤ◌, ◌≤ℤ◌};
+ghost use Rattle.std.specs.Prelude.{◌≡◌, ℕ, ◌-◌, ◌^◌, ◌<◌, ◌≤◌, ◌&&◌, nat_le, IfSome, IsSome, ◌⊎◌, pos, ◌+ℤ◌, ◌-ℤ◌, ◌≤ℤ◌};
 ghost use Rattle.transpose_order.specs.Mask.{rows_of};
 ghost use Rattle.transpose_order.specs.Place.{IsLaneWidth, lane_of, step_of};
 ghost use Rattle.bit_interleave.specs.Packing.{packed_value};
 ghost use Rattle.bit_interleave.specs.PackedWords.{HasWidth};
 ghost use Rattle.frame_delta.specs.Frame.{frame_value};
 ghost use Rattle.native_lanes.specs.Between.{between};
+ghost use Rattle.native_lanes.specs.Frames.{IsPlain, IsDecided};
 
 use crate::native_16::rows_between_16;
 use crate::native_32::rows_between_32;
@@ -42,6 +43,7 @@ fn top_of(form: &For) -> Option<i64>
     ensures top { IfSome result (λ top. top ≡ form.now.reference +ℤ pos (2 ^ form.now.width - 1)) }
     ensures plain { IfSome result (λ top. (n : ℕ) → frame_value form.now n
         ≡ form.now.reference +ℤ pos (packed_value form.now.lane_width form.now.width form.now.words.numbers (lane_of form.now.lane_width n) (step_of form.now.lane_width n))) }
+    ensures answers { IsPlain form.now → IsSome result }
 {
     let greatest = greatest_value(form.lane_width());
     let above = greatest_number(form.width());
@@ -66,9 +68,10 @@ fn numbers_between(width: usize, words: &Words, first: u64, last: u64) -> Option
     requires width { HasWidth words.now width }
     requires order { first ≤ last }
     requires fit { last < 2 ^ width }
-    ensures { IfSome result (λ found. found ≡ rows_of (λ n.
+    ensures rows { IfSome result (λ found. found ≡ rows_of (λ n.
         nat_le first (packed_value words.now.lane_width width words.now.numbers (lane_of words.now.lane_width n) (step_of words.now.lane_width n))
         && nat_le (packed_value words.now.lane_width width words.now.numbers (lane_of words.now.lane_width n) (step_of words.now.lane_width n)) last)) }
+    ensures answers { (words.now.lane_width ≡ 16) ⊎ (words.now.lane_width ≡ 32) → IsSome result }
 {
     match words.lane_width() {
         16 => Some(rows_between_16(width, words.words_16(), first as u16, last as u16)),
@@ -80,7 +83,9 @@ fn numbers_between(width: usize, words: &Words, first: u64, last: u64) -> Option
 /// The rows whose value is neither below `low` nor above `high`, or none where values may wrap, or no way is known that is
 /// faster than their lanes. Where the reference and the width decide, no word is read.
 pub fn frame_between(form: &For, low: i64, high: i64) -> Option<Mask>
-    ensures { IfSome result (λ found. found ≡ rows_of (λ n. between low high (frame_value form.now n))) }
+    ensures rows { IfSome result (λ found. found ≡ rows_of (λ n. between low high (frame_value form.now n))) }
+    ensures answers { IsPlain form.now → (form.now.lane_width ≡ 16) ⊎ (form.now.lane_width ≡ 32) → IsSome result }
+    ensures decided { IsPlain form.now → IsDecided form.now low high → IsSome result }
 {
     let _ = form.lane_width();
     let reference = form.reference();

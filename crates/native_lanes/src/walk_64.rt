@@ -1,5 +1,5 @@
 //! Lanes of 64 bits gone through step by step, all 16 of them at once, by loops that the compiler makes vectors of.
-ghost use Rattle.std.specs.Prelude.{◌≡◌, ◌==◌, ℕ, suc, ◌+◌, ◌-◌, ◌*◌, ◌/◌, ◌%◌, ◌^◌, ◌<◌, ◌≤◌, ◌&&◌, cond, length, slice_index, nat_le, min, max, FitsSigned, ℤ, int_lt, pos, ◌+ℤ◌, Some, None};
+ghost use Rattle.std.specs.Prelude.{IsTrue, ◌≡◌, ◌==◌, ℕ, suc, ◌+◌, ◌-◌, ◌*◌, ◌/◌, ◌%◌, ◌^◌, ◌<◌, ◌≤◌, ◌&&◌, cond, length, slice_index, nat_le, min, max, FitsSigned, ℤ, int_lt, pos, ◌+ℤ◌, Some, None};
 ghost use Rattle.std.specs.Int.{bit_at, w64};
 ghost use Rattle.transpose_order.specs.Mask.{has, rows_of};
 ghost use Rattle.transpose_order.specs.Place.{row_at};
@@ -90,6 +90,55 @@ fn add_parts(
         let number = chosen(rows[i], step, numbers[i], 0);
         low[i] += number & 0xFFFF_FFFF;
         high[i] += number >> 32;
+    }
+}
+
+/// Adds to two sums of each lane the low and the high 32 bits of its number.
+#[inline(always)]
+fn add_all_parts(low: &mut [u64; 16], high: &mut [u64; 16], numbers: &[u64; 16])
+    requires low { (lane : ℕ) → lane < 16 → slice_index low.old lane ≤ 2 ^ 63 }
+    requires high { (lane : ℕ) → lane < 16 → slice_index high.old lane ≤ 2 ^ 63 }
+    ensures low { (lane : ℕ) → lane < 16 → slice_index low.new lane ≡ slice_index low.old lane + slice_index numbers.now lane % 2 ^ 32 }
+    ensures high { (lane : ℕ) → lane < 16 → slice_index high.new lane ≡ slice_index high.old lane + slice_index numbers.now lane / 2 ^ 32 }
+{
+    for i in 0..16 {
+        low[i] += numbers[i] & 0xFFFF_FFFF;
+        high[i] += numbers[i] >> 32;
+    }
+}
+
+/// Whether the bits of all lanes are set.
+#[inline(always)]
+fn are_all_set(rows: &[u64; 16]) -> bool
+    ensures { IsTrue result → (lane step : ℕ) → lane < 16 → step < 64 → bit_at (slice_index rows.now lane) step ≡ 1 }
+{
+    *rows == [u64::MAX; 16]
+}
+
+/// Adds to two sums of each lane whose bit of a step is set the low and the high 32 bits of its number, where it is known whether
+/// the bits of all lanes are set.
+#[inline(always)]
+fn add_step(
+    are_all: bool,
+    low: &mut [u64; 16],
+    high: &mut [u64; 16],
+    numbers: &[u64; 16],
+    rows: &[u64; 16],
+    step: usize,
+)
+    requires all { IsTrue are_all → (lane : ℕ) → lane < 16 → bit_at (slice_index rows.now lane) step ≡ 1 }
+    requires step { step < 64 }
+    requires low { (lane : ℕ) → lane < 16 → slice_index low.old lane ≤ 2 ^ 63 }
+    requires high { (lane : ℕ) → lane < 16 → slice_index high.old lane ≤ 2 ^ 63 }
+    ensures low { (lane : ℕ) → lane < 16 → slice_index low.new lane
+        ≡ slice_index low.old lane + cond (bit_at (slice_index rows.now lane) step == 1) (slice_index numbers.now lane) 0 % 2 ^ 32 }
+    ensures high { (lane : ℕ) → lane < 16 → slice_index high.new lane
+        ≡ slice_index high.old lane + cond (bit_at (slice_index rows.now lane) step == 1) (slice_index numbers.now lane) 0 / 2 ^ 32 }
+{
+    if are_all {
+        add_all_parts(low, high, numbers);
+    } else {
+        add_parts(low, high, numbers, rows, step);
     }
 }
 
@@ -194,9 +243,10 @@ impl<'a> Walk64<'a> {
         let mut numbers = self.starts;
         let mut low = [0; 16];
         let mut high = [0; 16];
+        let are_all = are_all_set(&lanes);
         for step in 0..64 {
             self.go(step, &mut numbers);
-            add_parts(&mut low, &mut high, &numbers, &lanes, step);
+            add_step(are_all, &mut low, &mut high, &numbers, &lanes, step);
         }
         u128::from(sum_of_lanes(&low)) + u128::from(sum_of_lanes(&high)) * 0x1_0000_0000
     }

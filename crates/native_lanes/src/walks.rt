@@ -1,5 +1,5 @@
 //! Set functions and comparisons of frames and deltas, by walks through their lanes.
-ghost use Rattle.std.specs.Prelude.{◌≡◌, cond, IfSome, pos, ◌+ℤ◌, Some, None};
+ghost use Rattle.std.specs.Prelude.{◌≡◌, cond, nat_lt, is_some, IfSome, pos, ◌+ℤ◌, Some, None};
 ghost use Rattle.transpose_order.specs.Mask.{has, rows_of};
 ghost use Rattle.frame_delta.specs.Frame.{frame_value};
 ghost use Rattle.frame_delta.specs.Delta.{delta_value};
@@ -15,7 +15,8 @@ use transpose_order::Mask;
 
 /// The sum of the values of a mask's rows, or none at a lane width of 8.
 pub fn sum_of_frame(form: &For, rows: &Mask) -> Option<i128>
-    ensures { IfSome result (λ sum. sum ≡ fold_to ◌+ℤ◌ (pos 0) 1024 (λ n. cond (has rows.now n) (frame_value form.now n) (pos 0))) }
+    ensures value { IfSome result (λ sum. sum ≡ fold_to ◌+ℤ◌ (pos 0) 1024 (λ n. cond (has rows.now n) (frame_value form.now n) (pos 0))) }
+    ensures answers { is_some result ≡ nat_lt 8 form.now.lane_width }
 {
     match form.lane_width() {
         16 => Some(sum_of_frame_16(form, rows)),
@@ -27,7 +28,8 @@ pub fn sum_of_frame(form: &For, rows: &Mask) -> Option<i128>
 
 /// The sum of the values of a mask's rows, or none at a lane width of 8.
 pub fn sum_of_deltas(form: &Delta, rows: &Mask) -> Option<i128>
-    ensures { IfSome result (λ sum. sum ≡ fold_to ◌+ℤ◌ (pos 0) 1024 (λ n. cond (has rows.now n) (delta_value form.now n) (pos 0))) }
+    ensures value { IfSome result (λ sum. sum ≡ fold_to ◌+ℤ◌ (pos 0) 1024 (λ n. cond (has rows.now n) (delta_value form.now n) (pos 0))) }
+    ensures answers { is_some result ≡ nat_lt 8 form.now.lane_width }
 {
     match form.lane_width() {
         16 => Some(sum_of_deltas_16(form, rows)),
@@ -39,7 +41,8 @@ pub fn sum_of_deltas(form: &Delta, rows: &Mask) -> Option<i128>
 
 /// The least of the values of a mask's rows, none over none, or none at a lane width of 8.
 pub fn least_of_frame(form: &For, rows: &Mask) -> Option<Option<i64>>
-    ensures { IfSome result (λ least. least ≡ fold_to lesser None 1024 (λ n. cond (has rows.now n) (Some (frame_value form.now n)) None)) }
+    ensures value { IfSome result (λ least. least ≡ fold_to lesser None 1024 (λ n. cond (has rows.now n) (Some (frame_value form.now n)) None)) }
+    ensures answers { is_some result ≡ nat_lt 8 form.now.lane_width }
 {
     match form.lane_width() {
         16 => Some(walk_of_frame_16(form).least_value(rows)),
@@ -51,7 +54,8 @@ pub fn least_of_frame(form: &For, rows: &Mask) -> Option<Option<i64>>
 
 /// The least of the values of a mask's rows, none over none, or none at a lane width of 8.
 pub fn least_of_deltas(form: &Delta, rows: &Mask) -> Option<Option<i64>>
-    ensures { IfSome result (λ least. least ≡ fold_to lesser None 1024 (λ n. cond (has rows.now n) (Some (delta_value form.now n)) None)) }
+    ensures value { IfSome result (λ least. least ≡ fold_to lesser None 1024 (λ n. cond (has rows.now n) (Some (delta_value form.now n)) None)) }
+    ensures answers { is_some result ≡ nat_lt 8 form.now.lane_width }
 {
     match form.lane_width() {
         16 => Some(walk_of_deltas_16(form).least_value(rows)),
@@ -63,7 +67,8 @@ pub fn least_of_deltas(form: &Delta, rows: &Mask) -> Option<Option<i64>>
 
 /// The greatest of the values of a mask's rows, none over none, or none at a lane width of 8.
 pub fn greatest_of_frame(form: &For, rows: &Mask) -> Option<Option<i64>>
-    ensures { IfSome result (λ greatest. greatest ≡ fold_to greater None 1024 (λ n. cond (has rows.now n) (Some (frame_value form.now n)) None)) }
+    ensures value { IfSome result (λ greatest. greatest ≡ fold_to greater None 1024 (λ n. cond (has rows.now n) (Some (frame_value form.now n)) None)) }
+    ensures answers { is_some result ≡ nat_lt 8 form.now.lane_width }
 {
     match form.lane_width() {
         16 => Some(walk_of_frame_16(form).greatest_value(rows)),
@@ -75,7 +80,8 @@ pub fn greatest_of_frame(form: &For, rows: &Mask) -> Option<Option<i64>>
 
 /// The greatest of the values of a mask's rows, none over none, or none at a lane width of 8.
 pub fn greatest_of_deltas(form: &Delta, rows: &Mask) -> Option<Option<i64>>
-    ensures { IfSome result (λ greatest. greatest ≡ fold_to greater None 1024 (λ n. cond (has rows.now n) (Some (delta_value form.now n)) None)) }
+    ensures value { IfSome result (λ greatest. greatest ≡ fold_to greater None 1024 (λ n. cond (has rows.now n) (Some (delta_value form.now n)) None)) }
+    ensures answers { is_some result ≡ nat_lt 8 form.now.lane_width }
 {
     match form.lane_width() {
         16 => Some(walk_of_deltas_16(form).greatest_value(rows)),
@@ -88,7 +94,8 @@ pub fn greatest_of_deltas(form: &Delta, rows: &Mask) -> Option<Option<i64>>
 /// The rows whose value is neither below `low` nor above `high`, or none at a lane width of 8. Where none or all of the values of
 /// the lane's bits are, no word is read.
 pub fn frame_within(form: &For, low: i64, high: i64) -> Option<Mask>
-    ensures { IfSome result (λ found. found ≡ rows_of (λ n. between low high (frame_value form.now n))) }
+    ensures value { IfSome result (λ found. found ≡ rows_of (λ n. between low high (frame_value form.now n))) }
+    ensures answers { is_some result ≡ nat_lt 8 form.now.lane_width }
 {
     match form.lane_width() {
         16 => Some(walk_of_frame_16(form).values_between(low, high)),
@@ -101,7 +108,8 @@ pub fn frame_within(form: &For, low: i64, high: i64) -> Option<Mask>
 /// The rows whose value is neither below `low` nor above `high`, or none at a lane width of 8. Where none or all of the values of
 /// the lane's bits are, no word is read.
 pub fn deltas_within(form: &Delta, low: i64, high: i64) -> Option<Mask>
-    ensures { IfSome result (λ found. found ≡ rows_of (λ n. between low high (delta_value form.now n))) }
+    ensures value { IfSome result (λ found. found ≡ rows_of (λ n. between low high (delta_value form.now n))) }
+    ensures answers { is_some result ≡ nat_lt 8 form.now.lane_width }
 {
     match form.lane_width() {
         16 => Some(walk_of_deltas_16(form).values_between(low, high)),

@@ -10,8 +10,8 @@ use Rattle.fused_kernels.proofs.VectorLemmas.{value_in_fits}
 use Rattle.fused_kernels.proofs.found.found_between.Goals.{then-from-low-via-then-from-low, then-from-low-via-else-from-low+then-high-from}
 use Rattle.fused_kernels.proofs.found.found_between.Goals as goal
 
-pub returns-then-from-low : goal.returns-then-from-low
-returns-then-from-low c =
+pub returns-then-from-low-clause-rows : goal.returns-then-from-low-clause-rows
+returns-then-from-low-clause-rows c =
     let outside : (value : ℤ) → FitsSigned w64 value → between c.args.low c.args.high value ≡ false =
     elim c.then-from-low.branch [
       | then-from-low-via-then-from-low w ↦ λ value fits. let past : int_lt (pos (2 ^ 63 - 1)) c.args.low ≡ true = grind (arith, ints, to_z-of_z, w.if-from-low.true, c.from.ensures) in past_greatest c.args.low c.args.high value past fits
@@ -20,14 +20,14 @@ returns-then-from-low c =
     c.none.ensures
     ∙ rows_of-like (λ _. false) (λ n. between c.args.low c.args.high (value_in c.args.coded.now n)) (λ n h. sym (outside (value_in c.args.coded.now n) (value_in_fits c.args.coded.now n c.lane_width.ensures.form h)))
 
-pub returns : goal.returns
-returns c =
+pub returns-clause-rows : goal.returns-clause-rows
+returns-clause-rows c =
     let first : ℤ = to_z w64 (of_z w64 c.first_from.result) in
     let last : ℤ = to_z w64 (of_z w64 c.last_up_to.result) in
     let first_fits : FitsSigned w64 c.first_from.result = search rules in
     let last_fits : FitsSigned w64 c.last_up_to.result = search rules in
     let value : ℕ → ℤ = value_in c.args.coded.now in
-    c.in_ok-found.ensures
+    c.in_ok-found.ensures.rows
     ∙ rows_of-like (λ n. between first last (value n)) (λ n. between c.args.low c.args.high (value n))
     (λ n h.
     let fits = value_in_fits c.args.coded.now n c.lane_width.ensures.form h in

@@ -10,7 +10,7 @@ use Rattle.fused_kernels.proofs.paths.compare_vector_range.Goals as goal
 
 here : (c : goal.After-parted) (n : ℕ) → n < 1024 → has c.in-Some.found n ≡ between c.args.low c.args.high (value_in c.args.vector.now.coded n)
 here c n h =
-    found_where c.in-Some.found c.args.low c.args.high c.args.vector.now.coded c.coded.result.now n c.ranges.low c.ranges.high c.coded.ensures c.in-Some.ensures h
+    found_where c.in-Some.found c.args.low c.args.high c.args.vector.now.coded c.coded.result.now n c.ranges.low c.ranges.high c.coded.ensures c.in-Some.ensures.rows h
 
 pub returns-in-Some-clause-yes : goal.returns-in-Some-clause-yes
 returns-in-Some-clause-yes c =

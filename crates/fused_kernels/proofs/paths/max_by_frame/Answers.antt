@@ -8,5 +8,5 @@ use Rattle.fused_kernels.proofs.paths.max_by_frame.Goals as goal
 
 pub returns-in-Some-clause-value : goal.returns-in-Some-clause-value
 returns-in-Some-clause-value c =
-    c.in-Some.ensures
+    c.in-Some.ensures.value
     ∙ greatest_of_rows c.args.vector.now c.args.mask.now c.rows_of_vector.result (frame_value c.args.form.now) c.rows_of_vector.ensures (λ n. ap (λ (x : Coded). value_in x n) c.requires)

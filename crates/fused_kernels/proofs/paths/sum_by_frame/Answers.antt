@@ -11,5 +11,5 @@ use Rattle.fused_kernels.proofs.paths.sum_by_frame.Goals as goal
 pub returns-in-Some-clause-value : goal.returns-in-Some-clause-value
 returns-in-Some-clause-value c =
     let wide : FitsSigned w128 c.in-Some.sum = search rules in
-    to_z-of_z w128 c.in-Some.sum wide ∙ c.in-Some.ensures
+    to_z-of_z w128 c.in-Some.sum wide ∙ c.in-Some.ensures.value
     ∙ sum_of_rows c.args.vector.now c.args.mask.now c.rows_of_vector.result (frame_value c.args.form.now) c.rows_of_vector.ensures (λ n. ap (λ (x : Coded). value_in x n) c.requires)

@@ -3,8 +3,8 @@ use Rattle.std.proofs.Common.{◌≡◌, ℕ, ◌+◌, ◌-◌, ◌*◌, ◌/◌
 use Rattle.std.proofs.lemmas.List.{get_or-set_same, get_or-set_other, length-set}
 use Rattle.std.proofs.lemmas.Simd.{get_or-replicate}
 use Rattle.bit_interleave.specs.Packing.{packed_value}
-use Rattle.bit_interleave.proofs.StepLemmas.{within_one_word}
-use Rattle.native_lanes.proofs.AcrossLemmas.{across_native, nothing_packed}
+use Rattle.bit_interleave.proofs.StepLemmas.{within_one_word, across_native}
+use Rattle.native_lanes.proofs.NativeLemmas.{nothing_packed}
 use Rattle.native_lanes.proofs.native_32.numbers_32.Goals as goal
 
 pub returns-then-width-eq0 : goal.returns-then-width-eq0

@@ -1,5 +1,5 @@
 -- The values in the range are those of the numbers between two distances from the reference.
-use Rattle.std.proofs.Common.{rules, ◌≡◌, ℕ, ◌-◌, ◌^◌, ◌<◌, ◌≤◌, ◌&&◌, nat_le, true, false, pos, ◌+ℤ◌, ◌-ℤ◌, ◌≤ℤ◌, FitsSigned, to_z, of_z, sym, ap, ◌∙◌, subst, arith}
+use Rattle.std.proofs.Common.{rules, ◌≡◌, ℕ, ◌-◌, ◌^◌, ◌<◌, ◌≤◌, ◌&&◌, nat_le, int_le, true, false, pos, ◌+ℤ◌, ◌-ℤ◌, ◌≤ℤ◌, ◌⊎◌, inl, inr, FitsSigned, to_z, of_z, sym, ap, ◌∙◌, subst, arith}
 use Rattle.std.specs.Int.{w64, int_min, int_max}
 use Rattle.std.proofs.lemmas.Int.{ints, to_z-of_z}
 use Rattle.std.proofs.lemmas.Nat.{pow_pos}
@@ -11,12 +11,13 @@ use Rattle.bit_interleave.specs.PackedWords.{PackedWords}
 use Rattle.bit_interleave.proofs.StepLemmas.{packed_value-below}
 use Rattle.frame_delta.specs.Frame.{frame_value}
 use Rattle.native_lanes.specs.Between.{between}
-use Rattle.native_lanes.proofs.PackedLemmas.{passed, passed_within, passed_order, all_between, none_below, none_above, none_crossed, ends_cross_not, least_end, least_end_below, number_in_range, passed_between}
-use Rattle.native_lanes.proofs.packed.frame_between.Goals.{then-high-reference-via-then-high-reference, then-high-reference-via-else-high-reference+then-top-low, then-high-reference-via-else-high-reference+else-top-low+then-high-low}
+use Rattle.native_lanes.specs.Frames.{top_value}
+use Rattle.native_lanes.proofs.PackedLemmas.{passed, passed_within, passed_order, all_between, none_below, decided_by_ends, none_above, none_crossed, ends_cross_not, least_end, least_end_below, number_in_range, passed_between}
+use Rattle.native_lanes.proofs.packed.frame_between.Goals.{else-low-reference-via-then-low-reference+else-top-high, else-low-reference-via-else-low-reference, then-high-reference-via-then-high-reference, then-high-reference-via-else-high-reference+then-top-low, then-high-reference-via-else-high-reference+else-top-low+then-high-low}
 use Rattle.native_lanes.proofs.packed.frame_between.Goals as goal
 
-pub returns-then-high-reference : goal.returns-then-high-reference
-returns-then-high-reference c =
+pub returns-then-high-reference-clause-rows : goal.returns-then-high-reference-clause-rows
+returns-then-high-reference-clause-rows c =
     let r = to_z w64 (of_z w64 c.reference-reference.result) in
     let upper = to_z w64 (of_z w64 c.in_ok-top.top) in
     let rf : FitsSigned w64 c.reference-reference.result = search rules in
@@ -35,8 +36,25 @@ returns-then-high-reference c =
     c.none.ensures
     ∙ rows_of-like (λ _. false) (λ n. between c.args.low c.args.high (frame_value form n)) (λ n h. sym (sym (passed_between c.args.low c.args.high (frame_value form n) c.ranges.low c.ranges.high) ∙ none n))
 
-pub returns-then-top-high : goal.returns-then-top-high
-returns-then-top-high c =
+pub returns-in_err-found-clause-decided : goal.returns-in_err-found-clause-decided
+returns-in_err-found-clause-decided c = λ plain decided.
+    let r = to_z w64 (of_z w64 c.reference-reference.result) in
+    let upper = to_z w64 (of_z w64 c.in_ok-top.top) in
+    let rf : FitsSigned w64 c.reference-reference.result = search rules in
+    let uf : FitsSigned w64 c.in_ok-top.top = search rules in
+    let re : r ≡ c.args.form.now.reference = passed c.reference-reference.result c.args.form.now.reference rf c.reference-reference.ensures.value in
+    let te : upper ≡ top_value c.args.form.now = passed c.in_ok-top.top (top_value c.args.form.now) uf c.in_ok-top.ensures.top in
+    let low = to_z w64 (of_z w64 c.args.low) in
+    let high = to_z w64 (of_z w64 c.args.high) in
+    let left : (int_le low r ≡ false) ⊎ (int_le upper high ≡ false) =
+    elim c.else-low-reference.branch [
+      | else-low-reference-via-then-low-reference+else-top-high w ↦ inr w.if-top-high.false
+      | else-low-reference-via-else-low-reference w ↦ inl w.if-low-reference.false
+    ] in
+    absurd (decided_by_ends c.args.form.now c.args.low c.args.high r upper low high re te (to_z-of_z w64 c.args.low c.ranges.low) (to_z-of_z w64 c.args.high c.ranges.high) c.if-high-reference.false c.if-top-low.false c.if-high-low.false left decided)
+
+pub returns-then-top-high-clause-rows : goal.returns-then-top-high-clause-rows
+returns-then-top-high-clause-rows c =
     let r = to_z w64 (of_z w64 c.reference-reference.result) in
     let upper = to_z w64 (of_z w64 c.in_ok-top.top) in
     let rf : FitsSigned w64 c.reference-reference.result = search rules in
@@ -101,8 +119,8 @@ numbers_between-requires-clause-fit c =
     let fits : c.distance-last.result < 2 ^ c.args.form.now.width = omega (arith, ints, c.distance-last.ensures, last_end, below, re, te, c.in_ok-top.ensures.top, some) in
     subst (λ (w : ℕ). c.distance-last.result < 2 ^ w) (sym c.width.ensures.value) fits
 
-pub returns : goal.returns
-returns c =
+pub returns-clause-rows : goal.returns-clause-rows
+returns-clause-rows c =
     let r = to_z w64 (of_z w64 c.reference-reference.result) in
     let upper = to_z w64 (of_z w64 c.in_ok-top.top) in
     let rf : FitsSigned w64 c.reference-reference.result = search rules in
@@ -123,7 +141,7 @@ returns c =
     let start : pos first ≡ int_max low r -ℤ r = c.distance-first.ensures ∙ ap (λ z. z -ℤ r) first_end in
     let stop : pos last ≡ int_min high upper -ℤ r = c.distance-last.ensures ∙ ap (λ z. z -ℤ r) last_end in
     let top : upper ≡ r +ℤ pos (2 ^ form.width - 1) = te ∙ c.in_ok-top.ensures.top ∙ ap (λ z. z +ℤ pos (2 ^ form.width - 1)) (sym re) in
-    c.in_ok-found.ensures
+    c.in_ok-found.ensures.rows
     ∙ ap (λ (x : PackedWords). rows_of (λ n. nat_le first (packed_value x.lane_width c.width.result x.numbers (lane_of x.lane_width n) (step_of x.lane_width n)) && nat_le (packed_value x.lane_width c.width.result x.numbers (lane_of x.lane_width n) (step_of x.lane_width n)) last)) c.words.ensures.value
     ∙ ap (λ (w : ℕ). rows_of (λ n. nat_le first (packed_value form.words.lane_width w form.words.numbers (lane_of form.words.lane_width n) (step_of form.words.lane_width n)) && nat_le (packed_value form.words.lane_width w form.words.numbers (lane_of form.words.lane_width n) (step_of form.words.lane_width n)) last)) c.width.ensures.value
     ∙ ap (λ (t : ℕ). rows_of (λ n. nat_le first (packed_value t form.width form.words.numbers (lane_of t n) (step_of t n)) && nat_le (packed_value t form.width form.words.numbers (lane_of t n) (step_of t n)) last)) c.lane_width.ensures.form.words

@@ -40,14 +40,14 @@ loop-step-preserved c =
     let small : (lane : ℕ) → lane < 16 → taken lane < 2 ^ 64 = (λ lane h.
     let below : number_at walk lane step < 2 ^ 64 = subst (λ (t : ℕ). number_at walk lane step < 2 ^ t) width (number_at-below walk lane step) in
     taken_below (bit_at (slice_index lanes lane) step == 1) (slice_index numbers lane) (2 ^ 64) (omega (arith, below, c.go.ensures lane h)) (omega arith)) in
-    let low : (lane : ℕ) → lane < 16 → slice_index c.add_parts.new.low lane ≡ slice_index c.loop-step.low lane + taken lane % 2 ^ 32 = (λ lane h. c.add_parts.ensures.low lane h) in
-    let high : (lane : ℕ) → lane < 16 → slice_index c.add_parts.new.high lane ≡ slice_index c.loop-step.high lane + taken lane / 2 ^ 32 = (λ lane h. c.add_parts.ensures.high lane h) in
+    let low : (lane : ℕ) → lane < 16 → slice_index c.add_step.new.low lane ≡ slice_index c.loop-step.low lane + taken lane % 2 ^ 32 = (λ lane h. c.add_step.ensures.low lane h) in
+    let high : (lane : ℕ) → lane < 16 → slice_index c.add_step.new.high lane ≡ slice_index c.loop-step.high lane + taken lane / 2 ^ 32 = (λ lane h. c.add_step.ensures.high lane h) in
     record {
       numbers = λ lane h. c.go.ensures lane h;
       low = λ lane h. omega (arith, now.low lane h, low lane h);
       high = λ lane h. omega (arith, now.high lane h, high lane h, small lane h);
       sums = λ lane h.
-          let whole : slice_index c.add_parts.new.low lane + 2 ^ 32 * slice_index c.add_parts.new.high lane ≡ slice_index c.loop-step.low lane + 2 ^ 32 * slice_index c.loop-step.high lane + taken lane = omega (arith, low lane h, high lane h, parts (taken lane) (2 ^ 32)) in
+          let whole : slice_index c.add_step.new.low lane + 2 ^ 32 * slice_index c.add_step.new.high lane ≡ slice_index c.loop-step.low lane + 2 ^ 32 * slice_index c.loop-step.high lane + taken lane = omega (arith, low lane h, high lane h, parts (taken lane) (2 ^ 32)) in
           whole ∙ ap (λ n. n + taken lane) (now.sums lane h) ∙ ap (λ n. fold_to ◌+◌ 0 step (term lane) + n) (taken_is lane h) ∙ sym (fold_to-more ◌+◌ 0 step (term lane));
     }
 
