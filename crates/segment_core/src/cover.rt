@@ -1,5 +1,5 @@
 //! Which rows a vector covers, and which of them are null.
-ghost use Rattle.std.specs.Prelude.{◌≡◌, ◌<◌, IsTrue, IfOk};
+ghost use Rattle.std.specs.Prelude.{◌≡◌, ◌<◌, ◌↔◌, IsTrue, IfOk};
 ghost use Rattle.std.specs.Option.{option_copied};
 ghost use Rattle.segment_core.specs.CodedVector.{is_null};
 
@@ -80,7 +80,7 @@ impl Cover {
 
     /// Whether two null masks are the same, or neither is there.
     pub(crate) fn same_nulls(&self, other: &Cover) -> bool
-        ensures { IsTrue result → self.now.nulls ≡ other.now.nulls }
+        ensures { IsTrue result ↔ (self.now.nulls ≡ other.now.nulls) }
     {
         match (&self.kept, &other.kept) {
             (Kept::Full(_), Kept::Full(_)) => true,

@@ -1,5 +1,5 @@
 //! Values for the rows of a vector that are null or absent.
-ghost use Rattle.std.specs.Prelude.{◌≡◌, ℕ, ◌<◌, ◌≤◌, false, IsTrue, pos, length, if◌then◌else◌};
+ghost use Rattle.std.specs.Prelude.{◌≡◌, ◌↔◌, ℕ, ◌<◌, ◌≤◌, false, IsTrue, pos, length, if◌then◌else◌};
 ghost use Rattle.transpose_order.specs.Mask.{has};
 ghost use Rattle.table_model.specs.Values.{present};
 ghost use Rattle.bit_interleave.specs.Range.{value_at};
@@ -52,7 +52,7 @@ fn fill_rest(values: &mut [i64; 1024], rows: usize, last: i64)
 /// Whether each of 1024 rows has a value, so that there is nothing to fill.
 fn is_full(rows: usize, nulls: &Mask) -> bool
     requires { rows ≤ 1024 }
-    ensures { IsTrue result → (n : ℕ) → n < 1024 → (n < rows) × (has nulls.now n ≡ false) }
+    ensures { IsTrue result ↔ ((n : ℕ) → n < 1024 → (n < rows) × (has nulls.now n ≡ false)) }
 {
     rows == 1024 && nulls.next_true(0) == 1024
 }

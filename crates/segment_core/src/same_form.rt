@@ -1,5 +1,5 @@
 //! Whether two vectors are one, part for part: then they have the same cells, and nothing needs to be decoded.
-ghost use Rattle.std.specs.Prelude.{◌≡◌, IsTrue};
+ghost use Rattle.std.specs.Prelude.{◌≡◌, ◌↔◌, IsTrue};
 
 use crate::coded::Coded;
 use bit_interleave::Words;
@@ -9,7 +9,7 @@ use transpose_order::Mask;
 
 /// Whether two lists of words are the same.
 fn same_words(words: &Words, others: &Words) -> bool
-    ensures { IsTrue result → words.now ≡ others.now }
+    ensures { IsTrue result ↔ (words.now ≡ others.now) }
 {
     let lane_width = words.lane_width();
     if lane_width != others.lane_width() {
@@ -25,21 +25,21 @@ fn same_words(words: &Words, others: &Words) -> bool
 
 /// Whether two lists of values are the same.
 fn same_values(values: &[i64], others: &[i64]) -> bool
-    ensures { IsTrue result → values.now ≡ others.now }
+    ensures { IsTrue result ↔ (values.now ≡ others.now) }
 {
     values == others
 }
 
 /// Whether two masks have the same rows.
 pub(crate) fn same_mask(mask: &Mask, other: &Mask) -> bool
-    ensures { IsTrue result → mask.now ≡ other.now }
+    ensures { IsTrue result ↔ (mask.now ≡ other.now) }
 {
     *mask == *other
 }
 
 /// Whether two forms of FOR are the same.
 fn same_frame(form: &For, other: &For) -> bool
-    ensures { IsTrue result → form.now ≡ other.now }
+    ensures { IsTrue result ↔ (form.now ≡ other.now) }
 {
     form.lane_width() == other.lane_width()
         && form.width() == other.width()
@@ -49,7 +49,7 @@ fn same_frame(form: &For, other: &For) -> bool
 
 /// Whether two forms of DELTA are the same.
 fn same_deltas(form: &Delta, other: &Delta) -> bool
-    ensures { IsTrue result → form.now ≡ other.now }
+    ensures { IsTrue result ↔ (form.now ≡ other.now) }
 {
     form.lane_width() == other.lane_width()
         && form.width() == other.width()
@@ -60,7 +60,7 @@ fn same_deltas(form: &Delta, other: &Delta) -> bool
 
 /// Whether two forms of RLE are the same.
 fn same_runs(form: &Runs, other: &Runs) -> bool
-    ensures { IsTrue result → form.now ≡ other.now }
+    ensures { IsTrue result ↔ (form.now ≡ other.now) }
 {
     form.lane_width() == other.lane_width()
         && same_mask(form.starts(), other.starts())
@@ -69,7 +69,7 @@ fn same_runs(form: &Runs, other: &Runs) -> bool
 
 /// Whether two forms of DICT are the same.
 fn same_dictionary(form: &Dict, other: &Dict) -> bool
-    ensures { IsTrue result → form.now ≡ other.now }
+    ensures { IsTrue result ↔ (form.now ≡ other.now) }
 {
     form.lane_width() == other.lane_width()
         && form.width() == other.width()
@@ -79,7 +79,7 @@ fn same_dictionary(form: &Dict, other: &Dict) -> bool
 
 /// Whether two vectors' values are coded alike, part for part.
 pub(crate) fn same_form(coded: &Coded, other: &Coded) -> bool
-    ensures { IsTrue result → coded.now ≡ other.now }
+    ensures { IsTrue result ↔ (coded.now ≡ other.now) }
 {
     match (coded, other) {
         (Coded::For(form), Coded::For(other)) => same_frame(form.get(), other.get()),

@@ -6,7 +6,7 @@ use Rattle.segment_core.proofs.fill.fill.Goals as goal
 
 pub returns-then-is_full : goal.returns-then-is_full
 returns-then-is_full c =
-    full_is_filled c.args.rows c.args.nulls.now c.args.values.now c.told-values (c.if-is_full.ensures refl)
+    full_is_filled c.args.rows c.args.nulls.now c.args.values.now c.told-values (c.if-is_full.ensures.0 refl)
 
 pub returns : goal.returns
 returns c =

@@ -3,4 +3,4 @@ use Rattle.std.proofs.lemmas.Slice.Eq.{slice_eq-Decides}
 use Rattle.segment_core.proofs.same_form.same_values.Goals as goal
 
 pub returns : goal.returns
-returns c = (slice_eq-Decides Decides-int_eq c.args.values.now c.args.others.now c.eq.result c.eq.ensures).0
+returns c = slice_eq-Decides Decides-int_eq c.args.values.now c.args.others.now c.eq.result c.eq.ensures
