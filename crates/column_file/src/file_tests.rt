@@ -18,7 +18,7 @@ pub(crate) const ONE_ROW: &[u8] =
 /// and then so many, up to 256, that are 0.
 pub(crate) type Change = (usize, usize, &'static [(&'static [u8], usize)]);
 
-const ZEROS: &[u8] = &[0; 256];
+pub(crate) const ZEROS: &[u8] = &[0; 256];
 
 /// That file with a change.
 pub(crate) fn changed(alloc: Global, change: &Change) -> Result<Vec<u8>, AllocError> {
@@ -44,7 +44,7 @@ pub(crate) fn offer_from(alloc: Global, bytes: &[u8]) -> Result<Offer, Refusal> 
 }
 
 /// Whether this is a store's file.
-fn is_export(alloc: Global, store: &Store, bytes: &[u8]) -> Result<bool, Refusal> {
+pub(crate) fn is_export(alloc: Global, store: &Store, bytes: &[u8]) -> Result<bool, Refusal> {
     let mut writer = Counted::new(Vec::new(alloc));
     export(alloc, store, &mut writer)?;
     Ok(writer.into_inner().as_slice() == bytes)
@@ -58,7 +58,7 @@ fn is_written(alloc: Global, offer: &Offer, bytes: &[u8]) -> Result<bool, Refusa
 }
 
 /// Whether these are the bytes of a store's offer to one that holds nothing.
-fn is_offered(alloc: Global, store: &Store, bytes: &[u8]) -> Result<bool, Refusal> {
+pub(crate) fn is_offered(alloc: Global, store: &Store, bytes: &[u8]) -> Result<bool, Refusal> {
     let nothing = Summary::empty(alloc, store.schema())?;
     let offer = store.offer(alloc, &nothing)?;
     is_written(alloc, &offer, bytes)
@@ -469,15 +469,30 @@ fn is_offer_alone(alloc: Global, bytes: &[u8], again: &[u8], at: u64) -> Result<
     Ok(is_written(alloc, &offer, again)? && is_refused(alloc, bytes, Refusal::NotCanonical(at)))
 }
 
+/// Whether the store that an offer makes has this file.
+fn has_file(alloc: Global, offer: &[u8], file: &[u8]) -> Result<bool, Refusal> {
+    let store = offer_from(alloc, offer)?.into_store(alloc, Origin(1))?;
+    is_export(alloc, &store, file)
+}
+
+/// Whether the file of one row with a change is an offer, and no file from a place on, and its store has the file with the other
+/// change.
+fn is_other_form(
+    alloc: Global,
+    change: &Change,
+    at: u64,
+    canonical: &Change,
+) -> Result<bool, Refusal> {
+    let bytes = changed(alloc, change)?;
+    let file = changed(alloc, canonical)?;
+    Ok(is_offer_alone(alloc, &bytes, &bytes, at)? && has_file(alloc, &bytes, &file)?)
+}
+
 #[test]
 fn what_is_not_canonical_is_an_offer_and_no_file(rt: HostRuntime) -> Result<(), Fail> {
-    let alloc = rt.alloc();
     for (change, at, canonical) in OFFERS {
-        let bytes = changed(alloc, change)?;
-        assert!(rt; is_offer_alone(alloc, &bytes, &bytes, *at)?, "at {at}");
-        let store = offer_from(alloc, &bytes)?.into_store(alloc, Origin(1))?;
         assert!(rt;
-            is_export(alloc, &store, &changed(alloc, canonical)?)?,
+            is_other_form(rt.alloc(), change, *at, canonical)?,
             "at {at}"
         );
     }
@@ -517,14 +532,20 @@ fn ranges_that_touch_are_written_as_one(rt: HostRuntime) -> Result<(), Fail> {
     Ok(())
 }
 
-/// Whether the file's store has the vector 1.1, 0, 0 in this coding in its offers, and in its canonical form in its exports.
-fn tells_coding_in_offers(alloc: Global, coding: Coding, change: &Change) -> Result<bool, Fail> {
+/// The store of the file of one row, with its vector in this coding.
+fn recoded(alloc: Global, coding: Coding) -> Result<Store, Refusal> {
     let mut store = opened(alloc, ONE_ROW)?;
     let name = BatchName {
         origin: Origin(1),
         number: Number(1),
     };
     store.recode(alloc, name, 0, 0, coding)?;
+    Ok(store)
+}
+
+/// Whether that store has the vector in this coding in its offers, and in its canonical form in its exports.
+fn tells_coding_in_offers(alloc: Global, coding: Coding, change: &Change) -> Result<bool, Refusal> {
+    let store = recoded(alloc, coding)?;
     let bytes = changed(alloc, change)?;
     Ok(is_offered(alloc, &store, &bytes)? && is_export(alloc, &store, ONE_ROW)?)
 }

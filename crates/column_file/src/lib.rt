@@ -32,6 +32,8 @@ pub use summary_writing::write_summary;
 #[cfg(test)]
 mod file_tests;
 #[cfg(test)]
+mod filling_tests;
+#[cfg(test)]
 mod refused_tests;
 #[cfg(test)]
 mod stop_tests;

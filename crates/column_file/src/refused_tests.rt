@@ -3,7 +3,7 @@
 //! text `REFUSED` or `CHANGED`; with none refused it passes. The command `tests/refused-memory` refuses each in turn and counts those
 //! texts. A call whose test's name ends in `grows_nowhere` has none to refuse.
 use crate::canonical_writing::export;
-use crate::file_tests::{THREE_ROWS, changed, offer_from, opened};
+use crate::file_tests::{THREE_ROWS, ZEROS, changed, offer_from, opened};
 use crate::offer_reading::read_offer;
 use crate::offer_writing::write_offer;
 use crate::opening::{check, open};
@@ -33,7 +33,7 @@ fn refused(fault: Refusal, failures: u64, is_as_it_was: bool) -> Result<(), Fail
 /// Whether these bytes are a text and then bytes that are 0.
 fn begins_with(room: &[u8], text: &[u8]) -> bool {
     let (front, back) = room.split_at(text.len().min(room.len()));
-    front == text && back.iter().all(|byte| *byte == 0)
+    front == text && ZEROS.get(..back.len()) == Some(back)
 }
 
 #[test]
