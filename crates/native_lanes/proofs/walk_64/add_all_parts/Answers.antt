@@ -1,5 +1,5 @@
 -- One more lane's sums grow, and the others stay.
-use Rattle.std.proofs.Common.{ℕ, ◌+◌, ◌/◌, ◌%◌, ◌^◌, slice_index, bit_and, ap, ◌∙◌, arith}
+use Rattle.std.proofs.Common.{◌+◌, ◌/◌, ◌%◌, ◌^◌, slice_index, bit_and, ap, ◌∙◌, arith}
 use Rattle.std.proofs.lemmas.List.{length-set}
 use Rattle.std.proofs.lemmas.Nat.{and_mask}
 use Rattle.native_lanes.proofs.ListLemmas.{set_more, set_rest}

@@ -1,5 +1,5 @@
 -- Words that are equal to 2^64 - 1 have all bits.
-use Rattle.std.proofs.Common.{ℕ, slice_index, replicate, ap, ◌∙◌}
+use Rattle.std.proofs.Common.{slice_index, replicate, ap, ◌∙◌}
 use Rattle.std.specs.Int.{bit_at}
 use Rattle.std.proofs.lemmas.Bool.Decides.{Decides-eqb}
 use Rattle.std.proofs.lemmas.List.{get_or-replicate}
