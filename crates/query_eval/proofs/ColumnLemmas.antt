@@ -24,7 +24,7 @@ one_value : (column : ℕ) (b : Bool) (row : Cells) (rows : List Cells) → pres
 one_value column true row rows = refl
 one_value column false row rows = refl
 
-values-of : (column : ℕ) (p : ℕ → Bool) (row : ℕ → Cells) (ns : List ℕ) → present (map (λ r. cell r column) (present (map (λ n. cond (p n) (Some (row n)) None) ns))) ≡ present (map (λ n. cond (p n) (cell (row n) column) None) ns)
+pub values-of : (column : ℕ) (p : ℕ → Bool) (row : ℕ → Cells) (ns : List ℕ) → present (map (λ r. cell r column) (present (map (λ n. cond (p n) (Some (row n)) None) ns))) ≡ present (map (λ n. cond (p n) (cell (row n) column) None) ns)
 values-of column p row [] = refl
 values-of column p row (n ∷ ns) =
     one_value column (p n) (row n) (present (map (λ m. cond (p m) (Some (row m)) None) ns)) ∙ ap (cons_option (cond (p n) (cell (row n) column) None)) (values-of column p row ns)

@@ -17,15 +17,15 @@ use Rattle.table_model.specs.State.{Cells, same_cells}
 use Rattle.table_model.proofs.Groups.{values_in-append}
 use Rattle.table_model.proofs.Parts.{neither}
 use Rattle.table_model.proofs.SameRows.{one_row, itself_row}
-use Rattle.table_model.specs.Answer.{whole}
-use Rattle.table_model.specs.Condition.{is_null}
-use Rattle.table_model.specs.declared.query.Fold.{Fold}
 use Rattle.query_eval.specs.Grouping.{AreEmpty, AreGroups, AreHeld, IsHeld, IsTaken, AreCounted, AreShown, aggregate_cell, aggregate_values, as_list}
-use Rattle.query_eval.specs.Places.{ArePlaced, IsIndex, rows_below, rows_placed}
+use Rattle.query_eval.specs.Places.{IsIndex, rows_below, rows_placed}
+use Rattle.query_eval.specs.Slices.{IsSplit, rows_shared}
 use Rattle.query_eval.specs.Kept.{rows_at}
-use Rattle.query_eval.specs.Vector.{Vector, cell_at, row_at}
+use Rattle.query_eval.specs.Vector.{Vector, row_at}
 use Rattle.query_eval.specs.declared.places.Places.{Places}
+use Rattle.query_eval.specs.declared.split.Split.{Split}
 use Rattle.query_eval.proofs.PlaceLemmas.{some_same}
+use Rattle.query_eval.proofs.SliceLemmas.{shared_with}
 use Rattle.query_eval.proofs.RowsBelow.{below_all, below_more, placed_more_rows}
 use Rattle.transpose_order.specs.Mask.{has, rows_of, truth_at}
 use Rattle.transpose_order.specs.MaskWords.{has-rows_of}
@@ -244,9 +244,9 @@ fresh_push n a ts next u is one h g t le l = by_place (cases_lt g (length ts))
         let e : g ≡ length ts = omega (arith, l, ap length is, length-append ts (u ∷ []), m) in
         subst (IsHeld [] a) (sym (ap (λ xs. get_or xs g t) is ∙ ap (λ j. get_or (ts ++ u ∷ []) j t) e ∙ get_or-append_seam ts u [] t)) one
 
--- the tallies of an aggregate, grown and with the rows of a mask
-pub taken : (a : Aggregate) (v : Vector) (mask : List Bool) (places : List ℕ) (count : ℕ) (old mid new : List Tally) → (length old ≤ count → length mid ≡ count) → ((g : ℕ) (t : Tally) → g < length old → get_or mid g t ≡ get_or old g t) → ((g : ℕ) (t : Tally) → length old ≤ g → g < length mid → IsHeld [] a (get_or mid g t)) → length new ≡ length mid → ((g : ℕ) (t : Tally) (rows : List Cells) → g < length mid → IsHeld rows a (get_or mid g t) → IsHeld (rows ++ rows_placed 1024 v mask places g) a (get_or new g t)) → IsTaken a v mask places count old new
-taken a v mask places count old mid new size known fresh same held = record {
+-- the tallies of an aggregate, grown and with the rows of a split
+pub taken : (a : Aggregate) (v : Vector) (split : Split) (count : ℕ) (old mid new : List Tally) → (length old ≤ count → length mid ≡ count) → ((g : ℕ) (t : Tally) → g < length old → get_or mid g t ≡ get_or old g t) → ((g : ℕ) (t : Tally) → length old ≤ g → g < length mid → IsHeld [] a (get_or mid g t)) → length new ≡ length mid → ((g : ℕ) (t : Tally) (rows : List Cells) → g < length mid → IsHeld rows a (get_or mid g t) → IsHeld (rows ++ rows_shared v split g) a (get_or new g t)) → IsTaken a v split count old new
+taken a v split count old mid new size known fresh same held = record {
   size = λ le. same ∙ size le;
   known = λ g t rows le l h. let m : g < length mid = omega (arith, size le, l, le) in held g t rows m (subst (IsHeld rows a) (sym (known g t l)) h);
   fresh = λ g t le l. let m : g < length mid = omega (arith, size (omega (arith, le, l)), l) in held g t [] m (fresh g t le m);
@@ -285,14 +285,13 @@ module _ (by : List ℕ) (v : Vector) (mask : List Bool) (places : List ℕ) (g 
       subst (λ (n : ℕ). rows_placed n v mask places g ≡ rows_with by (rows_below n v mask) key) e (placed_next k (omega arith) (has mask k) refl (placed_with k (omega arith)))
 
 -- the groups with a vector's rows more
-pub groups_more : (by : List ℕ) (named : List Aggregate) (v : Vector) (mask : List Bool) (rows : List Cells) (before after : Places) (places : List ℕ) (old new : List (Vec Tally)) → IsIndex after → ArePlaced 1024 by v mask before.index after.index places → length new ≡ length old → ((i : ℕ) (a : Aggregate) (c : Vec Tally) → i < length named → i < length old → IsTaken (get_or named i a) v mask places (length after.index.entries) (get_or old i c).items (get_or new i c).items) → AreGroups by named rows before.index old → AreGroups by named (rows ++ rows_at v mask) after.index new
-groups_more by named v mask rows before after places old new index placed size taken h = record {
+pub groups_more : (by : List ℕ) (named : List Aggregate) (v : Vector) (mask : List Bool) (rows : List Cells) (before after : Places) (split : Split) (old new : List (Vec Tally)) → IsIndex after → IsSplit by v mask before.index after.index split → length new ≡ length old → ((i : ℕ) (a : Aggregate) (c : Vec Tally) → i < length named → i < length old → IsTaken (get_or named i a) v split (length after.index.entries) (get_or old i c).items (get_or new i c).items) → AreGroups by named rows before.index old → AreGroups by named (rows ++ rows_at v mask) after.index new
+groups_more by named v mask rows before after split old new index placed size taken h = record {
   size = size ∙ h.size;
   columns = λ i c l. let m : i < length old = omega (arith, h.size, l) in (taken i Rows c l m).size (omega (arith, h.columns i c l, placed.grown.longer));
   held = λ key g is. one_held key g is (get key_cmp before.index key) refl;
-  occurs = λ key. placed.occurs key ∙ ap (λ b. b || list_any (same_cells key) (map (key_of by) (rows_below 1024 v mask))) (h.occurs key)
-      ∙ sym (any-both key (map (key_of by) rows) (map (key_of by) (rows_below 1024 v mask))) ∙ ap (list_any (same_cells key)) (sym (map-append (key_of by) rows (rows_below 1024 v mask)))
-      ∙ ap (λ l. list_any (same_cells key) (map (key_of by) (rows ++ l))) (below_all 1024 v mask refl);
+  occurs = λ key. placed.occurs key ∙ ap (λ b. b || list_any (same_cells key) (map (key_of by) (rows_at v mask))) (h.occurs key)
+      ∙ sym (any-both key (map (key_of by) rows) (map (key_of by) (rows_at v mask))) ∙ ap (list_any (same_cells key)) (sym (map-append (key_of by) rows (rows_at v mask)));
 }
   where
     any-both : (key : Cells) (ks ls : List Cells) → list_any (same_cells key) (ks ++ ls) ≡ (list_any (same_cells key) ks || list_any (same_cells key) ls)
@@ -303,21 +302,24 @@ groups_more by named v mask rows before after places old new index placed size t
         assoc true b c = refl
         assoc false b c = refl
 
-    agrees : (key : Cells) (g : ℕ) → get key_cmp after.index key ≡ Some g → (n : ℕ) → n < 1024 → has mask n ≡ true → (get_or places n 0 == g) ≡ same_cells key (key_of by (row_at v n))
+    agrees : (key : Cells) (g : ℕ) → get key_cmp after.index key ≡ Some g → (n : ℕ) → n < 1024 → has split.left n ≡ true → (get_or split.places n 0 == g) ≡ same_cells key (key_of by (row_at v n))
     agrees key g is n l on = by_test (same_cells key (key_of by (row_at v n))) refl
       where
-        by_test : (b : Bool) → same_cells key (key_of by (row_at v n)) ≡ b → (get_or places n 0 == g) ≡ b
-        by_test true e = (Decides-eqb (get_or places n 0) g).1 (some_same (sym (placed.placed n l on) ∙ ap (get key_cmp after.index) (sym (one_row key (key_of by (row_at v n)) e)) ∙ is))
-        by_test false e = by_place (get_or places n 0 == g) refl
+        by_test : (b : Bool) → same_cells key (key_of by (row_at v n)) ≡ b → (get_or split.places n 0 == g) ≡ b
+        by_test true e = (Decides-eqb (get_or split.places n 0) g).1 (some_same (sym (placed.placed n l on) ∙ ap (get key_cmp after.index) (sym (one_row key (key_of by (row_at v n)) e)) ∙ is))
+        by_test false e = by_place (get_or split.places n 0 == g) refl
           where
-            by_place : (b : Bool) → (get_or places n 0 == g) ≡ b → b ≡ false
+            by_place : (b : Bool) → (get_or split.places n 0 == g) ≡ b → b ≡ false
             by_place false f = refl
             by_place true f =
-                let same : key ≡ key_of by (row_at v n) = index.apart key (key_of by (row_at v n)) g is (placed.placed n l on ∙ ap Some ((Decides-eqb (get_or places n 0) g).0 f)) in
+                let same : key ≡ key_of by (row_at v n) = index.apart key (key_of by (row_at v n)) g is (placed.placed n l on ∙ ap Some ((Decides-eqb (get_or split.places n 0) g).0 f)) in
                 absurd (false≢true (sym e ∙ ap (same_cells key) (sym same) ∙ itself_row key))
 
-    more : (key : Cells) (g : ℕ) → get key_cmp after.index key ≡ Some g → rows_placed 1024 v mask places g ≡ rows_with by (rows_at v mask) key
-    more key g is = placed_with by v mask places g key (agrees key g is) 1024 (omega arith) ∙ ap (λ l. rows_with by l key) (below_all 1024 v mask refl)
+    more : (key : Cells) (g : ℕ) → get key_cmp after.index key ≡ Some g → rows_shared v split g ≡ rows_with by (rows_at v mask) key
+    more key g is =
+        shared_with by v after.index split.places split.left key g index.apart is
+        (placed_with by v split.left split.places g key (agrees key g is) 1024 (omega arith) ∙ ap (λ l. rows_with by l key) (below_all 1024 v split.left refl))
+        mask split.slices.items placed.parted
 
     one_held : (key : Cells) (g : ℕ) → get key_cmp after.index key ≡ Some g → (o : Option ℕ) → get key_cmp before.index key ≡ o → AreHeld (rows_with by (rows ++ rows_at v mask) key) named new g
     one_held key g is (Some p) was =
@@ -371,48 +373,28 @@ empty_push n ts next u is e h = record {
         ap (λ xs. (get_or xs i c).items) is ∙ ap (λ j. (get_or (ts ++ u ∷ []) j c).items) at ∙ ap (λ x. x.items) (get_or-append_seam ts u [] c) ∙ e
 
 -- one aggregate more has taken in the rows
-module _ (named : List Aggregate) (v : Vector) (mask : List Bool) (places : List ℕ) (count i : ℕ) (old now : List (Vec Tally)) (m u : Vec Tally) (size : length now ≡ length old) (ln : i < length named) (lo : i < length old) (ahead : (j : ℕ) (c : Vec Tally) → i ≤ j → get_or now j c ≡ get_or old j c) where
+module _ (named : List Aggregate) (v : Vector) (split : Split) (count i : ℕ) (old now : List (Vec Tally)) (m u : Vec Tally) (size : length now ≡ length old) (ln : i < length named) (lo : i < length old) (ahead : (j : ℕ) (c : Vec Tally) → i ≤ j → get_or now j c ≡ get_or old j c) where
   pub columns_size : length (set now i u) ≡ length old
   columns_size = length-set now i u ∙ size
 
   pub columns_ahead : (j : ℕ) (c : Vec Tally) → i + 1 ≤ j → get_or (set now i u) j c ≡ get_or old j c
   columns_ahead j c l = let ne : j ≢ i = omega arith in get_or-set_other now i j u c ne ∙ ahead j c (omega (arith, l))
 
-  pub columns_taken : m ≡ get_or now i m → ((j : ℕ) (a : Aggregate) (c : Vec Tally) → j < i → IsTaken (get_or named j a) v mask places count (get_or old j c).items (get_or now j c).items) → IsTaken (get_or named i Rows) v mask places count m.items u.items
-      → (j : ℕ) (a : Aggregate) (c : Vec Tally) → j < i + 1 → IsTaken (get_or named j a) v mask places count (get_or old j c).items (get_or (set now i u) j c).items
+  pub columns_taken : m ≡ get_or now i m → ((j : ℕ) (a : Aggregate) (c : Vec Tally) → j < i → IsTaken (get_or named j a) v split count (get_or old j c).items (get_or now j c).items) → IsTaken (get_or named i Rows) v split count m.items u.items
+      → (j : ℕ) (a : Aggregate) (c : Vec Tally) → j < i + 1 → IsTaken (get_or named j a) v split count (get_or old j c).items (get_or (set now i u) j c).items
   columns_taken mine taken one j a c l = by_place (cases_lt j i)
     where
-      by_place : (j < i) ⊎ (i ≤ j) → IsTaken (get_or named j a) v mask places count (get_or old j c).items (get_or (set now i u) j c).items
+      by_place : (j < i) ⊎ (i ≤ j) → IsTaken (get_or named j a) v split count (get_or old j c).items (get_or (set now i u) j c).items
       by_place (inl b) =
           let ne : j ≢ i = omega arith in
-          subst (λ (x : Vec Tally). IsTaken (get_or named j a) v mask places count (get_or old j c).items x.items) (sym (get_or-set_other now i j u c ne)) (taken j a c b)
+          subst (λ (x : Vec Tally). IsTaken (get_or named j a) v split count (get_or old j c).items x.items) (sym (get_or-set_other now i j u c ne)) (taken j a c b)
       by_place (inr b) =
           let e : i ≡ j = omega arith in
           let inside : i < length now = omega (arith, lo, size) in
-          subst (λ (k : ℕ). IsTaken (get_or named k a) v mask places count (get_or old k c).items (get_or (set now i u) k c).items) e
-          (subst (λ (x : Vec Tally). IsTaken (get_or named i a) v mask places count (get_or old i c).items x.items) (sym (get_or-set_same now i u c inside))
-          (subst (λ (x : Vec Tally). IsTaken (get_or named i a) v mask places count x.items u.items) (mine ∙ within_any now i m c inside ∙ ahead i c (omega arith))
-          (subst (λ (x : Aggregate). IsTaken x v mask places count m.items u.items) (within_any named i Rows a ln) one)))
-
--- COUNT(*) counts each row of the mask
-pub counted_every : (v : Vector) (mask : List Bool) → AreCounted Rows v mask mask
-counted_every v mask n l = one (has mask n)
-  where
-    one : (b : Bool) → is_some (cond b (Some (pos 0)) None) ≡ b
-    one true = refl
-    one false = refl
-
--- of a column, the rows of the mask that aren't null count
-pub counted_values : (fold : Fold) (distinct : Bool) (v : Vector) (column : ℕ) (mask nulls rows : List Bool) → nulls ≡ rows_of (λ n. is_null (whole (cell_at v column n))) → rows ≡ rows_of (λ n. has mask n && not (has nulls n)) → AreCounted (Folded fold distinct column) v mask rows
-counted_values fold distinct v column mask nulls rows are e n l =
-    one (has mask n) (cell_at v column n)
-    ∙ ap (λ b. has mask n && not b) (sym (ap (λ m. has m n) are ∙ has-rows_of (λ m. is_null (whole (cell_at v column m))) n l))
-    ∙ sym (ap (λ m. has m n) e ∙ has-rows_of (λ m. has mask m && not (has nulls m)) n l)
-  where
-    one : (b : Bool) (o : Option ℤ) → is_some (cond b o None) ≡ (b && not (is_null (whole o)))
-    one true None = refl
-    one true (Some z) = refl
-    one false o = refl
+          subst (λ (k : ℕ). IsTaken (get_or named k a) v split count (get_or old k c).items (get_or (set now i u) k c).items) e
+          (subst (λ (x : Vec Tally). IsTaken (get_or named i a) v split count (get_or old i c).items x.items) (sym (get_or-set_same now i u c inside))
+          (subst (λ (x : Vec Tally). IsTaken (get_or named i a) v split count x.items u.items) (mine ∙ within_any now i m c inside ∙ ahead i c (omega arith))
+          (subst (λ (x : Aggregate). IsTaken x v split count m.items u.items) (within_any named i Rows a ln) one)))
 
 -- of a column, the rows of the mask that aren't null have one
 pub shown_values : (a : Aggregate) (v : Vector) (mask nulls rows : List Bool) (values : List ℤ) → rows ≡ rows_of (λ n. has mask n && not (has nulls n)) → ((n : ℕ) → n < 1024 → cond (has nulls n) None (Some (get_or values n (pos 0))) ≡ aggregate_cell (row_at v n) a) → AreShown a v mask rows values

@@ -17,9 +17,12 @@ pub mod ValueSteps
 pub mod DistinctLemmas
 pub mod TableLemmas
 pub mod ShownLemmas
+pub mod MaskedLemmas
+pub mod SliceLemmas
 pub mod RowsBelow
 pub mod PlaceLemmas
 pub mod GroupingLemmas
+pub mod SharedLemmas
 pub mod VectorLemmas
 pub mod MentionLemmas
 pub mod AnswerLemmas

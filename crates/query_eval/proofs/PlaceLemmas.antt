@@ -39,7 +39,7 @@ or_assoc : (a b c : Bool) → ((a || b) || c) ≡ (a || (b || c))
 or_assoc true b c = refl
 or_assoc false b c = refl
 
-turned : (key q : Cells) → same_cells key q ≡ false → same_cells q key ≡ false
+pub turned : (key q : Cells) → same_cells key q ≡ false → same_cells q key ≡ false
 turned key q e = by_test (same_cells q key) refl
   where
     by_test : (b : Bool) → same_cells q key ≡ b → b ≡ false
@@ -186,3 +186,10 @@ pub only_one : {X Y : Type 0} (f : X → Y) (xs : List X) (x : X) → length xs 
 only_one f [] x e at = absurd (omega (arith, e))
 only_one f (y ∷ []) x e at = ap (λ z. f z ∷ []) at
 only_one f (y ∷ z ∷ zs) x e at = absurd (omega (arith, e))
+
+-- no row is one of the mask
+pub placed_nowhere : (k : ℕ) (by : List ℕ) (v : Vector) (mask : List Bool) (m : BTreeMap Cells ℕ) (places : List ℕ) → ((n : ℕ) → n < k → has mask n ≡ false) → ArePlaced k by v mask m m places
+placed_nowhere zero by v mask m places h = placed_none by v mask m places
+placed_nowhere (suc k) by v mask m places h =
+    let e : k + 1 ≡ suc k = omega arith in
+    subst (λ (n : ℕ). ArePlaced n by v mask m m places) e (placed_left k by v mask m m places (placed_nowhere k by v mask m places (λ n l. h n (omega (arith, l)))) (h k (omega arith)))

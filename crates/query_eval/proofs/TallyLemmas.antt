@@ -94,3 +94,24 @@ updated z q a = one (int_eq z q) (int_eq q z) (int_eq_equiv.symm z q) a
 
 pub members_put : (seen now : List ℤ) (z : ℤ) → ((q : ℤ) → list_any (int_eq q) now ≡ cond (int_eq z q) true (list_any (int_eq q) seen)) → (values : List ℤ) → ((q : ℤ) → list_any (int_eq q) seen ≡ list_any (int_eq q) values) → (q : ℤ) → list_any (int_eq q) now ≡ list_any (int_eq q) (values ++ z ∷ [])
 members_put seen now z updates values h q = updates q ∙ updated z q (list_any (int_eq q) seen) ∙ ap (λ b. b || int_eq q z) (h q) ∙ sym (any_push values z q)
+
+-- ---- many values more
+small_front : (xs ys : List ℤ) → AreSmall (xs ++ ys) → AreSmall xs
+small_front [] ys h = tt
+small_front (x ∷ xs) ys h = (h.0, small_front xs ys h.1)
+
+pub told_many : (s t : Sums) (added : List ℤ) (n : ℕ) (z : ℤ) → n ≡ length added → z ≡ total added → t.count ≡ min (s.count + n) (2 ^ 64 - 1) → (FitsSigned w128 (s.sum +ℤ z) → t.sum ≡ s.sum +ℤ z) → (values : List ℤ) → AreTold values s → AreTold (values ++ added) t
+told_many s t added n z many all count sum values told few small =
+    let longer : length (values ++ added) ≡ length values + length added = length-append values added in
+    let now = told (omega (arith, few, longer)) (small_front values added small) in
+    let whole_sum : total (values ++ added) ≡ s.sum +ℤ z = total-append values added ∙ ap (λ x. x +ℤ total added) (sym now.sum) ∙ ap (λ x. s.sum +ℤ x) (sym all) in
+    record {
+      count = omega (arith, count, now.count, longer, few, many);
+      sum = sum (subst (FitsSigned w128) whole_sum (total-fits (values ++ added) few small)) ∙ sym whole_sum;
+    }
+
+pub least_many : (before after one : Option ℤ) (added : List ℤ) → one ≡ least added → after ≡ lesser before one → (values : List ℤ) → before ≡ least values → after ≡ least (values ++ added)
+least_many before after one added e is values h = is ∙ ap (λ o. lesser o one) h ∙ ap (lesser (least values)) e ∙ sym (least-append values added)
+
+pub greatest_many : (before after one : Option ℤ) (added : List ℤ) → one ≡ greatest added → after ≡ greater before one → (values : List ℤ) → before ≡ greatest values → after ≡ greatest (values ++ added)
+greatest_many before after one added e is values h = is ∙ ap (λ o. greater o one) h ∙ ap (greater (greatest values)) e ∙ sym (greatest-append values added)

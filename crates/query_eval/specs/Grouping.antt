@@ -1,5 +1,5 @@
 -- Groups under way: for each list of keys that came, the tallies of the rows that have it.
-use Rattle.std.specs.Prelude.{◌≡◌, ℕ, ◌+◌, ◌<◌, ◌≤◌, ◌++◌, Bool, cond, nat_lt, List, [], ◌∷◌, map, length, slice_index_or, sum_by, Option, Some, None, ℤ, pos}
+use Rattle.std.specs.Prelude.{◌≡◌, ℕ, ◌+◌, ◌<◌, ◌≤◌, ◌++◌, Bool, not, cond, nat_lt, List, [], ◌∷◌, map, length, slice_index_or, sum_by, Option, Some, None, ℤ, pos}
 use Rattle.std.specs.List.{list_any}
 use Rattle.std.specs.BTreeMap.{BTreeMap, get}
 use Rattle.std.specs.Option.{is_some}
@@ -8,14 +8,15 @@ use Rattle.table_model.specs.Group.{cell, key_cmp, key_of, rows_with, values_in}
 use Rattle.table_model.specs.State.{Cells, same_cells}
 use Rattle.table_model.specs.Table.{Table}
 use Rattle.query_eval.specs.Finished.{PlanShape}
-use Rattle.query_eval.specs.Places.{rows_placed}
 use Rattle.query_eval.specs.QueryMentions.{aggregate_mentions}
+use Rattle.query_eval.specs.Slices.{rows_shared}
 use Rattle.query_eval.specs.Tally.{IsTally, kind_of}
 use Rattle.query_eval.specs.TallyKinds.{aggregate_kind}
 use Rattle.query_eval.specs.Vector.{Vector, row_at}
 use Rattle.transpose_order.specs.Mask.{has}
 use Rattle.query_eval.specs.declared.aggregate.Aggregate.{Aggregate}
 use Rattle.query_eval.specs.declared.aggregate.Aggregate.TheVariants.{Rows, Folded}
+use Rattle.query_eval.specs.declared.split.Split.{Split}
 use Rattle.query_eval.specs.declared.side.Side.{Side}
 use Rattle.query_eval.specs.declared.side.Side.TheVariants.{Column, Fixed}
 use Rattle.query_eval.specs.declared.tally.Tally.{Tally}
@@ -62,11 +63,11 @@ pub record AreEmpty (n : ℕ) (tallies : List (Vec Tally)) : Type 0 where
   pub size : length tallies ≡ n
   pub empty : (i : ℕ) (column : Vec Tally) → i < n → (slice_index_or tallies i column).items ≡ []
 
--- the tallies of an aggregate have taken in the rows of a mask, each the rows with its place
-pub record IsTaken (a : Aggregate) (v : Vector) (mask : List Bool) (places : List ℕ) (count : ℕ) (old new : List Tally) : Type 0 where
+-- the tallies of an aggregate have taken in the rows of a split, each the rows with its place
+pub record IsTaken (a : Aggregate) (v : Vector) (split : Split) (count : ℕ) (old new : List Tally) : Type 0 where
   pub size : length old ≤ count → length new ≡ count
-  pub known : (place : ℕ) (t : Tally) (rows : List Cells) → length old ≤ count → place < length old → IsHeld rows a (slice_index_or old place t) → IsHeld (rows ++ rows_placed 1024 v mask places place) a (slice_index_or new place t)
-  pub fresh : (place : ℕ) (t : Tally) → length old ≤ place → place < count → IsHeld (rows_placed 1024 v mask places place) a (slice_index_or new place t)
+  pub known : (place : ℕ) (t : Tally) (rows : List Cells) → length old ≤ count → place < length old → IsHeld rows a (slice_index_or old place t) → IsHeld (rows ++ rows_shared v split place) a (slice_index_or new place t)
+  pub fresh : (place : ℕ) (t : Tally) → length old ≤ place → place < count → IsHeld (rows_shared v split place) a (slice_index_or new place t)
 
 -- the cell of a row as a list: nothing where it is null
 abbrev pub as_list : Option ℤ → List ℤ
@@ -80,6 +81,14 @@ AreShown a v mask rows values = (n : ℕ) → n < 1024 → cond (has mask n) (ag
 -- at which rows of a mask an aggregate has a value
 abbrev pub AreCounted : Aggregate → Vector → List Bool → List Bool → Type 0
 AreCounted a v mask rows = (n : ℕ) → n < 1024 → is_some (cond (has mask n) (aggregate_cell (row_at v n) a) None) ≡ has rows n
+
+-- decoded values are those that an aggregate goes over, but for the nulls
+abbrev pub AreCells : Aggregate → Vector → List Bool → List ℤ → Type 0
+AreCells a v nulls values = (n : ℕ) → n < 1024 → cond (has nulls n) None (Some (slice_index_or values n (pos 0))) ≡ aggregate_cell (row_at v n) a
+
+-- an aggregate has a value at each row but for the nulls
+abbrev pub AreNulls : Aggregate → Vector → List Bool → Type 0
+AreNulls a v nulls = (n : ℕ) → n < 1024 → is_some (aggregate_cell (row_at v n) a) ≡ not (has nulls n)
 
 -- how many columns GROUP BY and the set functions of a query mention
 abbrev pub plan_mentions : PlanShape → ℕ

@@ -14,4 +14,5 @@ pub mod TallyKinds
 pub mod QueryMentions
 pub mod Grouping
 pub mod Places
+pub mod Slices
 pub mod PlainRows

@@ -1,10 +1,13 @@
-//! Rows of decoded columns, one by one: for the predicates that no kernel answers.
+//! Decoded columns: their rows one by one, for the predicates that no kernel answers, and the rows with one cell.
 ghost use Rattle.std.specs.Prelude.{◌≡◌, ◌<◌, ◌≤◌, ◌+◌, ℕ};
+ghost use Rattle.table_model.specs.State.{same_cell};
+ghost use Rattle.transpose_order.specs.Mask.{has};
 ghost use Rattle.query_eval.specs.Decoded.{decoded_at};
 ghost use Rattle.query_eval.specs.Side.{side_at, side_mentions, HasColumn};
 ghost use Rattle.query_eval.specs.Vector.{IsThere, vector_at};
 
 use crate::columns::Columns;
+use crate::masked_folds::equal_rows;
 use crate::side::Side;
 use transpose_order::Mask;
 
@@ -30,6 +33,24 @@ impl Decoded {
                 }
             }
             Decoded::Fixed(cell) => *cell,
+        }
+    }
+
+    /// The rows with the same cell as a row: null is the same as null.
+    pub fn rows_like(&self, row: usize) -> Mask
+        requires { row < 1024 }
+        ensures { (n : ℕ) → n < 1024 → has result n ≡ same_cell (decoded_at self.now row) (decoded_at self.now n) }
+    {
+        match self {
+            Decoded::Column { nulls, values } => {
+                let null = nulls.get(row);
+                if null {
+                    *nulls
+                } else {
+                    equal_rows(values, values[row]).and_not(nulls)
+                }
+            }
+            Decoded::Fixed(_) => Mask::all(),
         }
     }
 }

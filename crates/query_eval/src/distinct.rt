@@ -17,7 +17,11 @@ use std::collections::HashSet;
 use transpose_order::Mask;
 
 /// Adds the values at the rows of a mask to a set.
-fn add_values(set: &mut HashSet<i64>, rows: &Mask, values: &[i64; 1024]) -> Result<(), AllocError>
+pub(crate) fn add_values(
+    set: &mut HashSet<i64>,
+    rows: &Mask,
+    values: &[i64; 1024],
+) -> Result<(), AllocError>
     ensures { OnOk result ((z : ℤ) → contains int_eq set.new z ≡ (contains int_eq set.old z || list_any (int_eq z) (present (rows_of (λ n. cond (has rows.now n) (Some (slice_index_or values.now n (pos 0))) None))))) }
 {
     for row in 0..1024 {

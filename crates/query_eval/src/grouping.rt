@@ -12,9 +12,11 @@ use crate::kept::KeptVector;
 use crate::places::Places;
 use crate::placing::place_rows;
 use crate::plan::Plan;
+use crate::split::Split;
 use crate::taking::add_columns;
 use crate::tally::Tally;
 use std::alloc::{AllocError, Global};
+use transpose_order::Mask;
 
 /// Groups under way: their places, and for each aggregate the groups' tallies by their places.
 #[derive(Drop)]
@@ -23,11 +25,11 @@ pub struct Groups {
     pub tallies: Vec<Vec<Tally>>,
 }
 
-/// Room for what is known of a vector's rows, one vector after another: a decoded column, and the places of the rows' groups.
+/// Room for what is known of a vector's rows, one vector after another: a decoded column, and the rows split by their groups.
 #[derive(Drop)]
 struct Room {
     values: [i64; 1024],
-    places: [usize; 1024],
+    split: Split,
 }
 
 /// No tallies yet, for each aggregate.
@@ -72,25 +74,20 @@ fn group_vector<C: Columns>(
     place_rows(
         alloc,
         columns,
-        kept.batch,
-        kept.vector,
+        kept,
         plan.grouping(),
         &mut groups.places,
-        &kept.rows,
-        &mut room.values,
-        &mut room.places,
+        &mut room.split,
     )?;
     let count = groups.places.len();
     add_columns(
         alloc,
         columns,
-        kept.batch,
-        kept.vector,
+        kept,
         plan.aggregates(),
         &mut groups.tallies,
-        &room.places,
         count,
-        &kept.rows,
+        &room.split,
         &mut room.values,
     )?;
     Ok(())
@@ -113,7 +110,11 @@ pub fn group_vectors<C: Columns>(
     let mut groups = Groups::none(alloc, plan.aggregates())?;
     let mut room = Room {
         values: [0; 1024],
-        places: [0; 1024],
+        split: Split {
+            slices: Vec::new(alloc),
+            left: Mask::none(),
+            places: [0; 1024],
+        },
     };
     for vector in kept {
         group_vector(alloc, columns, plan, &mut groups, vector, &mut room)?;

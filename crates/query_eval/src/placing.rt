@@ -1,4 +1,4 @@
-//! Places of the rows of a vector by their groups.
+//! The rows of a vector, split by their groups.
 ghost use Rattle.std.specs.Prelude.{◌≡◌, ◌==◌, ◌+◌, ◌<◌, ◌≤◌, ◌∷◌, [], ℕ, Bool, List, None, Some, cond, length, map, pos, slice_index_or, OnOk};
 ghost use Rattle.std.specs.BTreeMap.{BTreeMap};
 ghost use Rattle.std.specs.Int.{bit_at};
@@ -6,6 +6,7 @@ ghost use Rattle.table_model.specs.Group.{key_of};
 ghost use Rattle.table_model.specs.State.{Cells};
 ghost use Rattle.query_eval.specs.Decoded.{decoded_at};
 ghost use Rattle.query_eval.specs.Places.{IsIndex, ArePlaced};
+ghost use Rattle.query_eval.specs.Slices.{IsSplit};
 ghost use Rattle.query_eval.specs.Vector.{IsThere, Vector, row_at, vector_at};
 ghost use Rattle.transpose_order.specs.Mask.{has};
 
@@ -14,21 +15,12 @@ use crate::columns::Columns;
 use crate::decoded::Decoded;
 use crate::decoded_columns::decode_keys;
 use crate::finished::Key;
+use crate::kept::KeptVector;
 use crate::places::Places;
+use crate::slicing::{read_key, slice_rows};
+use crate::split::Split;
 use std::alloc::{AllocError, Global};
 use transpose_order::Mask;
-
-/// Reads a row's key.
-fn read_key(key: &mut Key, columns: &[Decoded], row: usize) -> Result<(), AllocError>
-    requires { row < 1024 }
-    ensures { OnOk result (key.new ≡ map (λ column. decoded_at column row) columns.now) }
-{
-    key.clear();
-    for column in columns {
-        key.push(column.at(row))?;
-    }
-    Ok(())
-}
 
 /// Writes the place of each row of a word of a mask, by its cell in the one grouping column: bit `b` is row `first + b`, of the
 /// word of nulls too.
@@ -106,58 +98,56 @@ fn place_by_key(
     Ok(())
 }
 
-/// Writes the place of the group of each row of a mask, by the keys in the grouping columns, each decoded in at most one pass.
-fn place_by_columns<C: Columns>(
+/// Writes the place of each row of a mask, by the grouping columns: by its cell where there is one, else by its key.
+fn place_each(
     alloc: Global,
-    columns: &mut C,
-    batch: usize,
-    vector: usize,
-    grouping: &[usize],
     places: &mut Places,
+    columns: &[Decoded],
     mask: &Mask,
     out: &mut [usize; 1024],
 ) -> Result<(), AllocError>
-    requires { IsThere (C.state columns.old) batch vector }
     ensures index { OnOk result (IsIndex places.old → IsIndex places.new) }
-    ensures placed { OnOk result (IsIndex places.old → ArePlaced 1024 grouping.now (vector_at (C.state columns.old) batch vector) mask.now places.old.index places.new.index out.new) }
-    ensures table { C.table columns.new ≡ C.table columns.old }
-    ensures state { C.state columns.new ≡ C.state columns.old }
-    ensures passes { OnOk result (C.passes columns.new ≤ C.passes columns.old + length grouping.now) }
+    ensures placed { OnOk result ((by : List ℕ) (v : Vector) → ((n : ℕ) → n < 1024 → map (λ d. decoded_at d n) columns.now ≡ key_of by (row_at v n)) → IsIndex places.old → ArePlaced 1024 by v mask.now places.old.index places.new.index out.new) }
 {
-    let keys = decode_keys(alloc, columns, batch, vector, grouping)?;
-    place_by_key(alloc, places, keys.as_slice(), mask, out)?;
+    if mask.next_true(0) == 1024 {
+        return Ok(());
+    }
+    if columns.len() == 1 {
+        if let Decoded::Column { nulls, values } = &columns[0] {
+            place_by_value(alloc, places, nulls, values, mask, out)?;
+            return Ok(());
+        }
+    }
+    place_by_key(alloc, places, columns, mask, out)?;
     Ok(())
 }
 
-/// Writes the place of the group of each row of a mask, by the grouping columns, each in at most one pass. A key that hasn't come
-/// before gets a new place. `values` is room for a decoded column.
+/// Splits the kept rows of a vector by the grouping columns, each in at most one pass: in slices, and where they aren't worth it
+/// row by row. A key that hasn't come before gets a new place.
 pub fn place_rows<C: Columns>(
     alloc: Global,
     columns: &mut C,
-    batch: usize,
-    vector: usize,
+    kept: &KeptVector,
     grouping: &[usize],
     places: &mut Places,
-    mask: &Mask,
-    values: &mut [i64; 1024],
-    out: &mut [usize; 1024],
+    split: &mut Split,
 ) -> Result<(), AllocError>
-    requires { IsThere (C.state columns.old) batch vector }
+    requires { IsThere (C.state columns.old) kept.now.batch kept.now.vector }
     ensures index { OnOk result (IsIndex places.old → IsIndex places.new) }
-    ensures placed { OnOk result (IsIndex places.old → ArePlaced 1024 grouping.now (vector_at (C.state columns.old) batch vector) mask.now places.old.index places.new.index out.new) }
+    ensures placed { OnOk result (IsIndex places.old → IsSplit grouping.now (vector_at (C.state columns.old) kept.now.batch kept.now.vector) kept.now.rows places.old.index places.new.index split.new) }
     ensures table { C.table columns.new ≡ C.table columns.old }
     ensures state { C.state columns.new ≡ C.state columns.old }
     ensures passes { OnOk result (C.passes columns.new ≤ C.passes columns.old + length grouping.now) }
 {
-    if grouping.len() != 1 {
-        return place_by_columns(alloc, columns, batch, vector, grouping, places, mask, out);
-    }
-    let column = grouping[0];
-    if columns.schema().column_list().len() <= column {
-        return place_by_columns(alloc, columns, batch, vector, grouping, places, mask, out);
-    }
-    let nulls = columns.nulls(batch, column, vector);
-    columns.decode_into(batch, column, vector, values);
-    place_by_value(alloc, places, &nulls, values, mask, out)?;
+    let keys = decode_keys(alloc, columns, kept.batch, kept.vector, grouping)?;
+    let left = slice_rows(
+        alloc,
+        places,
+        keys.as_slice(),
+        &kept.rows,
+        &mut split.slices,
+    )?;
+    place_each(alloc, places, keys.as_slice(), &left, &mut split.places)?;
+    split.left = left;
     Ok(())
 }

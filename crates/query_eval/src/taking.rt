@@ -1,19 +1,23 @@
 //! The tallies of an aggregate, a group each, as the rows of a vector come.
 ghost use Rattle.std.specs.Prelude.{◌≡◌, ◌<◌, ◌≤◌, ◌+◌, ◌++◌, [], ℕ, List, Bool, length, slice_index_or, sum_by, OnOk};
 ghost use Rattle.std.specs.Global.{Vec as Items};
-ghost use Rattle.query_eval.specs.Grouping.{IsHeld, IsTaken};
-ghost use Rattle.query_eval.specs.Places.{rows_placed};
+ghost use Rattle.query_eval.specs.Grouping.{AreCells, AreNulls, IsHeld, IsTaken};
 ghost use Rattle.query_eval.specs.QueryMentions.{aggregate_mentions};
 ghost use Rattle.table_model.specs.State.{Cells};
+ghost use Rattle.query_eval.specs.Slices.{rows_shared};
 ghost use Rattle.query_eval.specs.TallyKinds.{aggregate_kind, fold_kind};
-ghost use Rattle.query_eval.specs.Vector.{IsThere, vector_at};
+ghost use Rattle.query_eval.specs.Vector.{IsThere, Vector, vector_at};
 ghost use Rattle.query_eval.specs.declared.aggregate.Aggregate.{Aggregate as AnAggregate};
 ghost use Rattle.query_eval.specs.declared.aggregate.Aggregate.TheVariants.{Folded};
 ghost use Rattle.table_model.specs.declared.query.Fold.{Fold as AFold};
 ghost use Rattle.query_eval.specs.declared.tally.Tally.{Tally as ATally};
+ghost use Rattle.query_eval.specs.declared.tally.TallyKind.TheVariants as kinds;
 
 use crate::aggregate::Aggregate;
 use crate::columns::Columns;
+use crate::kept::KeptVector;
+use crate::slice_tallies::{add_slices, count_slices};
+use crate::split::Split;
 use crate::tally::{Tally, TallyKind};
 use crate::tallying::{add_rows, count_rows, sum_rows};
 use std::alloc::{AllocError, Global};
@@ -64,22 +68,58 @@ fn add_groups(
     Ok(())
 }
 
-/// Takes the values of a column at the rows of a mask into the tallies at their places, in at most one pass: COUNT needs the
+/// Counts the rows of a split, but for the nulls, in the tallies at their places.
+fn count_split(tallies: &mut Vec<Tally>, split: &Split, nulls: &Mask)
+    ensures size { length tallies.new.items ≡ length tallies.old.items }
+    ensures held { (a : AnAggregate) (v : Vector) → aggregate_kind a ≡ kinds.Count → AreNulls a v nulls.now → (g : ℕ) (t : ATally) (taken : List Cells) → g < length tallies.old.items → IsHeld taken a (slice_index_or tallies.old.items g t) → IsHeld (taken ++ rows_shared v split.now g) a (slice_index_or tallies.new.items g t) }
+{
+    count_slices(tallies, split.slices.as_slice(), nulls);
+    if split.left.next_true(0) == 1024 {
+        return;
+    }
+    let rows = split.left.and_not(nulls);
+    count_rows(tallies, &split.places, &rows);
+}
+
+/// Takes the values at the rows of a split, but for the nulls, into the tallies at their places, which keep what `kind` says.
+fn add_split(
+    tallies: &mut Vec<Tally>,
+    kind: TallyKind,
+    values: &[i64; 1024],
+    split: &Split,
+    nulls: &Mask,
+) -> Result<(), AllocError>
+    ensures size { OnOk result (length tallies.new.items ≡ length tallies.old.items) }
+    ensures held { OnOk result ((a : AnAggregate) (v : Vector) → kind ≡ aggregate_kind a → AreCells a v nulls.now values.now → (g : ℕ) (t : ATally) (taken : List Cells) → g < length tallies.old.items → IsHeld taken a (slice_index_or tallies.old.items g t) → IsHeld (taken ++ rows_shared v split.now g) a (slice_index_or tallies.new.items g t)) }
+{
+    add_slices(tallies, values, split.slices.as_slice(), nulls)?;
+    if split.left.next_true(0) == 1024 {
+        return Ok(());
+    }
+    let rows = split.left.and_not(nulls);
+    match kind {
+        TallyKind::Sum => sum_rows(tallies, values, &split.places, &rows),
+        TallyKind::Count | TallyKind::Least | TallyKind::Greatest | TallyKind::Distinct => {
+            add_rows(tallies, values, &split.places, &rows)?;
+        }
+    }
+    Ok(())
+}
+
+/// Takes the values of a column at the rows of a split into the tallies at their places, in at most one pass: COUNT needs the
 /// nulls alone. A place past the last column has no value. `values` is room for the decoded column.
 fn add_values<C: Columns>(
     columns: &mut C,
-    batch: usize,
-    vector: usize,
+    kept: &KeptVector,
     column: usize,
     kind: TallyKind,
     tallies: &mut Vec<Tally>,
-    places: &[usize; 1024],
-    mask: &Mask,
+    split: &Split,
     values: &mut [i64; 1024],
 ) -> Result<(), AllocError>
-    requires { IsThere (C.state columns.old) batch vector }
+    requires { IsThere (C.state columns.old) kept.now.batch kept.now.vector }
     ensures size { OnOk result (length tallies.new.items ≡ length tallies.old.items) }
-    ensures held { OnOk result ((fold : AFold) (distinct : Bool) → kind ≡ fold_kind distinct fold → (g : ℕ) (t : ATally) (taken : List Cells) → g < length tallies.old.items → IsHeld taken (Folded fold distinct column) (slice_index_or tallies.old.items g t) → IsHeld (taken ++ rows_placed 1024 (vector_at (C.state columns.old) batch vector) mask.now places.now g) (Folded fold distinct column) (slice_index_or tallies.new.items g t)) }
+    ensures held { OnOk result ((fold : AFold) (distinct : Bool) → kind ≡ fold_kind distinct fold → (g : ℕ) (t : ATally) (taken : List Cells) → g < length tallies.old.items → IsHeld taken (Folded fold distinct column) (slice_index_or tallies.old.items g t) → IsHeld (taken ++ rows_shared (vector_at (C.state columns.old) kept.now.batch kept.now.vector) split.now g) (Folded fold distinct column) (slice_index_or tallies.new.items g t)) }
     ensures table { C.table columns.new ≡ C.table columns.old }
     ensures state { C.state columns.new ≡ C.state columns.old }
     ensures passes { C.passes columns.new ≤ C.passes columns.old + 1 }
@@ -89,75 +129,63 @@ fn add_values<C: Columns>(
     if columns.schema().column_list().len() <= column {
         return Ok(());
     }
-    let nulls = columns.nulls(batch, column, vector);
-    let rows = mask.and_not(&nulls);
-    match kind {
-        TallyKind::Count => count_rows(tallies, places, &rows),
-        TallyKind::Sum => {
-            columns.decode_into(batch, column, vector, values);
-            sum_rows(tallies, values, places, &rows);
-        }
-        TallyKind::Least | TallyKind::Greatest | TallyKind::Distinct => {
-            columns.decode_into(batch, column, vector, values);
-            add_rows(tallies, values, places, &rows)?;
-        }
+    let nulls = columns.nulls(kept.batch, column, kept.vector);
+    if let TallyKind::Count = kind {
+        count_split(tallies, split, &nulls);
+        return Ok(());
     }
+    columns.decode_into(kept.batch, column, kept.vector, values);
+    add_split(tallies, kind, values, split, &nulls)?;
     Ok(())
 }
 
-/// Takes the rows of a mask into the tallies of an aggregate, of which there are so many then.
+/// Takes the rows of a split into the tallies of an aggregate, of which there are so many then.
 fn add_column<C: Columns>(
     alloc: Global,
     columns: &mut C,
-    batch: usize,
-    vector: usize,
+    kept: &KeptVector,
     aggregate: Aggregate,
     tallies: &mut Vec<Tally>,
-    places: &[usize; 1024],
     count: usize,
-    mask: &Mask,
+    split: &Split,
     values: &mut [i64; 1024],
 ) -> Result<(), AllocError>
-    requires { IsThere (C.state columns.old) batch vector }
-    ensures taken { OnOk result (IsTaken aggregate (vector_at (C.state columns.old) batch vector) mask.now places.now count tallies.old.items tallies.new.items) }
+    requires { IsThere (C.state columns.old) kept.now.batch kept.now.vector }
+    ensures taken { OnOk result (IsTaken aggregate (vector_at (C.state columns.old) kept.now.batch kept.now.vector) split.now count tallies.old.items tallies.new.items) }
     ensures table { C.table columns.new ≡ C.table columns.old }
     ensures state { C.state columns.new ≡ C.state columns.old }
     ensures passes { C.passes columns.new ≤ C.passes columns.old + aggregate_mentions aggregate }
 {
     add_groups(alloc, tallies, aggregate, count)?;
     match aggregate {
-        Aggregate::Rows => count_rows(tallies, places, mask),
+        Aggregate::Rows => count_split(tallies, split, &Mask::none()),
         Aggregate::Folded {
             fold,
             distinct,
             place,
         } => {
             let kind = fold_kind(distinct, fold);
-            add_values(
-                columns, batch, vector, place, kind, tallies, places, mask, values,
-            )?;
+            add_values(columns, kept, place, kind, tallies, split, values)?;
         }
     }
     Ok(())
 }
 
-/// Takes the rows of a mask into the tallies of some aggregates, of which there are so many each then. Each mention of a column
-/// takes at most one pass. `values` is room for a decoded column.
+/// Takes the rows of a split, which are the kept ones of a vector, into the tallies of some aggregates, of which there are so many
+/// each then. Each mention of a column takes at most one pass. `values` is room for a decoded column.
 pub fn add_columns<C: Columns>(
     alloc: Global,
     columns: &mut C,
-    batch: usize,
-    vector: usize,
+    kept: &KeptVector,
     aggregates: &[Aggregate],
     tallies: &mut Vec<Vec<Tally>>,
-    places: &[usize; 1024],
     count: usize,
-    mask: &Mask,
+    split: &Split,
     values: &mut [i64; 1024],
 ) -> Result<(), AllocError>
-    requires { IsThere (C.state columns.old) batch vector }
+    requires { IsThere (C.state columns.old) kept.now.batch kept.now.vector }
     ensures size { OnOk result (length tallies.new.items ≡ length tallies.old.items) }
-    ensures taken { OnOk result ((i : ℕ) (a : AnAggregate) (c : Items ATally) → i < length aggregates.now → i < length tallies.old.items → IsTaken (slice_index_or aggregates.now i a) (vector_at (C.state columns.old) batch vector) mask.now places.now count (slice_index_or tallies.old.items i c).items (slice_index_or tallies.new.items i c).items) }
+    ensures taken { OnOk result ((i : ℕ) (a : AnAggregate) (c : Items ATally) → i < length aggregates.now → i < length tallies.old.items → IsTaken (slice_index_or aggregates.now i a) (vector_at (C.state columns.old) kept.now.batch kept.now.vector) split.now count (slice_index_or tallies.old.items i c).items (slice_index_or tallies.new.items i c).items) }
     ensures table { C.table columns.new ≡ C.table columns.old }
     ensures state { C.state columns.new ≡ C.state columns.old }
     ensures passes { C.passes columns.new ≤ C.passes columns.old + sum_by aggregate_mentions aggregates.now }
@@ -167,13 +195,11 @@ pub fn add_columns<C: Columns>(
         add_column(
             alloc,
             columns,
-            batch,
-            vector,
+            kept,
             aggregates[i],
             &mut tallies[i],
-            places,
             count,
-            mask,
+            split,
             values,
         )?;
     }

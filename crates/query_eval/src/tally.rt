@@ -6,16 +6,19 @@ ghost use Rattle.std.specs.Int.{w128};
 ghost use Rattle.table_model.specs.Meaning.{fold_value, once_if};
 ghost use Rattle.table_model.specs.Values.{distinct};
 ghost use Rattle.table_model.proofs.Bounds.{AreSmall};
+ghost use Rattle.query_eval.specs.Slices.{values_at};
 ghost use Rattle.query_eval.specs.Tally.{AreTold, IsTally, kind_of};
 ghost use Rattle.query_eval.specs.declared.tally.TallyKind.TheVariants as kinds;
 ghost use Rattle.query_eval.specs.TallyKinds.{fold_kind};
 
 use crate::column_folds::{greater, lesser};
-use crate::distinct::set_values;
+use crate::distinct::{add_values, set_values};
 use crate::field_values::{sum_field, values_field, whole_field};
+use crate::masked_folds::{count_at, greatest_at, least_at, sum_at};
 use std::alloc::{AllocError, Global};
 use std::collections::HashSet;
 use table_model::{Field, Fold};
+use transpose_order::Mask;
 
 /// How many millionths a whole is.
 const MILLION: i128 = 1_000_000;
@@ -58,10 +61,10 @@ pub enum Tally {
 }
 
 /// The sum of two values where 128 bits hold it, else the first.
-fn added(a: i128, b: i64) -> i128
+fn added(a: i128, b: i128) -> i128
     ensures { FitsSigned w128 (a +ℤ b) → result ≡ a +ℤ b }
 {
-    match a.checked_add(i128::from(b)) {
+    match a.checked_add(b) {
         None => a,
         Some(sum) => sum,
     }
@@ -88,7 +91,7 @@ impl Sums {
         ensures { (values : List ℤ) → AreTold values self.old → AreTold (values ++ value ∷ []) self.new }
     {
         self.count = self.count.saturating_add(1);
-        self.sum = added(self.sum, value);
+        self.sum = added(self.sum, i128::from(value));
     }
 
     /// Takes in one value more where one comes. There is no branch on that, since at columns with nulls nothing foretells it.
@@ -97,7 +100,15 @@ impl Sums {
     {
         let more = value_or_zero(value, comes);
         self.count = self.count.saturating_add(u64::from(comes));
-        self.sum = added(self.sum, more);
+        self.sum = added(self.sum, i128::from(more));
+    }
+
+    /// Takes in the values at the rows of a mask.
+    fn add_rows(&mut self, values: &[i64; 1024], rows: &Mask)
+        ensures { (before : List ℤ) → AreTold before self.old → AreTold (before ++ values_at rows.now values.now) self.new }
+    {
+        self.count = self.count.saturating_add(count_at(rows) as u64);
+        self.sum = added(self.sum, sum_at(values, rows));
     }
 
     /// AVG of the values, where the fold is that, and else SUM.
@@ -165,6 +176,16 @@ impl Tally {
         }
     }
 
+    /// Counts so many values more. A tally of another kind stays as it is.
+    pub fn count_more(&mut self, more: usize)
+        ensures values { (values added : List ℤ) → kind_of self.old ≡ kinds.Count → more ≡ length added → IsTally values self.old → IsTally (values ++ added) self.new }
+        ensures kind { kind_of self.new ≡ kind_of self.old }
+    {
+        if let Tally::Count(count) = self {
+            *count = count.saturating_add(more as u64);
+        }
+    }
+
     /// Takes one value more into a sum where one comes. A tally of another kind stays as it is.
     pub fn sum_where(&mut self, value: i64, comes: bool)
         ensures values { (values : List ℤ) → kind_of self.old ≡ kinds.Sum → IsTally values self.old → IsTally (values ++ cond comes (value ∷ []) []) self.new }
@@ -186,6 +207,21 @@ impl Tally {
             Tally::Least(least) => *least = lesser(*least, Some(value)),
             Tally::Greatest(greatest) => *greatest = greater(*greatest, Some(value)),
             Tally::Distinct(seen) => insert(seen, value)?,
+        }
+        Ok(())
+    }
+
+    /// Takes in the values at the rows of a mask.
+    pub fn add_rows(&mut self, values: &[i64; 1024], rows: &Mask) -> Result<(), AllocError>
+        ensures values { OnOk result ((before : List ℤ) → IsTally before self.old → IsTally (before ++ values_at rows.now values.now) self.new) }
+        ensures kind { kind_of self.new ≡ kind_of self.old }
+    {
+        match self {
+            Tally::Count(count) => *count = count.saturating_add(count_at(rows) as u64),
+            Tally::Sum(sums) => sums.add_rows(values, rows),
+            Tally::Least(least) => *least = lesser(*least, least_at(values, rows)),
+            Tally::Greatest(greatest) => *greatest = greater(*greatest, greatest_at(values, rows)),
+            Tally::Distinct(seen) => add_values(seen, rows, values)?,
         }
         Ok(())
     }

@@ -160,3 +160,48 @@ fn ten_groups_take_no_pass_each(rt: HostRuntime) -> Result<(), Fail> {
     assert!(rt; passes <= 3);
     Ok(())
 }
+
+/// The cells of six groups of two columns.
+const SIX_GROUPS: [Columns2; 6] = [
+    [Some(0), None],
+    [None, Some(0)],
+    [Some(1), None],
+    [Some(0), Some(0)],
+    [None, None],
+    [Some(1), Some(0)],
+];
+
+/// Six groups that take turns in a vector, and twenty more with a row each in the next.
+fn rows_of_many_groups() -> [Columns2; 1044] {
+    let mut rows = [[None, None]; 1044];
+    for n in 0..1044 {
+        rows[n] = if n < 1024 {
+            SIX_GROUPS[n % 6]
+        } else {
+            [Some(n as i128 - 1022), None]
+        };
+    }
+    rows
+}
+
+/// The answer over the rows of many groups.
+const MANY_GROUPS: &str =
+    "A,B,COUNT(*),SUM(A)\nNULL,NULL,170,NULL\nNULL,0,171,NULL\n0,NULL,171,0\n0,0,171,0\n1,NULL,171,171\n1,0,170,170\n2,NULL,1,2\n3,NULL,1,3\n4,NULL,1,4\n5,NULL,1,5\n6,NULL,1,6\n7,NULL,1,7\n8,NULL,1,8\n9,NULL,1,9\n10,NULL,1,10\n11,NULL,1,11\n12,NULL,1,12\n13,NULL,1,13\n14,NULL,1,14\n15,NULL,1,15\n16,NULL,1,16\n17,NULL,1,17\n18,NULL,1,18\n19,NULL,1,19\n20,NULL,1,20\n21,NULL,1,21\n";
+
+// In the first vector each group is a slice; in the second the rows have their places one by one.
+#[test]
+fn groups_of_two_columns_in_slices_and_one_by_one(rt: HostRuntime) -> Result<(), Fail> {
+    let alloc = rt.alloc();
+    let mut columns = columns_of(alloc, &rows_of_many_groups())?;
+    let values = vec![in alloc;
+        grouped(alloc, "A")?,
+        grouped(alloc, "B")?,
+        ItemValue::Computed(SetFunction::CountRows),
+        function(alloc, Fold::Sum, "A")?,
+    ]?;
+    let query = query(alloc, values, &["A", "B"])?;
+    let (written, passes) = answered(alloc, &mut columns, &query)?;
+    assert_eq!(rt; written.as_str(), MANY_GROUPS);
+    assert!(rt; passes <= 10);
+    Ok(())
+}

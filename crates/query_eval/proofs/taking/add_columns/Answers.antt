@@ -1,5 +1,5 @@
 -- One aggregate more.
-use Rattle.std.proofs.Common.{rules, ◌≡◌, ◌<◌, length, get_or, refl, subst, ◌∙◌, arith}
+use Rattle.std.proofs.Common.{rules, ◌≡◌, ◌<◌, length, get_or, subst, ◌∙◌, arith}
 use Rattle.std.proofs.lemmas.List.Sums.{sum_by_more, sum_by-take-le}
 use Rattle.table_model.specs.State.{State}
 use Rattle.query_eval.specs.Grouping.{IsTaken}
@@ -18,18 +18,17 @@ loop-i-preserved g c =
     let now = c.loop-i.tallies.items in
     let m = c.index_mut.result.now in
     let u = c.add_column.new.tallies in
-    let mask = c.args.mask.now in
-    let places = c.args.places.now in
-    let v = vector_at (g.C.Columns.state c.args.columns.now) c.args.batch c.args.vector in
+    let split = c.args.split.now in
+    let v = vector_at (g.C.Columns.state c.args.columns.now) c.args.kept.now.batch c.args.kept.now.vector in
     let ln : i < length named = omega (arith, c.loop-i-test.true, c.len.ensures, c.min-named.ensures) in
     let lo : i < length old = omega (arith, c.loop-i-test.true, c.len.ensures, c.min-named.ensures) in
     let mine : m ≡ get_or now i m = search rules in
     let more = sum_by_more aggregate_mentions named i Rows ln in
-    let one = subst (λ (x : State). IsTaken (get_or named i Rows) (vector_at x c.args.batch c.args.vector) mask places c.args.count m.items u.items) inv.state c.in_ok-add_column.ensures.taken in
+    let one = subst (λ (x : State). IsTaken (get_or named i Rows) (vector_at x c.args.kept.now.batch c.args.kept.now.vector) split c.args.count m.items u.items) inv.state c.in_ok-add_column.ensures.taken in
     record {
-      size = columns_size named v mask places c.args.count i old now m u inv.size ln lo inv.ahead;
-      taken = columns_taken named v mask places c.args.count i old now m u inv.size ln lo inv.ahead mine inv.taken one;
-      ahead = columns_ahead named v mask places c.args.count i old now m u inv.size ln lo inv.ahead;
+      size = columns_size named v split c.args.count i old now m u inv.size ln lo inv.ahead;
+      taken = columns_taken named v split c.args.count i old now m u inv.size ln lo inv.ahead mine inv.taken one;
+      ahead = columns_ahead named v split c.args.count i old now m u inv.size ln lo inv.ahead;
       table = c.add_column.ensures.table ∙ inv.table;
       state = c.add_column.ensures.state ∙ inv.state;
       passes = omega (arith, more, c.add_column.ensures.passes, inv.passes);

@@ -11,7 +11,7 @@ use Rattle.query_eval.proofs.taking.add_columns.Given as goal
 abbrev pub invariant-loop-i : goal.invariant-loop-i
 invariant-loop-i g l = record {
   size : length l.tallies.items ≡ length l.initial.tallies.items;
-  taken : (j : ℕ) (a : Aggregate) (c : Vec Tally) → j < l.i → IsTaken (get_or l.aggregates j a) (vector_at (g.C.Columns.state l.initial.columns) l.batch l.vector) l.mask l.places l.count (get_or l.initial.tallies.items j c).items (get_or l.tallies.items j c).items;
+  taken : (j : ℕ) (a : Aggregate) (c : Vec Tally) → j < l.i → IsTaken (get_or l.aggregates j a) (vector_at (g.C.Columns.state l.initial.columns) l.kept.batch l.kept.vector) l.split l.count (get_or l.initial.tallies.items j c).items (get_or l.tallies.items j c).items;
   ahead : (j : ℕ) (c : Vec Tally) → l.i ≤ j → get_or l.tallies.items j c ≡ get_or l.initial.tallies.items j c;
   table : g.C.Columns.table l.columns ≡ g.C.Columns.table l.initial.columns;
   state : g.C.Columns.state l.columns ≡ g.C.Columns.state l.initial.columns;

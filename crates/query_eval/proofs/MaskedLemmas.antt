@@ -1,0 +1,137 @@
+-- The values at the rows of a mask, one row more.
+use Rattle.std.proofs.Common.{◌≡◌, ◌==◌, ℕ, zero, suc, ◌+◌, ◌*◌, ◌/◌, ◌%◌, ◌^◌, ◌<◌, ◌≤◌, Bool, true, false, cond, List, [], ◌∷◌, ◌++◌, map, length, get_or, count_by, Option, Some, None, ℤ, pos, ◌+ℤ◌, refl, sym, ap, ◌∙◌, arith, append-nil, length-append}
+use Rattle.std.specs.Int.{bit_at, from_bool, int_max, int_min}
+use Rattle.std.proofs.Math.Nat.{pow-le-pow_right}
+use Rattle.std.specs.List.{range_with_len, cons_option}
+use Rattle.std.proofs.lemmas.Int.{ints}
+use Rattle.std.proofs.lemmas.List.FromFn.{map-range_with_len_more}
+use Rattle.std.proofs.lemmas.List.Elements.{filter_map-append}
+use Rattle.std.proofs.lemmas.List.Sums.{sum_by-cons}
+use Rattle.table_model.proofs.Appended.{total-append, least-append, greatest-append}
+use Rattle.table_model.specs.Values.{present, total, lesser, greater, least, greatest}
+use Rattle.transpose_order.specs.Mask.{has, number_of_bits, rows_of}
+use Rattle.transpose_order.specs.MaskWords.{has-rows_of, rows_of-like, bit_at-number_of_bits, number_of_bits-below, number_of_bits-suc}
+use Rattle.query_eval.specs.Slices.{values_at}
+
+-- the value at a row of a mask
+abbrev pub value_of : List Bool → List ℤ → ℕ → Option ℤ
+value_of rows values n = cond (has rows n) (Some (get_or values n (pos 0))) None
+
+-- the values at the rows of a mask below k
+abbrev pub values_below : ℕ → List Bool → List ℤ → List ℤ
+values_below k rows values = present (map (value_of rows values) (range_with_len 0 k))
+
+pub values_all : (k : ℕ) (rows : List Bool) (values : List ℤ) → k ≡ 1024 → values_below k rows values ≡ values_at rows values
+unfolding rows_of
+values_all k rows values e = ap (λ n. values_below n rows values) e
+
+pub values_more : (k : ℕ) (rows : List Bool) (values : List ℤ) (b : Bool) → has rows k ≡ b → values_below (k + 1) rows values ≡ values_below k rows values ++ cond b (get_or values k (pos 0) ∷ []) []
+values_more k rows values b is =
+    ap present (map-range_with_len_more (value_of rows values) 0 k k (omega arith)) ∙ filter_map-append (λ x. x) (map (value_of rows values) (range_with_len 0 k)) (value_of rows values k ∷ [])
+    ∙ ap (λ c. values_below k rows values ++ present (cond c (Some (get_or values k (pos 0))) None ∷ [])) is ∙ ap (λ l. values_below k rows values ++ l) (one b)
+  where
+    one : (c : Bool) → present (cond c (Some (get_or values k (pos 0))) None ∷ []) ≡ cond c (get_or values k (pos 0) ∷ []) []
+    one true = refl
+    one false = refl
+
+-- no row below k is one of the mask
+pub values_none : (k : ℕ) (rows : List Bool) (values : List ℤ) → ((n : ℕ) → n < k → has rows n ≡ false) → values_below k rows values ≡ []
+values_none zero rows values h = refl
+values_none (suc k) rows values h =
+    ap (λ n. values_below n rows values) (let e : suc k ≡ k + 1 = omega arith in e) ∙ values_more k rows values false (h k (omega arith)) ∙ append-nil (values_below k rows values) ∙ values_none k rows values (λ n l. h n (omega (arith, l)))
+
+-- as many values as rows
+one_counted : (b : Bool) (z : ℤ) (zs : List ℤ) (bs : List Bool) → length zs ≡ count_by (λ y. y) bs → length (cons_option (cond b (Some z) None) zs) ≡ count_by (λ y. y) (b ∷ bs)
+one_counted true z zs bs e = omega (arith, e, sum_by-cons (λ (y : Bool). cond y 1 0) true bs)
+one_counted false z zs bs e = omega (arith, e, sum_by-cons (λ (y : Bool). cond y 1 0) false bs)
+
+counted : (p : ℕ → Bool) (value : ℕ → ℤ) (ns : List ℕ) → length (present (map (λ n. cond (p n) (Some (value n)) None) ns)) ≡ count_by (λ y. y) (map p ns)
+counted p value [] = refl
+counted p value (n ∷ ns) = one_counted (p n) (value n) _ (map p ns) (counted p value ns)
+
+counted_of : (p : ℕ → Bool) (value : ℕ → ℤ) → length (present (rows_of (λ n. cond (p n) (Some (value n)) None))) ≡ count_by (λ y. y) (rows_of p)
+unfolding rows_of
+counted_of p value = counted p value (range_with_len 0 1024)
+
+pub length-values_at : (rows : List Bool) (values : List ℤ) (p : ℕ → Bool) → rows ≡ rows_of p → length (values_at rows values) ≡ count_by (λ y. y) rows
+length-values_at rows values p e =
+    counted_of (has rows) (λ n. get_or values n (pos 0)) ∙ ap (count_by (λ y. y)) (rows_of-like (has rows) p (λ n l. ap (λ m. has m n) e ∙ has-rows_of p n l) ∙ sym e)
+
+-- ---- words bit by bit
+bit_below : (b : Bool) → cond b 1 0 < 2
+bit_below true = omega arith
+bit_below false = omega arith
+
+bit_is : (b : Bool) → (cond b 1 0 == 1) ≡ b
+bit_is true = refl
+bit_is false = refl
+
+pub test_bit : (f : ℕ → Bool) (p : ℕ) → p < 64 → (bit_at (number_of_bits 64 (λ b. cond (f b) 1 0)) p == 1) ≡ f p
+test_bit f p l = ap (λ b. b == 1) (bit_at-number_of_bits 64 (λ b. cond (f b) 1 0) (λ i _. bit_below (f i)) p l) ∙ bit_is (f p)
+
+module _ (f : ℕ → Bool) (bit word n : ℕ) (is : word ≡ number_of_bits bit (λ b. cond (f b) 1 0)) (one : n ≡ from_bool (f bit)) (within : bit < 64) where
+  byte : (b : Bool) → from_bool b ≡ cond b 1 0
+  byte true = refl
+  byte false = refl
+
+  shifted : n * 2 ^ bit ≡ cond (f bit) 1 0 * 2 ^ bit
+  shifted = ap (λ k. k * 2 ^ bit) (one ∙ byte (f bit))
+
+  whole : word + n * 2 ^ bit ≡ number_of_bits (suc bit) (λ b. cond (f b) 1 0)
+  whole = omega (arith, shifted, is, number_of_bits-suc bit (λ b. cond (f b) 1 0))
+
+  pub word_fits : word + n * 2 ^ bit < 2 ^ 64
+  word_fits =
+      let base : 0 < 2 = omega arith in
+      let least : suc bit ≤ 64 = omega (arith, within) in
+      let wide : 2 ^ suc bit ≤ 2 ^ 64 = pow-le-pow_right base least in
+      omega (arith, whole, number_of_bits-below (suc bit) (λ b. cond (f b) 1 0) (λ i _. bit_below (f i)), wide)
+
+  not_wrapped : word + n * 2 ^ bit % 2 ^ 64 ≡ word + n * 2 ^ bit
+  not_wrapped = omega (arith, word_fits)
+
+  pub word_stays : word + n * 2 ^ bit % 2 ^ 64 < 2 ^ 64
+  word_stays = omega (arith, not_wrapped, word_fits)
+
+  pub word_more : word + n * 2 ^ bit % 2 ^ 64 ≡ number_of_bits (bit + 1) (λ b. cond (f b) 1 0)
+  word_more = not_wrapped ∙ whole ∙ ap (λ k. number_of_bits k (λ b. cond (f b) 1 0)) (let e : suc bit ≡ bit + 1 = omega arith in e)
+
+-- ---- raised values, and their halves
+-- a number is its two halves
+pub halves : (n low high : ℕ) → n < 2 ^ 64 → low ≡ n % 2 ^ 32 → high ≡ n / 2 ^ 32 → low + 2 ^ 32 * high ≡ n
+halves n low high h l r = omega (arith, l, r)
+
+one_total : (z : ℤ) → total (z ∷ []) ≡ z
+one_total z = omega (arith, ints)
+
+pub raised_more : (b : Bool) (k s t n : ℕ) (z : ℤ) (rows : List Bool) (values : List ℤ) → has rows k ≡ b → pos s ≡ total (values_below k rows values) +ℤ pos (2 ^ 63 * length (values_below k rows values)) → pos n ≡ cond b (get_or values k (pos 0) +ℤ pos (2 ^ 63)) (pos 0) → t ≡ s + n → pos t ≡ total (values_below (k + 1) rows values) +ℤ pos (2 ^ 63 * length (values_below (k + 1) rows values))
+raised_more true k s t n z rows values on before one more =
+    let x : ℤ = get_or values k (pos 0) in
+    let now = values_more k rows values true on in
+    let sum : total (values_below (k + 1) rows values) ≡ total (values_below k rows values) +ℤ x = ap total now ∙ total-append (values_below k rows values) (x ∷ []) ∙ ap (λ y. total (values_below k rows values) +ℤ y) (one_total x) in
+    let long : length (values_below (k + 1) rows values) ≡ length (values_below k rows values) + 1 = ap length now ∙ length-append (values_below k rows values) (x ∷ []) in
+    omega (arith, ints, before, one, more, sum, long)
+raised_more false k s t n z rows values on before one more =
+    let now : values_below (k + 1) rows values ≡ values_below k rows values = values_more k rows values false on ∙ append-nil (values_below k rows values) in
+    let none : t ≡ s = omega (arith, ints, one, more) in
+    ap pos none ∙ before ∙ ap (λ zs. total zs +ℤ pos (2 ^ 63 * length zs)) (sym now)
+
+-- ---- the least and the greatest
+pub least_none : (k : ℕ) (rows : List Bool) (values : List ℤ) → k ≡ 1024 → ((n : ℕ) → n < k → has rows n ≡ false) → None ≡ least (values_at rows values)
+least_none k rows values e h = ap least (sym (values_none k rows values h) ∙ values_all k rows values e)
+
+pub greatest_none : (k : ℕ) (rows : List Bool) (values : List ℤ) → k ≡ 1024 → ((n : ℕ) → n < k → has rows n ≡ false) → None ≡ greatest (values_at rows values)
+greatest_none k rows values e h = ap greatest (sym (values_none k rows values h) ∙ values_all k rows values e)
+
+pub first_only : (k : ℕ) (rows : List Bool) (values : List ℤ) → ((n : ℕ) → n < k → has rows n ≡ false) → has rows k ≡ true → values_below (k + 1) rows values ≡ get_or values k (pos 0) ∷ []
+first_only k rows values h on = values_more k rows values true on ∙ ap (λ l. l ++ get_or values k (pos 0) ∷ []) (values_none k rows values h)
+
+pub least_more : (k : ℕ) (rows : List Bool) (values : List ℤ) (b : Bool) (x y : ℤ) → has rows k ≡ b → Some x ≡ least (values_below k rows values) → y ≡ cond b (int_min x (get_or values k (pos 0))) x → Some y ≡ least (values_below (k + 1) rows values)
+least_more k rows values true x y on before is =
+    ap Some is ∙ ap (λ o. lesser o (Some (get_or values k (pos 0)))) before ∙ sym (ap least (values_more k rows values true on) ∙ least-append (values_below k rows values) (get_or values k (pos 0) ∷ []))
+least_more k rows values false x y on before is = ap Some is ∙ before ∙ ap least (sym (values_more k rows values false on ∙ append-nil (values_below k rows values)))
+
+pub greatest_more : (k : ℕ) (rows : List Bool) (values : List ℤ) (b : Bool) (x y : ℤ) → has rows k ≡ b → Some x ≡ greatest (values_below k rows values) → y ≡ cond b (int_max x (get_or values k (pos 0))) x → Some y ≡ greatest (values_below (k + 1) rows values)
+greatest_more k rows values true x y on before is =
+    ap Some is ∙ ap (λ o. greater o (Some (get_or values k (pos 0)))) before ∙ sym (ap greatest (values_more k rows values true on) ∙ greatest-append (values_below k rows values) (get_or values k (pos 0) ∷ []))
+greatest_more k rows values false x y on before is = ap Some is ∙ before ∙ ap greatest (sym (values_more k rows values false on ∙ append-nil (values_below k rows values)))

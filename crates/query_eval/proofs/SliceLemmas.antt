@@ -1,0 +1,295 @@
+-- Slices of a vector's rows by their keys.
+use Rattle.std.proofs.Common.{◌≡◌, ◌==◌, ℕ, zero, suc, ◌+◌, ◌<◌, ◌≤◌, Bool, true, false, cond, not, ◌&&◌, ◌||◌, List, [], ◌∷◌, ◌++◌, map, filter, length, get_or, take, Option, Some, None, ℤ, pos, refl, sym, ap, subst, ◌∙◌, arith, append-nil, append_assoc}
+use Rattle.std.specs.BTreeMap.{BTreeMap, get}
+use Rattle.std.specs.List.{cons_option, list_any, range_with_len}
+use Rattle.std.specs.Option.{is_some}
+use Rattle.std.specs.Ordering.{int_eq}
+use Rattle.std.proofs.lemmas.Bool.{false≢true}
+use Rattle.std.proofs.lemmas.Bool.Decides.{Decides-eqb}
+use Rattle.std.proofs.lemmas.List.{take_more}
+use Rattle.table_model.specs.Group.{key_cmp, key_of, rows_with}
+use Rattle.table_model.specs.State.{Cells, same_cell, same_cells}
+use Rattle.table_model.specs.Values.{present}
+use Rattle.table_model.proofs.SameRows.{one_row, itself_row}
+use Rattle.transpose_order.specs.Mask.{has, rows_of}
+use Rattle.transpose_order.specs.MaskWords.{has-rows_of, rows_of-like}
+use Rattle.query_eval.specs.Decoded.{decoded_at}
+use Rattle.query_eval.specs.Kept.{rows_at}
+use Rattle.query_eval.specs.Places.{ArePlaced, IsGrown, IsTakenIn, rows_placed}
+use Rattle.query_eval.specs.Slices.{AreParted, AreSliced, IsSlice, IsSplit, occurs_in, rows_outside, rows_sliced}
+use Rattle.query_eval.specs.Vector.{Vector, row_at}
+use Rattle.query_eval.specs.declared.decoded.Decoded.{Decoded}
+use Rattle.query_eval.specs.declared.split.Slice.{Slice}
+use Rattle.query_eval.specs.declared.split.Split.{Split}
+use Rattle.query_eval.proofs.Lifted.{rows_of-alike}
+use Rattle.query_eval.proofs.PlaceLemmas.{grown_same, some_same, turned}
+use Rattle.query_eval.proofs.RowsBelow.{below_all}
+
+-- ---- the rows with a cell
+pub like_null : (nulls : List Bool) (values : List ℤ) (row n : ℕ) → has nulls row ≡ true → has nulls n ≡ same_cell (cond (has nulls row) None (Some (get_or values row (pos 0)))) (cond (has nulls n) None (Some (get_or values n (pos 0))))
+like_null nulls values row n on = one (has nulls n) ∙ ap (λ b. same_cell (cond b None (Some (get_or values row (pos 0)))) (cond (has nulls n) None (Some (get_or values n (pos 0))))) (sym on)
+  where
+    one : (b : Bool) → b ≡ same_cell None (cond b None (Some (get_or values n (pos 0))))
+    one true = refl
+    one false = refl
+
+pub like_value : (nulls equal rows : List Bool) (values : List ℤ) (row n : ℕ) → n < 1024 → has nulls row ≡ false → equal ≡ rows_of (λ n. int_eq (get_or values row (pos 0)) (get_or values n (pos 0))) → rows ≡ rows_of (λ n. has equal n && not (has nulls n)) → has rows n ≡ same_cell (cond (has nulls row) None (Some (get_or values row (pos 0)))) (cond (has nulls n) None (Some (get_or values n (pos 0))))
+like_value nulls equal rows values row n l off e f =
+    ap (λ m. has m n) f ∙ has-rows_of (λ n. has equal n && not (has nulls n)) n l
+    ∙ ap (λ b. b && not (has nulls n)) (ap (λ m. has m n) e ∙ has-rows_of (λ n. int_eq (get_or values row (pos 0)) (get_or values n (pos 0))) n l)
+    ∙ one (has nulls n) ∙ ap (λ b. same_cell (cond b None (Some (get_or values row (pos 0)))) (cond (has nulls n) None (Some (get_or values n (pos 0))))) (sym off)
+  where
+    same : Bool
+    same = int_eq (get_or values row (pos 0)) (get_or values n (pos 0))
+
+    nowhere : (b : Bool) → (b && false) ≡ false
+    nowhere true = refl
+    nowhere false = refl
+
+    there : (b : Bool) → (b && true) ≡ b
+    there true = refl
+    there false = refl
+
+    one : (b : Bool) → (same && not b) ≡ same_cell (Some (get_or values row (pos 0))) (cond b None (Some (get_or values n (pos 0))))
+    one true = nowhere same
+    one false = there same
+
+pub like_fixed : (cell : Option ℤ) → true ≡ same_cell cell cell
+like_fixed cell = sym (itself_row (cell ∷ [])) ∙ there (same_cell cell cell)
+  where
+    there : (b : Bool) → (b && true) ≡ b
+    there true = refl
+    there false = refl
+
+-- one column more
+pub like_more : (row n : ℕ) (columns : List Decoded) (column : Decoded) → same_cells (map (λ d. decoded_at d row) (columns ++ column ∷ [])) (map (λ d. decoded_at d n) (columns ++ column ∷ [])) ≡ (same_cells (map (λ d. decoded_at d row) columns) (map (λ d. decoded_at d n) columns) && same_cell (decoded_at column row) (decoded_at column n))
+like_more row n [] column = last (same_cell (decoded_at column row) (decoded_at column n))
+  where
+    last : (b : Bool) → (b && true) ≡ b
+    last true = refl
+    last false = refl
+like_more row n (d ∷ ds) column =
+    ap (λ b. same_cell (decoded_at d row) (decoded_at d n) && b) (like_more row n ds column)
+    ∙ assoc (same_cell (decoded_at d row) (decoded_at d n)) (same_cells (map (λ d. decoded_at d row) ds) (map (λ d. decoded_at d n) ds)) (same_cell (decoded_at column row) (decoded_at column n))
+  where
+    assoc : (a b c : Bool) → (a && (b && c)) ≡ ((a && b) && c)
+    assoc true b c = refl
+    assoc false b c = refl
+
+pub like_none : (row n : ℕ) (b : Bool) → b ≡ (b && same_cells (map (λ d. decoded_at d row) []) (map (λ d. decoded_at d n) []))
+like_none row n true = refl
+like_none row n false = refl
+
+pub like_next : (row n i : ℕ) (mask rows like next : List Bool) (columns : List Decoded) (column : Decoded) → n < 1024 → i < length columns → column ≡ get_or columns i column
+    → has rows n ≡ (has mask n && same_cells (map (λ d. decoded_at d row) (take i columns)) (map (λ d. decoded_at d n) (take i columns)))
+    → has like n ≡ same_cell (decoded_at column row) (decoded_at column n) → next ≡ rows_of (λ n. has rows n && has like n)
+    → has next n ≡ (has mask n && same_cells (map (λ d. decoded_at d row) (take (i + 1) columns)) (map (λ d. decoded_at d n) (take (i + 1) columns)))
+like_next row n i mask rows like next columns column l inside at before one is =
+    let front : take (i + 1) columns ≡ take i columns ++ column ∷ [] = take_more columns i column inside ∙ ap (λ d. take i columns ++ d ∷ []) (sym at) in
+    ap (λ m. has m n) is ∙ has-rows_of (λ n. has rows n && has like n) n l ∙ ap (λ b. b && has like n) before
+    ∙ ap (λ b. (has mask n && same_cells (map (λ d. decoded_at d row) (take i columns)) (map (λ d. decoded_at d n) (take i columns))) && b) one
+    ∙ assoc (has mask n) (same_cells (map (λ d. decoded_at d row) (take i columns)) (map (λ d. decoded_at d n) (take i columns))) (same_cell (decoded_at column row) (decoded_at column n))
+    ∙ ap (λ b. has mask n && b) (sym (like_more row n (take i columns) column))
+    ∙ ap (λ ds. has mask n && same_cells (map (λ d. decoded_at d row) ds) (map (λ d. decoded_at d n) ds)) (sym front)
+  where
+    assoc : (a b c : Bool) → ((a && b) && c) ≡ (a && (b && c))
+    assoc true b c = refl
+    assoc false b c = refl
+
+-- ---- the rows of a mask that have a key, and those that haven't
+any_at : (bs : List Bool) (n : ℕ) → get_or bs n false ≡ true → list_any (λ b. b) bs ≡ true
+any_at [] n e = absurd (false≢true e)
+any_at (b ∷ bs) zero e = ap (λ x. x || list_any (λ y. y) bs) e
+any_at (true ∷ bs) (suc n) e = refl
+any_at (false ∷ bs) (suc n) e = any_at bs n e
+
+flags_of : (test : Cells → Bool) (p : ℕ → Bool) (row : ℕ → Cells) (by : List ℕ) (ns : List ℕ) → list_any test (map (key_of by) (present (map (λ n. cond (p n) (Some (row n)) None) ns))) ≡ list_any (λ b. b) (map (λ n. p n && test (key_of by (row n))) ns)
+flags_of test p row by [] = refl
+flags_of test p row by (n ∷ ns) = one (p n) ∙ ap (λ b. (p n && test (key_of by (row n))) || b) (flags_of test p row by ns)
+  where
+    rest : List Cells
+    rest = present (map (λ n. cond (p n) (Some (row n)) None) ns)
+
+    one : (b : Bool) → list_any test (map (key_of by) (cons_option (cond b (Some (row n)) None) rest)) ≡ ((b && test (key_of by (row n))) || list_any test (map (key_of by) rest))
+    one true = refl
+    one false = refl
+
+kept_of : (test : Cells → Bool) (p : ℕ → Bool) (row : ℕ → Cells) (ns : List ℕ) → filter test (present (map (λ n. cond (p n) (Some (row n)) None) ns)) ≡ present (map (λ n. cond (p n && test (row n)) (Some (row n)) None) ns)
+kept_of test p row [] = refl
+kept_of test p row (n ∷ ns) = one (p n) (test (row n)) refl ∙ ap (cons_option (cond (p n && test (row n)) (Some (row n)) None)) (kept_of test p row ns)
+  where
+    rest : List Cells
+    rest = present (map (λ n. cond (p n) (Some (row n)) None) ns)
+
+    one : (b c : Bool) → test (row n) ≡ c → filter test (cons_option (cond b (Some (row n)) None) rest) ≡ cons_option (cond (b && test (row n)) (Some (row n)) None) (filter test rest)
+    one false c e = refl
+    one true true e = ap (λ x. cond x (row n ∷ filter test rest) (filter test rest)) e ∙ ap (λ x. cons_option (cond x (Some (row n)) None) (filter test rest)) (sym e)
+    one true false e = ap (λ x. cond x (row n ∷ filter test rest) (filter test rest)) e ∙ ap (λ x. cons_option (cond x (Some (row n)) None) (filter test rest)) (sym e)
+
+nothing_of : (row : ℕ → Cells) (ns : List ℕ) → present (map (λ n. cond false (Some (row n)) None) ns) ≡ []
+nothing_of row [] = refl
+nothing_of row (n ∷ ns) = nothing_of row ns
+
+module _ (by : List ℕ) (v : Vector) where
+  key_at : ℕ → Cells
+  key_at n = key_of by (row_at v n)
+
+  -- the rows that pass a test
+  passing : (ℕ → Bool) → List Cells
+  passing p = present (rows_of (λ n. cond (p n) (Some (row_at v n)) None))
+
+  passing_like : (p q : ℕ → Bool) → ((n : ℕ) → n < 1024 → p n ≡ q n) → passing p ≡ passing q
+  unfolding passing
+  passing_like p q h = ap present (rows_of-alike (λ n. cond (p n) (Some (row_at v n)) None) (λ n. cond (q n) (Some (row_at v n)) None) None (λ n l. ap (λ b. cond b (Some (row_at v n)) None) (h n l)))
+
+  passing_none : (p : ℕ → Bool) → ((n : ℕ) → n < 1024 → p n ≡ false) → passing p ≡ []
+  unfolding passing rows_of
+  passing_none p h = passing_like p (λ _. false) h ∙ nothing_of (row_at v) (range_with_len 0 1024)
+
+  with_key : (mask : List Bool) (q : Cells) → rows_with by (rows_at v mask) q ≡ passing (λ n. has mask n && same_cells q (key_at n))
+  unfolding rows_with rows_at rows_of key_at passing
+  with_key mask q = kept_of (λ row. same_cells q (key_of by row)) (has mask) (row_at v) (range_with_len 0 1024)
+
+  all_of : (mask : List Bool) → rows_at v mask ≡ passing (has mask)
+  unfolding rows_at passing
+  all_of mask = refl
+
+  flagged : (mask : List Bool) (q : Cells) → occurs_in by v q mask ≡ list_any (λ b. b) (rows_of (λ n. has mask n && same_cells q (key_at n)))
+  unfolding rows_at rows_of key_at
+  flagged mask q = flags_of (same_cells q) (has mask) (row_at v) by (range_with_len 0 1024)
+
+  module _ (index : BTreeMap Cells ℕ) (mask : List Bool) (slice : Slice) (one : IsSlice by v index mask slice) (q : Cells) where
+    is_outside : (n : ℕ) → n < 1024 → has (rows_outside mask slice) n ≡ (has mask n && not (has mask n && same_cells one.key (key_at n)))
+    unfolding key_at
+    is_outside n l = has-rows_of (λ n. has mask n && not (has slice.rows n)) n l ∙ ap (λ b. has mask n && not b) (one.rows n l)
+
+    -- no row outside a slice has its key
+    outside_same : same_cells q one.key ≡ true → (n : ℕ) → n < 1024 → (has (rows_outside mask slice) n && same_cells q (key_at n)) ≡ false
+    outside_same e n l =
+        ap (λ b. b && same_cells q (key_at n)) (is_outside n l) ∙ ap (λ (k : Cells). (has mask n && not (has mask n && same_cells k (key_at n))) && same_cells q (key_at n)) (sym (one_row q one.key e)) ∙ never (has mask n) (same_cells q (key_at n))
+      where
+        never : (a b : Bool) → ((a && not (a && b)) && b) ≡ false
+        never true true = refl
+        never true false = refl
+        never false b = refl
+
+    -- the rows outside a slice have the other keys
+    outside_other : same_cells q one.key ≡ false → (n : ℕ) → n < 1024 → (has (rows_outside mask slice) n && same_cells q (key_at n)) ≡ (has mask n && same_cells q (key_at n))
+    outside_other e n l = ap (λ b. b && same_cells q (key_at n)) (is_outside n l) ∙ by_test (same_cells q (key_at n)) refl
+      where
+        nowhere : (a b : Bool) → (a && false) ≡ (b && false)
+        nowhere true true = refl
+        nowhere true false = refl
+        nowhere false true = refl
+        nowhere false false = refl
+
+        same : (a : Bool) → ((a && not (a && false)) && true) ≡ (a && true)
+        same true = refl
+        same false = refl
+
+        by_test : (b : Bool) → same_cells q (key_at n) ≡ b → ((has mask n && not (has mask n && same_cells one.key (key_at n))) && b) ≡ (has mask n && b)
+        by_test false f = nowhere (has mask n && not (has mask n && same_cells one.key (key_at n))) (has mask n)
+        by_test true f =
+            let apart : same_cells one.key (key_at n) ≡ false = ap (same_cells one.key) (sym (one_row q (key_at n) f)) ∙ turned q one.key e in
+            ap (λ b. (has mask n && not (has mask n && b)) && true) apart ∙ same (has mask n)
+
+    -- a key occurs where it is the slice's, or occurs outside
+    pub occurs_parted : (row : ℕ) → row < 1024 → has mask row ≡ true → one.key ≡ key_of by (row_at v row) → (same_cells q one.key || occurs_in by v q (rows_outside mask slice)) ≡ occurs_in by v q mask
+    unfolding key_at
+    occurs_parted row l on is = by_test (same_cells q one.key) refl
+      where
+        by_test : (b : Bool) → same_cells q one.key ≡ b → (b || occurs_in by v q (rows_outside mask slice)) ≡ occurs_in by v q mask
+        by_test true e =
+            sym (flagged mask q ∙ any_at (rows_of (λ n. has mask n && same_cells q (key_at n))) row
+            (has-rows_of (λ n. has mask n && same_cells q (key_at n)) row l ∙ ap (λ b. b && same_cells q (key_at row)) on ∙ ap (same_cells q) (sym is) ∙ e))
+        by_test false e =
+            flagged (rows_outside mask slice) q ∙ ap (list_any (λ b. b)) (rows_of-like (λ n. has (rows_outside mask slice) n && same_cells q (key_at n)) (λ n. has mask n && same_cells q (key_at n)) (outside_other e)) ∙ sym (flagged mask q)
+
+    -- the rows with the slice's key are its own
+    pub rows_same : same_cells q one.key ≡ true → rows_at v slice.rows ≡ rows_with by (rows_at v mask) q
+    unfolding key_at
+    rows_same e = all_of slice.rows ∙ passing_like (has slice.rows) (λ n. has mask n && same_cells q (key_at n)) (λ n l. one.rows n l ∙ ap (λ (k : Cells). has mask n && same_cells k (key_at n)) (sym (one_row q one.key e))) ∙ sym (with_key mask q)
+
+    pub rows_none : same_cells q one.key ≡ true → rows_with by (rows_at v (rows_outside mask slice)) q ≡ []
+    rows_none e = with_key (rows_outside mask slice) q ∙ passing_none (λ n. has (rows_outside mask slice) n && same_cells q (key_at n)) (outside_same e)
+
+    pub rows_other : same_cells q one.key ≡ false → rows_with by (rows_at v (rows_outside mask slice)) q ≡ rows_with by (rows_at v mask) q
+    rows_other e = with_key (rows_outside mask slice) q ∙ passing_like (λ n. has (rows_outside mask slice) n && same_cells q (key_at n)) (λ n. has mask n && same_cells q (key_at n)) (outside_other e) ∙ sym (with_key mask q)
+
+-- ---- one slice more
+grown_more : (old mid new : BTreeMap Cells ℕ) → IsGrown old mid → IsGrown mid new → IsGrown old new
+grown_more old mid new g h = record {
+  kept = λ q p e. h.kept q p (g.kept q p e);
+  fresh = λ q p none e. one q p none e (get key_cmp mid q) refl;
+  longer = omega (arith, g.longer, h.longer);
+}
+  where
+    one : (q : Cells) (p : ℕ) → get key_cmp old q ≡ None → get key_cmp new q ≡ Some p → (o : Option ℕ) → get key_cmp mid q ≡ o → length old.entries ≤ p
+    one q p none e None m = omega (arith, h.fresh q p m e, g.longer)
+    one q p none e (Some r) m = let same : r ≡ p = some_same (sym (h.kept q r m) ∙ e) in omega (arith, g.fresh q r none m, same)
+
+slice_grown : (by : List ℕ) (v : Vector) (mid new : BTreeMap Cells ℕ) (mask : List Bool) (slice : Slice) → IsGrown mid new → IsSlice by v mid mask slice → IsSlice by v new mask slice
+slice_grown by v mid new mask slice grown h = record { key = h.key; placed = grown.kept h.key slice.place h.placed; rows = h.rows }
+
+pub parted_grown : (by : List ℕ) (v : Vector) (mid new : BTreeMap Cells ℕ) (mask left : List Bool) (slices : List Slice) → IsGrown mid new → AreParted by v mid mask slices left → AreParted by v new mask slices left
+parted_grown by v mid new mask left [] grown h = h
+parted_grown by v mid new mask left (s ∷ ss) grown h = (slice_grown by v mid new mask s grown h.0, parted_grown by v mid new (rows_outside mask s) left ss grown h.1)
+
+parted_push : (by : List ℕ) (v : Vector) (new : BTreeMap Cells ℕ) (mask left : List Bool) (slices : List Slice) (slice : Slice) → IsSlice by v new left slice → AreParted by v new mask slices left → AreParted by v new mask (slices ++ slice ∷ []) (rows_outside left slice)
+parted_push by v new mask left [] slice one h = (subst (λ (m : List Bool). IsSlice by v new m slice) (sym h) one, ap (λ m. rows_outside m slice) h)
+parted_push by v new mask left (s ∷ ss) slice one h = (h.0, parted_push by v new (rows_outside mask s) left ss slice one h.1)
+
+pub sliced_none : (by : List ℕ) (v : Vector) (mask : List Bool) (m : BTreeMap Cells ℕ) (slices : List Slice) → slices ≡ [] → AreSliced by v mask mask m m slices
+sliced_none by v mask m slices e = subst (AreSliced by v mask mask m m) (sym e) (record { grown = grown_same m; parted = refl; occurs = λ q. refl })
+
+pub sliced_more : (by : List ℕ) (v : Vector) (mask left next : List Bool) (old mid new : BTreeMap Cells ℕ) (slices after : List Slice) (slice : Slice) (key : Cells) (row : ℕ) → AreSliced by v mask left old mid slices → row < 1024 → has left row ≡ true → key ≡ key_of by (row_at v row) → IsTakenIn key slice.place mid new
+    → ((n : ℕ) → n < 1024 → has slice.rows n ≡ (has left n && same_cells key (key_of by (row_at v n)))) → next ≡ rows_outside left slice → after ≡ slices ++ slice ∷ [] → AreSliced by v mask next old new after
+sliced_more by v mask left next old mid new slices after slice key row h l on is t rows e f =
+    let one : IsSlice by v new left slice = record { key = key; placed = t.now; rows = rows } in
+    subst (λ (m : List Bool). AreSliced by v mask m old new after) (sym e)
+    (subst (AreSliced by v mask (rows_outside left slice) old new) (sym f)
+    (record {
+      grown = grown_more old mid new h.grown t.grown;
+      parted = parted_push by v new mask left slices slice one (parted_grown by v mid new mask left slices t.grown h.parted);
+      occurs = λ q.
+          ap (λ b. b || occurs_in by v q (rows_outside left slice)) (t.occurs q) ∙ assoc (is_some (get key_cmp mid q)) (same_cells q key) (occurs_in by v q (rows_outside left slice))
+          ∙ ap (λ b. is_some (get key_cmp mid q) || b) (occurs_parted by v new left slice one q row l on is) ∙ h.occurs q;
+    }))
+  where
+    assoc : (a b c : Bool) → ((a || b) || c) ≡ (a || (b || c))
+    assoc true b c = refl
+    assoc false b c = refl
+
+-- ---- the slices, and then the rows that are left
+pub split_all : (by : List ℕ) (v : Vector) (mask : List Bool) (old mid new : BTreeMap Cells ℕ) (split : Split) → AreSliced by v mask split.left old mid split.slices.items → ArePlaced 1024 by v split.left mid new split.places → IsSplit by v mask old new split
+split_all by v mask old mid new split h p = record {
+  grown = grown_more old mid new h.grown p.grown;
+  parted = parted_grown by v mid new mask split.left split.slices.items p.grown h.parted;
+  placed = p.placed;
+  occurs = λ q. p.occurs q ∙ ap (λ rows. is_some (get key_cmp mid q) || list_any (same_cells q) (map (key_of by) rows)) (below_all 1024 v split.left refl) ∙ h.occurs q;
+}
+
+-- the rows with a key's place are those with the key
+pub shared_with : (by : List ℕ) (v : Vector) (index : BTreeMap Cells ℕ) (places : List ℕ) (left : List Bool) (q : Cells) (g : ℕ) → ((key other : Cells) (place : ℕ) → get key_cmp index key ≡ Some place → get key_cmp index other ≡ Some place → key ≡ other) → get key_cmp index q ≡ Some g
+    → rows_placed 1024 v left places g ≡ rows_with by (rows_at v left) q → (mask : List Bool) (slices : List Slice) → AreParted by v index mask slices left → rows_sliced v slices g ++ rows_placed 1024 v left places g ≡ rows_with by (rows_at v mask) q
+shared_with by v index places left q g apart is last mask [] h = last ∙ ap (λ m. rows_with by (rows_at v m) q) (sym h)
+shared_with by v index places left q g apart is last mask (s ∷ ss) h = by_test (shared_with by v index places left q g apart is last (rows_outside mask s) ss h.1) (same_cells q h.0.key) refl
+  where
+    rest : List Cells
+    rest = rows_sliced v ss g ++ rows_placed 1024 v left places g
+
+    by_place : (b : Bool) → (s.place == g) ≡ b → same_cells q h.0.key ≡ false → b ≡ false
+    by_place false e f = refl
+    by_place true e f =
+        let same : q ≡ h.0.key = apart q h.0.key g is (h.0.placed ∙ ap Some ((Decides-eqb s.place g).0 e)) in
+        absurd (false≢true (sym f ∙ ap (same_cells q) (sym same) ∙ itself_row q))
+
+    by_test : rest ≡ rows_with by (rows_at v (rows_outside mask s)) q → (b : Bool) → same_cells q h.0.key ≡ b → (cond (s.place == g) (rows_at v s.rows) [] ++ rows_sliced v ss g) ++ rows_placed 1024 v left places g ≡ rows_with by (rows_at v mask) q
+    by_test further true e =
+        let here : (s.place == g) ≡ true = (Decides-eqb s.place g).1 (some_same (sym h.0.placed ∙ ap (get key_cmp index) (sym (one_row q h.0.key e)) ∙ is)) in
+        append_assoc (cond (s.place == g) (rows_at v s.rows) []) (rows_sliced v ss g) (rows_placed 1024 v left places g)
+        ∙ ap (λ b. cond b (rows_at v s.rows) [] ++ rest) here
+        ∙ ap (λ l. rows_at v s.rows ++ l) (further ∙ rows_none by v index mask s h.0 q e) ∙ append-nil (rows_at v s.rows) ∙ rows_same by v index mask s h.0 q e
+    by_test further false e =
+        let away : (s.place == g) ≡ false = by_place (s.place == g) refl e in
+        ap (λ b. (cond b (rows_at v s.rows) [] ++ rows_sliced v ss g) ++ rows_placed 1024 v left places g) away ∙ further ∙ rows_other by v index mask s h.0 q e

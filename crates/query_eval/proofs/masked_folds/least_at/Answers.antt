@@ -1,0 +1,36 @@
+-- The first row's value, and then one row more.
+use Rattle.std.proofs.Common.{rules, ◌≡◌, ◌<◌, ℤ, Some, cond, get_or, pos, FitsSigned, w64, to_z, of_z, sym, ap, subst, ◌∙◌, arith}
+use Rattle.std.specs.Int.{int_min}
+use Rattle.std.proofs.lemmas.Int.{to_z-of_z}
+use Rattle.table_model.specs.Values.{least}
+use Rattle.transpose_order.specs.Mask.{has}
+use Rattle.transpose_order.proofs.MaskLemmas.{has-words}
+use Rattle.query_eval.proofs.MaskedLemmas.{first_only, least_more, least_none, values_all}
+use Rattle.query_eval.proofs.masked_folds.least_at.Goals as goal
+
+pub returns-then-first-eq1024 : goal.returns-then-first-eq1024
+returns-then-first-eq1024 c = least_none c.next_true-first.result c.args.rows.now c.args.values.now c.if-first-eq1024.true (λ n l. c.next_true-first.ensures.none n (omega arith) l)
+
+pub loop-row-init : goal.loop-row-init
+loop-row-init c =
+    let first = c.next_true-first.result in
+    let values = c.args.values.now in
+    let inside : first < 1024 = omega (arith, c.next_true-first.ensures.within, c.if-first-eq1024.false) in
+    let fits : FitsSigned w64 (get_or values first (pos 0)) = search rules in
+    ap Some (to_z-of_z w64 (get_or values first (pos 0)) fits) ∙ sym (ap least (first_only first c.args.rows.now values (λ n l. c.next_true-first.ensures.none n (omega arith) l) (c.next_true-first.ensures.here inside)))
+
+pub loop-row-preserved : goal.loop-row-preserved
+loop-row-preserved c =
+    let row = c.loop-row.row in
+    let rows = c.args.rows.now in
+    let values = c.args.values.now in
+    let fits : FitsSigned w64 (get_or values row (pos 0)) = search rules in
+    let now : FitsSigned w64 c.lesser_if-least.result = search rules in
+    let on : has rows row ≡ c.is_set.result = has-words c.words-words.result.now rows (sym c.words-words.ensures) row c.loop-row-test.true ∙ sym c.is_set.ensures in
+    least_more row rows values c.is_set.result (to_z w64 c.loop-row.least-bits) (to_z w64 (of_z w64 c.lesser_if-least.result)) on c.loop-row.invariant
+    (to_z-of_z w64 c.lesser_if-least.result now ∙ subst (λ (z : ℤ). c.lesser_if-least.result ≡ cond c.is_set.result (int_min (to_z w64 c.loop-row.least-bits) z) (to_z w64 c.loop-row.least-bits)) (to_z-of_z w64 (get_or values row (pos 0)) fits) c.lesser_if-least.ensures)
+
+pub returns : goal.returns
+returns c =
+    let e : c.loop-row.row ≡ 1024 = omega (arith, c.loop-row-test.false, c.loop-row.auto.row-end) in
+    c.loop-row.invariant ∙ ap least (values_all c.loop-row.row c.args.rows.now c.args.values.now e)

@@ -1,0 +1,10 @@
+-- What the values were raised by is taken off again.
+use Rattle.std.proofs.Common.{◌≡◌, length, arith}
+use Rattle.std.proofs.lemmas.Int.{ints}
+use Rattle.query_eval.specs.Slices.{values_at}
+use Rattle.query_eval.proofs.masked_folds.sum_at.Goals as goal
+
+pub returns : goal.returns
+returns c =
+    let count : c.count_at.result ≡ length (values_at c.args.rows.now c.args.values.now) = c.count_at.ensures.value c.args.values.now in
+    omega (arith, ints, c.sum_halves-low.ensures.value, c.from.ensures, c.from-2.ensures, count, c.count_at.ensures.few)

@@ -1,0 +1,59 @@
+-- Slices of a vector: the rows with one key, and the place of its group.
+use Rattle.std.specs.Prelude.{◌≡◌, ℕ, ◌==◌, ◌<◌, Bool, true, not, ◌&&◌, ◌||◌, cond, List, [], ◌∷◌, ◌++◌, map, slice_index_or, Some, None, ℤ, pos}
+use Rattle.std.specs.List.{list_any}
+use Rattle.std.specs.BTreeMap.{BTreeMap, get}
+use Rattle.std.specs.Option.{is_some}
+use Rattle.table_model.specs.Group.{key_cmp, key_of}
+use Rattle.table_model.specs.State.{Cells, same_cells}
+use Rattle.table_model.specs.Values.{present}
+use Rattle.transpose_order.specs.Mask.{has, rows_of}
+use Rattle.query_eval.specs.Kept.{rows_at}
+use Rattle.query_eval.specs.Places.{IsGrown, rows_placed}
+use Rattle.query_eval.specs.Vector.{Vector, row_at}
+use Rattle.query_eval.specs.declared.split.Slice.{Slice}
+use Rattle.query_eval.specs.declared.split.Split.{Split}
+
+-- the values at the rows of a mask, in row order
+abbrev pub values_at : List Bool → List ℤ → List ℤ
+values_at rows values = present (rows_of (λ n. cond (has rows n) (Some (slice_index_or values n (pos 0))) None))
+
+-- a slice has the rows of a mask with one key, and that key's place
+pub record IsSlice (by : List ℕ) (v : Vector) (index : BTreeMap Cells ℕ) (mask : List Bool) (slice : Slice) : Type 0 where
+  pub key : Cells
+  pub placed : get key_cmp index key ≡ Some slice.place
+  pub rows : (n : ℕ) → n < 1024 → has slice.rows n ≡ (has mask n && same_cells key (key_of by (row_at v n)))
+
+-- the rows of a mask that aren't in a slice
+abbrev pub rows_outside : List Bool → Slice → List Bool
+rows_outside mask slice = rows_of (λ n. has mask n && not (has slice.rows n))
+
+-- slices part the rows of a mask: each has those with its key of the rows in none before it, and the rows in none are left
+abbrev pub AreParted : List ℕ → Vector → BTreeMap Cells ℕ → List Bool → List Slice → List Bool → Type 0
+AreParted by v index mask [] left = mask ≡ left
+AreParted by v index mask (slice ∷ slices) left = IsSlice by v index mask slice × AreParted by v index (rows_outside mask slice) slices left
+
+-- whether a row of a mask has a key
+abbrev pub occurs_in : List ℕ → Vector → Cells → List Bool → Bool
+occurs_in by v key mask = list_any (same_cells key) (map (key_of by) (rows_at v mask))
+
+-- slices part the rows of a mask, and no other key comes than those of rows that aren't left
+pub record AreSliced (by : List ℕ) (v : Vector) (mask left : List Bool) (old new : BTreeMap Cells ℕ) (slices : List Slice) : Type 0 where
+  pub grown : IsGrown old new
+  pub parted : AreParted by v new mask slices left
+  pub occurs : (key : Cells) → (is_some (get key_cmp new key) || occurs_in by v key left) ≡ (is_some (get key_cmp old key) || occurs_in by v key mask)
+
+-- the rows of a mask are split by their keys: those in slices, and those left, each with its key's place; and no other key comes
+pub record IsSplit (by : List ℕ) (v : Vector) (mask : List Bool) (old new : BTreeMap Cells ℕ) (split : Split) : Type 0 where
+  pub grown : IsGrown old new
+  pub parted : AreParted by v new mask split.slices.items split.left
+  pub placed : (n : ℕ) → n < 1024 → has split.left n ≡ true → get key_cmp new (key_of by (row_at v n)) ≡ Some (slice_index_or split.places n 0)
+  pub occurs : (key : Cells) → is_some (get key_cmp new key) ≡ (is_some (get key_cmp old key) || occurs_in by v key mask)
+
+-- the rows of the slices with a place, slice by slice
+abbrev pub rows_sliced : Vector → List Slice → ℕ → List Cells
+rows_sliced v [] place = []
+rows_sliced v (slice ∷ slices) place = cond (slice.place == place) (rows_at v slice.rows) [] ++ rows_sliced v slices place
+
+-- the rows with a place: those of the slices with it, and then those left with it
+abbrev pub rows_shared : Vector → Split → ℕ → List Cells
+rows_shared v split place = rows_sliced v split.slices.items place ++ rows_placed 1024 v split.left split.places place
