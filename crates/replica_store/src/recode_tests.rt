@@ -122,7 +122,7 @@ fn goes_into_each_coding(
     let Some(first) = coding_at(store, place.0, place.1) else {
         return Ok(false);
     };
-    for coding in CODINGS {
+    for &coding in &CODINGS {
         recode(alloc, store, place, coding)?;
         if coding_at(store, place.0, place.1) != Some(coding) || !has_rows(store, rows) {
             return Ok(false);
@@ -137,7 +137,7 @@ fn every_vector_goes_into_every_coding_and_back(rt: HostRuntime) -> Result<(), F
     let rows = wide_rows(rt.alloc())?;
     let mut store = wide_store(rt.alloc(), rows.as_slice())?;
     assert!(rt; is_canonical(&store) && has_rows(&store, rows.as_slice()));
-    for (column, vector) in WIDE_VECTORS {
+    for &(column, vector) in &WIDE_VECTORS {
         let goes = goes_into_each_coding(
             rt.alloc(),
             &mut store,
@@ -192,7 +192,7 @@ fn keeps_seven(alloc: Global, coding: Coding) -> Result<bool, Refusal> {
 // has that of the other side.
 #[test]
 fn sides_in_other_codings_merge_and_keep_them(rt: HostRuntime) -> Result<(), Fail> {
-    for coding in CODINGS {
+    for &coding in &CODINGS {
         let mut held = store_of_seven(rt.alloc(), 1)?;
         assert!(rt; takes_seven(rt.alloc(), &mut held, coding, Coding::For)?);
         let mut empty = store_of(rt.alloc(), 3)?;
@@ -224,7 +224,7 @@ fn recoded(alloc: Global, store: &mut Store, place: (u32, u32, u32, u32)) -> Res
 #[test]
 fn a_vector_that_is_not_there_is_not_recoded(rt: HostRuntime) -> Result<(), Fail> {
     let mut store = recoded_seven(rt.alloc(), Coding::Dict)?;
-    for place in NO_VECTORS {
+    for &place in &NO_VECTORS {
         let answer = recoded(rt.alloc(), &mut store, place);
         assert!(rt; answer == Err(Refusal::NoSuchVector));
     }

@@ -217,8 +217,8 @@ const MERGES: [Merge<'static>; 4] = [
 ];
 
 /// Whether our store answers a merge of theirs as wanted, and then has what is wanted.
-fn is_merged(alloc: Global, merge: Merge<'_>) -> Result<bool, Refusal> {
-    let (ours, theirs, want, batches, deleted, live) = merge;
+fn is_merged(alloc: Global, merge: &Merge<'_>) -> Result<bool, Refusal> {
+    let (ours, theirs, want, batches, deleted, live) = *merge;
     let mut store = told_store(alloc, 1, ours)?;
     let answer = merge_told(alloc, &mut store, theirs);
     Ok(answer == want && is_state(&store, batches, deleted, live))
@@ -226,7 +226,7 @@ fn is_merged(alloc: Global, merge: Merge<'_>) -> Result<bool, Refusal> {
 
 #[test]
 fn a_merge_joins_states_or_names_the_least_conflict(rt: HostRuntime) -> Result<(), Fail> {
-    for merge in MERGES {
+    for merge in &MERGES {
         assert!(rt; is_merged(rt.alloc(), merge)?, "merged to {:?}", merge.2);
     }
     Ok(())

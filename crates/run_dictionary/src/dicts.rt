@@ -4,7 +4,7 @@ ghost use Rattle.transpose_order.specs.Place.{IsLaneWidth, place_of};
 ghost use Rattle.bit_interleave.specs.PackedWords.{HasWidth};
 ghost use Rattle.bit_interleave.specs.Arithmetic.{integer_width};
 ghost use Rattle.bit_interleave.specs.Packing.{sixteen_of};
-ghost use Rattle.bit_interleave.specs.Range.{AreInRange};
+ghost use Rattle.bit_interleave.specs.Range.{AreInRange, value_at};
 ghost use Rattle.run_dictionary.specs.Dict.{IsDictForm, IsAscending, AreCodesBelow, code_at, dict_value, dict_values, least_dict, dict_bytes, CodesStandInLanes, LeastDictIsAForm, LeastDictGivesBack, LeastDictIsFewest};
 
 use crate::codes::{
@@ -156,6 +156,8 @@ impl Dict {
     /// the second, which is not included.
     pub fn places_between(&self, low: i64, high: i64) -> (usize, usize)
         ensures within { result.1 ≤ length self.now.values }
+        ensures places { (k : ℕ) → k < length self.now.values → ((low ≤ℤ value_at self.now.values k) × (value_at self.now.values k ≤ℤ high))
+            ↔ ((result.0 ≤ k) × (k < result.1)) }
         ensures rows { (n : ℕ) → n < 1024 → ((low ≤ℤ dict_value self.now n) × (dict_value self.now n ≤ℤ high))
             ↔ ((result.0 ≤ code_at self.now n) × (code_at self.now n < result.1)) }
     {

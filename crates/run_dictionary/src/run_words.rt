@@ -78,6 +78,7 @@ fn fill_rows(into: &mut [i64; 1024], first: usize, end: usize, value: i64)
     requires within { end ≤ 1024 }
     ensures written { (n : ℕ) → first ≤ n → n < end → slice_index_or into.new n (pos 0) ≡ value }
     ensures others { (n : ℕ) → n < first → slice_index_or into.new n (pos 0) ≡ slice_index_or into.old n (pos 0) }
+    ensures after { (n : ℕ) → end ≤ n → slice_index_or into.new n (pos 0) ≡ slice_index_or into.old n (pos 0) }
 {
     for row in first..end {
         into[row] = value;
