@@ -2,10 +2,11 @@
 //! an `AllocError` or `Memory` of its set-up, or, where it was a growth of the call that it is of, with the text `REFUSED` or
 //! `CHANGED`; with none refused it passes. The command `tests/refused-memory` refuses each in turn and counts those texts.
 use super::*;
+use crate::bytes_tests::one_column;
 use std::alloc::{AllocError, Global};
 use std::process::Abort;
 use std::test::Fail;
-use table_model::{ColType, Counted, Refusal, Row, Schema};
+use table_model::{Counted, Refusal, Row};
 
 /// The call answered that memory was refused; what it was given is as it was, and the same call again succeeds.
 const REFUSED: &str = "a growth was refused, and all is as it was";
@@ -19,11 +20,6 @@ const ROOM: usize = 512;
 /// The end of a test whose call was refused.
 fn refused(is_as_it_was: bool) -> Result<(), Fail> {
     Err(Fail::new(if is_as_it_was { REFUSED } else { CHANGED }))
-}
-
-/// The schema of one SMALLINT column.
-fn one_column(alloc: Global) -> Result<Schema, Refusal> {
-    Schema::new(alloc, "T", &[("A", ColType::SmallInt)])
 }
 
 /// The bytes of two rows, 7 and null: the null mask, DICT of 7 and 8 with codes of one bit, all 0.

@@ -6,9 +6,9 @@ use crate::view::StoreView;
 use query_eval::{answer, text};
 use query_parser::{parse, resolve};
 use replica_store::Store;
-use std::alloc::Global;
+use std::alloc::{AllocError, Global};
 use std::test::Fail;
-use table_model::{ColType, Origin, Refusal, Row, Schema};
+use table_model::{Answer, ColType, Origin, Query, Refusal, Row, Schema};
 
 /// The call answered that memory was refused; what it was given is as it was, and the same call again succeeds.
 const REFUSED: &str = "a growth was refused, and all is as it was";
@@ -32,7 +32,7 @@ fn filled_store(alloc: Global) -> Result<Store, Refusal> {
     let schema = Schema::new(alloc, "T", &[("A", ColType::SmallInt)])?;
     let mut store = Store::new(alloc, &schema, Origin(1))?;
     let mut rows = Vec::with_capacity(alloc, 4)?;
-    for cell in [Some(4), Some(5), None, Some(5)] {
+    for &cell in &[Some(4), Some(5), None, Some(5)] {
         rows.push(Row::from_cells(Vec::from_slice(alloc, &[cell])?))?;
     }
     let _ = store.append(alloc, rows.as_slice())?;
@@ -51,19 +51,30 @@ fn a_refused_parse_gives_no_query(rt: HostRuntime) -> Result<(), Fail> {
     }
 }
 
+/// Whether an answer is that over the rows of these tests.
+fn is_answer(alloc: Global, found: &Answer) -> Result<bool, AllocError> {
+    let lines = text(alloc, found)?;
+    Ok(lines.as_slice() == ANSWER)
+}
+
 /// Whether the query has its answer over a store.
 fn is_answered(alloc: Global, store: &Store) -> Result<bool, Refusal> {
     let found = ask(alloc, store, QUERY)?;
-    let lines = text(alloc, &found)?;
-    Ok(lines.as_slice() == ANSWER)
+    Ok(is_answer(alloc, &found)?)
+}
+
+/// The query, whose names are those of a schema.
+fn read_query(alloc: Global, schema: &Schema) -> Result<Query, Refusal> {
+    let query = parse(alloc, QUERY)?;
+    resolve(&query, schema)?;
+    Ok(query)
 }
 
 #[test]
 fn a_refused_answer_leaves_the_store(rt: HostRuntime) -> Result<(), Fail> {
     let alloc = rt.alloc();
     let store = filled_store(alloc)?;
-    let query = parse(alloc, QUERY)?;
-    resolve(&query, store.schema())?;
+    let query = read_query(alloc, store.schema())?;
     match answer(alloc, &mut StoreView::new(&store), &query) {
         Ok(_) => Ok(()),
         Err(_) => refused(is_answered(alloc, &store)?),
@@ -83,17 +94,19 @@ fn a_refused_question_leaves_the_store(rt: HostRuntime) -> Result<(), Fail> {
     }
 }
 
+/// The query's answer over the rows of these tests.
+fn answered(alloc: Global) -> Result<Answer, Refusal> {
+    let store = filled_store(alloc)?;
+    ask(alloc, &store, QUERY)
+}
+
 #[test]
 fn a_refused_text_leaves_the_answer(rt: HostRuntime) -> Result<(), Fail> {
     let alloc = rt.alloc();
-    let store = filled_store(alloc)?;
-    let found = ask(alloc, &store, QUERY)?;
+    let found = answered(alloc)?;
     match text(alloc, &found) {
         Ok(lines) => assert_eq!(rt; lines.as_slice(), ANSWER),
-        Err(_) => {
-            let again = text(alloc, &found)?;
-            return refused(again.as_slice() == ANSWER);
-        }
+        Err(_) => return refused(is_answer(alloc, &found)?),
     }
     Ok(())
 }
