@@ -10,7 +10,6 @@ FIRST = b"table 2 T A SMALLINT\nappend 1 (7)\nmerge 2 1\nquery 2 SELECT COUNT(*)
 FIRST_REPLIES = b"ok\nok 1.1\nok\nok 1\nCOUNT(*)\n1\n"
 
 
-
 def batch(origin, number, value):
     """A batch of one row of one SMALLINT column: FOR at width 0, so that its bytes are the name, the row count and the value."""
     return origin.to_bytes(4, "little") + number.to_bytes(4, "little") + bytes(2) + bytes([0, 0, 0, 0, 0]) + value.to_bytes(2, "little")
@@ -28,6 +27,9 @@ SECOND_BATCH = file_of(b"T", batch(2, 1, 7))
 BOTH = file_of(b"T", batch(1, 1, 7), batch(2, 1, 7))
 OTHER_TABLE = file_of(b"U", batch(1, 1, 7))
 
+# A folder d and the file in it.
+FOLDER = {"d/kept": b"old"}
+
 # The same row at width 1, with 128 bytes of packed zeros after the reference.
 WIDER = ONE_ROW[:29] + b"\x01" + ONE_ROW[30:34] + bytes(128) + ONE_ROW[34:]
 
@@ -42,6 +44,7 @@ class Case:
     out: object = b""
     err: object = b""
     input: bytes = b""
+    # The files that are there, by name; a folder that a name has before its file is made.
     files: dict = field(default_factory=dict)
     # What files hold afterwards; None: there is no such file.
     writes: dict = field(default_factory=dict)
@@ -100,6 +103,14 @@ CASES = [
     Case("another table is refused", ["merge", "out", "t", "u"], 1, err=b"refused SchemaDiffers\n", files={"t": ONE_ROW, "u": OTHER_TABLE}, writes={"out": None}),
     Case("a file that isn't there can't be merged", ["merge", "out", "t", "none"], 1, err=b"refused ReadFault\n", files={"t": ONE_ROW}, writes={"out": None}),
     Case("a file in a folder that isn't there can't be written", ["merge", "none/out", "t"], 1, err=b"refused WriteFault\n", files={"t": ONE_ROW}),
+    Case("a folder can't be written in the place of a file", ["merge", "d", "t"], 1, err=b"refused WriteFault\n", files={"t": ONE_ROW, **FOLDER}, writes={"t": ONE_ROW, **FOLDER}),
+    Case("a folder that is one of the files to merge is a failed read", ["merge", "out", "t", "d"], 1, err=b"refused ReadFault\n", files={"t": ONE_ROW, "out": b"old", **FOLDER}, writes={"out": b"old", **FOLDER}),
+    Case("a folder that is the first of them is one too", ["merge", "out", "d", "t"], 1, err=b"refused ReadFault\n", files={"t": ONE_ROW, **FOLDER}, writes={"out": None, **FOLDER}),
+    Case("an empty file among those to merge is cut short", ["merge", "out", "t", "u"], 1, err=b"refused Truncated 0\n", files={"t": ONE_ROW, "u": b"", "out": b"old"}, writes={"out": b"old", "u": b""}),
+    Case("an empty file alone is cut short too", ["merge", "out", "u"], 1, err=b"refused Truncated 0\n", files={"u": b""}, writes={"out": None, "u": b""}),
+    Case("a file that would be written over stays where another is empty", ["merge", "t", "t", "u"], 1, err=b"refused Truncated 0\n", files={"t": ONE_ROW, "u": b""}, writes={"t": ONE_ROW, "u": b""}),
+    Case("the files to merge are judged in order", ["merge", "out", "u", "d"], 1, err=b"refused Truncated 0\n", files={"u": b"", **FOLDER}, writes={"out": None}),
+    Case("the file to write is judged after them", ["merge", "d", "u"], 1, err=b"refused Truncated 0\n", files={"u": b"", **FOLDER}, writes=FOLDER),
     Case("merge wants a file to write and one to read", ["merge", "out"], 2, err=[b"IN"]),
     Case("a query over a file is answered", ["query", "t", "SELECT SUM(A) FROM T"], 0, b"SUM(A)\n7\n", files={"t": ONE_ROW}),
     Case(

@@ -1,5 +1,6 @@
 //! Clusters that are told steps; the replies are worked out by hand from the rules of steps.
 use crate::{Cluster, Reply, run};
+use replica_store::Store;
 use script_lines::Step;
 use std::alloc::Global;
 use std::test::Fail;
@@ -32,17 +33,27 @@ fn new_cluster(alloc: Global, replicas: usize) -> Result<Cluster, Refusal> {
     Cluster::new(alloc, &schema, replicas)
 }
 
+/// Whether the own origins of replicas are 1, 2 and so on.
+fn are_numbered(stores: &[Store]) -> bool {
+    let mut number: u32 = 0;
+    for store in stores {
+        number = number.saturating_add(1);
+        if store.own().0 != number {
+            return false;
+        }
+    }
+    true
+}
+
 // A replica's own origin is its number.
 #[test]
 fn replicas_are_numbered_from_1(rt: HostRuntime) -> Result<(), Fail> {
-    for count in [1, 2, 64] {
+    for &count in &[1, 2, 64] {
         let cluster = new_cluster(rt.alloc(), count)?;
-        assert!(rt; cluster.stores().len() == count, "of {count}");
-        let mut number: u32 = 1;
-        for store in cluster.stores() {
-            assert!(rt; store.own().0 == number, "of {count}");
-            number = number.saturating_add(1);
-        }
+        assert!(rt;
+            cluster.stores().len() == count && are_numbered(cluster.stores()),
+            "of {count}"
+        );
     }
     Ok(())
 }
@@ -92,7 +103,7 @@ const EXCHANGE: [(Told, Want); 18] = [
 #[test]
 fn messages_are_numbered_from_1_and_there_are_no_others(rt: HostRuntime) -> Result<(), Fail> {
     let mut cluster = new_cluster(rt.alloc(), 2)?;
-    for (told, want) in EXCHANGE {
+    for &(told, want) in &EXCHANGE {
         let reply = cluster.step(rt.alloc(), &step_of(told));
         assert!(rt; is_wanted(Some(&reply), want));
     }
@@ -132,7 +143,7 @@ fn the_65537th_message_is_refused(rt: HostRuntime) -> Result<(), Fail> {
     assert!(rt; is_wanted(replies.get(0), Want::Sent(1)));
     assert!(rt; is_wanted(replies.get(65_535), Want::Sent(65_536)));
     assert!(rt; is_wanted(replies.get(65_536), Want::Refused(Refusal::Full)));
-    for (told, want) in IN_A_FULL_CLUSTER {
+    for &(told, want) in &IN_A_FULL_CLUSTER {
         let reply = cluster.step(rt.alloc(), &step_of(told));
         assert!(rt; is_wanted(Some(&reply), want));
     }

@@ -44,25 +44,28 @@ const TEXTS: [(&[&str], &str); 9] = [
 
 #[test]
 fn help_and_faults_of_the_command_line_have_their_texts(rt: HostRuntime) -> Result<(), Fail> {
-    for (words, want) in TEXTS {
+    for &(words, want) in &TEXTS {
         let text = text_of(rt.alloc(), words)?;
         assert!(rt; text.as_str() == want, "printed {text}");
     }
     Ok(())
 }
 
+const NAME: BatchName = BatchName {
+    origin: Origin(1),
+    number: Number(2),
+};
+
+const LINES: [(Refusal, &str); 4] = [
+    (Refusal::Memory, "refused Memory"),
+    (Refusal::ReadFault, "refused ReadFault"),
+    (Refusal::WriteFault, "refused WriteFault"),
+    (Refusal::Conflict(NAME), "refused Conflict 1.2"),
+];
+
 #[test]
 fn a_refusal_is_one_line(rt: HostRuntime) -> Result<(), Fail> {
-    let name = BatchName {
-        origin: Origin(1),
-        number: Number(2),
-    };
-    for (refusal, want) in [
-        (Refusal::Memory, "refused Memory"),
-        (Refusal::ReadFault, "refused ReadFault"),
-        (Refusal::WriteFault, "refused WriteFault"),
-        (Refusal::Conflict(name), "refused Conflict 1.2"),
-    ] {
+    for &(refusal, want) in &LINES {
         let text = Fault::from(refusal).to_string(rt.alloc())?;
         assert!(rt; text.as_str() == want, "printed {text}");
     }
