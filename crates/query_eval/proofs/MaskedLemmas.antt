@@ -1,5 +1,5 @@
 -- The values at the rows of a mask, one row more.
-use Rattle.std.proofs.Common.{◌≡◌, ◌==◌, ℕ, zero, suc, ◌+◌, ◌*◌, ◌/◌, ◌%◌, ◌^◌, ◌<◌, ◌≤◌, Bool, true, false, cond, List, [], ◌∷◌, ◌++◌, map, length, get_or, count_by, Option, Some, None, ℤ, pos, ◌+ℤ◌, refl, sym, ap, ◌∙◌, arith, append-nil, length-append}
+use Rattle.std.proofs.Common.{◌≡◌, ◌==◌, ℕ, zero, suc, ◌+◌, ◌*◌, ◌/◌, ◌%◌, ◌^◌, ◌<◌, ◌≤◌, Bool, true, false, cond, List, [], ◌∷◌, ◌++◌, map, length, get_or, count_by, Some, None, ℤ, pos, ◌+ℤ◌, refl, sym, ap, ◌∙◌, arith, append-nil, length-append}
 use Rattle.std.specs.Int.{bit_at, from_bool, int_max, int_min}
 use Rattle.std.proofs.Math.Nat.{pow-le-pow_right}
 use Rattle.std.specs.List.{range_with_len, cons_option}
@@ -11,15 +11,7 @@ use Rattle.table_model.proofs.Appended.{total-append, least-append, greatest-app
 use Rattle.table_model.specs.Values.{present, total, lesser, greater, least, greatest}
 use Rattle.transpose_order.specs.Mask.{has, number_of_bits, rows_of}
 use Rattle.transpose_order.specs.MaskWords.{has-rows_of, rows_of-like, bit_at-number_of_bits, number_of_bits-below, number_of_bits-suc}
-use Rattle.query_eval.specs.Slices.{values_at}
-
--- the value at a row of a mask
-abbrev pub value_of : List Bool → List ℤ → ℕ → Option ℤ
-value_of rows values n = cond (has rows n) (Some (get_or values n (pos 0))) None
-
--- the values at the rows of a mask below k
-abbrev pub values_below : ℕ → List Bool → List ℤ → List ℤ
-values_below k rows values = present (map (value_of rows values) (range_with_len 0 k))
+use Rattle.query_eval.specs.Slices.{value_of, values_at, values_below}
 
 pub values_all : (k : ℕ) (rows : List Bool) (values : List ℤ) → k ≡ 1024 → values_below k rows values ≡ values_at rows values
 unfolding rows_of
@@ -39,6 +31,12 @@ pub values_none : (k : ℕ) (rows : List Bool) (values : List ℤ) → ((n : ℕ
 values_none zero rows values h = refl
 values_none (suc k) rows values h =
     ap (λ n. values_below n rows values) (let e : suc k ≡ k + 1 = omega arith in e) ∙ values_more k rows values false (h k (omega arith)) ∙ append-nil (values_below k rows values) ∙ values_none k rows values (λ n l. h n (omega (arith, l)))
+
+-- rows from k on of which none is one of the mask
+pub values_skip : (k j : ℕ) (rows : List Bool) (values : List ℤ) → ((b : ℕ) → b < j → has rows (k + b) ≡ false) → values_below (k + j) rows values ≡ values_below k rows values
+values_skip k zero rows values h = ap (λ n. values_below n rows values) (let e : k + zero ≡ k = omega arith in e)
+values_skip k (suc j) rows values h =
+    ap (λ n. values_below n rows values) (let e : k + suc j ≡ (k + j) + 1 = omega arith in e) ∙ values_more (k + j) rows values false (h j (omega arith)) ∙ append-nil (values_below (k + j) rows values) ∙ values_skip k j rows values (λ b l. h b (omega (arith, l)))
 
 -- as many values as rows
 one_counted : (b : Bool) (z : ℤ) (zs : List ℤ) (bs : List Bool) → length zs ≡ count_by (λ y. y) bs → length (cons_option (cond b (Some z) None) zs) ≡ count_by (λ y. y) (b ∷ bs)

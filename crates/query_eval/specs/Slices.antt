@@ -1,11 +1,11 @@
 -- Slices of a vector: the rows with one key, and the place of its group.
-use Rattle.std.specs.Prelude.{◌≡◌, ℕ, ◌==◌, ◌<◌, Bool, true, not, ◌&&◌, ◌||◌, cond, List, [], ◌∷◌, ◌++◌, map, slice_index_or, Some, None, ℤ, pos}
-use Rattle.std.specs.List.{list_any}
+use Rattle.std.specs.Prelude.{◌≡◌, ℕ, ◌==◌, ◌+◌, ◌*◌, ◌^◌, ◌<◌, Bool, true, not, ◌&&◌, ◌||◌, cond, List, [], ◌∷◌, ◌++◌, length, map, slice_index_or, Option, Some, None, ℤ, pos, ◌+ℤ◌}
+use Rattle.std.specs.List.{list_any, range_with_len}
 use Rattle.std.specs.BTreeMap.{BTreeMap, get}
 use Rattle.std.specs.Option.{is_some}
 use Rattle.table_model.specs.Group.{key_cmp, key_of}
 use Rattle.table_model.specs.State.{Cells, same_cells}
-use Rattle.table_model.specs.Values.{present}
+use Rattle.table_model.specs.Values.{present, total}
 use Rattle.transpose_order.specs.Mask.{has, rows_of}
 use Rattle.query_eval.specs.Kept.{rows_at}
 use Rattle.query_eval.specs.Places.{IsGrown, rows_placed}
@@ -16,6 +16,18 @@ use Rattle.query_eval.specs.declared.split.Split.{Split}
 -- the values at the rows of a mask, in row order
 abbrev pub values_at : List Bool → List ℤ → List ℤ
 values_at rows values = present (rows_of (λ n. cond (has rows n) (Some (slice_index_or values n (pos 0))) None))
+
+-- the value at a row of a mask
+abbrev pub value_of : List Bool → List ℤ → ℕ → Option ℤ
+value_of rows values n = cond (has rows n) (Some (slice_index_or values n (pos 0))) None
+
+-- the values at the rows of a mask below k
+abbrev pub values_below : ℕ → List Bool → List ℤ → List ℤ
+values_below k rows values = present (map (value_of rows values) (range_with_len 0 k))
+
+-- two sums are those of the halves of the values at the rows of a mask below k, raised by 2 to the power of 63 each
+abbrev pub AreHalves : ℕ → List Bool → List ℤ → ℕ → ℕ → Type 0
+AreHalves k rows values low high = pos (low + 2 ^ 32 * high) ≡ total (values_below k rows values) +ℤ pos (2 ^ 63 * length (values_below k rows values))
 
 -- a slice has the rows of a mask with one key, and that key's place
 pub record IsSlice (by : List ℕ) (v : Vector) (index : BTreeMap Cells ℕ) (mask : List Bool) (slice : Slice) : Type 0 where

@@ -1,10 +1,10 @@
 //! Set functions over the decoded values at the rows of a mask, and the rows with a value: one loop each, without a branch a row.
-ghost use Rattle.std.specs.Prelude.{◌≡◌, ◌==◌, ◌+◌, ◌*◌, ◌^◌, ◌<◌, ◌≤◌, ◌+ℤ◌, ℕ, List, ℤ, cond, length, pos, slice_index_or};
-ghost use Rattle.std.specs.Int.{int_max, int_min};
+ghost use Rattle.std.specs.Prelude.{◌≡◌, ◌==◌, ◌+◌, ◌*◌, ◌^◌, ◌<◌, ◌≤◌, ◌+ℤ◌, ◌/◌, ℕ, Bool, true, false, Some, List, ℤ, cond, length, pos, slice_index_or};
+ghost use Rattle.std.specs.Int.{bit_at, int_max, int_min};
 ghost use Rattle.std.specs.Ordering.{int_eq};
 ghost use Rattle.table_model.specs.Values.{greatest, least, total};
-ghost use Rattle.transpose_order.specs.Mask.{number_of_bits, rows_of};
-ghost use Rattle.query_eval.specs.Slices.{values_at};
+ghost use Rattle.transpose_order.specs.Mask.{has, number_of_bits, rows_of};
+ghost use Rattle.query_eval.specs.Slices.{AreHalves, values_at, values_below};
 
 use crate::bits::is_set;
 use transpose_order::Mask;
@@ -62,18 +62,36 @@ fn raised_if(taken: bool, number: i64) -> u64
     }
 }
 
+/// Adds to two sums the halves of 32 bits of the values at the rows of a word, raised by 2 to the power of 63 each: the low halves
+/// to one, the high ones to the other. Bit `b` of the word is row `first + b`.
+#[inline(always)]
+fn add_halves(values: &[i64; 1024], word: u64, first: usize, low: &mut u64, high: &mut u64)
+    requires first { first + 64 ≤ 1024 }
+    requires low { low.old ≤ 2 ^ 32 * first }
+    requires high { high.old ≤ 2 ^ 32 * first }
+    ensures low { low.new ≤ 2 ^ 32 * (first + 64) }
+    ensures high { high.new ≤ 2 ^ 32 * (first + 64) }
+    ensures value { (rows : List Bool) → ((b : ℕ) → b < 64 → (bit_at word b == 1) ≡ has rows (first + b)) → AreHalves first rows values.now low.old high.old → AreHalves (first + 64) rows values.now low.new high.new }
+{
+    for bit in 0..64 {
+        let raised = raised_if(is_set(word, bit), values[first + bit]);
+        *low += raised & 0xFFFF_FFFF;
+        *high += raised >> 32;
+    }
+}
+
 /// The halves of 32 bits of the values at the rows of a mask, raised by 2 to the power of 63 each: the sum of the low halves, and
-/// that of the high ones.
+/// that of the high ones. Where 64 rows are none of the mask's, their values are not looked at.
 fn sum_halves(values: &[i64; 1024], rows: &Mask) -> (u64, u64)
     ensures value { pos (result.0 + 2 ^ 32 * result.1) ≡ total (values_at rows.now values.now) +ℤ pos (2 ^ 63 * length (values_at rows.now values.now)) }
 {
     let words = rows.words();
     let mut low: u64 = 0;
     let mut high: u64 = 0;
-    for row in 0..1024 {
-        let raised = raised_if(is_set(words[row / 64], row % 64), values[row]);
-        low += raised & 0xFFFF_FFFF;
-        high += raised >> 32;
+    for index in 0..16 {
+        if words[index] != 0 {
+            add_halves(values, words[index], 64 * index, &mut low, &mut high);
+        }
     }
     (low, high)
 }
@@ -107,7 +125,36 @@ fn greater_if(taken: bool, greatest: i64, number: i64) -> i64
     }
 }
 
-/// The least of the values at the rows of a mask, `None` over none.
+/// The least of the values at the rows of a mask up to the end of the 64 rows in which its first one is.
+fn least_in_first(values: &[i64; 1024], rows: &Mask, first: usize) -> i64
+    requires first { first < 1024 }
+    requires none { (n : ℕ) → n < first → has rows.now n ≡ false }
+    requires here { has rows.now first ≡ true }
+    ensures { Some result ≡ least (values_below (64 * (first / 64) + 64) rows.now values.now) }
+{
+    let words = rows.words();
+    let mut least = values[first];
+    for row in first + 1..64 * (first / 64) + 64 {
+        least = lesser_if(is_set(words[row / 64], row % 64), least, values[row]);
+    }
+    least
+}
+
+/// The lesser of a number and the values at the rows of a word, whose bit `b` is row `first + b`.
+#[inline(always)]
+fn lesser_in_word(values: &[i64; 1024], word: u64, first: usize, number: i64) -> i64
+    requires { first + 64 ≤ 1024 }
+    ensures { (rows : List Bool) → ((b : ℕ) → b < 64 → (bit_at word b == 1) ≡ has rows (first + b)) → Some number ≡ least (values_below first rows values.now) → Some result ≡ least (values_below (first + 64) rows values.now) }
+{
+    let mut least = number;
+    for bit in 0..64 {
+        least = lesser_if(is_set(word, bit), least, values[first + bit]);
+    }
+    least
+}
+
+/// The least of the values at the rows of a mask, `None` over none. Where 64 rows are none of the mask's, their values are not
+/// looked at.
 pub fn least_at(values: &[i64; 1024], rows: &Mask) -> Option<i64>
     ensures { result ≡ least (values_at rows.now values.now) }
 {
@@ -116,14 +163,45 @@ pub fn least_at(values: &[i64; 1024], rows: &Mask) -> Option<i64>
         return None;
     }
     let words = rows.words();
-    let mut least = values[first];
-    for row in first + 1..1024 {
-        least = lesser_if(is_set(words[row / 64], row % 64), least, values[row]);
+    let mut least = least_in_first(values, rows, first);
+    for index in first / 64 + 1..16 {
+        if words[index] != 0 {
+            least = lesser_in_word(values, words[index], 64 * index, least);
+        }
     }
     Some(least)
 }
 
-/// The greatest of the values at the rows of a mask, `None` over none.
+/// The greatest of the values at the rows of a mask up to the end of the 64 rows in which its first one is.
+fn greatest_in_first(values: &[i64; 1024], rows: &Mask, first: usize) -> i64
+    requires first { first < 1024 }
+    requires none { (n : ℕ) → n < first → has rows.now n ≡ false }
+    requires here { has rows.now first ≡ true }
+    ensures { Some result ≡ greatest (values_below (64 * (first / 64) + 64) rows.now values.now) }
+{
+    let words = rows.words();
+    let mut greatest = values[first];
+    for row in first + 1..64 * (first / 64) + 64 {
+        greatest = greater_if(is_set(words[row / 64], row % 64), greatest, values[row]);
+    }
+    greatest
+}
+
+/// The greater of a number and the values at the rows of a word, whose bit `b` is row `first + b`.
+#[inline(always)]
+fn greater_in_word(values: &[i64; 1024], word: u64, first: usize, number: i64) -> i64
+    requires { first + 64 ≤ 1024 }
+    ensures { (rows : List Bool) → ((b : ℕ) → b < 64 → (bit_at word b == 1) ≡ has rows (first + b)) → Some number ≡ greatest (values_below first rows values.now) → Some result ≡ greatest (values_below (first + 64) rows values.now) }
+{
+    let mut greatest = number;
+    for bit in 0..64 {
+        greatest = greater_if(is_set(word, bit), greatest, values[first + bit]);
+    }
+    greatest
+}
+
+/// The greatest of the values at the rows of a mask, `None` over none. Where 64 rows are none of the mask's, their values are not
+/// looked at.
 pub fn greatest_at(values: &[i64; 1024], rows: &Mask) -> Option<i64>
     ensures { result ≡ greatest (values_at rows.now values.now) }
 {
@@ -132,9 +210,11 @@ pub fn greatest_at(values: &[i64; 1024], rows: &Mask) -> Option<i64>
         return None;
     }
     let words = rows.words();
-    let mut greatest = values[first];
-    for row in first + 1..1024 {
-        greatest = greater_if(is_set(words[row / 64], row % 64), greatest, values[row]);
+    let mut greatest = greatest_in_first(values, rows, first);
+    for index in first / 64 + 1..16 {
+        if words[index] != 0 {
+            greatest = greater_in_word(values, words[index], 64 * index, greatest);
+        }
     }
     Some(greatest)
 }

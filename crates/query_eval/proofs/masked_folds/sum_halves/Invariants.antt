@@ -1,12 +1,11 @@
--- The rows so far are summed, each half below its bound.
-use Rattle.std.proofs.Common.{◌≡◌, ◌+◌, ◌*◌, ◌^◌, ◌≤◌, length, pos, ◌+ℤ◌}
-use Rattle.table_model.specs.Values.{total}
-use Rattle.query_eval.proofs.MaskedLemmas.{values_below}
+-- The rows of the words so far are summed, each half below its bound.
+use Rattle.std.proofs.Common.{◌*◌, ◌^◌, ◌≤◌}
+use Rattle.query_eval.specs.Slices.{AreHalves}
 use Rattle.query_eval.proofs.masked_folds.sum_halves.Given as goal
 
-abbrev pub invariant-loop-row : goal.invariant-loop-row
-invariant-loop-row l = record {
-  low : l.low ≤ 2 ^ 32 * l.row;
-  high : l.high ≤ 2 ^ 32 * l.row;
-  value : pos (l.low + 2 ^ 32 * l.high) ≡ total (values_below l.row l.rows l.values) +ℤ pos (2 ^ 63 * length (values_below l.row l.rows l.values));
+abbrev pub invariant-loop-index : goal.invariant-loop-index
+invariant-loop-index l = record {
+  low : l.low ≤ 2 ^ 32 * (64 * l.index);
+  high : l.high ≤ 2 ^ 32 * (64 * l.index);
+  value : AreHalves (64 * l.index) l.rows l.values l.low l.high;
 }
