@@ -133,8 +133,8 @@ fn pack_widest<V: LaneWord, U: LaneWord>(width: usize, values: &[V; 1024], words
 }
 
 /// The words that pack 1024 values of `width` bits, 0 to `U::BITS`, in row order, given in words of any type: there are
-/// `width * (1024 / U::BITS)` of them. The width is looked up once, among those that are known when it is compiled; by sixteens,
-/// which a proof takes in better than all at once.
+/// `width * (1024 / U::BITS)` of them. The width is looked up once, among those that are known when it is compiled: by sixteens,
+/// each of which is proved by itself.
 pub(crate) fn pack_from<V: LaneWord, U: LaneWord>(width: usize, values: &[V; 1024], words: &mut [U])
     requires width { width ≤ U.BITS }
     requires fit { All (λ v. V.number v < 2 ^ width) values.now }

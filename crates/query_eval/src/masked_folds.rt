@@ -1,4 +1,5 @@
-//! Set functions over the decoded values at the rows of a mask, and the rows with a value: one loop each, without a branch a row.
+//! Set functions over the decoded values at the rows of a mask, and the rows with a value: a word of 64 rows at a time, without a
+//! branch a row.
 ghost use Rattle.std.specs.Prelude.{◌≡◌, ◌==◌, ◌+◌, ◌*◌, ◌^◌, ◌<◌, ◌≤◌, ◌+ℤ◌, ◌/◌, ℕ, Bool, true, false, Some, List, ℤ, cond, length, pos, slice_index_or};
 ghost use Rattle.std.specs.Int.{bit_at, int_max, int_min};
 ghost use Rattle.std.specs.Ordering.{int_eq};
