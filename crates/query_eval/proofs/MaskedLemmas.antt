@@ -1,8 +1,10 @@
 -- The values at the rows of a mask, one row more.
-use Rattle.std.proofs.Common.{◌≡◌, ◌==◌, ℕ, zero, suc, ◌+◌, ◌*◌, ◌/◌, ◌%◌, ◌^◌, ◌<◌, ◌≤◌, Bool, true, false, cond, List, [], ◌∷◌, ◌++◌, map, length, get_or, count_by, Some, None, ℤ, pos, ◌+ℤ◌, refl, sym, ap, ◌∙◌, arith, append-nil, length-append}
+use Rattle.std.proofs.Common.{◌≡◌, ◌==◌, ℕ, zero, suc, ◌+◌, ◌-◌, ◌*◌, ◌/◌, ◌%◌, ◌^◌, ◌<◌, ◌≤◌, Bool, true, false, not, cond, List, [], ◌∷◌, ◌++◌, map, length, get_or, count_by, Some, None, ℤ, pos, ◌+ℤ◌, refl, sym, ap, ◌∙◌, arith, append-nil, length-append}
 use Rattle.std.specs.Int.{bit_at, from_bool, int_max, int_min}
-use Rattle.std.proofs.Math.Nat.{pow-le-pow_right}
+use Rattle.std.proofs.Math.Nat.{mul-suc, pow-le-pow_right}
 use Rattle.std.specs.List.{range_with_len, cons_option}
+use Rattle.std.specs.Ordering.{int_eq}
+use Rattle.std.proofs.lemmas.Bool.Decides.{Decides-int_eq}
 use Rattle.std.proofs.lemmas.Int.{ints}
 use Rattle.std.proofs.lemmas.List.FromFn.{map-range_with_len_more}
 use Rattle.std.proofs.lemmas.List.Elements.{filter_map-append}
@@ -11,7 +13,7 @@ use Rattle.table_model.proofs.Appended.{total-append, least-append, greatest-app
 use Rattle.table_model.specs.Values.{present, total, lesser, greater, least, greatest}
 use Rattle.transpose_order.specs.Mask.{has, number_of_bits, rows_of}
 use Rattle.transpose_order.specs.MaskWords.{has-rows_of, rows_of-like, bit_at-number_of_bits, number_of_bits-below, number_of_bits-suc}
-use Rattle.query_eval.specs.Slices.{value_of, values_at, values_below}
+use Rattle.query_eval.specs.Slices.{IsRaised, differs_at, value_of, values_at, values_below}
 
 pub values_all : (k : ℕ) (rows : List Bool) (values : List ℤ) → k ≡ 1024 → values_below k rows values ≡ values_at rows values
 unfolding rows_of
@@ -94,6 +96,15 @@ module _ (f : ℕ → Bool) (bit word n : ℕ) (is : word ≡ number_of_bits bit
   pub word_more : word + n * 2 ^ bit % 2 ^ 64 ≡ number_of_bits (bit + 1) (λ b. cond (f b) 1 0)
   word_more = not_wrapped ∙ whole ∙ ap (λ k. number_of_bits k (λ b. cond (f b) 1 0)) (let e : suc bit ≡ bit + 1 = omega arith in e)
 
+-- ---- rows whose value isn't that of the row before
+pub changed_at : (values : List ℤ) (row before : ℕ) (same : Bool) → before ≡ row - 1 → same ≡ int_eq (get_or values before (pos 0)) (get_or values row (pos 0)) → not same ≡ differs_at values row
+changed_at values zero before same e is =
+    let first : before ≡ zero = omega (arith, e) in
+    ap not (is ∙ ap (λ k. int_eq (get_or values k (pos 0)) (get_or values zero (pos 0))) first ∙ (Decides-int_eq (get_or values zero (pos 0)) (get_or values zero (pos 0))).1 refl)
+changed_at values (suc n) before same e is =
+    let last : before ≡ n = omega (arith, e) in
+    ap not (is ∙ ap (λ k. int_eq (get_or values k (pos 0)) (get_or values (suc n) (pos 0))) last)
+
 -- ---- raised values, and their halves
 -- a number is its two halves
 pub halves : (n low high : ℕ) → n < 2 ^ 64 → low ≡ n % 2 ^ 32 → high ≡ n / 2 ^ 32 → low + 2 ^ 32 * high ≡ n
@@ -102,17 +113,21 @@ halves n low high h l r = omega (arith, l, r)
 one_total : (z : ℤ) → total (z ∷ []) ≡ z
 one_total z = omega (arith, ints)
 
-pub raised_more : (b : Bool) (k s t n : ℕ) (z : ℤ) (rows : List Bool) (values : List ℤ) → has rows k ≡ b → pos s ≡ total (values_below k rows values) +ℤ pos (2 ^ 63 * length (values_below k rows values)) → pos n ≡ cond b (get_or values k (pos 0) +ℤ pos (2 ^ 63)) (pos 0) → t ≡ s + n → pos t ≡ total (values_below (k + 1) rows values) +ℤ pos (2 ^ 63 * length (values_below (k + 1) rows values))
-raised_more true k s t n z rows values on before one more =
+pub raised_more : (by : ℕ) (b : Bool) (k s t n : ℕ) (rows : List Bool) (values : List ℤ) → has rows k ≡ b → IsRaised by k rows values s → pos n ≡ cond b (get_or values k (pos 0) +ℤ pos by) (pos 0) → t ≡ s + n → IsRaised by (k + 1) rows values t
+raised_more by true k s t n rows values on before one more =
     let x : ℤ = get_or values k (pos 0) in
     let now = values_more k rows values true on in
     let sum : total (values_below (k + 1) rows values) ≡ total (values_below k rows values) +ℤ x = ap total now ∙ total-append (values_below k rows values) (x ∷ []) ∙ ap (λ y. total (values_below k rows values) +ℤ y) (one_total x) in
     let long : length (values_below (k + 1) rows values) ≡ length (values_below k rows values) + 1 = ap length now ∙ length-append (values_below k rows values) (x ∷ []) in
-    omega (arith, ints, before, one, more, sum, long)
-raised_more false k s t n z rows values on before one more =
+    let all : by * length (values_below (k + 1) rows values) ≡ by * length (values_below k rows values) + by = ap (λ m. by * m) long ∙ one_more by (length (values_below k rows values)) in
+    omega (arith, ints, before, one, more, sum, all)
+  where
+    one_more : (a m : ℕ) → a * (m + 1) ≡ a * m + a
+    one_more a m = ap (λ n. a * n) (let e : m + 1 ≡ suc m = omega arith in e) ∙ mul-suc a m
+raised_more by false k s t n rows values on before one more =
     let now : values_below (k + 1) rows values ≡ values_below k rows values = values_more k rows values false on ∙ append-nil (values_below k rows values) in
     let none : t ≡ s = omega (arith, ints, one, more) in
-    ap pos none ∙ before ∙ ap (λ zs. total zs +ℤ pos (2 ^ 63 * length zs)) (sym now)
+    ap pos none ∙ before ∙ ap (λ zs. total zs +ℤ pos (by * length zs)) (sym now)
 
 -- ---- the least and the greatest
 pub least_none : (k : ℕ) (rows : List Bool) (values : List ℤ) → k ≡ 1024 → ((n : ℕ) → n < k → has rows n ≡ false) → None ≡ least (values_at rows values)

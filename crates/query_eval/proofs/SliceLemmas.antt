@@ -1,12 +1,12 @@
 -- Slices of a vector's rows by their keys.
-use Rattle.std.proofs.Common.{◌≡◌, ◌==◌, ℕ, zero, suc, ◌+◌, ◌<◌, ◌≤◌, Bool, true, false, cond, not, ◌&&◌, ◌||◌, List, [], ◌∷◌, ◌++◌, map, filter, length, get_or, take, Option, Some, None, ℤ, pos, refl, sym, ap, subst, ◌∙◌, arith, append-nil, append_assoc}
+use Rattle.std.proofs.Common.{◌≡◌, ◌==◌, ℕ, zero, suc, ◌+◌, ◌-◌, ◌<◌, ◌≤◌, ltb, leb, Bool, true, false, cond, not, ◌&&◌, ◌||◌, List, [], ◌∷◌, ◌++◌, map, filter, length, get_or, take, Option, Some, None, ℤ, pos, refl, sym, ap, subst, ◌∙◌, arith, append_assoc}
 use Rattle.std.specs.BTreeMap.{BTreeMap, get}
 use Rattle.std.specs.List.{cons_option, list_any, range_with_len}
 use Rattle.std.specs.Option.{is_some}
 use Rattle.std.specs.Ordering.{int_eq}
-use Rattle.std.proofs.lemmas.Bool.{false≢true}
-use Rattle.std.proofs.lemmas.Bool.Decides.{Decides-eqb}
-use Rattle.std.proofs.lemmas.List.{take_more}
+use Rattle.std.proofs.lemmas.Bool.{false≢true, le-leb, le-ltb, lt-leb, lt-ltb, ltb-false, ltb-true}
+use Rattle.std.proofs.lemmas.Bool.Decides.{Decides-eqb, Decides-int_eq}
+use Rattle.std.proofs.lemmas.List.{map-append, take_more}
 use Rattle.table_model.specs.Group.{key_cmp, key_of, rows_with}
 use Rattle.table_model.specs.State.{Cells, same_cell, same_cells}
 use Rattle.table_model.specs.Values.{present}
@@ -16,7 +16,7 @@ use Rattle.transpose_order.specs.MaskWords.{has-rows_of, rows_of-like}
 use Rattle.query_eval.specs.Decoded.{decoded_at}
 use Rattle.query_eval.specs.Kept.{rows_at}
 use Rattle.query_eval.specs.Places.{ArePlaced, IsGrown, IsTakenIn, rows_placed}
-use Rattle.query_eval.specs.Slices.{AreParted, AreSliced, IsSlice, IsSplit, occurs_in, rows_outside, rows_sliced}
+use Rattle.query_eval.specs.Slices.{AreParted, AreSliced, IsSlice, IsSplit, differs_at, occurs_in, rows_outside, rows_sliced}
 use Rattle.query_eval.specs.Vector.{Vector, row_at}
 use Rattle.query_eval.specs.declared.decoded.Decoded.{Decoded}
 use Rattle.query_eval.specs.declared.split.Slice.{Slice}
@@ -96,6 +96,83 @@ like_next row n i mask rows like next columns column l inside at before one is =
     assoc true b c = refl
     assoc false b c = refl
 
+-- ---- the rows where a cell may differ from that of the row before
+pub unchanged_value : (nulls rows : List Bool) (values : List ℤ) (n : ℕ) → n + 1 < 1024 → ((k : ℕ) → k < 1024 → has nulls k ≡ false) → rows ≡ rows_of (differs_at values) → has rows (n + 1) ≡ false
+    → cond (has nulls (n + 1)) None (Some (get_or values (n + 1) (pos 0))) ≡ cond (has nulls n) None (Some (get_or values n (pos 0)))
+unchanged_value nulls rows values n l none e off =
+    let next : suc n ≡ n + 1 = omega arith in
+    let same : int_eq (get_or values n (pos 0)) (get_or values (suc n) (pos 0)) ≡ true = not_false (int_eq (get_or values n (pos 0)) (get_or values (suc n) (pos 0))) (ap (differs_at values) next ∙ sym (has-rows_of (differs_at values) (n + 1) l) ∙ sym (ap (λ m. has m (n + 1)) e) ∙ off) in
+    ap (λ b. cond b None (Some (get_or values (n + 1) (pos 0)))) (none (n + 1) l)
+    ∙ ap Some (sym ((Decides-int_eq (get_or values n (pos 0)) (get_or values (suc n) (pos 0))).0 same ∙ ap (λ k. get_or values k (pos 0)) next))
+    ∙ sym (ap (λ b. cond b None (Some (get_or values n (pos 0)))) (none n (omega (arith, l))))
+  where
+    not_false : (b : Bool) → not b ≡ false → b ≡ true
+    not_false true _ = refl
+    not_false false e = absurd (false≢true (sym e))
+
+-- one column more
+pub unchanged_next : (n i : ℕ) (columns : List Decoded) (column : Decoded) (before changes next : List Bool) → n + 1 < 1024 → i < length columns → column ≡ get_or columns i column
+    → (has before (n + 1) ≡ false → map (λ d. decoded_at d (n + 1)) (take i columns) ≡ map (λ d. decoded_at d n) (take i columns)) → (has changes (n + 1) ≡ false → decoded_at column (n + 1) ≡ decoded_at column n) → next ≡ rows_of (λ k. has before k || has changes k)
+    → has next (n + 1) ≡ false → map (λ d. decoded_at d (n + 1)) (take (i + 1) columns) ≡ map (λ d. decoded_at d n) (take (i + 1) columns)
+unchanged_next n i columns column before changes next l inside at so_far one is off =
+    let front : take (i + 1) columns ≡ take i columns ++ column ∷ [] = take_more columns i column inside ∙ ap (λ d. take i columns ++ d ∷ []) (sym at) in
+    let both : (has before (n + 1) || has changes (n + 1)) ≡ false = sym (has-rows_of (λ k. has before k || has changes k) (n + 1) l) ∙ sym (ap (λ m. has m (n + 1)) is) ∙ off in
+    ap (map (λ d. decoded_at d (n + 1))) front ∙ map-append (λ d. decoded_at d (n + 1)) (take i columns) (column ∷ [])
+    ∙ ap (λ cells. cells ++ decoded_at column (n + 1) ∷ []) (so_far (left_off (has before (n + 1)) (has changes (n + 1)) both))
+    ∙ ap (λ cell. map (λ d. decoded_at d n) (take i columns) ++ cell ∷ []) (one (right_off (has before (n + 1)) (has changes (n + 1)) both))
+    ∙ sym (map-append (λ d. decoded_at d n) (take i columns) (column ∷ [])) ∙ sym (ap (map (λ d. decoded_at d n)) front)
+  where
+    left_off : (a b : Bool) → (a || b) ≡ false → a ≡ false
+    left_off true b e = absurd (false≢true (sym e))
+    left_off false b _ = refl
+
+    right_off : (a b : Bool) → (a || b) ≡ false → b ≡ false
+    right_off true b e = absurd (false≢true (sym e))
+    right_off false true e = absurd (false≢true (sym e))
+    right_off false false _ = refl
+
+-- up to where the key may change, it is that of the first row
+pub run_same : (columns : List Decoded) (changes : List Bool) (row end : ℕ) → end ≤ 1024 → ((n : ℕ) → n + 1 < 1024 → has changes (n + 1) ≡ false → map (λ d. decoded_at d (n + 1)) columns ≡ map (λ d. decoded_at d n) columns)
+    → ((k : ℕ) → row + 1 ≤ k → k < end → has changes k ≡ false) → (n : ℕ) → row ≤ n → n < end → map (λ d. decoded_at d n) columns ≡ map (λ d. decoded_at d row) columns
+run_same columns changes row end within same none n h l =
+    let there : n ≡ row + (n - row) = omega (arith, h) in
+    ap (λ k. map (λ d. decoded_at d k) columns) there ∙ steps (n - row) (omega (arith, h, l))
+  where
+    steps : (d : ℕ) → row + d < end → map (λ c. decoded_at c (row + d)) columns ≡ map (λ c. decoded_at c row) columns
+    steps zero _ = ap (λ k. map (λ c. decoded_at c k) columns) (let e : row + zero ≡ row = omega arith in e)
+    steps (suc d) before =
+        ap (λ k. map (λ c. decoded_at c k) columns) (let e : row + suc d ≡ (row + d) + 1 = omega arith in e) ∙ same (row + d) (omega (arith, before, within)) (none ((row + d) + 1) (omega arith) (omega (arith, before)))
+        ∙ steps d (omega (arith, before))
+
+-- the rows of a run
+pub run_rows : (mask rows : List Bool) (columns : List Decoded) (row end n : ℕ) → n < 1024 → ((k : ℕ) → k < row → has mask k ≡ false) → ((k : ℕ) → row ≤ k → k < end → map (λ d. decoded_at d k) columns ≡ map (λ d. decoded_at d row) columns)
+    → rows ≡ rows_of (λ k. cond (leb end k && ltb k 1024) false (has mask k)) → has rows n ≡ (has mask n && (ltb n end && same_cells (map (λ d. decoded_at d row) columns) (map (λ d. decoded_at d n) columns)))
+run_rows mask rows columns row end n l none same e =
+    ap (λ m. has m n) e ∙ has-rows_of (λ k. cond (leb end k && ltb k 1024) false (has mask k)) n l ∙ ap (λ b. cond (leb end n && b) false (has mask n)) (lt-ltb n 1024 l) ∙ by_end (ltb n end) refl
+  where
+    alike : Bool
+    alike = same_cells (map (λ d. decoded_at d row) columns) (map (λ d. decoded_at d n) columns)
+
+    nowhere : (a : Bool) → false ≡ (a && false)
+    nowhere true = refl
+    nowhere false = refl
+
+    there : (a : Bool) → a ≡ (a && true)
+    there true = refl
+    there false = refl
+
+    by_row : (b : Bool) → ltb n row ≡ b → n < end → has mask n ≡ (has mask n && alike)
+    by_row true f h = let off : has mask n ≡ false = none n (ltb-true n row f) in off ∙ ap (λ b. b && alike) (sym off)
+    by_row false f h = there (has mask n) ∙ ap (λ b. has mask n && b) (sym (ap (same_cells (map (λ d. decoded_at d row) columns)) (same n (ltb-false n row f) h) ∙ itself_row (map (λ d. decoded_at d row) columns)))
+
+    by_end : (b : Bool) → ltb n end ≡ b → cond (leb end n && true) false (has mask n) ≡ (has mask n && (ltb n end && alike))
+    by_end true f = ap (λ b. cond (b && true) false (has mask n)) (lt-leb end n (ltb-true n end f)) ∙ by_row (ltb n row) refl (ltb-true n end f) ∙ ap (λ b. has mask n && (b && alike)) (sym f)
+    by_end false f = ap (λ b. cond (b && true) false (has mask n)) (le-leb end n (ltb-false n end f)) ∙ nowhere (has mask n) ∙ ap (λ b. has mask n && (b && alike)) (sym f)
+
+-- all rows with a key are those below 1024
+pub all_below : (mask rows : List Bool) (n : ℕ) (b : Bool) → n < 1024 → has rows n ≡ (has mask n && b) → has rows n ≡ (has mask n && (ltb n 1024 && b))
+all_below mask rows n b l e = e ∙ ap (λ x. has mask n && (x && b)) (sym (lt-ltb n 1024 l))
+
 -- ---- the rows of a mask that have a key, and those that haven't
 any_at : (bs : List Bool) (n : ℕ) → get_or bs n false ≡ true → list_any (λ b. b) bs ≡ true
 any_at [] n e = absurd (false≢true e)
@@ -126,9 +203,52 @@ kept_of test p row (n ∷ ns) = one (p n) (test (row n)) refl ∙ ap (cons_optio
     one true true e = ap (λ x. cond x (row n ∷ filter test rest) (filter test rest)) e ∙ ap (λ x. cons_option (cond x (Some (row n)) None) (filter test rest)) (sym e)
     one true false e = ap (λ x. cond x (row n ∷ filter test rest) (filter test rest)) e ∙ ap (λ x. cons_option (cond x (Some (row n)) None) (filter test rest)) (sym e)
 
-nothing_of : (row : ℕ → Cells) (ns : List ℕ) → present (map (λ n. cond false (Some (row n)) None) ns) ≡ []
-nothing_of row [] = refl
-nothing_of row (n ∷ ns) = nothing_of row ns
+-- the rows that pass a test below an end, and then the others
+picked : (ℕ → Bool) → (ℕ → Cells) → List ℕ → List Cells
+picked p row ns = present (map (λ n. cond (p n) (Some (row n)) None) ns)
+
+none_below : (p : ℕ → Bool) (row : ℕ → Cells) (end k count : ℕ) → end ≤ k → picked (λ n. p n && ltb n end) row (range_with_len k count) ≡ []
+unfolding picked
+none_below p row end k zero h = refl
+none_below p row end k (suc count) h = ap (λ b. cons_option (cond b (Some (row k)) None) (picked (λ n. p n && ltb n end) row (range_with_len (k + 1) count))) (ap (λ b. p k && b) (le-ltb k end h) ∙ nowhere (p k)) ∙ none_below p row end (k + 1) count (omega (arith, h))
+  where
+    nowhere : (a : Bool) → (a && false) ≡ false
+    nowhere true = refl
+    nowhere false = refl
+
+all_after : (p : ℕ → Bool) (row : ℕ → Cells) (end k count : ℕ) → end ≤ k → picked (λ n. p n && not (ltb n end)) row (range_with_len k count) ≡ picked p row (range_with_len k count)
+unfolding picked
+all_after p row end k zero h = refl
+all_after p row end k (suc count) h =
+    ap (λ b. cons_option (cond b (Some (row k)) None) (picked (λ n. p n && not (ltb n end)) row (range_with_len (k + 1) count))) (ap (λ b. p k && not b) (le-ltb k end h) ∙ there (p k))
+    ∙ ap (cons_option (cond (p k) (Some (row k)) None)) (all_after p row end (k + 1) count (omega (arith, h)))
+  where
+    there : (a : Bool) → (a && true) ≡ a
+    there true = refl
+    there false = refl
+
+parted_at : (p : ℕ → Bool) (row : ℕ → Cells) (end k count : ℕ) → picked (λ n. p n && ltb n end) row (range_with_len k count) ++ picked (λ n. p n && not (ltb n end)) row (range_with_len k count) ≡ picked p row (range_with_len k count)
+unfolding picked
+parted_at p row end k zero = refl
+parted_at p row end k (suc count) = by_test (parted_at p row end (k + 1) count) (ltb k end) refl
+  where
+    front : List Cells
+    front = picked (λ n. p n && ltb n end) row (range_with_len (k + 1) count)
+
+    back : List Cells
+    back = picked (λ n. p n && not (ltb n end)) row (range_with_len (k + 1) count)
+
+    at_front : (b : Bool) → cons_option (cond (b && true) (Some (row k)) None) front ++ cons_option (cond (b && false) (Some (row k)) None) back ≡ cons_option (cond b (Some (row k)) None) (front ++ back)
+    at_front true = refl
+    at_front false = refl
+
+    by_test : front ++ back ≡ picked p row (range_with_len (k + 1) count) → (b : Bool) → ltb k end ≡ b → cons_option (cond (p k && ltb k end) (Some (row k)) None) front ++ cons_option (cond (p k && not (ltb k end)) (Some (row k)) None) back ≡ cons_option (cond (p k) (Some (row k)) None) (picked p row (range_with_len (k + 1) count))
+    by_test further true e =
+        ap (λ b. cons_option (cond (p k && b) (Some (row k)) None) front ++ cons_option (cond (p k && not b) (Some (row k)) None) back) e ∙ at_front (p k)
+        ∙ ap (cons_option (cond (p k) (Some (row k)) None)) further
+    by_test further false e =
+        let past : end ≤ k = ltb-false k end e in
+        ap (λ rows. rows ++ picked (λ n. p n && not (ltb n end)) row (range_with_len k (suc count))) (none_below p row end k (suc count) past) ∙ all_after p row end k (suc count) past
 
 module _ (by : List ℕ) (v : Vector) where
   key_at : ℕ → Cells
@@ -142,9 +262,9 @@ module _ (by : List ℕ) (v : Vector) where
   unfolding passing
   passing_like p q h = ap present (rows_of-alike (λ n. cond (p n) (Some (row_at v n)) None) (λ n. cond (q n) (Some (row_at v n)) None) None (λ n l. ap (λ b. cond b (Some (row_at v n)) None) (h n l)))
 
-  passing_none : (p : ℕ → Bool) → ((n : ℕ) → n < 1024 → p n ≡ false) → passing p ≡ []
-  unfolding passing rows_of
-  passing_none p h = passing_like p (λ _. false) h ∙ nothing_of (row_at v) (range_with_len 0 1024)
+  passing_parted : (p : ℕ → Bool) (end : ℕ) → passing (λ n. p n && ltb n end) ++ passing (λ n. p n && not (ltb n end)) ≡ passing p
+  unfolding passing rows_of picked
+  passing_parted p end = parted_at p (row_at v) end 0 1024
 
   with_key : (mask : List Bool) (q : Cells) → rows_with by (rows_at v mask) q ≡ passing (λ n. has mask n && same_cells q (key_at n))
   unfolding rows_with rows_at rows_of key_at passing
@@ -159,19 +279,22 @@ module _ (by : List ℕ) (v : Vector) where
   flagged mask q = flags_of (same_cells q) (has mask) (row_at v) by (range_with_len 0 1024)
 
   module _ (index : BTreeMap Cells ℕ) (mask : List Bool) (slice : Slice) (one : IsSlice by v index mask slice) (q : Cells) where
-    is_outside : (n : ℕ) → n < 1024 → has (rows_outside mask slice) n ≡ (has mask n && not (has mask n && same_cells one.key (key_at n)))
+    is_outside : (n : ℕ) → n < 1024 → has (rows_outside mask slice) n ≡ (has mask n && not (has mask n && (ltb n one.end && same_cells one.key (key_at n))))
     unfolding key_at
     is_outside n l = has-rows_of (λ n. has mask n && not (has slice.rows n)) n l ∙ ap (λ b. has mask n && not b) (one.rows n l)
 
-    -- no row outside a slice has its key
-    outside_same : same_cells q one.key ≡ true → (n : ℕ) → n < 1024 → (has (rows_outside mask slice) n && same_cells q (key_at n)) ≡ false
+    -- the rows with the slice's key that are outside it are those from its end on
+    outside_same : same_cells q one.key ≡ true → (n : ℕ) → n < 1024 → (has (rows_outside mask slice) n && same_cells q (key_at n)) ≡ ((has mask n && same_cells q (key_at n)) && not (ltb n one.end))
     outside_same e n l =
-        ap (λ b. b && same_cells q (key_at n)) (is_outside n l) ∙ ap (λ (k : Cells). (has mask n && not (has mask n && same_cells k (key_at n))) && same_cells q (key_at n)) (sym (one_row q one.key e)) ∙ never (has mask n) (same_cells q (key_at n))
+        ap (λ b. b && same_cells q (key_at n)) (is_outside n l)
+        ∙ ap (λ (k : Cells). (has mask n && not (has mask n && (ltb n one.end && same_cells k (key_at n)))) && same_cells q (key_at n)) (sym (one_row q one.key e)) ∙ after (has mask n) (ltb n one.end) (same_cells q (key_at n))
       where
-        never : (a b : Bool) → ((a && not (a && b)) && b) ≡ false
-        never true true = refl
-        never true false = refl
-        never false b = refl
+        after : (a c b : Bool) → ((a && not (a && (c && b))) && b) ≡ ((a && b) && not c)
+        after true true true = refl
+        after true true false = refl
+        after true false true = refl
+        after true false false = refl
+        after false c b = refl
 
     -- the rows outside a slice have the other keys
     outside_other : same_cells q one.key ≡ false → (n : ℕ) → n < 1024 → (has (rows_outside mask slice) n && same_cells q (key_at n)) ≡ (has mask n && same_cells q (key_at n))
@@ -183,15 +306,16 @@ module _ (by : List ℕ) (v : Vector) where
         nowhere false true = refl
         nowhere false false = refl
 
-        same : (a : Bool) → ((a && not (a && false)) && true) ≡ (a && true)
-        same true = refl
-        same false = refl
+        same : (a c : Bool) → ((a && not (a && (c && false))) && true) ≡ (a && true)
+        same true true = refl
+        same true false = refl
+        same false c = refl
 
-        by_test : (b : Bool) → same_cells q (key_at n) ≡ b → ((has mask n && not (has mask n && same_cells one.key (key_at n))) && b) ≡ (has mask n && b)
-        by_test false f = nowhere (has mask n && not (has mask n && same_cells one.key (key_at n))) (has mask n)
+        by_test : (b : Bool) → same_cells q (key_at n) ≡ b → ((has mask n && not (has mask n && (ltb n one.end && same_cells one.key (key_at n)))) && b) ≡ (has mask n && b)
+        by_test false f = nowhere (has mask n && not (has mask n && (ltb n one.end && same_cells one.key (key_at n)))) (has mask n)
         by_test true f =
             let apart : same_cells one.key (key_at n) ≡ false = ap (same_cells one.key) (sym (one_row q (key_at n) f)) ∙ turned q one.key e in
-            ap (λ b. (has mask n && not (has mask n && b)) && true) apart ∙ same (has mask n)
+            ap (λ b. (has mask n && not (has mask n && (ltb n one.end && b))) && true) apart ∙ same (has mask n) (ltb n one.end)
 
     -- a key occurs where it is the slice's, or occurs outside
     pub occurs_parted : (row : ℕ) → row < 1024 → has mask row ≡ true → one.key ≡ key_of by (row_at v row) → (same_cells q one.key || occurs_in by v q (rows_outside mask slice)) ≡ occurs_in by v q mask
@@ -205,13 +329,22 @@ module _ (by : List ℕ) (v : Vector) where
         by_test false e =
             flagged (rows_outside mask slice) q ∙ ap (list_any (λ b. b)) (rows_of-like (λ n. has (rows_outside mask slice) n && same_cells q (key_at n)) (λ n. has mask n && same_cells q (key_at n)) (outside_other e)) ∙ sym (flagged mask q)
 
-    -- the rows with the slice's key are its own
-    pub rows_same : same_cells q one.key ≡ true → rows_at v slice.rows ≡ rows_with by (rows_at v mask) q
+    -- the rows with the slice's key are its own, and then those outside it
+    pub rows_same : same_cells q one.key ≡ true → rows_at v slice.rows ++ rows_with by (rows_at v (rows_outside mask slice)) q ≡ rows_with by (rows_at v mask) q
     unfolding key_at
-    rows_same e = all_of slice.rows ∙ passing_like (has slice.rows) (λ n. has mask n && same_cells q (key_at n)) (λ n l. one.rows n l ∙ ap (λ (k : Cells). has mask n && same_cells k (key_at n)) (sym (one_row q one.key e))) ∙ sym (with_key mask q)
-
-    pub rows_none : same_cells q one.key ≡ true → rows_with by (rows_at v (rows_outside mask slice)) q ≡ []
-    rows_none e = with_key (rows_outside mask slice) q ∙ passing_none (λ n. has (rows_outside mask slice) n && same_cells q (key_at n)) (outside_same e)
+    rows_same e =
+        let test : ℕ → Bool = λ n. has mask n && same_cells q (key_at n) in
+        ap (λ rows. rows ++ rows_with by (rows_at v (rows_outside mask slice)) q)
+        (all_of slice.rows ∙ passing_like (has slice.rows) (λ n. test n && ltb n one.end) (λ n l. one.rows n l ∙ ap (λ (k : Cells). has mask n && (ltb n one.end && same_cells k (key_at n))) (sym (one_row q one.key e)) ∙ first (has mask n) (ltb n one.end) (same_cells q (key_at n))))
+        ∙ ap (λ rows. passing (λ n. test n && ltb n one.end) ++ rows) (with_key (rows_outside mask slice) q ∙ passing_like (λ n. has (rows_outside mask slice) n && same_cells q (key_at n)) (λ n. test n && not (ltb n one.end)) (outside_same e))
+        ∙ passing_parted test one.end ∙ sym (with_key mask q)
+      where
+        first : (a c b : Bool) → (a && (c && b)) ≡ ((a && b) && c)
+        first true true true = refl
+        first true true false = refl
+        first true false true = refl
+        first true false false = refl
+        first false c b = refl
 
     pub rows_other : same_cells q one.key ≡ false → rows_with by (rows_at v (rows_outside mask slice)) q ≡ rows_with by (rows_at v mask) q
     rows_other e = with_key (rows_outside mask slice) q ∙ passing_like (λ n. has (rows_outside mask slice) n && same_cells q (key_at n)) (λ n. has mask n && same_cells q (key_at n)) (outside_other e) ∙ sym (with_key mask q)
@@ -229,7 +362,7 @@ grown_more old mid new g h = record {
     one q p none e (Some r) m = let same : r ≡ p = some_same (sym (h.kept q r m) ∙ e) in omega (arith, g.fresh q r none m, same)
 
 slice_grown : (by : List ℕ) (v : Vector) (mid new : BTreeMap Cells ℕ) (mask : List Bool) (slice : Slice) → IsGrown mid new → IsSlice by v mid mask slice → IsSlice by v new mask slice
-slice_grown by v mid new mask slice grown h = record { key = h.key; placed = grown.kept h.key slice.place h.placed; rows = h.rows }
+slice_grown by v mid new mask slice grown h = record { key = h.key; end = h.end; placed = grown.kept h.key slice.place h.placed; rows = h.rows }
 
 pub parted_grown : (by : List ℕ) (v : Vector) (mid new : BTreeMap Cells ℕ) (mask left : List Bool) (slices : List Slice) → IsGrown mid new → AreParted by v mid mask slices left → AreParted by v new mask slices left
 parted_grown by v mid new mask left [] grown h = h
@@ -242,10 +375,10 @@ parted_push by v new mask left (s ∷ ss) slice one h = (h.0, parted_push by v n
 pub sliced_none : (by : List ℕ) (v : Vector) (mask : List Bool) (m : BTreeMap Cells ℕ) (slices : List Slice) → slices ≡ [] → AreSliced by v mask mask m m slices
 sliced_none by v mask m slices e = subst (AreSliced by v mask mask m m) (sym e) (record { grown = grown_same m; parted = refl; occurs = λ q. refl })
 
-pub sliced_more : (by : List ℕ) (v : Vector) (mask left next : List Bool) (old mid new : BTreeMap Cells ℕ) (slices after : List Slice) (slice : Slice) (key : Cells) (row : ℕ) → AreSliced by v mask left old mid slices → row < 1024 → has left row ≡ true → key ≡ key_of by (row_at v row) → IsTakenIn key slice.place mid new
-    → ((n : ℕ) → n < 1024 → has slice.rows n ≡ (has left n && same_cells key (key_of by (row_at v n)))) → next ≡ rows_outside left slice → after ≡ slices ++ slice ∷ [] → AreSliced by v mask next old new after
-sliced_more by v mask left next old mid new slices after slice key row h l on is t rows e f =
-    let one : IsSlice by v new left slice = record { key = key; placed = t.now; rows = rows } in
+pub sliced_more : (by : List ℕ) (v : Vector) (mask left next : List Bool) (old mid new : BTreeMap Cells ℕ) (slices after : List Slice) (slice : Slice) (key : Cells) (row end : ℕ) → AreSliced by v mask left old mid slices → row < 1024 → has left row ≡ true → key ≡ key_of by (row_at v row) → IsTakenIn key slice.place mid new
+    → ((n : ℕ) → n < 1024 → has slice.rows n ≡ (has left n && (ltb n end && same_cells key (key_of by (row_at v n))))) → next ≡ rows_outside left slice → after ≡ slices ++ slice ∷ [] → AreSliced by v mask next old new after
+sliced_more by v mask left next old mid new slices after slice key row end h l on is t rows e f =
+    let one : IsSlice by v new left slice = record { key = key; end = end; placed = t.now; rows = rows } in
     subst (λ (m : List Bool). AreSliced by v mask m old new after) (sym e)
     (subst (AreSliced by v mask (rows_outside left slice) old new) (sym f)
     (record {
@@ -289,7 +422,7 @@ shared_with by v index places left q g apart is last mask (s ∷ ss) h = by_test
         let here : (s.place == g) ≡ true = (Decides-eqb s.place g).1 (some_same (sym h.0.placed ∙ ap (get key_cmp index) (sym (one_row q h.0.key e)) ∙ is)) in
         append_assoc (cond (s.place == g) (rows_at v s.rows) []) (rows_sliced v ss g) (rows_placed 1024 v left places g)
         ∙ ap (λ b. cond b (rows_at v s.rows) [] ++ rest) here
-        ∙ ap (λ l. rows_at v s.rows ++ l) (further ∙ rows_none by v index mask s h.0 q e) ∙ append-nil (rows_at v s.rows) ∙ rows_same by v index mask s h.0 q e
+        ∙ ap (λ l. rows_at v s.rows ++ l) further ∙ rows_same by v index mask s h.0 q e
     by_test further false e =
         let away : (s.place == g) ≡ false = by_place (s.place == g) refl e in
         ap (λ b. (cond b (rows_at v s.rows) [] ++ rows_sliced v ss g) ++ rows_placed 1024 v left places g) away ∙ further ∙ rows_other by v index mask s h.0 q e

@@ -1,8 +1,9 @@
--- Slices of a vector: the rows with one key, and the place of its group.
-use Rattle.std.specs.Prelude.{◌≡◌, ℕ, ◌==◌, ◌+◌, ◌*◌, ◌^◌, ◌<◌, Bool, true, not, ◌&&◌, ◌||◌, cond, List, [], ◌∷◌, ◌++◌, length, map, slice_index_or, Option, Some, None, ℤ, pos, ◌+ℤ◌}
+-- Slices of a vector: rows with one key, and the place of its group.
+use Rattle.std.specs.Prelude.{◌≡◌, ℕ, zero, suc, ◌==◌, ◌+◌, ◌*◌, ◌^◌, ◌<◌, Bool, true, false, not, nat_lt, ◌&&◌, ◌||◌, cond, List, [], ◌∷◌, ◌++◌, length, map, slice_index_or, Option, Some, None, ℤ, pos, ◌+ℤ◌}
 use Rattle.std.specs.List.{list_any, range_with_len}
 use Rattle.std.specs.BTreeMap.{BTreeMap, get}
 use Rattle.std.specs.Option.{is_some}
+use Rattle.std.specs.Ordering.{int_eq}
 use Rattle.table_model.specs.Group.{key_cmp, key_of}
 use Rattle.table_model.specs.State.{Cells, same_cells}
 use Rattle.table_model.specs.Values.{present, total}
@@ -25,21 +26,41 @@ value_of rows values n = cond (has rows n) (Some (slice_index_or values n (pos 0
 abbrev pub values_below : ℕ → List Bool → List ℤ → List ℤ
 values_below k rows values = present (map (value_of rows values) (range_with_len 0 k))
 
+-- whether the value at a row isn't that of the row before; row 0 has none before it
+abbrev pub differs_at : List ℤ → ℕ → Bool
+differs_at values zero = false
+differs_at values (suc n) = not (int_eq (slice_index_or values n (pos 0)) (slice_index_or values (suc n) (pos 0)))
+
+-- a number is the sum of the values at the rows of a mask below k, each raised by so much
+abbrev pub IsRaised : ℕ → ℕ → List Bool → List ℤ → ℕ → Type 0
+IsRaised by k rows values sum = pos sum ≡ total (values_below k rows values) +ℤ pos (by * length (values_below k rows values))
+
 -- two sums are those of the halves of the values at the rows of a mask below k, raised by 2 to the power of 63 each
 abbrev pub AreHalves : ℕ → List Bool → List ℤ → ℕ → ℕ → Type 0
-AreHalves k rows values low high = pos (low + 2 ^ 32 * high) ≡ total (values_below k rows values) +ℤ pos (2 ^ 63 * length (values_below k rows values))
+AreHalves k rows values low high = IsRaised (2 ^ 63) k rows values (low + 2 ^ 32 * high)
 
--- a slice has the rows of a mask with one key, and that key's place
+-- a value is short: raised by 2 to the power of 52, it is a number of 53 bits, so that no sum of 1024 short ones wraps
+pub record IsShort (value : ℤ) : Type 0 where
+  pub raised : ℕ
+  pub below : raised < 2 ^ 53
+  pub is : pos raised ≡ value +ℤ pos (2 ^ 52)
+
+-- each of 1024 values is short
+abbrev pub AreShort : List ℤ → Type 0
+AreShort values = (n : ℕ) → n < 1024 → IsShort (slice_index_or values n (pos 0))
+
+-- a slice has the rows of a mask with one key below an end, and that key's place
 pub record IsSlice (by : List ℕ) (v : Vector) (index : BTreeMap Cells ℕ) (mask : List Bool) (slice : Slice) : Type 0 where
   pub key : Cells
+  pub end : ℕ
   pub placed : get key_cmp index key ≡ Some slice.place
-  pub rows : (n : ℕ) → n < 1024 → has slice.rows n ≡ (has mask n && same_cells key (key_of by (row_at v n)))
+  pub rows : (n : ℕ) → n < 1024 → has slice.rows n ≡ (has mask n && (nat_lt n end && same_cells key (key_of by (row_at v n))))
 
 -- the rows of a mask that aren't in a slice
 abbrev pub rows_outside : List Bool → Slice → List Bool
 rows_outside mask slice = rows_of (λ n. has mask n && not (has slice.rows n))
 
--- slices part the rows of a mask: each has those with its key of the rows in none before it, and the rows in none are left
+-- slices part the rows of a mask: each has those with its key, below its end, of the rows in none before it, and the rows in none are left
 abbrev pub AreParted : List ℕ → Vector → BTreeMap Cells ℕ → List Bool → List Slice → List Bool → Type 0
 AreParted by v index mask [] left = mask ≡ left
 AreParted by v index mask (slice ∷ slices) left = IsSlice by v index mask slice × AreParted by v index (rows_outside mask slice) slices left

@@ -1,5 +1,5 @@
 //! Decoded columns: their rows one by one, for the predicates that no kernel answers, and the rows with one cell.
-ghost use Rattle.std.specs.Prelude.{◌≡◌, ◌<◌, ◌≤◌, ◌+◌, ℕ};
+ghost use Rattle.std.specs.Prelude.{◌≡◌, ◌<◌, ◌≤◌, ◌+◌, ℕ, false};
 ghost use Rattle.table_model.specs.State.{same_cell};
 ghost use Rattle.transpose_order.specs.Mask.{has};
 ghost use Rattle.query_eval.specs.Decoded.{decoded_at};
@@ -7,7 +7,7 @@ ghost use Rattle.query_eval.specs.Side.{side_at, side_mentions, HasColumn};
 ghost use Rattle.query_eval.specs.Vector.{IsThere, vector_at};
 
 use crate::columns::Columns;
-use crate::masked_folds::equal_rows;
+use crate::masked_folds::{changed_rows, equal_rows};
 use crate::side::Side;
 use transpose_order::Mask;
 
@@ -51,6 +51,22 @@ impl Decoded {
                 }
             }
             Decoded::Fixed(_) => Mask::all(),
+        }
+    }
+
+    /// The rows where the cell may differ from that of the row before: in a column without nulls, where the value differs.
+    pub fn changes(&self) -> Mask
+        ensures { (n : ℕ) → n + 1 < 1024 → has result (n + 1) ≡ false → decoded_at self.now (n + 1) ≡ decoded_at self.now n }
+    {
+        match self {
+            Decoded::Column { nulls, values } => {
+                if nulls.next_true(0) == 1024 {
+                    changed_rows(values)
+                } else {
+                    Mask::all()
+                }
+            }
+            Decoded::Fixed(_) => Mask::none(),
         }
     }
 }

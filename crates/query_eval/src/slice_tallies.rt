@@ -1,8 +1,8 @@
 //! Tallies, a group each, as the slices of a vector's rows come: one step a slice.
-ghost use Rattle.std.specs.Prelude.{◌≡◌, ◌==◌, ◌<◌, ◌++◌, [], ℕ, List, ℤ, cond, length, slice_index_or, OnOk};
+ghost use Rattle.std.specs.Prelude.{◌≡◌, ◌==◌, ◌<◌, ◌++◌, [], ℕ, List, ℤ, cond, length, slice_index_or, true, OnOk};
 ghost use Rattle.table_model.specs.State.{Cells};
 ghost use Rattle.query_eval.specs.Grouping.{AreCells, AreNulls, IsHeld};
-ghost use Rattle.query_eval.specs.Slices.{rows_sliced, values_at};
+ghost use Rattle.query_eval.specs.Slices.{AreShort, rows_sliced, values_at};
 ghost use Rattle.query_eval.specs.Tally.{IsTally, kind_of};
 ghost use Rattle.query_eval.specs.TallyKinds.{aggregate_kind};
 ghost use Rattle.query_eval.specs.Vector.{Vector};
@@ -26,19 +26,21 @@ fn count_more(tallies: &mut Vec<Tally>, place: usize, more: usize)
     }
 }
 
-/// Takes the values at the rows of a mask into the tally at a place.
+/// Takes the values at the rows of a mask into the tally at a place. The values are short where `short` says so.
 fn add_slice(
     tallies: &mut Vec<Tally>,
     place: usize,
     values: &[i64; 1024],
+    short: bool,
     rows: &Mask,
 ) -> Result<(), AllocError>
+    requires { short ≡ true → AreShort values.now }
     ensures size { OnOk result (length tallies.new.items ≡ length tallies.old.items) }
     ensures values { OnOk result ((g : ℕ) (t : ATally) (before : List ℤ) → g < length tallies.old.items → IsTally before (slice_index_or tallies.old.items g t) → IsTally (before ++ cond (place == g) (values_at rows.now values.now) []) (slice_index_or tallies.new.items g t)) }
     ensures kind { OnOk result ((g : ℕ) (t : ATally) → g < length tallies.old.items → kind_of (slice_index_or tallies.new.items g t) ≡ kind_of (slice_index_or tallies.old.items g t)) }
 {
     if place < tallies.len() {
-        tallies[place].add_rows(values, rows)?;
+        tallies[place].add_rows(values, short, rows)?;
     }
     Ok(())
 }
@@ -54,19 +56,22 @@ pub fn count_slices(tallies: &mut Vec<Tally>, slices: &[Slice], nulls: &Mask)
     }
 }
 
-/// Takes the values at the rows of slices, but for the nulls, into the tallies at their places, of any kind.
+/// Takes the values at the rows of slices, but for the nulls, into the tallies at their places, of any kind. The values are short
+/// where `short` says so.
 pub fn add_slices(
     tallies: &mut Vec<Tally>,
     values: &[i64; 1024],
+    short: bool,
     slices: &[Slice],
     nulls: &Mask,
 ) -> Result<(), AllocError>
+    requires { short ≡ true → AreShort values.now }
     ensures size { OnOk result (length tallies.new.items ≡ length tallies.old.items) }
     ensures held { OnOk result ((a : AnAggregate) (v : Vector) → AreCells a v nulls.now values.now → (g : ℕ) (t : ATally) (taken : List Cells) → g < length tallies.old.items → IsHeld taken a (slice_index_or tallies.old.items g t) → IsHeld (taken ++ rows_sliced v slices.now g) a (slice_index_or tallies.new.items g t)) }
 {
     for slice in slices {
         let rows = slice.rows.and_not(nulls);
-        add_slice(tallies, slice.place, values, &rows)?;
+        add_slice(tallies, slice.place, values, short, &rows)?;
     }
     Ok(())
 }

@@ -1,10 +1,10 @@
 //! The tallies of an aggregate, a group each, as the rows of a vector come.
-ghost use Rattle.std.specs.Prelude.{◌≡◌, ◌<◌, ◌≤◌, ◌+◌, ◌++◌, [], ℕ, List, Bool, length, slice_index_or, sum_by, OnOk};
+ghost use Rattle.std.specs.Prelude.{◌≡◌, ◌<◌, ◌≤◌, ◌+◌, ◌++◌, [], ℕ, List, Bool, length, slice_index_or, sum_by, true, OnOk};
 ghost use Rattle.std.specs.Global.{Vec as Items};
 ghost use Rattle.query_eval.specs.Grouping.{AreCells, AreNulls, IsHeld, IsTaken};
 ghost use Rattle.query_eval.specs.QueryMentions.{aggregate_mentions};
 ghost use Rattle.table_model.specs.State.{Cells};
-ghost use Rattle.query_eval.specs.Slices.{rows_shared};
+ghost use Rattle.query_eval.specs.Slices.{AreShort, rows_shared};
 ghost use Rattle.query_eval.specs.TallyKinds.{aggregate_kind, fold_kind};
 ghost use Rattle.query_eval.specs.Vector.{IsThere, Vector, vector_at};
 ghost use Rattle.query_eval.specs.declared.aggregate.Aggregate.{Aggregate as AnAggregate};
@@ -16,6 +16,7 @@ ghost use Rattle.query_eval.specs.declared.tally.TallyKind.TheVariants as kinds;
 use crate::aggregate::Aggregate;
 use crate::columns::Columns;
 use crate::kept::KeptVector;
+use crate::masked_folds::are_short;
 use crate::slice_tallies::{add_slices, count_slices};
 use crate::split::Split;
 use crate::tally::{Tally, TallyKind};
@@ -68,6 +69,16 @@ fn add_groups(
     Ok(())
 }
 
+/// Whether values are short, which only sums ask for; else false.
+fn short_sums(kind: TallyKind, values: &[i64; 1024]) -> bool
+    ensures { result ≡ true → AreShort values.now }
+{
+    match kind {
+        TallyKind::Sum => are_short(values),
+        TallyKind::Count | TallyKind::Least | TallyKind::Greatest | TallyKind::Distinct => false,
+    }
+}
+
 /// Counts the rows of a split, but for the nulls, in the tallies at their places.
 fn count_split(tallies: &mut Vec<Tally>, split: &Split, nulls: &Mask)
     ensures size { length tallies.new.items ≡ length tallies.old.items }
@@ -92,7 +103,8 @@ fn add_split(
     ensures size { OnOk result (length tallies.new.items ≡ length tallies.old.items) }
     ensures held { OnOk result ((a : AnAggregate) (v : Vector) → kind ≡ aggregate_kind a → AreCells a v nulls.now values.now → (g : ℕ) (t : ATally) (taken : List Cells) → g < length tallies.old.items → IsHeld taken a (slice_index_or tallies.old.items g t) → IsHeld (taken ++ rows_shared v split.now g) a (slice_index_or tallies.new.items g t)) }
 {
-    add_slices(tallies, values, split.slices.as_slice(), nulls)?;
+    let short = short_sums(kind, values);
+    add_slices(tallies, values, short, split.slices.as_slice(), nulls)?;
     if split.left.next_true(0) == 1024 {
         return Ok(());
     }

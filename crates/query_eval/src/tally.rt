@@ -6,7 +6,7 @@ ghost use Rattle.std.specs.Int.{w128};
 ghost use Rattle.table_model.specs.Meaning.{fold_value, once_if};
 ghost use Rattle.table_model.specs.Values.{distinct};
 ghost use Rattle.table_model.proofs.Bounds.{AreSmall};
-ghost use Rattle.query_eval.specs.Slices.{values_at};
+ghost use Rattle.query_eval.specs.Slices.{AreShort, values_at};
 ghost use Rattle.query_eval.specs.Tally.{AreTold, IsTally, kind_of};
 ghost use Rattle.query_eval.specs.declared.tally.TallyKind.TheVariants as kinds;
 ghost use Rattle.query_eval.specs.TallyKinds.{fold_kind};
@@ -103,12 +103,13 @@ impl Sums {
         self.sum = added(self.sum, i128::from(more));
     }
 
-    /// Takes in the values at the rows of a mask.
-    fn add_rows(&mut self, values: &[i64; 1024], rows: &Mask)
+    /// Takes in the values at the rows of a mask, which are short where `short` says so.
+    fn add_rows(&mut self, values: &[i64; 1024], short: bool, rows: &Mask)
+        requires { short ≡ true → AreShort values.now }
         ensures { (before : List ℤ) → AreTold before self.old → AreTold (before ++ values_at rows.now values.now) self.new }
     {
         self.count = self.count.saturating_add(count_at(rows) as u64);
-        self.sum = added(self.sum, sum_at(values, rows));
+        self.sum = added(self.sum, sum_at(values, short, rows));
     }
 
     /// AVG of the values, where the fold is that, and else SUM.
@@ -211,14 +212,20 @@ impl Tally {
         Ok(())
     }
 
-    /// Takes in the values at the rows of a mask.
-    pub fn add_rows(&mut self, values: &[i64; 1024], rows: &Mask) -> Result<(), AllocError>
+    /// Takes in the values at the rows of a mask, which are short where `short` says so.
+    pub fn add_rows(
+        &mut self,
+        values: &[i64; 1024],
+        short: bool,
+        rows: &Mask,
+    ) -> Result<(), AllocError>
+        requires { short ≡ true → AreShort values.now }
         ensures values { OnOk result ((before : List ℤ) → IsTally before self.old → IsTally (before ++ values_at rows.now values.now) self.new) }
         ensures kind { kind_of self.new ≡ kind_of self.old }
     {
         match self {
             Tally::Count(count) => *count = count.saturating_add(count_at(rows) as u64),
-            Tally::Sum(sums) => sums.add_rows(values, rows),
+            Tally::Sum(sums) => sums.add_rows(values, short, rows),
             Tally::Least(least) => *least = lesser(*least, least_at(values, rows)),
             Tally::Greatest(greatest) => *greatest = greater(*greatest, greatest_at(values, rows)),
             Tally::Distinct(seen) => add_values(seen, rows, values)?,

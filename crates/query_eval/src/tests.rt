@@ -205,3 +205,38 @@ fn groups_of_two_columns_in_slices_and_one_by_one(rt: HostRuntime) -> Result<(),
     assert!(rt; passes <= 10);
     Ok(())
 }
+
+/// Eleven runs of up to 100 rows with three keys in turn, and beside them values of which the last 76, in the second vector, are
+/// long.
+fn rows_of_runs() -> [Columns2; 1100] {
+    let mut rows = [[None, None]; 1100];
+    for n in 0..1100 {
+        let row = n as i128;
+        let value = if n < 1024 {
+            row - 500
+        } else {
+            (row % 3 - 1) * (1 << 60) + row
+        };
+        let cell = if n % 7 == 0 { None } else { Some(value) };
+        rows[n] = [Some(row / 100 % 3), cell];
+    }
+    rows
+}
+
+// Each run is a slice. The sums of the second vector's values are of long ones.
+#[test]
+fn groups_in_runs_of_rows(rt: HostRuntime) -> Result<(), Fail> {
+    let alloc = rt.alloc();
+    let mut columns = columns_of(alloc, &rows_of_runs())?;
+    let values = vec![in alloc;
+        grouped(alloc, "A")?,
+        ItemValue::Computed(SetFunction::CountRows),
+        function(alloc, Fold::Sum, "B")?,
+        function(alloc, Fold::Max, "B")?,
+    ]?;
+    let query = query(alloc, values, &["A"])?;
+    let (written, passes) = answered(alloc, &mut columns, &query)?;
+    assert_eq!(rt; written.as_str(), "A,COUNT(*),SUM(B),MAX(B)\n0,400,471,499\n1,400,1152921504606912863,1152921504606848073\n2,300,12771,399\n");
+    assert!(rt; passes <= 8);
+    Ok(())
+}

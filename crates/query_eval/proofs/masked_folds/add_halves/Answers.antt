@@ -34,5 +34,5 @@ loop-bit-preserved c =
       high = omega (arith, inv.high, below);
       value = λ rows on h.
           subst (λ (k : ℕ). AreHalves k rows values (c.loop-bit.low + bit_and n 4294967295) (c.loop-bit.high + n / 2 ^ 32)) next
-          (raised_more c.is_set.result row (c.loop-bit.low + 2 ^ 32 * c.loop-bit.high) _ n (get_or values row (pos 0)) rows values (sym (on bit c.loop-bit-test.true) ∙ sym c.is_set.ensures) (inv.value rows on h) one more);
+          (raised_more (2 ^ 63) c.is_set.result row (c.loop-bit.low + 2 ^ 32 * c.loop-bit.high) _ n rows values (sym (on bit c.loop-bit-test.true) ∙ sym c.is_set.ensures) (inv.value rows on h) one more);
     }
