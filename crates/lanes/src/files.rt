@@ -1,6 +1,6 @@
 //! What the program does with files.
-use crate::fault::Fault;
 use column_file::export;
+use command_line::Fault;
 use lanes_main::{check_file, query_file_with_notes};
 use replica_store::Store;
 use std::fs::{self, Files};
@@ -40,16 +40,32 @@ pub fn merge<R: Print + Files + AllocGlobal>(
     out: &str,
     names: &[&str],
 ) -> Result<(), Fault> {
+    let store = merged(rt, names)?;
+    write_file(rt, out, &store)?;
+    Counted::new(io::writer(rt)).write_whole(b"ok\n")?;
+    Ok(())
+}
+
+/// The store of what all of some files hold, of which there is at least one.
+fn merged<R: Files + AllocGlobal>(rt: &R, names: &[&str]) -> Result<Store, Refusal> {
     let Some((first, others)) = names.split_first() else {
-        return Err(Fault::from(Refusal::ReadFault));
+        return Err(Refusal::ReadFault);
     };
     let mut store = opened(rt, first)?;
     for name in others {
-        let other = opened(rt, name)?;
-        store.merge(rt.alloc(), &other)?;
+        merge_file(rt, &mut store, name)?;
     }
-    write_file(rt, out, &store)?;
-    Counted::new(io::writer(rt)).write_whole(b"ok\n")?;
+    Ok(store)
+}
+
+/// Merges what a canonical file holds into a store.
+fn merge_file<R: Files + AllocGlobal>(
+    rt: &R,
+    store: &mut Store,
+    name: &str,
+) -> Result<(), Refusal> {
+    let other = opened(rt, name)?;
+    store.merge(rt.alloc(), &other)?;
     Ok(())
 }
 

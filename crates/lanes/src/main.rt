@@ -1,14 +1,9 @@
 //! The program `lanes`: runs scripts of a replicated column store.
 #![tactic(auto)]
 
-mod command_line;
-mod fault;
 mod files;
-#[cfg(test)]
-mod tests;
 
-use crate::command_line::{Request, Source};
-use crate::fault::Fault;
+use command_line::{Fault, Request, Source};
 use lanes_main::{script, script_with_notes};
 use std::fs::{self, Files};
 use std::io::{self, IsTerminal, Read, Write};

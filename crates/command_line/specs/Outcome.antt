@@ -4,8 +4,8 @@ use Rattle.clap.specs.Values.{kind_of}
 use Rattle.clap.specs.declared.error.Error.{Error}
 use Rattle.clap.specs.declared.error.kind.ErrorKind.{ErrorKind}
 use Rattle.clap.specs.declared.error.kind.ErrorKind.TheVariants as kinds
-use Rattle.lanes.specs.declared.fault.Fault.{Fault}
-use Rattle.lanes.specs.declared.fault.Fault.TheVariants.{CommandLine, Refused}
+use Rattle.command_line.specs.declared.fault.Fault.{Fault}
+use Rattle.command_line.specs.declared.fault.Fault.TheVariants.{CommandLine, Refused}
 use Rattle.table_model.specs.declared.refusal.Refusal.TheVariants.{Memory}
 
 -- memory that lacked is a refusal; all else is the command line's

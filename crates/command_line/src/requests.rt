@@ -1,7 +1,7 @@
 //! The command line, read by `clap`.
 ghost use Rattle.std.specs.Prelude.{◌≡◌, IfErr};
 ghost use Rattle.std.specs.IoError.{error_kind};
-ghost use Rattle.lanes.specs.Outcome.{IsUnread};
+ghost use Rattle.command_line.specs.Outcome.{IsUnread};
 
 use crate::fault::Fault;
 use clap::{Arg, ArgAction, ArgMatches, Command, error};
@@ -199,11 +199,17 @@ fn query_command<'a>(alloc: Global) -> Result<Command<'a>, AllocError> {
 
 /// The program's commands.
 pub(crate) fn commands<'a>(alloc: Global) -> Result<Command<'a>, AllocError> {
-    Command::new(alloc, "lanes")
+    let command = Command::new(alloc, "lanes")
         .about("A replicated column store for one table of nullable integer columns")
         .version(VERSION)
         .subcommand_required(true)
-        .subcommand(run_command(alloc)?)?
+        .subcommand(run_command(alloc)?)?;
+    with_file_commands(alloc, command)
+}
+
+/// A command with those on files.
+fn with_file_commands<'a>(alloc: Global, command: Command<'a>) -> Result<Command<'a>, AllocError> {
+    command
         .subcommand(check_command(alloc)?)?
         .subcommand(merge_command(alloc)?)?
         .subcommand(query_command(alloc)?)

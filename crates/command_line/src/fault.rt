@@ -1,8 +1,8 @@
 //! Why the program fails, and how it says so.
 ghost use Rattle.std.specs.Prelude.{◌≡◌};
 ghost use Rattle.std.specs.Process.{exit_status};
-ghost use Rattle.lanes.specs.Outcome.{EndsWith, fault_of};
-ghost use Rattle.lanes.specs.declared.fault.Fault.TheVariants.{Refused};
+ghost use Rattle.command_line.specs.Outcome.{EndsWith, fault_of};
+ghost use Rattle.command_line.specs.declared.fault.Fault.TheVariants.{Refused};
 ghost use Rattle.table_model.specs.declared.refusal.Refusal.TheVariants.{Memory};
 
 use clap::error::ErrorKind;

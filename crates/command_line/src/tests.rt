@@ -1,6 +1,6 @@
 //! The texts of help, of faults of the command line and of refusals, as a user sees them.
 
-use crate::command_line::commands;
+use crate::requests::commands;
 use crate::fault::Fault;
 use std::alloc::Global;
 use std::test::Fail;
