@@ -44,7 +44,7 @@ pub(crate) fn offer_from(alloc: Global, bytes: &[u8]) -> Result<Offer, Refusal> 
 }
 
 /// Whether this is a store's file.
-pub(crate) fn is_export(alloc: Global, store: &Store, bytes: &[u8]) -> Result<bool, Refusal> {
+fn is_export(alloc: Global, store: &Store, bytes: &[u8]) -> Result<bool, Refusal> {
     let mut writer = Counted::new(Vec::new(alloc));
     export(alloc, store, &mut writer)?;
     Ok(writer.into_inner().as_slice() == bytes)
@@ -57,10 +57,15 @@ fn is_written(alloc: Global, offer: &Offer, bytes: &[u8]) -> Result<bool, Refusa
     Ok(writer.into_inner().as_slice() == bytes)
 }
 
-/// Whether these are the bytes of a store's offer to one that holds nothing.
-pub(crate) fn is_offered(alloc: Global, store: &Store, bytes: &[u8]) -> Result<bool, Refusal> {
+/// What a store offers to one that holds nothing.
+pub(crate) fn offer_of(alloc: Global, store: &Store) -> Result<Offer, Refusal> {
     let nothing = Summary::empty(alloc, store.schema())?;
-    let offer = store.offer(alloc, &nothing)?;
+    store.offer(alloc, &nothing)
+}
+
+/// Whether these are the bytes of a store's offer to one that holds nothing.
+fn is_offered(alloc: Global, store: &Store, bytes: &[u8]) -> Result<bool, Refusal> {
+    let offer = offer_of(alloc, store)?;
     is_written(alloc, &offer, bytes)
 }
 
@@ -159,14 +164,25 @@ const CANONICAL: &[(Change, usize, u32, u64)] = &[
     ),
 ];
 
+/// Whether a file is checked so.
+fn is_checked(alloc: Global, bytes: &[u8], checked: Checked) -> bool {
+    check(alloc, &mut Counted::new(bytes)) == Ok(checked)
+}
+
+/// Whether these are a store's file, and its offer to one that holds nothing.
+fn is_told(alloc: Global, store: &Store, bytes: &[u8]) -> Result<bool, Refusal> {
+    Ok(is_export(alloc, store, bytes)? && is_offered(alloc, store, bytes)?)
+}
+
+/// Whether a file is exported and offered again by the store that it opens to.
+fn is_told_again(alloc: Global, bytes: &[u8]) -> Result<bool, Refusal> {
+    let store = opened(alloc, bytes)?;
+    is_told(alloc, &store, bytes)
+}
+
 /// Whether a file is checked so, and exported and offered again by the store that it opens to.
 fn comes_back(alloc: Global, bytes: &[u8], checked: Checked) -> Result<bool, Refusal> {
-    let store = opened(alloc, bytes)?;
-    Ok(
-        check(alloc, &mut Counted::new(bytes)) == Ok(checked)
-            && is_export(alloc, &store, bytes)?
-            && is_offered(alloc, &store, bytes)?,
-    )
+    Ok(is_checked(alloc, bytes, checked) && is_told_again(alloc, bytes)?)
 }
 
 #[test]
@@ -469,10 +485,21 @@ fn is_offer_alone(alloc: Global, bytes: &[u8], again: &[u8], at: u64) -> Result<
     Ok(is_written(alloc, &offer, again)? && is_refused(alloc, bytes, Refusal::NotCanonical(at)))
 }
 
-/// Whether the store that an offer makes has this file.
-fn has_file(alloc: Global, offer: &[u8], file: &[u8]) -> Result<bool, Refusal> {
-    let store = offer_from(alloc, offer)?.into_store(alloc, Origin(1))?;
-    is_export(alloc, &store, file)
+/// The store that an offer makes.
+fn store_from(alloc: Global, offer: &[u8]) -> Result<Store, Refusal> {
+    offer_from(alloc, offer)?.into_store(alloc, Origin(1))
+}
+
+/// Whether a store has the file of one row with a change.
+fn has_file(alloc: Global, store: &Store, change: &Change) -> Result<bool, Refusal> {
+    let file = changed(alloc, change)?;
+    is_export(alloc, store, &file)
+}
+
+/// Whether the store that an offer makes has the file of one row with a change.
+fn makes_file(alloc: Global, offer: &[u8], change: &Change) -> Result<bool, Refusal> {
+    let store = store_from(alloc, offer)?;
+    has_file(alloc, &store, change)
 }
 
 /// Whether the file of one row with a change is an offer, and no file from a place on, and its store has the file with the other
@@ -484,8 +511,7 @@ fn is_other_form(
     canonical: &Change,
 ) -> Result<bool, Refusal> {
     let bytes = changed(alloc, change)?;
-    let file = changed(alloc, canonical)?;
-    Ok(is_offer_alone(alloc, &bytes, &bytes, at)? && has_file(alloc, &bytes, &file)?)
+    Ok(is_offer_alone(alloc, &bytes, &bytes, at)? && makes_file(alloc, &bytes, canonical)?)
 }
 
 #[test]
@@ -523,13 +549,33 @@ const MAXIMAL: Change = (
     ],
 );
 
+/// Whether the file of ranges that touch is an offer that is written as these bytes, and no file from its ranges on.
+fn is_touching(alloc: Global, again: &[u8]) -> Result<bool, Refusal> {
+    let bytes = changed(alloc, &TOUCHING)?;
+    is_offer_alone(alloc, &bytes, again, 17)
+}
+
 #[test]
 fn ranges_that_touch_are_written_as_one(rt: HostRuntime) -> Result<(), Fail> {
-    let alloc = rt.alloc();
-    let bytes = changed(alloc, &TOUCHING)?;
-    let maximal = changed(alloc, &MAXIMAL)?;
-    assert!(rt; is_offer_alone(alloc, &bytes, &maximal, 17)?);
+    let maximal = changed(rt.alloc(), &MAXIMAL)?;
+    assert!(rt; is_touching(rt.alloc(), &maximal)?);
     Ok(())
+}
+
+/// Whether a store's offer to one that holds nothing is the file of one row with a change.
+fn has_offer(alloc: Global, store: &Store, change: &Change) -> Result<bool, Refusal> {
+    let bytes = changed(alloc, change)?;
+    is_offered(alloc, store, &bytes)
+}
+
+/// Whether a store has the file of one row with a change, and such an offer with another.
+pub(crate) fn tells(
+    alloc: Global,
+    store: &Store,
+    file: &Change,
+    offer: &Change,
+) -> Result<bool, Refusal> {
+    Ok(has_file(alloc, store, file)? && has_offer(alloc, store, offer)?)
 }
 
 /// The store of the file of one row, with its vector in this coding.
@@ -546,8 +592,7 @@ fn recoded(alloc: Global, coding: Coding) -> Result<Store, Refusal> {
 /// Whether that store has the vector in this coding in its offers, and in its canonical form in its exports.
 fn tells_coding_in_offers(alloc: Global, coding: Coding, change: &Change) -> Result<bool, Refusal> {
     let store = recoded(alloc, coding)?;
-    let bytes = changed(alloc, change)?;
-    Ok(is_offered(alloc, &store, &bytes)? && is_export(alloc, &store, ONE_ROW)?)
+    tells(alloc, &store, &SAME, change)
 }
 
 // The coding stands at 28. DELTA has 64 bases of 7, RLE one run of 7.

@@ -1,6 +1,6 @@
 //! Stores that hold the same, each filled in another way: their files are equal, and their offers tell the codings that they have.
-use crate::file_tests::{Change, changed, is_export, is_offered, offer_from, opened};
-use replica_store::{Offer, Store, Summary};
+use crate::file_tests::{Change, changed, offer_from, offer_of, opened, tells};
+use replica_store::{Offer, Store};
 use segment_core::Coding;
 use std::alloc::{AllocError, Global};
 use std::test::Fail;
@@ -62,13 +62,24 @@ fn delete(alloc: Global, store: &mut Store, ordinal: u16) -> Result<(), Refusal>
     store.delete(alloc, row, ordinal)
 }
 
-/// The store that was told those steps: a deletion before the rows came, and one after.
-fn told(alloc: Global) -> Result<Store, Refusal> {
-    let mut store = new_store(alloc, Origin(1))?;
-    delete(alloc, &mut store, 1)?;
+/// Appends those rows.
+fn append(alloc: Global, store: &mut Store) -> Result<(), Refusal> {
     let rows = three_rows(alloc)?;
     let _ = store.append(alloc, &rows)?;
-    delete(alloc, &mut store, 9)?;
+    Ok(())
+}
+
+/// Tells a store those steps: a deletion before the rows came, and one after.
+fn tell(alloc: Global, store: &mut Store) -> Result<(), Refusal> {
+    delete(alloc, store, 1)?;
+    append(alloc, store)?;
+    delete(alloc, store, 9)
+}
+
+/// The store that was told those steps.
+fn told(alloc: Global) -> Result<Store, Refusal> {
+    let mut store = new_store(alloc, Origin(1))?;
+    tell(alloc, &mut store)?;
     Ok(store)
 }
 
@@ -82,8 +93,7 @@ fn recoded(alloc: Global) -> Result<Store, Refusal> {
 /// What that one offers to a store that holds nothing.
 fn offer(alloc: Global) -> Result<Offer, Refusal> {
     let store = recoded(alloc)?;
-    let nothing = Summary::empty(alloc, store.schema())?;
-    store.offer(alloc, &nothing)
+    offer_of(alloc, &store)
 }
 
 /// The store that held nothing and applied an offer.
@@ -130,13 +140,6 @@ fn filled(alloc: Global, filling: Filling) -> Result<Store, Refusal> {
     }
 }
 
-/// Whether a store has the one file, and such an offer to a store that holds nothing.
-fn tells(alloc: Global, store: &Store, offer: &Change) -> Result<bool, Refusal> {
-    let file = changed(alloc, &FRAME)?;
-    let bytes = changed(alloc, offer)?;
-    Ok(is_export(alloc, store, &file)? && is_offered(alloc, store, &bytes)?)
-}
-
 const FILLINGS: [(Filling, Change); 5] = [
     (Filling::Told, FRAME),
     (Filling::Recoded, DICTIONARY),
@@ -145,11 +148,16 @@ const FILLINGS: [(Filling, Change); 5] = [
     (Filling::Sent, DICTIONARY),
 ];
 
+/// Whether a store that is filled so has the one file, and such an offer.
+fn has_one_file(alloc: Global, filling: Filling, offer: &Change) -> Result<bool, Refusal> {
+    let store = filled(alloc, filling)?;
+    tells(alloc, &store, &FRAME, offer)
+}
+
 #[test]
 fn a_store_has_one_file_however_it_was_filled(rt: HostRuntime) -> Result<(), Fail> {
-    for &(filling, offer) in &FILLINGS {
-        let store = filled(rt.alloc(), filling)?;
-        assert!(rt; tells(rt.alloc(), &store, &offer)?, "{filling:?}");
+    for (filling, offer) in &FILLINGS {
+        assert!(rt; has_one_file(rt.alloc(), *filling, offer)?, "{filling:?}");
     }
     Ok(())
 }
@@ -165,13 +173,18 @@ fn exchange(alloc: Global, first: &mut Store, second: &mut Store) -> Result<(), 
 /// Whether both have the one file after that, while each keeps its coding and offers it.
 fn keep_codings(alloc: Global, first: &mut Store, second: &mut Store) -> Result<bool, Refusal> {
     exchange(alloc, first, second)?;
-    Ok(tells(alloc, first, &FRAME)? && tells(alloc, second, &DICTIONARY)?)
+    Ok(tells(alloc, first, &FRAME, &FRAME)? && tells(alloc, second, &FRAME, &DICTIONARY)?)
+}
+
+/// Whether that is so where the second held nothing.
+fn keeps_codings_with_new(alloc: Global, first: &mut Store) -> Result<bool, Refusal> {
+    let mut second = new_store(alloc, Origin(2))?;
+    keep_codings(alloc, first, &mut second)
 }
 
 #[test]
 fn stores_that_were_merged_both_ways_have_one_file(rt: HostRuntime) -> Result<(), Fail> {
     let mut first = told(rt.alloc())?;
-    let mut second = new_store(rt.alloc(), Origin(2))?;
-    assert!(rt; keep_codings(rt.alloc(), &mut first, &mut second)?);
+    assert!(rt; keeps_codings_with_new(rt.alloc(), &mut first)?);
     Ok(())
 }

@@ -10,8 +10,10 @@ use crate::opening::{check, open};
 use crate::summary_reading::read_summary;
 use crate::summary_writing::write_summary;
 use crate::tests::TWO_NAMES;
+use replica_store::{Offer, Store};
 use segment_core::Coding;
 use std::alloc::Global;
+use std::process::Abort;
 use std::test::Fail;
 use table_model::{BatchName, Counted, Number, Origin, Refusal};
 
@@ -36,19 +38,58 @@ fn begins_with(room: &[u8], text: &[u8]) -> bool {
     front == text && ZEROS.get(..back.len()) == Some(back)
 }
 
-#[test]
-fn a_refused_open_gives_no_store(rt: HostRuntime) -> Result<(), Fail> {
-    let alloc = rt.alloc();
-    let bytes = changed(alloc, &THREE_ROWS)?;
-    let mut reader = Counted::new(bytes.as_slice());
-    match open(alloc, &mut reader, Origin(1)) {
-        Ok(store) => assert_eq!(rt; store.batches(), 1),
+/// The calls that read a file of one batch, or a summary of two names.
+#[derive(Clone, Copy)]
+enum Reading {
+    Open,
+    Offer,
+    Summary,
+}
+
+/// Whether what is opened has one batch.
+fn opens(alloc: Global, reader: &mut Counted<&[u8]>) -> Result<bool, Refusal> {
+    let store = open(alloc, reader, Origin(1))?;
+    Ok(store.batches() == 1)
+}
+
+/// Whether the offer that is read has one batch.
+fn offers(alloc: Global, reader: &mut Counted<&[u8]>) -> Result<bool, Refusal> {
+    let offer = read_offer(alloc, reader)?;
+    Ok(offer.batches() == 1)
+}
+
+/// Whether the summary that is read has two names.
+fn sums_up(alloc: Global, reader: &mut Counted<&[u8]>) -> Result<bool, Refusal> {
+    let summary = read_summary(alloc, reader)?;
+    Ok(summary.names().len() == 2)
+}
+
+/// Makes the call: whether it gives what was to be read.
+fn reads(alloc: Global, call: Reading, reader: &mut Counted<&[u8]>) -> Result<bool, Refusal> {
+    match call {
+        Reading::Open => opens(alloc, reader),
+        Reading::Offer => offers(alloc, reader),
+        Reading::Summary => sums_up(alloc, reader),
+    }
+}
+
+/// What the call ends as, and what is left where a growth is refused.
+fn is_read(rt: &impl Abort, alloc: Global, call: Reading, bytes: &[u8]) -> Result<(), Fail> {
+    let mut reader = Counted::new(bytes);
+    match reads(alloc, call, &mut reader) {
+        Ok(is_whole) => assert!(rt; is_whole),
         Err(fault) => {
-            let again = open(alloc, &mut Counted::new(bytes.as_slice()), Origin(1));
-            return refused(fault, reader.failures(), again.is_ok());
+            let again = reads(alloc, call, &mut Counted::new(bytes));
+            return refused(fault, reader.failures(), again == Ok(true));
         }
     }
     Ok(())
+}
+
+#[test]
+fn a_refused_open_gives_no_store(rt: HostRuntime) -> Result<(), Fail> {
+    let bytes = changed(rt.alloc(), &THREE_ROWS)?;
+    is_read(&rt, rt.alloc(), Reading::Open, &bytes)
 }
 
 /// What checking a file ends as, which is refused so or not at all, and what is left where a growth is refused.
@@ -80,71 +121,80 @@ fn a_refused_check_of_another_form_is_not_judged(rt: HostRuntime) -> Result<(), 
 
 #[test]
 fn a_refused_reading_gives_no_offer(rt: HostRuntime) -> Result<(), Fail> {
-    let alloc = rt.alloc();
-    let bytes = changed(alloc, &THREE_ROWS)?;
-    let mut reader = Counted::new(bytes.as_slice());
-    match read_offer(alloc, &mut reader) {
-        Ok(offer) => assert_eq!(rt; offer.batches(), 1),
-        Err(fault) => {
-            let again = read_offer(alloc, &mut Counted::new(bytes.as_slice()));
-            return refused(fault, reader.failures(), again.is_ok());
-        }
-    }
-    Ok(())
+    let bytes = changed(rt.alloc(), &THREE_ROWS)?;
+    is_read(&rt, rt.alloc(), Reading::Offer, &bytes)
 }
 
 #[test]
 fn a_refused_reading_gives_no_summary(rt: HostRuntime) -> Result<(), Fail> {
-    let alloc = rt.alloc();
-    let mut reader = Counted::new(TWO_NAMES);
-    match read_summary(alloc, &mut reader) {
-        Ok(summary) => assert_eq!(rt; summary.names().len(), 2),
-        Err(fault) => {
-            let again = read_summary(alloc, &mut Counted::new(TWO_NAMES));
-            return refused(fault, reader.failures(), again.is_ok());
-        }
-    }
-    Ok(())
+    is_read(&rt, rt.alloc(), Reading::Summary, TWO_NAMES)
 }
 
-// The vector is recoded, so that an export makes a canonical copy.
-#[test]
-fn a_refused_export_writes_nothing(rt: HostRuntime) -> Result<(), Fail> {
-    let alloc = rt.alloc();
-    let bytes = changed(alloc, &THREE_ROWS)?;
-    let mut store = opened(alloc, bytes.as_slice())?;
+/// The store that a file opens to, its vector recoded, so that an export makes a canonical copy.
+fn recoded(alloc: Global, bytes: &[u8]) -> Result<Store, Refusal> {
+    let mut store = opened(alloc, bytes)?;
     let name = BatchName {
         origin: Origin(2),
         number: Number(1),
     };
     store.recode(alloc, name, 0, 0, Coding::Dict)?;
+    Ok(store)
+}
+
+/// Writes a store's file: what that answers, and how often the writer failed.
+fn exported(alloc: Global, store: &Store, room: &mut [u8]) -> (Result<(), Refusal>, u64) {
+    let mut writer = Counted::new(room);
+    let outcome = export(alloc, store, &mut writer);
+    (outcome, writer.failures())
+}
+
+/// What exporting a store that has this file ends as, and what is left where a growth is refused.
+fn is_exported(rt: &impl Abort, alloc: Global, store: &Store, bytes: &[u8]) -> Result<(), Fail> {
     let mut room = [0; ROOM];
-    let mut writer = Counted::new(room.as_mut_slice());
-    let outcome = export(alloc, &store, &mut writer);
-    let failures = writer.failures();
-    match outcome {
-        Ok(()) => assert!(rt; begins_with(&room, &bytes)),
-        Err(fault) => {
+    match exported(alloc, store, &mut room) {
+        (Ok(()), _) => assert!(rt; begins_with(&room, bytes)),
+        (Err(fault), failures) => {
             let is_unwritten = begins_with(&room, b"");
-            let again = export(alloc, &store, &mut Counted::new(room.as_mut_slice()));
-            let is_whole = again.is_ok() && begins_with(&room, &bytes);
+            let (again, _) = exported(alloc, store, &mut room);
+            let is_whole = again.is_ok() && begins_with(&room, bytes);
             return refused(fault, failures, is_unwritten && is_whole);
         }
     }
     Ok(())
 }
 
+/// The same for the store of the file, its vector recoded.
+fn is_exported_again(rt: &impl Abort, alloc: Global, bytes: &[u8]) -> Result<(), Fail> {
+    let store = recoded(alloc, bytes)?;
+    is_exported(rt, alloc, &store, bytes)
+}
+
 #[test]
-fn a_written_offer_grows_nowhere(rt: HostRuntime) -> Result<(), Fail> {
-    let alloc = rt.alloc();
-    let bytes = changed(alloc, &THREE_ROWS)?;
-    let offer = offer_from(alloc, &bytes)?;
+fn a_refused_export_writes_nothing(rt: HostRuntime) -> Result<(), Fail> {
+    let bytes = changed(rt.alloc(), &THREE_ROWS)?;
+    is_exported_again(&rt, rt.alloc(), &bytes)
+}
+
+/// What writing an offer that has these bytes ends as.
+fn is_written(rt: &impl Abort, offer: &Offer, bytes: &[u8]) -> Result<(), Fail> {
     let mut room = [0; ROOM];
-    match write_offer(&offer, &mut Counted::new(room.as_mut_slice())) {
-        Ok(()) => assert!(rt; begins_with(&room, &bytes)),
+    match write_offer(offer, &mut Counted::new(room.as_mut_slice())) {
+        Ok(()) => assert!(rt; begins_with(&room, bytes)),
         Err(fault) => return refused(fault, 0, false),
     }
     Ok(())
+}
+
+/// The same for the offer that bytes are.
+fn is_written_again(rt: &impl Abort, alloc: Global, bytes: &[u8]) -> Result<(), Fail> {
+    let offer = offer_from(alloc, bytes)?;
+    is_written(rt, &offer, bytes)
+}
+
+#[test]
+fn a_written_offer_grows_nowhere(rt: HostRuntime) -> Result<(), Fail> {
+    let bytes = changed(rt.alloc(), &THREE_ROWS)?;
+    is_written_again(&rt, rt.alloc(), &bytes)
 }
 
 #[test]

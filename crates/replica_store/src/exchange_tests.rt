@@ -104,13 +104,28 @@ impl Late {
         Ok(is_state(receiver, self.batches, self.deleted, self.live))
     }
 
+    /// Whether that is so for a receiver where the offer comes, and comes again.
+    fn takes_again(
+        &self,
+        alloc: Global,
+        receiver: &mut Store,
+        offer: &Offer,
+    ) -> Result<bool, Refusal> {
+        let first = self.takes(alloc, receiver, offer)?;
+        let again = self.takes(alloc, receiver, offer)?;
+        Ok(first && again)
+    }
+
+    /// Whether that is so for the receiver, with what it gained.
+    fn takes_late(&self, alloc: Global, offer: &Offer) -> Result<bool, Refusal> {
+        let mut receiver = self.receiver(alloc)?;
+        self.takes_again(alloc, &mut receiver, offer)
+    }
+
     /// Whether that is so where the offer comes late, and comes again.
     fn takes_twice(&self, alloc: Global) -> Result<bool, Refusal> {
         let offer = self.offer(alloc)?;
-        let mut receiver = self.receiver(alloc)?;
-        let first = self.takes(alloc, &mut receiver, &offer)?;
-        let again = self.takes(alloc, &mut receiver, &offer)?;
-        Ok(first && again)
+        self.takes_late(alloc, &offer)
     }
 }
 

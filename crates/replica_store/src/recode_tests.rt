@@ -180,12 +180,29 @@ fn takes_seven(
     Ok(has_seven(store, want))
 }
 
+/// Merges a store that has the batch in its first coding into a store.
+fn merge_seven(alloc: Global, store: &mut Store) -> Result<(), Refusal> {
+    let other = store_of_seven(alloc, 1)?;
+    merge(alloc, store, &other)
+}
+
 /// Whether a store that has the batch in a coding keeps it where a store that has it in its first coding is merged in.
 fn keeps_seven(alloc: Global, coding: Coding) -> Result<bool, Refusal> {
     let mut store = recoded_seven(alloc, coding)?;
-    let other = store_of_seven(alloc, 1)?;
-    merge(alloc, &mut store, &other)?;
+    merge_seven(alloc, &mut store)?;
     Ok(has_seven(&store, coding))
+}
+
+/// Whether a store that has the batch in its first coding keeps it where a store that has it in a coding is merged in.
+fn held_keeps_seven(alloc: Global, coding: Coding) -> Result<bool, Refusal> {
+    let mut held = store_of_seven(alloc, 1)?;
+    takes_seven(alloc, &mut held, coding, Coding::For)
+}
+
+/// Whether a store that holds nothing has the batch in a coding where a store that has it so is merged in.
+fn empty_takes_seven(alloc: Global, coding: Coding) -> Result<bool, Refusal> {
+    let mut empty = store_of(alloc, 3)?;
+    takes_seven(alloc, &mut empty, coding, coding)
 }
 
 // A value alone is coded as FOR, whose payload of none is the smallest. A batch that is held keeps its coding, and one that comes
@@ -193,10 +210,8 @@ fn keeps_seven(alloc: Global, coding: Coding) -> Result<bool, Refusal> {
 #[test]
 fn sides_in_other_codings_merge_and_keep_them(rt: HostRuntime) -> Result<(), Fail> {
     for &coding in &CODINGS {
-        let mut held = store_of_seven(rt.alloc(), 1)?;
-        assert!(rt; takes_seven(rt.alloc(), &mut held, coding, Coding::For)?);
-        let mut empty = store_of(rt.alloc(), 3)?;
-        assert!(rt; takes_seven(rt.alloc(), &mut empty, coding, coding)?);
+        assert!(rt; held_keeps_seven(rt.alloc(), coding)?);
+        assert!(rt; empty_takes_seven(rt.alloc(), coding)?);
         assert!(rt; keeps_seven(rt.alloc(), coding)?);
     }
     Ok(())

@@ -180,11 +180,16 @@ fn came_of_merge(alloc: Global, store: &mut Store, other: &Store) -> Came {
     }
 }
 
+/// What came of a merge of the other store into the store of these tests.
+fn merged_with(alloc: Global, other: &Store) -> Result<Came, Refusal> {
+    let mut store = told_store(alloc, 1, HELD)?;
+    Ok(came_of_merge(alloc, &mut store, other))
+}
+
 /// What came of a merge of a store that was told these.
 fn merged(alloc: Global, theirs: &[Told]) -> Result<Came, Refusal> {
     let other = told_store(alloc, 2, theirs)?;
-    let mut store = told_store(alloc, 1, HELD)?;
-    Ok(came_of_merge(alloc, &mut store, &other))
+    merged_with(alloc, &other)
 }
 
 #[test]
@@ -214,11 +219,16 @@ fn came_of_offer(alloc: Global, store: &Store, summary: &Summary) -> Came {
     }
 }
 
+/// What came of an offer of the store to one that holds nothing.
+fn offered_by(alloc: Global, store: &Store) -> Result<Came, Refusal> {
+    let summary = summary_after(alloc, &[])?;
+    Ok(came_of_offer(alloc, store, &summary))
+}
+
 /// What came of an offer to a store that holds nothing.
 fn offered(alloc: Global) -> Result<Came, Refusal> {
     let store = told_store(alloc, 1, HELD)?;
-    let summary = summary_after(alloc, &[])?;
-    Ok(came_of_offer(alloc, &store, &summary))
+    offered_by(alloc, &store)
 }
 
 #[test]
@@ -244,11 +254,16 @@ fn offer_beside(alloc: Global) -> Result<Offer, Refusal> {
     offer_after(alloc, BESIDE, &summary)
 }
 
+/// What came of an offer where the store of these tests applied it.
+fn applied_to_held(alloc: Global, offer: &Offer) -> Result<Came, Refusal> {
+    let mut store = told_store(alloc, 1, HELD)?;
+    Ok(came_of_apply(alloc, &mut store, offer))
+}
+
 /// What came of that offer where it was applied.
 fn applied(alloc: Global) -> Result<Came, Refusal> {
     let offer = offer_beside(alloc)?;
-    let mut store = told_store(alloc, 1, HELD)?;
-    Ok(came_of_apply(alloc, &mut store, &offer))
+    applied_to_held(alloc, &offer)
 }
 
 #[test]

@@ -232,11 +232,16 @@ fn a_merge_joins_states_or_names_the_least_conflict(rt: HostRuntime) -> Result<(
     Ok(())
 }
 
+/// Appends a batch of one row, 0.
+fn append_zero(alloc: Global, store: &mut Store) -> Result<BatchName, Refusal> {
+    let rows = rows_of(alloc, &[0])?;
+    store.append(alloc, rows.as_slice())
+}
+
 /// What an append answers after these inserts.
 fn appended_name(alloc: Global, told: &[Told]) -> Result<BatchName, Refusal> {
     let mut store = told_store(alloc, 7, told)?;
-    let rows = rows_of(alloc, &[0])?;
-    store.append(alloc, rows.as_slice())
+    append_zero(alloc, &mut store)
 }
 
 // One more than the greatest number that is held of the own origin, else 1; the last number is 4,294,967,295.
@@ -264,27 +269,29 @@ fn an_append_is_named_after_the_greatest_number_of_the_own_origin(
             Err(Refusal::NumbersSpent),
         ),
     ];
-    for (told, want) in cases {
+    for &(told, want) in &cases {
         let answer = appended_name(rt.alloc(), told);
         assert!(rt; answer == want, "answered {answer:?}");
     }
     Ok(())
 }
 
-/// What an insert of so many nulls under this name answers beside the batch 2.1 of one null.
-fn inserted_nulls(alloc: Global, name: BatchName, count: usize) -> Result<Inserted, Refusal> {
-    let mut store = store_of(alloc, 1)?;
-    let one = many_rows(alloc, 1)?;
-    let _ = store.insert(
-        alloc,
-        BatchName {
-            origin: Origin(2),
-            number: Number(1),
-        },
-        one.as_slice(),
-    )?;
+/// Inserts a batch of so many nulls.
+fn insert_nulls(
+    alloc: Global,
+    store: &mut Store,
+    batch: BatchName,
+    count: usize,
+) -> Result<Inserted, Refusal> {
     let rows = many_rows(alloc, count)?;
-    store.insert(alloc, name, rows.as_slice())
+    store.insert(alloc, batch, rows.as_slice())
+}
+
+/// What an insert of so many nulls under this name answers beside the batch 2.1 of one null.
+fn inserted_nulls(alloc: Global, batch: BatchName, count: usize) -> Result<Inserted, Refusal> {
+    let mut store = store_of(alloc, 1)?;
+    let _ = insert_nulls(alloc, &mut store, name(2, 1), 1)?;
+    insert_nulls(alloc, &mut store, batch, count)
 }
 
 // A batch has 1 to 65,536 rows; the faults of rows come before those of a name, and these before a conflict.
@@ -299,11 +306,17 @@ fn an_insert_answers_the_first_refusal_in_order(rt: HostRuntime) -> Result<(), F
         (2, 1, 1, Ok(Inserted::Already)),
         (2, 2, 65_536, Ok(Inserted::New)),
     ];
-    for (origin, number, count, want) in cases {
+    for &(origin, number, count, want) in &cases {
         let answer = inserted_nulls(rt.alloc(), name(origin, number), count);
         assert!(rt; answer == want, "answered {answer:?}");
     }
     Ok(())
+}
+
+/// Appends a batch of so many nulls.
+fn append_nulls(alloc: Global, store: &mut Store, count: usize) -> Result<BatchName, Refusal> {
+    let rows = many_rows(alloc, count)?;
+    store.append(alloc, rows.as_slice())
 }
 
 // A name that is held is answered before the limit of 65,536 batches; one more batch under a new name is too many.
@@ -317,9 +330,8 @@ fn an_append_has_1_to_65_536_rows(rt: HostRuntime) -> Result<(), Fail> {
         (65_536, Ok(name(4, 1)), 65_536),
         (1, Ok(name(4, 2)), 65_537),
     ];
-    for (count, want, live) in cases {
-        let rows = many_rows(rt.alloc(), count)?;
-        let answer = store.append(rt.alloc(), rows.as_slice());
+    for &(count, want, live) in &cases {
+        let answer = append_nulls(rt.alloc(), &mut store, count);
         assert!(rt;
             answer == want && store.live_count() == live,
             "answered {answer:?}"
@@ -368,12 +380,17 @@ fn merge_twice(alloc: Global, store: &mut Store, other: &Store) -> Result<(), Re
     merge(alloc, store, other)
 }
 
+/// Whether a store that was told a part has it all where another is merged into it twice.
+fn is_all_with(alloc: Global, part: &[Told], other: &Store) -> Result<bool, Refusal> {
+    let mut store = told_store(alloc, 3, part)?;
+    merge_twice(alloc, &mut store, other)?;
+    Ok(has_all(&store))
+}
+
 /// The same from the right, and the last merge twice.
 fn is_all_from_the_right(alloc: Global, parts: [&[Told]; 3]) -> Result<bool, Refusal> {
     let other = merged_pair(alloc, parts[1], parts[2])?;
-    let mut store = told_store(alloc, 3, parts[0])?;
-    merge_twice(alloc, &mut store, &other)?;
-    Ok(has_all(&store))
+    is_all_with(alloc, parts[0], &other)
 }
 
 const FIRST: Told = Told::Batch(1, 1, &[10, 11]);
@@ -408,7 +425,7 @@ fn neither_order_nor_repeats_nor_lateness_matter(rt: HostRuntime) -> Result<(), 
         &[UNSEEN, LATE, EARLY, EARLY, THIRD, SECOND, FIRST, THIRD],
         &[EARLY, SECOND, UNSEEN, THIRD, LATE, SECOND, FIRST, LATE],
     ];
-    for order in orders {
+    for &order in &orders {
         assert!(rt; is_all_in_order(rt.alloc(), order)?);
     }
     Ok(())
@@ -420,7 +437,7 @@ fn neither_order_nor_bracketing_of_merges_matters(rt: HostRuntime) -> Result<(),
     let one: &[Told] = &[FIRST, LATE, EARLY];
     let two: &[Told] = &[UNSEEN, THIRD, FIRST];
     let three: &[Told] = &[SECOND, THIRD, LATE];
-    for parts in [
+    for &parts in &[
         [one, two, three],
         [two, three, one],
         [three, one, two],
