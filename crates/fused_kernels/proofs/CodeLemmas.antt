@@ -13,7 +13,7 @@ use Rattle.transpose_order.specs.Place.{lane_of, step_of}
 use Rattle.bit_interleave.specs.Packing.{packed_value}
 use Rattle.bit_interleave.specs.Range.{value_at}
 use Rattle.bit_interleave.proofs.StepLemmas.{packed_value-below}
-use Rattle.run_dictionary.specs.Dict.{DictForm, IsDictForm, IsAscending, code_at}
+use Rattle.run_dictionary.specs.Dict.{DictForm, IsDictForm, IsAscending, code_at, packed_code}
 use Rattle.run_dictionary.proofs.DictLemmas.{Ascends-from_neighbours, less_at}
 use Rattle.native_lanes.specs.Folds.{fold_to}
 use Rattle.native_lanes.specs.Walks.{Walk, number_of_row}
@@ -170,3 +170,8 @@ some_values form is = let below = is.codes 0 (omega arith) in omega (arith, belo
 
 pub code_fits : (form : DictForm) → IsDictForm form → (n : ℕ) → n < 1024 → code_at form n ≤ 2 ^ 16 - 1
 code_fits form is n h = let below = is.codes n h in omega (arith, below, is.many)
+
+-- the code of a row's lane and step
+pub code_of_lane : (form : DictForm) (n : ℕ) → packed_value 16 form.width form.codes.numbers (lane_of 16 n) (step_of 16 n) ≡ code_at form n
+unfolding packed_code
+code_of_lane form n = refl

@@ -17,6 +17,13 @@ piece_width (Delta form) = form.lane_width
 piece_width (Runs form) = form.lane_width
 piece_width (Dict form) = 16
 
+-- the width of the lanes in which a vector's numbers are gone through at their own type, or 0 where it has runs or a dictionary
+abbrev pub native_width : Coded → ℕ
+native_width (For form) = form.lane_width
+native_width (Delta form) = form.lane_width
+native_width (Runs form) = 0
+native_width (Dict form) = 0
+
 -- what a vector's lanes are seen as, of which so many pieces were given
 abbrev pub vector_seen : VectorForm → ℕ → LanesSeen
 vector_seen v q = record { lane_width = piece_width v.coded; rows = v.rows; nulls = rows_of (is_null v.nulls); values = values_of v.coded; given = q }

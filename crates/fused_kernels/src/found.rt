@@ -95,3 +95,17 @@ pub(crate) fn parted(vector: &CodedVector, found: &Mask, mask: &Mask) -> (Mask, 
     let rows = rows_of_vector(vector, mask);
     (rows.and(found), rows.and_not(found))
 }
+
+/// The rows of two vectors looked at in both that are among those found, and the other rows looked at in both.
+pub(crate) fn both_parted(
+    left: &CodedVector,
+    right: &CodedVector,
+    found: &Mask,
+    mask: &Mask,
+) -> (Mask, Mask)
+    ensures yes { result.0 ≡ rows_of (λ n. (looked_at (vector_seen left.now 0) mask.now n && looked_at (vector_seen right.now 0) mask.now n) && has found.now n) }
+    ensures no { result.1 ≡ rows_of (λ n. (looked_at (vector_seen left.now 0) mask.now n && looked_at (vector_seen right.now 0) mask.now n) && not (has found.now n)) }
+{
+    let rows = rows_of_vector(left, mask).and(&rows_of_vector(right, mask));
+    (rows.and(found), rows.and_not(found))
+}

@@ -1,6 +1,8 @@
 //! Comparisons and set functions over vectors that stay packed, sixteen lanes at a time.
 #![tactic(auto)]
 
+mod beside;
+mod code_values;
 mod codes;
 mod columns;
 mod comparisons;

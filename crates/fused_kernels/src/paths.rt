@@ -9,11 +9,13 @@ ghost use Rattle.table_model.specs.Passes.{raised};
 ghost use Rattle.fused_kernels.specs.Seen.{looked_at, values_looked_at, between};
 ghost use Rattle.fused_kernels.specs.VectorSeen.{vector_seen};
 
+use crate::beside::found_beside;
+use crate::code_values::decode_codes;
 use crate::codes::{greatest_of_codes, least_of_codes, sum_of_codes};
 use crate::columns::{compare_columns, rows_where};
 use crate::comparisons::{compare, range_of};
 use crate::extremes::{max, min};
-use crate::found::{found_between, held, parted, rows_of_vector};
+use crate::found::{both_parted, found_between, held, parted, rows_of_vector};
 use crate::meter::Meter;
 use crate::ranges::compare_range;
 use crate::run_folds::{greatest_of_runs, least_of_runs, sum_of_runs};
@@ -21,8 +23,8 @@ use crate::sums::sum;
 use crate::vector_lanes::VectorLanes;
 use frame_delta::{Delta, For};
 use native_lanes::{
-    greatest_of_deltas, greatest_of_frame, least_of_deltas, least_of_frame, sum_of_deltas,
-    sum_of_frame,
+    decode_deltas, decode_frame, greatest_of_deltas, greatest_of_frame, least_of_deltas,
+    least_of_frame, sum_of_deltas, sum_of_frame,
 };
 use run_dictionary::{Dict, Runs};
 use segment_core::{Coded, CodedVector};
@@ -389,7 +391,14 @@ pub fn compare_vectors(
         meter.add_pass();
         return compare_decoded(left, op, right, mask);
     }
-    compare_vectors_by_lanes(left, op, right, mask, meter)
+    match found_beside(left.coded(), op, right.coded()) {
+        None => compare_vectors_by_lanes(left, op, right, mask, meter),
+        Some(found) => {
+            meter.add_pass();
+            meter.add_pass();
+            both_parted(left, right, &found, mask)
+        }
+    }
 }
 
 /// Writes a vector's 1024 values in row order. At a row that isn't covered or is null, any value may stand. The meter counts one
@@ -399,5 +408,10 @@ pub fn decode_vector(vector: &CodedVector, values: &mut [i64; 1024], meter: &mut
     ensures pass { meter.new ≡ raised 1 meter.old }
 {
     meter.add_pass();
-    vector.coded().decode(values);
+    match vector.coded() {
+        Coded::For(form) => decode_frame(form.get(), values),
+        Coded::Delta(form) => decode_deltas(form.get(), values),
+        Coded::Runs(form) => form.get().decode(values),
+        Coded::Dict(form) => decode_codes(form.get(), values),
+    }
 }

@@ -18,6 +18,17 @@ enum Pattern {
     Counting,
     Alternating(i128, i128),
     ThirdsNull,
+    /// The upper bits of a number mixed from the row, without so many of 64, less another number; each eleventh row is null. The
+    /// third part is joined to the row: with 1, each even row has the value of the odd row after it.
+    Mixed(usize, i64, usize),
+}
+
+/// A number mixed from a row, without so many of its lowest bits.
+fn mixed(row: usize, without: usize) -> u64 {
+    let number = (row as u64)
+        .wrapping_add(1)
+        .wrapping_mul(0x9e37_79b9_7f4a_7c15);
+    if without < 64 { number >> without } else { 0 }
 }
 
 fn cell_of(pattern: Pattern, row: usize) -> Option<i128> {
@@ -30,6 +41,13 @@ fn cell_of(pattern: Pattern, row: usize) -> Option<i128> {
                 None
             } else {
                 Some(row as i128)
+            }
+        }
+        Pattern::Mixed(without, less, joined) => {
+            if row % 11 == 5 {
+                None
+            } else {
+                Some(i128::from(mixed(row | joined, without)) - i128::from(less))
             }
         }
     }
@@ -396,6 +414,127 @@ fn a_vector_is_decoded_in_row_order(rt: HostRuntime) -> Result<(), Fail> {
         let mut meter = Meter::new();
         decode_vector(&vector, &mut values, &mut meter);
         assert_eq!(rt; (are_counting(&values), meter.count()), (true, 1));
+    }
+    Ok(())
+}
+
+/// A column type, how many of 64 bits a column's numbers are without, and what is taken off them: their frames have the widths 0,
+/// 3, half of the type's bits, all but one of them, and at 16 and 32 bits all.
+const WIDTHS: [(ColType, usize, i64); 15] = [
+    (ColType::SmallInt, 64, 5),
+    (ColType::SmallInt, 61, 4),
+    (ColType::SmallInt, 56, 0x80),
+    (ColType::SmallInt, 49, 0x4000),
+    (ColType::SmallInt, 48, 0x8000),
+    (ColType::Integer, 64, 5),
+    (ColType::Integer, 61, 4),
+    (ColType::Integer, 48, 0x8000),
+    (ColType::Integer, 33, 0x4000_0000),
+    (ColType::Integer, 32, 0x8000_0000),
+    (ColType::BigInt, 64, 5),
+    (ColType::BigInt, 61, 4),
+    (ColType::BigInt, 32, 0x8000_0000),
+    (ColType::BigInt, 1, 0x4000_0000_0000_0000),
+    (ColType::BigInt, 1, -1),
+];
+
+/// Two codings that have native lanes, and a comparison.
+const BESIDE: [(Coding, Op, Coding); 6] = [
+    (Coding::For, Op::Equal, Coding::For),
+    (Coding::For, Op::Less, Coding::Delta),
+    (Coding::Delta, Op::LessOrEqual, Coding::For),
+    (Coding::Delta, Op::NotEqual, Coding::Delta),
+    (Coding::For, Op::Greater, Coding::For),
+    (Coding::Delta, Op::GreaterOrEqual, Coding::Delta),
+];
+
+fn holds(op: Op, left: i128, right: i128) -> bool {
+    match op {
+        Op::Equal => left == right,
+        Op::NotEqual => left != right,
+        Op::Less => left < right,
+        Op::LessOrEqual => left <= right,
+        Op::Greater => left > right,
+        Op::GreaterOrEqual => left >= right,
+    }
+}
+
+/// Whether the comparison of a row's two cells holds and whether it doesn't: neither where one is null or the row isn't looked at.
+fn parts_of(looked_at: bool, op: Op, left: Option<i128>, right: Option<i128>) -> (bool, bool) {
+    match (left, right) {
+        (Some(left), Some(right)) => (
+            looked_at && holds(op, left, right),
+            looked_at && !holds(op, left, right),
+        ),
+        _ => (false, false),
+    }
+}
+
+fn check_beside(
+    rt: &impl Abort,
+    (left, left_cells): (&CodedVector, Pattern),
+    op: Op,
+    (right, right_cells): (&CodedVector, Pattern),
+    mask: &Mask,
+) {
+    let (yes, no) = parted_by(rt, left, op, right, mask);
+    for row in 0..1024 {
+        let (left, right) = (cell_of(left_cells, row), cell_of(right_cells, row));
+        let expected = parts_of(mask.get(row), op, left, right);
+        assert_eq!(rt; (yes.get(row), no.get(row)), expected);
+    }
+}
+
+/// Two columns of a type that are equal at odd rows, compared in each pair of codings over all rows and over some.
+fn check_beside_of(
+    rt: &impl Abort,
+    alloc: Global,
+    column_type: ColType,
+    left_cells: Pattern,
+    right_cells: Pattern,
+) -> Result<(), Fail> {
+    for &(left_coding, op, right_coding) in &BESIDE {
+        let left = coded(rt, alloc, column_type, 1024, left_cells, left_coding)?;
+        let right = coded(rt, alloc, column_type, 1024, right_cells, right_coding)?;
+        let (left, right) = ((&left, left_cells), (&right, right_cells));
+        check_beside(rt, left, op, right, &Mask::all());
+        check_beside(rt, left, op, right, &rows(rt, 100, 701));
+    }
+    Ok(())
+}
+
+// What is expected is worked out of the cells, one row at a time.
+#[test]
+fn two_vectors_of_one_lane_width_are_compared_at_each_width(rt: HostRuntime) -> Result<(), Fail> {
+    for &(column_type, without, less) in &WIDTHS {
+        let left = Pattern::Mixed(without, less, 0);
+        let right = Pattern::Mixed(without, less, 1);
+        check_beside_of(&rt, rt.alloc(), column_type, left, right)?;
+    }
+    Ok(())
+}
+
+fn check_decoded(rt: &impl Abort, vector: &CodedVector, cells: Pattern) {
+    let mut values = [-1; 1024];
+    let mut meter = Meter::new();
+    decode_vector(vector, &mut values, &mut meter);
+    assert_eq!(rt; meter.count(), 1);
+    for row in 0..1024 {
+        if let Some(cell) = cell_of(cells, row) {
+            assert_eq!(rt; i128::from(values[row]), cell);
+        }
+    }
+}
+
+// What is expected is the cells.
+#[test]
+fn vectors_of_each_width_are_decoded(rt: HostRuntime) -> Result<(), Fail> {
+    for &(column_type, without, less) in &WIDTHS {
+        let cells = Pattern::Mixed(without, less, 0);
+        for &coding in &CODINGS {
+            let vector = coded(&rt, rt.alloc(), column_type, 1024, cells, coding)?;
+            check_decoded(&rt, &vector, cells);
+        }
     }
     Ok(())
 }

@@ -4,7 +4,8 @@ use Rattle.std.specs.Int.{w8, w16, w32, w64, int_wrap, int_min, int_max}
 use Rattle.std.proofs.lemmas.Bool.Decides.{nat_tests}
 use Rattle.std.proofs.lemmas.Int.{ints, clamps, int_wrap_fits, int_wrap-add_left}
 use Rattle.std.proofs.lemmas.List.Elements.{All-get_or}
-use Rattle.transpose_order.specs.Mask.{count_below}
+use Rattle.transpose_order.specs.Mask.{count_below, rows_of}
+use Rattle.transpose_order.specs.MaskWords.{rows_of-same}
 use Rattle.transpose_order.proofs.MaskLemmas.{count_below-zero, count_below-suc}
 use Rattle.transpose_order.specs.Place.{IsLaneWidth, lane_of, step_of}
 use Rattle.transpose_order.proofs.WidthLemmas.{at_widths}
@@ -17,6 +18,7 @@ use Rattle.frame_delta.specs.Frame.{FrameForm, frame_value}
 use Rattle.frame_delta.specs.Delta.{DeltaForm, IsDeltaForm, sum_to, delta_of, delta_at, delta_value}
 use Rattle.native_lanes.specs.Folds.{fold_to}
 use Rattle.native_lanes.specs.Between.{between}
+use Rattle.native_lanes.specs.Pairs.{number_passes, value_passes}
 use Rattle.native_lanes.specs.Walks.{Walk, number_before, number_of_row}
 use Rattle.native_lanes.proofs.FoldLemmas.{fold_to-zero, fold_to-suc}
 use Rattle.native_lanes.proofs.WalkLemmas.{number_before-zero, one_step, number_at-is}
@@ -129,3 +131,16 @@ range_of_ends a b t low high value first last number half some al bh top from up
 
     upper : (b high value : ℤ) (last number half : ℕ) → b ≡ high +ℤ pos half → pos last ≡ int_min b (pos (half - 1 + half)) → number < 2 * half → pos number ≡ value +ℤ pos half → nat_le number last ≡ int_le value high
     upper b high value last number half bh stop fits is = grind (arith, ints, clamps, nat_tests)
+
+-- ---- values written to their rows
+pub values_of_raised : (value : ℕ → ℤ) (number : ℕ → ℕ) (half : ℕ) (values : List ℤ) → length values ≡ 1024 → ((n : ℕ) → n < 1024 → pos (number n) ≡ value n +ℤ pos half) → ((n : ℕ) → n < 1024 → pos (number n) ≡ value_at values n +ℤ pos half) → values ≡ rows_of value
+values_of_raised value number half values long raised written =
+    rows_of-same value values (pos 0) long (λ n h. same (value_at values n) (value n) (number n) half (written n h) (raised n h))
+  where
+    same : (a b : ℤ) (m half : ℕ) → pos m ≡ a +ℤ pos half → pos m ≡ b +ℤ pos half → a ≡ b
+    same a b m half e d = omega (arith, ints, e, d)
+
+-- ---- two values compare as their raised numbers do
+pub passes_raised : (equal : Bool) (m n half : ℕ) (a b : ℤ) → pos m ≡ a +ℤ pos half → pos n ≡ b +ℤ pos half → number_passes equal m n ≡ value_passes equal a b
+passes_raised true m n half a b e d = grind (arith, ints, nat_tests)
+passes_raised false m n half a b e d = grind (arith, ints, nat_tests)

@@ -99,6 +99,10 @@ row_of_walk walk t lane step is width h l =
     ap (λ (w : ℕ). number_at walk (lane_of w (row_at t lane step)) (step_of w (row_at t lane step))) is
     ∙ ap (λ (k : ℕ). number_at walk k (step_of t (row_at t lane step))) place.1 ∙ ap (number_at walk lane) place.2
 
+pub number_of_row-is : (walk : Walk) (n t : ℕ) → walk.lane_width ≡ t → number_of_row walk n ≡ number_at walk (lane_of t n) (step_of t n)
+unfolding number_of_row
+number_of_row-is walk n t is = ap (λ (w : ℕ). number_at walk (lane_of w n) (step_of w n)) is
+
 pub taken_below : (b : Bool) (n m : ℕ) → n < m → 0 < m → cond b n 0 < m
 taken_below true n m h some = h
 taken_below false n m h some = some

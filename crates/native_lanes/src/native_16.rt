@@ -4,6 +4,7 @@ ghost use Rattle.std.specs.Int.{bit_at};
 ghost use Rattle.transpose_order.specs.Mask.{rows_of};
 ghost use Rattle.transpose_order.specs.Place.{lane_of, step_of};
 ghost use Rattle.bit_interleave.specs.Packing.{packed_value};
+ghost use Rattle.native_lanes.specs.Pairs.{number_passes};
 
 use transpose_order::Mask;
 
@@ -86,6 +87,36 @@ pub(crate) fn mark(marks: &mut [u16; 64], numbers: &[u16; 64], offset: u16, span
 {
     for i in 0..64 {
         marks[i] = with_step(marks[i], step, is_within(numbers[i], offset, span));
+    }
+}
+
+/// Whether a number is equal to another, or where `equal` is false, below it.
+#[inline(always)]
+fn passes(equal: bool, number: u16, other: u16) -> bool
+    ensures { result ≡ number_passes equal number other }
+{
+    if equal {
+        number == other
+    } else {
+        number < other
+    }
+}
+
+/// Sets a step's bit of each lane whose number is equal to another, or where `equal` is false, below it.
+#[inline(always)]
+pub(crate) fn mark_beside(
+    marks: &mut [u16; 64],
+    equal: bool,
+    numbers: &[u16; 64],
+    others: &[u16; 64],
+    step: usize,
+)
+    requires { step < 16 }
+    ensures { (lane r : ℕ) → lane < 64 → r < 16 → (bit_at (slice_index marks.new lane) r == 1)
+        ≡ ((number_passes equal (slice_index numbers.now lane) (slice_index others.now lane) && (r == step)) || (bit_at (slice_index marks.old lane) r == 1)) }
+{
+    for i in 0..64 {
+        marks[i] = with_step(marks[i], step, passes(equal, numbers[i], others[i]));
     }
 }
 

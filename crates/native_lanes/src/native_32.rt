@@ -4,6 +4,7 @@ ghost use Rattle.std.specs.Int.{bit_at};
 ghost use Rattle.transpose_order.specs.Mask.{rows_of};
 ghost use Rattle.transpose_order.specs.Place.{lane_of, step_of};
 ghost use Rattle.bit_interleave.specs.Packing.{packed_value};
+ghost use Rattle.native_lanes.specs.Pairs.{number_passes};
 
 use transpose_order::Mask;
 
@@ -85,6 +86,36 @@ pub(crate) fn mark(marks: &mut [u32; 32], numbers: &[u32; 32], offset: u32, span
 {
     for i in 0..32 {
         marks[i] = with_step(marks[i], step, is_within(numbers[i], offset, span));
+    }
+}
+
+/// Whether a number is equal to another, or where `equal` is false, below it.
+#[inline(always)]
+fn passes(equal: bool, number: u32, other: u32) -> bool
+    ensures { result ≡ number_passes equal number other }
+{
+    if equal {
+        number == other
+    } else {
+        number < other
+    }
+}
+
+/// Sets a step's bit of each lane whose number is equal to another, or where `equal` is false, below it.
+#[inline(always)]
+pub(crate) fn mark_beside(
+    marks: &mut [u32; 32],
+    equal: bool,
+    numbers: &[u32; 32],
+    others: &[u32; 32],
+    step: usize,
+)
+    requires { step < 32 }
+    ensures { (lane r : ℕ) → lane < 32 → r < 32 → (bit_at (slice_index marks.new lane) r == 1)
+        ≡ ((number_passes equal (slice_index numbers.now lane) (slice_index others.now lane) && (r == step)) || (bit_at (slice_index marks.old lane) r == 1)) }
+{
+    for i in 0..32 {
+        marks[i] = with_step(marks[i], step, passes(equal, numbers[i], others[i]));
     }
 }
 

@@ -10,10 +10,12 @@ ghost use Rattle.frame_delta.specs.Delta.{delta_value};
 ghost use Rattle.table_model.specs.Values.{lesser, greater};
 ghost use Rattle.native_lanes.specs.Folds.{fold_to};
 ghost use Rattle.native_lanes.specs.Between.{between};
+ghost use Rattle.native_lanes.specs.Pairs.{number_passes, value_passes};
 ghost use Rattle.native_lanes.specs.Walks.{number_before, number_at, number_of_row, turned};
 
-use crate::native_16::{mark, mask_of_lanes, numbers_16};
+use crate::native_16::{mark, mark_beside, mask_of_lanes, numbers_16};
 use crate::raised::{raised_range, value_above};
+use crate::written_16::put_step;
 use frame_delta::{Delta, For};
 use std::marker::Model;
 use transpose_order::Mask;
@@ -269,6 +271,18 @@ impl<'a> Walk16<'a> {
         value_above(rows, u64::from(least), 1 << 15)
     }
 
+    /// Writes the values of all rows, where each row's number is how far its value is above the least of 16 bits.
+    #[inline(always)]
+    pub(crate) fn write_values(&self, values: &mut [i64; 1024])
+        ensures { (n : ℕ) → n < 1024 → pos (number_of_row self.now n) ≡ value_at values.new n +ℤ pos (2 ^ 15) }
+    {
+        let mut numbers = self.starts;
+        for step in 0..16 {
+            self.go(step, &mut numbers);
+            put_step(&numbers, step, values);
+        }
+    }
+
     /// For each lane, the bits of the steps at which the number plus an offset, modulo two to the power of 16, is at most a span.
     #[inline(always)]
     fn marks(&self, offset: u16, span: u16) -> [u16; 64]
@@ -310,6 +324,34 @@ impl<'a> Walk16<'a> {
     {
         let (first, last) = raised_range(1 << 15, low, high);
         self.rows_between(first as u16, last as u16)
+    }
+
+    /// For each lane, the bits of the steps at which the number is equal to another walk's, or where `equal` is false, below it.
+    fn marks_beside(&self, equal: bool, other: &Walk16<'_>) -> [u16; 64]
+        ensures { (lane step : ℕ) → lane < 64 → step < 16 → (bit_at (slice_index result lane) step == 1)
+            ≡ number_passes equal (number_at self.now lane step) (number_at other.now lane step) }
+    {
+        let mut numbers = self.starts;
+        let mut others = other.starts;
+        let mut marks = [0; 64];
+        for step in 0..16 {
+            self.go(step, &mut numbers);
+            other.go(step, &mut others);
+            mark_beside(&mut marks, equal, &numbers, &others, step);
+        }
+        marks
+    }
+
+    /// The rows whose value is equal to another walk's, or where `equal` is false, less, where each row's number is how far its
+    /// value is above the least of 16 bits.
+    pub(crate) fn values_beside(&self, equal: bool, other: &Walk16<'_>) -> Mask
+        ensures { (left right : ℕ → ℤ) → ((n : ℕ) → n < 1024 → pos (number_of_row self.now n) ≡ left n +ℤ pos (2 ^ 15))
+            → ((n : ℕ) → n < 1024 → pos (number_of_row other.now n) ≡ right n +ℤ pos (2 ^ 15))
+            → result ≡ rows_of (λ n. value_passes equal (left n) (right n)) }
+    {
+        let _width = self.width;
+        let _other_width = other.width;
+        mask_of_lanes(&self.marks_beside(equal, other))
     }
 }
 

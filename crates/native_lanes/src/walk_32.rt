@@ -10,9 +10,10 @@ ghost use Rattle.frame_delta.specs.Delta.{delta_value};
 ghost use Rattle.table_model.specs.Values.{lesser, greater};
 ghost use Rattle.native_lanes.specs.Folds.{fold_to};
 ghost use Rattle.native_lanes.specs.Between.{between};
+ghost use Rattle.native_lanes.specs.Pairs.{number_passes, value_passes};
 ghost use Rattle.native_lanes.specs.Walks.{number_before, number_at, number_of_row, turned};
 
-use crate::native_32::{mark, mask_of_lanes, numbers_32};
+use crate::native_32::{mark, mark_beside, mask_of_lanes, numbers_32};
 use crate::raised::{raised_range, value_above};
 use frame_delta::{Delta, For};
 use std::marker::Model;
@@ -316,6 +317,34 @@ impl<'a> Walk32<'a> {
     {
         let (first, last) = raised_range(1 << 31, low, high);
         self.rows_between(first as u32, last as u32)
+    }
+
+    /// For each lane, the bits of the steps at which the number is equal to another walk's, or where `equal` is false, below it.
+    fn marks_beside(&self, equal: bool, other: &Walk32<'_>) -> [u32; 32]
+        ensures { (lane step : ℕ) → lane < 32 → step < 32 → (bit_at (slice_index result lane) step == 1)
+            ≡ number_passes equal (number_at self.now lane step) (number_at other.now lane step) }
+    {
+        let mut numbers = self.starts;
+        let mut others = other.starts;
+        let mut marks = [0; 32];
+        for step in 0..32 {
+            self.go(step, &mut numbers);
+            other.go(step, &mut others);
+            mark_beside(&mut marks, equal, &numbers, &others, step);
+        }
+        marks
+    }
+
+    /// The rows whose value is equal to another walk's, or where `equal` is false, less, where each row's number is how far its
+    /// value is above the least of 32 bits.
+    pub(crate) fn values_beside(&self, equal: bool, other: &Walk32<'_>) -> Mask
+        ensures { (left right : ℕ → ℤ) → ((n : ℕ) → n < 1024 → pos (number_of_row self.now n) ≡ left n +ℤ pos (2 ^ 31))
+            → ((n : ℕ) → n < 1024 → pos (number_of_row other.now n) ≡ right n +ℤ pos (2 ^ 31))
+            → result ≡ rows_of (λ n. value_passes equal (left n) (right n)) }
+    {
+        let _width = self.width;
+        let _other_width = other.width;
+        mask_of_lanes(&self.marks_beside(equal, other))
     }
 }
 

@@ -1,8 +1,8 @@
 //! Set functions and comparisons of frames and deltas, by walks through their lanes.
 ghost use Rattle.std.specs.Prelude.{◌≡◌, cond, nat_lt, is_some, IfSome, pos, ◌+ℤ◌, Some, None};
 ghost use Rattle.transpose_order.specs.Mask.{has, rows_of};
-ghost use Rattle.frame_delta.specs.Frame.{frame_value};
-ghost use Rattle.frame_delta.specs.Delta.{delta_value};
+ghost use Rattle.frame_delta.specs.Frame.{frame_value, frame_values};
+ghost use Rattle.frame_delta.specs.Delta.{delta_value, delta_values};
 ghost use Rattle.table_model.specs.Values.{lesser, greater};
 ghost use Rattle.native_lanes.specs.Folds.{fold_to};
 ghost use Rattle.native_lanes.specs.Between.{between};
@@ -116,5 +116,25 @@ pub fn deltas_within(form: &Delta, low: i64, high: i64) -> Option<Mask>
         32 => Some(walk_of_deltas_32(form).values_between(low, high)),
         64 => Some(walk_of_deltas_64(form).values_between(low, high)),
         _ => None,
+    }
+}
+
+/// Writes the 1024 values in row order, at a lane width of 16 by all lanes of a step at once.
+pub fn decode_frame(form: &For, values: &mut [i64; 1024])
+    ensures { values.new ≡ frame_values form.now }
+{
+    match form.lane_width() {
+        16 => walk_of_frame_16(form).write_values(values),
+        _ => form.decode(values),
+    }
+}
+
+/// Writes the 1024 values in row order, at a lane width of 16 by all lanes of a step at once.
+pub fn decode_deltas(form: &Delta, values: &mut [i64; 1024])
+    ensures { values.new ≡ delta_values form.now }
+{
+    match form.lane_width() {
+        16 => walk_of_deltas_16(form).write_values(values),
+        _ => form.decode(values),
     }
 }

@@ -1,0 +1,12 @@
+-- Both walks' numbers are the raised values.
+use Rattle.frame_delta.specs.Frame.{frame_value}
+use Rattle.native_lanes.proofs.pairs.frame_beside_frame.Goals as goal
+
+pub returns-in-16-clause-value : goal.returns-in-16-clause-value
+returns-in-16-clause-value c = c.values_beside.ensures (frame_value c.args.left.now) (frame_value c.args.right.now) c.walk_of_frame_16.ensures c.walk_of_frame_16-in-16.ensures
+
+pub returns-in-32-clause-value : goal.returns-in-32-clause-value
+returns-in-32-clause-value c = c.values_beside-in-32.ensures (frame_value c.args.left.now) (frame_value c.args.right.now) c.walk_of_frame_32.ensures c.walk_of_frame_32-in-32.ensures
+
+pub returns-in-64-clause-value : goal.returns-in-64-clause-value
+returns-in-64-clause-value c = c.values_beside-in-64.ensures (frame_value c.args.left.now) (frame_value c.args.right.now) c.walk_of_frame_64.ensures c.walk_of_frame_64-in-64.ensures
