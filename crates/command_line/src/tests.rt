@@ -1,7 +1,7 @@
 //! The texts of help, of faults of the command line and of refusals, as a user sees them.
 
-use crate::requests::commands;
 use crate::fault::Fault;
+use crate::requests::commands;
 use std::alloc::Global;
 use std::test::Fail;
 use table_model::{BatchName, Number, Origin, Refusal};
