@@ -45,6 +45,7 @@ fn key_of(value: i64) -> u16
 /// How many keys the values have, where these are no more than `limit`.
 fn count_keys(values: &[i64; 1024], limit: usize) -> Option<usize>
     ensures some { IfSome result (λ count. count ≡ length (distinct (keys_of values.now))) }
+    ensures within { IfSome result (λ count. count ≤ limit) }
     ensures none { IfNone result (limit < length (distinct (keys_of values.now))) }
 {
     let mut marks = Marks::none();
@@ -97,7 +98,8 @@ pub(crate) fn payload_bytes(lane_width: usize, count: usize, width: usize) -> u1
 /// How many distinct values a dictionary has at most whose payload is below a bound.
 pub(crate) fn most_values(lane_width: usize, bound: u16) -> usize
     requires { IsLaneWidth lane_width }
-    ensures { (count : ℕ) → result < count → count ≤ 1024 → bound ≤ count * lane_width / 8 + 128 * least_width (count - 1) }
+    ensures enough { (count : ℕ) → result < count → count ≤ 1024 → bound ≤ count * lane_width / 8 + 128 * least_width (count - 1) }
+    ensures reached { 0 < result → result * lane_width / 8 + 128 * least_width (result - 1) < bound }
 {
     let mut most: usize = 0;
     for width in 0..11 {

@@ -45,10 +45,9 @@ fn column(lane_width: usize, pattern: Pattern) -> [i64; 1024]
 fn two_runs_take_a_mask_with_one_start(rt: HostRuntime) -> Result<(), Fail> {
     let values = column(16, Pattern::ChangedAt(500, 0, 32767));
     let runs = Runs::encode(rt.alloc(), &values, 16)?;
-    for j in 0..16 {
-        let word = if j == 7 { 1 << 52 } else { 0 };
-        assert_eq!(rt; runs.starts().words()[j], word);
-    }
+    let mut words = [0; 16];
+    words[7] = 1 << 52;
+    assert_eq!(rt; runs.starts().words(), &words);
     assert_eq!(rt; runs.values(), [0, 32767].as_slice());
     assert_eq!(rt;
         (runs.lane_width(), runs.value(499), runs.value(500)),
@@ -174,7 +173,7 @@ fn extremes_come_back(
 #[test]
 fn vectors_have_their_bytes(rt: HostRuntime) -> Result<(), Fail> {
     let alloc = rt.alloc();
-    for (pattern, bytes) in [
+    for &(pattern, bytes) in &[
         (Pattern::All(7), [130, 2]),
         (Pattern::Ramp(1), [2176, 3328]),
         (Pattern::Ramp(u64::MAX), [2176, 3328]),

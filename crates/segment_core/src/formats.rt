@@ -1,5 +1,5 @@
 //! Reading the parts of formats from the front of bytes: numbers, values, masks and packed words.
-ghost use Rattle.std.specs.Prelude.{◌≡◌, ℕ, ◌-◌, ◌*◌, ◌/◌, ◌^◌, ◌<◌, ◌≤◌, take, length, FitsSigned, IfOk, OnOk};
+ghost use Rattle.std.specs.Prelude.{◌≡◌, ℕ, ◌-◌, ◌*◌, ◌/◌, ◌^◌, ◌<◌, ◌≤◌, take, length, FitsSigned, IfOk, IfErr, OnOk};
 ghost use Rattle.std.specs.List.{All};
 ghost use Rattle.transpose_order.specs.Place.{IsLaneWidth};
 ghost use Rattle.bit_interleave.specs.Arithmetic.{integer_width};
@@ -27,6 +27,7 @@ pub fn read_number(total: usize, bytes: &[u8], size: usize) -> Result<(u64, &[u8
     requires high { size ≤ 8 }
     ensures read { Reads (λ x. (x.0, x.1.now)) result ((number size).read total bytes.now) }
     ensures fits { IfOk result (λ x. x.0 < 256 ^ size) }
+    ensures fault { IfErr result (λ e. e ≡ Refusal.Truncated total) }
 {
     if bytes.len() < size {
         return Err(Refusal::Truncated(total as u64));
@@ -45,6 +46,7 @@ pub(crate) fn read_value(
     requires { IsLaneWidth lane_width }
     ensures read { Reads (λ x. (x.0, x.1.now)) result ((signed lane_width).read total bytes.now) }
     ensures fits { IfOk result (λ x. FitsSigned (integer_width lane_width) x.0) }
+    ensures fault { IfErr result (λ e. e ≡ Refusal.Truncated total) }
 {
     let (number, rest) = read_number(total, bytes, lane_width / 8)?;
     Ok((wrap(lane_width, number), rest))
@@ -66,11 +68,11 @@ pub(crate) fn read_words(
     ensures width { IfOk result (λ x. HasWidth x.0 width) }
     ensures lanes { IfOk result (λ x. x.0.lane_width ≡ lane_width) }
 {
-    let size = 128 * width;
-    if bytes.len() < size {
+    let needed = 128 * width;
+    if bytes.len() < needed {
         return Err(Refusal::Truncated(total as u64));
     }
-    let (front, rest) = bytes.split_at(size);
+    let (front, rest) = bytes.split_at(needed);
     Ok((Words::from_le_bytes(alloc, lane_width, front)?, rest))
 }
 

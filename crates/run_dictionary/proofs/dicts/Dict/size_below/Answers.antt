@@ -9,7 +9,7 @@ use Rattle.run_dictionary.proofs.dicts.Dict.size_below.Goals as goal
 pub returns-in_err-count-clause-below : goal.returns-in_err-count-clause-below
 returns-in_err-count-clause-below c =
     let bytes = dict_bytes (least_dict c.args.lane_width c.args.values.now) in
-    let not_below : c.args.bound ≤ bytes = c.most_values.ensures (length (distinct c.args.values.now)) c.in_err-count.ensures.none (omega (arith, length-distinct c.args.values.now, c.told-values)) in
+    let not_below : c.args.bound ≤ bytes = c.most_values.ensures.enough (length (distinct c.args.values.now)) c.in_err-count.ensures.none (omega (arith, length-distinct c.args.values.now, c.told-values)) in
     subst (λ (o : Option ℕ). IsSome o ↔ (bytes < c.args.bound)) (sym c.from_residual.ensures) (λ s. absurd (search (rules, s)), λ l. absurd (omega (arith, not_below, l)))
 
 pub overflow_sub-count : goal.overflow_sub-count
