@@ -236,7 +236,10 @@ fn groups_in_runs_of_rows(rt: HostRuntime) -> Result<(), Fail> {
     ]?;
     let query = query(alloc, values, &["A"])?;
     let (written, passes) = answered(alloc, &mut columns, &query)?;
-    assert_eq!(rt; written.as_str(), "A,COUNT(*),SUM(B),MAX(B)\n0,400,471,499\n1,400,1152921504606912863,1152921504606848073\n2,300,12771,399\n");
+    assert_eq!(rt;
+        written.as_str(),
+        "A,COUNT(*),SUM(B),MAX(B)\n0,400,471,499\n1,400,1152921504606912863,1152921504606848073\n2,300,12771,399\n"
+    );
     assert!(rt; passes <= 8);
     Ok(())
 }
