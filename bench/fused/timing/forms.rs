@@ -225,6 +225,22 @@ impl<U: Native, const LANES: usize> Form<U, LANES> {
         })
     }
 
+    /// The rows of the mask whose value is less than that of another vector, and the others of the mask.
+    pub fn columns(&self, other: &Self, mask: &Words) -> (Words, Words) {
+        parted(mask, match (self, other) {
+            (Form::Lanes(lanes), Form::Lanes(others)) => lanes.below_lanes(others),
+            _ => self.below_decoded(other),
+        })
+    }
+
+    fn below_decoded(&self, other: &Self) -> Words {
+        let (mut values, mut others) = ([0; 1024], [0; 1024]);
+        self.decode(&mut values);
+        other.decode(&mut others);
+        let word = |j: usize| (0..64).fold(0, |word, row| word | u64::from(values[64 * j + row] < others[64 * j + row]) << row);
+        std::array::from_fn(word)
+    }
+
     pub fn decode(&self, values: &mut [i64; 1024]) {
         match self {
             Form::Lanes(lanes) => lanes.decode(values),

@@ -80,17 +80,23 @@ impl<U: Native, const LANES: usize> Lanes<U, LANES> {
         let mut packed = [U::default(); LANES];
         let mut numbers = self.starts;
         for step in 0..U::BITS {
-            self.unpack(step, &mut packed);
-            if self.carried {
-                for i in 0..LANES {
-                    numbers[i] = numbers[i].plus(self.added).plus(packed[i]);
-                }
-            } else {
-                for i in 0..LANES {
-                    numbers[i] = self.added.plus(packed[i]);
-                }
-            }
+            self.next_step(step, &mut packed, &mut numbers);
             take(step, &numbers);
+        }
+    }
+
+    /// Takes the numbers of all lanes to a step.
+    #[inline(always)]
+    fn next_step(&self, step: usize, packed: &mut [U; LANES], numbers: &mut [U; LANES]) {
+        self.unpack(step, packed);
+        if self.carried {
+            for i in 0..LANES {
+                numbers[i] = numbers[i].plus(self.added).plus(packed[i]);
+            }
+        } else {
+            for i in 0..LANES {
+                numbers[i] = self.added.plus(packed[i]);
+            }
         }
     }
 
@@ -165,11 +171,23 @@ impl<U: Native, const LANES: usize> Lanes<U, LANES> {
                 marks[i] |= U::from_number(u64::from(test(numbers[i].value()))) << step;
             }
         });
-        let mut words = [0; 16];
-        for lane in 0..LANES {
-            words[lane % 16] |= marks[lane].number() << first_row::<U>(lane / 16);
+        mask_of_lanes(&marks)
+    }
+
+    /// The rows whose value is below that of other lanes.
+    #[inline(never)]
+    pub fn below_lanes(&self, others: &Self) -> Words {
+        let mut marks = [U::default(); LANES];
+        let (mut packed, mut other_packed) = ([U::default(); LANES], [U::default(); LANES]);
+        let (mut numbers, mut other_numbers) = (self.starts, others.starts);
+        for step in 0..U::BITS {
+            self.next_step(step, &mut packed, &mut numbers);
+            others.next_step(step, &mut other_packed, &mut other_numbers);
+            for i in 0..LANES {
+                marks[i] |= U::from_number(u64::from(numbers[i].value() < other_numbers[i].value())) << step;
+            }
         }
-        words
+        mask_of_lanes(&marks)
     }
 
     #[inline(never)]
@@ -207,4 +225,14 @@ pub fn lanes_of<U: Word, const LANES: usize>(mask: &Words) -> [U; LANES] {
         }
     }
     lanes
+}
+
+/// The words of a mask whose rows are the marks of the lanes.
+#[inline(always)]
+fn mask_of_lanes<U: Word, const LANES: usize>(marks: &[U; LANES]) -> Words {
+    let mut words = [0; 16];
+    for lane in 0..LANES {
+        words[lane % 16] |= marks[lane].number() << first_row::<U>(lane / 16);
+    }
+    words
 }

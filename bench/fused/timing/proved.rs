@@ -9,6 +9,7 @@ unsafe extern "C" {
     fn fused_times_compare(values: &[i64; 1024], lane_width: usize, coding: usize, masks: &[Words; 2], literal: i64, times: usize) -> u64;
     fn fused_times_range(values: &[i64; 1024], lane_width: usize, coding: usize, masks: &[Words; 2], low: i64, high: i64, times: usize) -> u64;
     fn fused_times_decode(values: &[i64; 1024], lane_width: usize, coding: usize, masks: &[Words; 2], into: &mut [i64; 1024], times: usize) -> u64;
+    fn fused_times_columns(values: &[i64; 1024], others: &[i64; 1024], lane_width: usize, coding: usize, masks: &[Words; 2], times: usize) -> u64;
 }
 
 /// A vector as it is given to the proved kernels.
@@ -42,5 +43,8 @@ impl Given<'_> {
 
     pub fn decode(&self, into: &mut [i64; 1024], times: usize) -> u64 {
         unsafe { fused_times_decode(self.values, self.lane_width, self.coding, self.masks, into, times) }
+    }
+    pub fn compare_columns(&self, others: &[i64; 1024], times: usize) -> u64 {
+        unsafe { fused_times_columns(self.values, others, self.lane_width, self.coding, self.masks, times) }
     }
 }

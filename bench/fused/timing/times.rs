@@ -24,12 +24,17 @@ fn mixed_both(sum: u64, (yes, no): &(Words, Words)) -> u64 {
     mixed_mask(mixed_mask(sum, yes), no)
 }
 
-/// Times the kernels over a vector with each mask, at a literal and a range in the midst of its values.
-fn time_vector<U: Native, const LANES: usize>(data: &str, coding: usize, values: &[i64; 1024], form: Form<U, LANES>) {
+/// Times the kernels over a vector with each mask, at a literal and a range in the midst of its values, and beside the vector with
+/// its values in the other order.
+fn time_vector<U: Native, const LANES: usize>(data: &str, coding: usize, values: &[i64; 1024], form_of: fn(&[i64; 1024]) -> Form<U, LANES>) {
+    let form = form_of(values);
     let mut sorted = *values;
     sorted.sort_unstable();
     let [low, middle, high] = [256, 512, 768].map(|place| sorted[place]);
     let bits = U::BITS;
+    let mut others = *values;
+    others.reverse();
+    let other = form_of(&others);
     for (name, masks) in masks() {
         let given = Given { values, lane_width: bits, coding, masks: &masks };
         let form = || black_box(&form);
@@ -43,6 +48,9 @@ fn time_vector<U: Native, const LANES: usize>(data: &str, coding: usize, values:
         });
         time("compare_range", bits, &data, &mut |n| given.range(low, high, n), &mut |sum, i| {
             mixed_both(sum, &form().range(low, high, mask(i)))
+        });
+        time("compare_columns", bits, &data, &mut |n| given.compare_columns(&others, n), &mut |sum, i| {
+            mixed_both(sum, &form().columns(black_box(&other), mask(i)))
         });
     }
     let (_, masks) = masks()[0];
@@ -59,20 +67,20 @@ pub fn time_all<U: Native, const LANES: usize>() {
     let least = U::wide(U::LEAST) + 5;
     for width in [0, 3, U::BITS / 2, U::BITS - 1] {
         let values = spread::<U>(least, width);
-        time_vector(&format!("FOR, width {width}"), 0, &values, frame_of::<U, LANES>(&values));
+        time_vector(&format!("FOR, width {width}"), 0, &values, frame_of::<U, LANES>);
     }
     let values = wrapping::<U>();
-    time_vector("FOR, may wrap", 0, &values, frame_of::<U, LANES>(&values));
+    time_vector("FOR, may wrap", 0, &values, frame_of::<U, LANES>);
     for width in [0, 3, U::BITS / 2, U::BITS - 1] {
         let values = walk::<U>(width);
-        time_vector(&format!("DELTA, width {width}"), 1, &values, deltas_of::<U, LANES>(&values));
+        time_vector(&format!("DELTA, width {width}"), 1, &values, deltas_of::<U, LANES>);
     }
     for length in [4, 64] {
         let values = runs(length);
-        time_vector(&format!("RLE, about {length} rows a run"), 2, &values, runs_of::<U, LANES>(&values));
+        time_vector(&format!("RLE, about {length} rows a run"), 2, &values, runs_of::<U, LANES>);
     }
     for count in [16, 500] {
         let values = few::<U>(count);
-        time_vector(&format!("DICT, at most {count} values"), 3, &values, dict_of::<U, LANES>(&values));
+        time_vector(&format!("DICT, at most {count} values"), 3, &values, dict_of::<U, LANES>);
     }
 }
