@@ -7,3 +7,4 @@ pub mod WalkLemmas
 pub mod ListLemmas
 pub mod RaisedLemmas
 pub mod WalkFoldLemmas
+pub mod RisingLemmas

@@ -15,7 +15,7 @@ use frame_delta::For;
 use transpose_order::Mask;
 
 /// The greatest number of `width` bits, 0 to 64.
-fn greatest_number(width: usize) -> u64
+pub(crate) fn greatest_number(width: usize) -> u64
     requires { width ≤ 64 }
     ensures { result ≡ 2 ^ width - 1 }
 {

@@ -1,5 +1,5 @@
 //! Lanes of 64 bits gone through step by step, all 16 of them at once, by loops that the compiler makes vectors of.
-ghost use Rattle.std.specs.Prelude.{IsTrue, ◌≡◌, ◌==◌, ℕ, suc, ◌+◌, ◌-◌, ◌*◌, ◌/◌, ◌%◌, ◌^◌, ◌<◌, ◌≤◌, ◌&&◌, cond, length, slice_index, nat_le, min, max, FitsSigned, ℤ, int_lt, pos, ◌+ℤ◌, Some, None};
+ghost use Rattle.std.specs.Prelude.{IsTrue, ◌≡◌, ◌==◌, ℕ, suc, ◌+◌, ◌-◌, ◌*◌, ◌/◌, ◌%◌, ◌^◌, ◌<◌, ◌≤◌, ◌&&◌, cond, length, slice_index, nat_le, min, max, FitsSigned, ℤ, int_lt, pos, ◌+ℤ◌, Some, None, IfSome, true};
 ghost use Rattle.std.specs.Int.{bit_at, w64};
 ghost use Rattle.transpose_order.specs.Mask.{has, rows_of};
 ghost use Rattle.transpose_order.specs.Place.{row_at};
@@ -14,6 +14,7 @@ ghost use Rattle.native_lanes.specs.Pairs.{number_passes, value_passes};
 ghost use Rattle.native_lanes.specs.Walks.{number_before, number_at, number_of_row, turned};
 
 use crate::native_64::{mark, mark_beside, mask_of_lanes, numbers_64};
+use crate::packed::greatest_number;
 use crate::raised::{raised_range, value_above};
 use frame_delta::{Delta, For};
 use std::marker::Model;
@@ -194,6 +195,26 @@ fn greatest_of_lanes(numbers: &[u64; 16]) -> u64
     greatest
 }
 
+/// The greatest of the numbers of 16 lanes, or where `flipped` is true, of how far they are below the greatest of 64 bits.
+fn greatest_of_turned(flipped: bool, numbers: &[u64; 16]) -> u64
+    ensures { result ≡ fold_to max 0 16 (λ lane. turned 64 flipped (slice_index numbers.now lane)) }
+{
+    let mut greatest: u64 = 0;
+    for i in 0..16 {
+        greatest = greatest.max(turned(flipped, numbers[i]));
+    }
+    greatest
+}
+
+/// How much 63 steps add at most to a number that is carried, or none where that is more than 64 bits hold.
+fn most_added(added: u64, width: usize) -> Option<u64>
+    requires { width ≤ 64 }
+    ensures { IfSome result (λ most. most ≡ 63 * (added + (2 ^ width - 1))) }
+{
+    let most = added.checked_add(greatest_number(width))?;
+    most.checked_mul(63)
+}
+
 /// The bits of a mask's rows in the 16 lanes of 64 bits: bit `step` of a lane is that of the row that stands there.
 fn lanes_of_mask_64(mask: &Mask) -> [u64; 16]
     ensures { (lane step : ℕ) → lane < 16 → step < 64 → (bit_at (slice_index result lane) step == 1) ≡ has mask.now (row_at 64 lane step) }
@@ -261,10 +282,75 @@ impl<'a> Walk64<'a> {
         self.sum(rows) as i128 - rows.count_below(1024) as i128 * (1 << 63)
     }
 
+    /// The numbers of all lanes at the first step.
+    #[inline(always)]
+    fn first_numbers(&self) -> [u64; 16]
+        ensures { (lane : ℕ) → lane < 16 → slice_index result lane ≡ number_at self.now lane 0 }
+    {
+        let mut numbers = self.starts;
+        self.go(0, &mut numbers);
+        numbers
+    }
+
+    /// The numbers of all lanes at the last step.
+    #[inline(always)]
+    fn last_numbers(&self) -> [u64; 16]
+        ensures { (lane : ℕ) → lane < 16 → slice_index result lane ≡ number_at self.now lane 63 }
+    {
+        let mut numbers = self.starts;
+        for step in 0..64 {
+            self.go(step, &mut numbers);
+        }
+        numbers
+    }
+
+    /// Whether the numbers of all lanes rise, or stay, from each step to the next: that is so where they are carried, and what 63
+    /// steps may add doesn't take the greatest of the first step's past 64 bits.
+    #[inline(always)]
+    fn is_rising(&self, first: &[u64; 16]) -> bool
+        requires { (lane : ℕ) → lane < 16 → slice_index first.now lane ≡ number_at self.now lane 0 }
+        ensures { IsTrue result → (lane step : ℕ) → lane < 16 → step < 63 → number_at self.now lane step ≤ number_at self.now lane (step + 1) }
+    {
+        match most_added(self.added, self.width) {
+            None => false,
+            Some(most) => self.carried && greatest_of_lanes(first) <= u64::MAX - most,
+        }
+    }
+
+    /// What `greatest` answers over all rows where the numbers of each lane rise: those of the last step, or where `flipped` is
+    /// true of the first, decide.
+    #[inline(always)]
+    fn greatest_of_rising(&self, flipped: bool, first: &[u64; 16], rows: &Mask) -> u64
+        requires first { (lane : ℕ) → lane < 16 → slice_index first.now lane ≡ number_at self.now lane 0 }
+        requires rising { (lane step : ℕ) → lane < 16 → step < 63 → number_at self.now lane step ≤ number_at self.now lane (step + 1) }
+        requires all { (lane step : ℕ) → lane < 16 → step < 64 → has rows.now (row_at 64 lane step) ≡ true }
+        ensures { result ≡ fold_to max 0 1024 (λ n. cond (has rows.now n) (turned 64 flipped (number_of_row self.now n)) 0) }
+    {
+        let _width = self.width;
+        let numbers = if flipped { *first } else { self.last_numbers() };
+        greatest_of_turned(flipped, &numbers)
+    }
+
     /// The greatest of the numbers of a mask's rows, or 0 over none. Where `flipped` is true, it is the greatest of how far the
-    /// numbers are below the greatest of 64 bits, which gives their least.
+    /// numbers are below the greatest of 64 bits, which gives their least. Where all rows of rising lanes are taken, one step
+    /// decides.
     #[inline(always)]
     fn greatest(&self, flipped: bool, rows: &Mask) -> u64
+        ensures value { result ≡ fold_to max 0 1024 (λ n. cond (has rows.now n) (turned 64 flipped (number_of_row self.now n)) 0) }
+        ensures below { (n : ℕ) → number_of_row self.now n ≤ 2 ^ 64 - 1 }
+    {
+        if self.carried && are_all_set(&lanes_of_mask_64(rows)) {
+            let first = self.first_numbers();
+            if self.is_rising(&first) {
+                return self.greatest_of_rising(flipped, &first, rows);
+            }
+        }
+        self.greatest_by_steps(flipped, rows)
+    }
+
+    /// What `greatest` answers, by all steps.
+    #[inline(always)]
+    fn greatest_by_steps(&self, flipped: bool, rows: &Mask) -> u64
         ensures value { result ≡ fold_to max 0 1024 (λ n. cond (has rows.now n) (turned 64 flipped (number_of_row self.now n)) 0) }
         ensures below { (n : ℕ) → number_of_row self.now n ≤ 2 ^ 64 - 1 }
     {

@@ -4,7 +4,7 @@ use Rattle.transpose_order.specs.Mask.{has}
 use Rattle.transpose_order.specs.Place.{row_at}
 use Rattle.native_lanes.specs.Folds.{fold_to}
 use Rattle.native_lanes.specs.Walks.{number_before, number_at, turned}
-use Rattle.native_lanes.proofs.walk_64.Walk64.greatest.Given as goal
+use Rattle.native_lanes.proofs.walk_64.Walk64.greatest_by_steps.Given as goal
 
 abbrev pub invariant-loop-step : goal.invariant-loop-step
 invariant-loop-step l = record {
