@@ -15,7 +15,7 @@ use Rattle.table_model.specs.Table.{Table, IsBatch}
 use Rattle.segment_core.specs.Segment.{SegmentForm, recoded, vector_at, widths_in, widths_of}
 use Rattle.segment_core.specs.declared.coding.Coding.{Coding}
 use Rattle.segment_core.specs.SegmentCode.{coded_segment}
-use Rattle.replica_store.specs.Replica.{Replica, coded_replica, differs, is_live_row, vectors_of, IsSound}
+use Rattle.replica_store.specs.Replica.{Replica, coded_replica, coded_origin, differs, is_live_row, vectors_of, IsSound}
 
 -- a batch's segment with its name
 abbrev pub Entry : Type 0
@@ -43,6 +43,15 @@ pub record StoreForm : Type 0 where
 abbrev pub coded_store : Coded StoreForm
 coded_store = code_by (Replica × map.FinMap name_cmp SegmentForm) (coded× coded_replica (map.code coded_name coded_segment)) (λ s. (s.replica, s.segments)) (λ p. record { replica = p.0; segments = p.1 }) (λ _. refl)
 
+-- the batches that a store keeps: the own origin that parts them, and the segments by name
+pub record BatchesForm : Type 0 where
+  pub own : Origin
+  pub segments : map.FinMap name_cmp SegmentForm
+
+-- batches by their parts
+abbrev pub coded_batches : Coded BatchesForm
+coded_batches = code_by (Origin × map.FinMap name_cmp SegmentForm) (coded× coded_origin (map.code coded_name coded_segment)) (λ b. (b.own, b.segments)) (λ p. record { own = p.0; segments = p.1 }) (λ _. refl)
+
 -- a batch's name is proper
 abbrev pub HasProperName : Entry → Type 0
 HasProperName e = IsTrue (is_proper_name e.0)
@@ -57,10 +66,11 @@ pub record IsStored (table : Table) (e : Entry) : Type 0 where
 abbrev pub AreStored : Table → map.FinMap name_cmp SegmentForm → Type 0
 AreStored table segments = (name : BatchName) (s : SegmentForm) → map.get segments name ≡ Some s → IsStored table (name, s)
 
--- what is always true of a store: its own origin is at least 1, it is within the limits, and it may hold each of its batches
-pub record IsSoundStore (table : Table) (own : Origin) (segments : map.FinMap name_cmp SegmentForm) : Type 0 where
-  pub sound : IsSound table own (rows_in segments)
-  pub stored : AreStored table segments
+-- what is always true of a store: its own origin is at least 1, it is within the limits, it may hold each of its batches, and these are parted by its own origin
+pub record IsSoundStore (table : Table) (own : Origin) (batches : BatchesForm) : Type 0 where
+  pub sound : IsSound table own (rows_in batches.segments)
+  pub stored : AreStored table batches.segments
+  pub parted : batches.own ≡ own
 
 -- a segment that was looked for, with a vector in another coding
 abbrev pub recoded_held : Option SegmentForm → ℕ → ℕ → Coding → Result (Unit {0} × SegmentForm) Refusal

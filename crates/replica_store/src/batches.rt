@@ -21,7 +21,8 @@ use std::marker::Model;
 use std::mem;
 use table_model::{BatchName, Origin, Refusal};
 
-/// The batches by name, as segments, and the set of the names. Contracts see them as a finite map from names to segments.
+/// The batches by name, as segments, and the set of the names. Contracts see the own origin that parts them, and beside it a
+/// finite map from names to segments.
 ///
 /// They lie in two vectors in ascending order: those of origins up to the own one, of which the own ones are the last, and those
 /// of greater origins. So a batch that is appended goes in at the end of the first, and moves no other.
@@ -36,16 +37,14 @@ pub(crate) struct Batches {
 impl Model for Batches {
     ghost use Rattle.std.specs.Prelude.{◌++◌};
     ghost use Rattle.std.specs.FinMap as map;
-    ghost use Rattle.table_model.specs.Name.{name_cmp, coded_name};
-    ghost use Rattle.segment_core.specs.Segment.{SegmentForm};
     ghost use Rattle.replica_store.specs.Parted.{AreKeptInParts};
-    ghost use Rattle.segment_core.specs.SegmentCode.{coded_segment};
+    ghost use Rattle.replica_store.specs.Segments.{BatchesForm, coded_batches};
 
-    ghost Value = { map.FinMap name_cmp SegmentForm };
+    ghost Value = { BatchesForm };
 
-    ghost coded = { map.code coded_name coded_segment };
+    ghost coded = { coded_batches };
 
-    ghost view = { λ b. map.from_sorted (b.up_to.items ++ b.past.items) };
+    ghost view = { λ b. record { own = b.own; segments = map.from_sorted (b.up_to.items ++ b.past.items) } };
 
     ghost invariant = { λ b. AreKeptInParts b.own b.up_to.items b.past.items b.held };
 }
@@ -53,14 +52,16 @@ impl Model for Batches {
 impl Batches {
     /// No batch. Those that come will be parted by the own origin.
     pub fn new(alloc: Global, own: Origin) -> Batches
-        ensures segments { result ≡ map.empty }
-        ensures rows { rows_in result ≡ map.empty }
+        ensures own { result.own ≡ own }
+        ensures segments { result.segments ≡ map.empty }
+        ensures rows { rows_in result.segments ≡ map.empty }
     {
+        let held = Held::new(alloc);
         Batches {
             own,
             up_to: Vec::new(alloc),
             past: Vec::new(alloc),
-            held: Held::new(alloc),
+            held,
         }
     }
 
@@ -72,7 +73,8 @@ impl Batches {
     ) -> Result<Batches, AllocError>
         requires sorted { T (map.is_sorted name_cmp entries.items) }
         requires proper { All HasProperName entries.items }
-        ensures { IfOk result (λ batches. batches ≡ map.from_sorted entries.items) }
+        ensures own { IfOk result (λ batches. batches.own ≡ own) }
+        ensures segments { IfOk result (λ batches. batches.segments ≡ map.from_sorted entries.items) }
     {
         let held = names_held(alloc, entries.as_slice())?;
         let (up_to, past) = parted(own, entries)?;
@@ -86,23 +88,24 @@ impl Batches {
 
     /// How many batches there are.
     pub fn len(&self) -> usize
-        ensures count { result ≡ map.len self.now }
-        ensures rows { result ≡ map.len (rows_in self.now) }
+        ensures count { result ≡ map.len self.now.segments }
+        ensures rows { result ≡ map.len (rows_in self.now.segments) }
     {
         self.up_to.len() + self.past.len()
     }
 
     /// The batches, in ascending order of name: those of origins up to the own one, then those of greater origins.
     pub fn parts(&self) -> (&[(BatchName, Segment)], &[(BatchName, Segment)])
-        ensures { result.0.now ++ result.1.now ≡ map.entries self.now }
+        ensures whole { result.0.now ++ result.1.now ≡ map.entries self.now.segments }
+        ensures parted { AreParted self.now.own result.0.now result.1.now }
     {
         (self.up_to.as_slice(), self.past.as_slice())
     }
 
     /// The batch at this place, in ascending order of name and from 0. It takes the same time at each place.
     pub fn at(&self, index: usize) -> (BatchName, &Segment)
-        requires { index < map.len self.now }
-        ensures { slice_get (map.entries self.now) index ≡ Some (result.0, result.1.now) }
+        requires { index < map.len self.now.segments }
+        ensures { slice_get (map.entries self.now.segments) index ≡ Some (result.0, result.1.now) }
     {
         let before = self.up_to.len();
         if index < before {
@@ -114,8 +117,8 @@ impl Batches {
 
     /// The segment of a batch, if there is one of that name. It takes a binary search.
     pub fn get(&self, name: BatchName) -> Option<&Segment>
-        ensures segment { option_copied result ≡ map.get self.now name }
-        ensures rows { option_map (λ s. s.rows) (option_copied result) ≡ map.get (rows_in self.now) name }
+        ensures segment { option_copied result ≡ map.get self.now.segments name }
+        ensures rows { option_map (λ s. s.rows) (option_copied result) ≡ map.get (rows_in self.now.segments) name }
     {
         if name.origin.0 <= self.own.0 {
             found(self.up_to.as_slice(), name)
@@ -126,14 +129,14 @@ impl Batches {
 
     /// The names of the batches.
     pub fn names(&self) -> &Held
-        ensures { result.now ≡ names_of self.now }
+        ensures { result.now ≡ names_of self.now.segments }
     {
         &self.held
     }
 
     /// The greatest number of an origin, or 0. It takes two binary searches.
     pub fn greatest_number(&self, origin: Origin) -> u32
-        ensures { result ≡ greatest_number origin (map.entries (rows_in self.now)) }
+        ensures { result ≡ greatest_number origin (map.entries (rows_in self.now.segments)) }
     {
         let up_to = last_number(self.up_to.as_slice(), origin);
         let past = last_number(self.past.as_slice(), origin);
@@ -142,7 +145,7 @@ impl Batches {
 
     /// Whether the batch of this name has other rows, however either is coded.
     fn differs(&self, name: BatchName, other: &Segment) -> bool
-        ensures { result ≡ differs (map.get (rows_in self.now) name) other.now.rows }
+        ensures { result ≡ differs (map.get (rows_in self.now.segments) name) other.now.rows }
     {
         match self.get(name) {
             None => false,
@@ -157,7 +160,7 @@ impl Batches {
         second: &[(BatchName, Segment)],
     ) -> Option<BatchName>
         requires { T (map.is_sorted name_cmp (first.now ++ second.now)) }
-        ensures { result ≡ conflict_with (rows_in self.now) (map.entries (rows_in (map.from_sorted (first.now ++ second.now)))) }
+        ensures { result ≡ conflict_with (rows_in self.now.segments) (map.entries (rows_in (map.from_sorted (first.now ++ second.now)))) }
     {
         match first_conflict(self, first) {
             Some(name) => Some(name),
@@ -173,7 +176,7 @@ impl Batches {
         limit: usize,
     ) -> bool
         requires { T (map.is_sorted name_cmp (first.now ++ second.now)) }
-        ensures { result ≡ nat_lt limit (map.len (union_of (rows_in self.now) (rows_in (map.from_sorted (first.now ++ second.now))))) }
+        ensures { result ≡ nat_lt limit (map.len (union_of (rows_in self.now.segments) (rows_in (map.from_sorted (first.now ++ second.now))))) }
     {
         let held = self.len();
         if held > limit {
@@ -196,7 +199,8 @@ impl Batches {
     ) -> Result<(), AllocError>
         requires sorted { T (map.is_sorted name_cmp (first.now ++ second.now)) }
         requires names { names.now ≡ names_of (map.from_sorted (first.now ++ second.now)) }
-        ensures ok { OnOk result (self.new ≡ union_in self.old (map.from_sorted (first.now ++ second.now))) }
+        ensures own { self.new.own ≡ self.old.own }
+        ensures ok { OnOk result (self.new.segments ≡ union_in self.old.segments (map.from_sorted (first.now ++ second.now))) }
         ensures err { OnErr result (self.new ≡ self.old) }
     {
         let fresh = copies_lacked(alloc, &self.held, first, second)?;
@@ -215,8 +219,9 @@ impl Batches {
     /// Puts in a batch of a proper name that isn't there. One that is the last of its part moves no other.
     pub fn insert(&mut self, name: BatchName, segment: Segment) -> Result<(), AllocError>
         requires proper { IsTrue (is_proper_name name) }
-        requires new { map.get self.old name ≡ None }
-        ensures ok { OnOk result (self.new ≡ map.insert self.old name segment) }
+        requires new { map.get self.old.segments name ≡ None }
+        ensures own { self.new.own ≡ self.old.own }
+        ensures ok { OnOk result (self.new.segments ≡ map.insert self.old.segments name segment) }
         ensures err { OnErr result (self.new ≡ self.old) }
     {
         if name.origin.0 <= self.own.0 {
@@ -235,9 +240,10 @@ impl Batches {
         vector: u32,
         coding: Coding,
     ) -> Result<(), Refusal>
-        ensures segments { Acts (λ done. done) self.old result self.new (recoded_in self.old name column vector coding) }
-        ensures rows { rows_in self.new ≡ rows_in self.old }
-        ensures stored { (table : Table) → AreStored table self.old → AreStored table self.new }
+        ensures own { self.new.own ≡ self.old.own }
+        ensures segments { Acts (λ done. done) self.old.segments result self.new.segments (recoded_in self.old.segments name column vector coding) }
+        ensures rows { rows_in self.new.segments ≡ rows_in self.old.segments }
+        ensures stored { (table : Table) → AreStored table self.old.segments → AreStored table self.new.segments }
     {
         if name.origin.0 <= self.own.0 {
             recode_found(
@@ -392,7 +398,7 @@ fn last_number(entries: &[(BatchName, Segment)], own: Origin) -> u32
 
 /// The first of these batches that has other rows among ours.
 fn first_conflict(ours: &Batches, theirs: &[(BatchName, Segment)]) -> Option<BatchName>
-    ensures { result ≡ conflict_in (rows_in ours.now) theirs.now }
+    ensures { result ≡ conflict_in (rows_in ours.now.segments) theirs.now }
 {
     for (name, segment) in theirs {
         if ours.differs(*name, segment) {

@@ -10,6 +10,7 @@ ghost use Rattle.table_model.specs.Table.{IsBatch};
 ghost use Rattle.segment_core.specs.Segment.{canonical_segment, widths_in, widths_of};
 ghost use Rattle.segment_core.specs.SegmentBytes.{HasBytesIn};
 ghost use Rattle.replica_store.specs.Exchange.{summary_of, offered, unlisted, applied, opened};
+ghost use Rattle.replica_store.specs.Parted.{AreParted};
 ghost use Rattle.replica_store.specs.Replica.{Replica, IsWithinLimits, new_replica, entries_of, names_of, appended, inserted, merged, merge_fault, next_name, place_for, replica_with, with_batch, joined_with, live_count, is_live_row, deleted_rows, delete_fault, recoded_rows, recode_fault};
 ghost use Rattle.replica_store.specs.Segments.{rows_in, union_in, recoded_in, live_in, AreShort, AreStored, IsStored, IsSoundStore, HasVector};
 ghost use Rattle.segment_core.specs.declared.coding.Coding.{Coding};
@@ -53,7 +54,7 @@ impl Model for Store {
 
     ghost coded = { coded_store };
 
-    ghost view = { λ s. record { replica = record { schema = s.schema; own = s.own; state = record { batches = rows_in s.batches; deleted = s.tombs } }; segments = s.batches } };
+    ghost view = { λ s. record { replica = record { schema = s.schema; own = s.own; state = record { batches = rows_in s.batches.segments; deleted = s.tombs } }; segments = s.batches.segments } };
 
     ghost invariant = { λ s. IsSoundStore s.schema s.own s.batches };
 }
@@ -81,8 +82,8 @@ impl Store {
     /// The store that has these parts.
     pub(crate) fn from_parts(schema: Schema, own: Origin, batches: Batches, tombs: Tombs) -> Store
         requires { IsSoundStore schema own batches }
-        ensures replica { result.replica ≡ record { schema = schema; own = own; state = record { batches = rows_in batches; deleted = tombs } } }
-        ensures segments { result.segments ≡ batches }
+        ensures replica { result.replica ≡ record { schema = schema; own = own; state = record { batches = rows_in batches.segments; deleted = tombs } } }
+        ensures segments { result.segments ≡ batches.segments }
     {
         Store {
             schema,
@@ -136,6 +137,7 @@ impl Store {
     pub fn parts(&self) -> (&[(BatchName, Segment)], &[(BatchName, Segment)])
         ensures value { result.0.now ++ result.1.now ≡ map.entries self.now.segments }
         ensures rows { self.now.replica.state.batches ≡ rows_in self.now.segments }
+        ensures parted { AreParted self.now.replica.own result.0.now result.1.now }
         ensures first { All (IsStored self.now.replica.schema) result.0.now }
         ensures second { All (IsStored self.now.replica.schema) result.1.now }
     {

@@ -11,14 +11,14 @@ use Rattle.replica_store.proofs.batches.Batches.conflict_with.Goals as goal
 pub returns-in-Some : goal.returns-in-Some
 returns-in-Some c =
     let es : List Entry = c.args.first.now ++ c.args.second.now in
-    sym (conflict-front (rows_in c.args.self.now) c.args.first.now c.args.second.now c.in-Some.name (sym c.first_conflict.ensures ∙ c.in-Some.is))
-    ∙ conflict-rows (rows_in c.args.self.now) es
-    ∙ ap (conflict_with (rows_in c.args.self.now)) (sym (entries-rows_in (as_map es) ∙ ap rows_entries (entries-as_map es c.requires)))
+    sym (conflict-front (rows_in c.args.self.now.segments) c.args.first.now c.args.second.now c.in-Some.name (sym c.first_conflict.ensures ∙ c.in-Some.is))
+    ∙ conflict-rows (rows_in c.args.self.now.segments) es
+    ∙ ap (conflict_with (rows_in c.args.self.now.segments)) (sym (entries-rows_in (as_map es) ∙ ap rows_entries (entries-as_map es c.requires)))
 
 pub returns-in-None : goal.returns-in-None
 returns-in-None c =
     let es : List Entry = c.args.first.now ++ c.args.second.now in
     c.first_conflict-in-None.ensures
-    ∙ sym (conflict-back (rows_in c.args.self.now) c.args.first.now c.args.second.now (sym c.first_conflict.ensures ∙ c.in-None.is))
-    ∙ conflict-rows (rows_in c.args.self.now) es
-    ∙ ap (conflict_with (rows_in c.args.self.now)) (sym (entries-rows_in (as_map es) ∙ ap rows_entries (entries-as_map es c.requires)))
+    ∙ sym (conflict-back (rows_in c.args.self.now.segments) c.args.first.now c.args.second.now (sym c.first_conflict.ensures ∙ c.in-None.is))
+    ∙ conflict-rows (rows_in c.args.self.now.segments) es
+    ∙ ap (conflict_with (rows_in c.args.self.now.segments)) (sym (entries-rows_in (as_map es) ∙ ap rows_entries (entries-as_map es c.requires)))

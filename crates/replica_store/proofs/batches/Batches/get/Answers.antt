@@ -9,7 +9,7 @@ use Rattle.table_model.specs.declared.names.BatchName.{BatchName}
 use Rattle.table_model.specs.declared.names.Origin.{Origin}
 use Rattle.segment_core.specs.Segment.{SegmentForm}
 use Rattle.replica_store.specs.Parted.{IsUpTo, IsPast, AreParted}
-use Rattle.replica_store.specs.Segments.{Entry}
+use Rattle.replica_store.specs.Segments.{BatchesForm, Entry}
 use Rattle.replica_store.proofs.InParts.{Sorted-front, Sorted-back, find-up_to, find-past}
 use Rattle.replica_store.proofs.Maps.{Sorted, as_map, get-as_map}
 use Rattle.replica_store.proofs.RowsIn.{rows, get-rows_in}
@@ -32,21 +32,21 @@ found-requires-else-name-self c = subst Sorted (sym c.as_slice-else-name-self.en
 pub returns-then-name-self-clause-segment : goal.returns-then-name-self-clause-segment
 returns-then-name-self-clause-segment c =
     in_front c.self.inside.own c.args.name c.self.inside.up_to.items c.self.inside.past.items c.as_slice.result.now _ c.self.invariant.parted c.self.invariant.kept.sorted (grind (arith, nat_tests)) c.as_slice.ensures.value c.found.ensures
-    ∙ ap (λ m. map.get m c.args.name) c.self.view_is
+    ∙ ap (λ m. map.get m c.args.name) (ap (λ (b : BatchesForm). b.segments) c.self.view_is)
 
 pub returns-else-name-self-clause-segment : goal.returns-else-name-self-clause-segment
 returns-else-name-self-clause-segment c =
     in_back c.self.inside.own c.args.name c.self.inside.up_to.items c.self.inside.past.items c.as_slice-else-name-self.result.now _ c.self.invariant.parted c.self.invariant.kept.sorted (grind (arith, nat_tests)) c.as_slice-else-name-self.ensures.value c.found-else-name-self.ensures
-    ∙ ap (λ m. map.get m c.args.name) c.self.view_is
+    ∙ ap (λ m. map.get m c.args.name) (ap (λ (b : BatchesForm). b.segments) c.self.view_is)
 
 pub returns-then-name-self-clause-rows : goal.returns-then-name-self-clause-rows
 returns-then-name-self-clause-rows c =
     ap (option_map rows) (in_front c.self.inside.own c.args.name c.self.inside.up_to.items c.self.inside.past.items c.as_slice.result.now _ c.self.invariant.parted c.self.invariant.kept.sorted (grind (arith, nat_tests)) c.as_slice.ensures.value c.found.ensures
-    ∙ ap (λ m. map.get m c.args.name) c.self.view_is)
-    ∙ sym (get-rows_in c.args.self.now c.args.name)
+    ∙ ap (λ m. map.get m c.args.name) (ap (λ (b : BatchesForm). b.segments) c.self.view_is))
+    ∙ sym (get-rows_in c.args.self.now.segments c.args.name)
 
 pub returns-else-name-self-clause-rows : goal.returns-else-name-self-clause-rows
 returns-else-name-self-clause-rows c =
     ap (option_map rows) (in_back c.self.inside.own c.args.name c.self.inside.up_to.items c.self.inside.past.items c.as_slice-else-name-self.result.now _ c.self.invariant.parted c.self.invariant.kept.sorted (grind (arith, nat_tests)) c.as_slice-else-name-self.ensures.value c.found-else-name-self.ensures
-    ∙ ap (λ m. map.get m c.args.name) c.self.view_is)
-    ∙ sym (get-rows_in c.args.self.now c.args.name)
+    ∙ ap (λ m. map.get m c.args.name) (ap (λ (b : BatchesForm). b.segments) c.self.view_is))
+    ∙ sym (get-rows_in c.args.self.now.segments c.args.name)

@@ -3,7 +3,7 @@ use Rattle.std.specs.Prelude.{◌≡◌, ◌++◌, List}
 use Rattle.std.proofs.Common.{sym, ap, subst, ◌∙◌, arith}
 use Rattle.std.specs.FinMap as map
 use Rattle.replica_store.specs.Replica.{greatest_number}
-use Rattle.replica_store.specs.Segments.{Entry}
+use Rattle.replica_store.specs.Segments.{BatchesForm, Entry}
 use Rattle.replica_store.proofs.InParts.{Sorted-front, Sorted-back}
 use Rattle.replica_store.proofs.Maps.{Sorted, entries-as_map}
 use Rattle.replica_store.proofs.Numbers.{greatest-append}
@@ -24,6 +24,6 @@ returns c =
     let back : c.last_number-past.result ≡ greatest_number c.args.origin fs = c.last_number-past.ensures ∙ ap (greatest_number c.args.origin) c.as_slice-2.ensures.value in
     let all : c.max.result ≡ greatest_number c.args.origin (es ++ fs) = omega (arith, front, back, greatest-append c.args.origin es fs, c.max.ensures) in
     all
-    ∙ ap (greatest_number c.args.origin) (sym (entries-as_map (es ++ fs) c.self.invariant.kept.sorted) ∙ ap map.entries c.self.view_is)
-    ∙ sym (greatest-rows c.args.origin (map.entries c.args.self.now))
-    ∙ ap (greatest_number c.args.origin) (sym (entries-rows_in c.args.self.now))
+    ∙ ap (greatest_number c.args.origin) (sym (entries-as_map (es ++ fs) c.self.invariant.kept.sorted) ∙ ap map.entries (ap (λ (b : BatchesForm). b.segments) c.self.view_is))
+    ∙ sym (greatest-rows c.args.origin (map.entries c.args.self.now.segments))
+    ∙ ap (greatest_number c.args.origin) (sym (entries-rows_in c.args.self.now.segments))

@@ -16,9 +16,9 @@ invariant_of-result c =
     record {
       kept = record {
         sorted = subst Sorted (sym none) tt;
-        names = c.new-3.ensures ∙ sym (ap (λ (es : List Entry). names_of (as_map es)) none ∙ ap names_of as_map-empty ∙ names_of-empty SegmentForm);
+        names = c.new-held.ensures ∙ sym (ap (λ (es : List Entry). names_of (as_map es)) none ∙ ap names_of as_map-empty ∙ names_of-empty SegmentForm);
       };
-      parted = record { up_to = subst (Each (IsUpTo c.args.own)) (sym c.new.ensures.items) tt; past = subst (Each (IsPast c.args.own)) (sym c.new-2.ensures.items) tt };
+      parted = record { up_to = subst (Each (IsUpTo _)) (sym c.new.ensures.items) tt; past = subst (Each (IsPast _)) (sym c.new-2.ensures.items) tt };
     }
 
 pub returns-clause-segments : goal.returns-clause-segments

@@ -11,7 +11,7 @@ use Rattle.table_model.specs.declared.refusal.Refusal.{Refusal}
 use Rattle.segment_core.specs.Segment.{SegmentForm}
 use Rattle.segment_core.specs.declared.coding.Coding.{Coding}
 use Rattle.replica_store.specs.Parted.{AreKeptInParts}
-use Rattle.replica_store.specs.Segments.{Entry, AreStored, RecodesEntries, rows_in, recoded_in}
+use Rattle.replica_store.specs.Segments.{BatchesForm, Entry, AreStored, RecodesEntries, rows_in, recoded_in}
 use Rattle.replica_store.proofs.InParts.{Sorted-front, Sorted-back, recodes-up_to, recodes-past}
 use Rattle.replica_store.proofs.Maps.{Sorted, as_map}
 use Rattle.replica_store.proofs.Putting.{recoded_front, recoded_back}
@@ -64,7 +64,7 @@ returns-then-name-self-clause-segments c =
     let recodes : RecodesEntries es c.recode_found.new.entries c.recode_found.result c.args.name c.args.column c.args.vector c.args.coding =
     subst (λ (xs : List Entry). RecodesEntries xs c.recode_found.new.entries c.recode_found.result c.args.name c.args.column c.args.vector c.args.coding) c.as_mut_slice.ensures.value c.recode_found.ensures.acts in
     let whole = back_in c.self.inside.up_to.len es c.recode_found.new.entries c.recode_found.result c.args.name c.args.column c.args.vector c.args.coding c.self.inside.up_to.ok.0 recodes in
-    acts_in c.args.self.now (es ++ fs) (c.recode_found.new.entries ++ fs) _ c.recode_found.result c.args.name c.args.column c.args.vector c.args.coding c.self.invariant.kept.sorted c.self.view_is (ap (λ (xs : List Entry). xs ++ fs) whole) (recodes-up_to c.self.inside.own es fs c.recode_found.new.entries c.recode_found.result c.args.name c.args.column c.args.vector c.args.coding (grind (arith, nat_tests)) c.self.invariant.parted.past recodes)
+    acts_in c.args.self.now.segments (es ++ fs) (c.recode_found.new.entries ++ fs) _ c.recode_found.result c.args.name c.args.column c.args.vector c.args.coding c.self.invariant.kept.sorted (ap (λ (b : BatchesForm). b.segments) c.self.view_is) (ap (λ (xs : List Entry). xs ++ fs) whole) (recodes-up_to c.self.inside.own es fs c.recode_found.new.entries c.recode_found.result c.args.name c.args.column c.args.vector c.args.coding (grind (arith, nat_tests)) c.self.invariant.parted.past recodes)
 
 pub returns-then-name-self-clause-rows : goal.returns-then-name-self-clause-rows
 returns-then-name-self-clause-rows c =
@@ -73,7 +73,7 @@ returns-then-name-self-clause-rows c =
     let recodes : RecodesEntries es c.recode_found.new.entries c.recode_found.result c.args.name c.args.column c.args.vector c.args.coding =
     subst (λ (xs : List Entry). RecodesEntries xs c.recode_found.new.entries c.recode_found.result c.args.name c.args.column c.args.vector c.args.coding) c.as_mut_slice.ensures.value c.recode_found.ensures.acts in
     let whole = back_in c.self.inside.up_to.len es c.recode_found.new.entries c.recode_found.result c.args.name c.args.column c.args.vector c.args.coding c.self.inside.up_to.ok.0 recodes in
-    rows_same c.args.self.now (es ++ fs) (c.recode_found.new.entries ++ fs) _ c.recode_found.result c.args.name c.args.column c.args.vector c.args.coding c.self.invariant.kept.sorted c.self.view_is (ap (λ (xs : List Entry). xs ++ fs) whole) (recodes-up_to c.self.inside.own es fs c.recode_found.new.entries c.recode_found.result c.args.name c.args.column c.args.vector c.args.coding (grind (arith, nat_tests)) c.self.invariant.parted.past recodes)
+    rows_same c.args.self.now.segments (es ++ fs) (c.recode_found.new.entries ++ fs) _ c.recode_found.result c.args.name c.args.column c.args.vector c.args.coding c.self.invariant.kept.sorted (ap (λ (b : BatchesForm). b.segments) c.self.view_is) (ap (λ (xs : List Entry). xs ++ fs) whole) (recodes-up_to c.self.inside.own es fs c.recode_found.new.entries c.recode_found.result c.args.name c.args.column c.args.vector c.args.coding (grind (arith, nat_tests)) c.self.invariant.parted.past recodes)
 
 pub returns-then-name-self-clause-stored : goal.returns-then-name-self-clause-stored
 returns-then-name-self-clause-stored c =
@@ -82,7 +82,7 @@ returns-then-name-self-clause-stored c =
     let recodes : RecodesEntries es c.recode_found.new.entries c.recode_found.result c.args.name c.args.column c.args.vector c.args.coding =
     subst (λ (xs : List Entry). RecodesEntries xs c.recode_found.new.entries c.recode_found.result c.args.name c.args.column c.args.vector c.args.coding) c.as_mut_slice.ensures.value c.recode_found.ensures.acts in
     let whole = back_in c.self.inside.up_to.len es c.recode_found.new.entries c.recode_found.result c.args.name c.args.column c.args.vector c.args.coding c.self.inside.up_to.ok.0 recodes in
-    stored_in c.args.self.now (es ++ fs) (c.recode_found.new.entries ++ fs) _ c.recode_found.result c.args.name c.args.column c.args.vector c.args.coding c.self.invariant.kept.sorted c.self.view_is (ap (λ (xs : List Entry). xs ++ fs) whole) (recodes-up_to c.self.inside.own es fs c.recode_found.new.entries c.recode_found.result c.args.name c.args.column c.args.vector c.args.coding (grind (arith, nat_tests)) c.self.invariant.parted.past recodes)
+    stored_in c.args.self.now.segments (es ++ fs) (c.recode_found.new.entries ++ fs) _ c.recode_found.result c.args.name c.args.column c.args.vector c.args.coding c.self.invariant.kept.sorted (ap (λ (b : BatchesForm). b.segments) c.self.view_is) (ap (λ (xs : List Entry). xs ++ fs) whole) (recodes-up_to c.self.inside.own es fs c.recode_found.new.entries c.recode_found.result c.args.name c.args.column c.args.vector c.args.coding (grind (arith, nat_tests)) c.self.invariant.parted.past recodes)
 
 pub invariant_of-self-else-name-self : goal.invariant_of-self-else-name-self
 invariant_of-self-else-name-self c =
@@ -100,7 +100,7 @@ returns-else-name-self-clause-segments c =
     let recodes : RecodesEntries fs c.recode_found-else-name-self.new.entries c.recode_found-else-name-self.result c.args.name c.args.column c.args.vector c.args.coding =
     subst (λ (xs : List Entry). RecodesEntries xs c.recode_found-else-name-self.new.entries c.recode_found-else-name-self.result c.args.name c.args.column c.args.vector c.args.coding) c.as_mut_slice-else-name-self.ensures.value c.recode_found-else-name-self.ensures.acts in
     let whole = back_in c.self.inside.past.len fs c.recode_found-else-name-self.new.entries c.recode_found-else-name-self.result c.args.name c.args.column c.args.vector c.args.coding c.self.inside.past.ok.0 recodes in
-    acts_in c.args.self.now (es ++ fs) (es ++ c.recode_found-else-name-self.new.entries) _ c.recode_found-else-name-self.result c.args.name c.args.column c.args.vector c.args.coding c.self.invariant.kept.sorted c.self.view_is (ap (λ (xs : List Entry). es ++ xs) whole) (recodes-past c.self.inside.own es fs c.recode_found-else-name-self.new.entries c.recode_found-else-name-self.result c.args.name c.args.column c.args.vector c.args.coding (grind (arith, nat_tests)) c.self.invariant.parted.up_to recodes)
+    acts_in c.args.self.now.segments (es ++ fs) (es ++ c.recode_found-else-name-self.new.entries) _ c.recode_found-else-name-self.result c.args.name c.args.column c.args.vector c.args.coding c.self.invariant.kept.sorted (ap (λ (b : BatchesForm). b.segments) c.self.view_is) (ap (λ (xs : List Entry). es ++ xs) whole) (recodes-past c.self.inside.own es fs c.recode_found-else-name-self.new.entries c.recode_found-else-name-self.result c.args.name c.args.column c.args.vector c.args.coding (grind (arith, nat_tests)) c.self.invariant.parted.up_to recodes)
 
 pub returns-else-name-self-clause-rows : goal.returns-else-name-self-clause-rows
 returns-else-name-self-clause-rows c =
@@ -109,7 +109,7 @@ returns-else-name-self-clause-rows c =
     let recodes : RecodesEntries fs c.recode_found-else-name-self.new.entries c.recode_found-else-name-self.result c.args.name c.args.column c.args.vector c.args.coding =
     subst (λ (xs : List Entry). RecodesEntries xs c.recode_found-else-name-self.new.entries c.recode_found-else-name-self.result c.args.name c.args.column c.args.vector c.args.coding) c.as_mut_slice-else-name-self.ensures.value c.recode_found-else-name-self.ensures.acts in
     let whole = back_in c.self.inside.past.len fs c.recode_found-else-name-self.new.entries c.recode_found-else-name-self.result c.args.name c.args.column c.args.vector c.args.coding c.self.inside.past.ok.0 recodes in
-    rows_same c.args.self.now (es ++ fs) (es ++ c.recode_found-else-name-self.new.entries) _ c.recode_found-else-name-self.result c.args.name c.args.column c.args.vector c.args.coding c.self.invariant.kept.sorted c.self.view_is (ap (λ (xs : List Entry). es ++ xs) whole) (recodes-past c.self.inside.own es fs c.recode_found-else-name-self.new.entries c.recode_found-else-name-self.result c.args.name c.args.column c.args.vector c.args.coding (grind (arith, nat_tests)) c.self.invariant.parted.up_to recodes)
+    rows_same c.args.self.now.segments (es ++ fs) (es ++ c.recode_found-else-name-self.new.entries) _ c.recode_found-else-name-self.result c.args.name c.args.column c.args.vector c.args.coding c.self.invariant.kept.sorted (ap (λ (b : BatchesForm). b.segments) c.self.view_is) (ap (λ (xs : List Entry). es ++ xs) whole) (recodes-past c.self.inside.own es fs c.recode_found-else-name-self.new.entries c.recode_found-else-name-self.result c.args.name c.args.column c.args.vector c.args.coding (grind (arith, nat_tests)) c.self.invariant.parted.up_to recodes)
 
 pub returns-else-name-self-clause-stored : goal.returns-else-name-self-clause-stored
 returns-else-name-self-clause-stored c =
@@ -118,4 +118,4 @@ returns-else-name-self-clause-stored c =
     let recodes : RecodesEntries fs c.recode_found-else-name-self.new.entries c.recode_found-else-name-self.result c.args.name c.args.column c.args.vector c.args.coding =
     subst (λ (xs : List Entry). RecodesEntries xs c.recode_found-else-name-self.new.entries c.recode_found-else-name-self.result c.args.name c.args.column c.args.vector c.args.coding) c.as_mut_slice-else-name-self.ensures.value c.recode_found-else-name-self.ensures.acts in
     let whole = back_in c.self.inside.past.len fs c.recode_found-else-name-self.new.entries c.recode_found-else-name-self.result c.args.name c.args.column c.args.vector c.args.coding c.self.inside.past.ok.0 recodes in
-    stored_in c.args.self.now (es ++ fs) (es ++ c.recode_found-else-name-self.new.entries) _ c.recode_found-else-name-self.result c.args.name c.args.column c.args.vector c.args.coding c.self.invariant.kept.sorted c.self.view_is (ap (λ (xs : List Entry). es ++ xs) whole) (recodes-past c.self.inside.own es fs c.recode_found-else-name-self.new.entries c.recode_found-else-name-self.result c.args.name c.args.column c.args.vector c.args.coding (grind (arith, nat_tests)) c.self.invariant.parted.up_to recodes)
+    stored_in c.args.self.now.segments (es ++ fs) (es ++ c.recode_found-else-name-self.new.entries) _ c.recode_found-else-name-self.result c.args.name c.args.column c.args.vector c.args.coding c.self.invariant.kept.sorted (ap (λ (b : BatchesForm). b.segments) c.self.view_is) (ap (λ (xs : List Entry). es ++ xs) whole) (recodes-past c.self.inside.own es fs c.recode_found-else-name-self.new.entries c.recode_found-else-name-self.result c.args.name c.args.column c.args.vector c.args.coding (grind (arith, nat_tests)) c.self.invariant.parted.up_to recodes)

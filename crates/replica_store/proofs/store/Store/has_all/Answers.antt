@@ -20,7 +20,7 @@ few held others count is none = sym is ∙ not-true count none
 
 pub returns-then-has_all-clause-state : goal.returns-then-has_all-clause-state
 returns-then-has_all-clause-state c none =
-    let m = c.self.inside.batches in
+    let m = c.self.inside.batches.segments in
     let n : map.FinMap name_cmp SegmentForm = as_map (c.args.first.now ++ c.args.second.now) in
     let inside : Replica = record { schema = c.self.inside.schema; own = c.self.inside.own; state = record { batches = rows_in m; deleted = c.self.inside.tombs } } in
     let exceeds = c.union_exceeds.ensures ∙ ap (λ k. nat_lt k (map.len (union_of (rows_in m) (rows_in n)))) c.len.ensures.count in
@@ -29,14 +29,14 @@ returns-then-has_all-clause-state c none =
 
 pub returns-then-has_all-clause-segments : goal.returns-then-has_all-clause-segments
 returns-then-has_all-clause-segments c none =
-    let m = c.self.inside.batches in
+    let m = c.self.inside.batches.segments in
     let n : map.FinMap name_cmp SegmentForm = as_map (c.args.first.now ++ c.args.second.now) in
     let exceeds = c.union_exceeds.ensures ∙ ap (λ k. nat_lt k (map.len (union_of (rows_in m) (rows_in n)))) c.len.ensures.count in
     subst (λ (s : StoreForm). union_in s.segments n ≡ s.segments) c.self.view_is (segments_same m n (few m n c.union_exceeds.result exceeds none))
 
 pub returns-then-has_all-clause-lacking : goal.returns-then-has_all-clause-lacking
 returns-then-has_all-clause-lacking c same =
-    let m = c.self.inside.batches in
+    let m = c.self.inside.batches.segments in
     let n : map.FinMap name_cmp SegmentForm = as_map (c.args.first.now ++ c.args.second.now) in
     let rows = ap (λ (s : StoreForm). s.replica.state.batches) (sym c.self.view_is) in
     let exceeds = c.union_exceeds.ensures ∙ ap (λ k. nat_lt k (map.len (union_of (rows_in m) (rows_in n)))) c.len.ensures.count in

@@ -12,35 +12,35 @@ use Rattle.replica_store.proofs.store.Store.live_count.Goals as goal
 
 pub count_live-requires-clause-limit : goal.count_live-requires-clause-limit
 count_live-requires-clause-limit c =
-    omega (arith, map.len-entries c.self.inside.batches, len-rows_in c.self.inside.batches, ap length c.parts.ensures, length-append c.parts.result.0.now c.parts.result.1.now, c.self.invariant.sound.within.limit)
+    omega (arith, map.len-entries c.self.inside.batches.segments, len-rows_in c.self.inside.batches.segments, ap length c.parts.ensures.whole, length-append c.parts.result.0.now c.parts.result.1.now, c.self.invariant.sound.within.limit)
 
 pub count_live-requires-clause-short : goal.count_live-requires-clause-short
 count_live-requires-clause-short c =
-    let all = AllShort-fit c.self.inside.schema (map.entries (rows_in c.self.inside.batches)) c.self.invariant.sound.within.fits in
-    short-front c.parts.result.0.now c.parts.result.1.now (subst AreShort (sym c.parts.ensures) (short-rows (map.entries c.self.inside.batches) (subst AllShort (entries-rows_in c.self.inside.batches) all)))
+    let all = AllShort-fit c.self.inside.schema (map.entries (rows_in c.self.inside.batches.segments)) c.self.invariant.sound.within.fits in
+    short-front c.parts.result.0.now c.parts.result.1.now (subst AreShort (sym c.parts.ensures.whole) (short-rows (map.entries c.self.inside.batches.segments) (subst AllShort (entries-rows_in c.self.inside.batches.segments) all)))
 
 pub count_live-requires-2-clause-limit : goal.count_live-requires-2-clause-limit
 count_live-requires-2-clause-limit c =
-    omega (arith, map.len-entries c.self.inside.batches, len-rows_in c.self.inside.batches, ap length c.parts.ensures, length-append c.parts.result.0.now c.parts.result.1.now, c.self.invariant.sound.within.limit)
+    omega (arith, map.len-entries c.self.inside.batches.segments, len-rows_in c.self.inside.batches.segments, ap length c.parts.ensures.whole, length-append c.parts.result.0.now c.parts.result.1.now, c.self.invariant.sound.within.limit)
 
 pub count_live-requires-2-clause-short : goal.count_live-requires-2-clause-short
 count_live-requires-2-clause-short c =
-    let all = AllShort-fit c.self.inside.schema (map.entries (rows_in c.self.inside.batches)) c.self.invariant.sound.within.fits in
-    short-back c.parts.result.0.now c.parts.result.1.now (subst AreShort (sym c.parts.ensures) (short-rows (map.entries c.self.inside.batches) (subst AllShort (entries-rows_in c.self.inside.batches) all)))
+    let all = AllShort-fit c.self.inside.schema (map.entries (rows_in c.self.inside.batches.segments)) c.self.invariant.sound.within.fits in
+    short-back c.parts.result.0.now c.parts.result.1.now (subst AreShort (sym c.parts.ensures.whole) (short-rows (map.entries c.self.inside.batches.segments) (subst AllShort (entries-rows_in c.self.inside.batches.segments) all)))
 
 pub overflow_add-result : goal.overflow_add-result
 overflow_add-result c =
-    let all = AllShort-fit c.self.inside.schema (map.entries (rows_in c.self.inside.batches)) c.self.invariant.sound.within.fits in
-    let short = subst AreShort (sym c.parts.ensures) (short-rows (map.entries c.self.inside.batches) (subst AllShort (entries-rows_in c.self.inside.batches) all)) in
+    let all = AllShort-fit c.self.inside.schema (map.entries (rows_in c.self.inside.batches.segments)) c.self.invariant.sound.within.fits in
+    let short = subst AreShort (sym c.parts.ensures.whole) (short-rows (map.entries c.self.inside.batches.segments) (subst AllShort (entries-rows_in c.self.inside.batches.segments) all)) in
     let few = live_in-le c.self.inside.tombs c.parts.result.0.now (short-front c.parts.result.0.now c.parts.result.1.now short) in
     let more = live_in-le c.self.inside.tombs c.parts.result.1.now (short-back c.parts.result.0.now c.parts.result.1.now short) in
-    omega (arith, c.count_live.ensures, c.count_live-2.ensures, few, more, map.len-entries c.self.inside.batches, len-rows_in c.self.inside.batches, ap length c.parts.ensures, length-append c.parts.result.0.now c.parts.result.1.now, c.self.invariant.sound.within.limit)
+    omega (arith, c.count_live.ensures, c.count_live-2.ensures, few, more, map.len-entries c.self.inside.batches.segments, len-rows_in c.self.inside.batches.segments, ap length c.parts.ensures.whole, length-append c.parts.result.0.now c.parts.result.1.now, c.self.invariant.sound.within.limit)
 
 pub returns : goal.returns
 returns c =
     (λ i. c.count_live.ensures i + c.count_live-2.ensures i)
-    ∙ sym (live-append c.self.inside.tombs c.parts.result.0.now c.parts.result.1.now) ∙ ap (live_in c.self.inside.tombs) c.parts.ensures
-    ∙ live-rows c.self.inside.tombs (map.entries c.self.inside.batches)
-    ∙ ap (live_total c.self.inside.tombs) (sym (entries-rows_in c.self.inside.batches))
-    ∙ sym (length-live_rows (record { batches = rows_in c.self.inside.batches; deleted = c.self.inside.tombs }))
+    ∙ sym (live-append c.self.inside.tombs c.parts.result.0.now c.parts.result.1.now) ∙ ap (live_in c.self.inside.tombs) c.parts.ensures.whole
+    ∙ live-rows c.self.inside.tombs (map.entries c.self.inside.batches.segments)
+    ∙ ap (live_total c.self.inside.tombs) (sym (entries-rows_in c.self.inside.batches.segments))
+    ∙ sym (length-live_rows (record { batches = rows_in c.self.inside.batches.segments; deleted = c.self.inside.tombs }))
     ∙ ap (λ (s : StoreForm). live_count s.replica) c.self.view_is

@@ -29,7 +29,7 @@ rows_are : (s : StoreForm) (m : map.FinMap name_cmp SegmentForm) (es : List Entr
 rows_are s m es rows is = rows ∙ ap rows_in (sym (whole m es is))
 
 pub merge_fault-requires : goal.merge_fault-requires
-merge_fault-requires c = in_order c.other.inside.batches (c.parts.result.0.now ++ c.parts.result.1.now) c.parts.ensures
+merge_fault-requires c = in_order c.other.inside.batches.segments (c.parts.result.0.now ++ c.parts.result.1.now) c.parts.ensures.whole
 
 pub returns-in_err-merge_fault-clause-acts : goal.returns-in_err-merge_fault-clause-acts
 returns-in_err-merge_fault-clause-acts c =
@@ -38,20 +38,20 @@ returns-in_err-merge_fault-clause-acts c =
     rw (p.1, p.2) (
       refl,
       inl (refused_merged c.args.self.now.replica c.args.other.now.replica c.other.inside.schema (rows_in (as_map es)) c.in_err-merge_fault.field-0.0 (ap (λ (s : StoreForm). s.replica.schema) (sym c.other.view_is))
-          (rows_are c.args.other.now c.other.inside.batches es (ap (λ (s : StoreForm). s.replica.state.batches) (sym c.other.view_is)) c.parts.ensures) c.in_err-merge_fault.ensures),
+          (rows_are c.args.other.now c.other.inside.batches.segments es (ap (λ (s : StoreForm). s.replica.state.batches) (sym c.other.view_is)) c.parts.ensures.whole) c.in_err-merge_fault.ensures),
     )
 
 pub take_all-requires-clause-sorted : goal.take_all-requires-clause-sorted
-take_all-requires-clause-sorted c = in_order c.other.inside.batches (c.parts.result.0.now ++ c.parts.result.1.now) c.parts.ensures
+take_all-requires-clause-sorted c = in_order c.other.inside.batches.segments (c.parts.result.0.now ++ c.parts.result.1.now) c.parts.ensures.whole
 
 pub take_all-requires-clause-names : goal.take_all-requires-clause-names
-take_all-requires-clause-names c = c.names.ensures ∙ ap names_of (sym (whole c.other.inside.batches (c.parts.result.0.now ++ c.parts.result.1.now) c.parts.ensures))
+take_all-requires-clause-names c = c.names.ensures ∙ ap names_of (sym (whole c.other.inside.batches.segments (c.parts.result.0.now ++ c.parts.result.1.now) c.parts.ensures.whole))
 
 pub take_all-requires-clause-stored : goal.take_all-requires-clause-stored
 take_all-requires-clause-stored c =
     let fine = mergeable c.args.self.now.replica c.other.inside.schema (rows_in (as_map (c.parts.result.0.now ++ c.parts.result.1.now))) c.in_ok-merge_fault.field-0 c.in_ok-merge_fault.ensures in
     subst (λ (t : Table). AreStored t (as_map (c.parts.result.0.now ++ c.parts.result.1.now))) (sym fine.schema)
-    (subst (AreStored c.other.inside.schema) (sym (whole c.other.inside.batches (c.parts.result.0.now ++ c.parts.result.1.now) c.parts.ensures)) c.other.invariant.stored)
+    (subst (AreStored c.other.inside.schema) (sym (whole c.other.inside.batches.segments (c.parts.result.0.now ++ c.parts.result.1.now) c.parts.ensures.whole)) c.other.invariant.stored)
 
 pub take_all-requires-clause-limit : goal.take_all-requires-clause-limit
 take_all-requires-clause-limit c =
@@ -67,7 +67,7 @@ returns-in_err-take_all-clause-acts c =
       inr (
         p.2,
         ok_merged c.args.self.now.replica c.args.other.now.replica c.other.inside.schema (rows_in (as_map es)) c.in_ok-merge_fault.field-0 (ap (λ (s : StoreForm). s.replica.schema) (sym c.other.view_is))
-            (rows_are c.args.other.now c.other.inside.batches es (ap (λ (s : StoreForm). s.replica.state.batches) (sym c.other.view_is)) c.parts.ensures) c.in_ok-merge_fault.ensures,
+            (rows_are c.args.other.now c.other.inside.batches.segments es (ap (λ (s : StoreForm). s.replica.state.batches) (sym c.other.view_is)) c.parts.ensures.whole) c.in_ok-merge_fault.ensures,
       ),
     )
 
@@ -78,46 +78,46 @@ returns-clause-acts c =
     let theirs = c.args.other.now.replica.state in
     let made : joined_with r theirs ≡ c.take_all.new.self.replica =
     (λ i. joined_with r (record {
-      batches = rows_are c.args.other.now c.other.inside.batches (c.parts.result.0.now ++ c.parts.result.1.now) (ap (λ (s : StoreForm). s.replica.state.batches) (sym c.other.view_is)) c.parts.ensures i;
+      batches = rows_are c.args.other.now c.other.inside.batches.segments (c.parts.result.0.now ++ c.parts.result.1.now) (ap (λ (s : StoreForm). s.replica.state.batches) (sym c.other.view_is)) c.parts.ensures.whole i;
       deleted = (sym c.other.view_is i).replica.state.deleted;
     }))
     ∙ sym c.in_ok-take_all.ensures.ok in
     joined_merged r c.args.other.now.replica c.other.inside.schema (rows_in (as_map es)) c.in_ok-merge_fault.field-0 (ap (λ (s : StoreForm). s.replica.schema) (sym c.other.view_is))
-    (rows_are c.args.other.now c.other.inside.batches es (ap (λ (s : StoreForm). s.replica.state.batches) (sym c.other.view_is)) c.parts.ensures) c.in_ok-merge_fault.ensures
+    (rows_are c.args.other.now c.other.inside.batches.segments es (ap (λ (s : StoreForm). s.replica.state.batches) (sym c.other.view_is)) c.parts.ensures.whole) c.in_ok-merge_fault.ensures
     ∙ ap (λ (x : Replica). let ok : Result (Unit {0} × Replica) Refusal = Ok (tt, x) in ok) made
 
 pub returns-clause-segments : goal.returns-clause-segments
 returns-clause-segments c =
     c.in_ok-take_all.ensures.segments
-    ∙ ap (union_in c.args.self.now.segments) (whole c.other.inside.batches (c.parts.result.0.now ++ c.parts.result.1.now) c.parts.ensures ∙ ap (λ (s : StoreForm). s.segments) c.other.view_is)
+    ∙ ap (union_in c.args.self.now.segments) (whole c.other.inside.batches.segments (c.parts.result.0.now ++ c.parts.result.1.now) c.parts.ensures.whole ∙ ap (λ (s : StoreForm). s.segments) c.other.view_is)
 
 -- joined with the other store, a replica is joined with its entries and deletions
 joins : (r : Replica) (s : StoreForm) (m : map.FinMap name_cmp SegmentForm) (tombs : set.FinSet row_name_cmp) (es : List Entry) → s.replica.state ≡ coming m tombs → es ≡ map.entries m → joined_with r s.replica.state ≡ joined_with r (coming (as_map es) tombs)
 joins r s m tombs es is entries = ap (joined_with r) (is ∙ ap (λ (n : map.FinMap name_cmp SegmentForm). coming n tombs) (sym (whole m es entries)))
 
 pub has_all-requires : goal.has_all-requires
-has_all-requires c = in_order c.other.inside.batches (c.parts.result.0.now ++ c.parts.result.1.now) c.parts.ensures
+has_all-requires c = in_order c.other.inside.batches.segments (c.parts.result.0.now ++ c.parts.result.1.now) c.parts.ensures.whole
 
 pub returns-then-has_all-clause-acts : goal.returns-then-has_all-clause-acts
 returns-then-has_all-clause-acts c =
     let es = (c.parts.result.0.now ++ c.parts.result.1.now) in
     let r = c.args.self.now.replica in
     joined_merged r c.args.other.now.replica c.other.inside.schema (rows_in (as_map es)) c.in_ok-merge_fault.field-0 (ap (λ (s : StoreForm). s.replica.schema) (sym c.other.view_is))
-    (rows_are c.args.other.now c.other.inside.batches es (ap (λ (s : StoreForm). s.replica.state.batches) (sym c.other.view_is)) c.parts.ensures) c.in_ok-merge_fault.ensures
+    (rows_are c.args.other.now c.other.inside.batches.segments es (ap (λ (s : StoreForm). s.replica.state.batches) (sym c.other.view_is)) c.parts.ensures.whole) c.in_ok-merge_fault.ensures
     ∙ ap (λ (x : Replica). let ok : Result (Unit {0} × Replica) Refusal = Ok (tt, x) in ok)
-    (joins r c.args.other.now c.other.inside.batches c.other.inside.tombs es (ap (λ (s : StoreForm). s.replica.state) (sym c.other.view_is)) c.parts.ensures ∙ c.has_all.ensures.state c.if-has_all.true)
+    (joins r c.args.other.now c.other.inside.batches.segments c.other.inside.tombs es (ap (λ (s : StoreForm). s.replica.state) (sym c.other.view_is)) c.parts.ensures.whole ∙ c.has_all.ensures.state c.if-has_all.true)
 
 pub returns-then-has_all-clause-segments : goal.returns-then-has_all-clause-segments
 returns-then-has_all-clause-segments c =
     sym (c.has_all.ensures.segments c.if-has_all.true)
-    ∙ ap (union_in c.args.self.now.segments) (whole c.other.inside.batches (c.parts.result.0.now ++ c.parts.result.1.now) c.parts.ensures ∙ ap (λ (s : StoreForm). s.segments) c.other.view_is)
+    ∙ ap (union_in c.args.self.now.segments) (whole c.other.inside.batches.segments (c.parts.result.0.now ++ c.parts.result.1.now) c.parts.ensures.whole ∙ ap (λ (s : StoreForm). s.segments) c.other.view_is)
 
 pub returns-in_err-merge_fault-clause-idle : goal.returns-in_err-merge_fault-clause-idle
 returns-in_err-merge_fault-clause-idle c same =
     let es = (c.parts.result.0.now ++ c.parts.result.1.now) in
     let r = c.args.self.now.replica in
     let refused = refused_merged r c.args.other.now.replica c.other.inside.schema (rows_in (as_map es)) c.in_err-merge_fault.field-0.0 (ap (λ (s : StoreForm). s.replica.schema) (sym c.other.view_is))
-    (rows_are c.args.other.now c.other.inside.batches es (ap (λ (s : StoreForm). s.replica.state.batches) (sym c.other.view_is)) c.parts.ensures) c.in_err-merge_fault.ensures in
+    (rows_are c.args.other.now c.other.inside.batches.segments es (ap (λ (s : StoreForm). s.replica.state.batches) (sym c.other.view_is)) c.parts.ensures.whole) c.in_err-merge_fault.ensures in
     absurd (no_answer (merged r c.args.other.now.replica) c.in_err-merge_fault.field-0.0 (tt, r) refused same)
 
 pub returns-in_err-take_all-clause-idle : goal.returns-in_err-take_all-clause-idle
@@ -125,7 +125,7 @@ returns-in_err-take_all-clause-idle c same =
     let es = (c.parts.result.0.now ++ c.parts.result.1.now) in
     let r = c.args.self.now.replica in
     let made = joined_merged r c.args.other.now.replica c.other.inside.schema (rows_in (as_map es)) c.in_ok-merge_fault.field-0 (ap (λ (s : StoreForm). s.replica.schema) (sym c.other.view_is))
-    (rows_are c.args.other.now c.other.inside.batches es (ap (λ (s : StoreForm). s.replica.state.batches) (sym c.other.view_is)) c.parts.ensures) c.in_ok-merge_fault.ensures in
+    (rows_are c.args.other.now c.other.inside.batches.segments es (ap (λ (s : StoreForm). s.replica.state.batches) (sym c.other.view_is)) c.parts.ensures.whole) c.in_ok-merge_fault.ensures in
     let left = answer_same (merged r c.args.other.now.replica) (joined_with r c.args.other.now.replica.state) r made same in
-    let joined = joins r c.args.other.now c.other.inside.batches c.other.inside.tombs es (ap (λ (s : StoreForm). s.replica.state) (sym c.other.view_is)) c.parts.ensures in
+    let joined = joins r c.args.other.now c.other.inside.batches.segments c.other.inside.tombs es (ap (λ (s : StoreForm). s.replica.state) (sym c.other.view_is)) c.parts.ensures.whole in
     absurd (false≢true (sym c.if-has_all.false ∙ c.has_all.ensures.lacking (sym joined ∙ left)))

@@ -17,4 +17,5 @@ invariant_of-result c = record {
     within = subst (λ (m : map.FinMap name_cmp Batch). IsWithinLimits c.in_ok-schema.schema m) (sym c.new.ensures.rows) (IsWithinLimits-empty c.in_ok-schema.schema);
   };
   stored = subst (AreStored c.in_ok-schema.schema) (sym c.new.ensures.segments) (AreStored-empty c.in_ok-schema.schema);
+  parted = c.new.ensures.own;
 }

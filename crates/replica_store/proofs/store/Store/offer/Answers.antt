@@ -19,16 +19,16 @@ use Rattle.replica_store.proofs.store.Store.offer.Goals as goal
 
 pub from_parts-requires : goal.from_parts-requires
 from_parts-requires c =
-    let m : map.FinMap name_cmp SegmentForm = c.self.inside.batches in
+    let m : map.FinMap name_cmp SegmentForm = c.self.inside.batches.segments in
     let offered = AreOffered-lacked c.self.inside.schema c.names.result.now m c.self.invariant.stored (omega (arith, len-rows_in m, c.self.invariant.sound.within.limit)) in
-    let copies = c.in_ok-entries.ensures ∙ ap (lacked_by c.names.result.now) c.parts.ensures in
+    let copies = c.in_ok-entries.ensures ∙ ap (lacked_by c.names.result.now) c.parts.ensures.whole in
     subst (λ (t : Table). AreOffered t c.in_ok-entries.entries.items) (sym c.in_ok-schema.ensures) (subst (AreOffered c.self.inside.schema) (sym copies) offered)
 
 pub returns-clause-segments : goal.returns-clause-segments
 returns-clause-segments c =
-    let copies = c.in_ok-entries.ensures ∙ ap (lacked_by c.names.result.now) c.parts.ensures in
+    let copies = c.in_ok-entries.ensures ∙ ap (lacked_by c.names.result.now) c.parts.ensures.whole in
     sym (map_of_entries c.from_parts.result.segments) ∙ ap as_map (c.from_parts.ensures.entries ∙ copies)
-    ∙ as_map-lacked c.names.result.now c.self.inside.batches
+    ∙ as_map-lacked c.names.result.now c.self.inside.batches.segments
     ∙ (λ i. unlisted (c.names.ensures.value i) (c.self.view_is i).segments)
 
 -- an offer isn't refused where the tables are one
@@ -38,11 +38,11 @@ offered_ok r summary s same is =
 
 pub returns-clause-state : goal.returns-clause-state
 returns-clause-state c =
-    let copies = c.in_ok-entries.ensures ∙ ap (lacked_by c.names.result.now) c.parts.ensures in
-    let segments : c.from_parts.result.segments ≡ unlisted c.names.result.now c.self.inside.batches =
-    sym (map_of_entries c.from_parts.result.segments) ∙ ap as_map (c.from_parts.ensures.entries ∙ copies) ∙ as_map-lacked c.names.result.now c.self.inside.batches in
+    let copies = c.in_ok-entries.ensures ∙ ap (lacked_by c.names.result.now) c.parts.ensures.whole in
+    let segments : c.from_parts.result.segments ≡ unlisted c.names.result.now c.self.inside.batches.segments =
+    sym (map_of_entries c.from_parts.result.segments) ∙ ap as_map (c.from_parts.ensures.entries ∙ copies) ∙ as_map-lacked c.names.result.now c.self.inside.batches.segments in
     let batches : c.from_parts.result.state.batches ≡ unlisted c.args.summary.now.names c.args.self.now.replica.state.batches =
-    c.from_parts.ensures.batches ∙ ap rows_in segments ∙ rows_in-unlisted c.names.result.now c.self.inside.batches
+    c.from_parts.ensures.batches ∙ ap rows_in segments ∙ rows_in-unlisted c.names.result.now c.self.inside.batches.segments
     ∙ (λ i. unlisted (c.names.ensures.value i) (c.self.view_is i).replica.state.batches) in
     let deleted : c.from_parts.result.state.deleted ≡ c.args.self.now.replica.state.deleted =
     c.from_parts.ensures.deleted ∙ c.in_ok-tombs.ensures ∙ ap (λ (s : StoreForm). s.replica.state.deleted) c.self.view_is in

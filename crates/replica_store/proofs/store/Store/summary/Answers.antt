@@ -9,10 +9,10 @@ use Rattle.replica_store.proofs.store.Store.summary.Goals as goal
 pub from_parts-requires : goal.from_parts-requires
 from_parts-requires c =
     subst AreListable (sym (c.in_ok-names.ensures ∙ c.names.ensures))
-    (AreListable-names c.self.inside.schema c.self.inside.batches c.self.invariant.stored (omega (arith, len-rows_in c.self.inside.batches, c.self.invariant.sound.within.limit)))
+    (AreListable-names c.self.inside.schema c.self.inside.batches.segments c.self.invariant.stored (omega (arith, len-rows_in c.self.inside.batches.segments, c.self.invariant.sound.within.limit)))
 
 pub returns : goal.returns
 returns c =
     ap Ok (ap (λ (s : StoreForm). summary_of s.replica) (sym c.self.view_is)
-    ∙ (λ i. record { schema = sym c.in_ok-schema.ensures i; names = (names_of-rows_in c.self.inside.batches ∙ sym (c.in_ok-names.ensures ∙ c.names.ensures)) i })
+    ∙ (λ i. record { schema = sym c.in_ok-schema.ensures i; names = (names_of-rows_in c.self.inside.batches.segments ∙ sym (c.in_ok-names.ensures ∙ c.names.ensures)) i })
     ∙ sym c.from_parts.ensures)
