@@ -10,47 +10,11 @@ use Rattle.transpose_order.proofs.MaskLemmas.{count_below-zero, count_below-suc,
 use Rattle.run_dictionary.proofs.CountLemmas.{count_below-yes, count_below-rises, count_below-stays}
 use Rattle.native_lanes.specs.Folds.{fold_to}
 use Rattle.native_lanes.proofs.FoldLemmas.{fold_to-zero, fold_to-suc, fold_to-same, fold_to-add}
+use Rattle.native_lanes.proofs.TimesLemmas.{sum_of_one}
 use Rattle.fused_kernels.proofs.SumLemmas.{sum_is_join}
 use Rattle.fused_kernels.proofs.ExtremeLemmas.{lesser_is_join, greater_is_join}
 
 -- ---- sums
-one_more : (b : Bool) (v s : ℤ) (n : ℕ) → s ≡ v *ℤ pos n → s +ℤ cond b v (pos 0) ≡ v *ℤ pos (n + cond b 1 0)
-one_more true v s n e = grind (arith, ints)
-one_more false v s n e = omega (arith, ints, e)
-
-pub sum_of_one : (v : ℤ) (b : ℕ → Bool) (k : ℕ) → fold_to ◌+ℤ◌ (pos 0) k (λ i. cond (b i) v (pos 0)) ≡ v *ℤ pos (count_below b k)
-sum_of_one v b zero =
-    fold_to-zero ◌+ℤ◌ (pos 0) (λ i. cond (b i) v (pos 0)) ∙ sym (ap (λ n. v *ℤ pos n) (count_below-zero b) ∙ omega (arith, ints))
-sum_of_one v b (suc k) =
-    fold_to-suc ◌+ℤ◌ (pos 0) k (λ i. cond (b i) v (pos 0)) ∙ one_more (b k) v (fold_to ◌+ℤ◌ (pos 0) k (λ i. cond (b i) v (pos 0))) (count_below b k) (sum_of_one v b k)
-    ∙ ap (λ n. v *ℤ pos n) (sym (count_below-suc b k))
-
--- a sum of so many numbers of 64 bits
-bounded : (b : Bool) (v s : ℤ) (k : ℕ) → FitsSigned w64 v → (neg_ℤ (pos (2 ^ 63 * k)) ≤ℤ s) × (s ≤ℤ pos (2 ^ 63 * k)) → (neg_ℤ (pos (2 ^ 63 * suc k)) ≤ℤ (s +ℤ cond b v (pos 0))) × ((s +ℤ cond b v (pos 0)) ≤ℤ pos (2 ^ 63 * suc k))
-bounded true v s k fits within = (omega (arith, ints, within.0, fits), omega (arith, ints, within.1, fits))
-bounded false v s k fits within = (omega (arith, ints, within.0), omega (arith, ints, within.1))
-
-pub sum_bound : (v : ℕ → ℤ) (b : ℕ → Bool) (k : ℕ) → ((i : ℕ) → i < k → FitsSigned w64 (v i)) → (neg_ℤ (pos (2 ^ 63 * k)) ≤ℤ fold_to ◌+ℤ◌ (pos 0) k (λ i. cond (b i) (v i) (pos 0))) × (fold_to ◌+ℤ◌ (pos 0) k (λ i. cond (b i) (v i) (pos 0)) ≤ℤ pos (2 ^ 63 * k))
-sum_bound v b zero fits =
-    let e = fold_to-zero ◌+ℤ◌ (pos 0) (λ i. cond (b i) (v i) (pos 0)) in (omega (arith, ints, e), omega (arith, ints, e))
-sum_bound v b (suc k) fits =
-    let e = fold_to-suc ◌+ℤ◌ (pos 0) k (λ i. cond (b i) (v i) (pos 0)) in
-    let more = bounded (b k) (v k) (fold_to ◌+ℤ◌ (pos 0) k (λ i. cond (b i) (v i) (pos 0))) k (fits k (omega arith)) (sum_bound v b k (λ i l. fits i (omega arith))) in
-    (subst (λ z. neg_ℤ (pos (2 ^ 63 * suc k)) ≤ℤ z) (sym e) more.0, subst (λ z. z ≤ℤ pos (2 ^ 63 * suc k)) (sym e) more.1)
-
-pub sum_fits : (v : ℕ → ℤ) (b : ℕ → Bool) (k : ℕ) → k ≤ 1024 → ((i : ℕ) → i < k → FitsSigned w64 (v i)) → FitsSigned w128 (fold_to ◌+ℤ◌ (pos 0) k (λ i. cond (b i) (v i) (pos 0)))
-sum_fits v b k h fits = let within = sum_bound v b k fits in record { sfits = (let l = within.0 in let u = within.1 in grind (arith, ints)) }
-
-pub times_fits : (v : ℤ) (n : ℕ) → n ≤ 1024 → FitsSigned w64 v → FitsSigned w128 (v *ℤ pos n)
-times_fits v n h fits =
-    subst (λ z. FitsSigned w128 z)
-    (sum_of_one v (λ _. true) n ∙ ap (λ k. v *ℤ pos k) (count_all n))
-    (sum_fits (λ _. v) (λ _. true) n h (λ _ _. fits))
-  where
-    count_all : (n : ℕ) → count_below (λ _. true) n ≡ n
-    count_all zero = count_below-zero (λ _. true)
-    count_all (suc n) = count_below-suc (λ _. true) n ∙ omega (arith, count_all n)
-
 -- the rows of a run, after those before it
 pub sum_more : (f : ℕ → ℤ) (b : ℕ → Bool) (v : ℤ) (row end : ℕ) → row ≤ end → ((n : ℕ) → row ≤ n → n < end → f n ≡ cond (b n) v (pos 0)) → fold_to ◌+ℤ◌ (pos 0) row f +ℤ (v *ℤ pos (count_below b end - count_below b row)) ≡ fold_to ◌+ℤ◌ (pos 0) end f
 sum_more f b v row end order same =

@@ -1,20 +1,13 @@
 //! Set functions of runs of equal values, run by run.
-ghost use Rattle.std.specs.Prelude.{◌≡◌, ◌≤◌, ℕ, cond, pos, ◌+ℤ◌, ◌*ℤ◌, Some, None};
+ghost use Rattle.std.specs.Prelude.{◌≡◌, cond, pos, ◌+ℤ◌, Some, None};
 ghost use Rattle.transpose_order.specs.Mask.{has};
 ghost use Rattle.run_dictionary.specs.Runs.{run_value};
 ghost use Rattle.table_model.specs.Values.{lesser, greater};
 ghost use Rattle.native_lanes.specs.Folds.{fold_to};
 
+use native_lanes::times;
 use run_dictionary::Runs;
 use transpose_order::Mask;
-
-/// A value as many times as some of 1024 rows.
-fn times(value: i64, count: usize) -> i128
-    requires { count ≤ 1024 }
-    ensures { result ≡ value *ℤ pos count }
-{
-    i128::from(value) * count as i128
-}
 
 /// The sum of the values of a mask's rows.
 pub(crate) fn sum_of_runs(form: &Runs, rows: &Mask) -> i128

@@ -8,3 +8,6 @@ pub mod ListLemmas
 pub mod RaisedLemmas
 pub mod WalkFoldLemmas
 pub mod RisingLemmas
+pub mod FullLemmas
+pub mod TimesLemmas
+pub mod ShortLemmas

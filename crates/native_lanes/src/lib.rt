@@ -2,12 +2,16 @@
 //! 64 bits.
 #![tactic(auto)]
 
+mod full;
 mod native_16;
 mod native_32;
 mod native_64;
 mod packed;
 mod pairs;
 mod raised;
+mod short_32;
+mod short_64;
+mod short_frames;
 mod walk_16;
 mod walk_32;
 mod walk_64;
@@ -20,6 +24,7 @@ pub use packed::frame_between;
 pub use pairs::{
     deltas_beside_deltas, deltas_beside_frame, frame_beside_deltas, frame_beside_frame,
 };
+pub use short_frames::times;
 pub use walk_16::{Walk16, lanes_of_mask_16};
 pub use walk_64::sum_of_lanes;
 pub use walks::{

@@ -39,7 +39,7 @@ fn greatest_value(lane_width: usize) -> i64
 }
 
 /// The reference plus the greatest number of the width, where that is in the range of the lane width, so that no value wraps.
-fn top_of(form: &For) -> Option<i64>
+pub(crate) fn top_of(form: &For) -> Option<i64>
     ensures top { IfSome result (λ top. top ≡ form.now.reference +ℤ pos (2 ^ form.now.width - 1)) }
     ensures plain { IfSome result (λ top. (n : ℕ) → frame_value form.now n
         ≡ form.now.reference +ℤ pos (packed_value form.now.lane_width form.now.width form.now.words.numbers (lane_of form.now.lane_width n) (step_of form.now.lane_width n))) }

@@ -63,7 +63,7 @@ fn advance(numbers: &mut [u32; 32], packed: &[u32; 32], carried: bool, added: u3
 
 /// A number where a lane's bit of a step is set, else another.
 #[inline(always)]
-fn chosen(bits: u32, step: usize, number: u32, other: u32) -> u32
+pub(crate) fn chosen(bits: u32, step: usize, number: u32, other: u32) -> u32
     requires { step < 32 }
     ensures { result ≡ cond (bit_at bits step == 1) number other }
 {
@@ -95,7 +95,7 @@ fn add_parts(
 }
 
 /// The sum of the sums of 32 lanes.
-fn sum_of_lanes(sums: &[u32; 32]) -> u64
+pub(crate) fn sum_of_lanes(sums: &[u32; 32]) -> u64
     ensures sum { result ≡ fold_to ◌+◌ 0 32 (slice_index sums.now) }
     ensures bound { result ≤ 2 ^ 37 }
 {
@@ -167,7 +167,7 @@ fn put_group(lanes: &mut [u32; 32], words: &[u64; 16], group: usize, shift: usiz
 }
 
 /// The bits of a mask's rows in the 32 lanes of 32 bits: bit `step` of a lane is that of the row that stands there.
-fn lanes_of_mask_32(mask: &Mask) -> [u32; 32]
+pub(crate) fn lanes_of_mask_32(mask: &Mask) -> [u32; 32]
     ensures { (lane step : ℕ) → lane < 32 → step < 32 → (bit_at (slice_index result lane) step == 1) ≡ has mask.now (row_at 32 lane step) }
 {
     let words = mask.words();
@@ -399,14 +399,6 @@ pub(crate) fn walk_of_deltas_32(form: &Delta) -> Walk32<'_>
     let starts = all_raised(form.bases());
     let added = bits(form.least());
     Walk32::new(form.width(), form.words().words_32(), true, starts, added)
-}
-
-/// The sum of the values of a mask's rows of a frame of 32 bits.
-pub(crate) fn sum_of_frame_32(form: &For, rows: &Mask) -> i128
-    requires { form.now.lane_width ≡ 32 }
-    ensures { result ≡ fold_to ◌+ℤ◌ (pos 0) 1024 (λ n. cond (has rows.now n) (frame_value form.now n) (pos 0)) }
-{
-    walk_of_frame_32(form).sum_of_values(rows)
 }
 
 /// The sum of the values of a mask's rows of deltas of 32 bits.

@@ -13,6 +13,7 @@ ghost use Rattle.native_lanes.specs.Between.{between};
 ghost use Rattle.native_lanes.specs.Pairs.{number_passes, value_passes};
 ghost use Rattle.native_lanes.specs.Walks.{number_before, number_at, number_of_row, turned};
 
+use crate::full::are_all_set;
 use crate::native_64::{mark, mark_beside, mask_of_lanes, numbers_64};
 use crate::packed::greatest_number;
 use crate::raised::{raised_range, value_above};
@@ -64,7 +65,7 @@ fn advance(numbers: &mut [u64; 16], packed: &[u64; 16], carried: bool, added: u6
 
 /// A number where a lane's bit of a step is set, else another.
 #[inline(always)]
-fn chosen(bits: u64, step: usize, number: u64, other: u64) -> u64
+pub(crate) fn chosen(bits: u64, step: usize, number: u64, other: u64) -> u64
     requires { step < 64 }
     ensures { result ≡ cond (bit_at bits step == 1) number other }
 {
@@ -107,14 +108,6 @@ fn add_all_parts(low: &mut [u64; 16], high: &mut [u64; 16], numbers: &[u64; 16])
         low[i] += numbers[i] & 0xFFFF_FFFF;
         high[i] += numbers[i] >> 32;
     }
-}
-
-/// Whether the bits of all lanes are set.
-#[inline(always)]
-fn are_all_set(rows: &[u64; 16]) -> bool
-    ensures { IsTrue result → (lane step : ℕ) → lane < 16 → step < 64 → bit_at (slice_index rows.now lane) step ≡ 1 }
-{
-    *rows == [u64::MAX; 16]
 }
 
 /// Adds to two sums of each lane whose bit of a step is set the low and the high 32 bits of its number, where it is known whether
@@ -216,7 +209,7 @@ fn most_added(added: u64, width: usize) -> Option<u64>
 }
 
 /// The bits of a mask's rows in the 16 lanes of 64 bits: bit `step` of a lane is that of the row that stands there.
-fn lanes_of_mask_64(mask: &Mask) -> [u64; 16]
+pub(crate) fn lanes_of_mask_64(mask: &Mask) -> [u64; 16]
     ensures { (lane step : ℕ) → lane < 16 → step < 64 → (bit_at (slice_index result lane) step == 1) ≡ has mask.now (row_at 64 lane step) }
 {
     *mask.words()
@@ -509,14 +502,6 @@ pub(crate) fn walk_of_deltas_64(form: &Delta) -> Walk64<'_>
     let starts = all_raised(form.bases());
     let added = bits(form.least());
     Walk64::new(form.width(), form.words().words_64(), true, starts, added)
-}
-
-/// The sum of the values of a mask's rows of a frame of 64 bits.
-pub(crate) fn sum_of_frame_64(form: &For, rows: &Mask) -> i128
-    requires { form.now.lane_width ≡ 64 }
-    ensures { result ≡ fold_to ◌+ℤ◌ (pos 0) 1024 (λ n. cond (has rows.now n) (frame_value form.now n) (pos 0)) }
-{
-    walk_of_frame_64(form).sum_of_values(rows)
 }
 
 /// The sum of the values of a mask's rows of deltas of 64 bits.

@@ -7,9 +7,10 @@ ghost use Rattle.table_model.specs.Values.{lesser, greater};
 ghost use Rattle.native_lanes.specs.Folds.{fold_to};
 ghost use Rattle.native_lanes.specs.Between.{between};
 
+use crate::short_frames::{sum_of_frame_32, sum_of_frame_64};
 use crate::walk_16::{sum_of_deltas_16, sum_of_frame_16, walk_of_deltas_16, walk_of_frame_16};
-use crate::walk_32::{sum_of_deltas_32, sum_of_frame_32, walk_of_deltas_32, walk_of_frame_32};
-use crate::walk_64::{sum_of_deltas_64, sum_of_frame_64, walk_of_deltas_64, walk_of_frame_64};
+use crate::walk_32::{sum_of_deltas_32, walk_of_deltas_32, walk_of_frame_32};
+use crate::walk_64::{sum_of_deltas_64, walk_of_deltas_64, walk_of_frame_64};
 use frame_delta::{Delta, For};
 use transpose_order::Mask;
 

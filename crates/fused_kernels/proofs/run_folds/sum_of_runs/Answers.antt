@@ -9,7 +9,8 @@ use Rattle.run_dictionary.proofs.CountLemmas.{count_below-rises}
 use Rattle.native_lanes.specs.Folds.{fold_to}
 use Rattle.native_lanes.proofs.FoldLemmas.{fold_to-zero}
 use Rattle.fused_kernels.proofs.RunLemmas.{first_run, next_run, value_of_run, all_runs}
-use Rattle.fused_kernels.proofs.RunFoldLemmas.{sum_more, sum_fits}
+use Rattle.fused_kernels.proofs.RunFoldLemmas.{sum_more}
+use Rattle.native_lanes.proofs.TimesLemmas.{sum_fits}
 use Rattle.segment_core.specs.declared.coded.Coded.TheVariants.{Runs}
 use Rattle.fused_kernels.proofs.VectorLemmas.{value_in_fits}
 use Rattle.fused_kernels.proofs.run_folds.sum_of_runs.Goals as goal

@@ -2,8 +2,8 @@
 use Rattle.std.proofs.Common.{rules, ◌≡◌, pos, ◌*ℤ◌, FitsSigned, to_z, of_z, sym, ap, ◌∙◌, subst, arith}
 use Rattle.std.specs.Int.{w64, w128}
 use Rattle.std.proofs.lemmas.Int.{ints, to_z-of_z}
-use Rattle.fused_kernels.proofs.RunFoldLemmas.{times_fits}
-use Rattle.fused_kernels.proofs.run_folds.times.Goals as goal
+use Rattle.native_lanes.proofs.TimesLemmas.{times_fits}
+use Rattle.native_lanes.proofs.short_frames.times.Goals as goal
 
 product : (c : goal.After-from) → to_z w128 (of_z w128 c.from.result) *ℤ to_z w128 c.args.count ≡ c.args.value *ℤ pos c.args.count
 product c =
