@@ -1,10 +1,10 @@
 -- What a comparison of bytes has seen, and what it says of the text that was written to it.
 use Rattle.std.proofs.Common.{◌≡◌, ℕ, zero, suc, ◌+◌, ◌-◌, ◌<◌, ◌≤◌, Bool, true, false, cond, ◌&&◌, eqb, List, [], ◌∷◌, ◌++◌, length, get_or, take, drop, Option, Some, None, is_some, refl, sym, ap, subst, ◌∙◌, append_assoc, arith}
 use Rattle.std.proofs.Math.Seq.{take-add, take-append_seam, drop-append_seam}
-use Rattle.std.proofs.lemmas.Bool.{eqb-true, eq-eqb}
+use Rattle.std.proofs.lemmas.Bool.{eqb-true, eq-eqb, lt-ltb, le-ltb}
 use Rattle.std.proofs.lemmas.Bool.Decides.{nat_tests}
 use Rattle.std.proofs.lemmas.List.{append-nil, length-append, length-take-le, length-drop, drop-drop, take_more}
-use Rattle.column_file.specs.Comparing.{other_byte, came, IsCompared, told}
+use Rattle.column_file.specs.Comparing.{other_byte, came, IsCompared, has_differed, told}
 use Rattle.column_file.specs.Files.{first_difference}
 
 none_left : (xs : List ℕ) → first_difference xs [] ≡ 0
@@ -154,12 +154,16 @@ not_whole expected same (Some x) b is tells test =
     less_is_other : (m n : ℕ) → m < n → eqb m n ≡ false
     less_is_other m n below = grind (arith, nat_tests)
 
-pub differs_before : (expected : List ℕ) (same : ℕ) (other : Option ℕ) (b : Bool) → IsCompared expected same other → b ≡ is_some other → b ≡ true → first_difference expected (came expected same other) < length (came expected same other)
-differs_before expected same None b is tells test = absurd cc
-differs_before expected same (Some x) b is tells test =
+-- it has differed exactly where a byte came that wasn't expected
+pub differed_is : (expected : List ℕ) (same : ℕ) (other : Option ℕ) (b : Bool) → IsCompared expected same other → b ≡ is_some other → b ≡ has_differed (expected, came expected same other)
+differed_is expected same None b is tells =
+    let place = place_is expected same None is in
+    let long = came_long expected same None is in
+    tells ∙ sym (le-ltb (first_difference expected (came expected same None)) (length (came expected same None)) (omega (arith, place, long)))
+differed_is expected same (Some x) b is tells =
     let place = place_is expected same (Some x) is in
     let long = came_long expected same (Some x) is in
-    omega (arith, place, long)
+    tells ∙ sym (lt-ltb (first_difference expected (came expected same (Some x))) (length (came expected same (Some x))) (omega (arith, place, long)))
 
 -- contents that grow by what came
 pub told_more : (expected before after piece : List ℕ) → after ≡ before ++ piece → told (expected, after) ≡ told (expected, before) ++ piece

@@ -1,11 +1,11 @@
 -- What was read so far of a reader that is read to its end.
-use Rattle.std.proofs.Common.{◌≡◌, ℕ, ◌+◌, ◌<◌, ◌≤◌, List, [], ◌++◌, length, take, Option, Some, None, Result, Ok, Err, IsTrue, inl, inr, refl, sym, ap, subst, ◌∙◌, append_assoc, arith}
+use Rattle.std.proofs.Common.{◌≡◌, ℕ, ◌+◌, ◌<◌, ◌≤◌, List, [], ◌++◌, length, take, Option, Some, None, Result, Ok, Err, IfErr, IsTrue, inl, inr, refl, sym, ap, subst, ◌∙◌, append_assoc, arith}
 use Rattle.std.specs.Io.KnownBytes.{Consumes, IsAtEnd}
 use Rattle.std.proofs.lemmas.List.{length-append, append-nil}
 use Rattle.table_model.specs.Faults.{IsWithin, GaveMore}
 use Rattle.table_model.specs.declared.refusal.Refusal.{Refusal}
 use Rattle.segment_core.specs.Format.{Reads}
-use Rattle.column_file.specs.Input.{Judges, IsUnread, is_refusal_of_reading}
+use Rattle.column_file.specs.Input.{Judges, IsUnread, ComesOfWhole, is_refusal_of_reading}
 use Rattle.table_model.specs.declared.counted.TheConstants.{READ_LIMIT}
 
 -- nothing was read
@@ -66,3 +66,12 @@ unread view e (Some a) meaning is = λ not_memory not_fault. elim is [ inl memor
 pub unread_listed : (e : Refusal) → IsUnread e → IsTrue (is_refusal_of_reading e)
 unread_listed e (inl memory) = ap is_refusal_of_reading memory
 unread_listed e (inr fault) = ap is_refusal_of_reading fault
+
+-- nor of the reader then
+pub unread_whole : (e : Refusal) (before after : Option (List ℕ)) → IsUnread e → ComesOfWhole e before after
+unread_whole e before after is = λ not_memory not_fault. elim is [ inl memory ↦ absurd (not_memory memory) | inr fault ↦ absurd (not_fault fault) ]
+
+-- and a call whose input was read comes of the whole of it, whatever it answers
+pub was_whole : {X : Type 0} (result : Result X Refusal) (before after : Option (List ℕ)) → IsWithin before → IsAtEnd after → IfErr result (λ e. ComesOfWhole e before after)
+was_whole (Ok x) before after within end = tt
+was_whole (Err e) before after within end = λ not_memory not_fault. (within, end)

@@ -1,14 +1,14 @@
 -- Whether bytes are the canonical file of what they hold, and what an open makes of them.
-use Rattle.std.proofs.Common.{◌≡◌, ◌≢◌, ℕ, suc, ◌+◌, ◌<◌, ◌≤◌, Bool, true, false, cond, ◌&&◌, eqb, All, List, [], ◌∷◌, ◌++◌, map, length, get_or, take, drop, min, Option, Result, Ok, Err, ◌⊎◌, inl, inr, refl, sym, ap, subst, ◌∙◌, arith}
+use Rattle.std.proofs.Common.{◌≡◌, ◌≢◌, ℕ, suc, ◌+◌, ◌<◌, ◌≤◌, Bool, true, false, cond, ◌&&◌, eqb, All, List, [], ◌∷◌, ◌++◌, map, length, get_or, take, drop, min, Some, Result, Ok, Err, ◌⊎◌, inl, inr, refl, sym, ap, ◌∙◌, arith}
 use Rattle.std.specs.FinMap as finite
-use Rattle.std.proofs.lemmas.Bool.{and_parts, and_from, eqb-true, eq-eqb}
+use Rattle.std.proofs.lemmas.Bool.{and_parts, and_from, eqb-true, eq-eqb, ltb-true}
 use Rattle.std.proofs.lemmas.Bool.Decides.{nat_tests}
 use Rattle.std.proofs.lemmas.List.{drop_more, drop_all, append-nil, length-append, take_more, take_all}
 use Rattle.table_model.specs.Table.{Table}
 use Rattle.table_model.specs.declared.refusal.Refusal.{Refusal}
-use Rattle.table_model.specs.declared.refusal.Refusal.TheVariants.{NotCanonical, WriteFault}
+use Rattle.table_model.specs.declared.refusal.Refusal.TheVariants.{Memory, NotCanonical, WriteFault}
 use Rattle.catalogue_join.specs.RowRange.{RowRange}
-use Rattle.segment_core.specs.Format.{AreBytes, Writes, read_whole}
+use Rattle.segment_core.specs.Format.{AreBytes, Reads, read_whole}
 use Rattle.table_model.specs.Faults.{AppendsFront}
 use Rattle.table_model.specs.Identifier.{same_text}
 use Rattle.segment_core.specs.Segment.{widths_in, widths_of, canonical_forms}
@@ -16,7 +16,7 @@ use Rattle.replica_store.specs.Segments.{Entry as Held, IsStored, rows_in}
 use Rattle.replica_store.specs.Exchange.{OfferForm, AreOffered}
 use Rattle.column_file.specs.ContainerBytes.{Entry, entry_of, deleted_of, container}
 use Rattle.column_file.specs.Files.{ranges_of, canonical_as_read, canonical_file, first_difference, judged, offer_read, canonical_read, checked_from, IsCanonicalHeld, is_same_range, Exports}
-use Rattle.column_file.specs.Comparing.{told}
+use Rattle.column_file.specs.Comparing.{is_whole, has_differed, verdict, told}
 use Rattle.column_file.proofs.Comparisons.{more_after, told_apart}
 use Rattle.column_file.proofs.ContainerLaws.{container_is_lawful}
 use Rattle.column_file.proofs.CanonicalWriting.{canonical_spelled}
@@ -227,14 +227,32 @@ front_judged bytes o c n front back parts written below at =
     no_end : (b : Bool) (m k : ℕ) → m < k → (b && eqb m k) ≡ false
     no_end b m k less = ap (λ (t : Bool). b && t) (less_is_other m k less) ∙ and_false b
 
--- a writer that failed has a front of the file
-pub fault_front : (r : Result (Unit {0}) Refusal) (old new : Option (List ℕ)) (before after : ℕ) (bytes : List ℕ) → Exports r old new before after bytes → r ≡ Err WriteFault → AppendsFront old new bytes
-fault_front r old new before after bytes h is =
-    let P : Result (Unit {0}) Refusal → Type 0 = λ q. Exports q old new before after bytes in
-    let written : Writes (Err WriteFault) old new before after bytes = subst P is h in
-    written.2
+-- what a comparison says, to which the canonical file was written, is what is judged
+pub verdict_judged : (bytes : List ℕ) (o : OfferForm) (start c : List ℕ × List ℕ) (outcome : Result (Unit {0}) Refusal) (before after : ℕ) → start ≡ (bytes, []) → Exports outcome (Some (told start)) (Some (told c)) before after (canonical_file o.schema o.state)
+    → Reads (λ (done : Unit {0}). o) (verdict c outcome) (judged bytes o)
+verdict_judged bytes o start c (Ok done) before after from written = go (is_whole c) refl
+  where
+    n : ℕ
+    n = first_difference c.0 c.1
 
-pub failed_is : (r : Result (Unit {0}) Refusal) (e : Refusal) → r ≡ Err e → e ≡ WriteFault → r ≡ Err WriteFault
-failed_is r e is same =
-    let P : Refusal → Type 0 = λ f. r ≡ Err f in
-    subst P same is
+    text : told c ≡ told (bytes, []) ++ canonical_file o.schema o.state
+    text = written.0 ∙ ap (λ (w : List ℕ × List ℕ). told w ++ canonical_file o.schema o.state) from
+
+    go : (b : Bool) → is_whole c ≡ b → Reads (λ (done : Unit {0}). o) (cond b (Ok done) (Err (NotCanonical n))) (judged bytes o)
+    go true test = whole_judged bytes o c (is_whole c) text refl test
+    go false test = λ not_memory. other_judged bytes o c (is_whole c) n text refl test refl
+verdict_judged bytes o start c (Err WriteFault) before after from written = go (has_differed c) refl
+  where
+    n : ℕ
+    n = first_difference c.0 c.1
+
+    front : AppendsFront (Some (told start)) (Some (told c)) (canonical_file o.schema o.state)
+    front = written.2
+
+    text : told c ≡ told (bytes, []) ++ front.0
+    text = front.3 ∙ ap (λ (w : List ℕ × List ℕ). told w ++ front.0) from
+
+    go : (b : Bool) → has_differed c ≡ b → Reads (λ (done : Unit {0}). o) (cond b (Err (NotCanonical n)) (Err Memory)) (judged bytes o)
+    go true test = λ not_memory. front_judged bytes o c n front.0 front.1 front.2 text (ltb-true n (length c.1) test) refl
+    go false test = λ not_memory. absurd (not_memory refl)
+verdict_judged bytes o start c (Err other) before after from written = λ not_memory. absurd (not_memory refl)

@@ -1,5 +1,7 @@
 -- What a call that reads its reader to the end says of the bytes that came and of the count of failures.
 use Rattle.std.specs.Prelude.{◌≡◌, ◌⊎◌, ℕ, Bool, true, false, List, Option, Some, None, Result, Ok, Err}
+use Rattle.std.specs.Io.KnownBytes.{IsAtEnd}
+use Rattle.table_model.specs.Faults.{IsWithin}
 use Rattle.table_model.specs.Counted.{one_more}
 use Rattle.table_model.specs.declared.refusal.Refusal.{Refusal}
 use Rattle.table_model.specs.declared.refusal.Refusal.TheVariants.{Memory, ReadFault, BadName, BadSchema, Truncated, BadMagic, BadVersion, BadOrder, BadCount, BadWidth, BadTag, BadMask, BadDictionary, BadCode, BadRange, TrailingBytes, NotCanonical}
@@ -19,6 +21,11 @@ CountsFailure many other before after = after ≡ before
 -- a want of memory or a failed read
 abbrev pub IsUnread : Refusal → Type 0
 IsUnread e = (e ≡ Memory) ⊎ (e ≡ ReadFault)
+
+-- A refusal other than a want of memory and a failed read comes of the whole input: the reader, before and after, was read to its
+-- end, and had no more than a call reads.
+abbrev pub ComesOfWhole : Refusal → Option (List ℕ) → Option (List ℕ) → Type 0
+ComesOfWhole e before after = (e ≡ Memory → ⊥) → (e ≡ ReadFault → ⊥) → IsWithin before × IsAtEnd after
 
 -- whether a refusal is a fault that bytes may have
 abbrev pub is_fault_of_bytes : Refusal → Bool

@@ -1,13 +1,14 @@
 //! Comparing bytes with others as these are written, so that the others stand nowhere.
-ghost use Rattle.std.specs.Prelude.{◌≡◌, ◌<◌, ◌==◌, ◌&&◌, [], length, IsErr, IsTrue, Some};
+ghost use Rattle.std.specs.Prelude.{◌≡◌, ◌<◌, [], length, OnErr, IfOk, IsOk, IsTrue, Some};
 ghost use Rattle.std.specs.Io.{ReadsAtMost, WritesAtMost};
 ghost use Rattle.std.specs.Io.KnownBytes.{Keeps, WriteAppends};
-ghost use Rattle.column_file.specs.Comparing.{told};
+ghost use Rattle.column_file.specs.Comparing.{told, is_whole, has_differed, verdict};
 ghost use Rattle.column_file.specs.Files.{first_difference};
 
 use std::io;
 use std::io::Write;
 use std::marker::Model;
+use table_model::Refusal;
 
 /// The first place where two texts differ, or the length of the shorter where it is a front of the other.
 pub(crate) fn first_difference(a: &[u8], b: &[u8]) -> usize
@@ -63,7 +64,7 @@ impl<'a> Comparison<'a> {
 
     /// Whether exactly what was expected came.
     pub(crate) fn is_whole(&self) -> bool
-        ensures { result ≡ (first_difference self.now.0 self.now.1 == length self.now.0 && first_difference self.now.0 self.now.1 == length self.now.1) }
+        ensures { result ≡ is_whole self.now }
     {
         if self.other.is_some() {
             return false;
@@ -73,9 +74,23 @@ impl<'a> Comparison<'a> {
 
     /// Whether a byte came that wasn't expected.
     pub(crate) fn has_differed(&self) -> bool
-        ensures { IsTrue result → first_difference self.now.0 self.now.1 < length self.now.1 }
+        ensures { result ≡ has_differed self.now }
     {
         self.other.is_some()
+    }
+
+    /// What it says of a text that was written to it with this outcome: nothing where exactly what was expected came, else
+    /// `NotCanonical` with the first place that differs, and `Memory` where the writing ended before there was one.
+    pub(crate) fn verdict(&self, outcome: Result<(), Refusal>) -> Result<(), Refusal>
+        ensures { result ≡ verdict self.now outcome }
+    {
+        let other = Refusal::NotCanonical(self.place() as u64);
+        match outcome {
+            Ok(()) if self.is_whole() => Ok(()),
+            Ok(()) => Err(other),
+            Err(Refusal::WriteFault) if self.has_differed() => Err(other),
+            Err(_) => Err(Refusal::Memory),
+        }
     }
 }
 
@@ -85,6 +100,8 @@ impl<'a> Write for Comparison<'a> {
     fn write(&mut self, piece: &[u8]) -> io::Result<usize>
         ensures bound { WritesAtMost result piece.now }
         ensures bytes { WriteAppends (Some (told self.old)) (Some (told self.new)) result piece.now }
+        ensures fails { OnErr result (IsTrue (has_differed self.old)) }
+        ensures takes { IfOk result (λ n. 0 < length piece.now → 0 < n) }
     {
         if self.other.is_some() {
             return Err(io::Error::from(io::ErrorKind::BrokenPipe));
@@ -102,6 +119,7 @@ impl<'a> Write for Comparison<'a> {
 
     fn flush(&mut self) -> io::Result<()>
         ensures bytes { Keeps (Some (told self.old)) (Some (told self.new)) }
+        ensures done { IsOk result }
     {
         Ok(())
     }

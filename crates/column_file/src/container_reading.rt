@@ -1,12 +1,13 @@
 //! Reading a container from bytes: its own four bytes, the version, a schema, batches in strictly ascending order of name, and
 //! ranges of deleted rows.
-ghost use Rattle.std.specs.Prelude.{◌≡◌, ◌-◌, ◌^◌, ◌<◌, ◌≤◌, length, map, codes, IfOk};
+ghost use Rattle.std.specs.Prelude.{◌≡◌, ◌-◌, ◌^◌, ◌<◌, ◌≤◌, length, map, codes, IsTrue, IfOk, IfErr};
 ghost use Rattle.std.specs.List.{All};
 ghost use Rattle.table_model.specs.Table.{IsBatch};
 ghost use Rattle.segment_core.specs.Format.{Format, Reads, number, before, all, read_whole};
 ghost use Rattle.segment_core.specs.Segment.{batch_of, widths_in, widths_of};
 ghost use Rattle.segment_core.specs.SegmentBytes.{batch_columns};
 ghost use Rattle.column_file.specs.SummaryBytes.{head, any_name, is_after, batch_name, name_count, precedes};
+ghost use Rattle.column_file.specs.Input.{is_fault_of_bytes};
 ghost use Rattle.column_file.specs.ContainerBytes.{IsRest, IsFound, row_count, entry_of, name_of, batch, batches, deleted_of, is_named, is_range, ends_before, begins_after, range_parts, range, ranges, container};
 
 use crate::summary_reading::{precedes, read_head, read_name_count, read_proper_name};
@@ -23,6 +24,7 @@ fn read_row_count(total: usize, bytes: &[u8]) -> Result<(usize, &[u8]), Refusal>
     ensures read { Reads (λ x. (x.0, x.1.now)) result (row_count.read total bytes.now) }
     ensures some { IfOk result (λ x. 1 ≤ x.0) }
     ensures limit { IfOk result (λ x. x.0 ≤ 65536) }
+    ensures fault { IfErr result (λ e. IsTrue (is_fault_of_bytes e)) }
 {
     let (less, rest) = read_number(total, bytes, 2)?;
     Ok((less as usize + 1, rest))
@@ -42,7 +44,8 @@ fn read_name_after<'a>(
     bytes: &'a [u8],
     front: &[(BatchName, Segment)],
 ) -> Result<(BatchName, &'a [u8]), Refusal>
-    ensures { Reads (λ x. (x.0, x.1.now)) result ((batch_name (map name_of (map entry_of front.now))).read total bytes.now) }
+    ensures read { Reads (λ x. (x.0, x.1.now)) result ((batch_name (map name_of (map entry_of front.now))).read total bytes.now) }
+    ensures fault { IfErr result (λ e. IsTrue (is_fault_of_bytes e)) }
 {
     let (name, rest) = read_proper_name(total, bytes)?;
     if !is_after_batches(front, name) {
@@ -139,7 +142,8 @@ fn read_batches<'a>(
 /// A batch's name and two ordinals, whatever they are, at the front, and what stands after them.
 #[tactic(auto, unfolding(crate::specs::ContainerBytes::range_parts, crate::specs::SummaryBytes::any_name))]
 fn read_range_parts(total: usize, bytes: &[u8]) -> Result<((RowName, u16), &[u8]), Refusal>
-    ensures { Reads (λ x. (deleted_of x.0, x.1.now)) result (range_parts.read total bytes.now) }
+    ensures read { Reads (λ x. (deleted_of x.0, x.1.now)) result (range_parts.read total bytes.now) }
+    ensures fault { IfErr result (λ e. IsTrue (is_fault_of_bytes e)) }
 {
     let (origin, after_origin) = read_number(total, bytes, 4)?;
     let (number, after_name) = read_number(total, after_origin, 4)?;
@@ -180,7 +184,8 @@ fn read_range<'a>(
     bytes: &'a [u8],
     front: &[(RowName, u16)],
 ) -> Result<((RowName, u16), &'a [u8]), Refusal>
-    ensures { Reads (λ x. (deleted_of x.0, x.1.now)) result ((range (map deleted_of front.now)).read total bytes.now) }
+    ensures read { Reads (λ x. (deleted_of x.0, x.1.now)) result ((range (map deleted_of front.now)).read total bytes.now) }
+    ensures fault { IfErr result (λ e. IsTrue (is_fault_of_bytes e)) }
 {
     let (found, rest) = read_range_parts(total, bytes)?;
     if !found.0.batch.is_proper() {

@@ -7,7 +7,7 @@ ghost use Rattle.table_model.specs.Name.{is_proper_name};
 ghost use Rattle.catalogue_join.specs.RowRange.{RowRange, rows_in};
 ghost use Rattle.segment_core.specs.Format.{Reads};
 ghost use Rattle.column_file.specs.Files.{IsRangeGiven, offer_read};
-ghost use Rattle.column_file.specs.Input.{Judges, CountsFailure, is_refusal_of_reading};
+ghost use Rattle.column_file.specs.Input.{Judges, CountsFailure, ComesOfWhole, is_refusal_of_reading};
 
 use crate::container_reading::read_container;
 use crate::input::read_input;
@@ -50,6 +50,7 @@ pub fn read_offer<R: Read>(alloc: Global, reader: &mut Counted<R>) -> Result<Off
     ensures end { OnOk result (IsAtEnd (R.remaining reader.new.0)) }
     ensures within { OnOk result (IsWithin (R.remaining reader.old.0)) }
     ensures kept { OnOk result (reader.new.1 ≡ reader.old.1) }
+    ensures whole { IfErr result (λ e. ComesOfWhole e (R.remaining reader.old.0) (R.remaining reader.new.0)) }
     ensures fault { IfErr result (λ e. CountsFailure (GaveMore (R.remaining reader.old.0) (R.remaining reader.new.0)) e reader.old.1 reader.new.1) }
 {
     let input = read_input(alloc, reader)?;

@@ -5,7 +5,7 @@ ghost use Rattle.std.specs.List.{All};
 ghost use Rattle.table_model.specs.Faults.{IsWithin, GaveMore};
 ghost use Rattle.segment_core.specs.Format.{Reads};
 ghost use Rattle.column_file.specs.Files.{IsCanonicalHeld, AreCanonicalOf, is_same_range, judged, canonical_read, opened_from, checked_from};
-ghost use Rattle.column_file.specs.Input.{Judges, CountsFailure, is_refusal_of_reading};
+ghost use Rattle.column_file.specs.Input.{Judges, CountsFailure, ComesOfWhole, is_refusal_of_reading};
 
 use crate::canonical_writing::export_offer;
 use crate::comparing::Comparison;
@@ -73,24 +73,8 @@ fn compared(alloc: Global, bytes: &[u8], offer: Offer) -> Result<Offer, Refusal>
     let mut writer = Counted::new(Comparison::new(bytes));
     let outcome = export_offer(alloc, &offer, &mut writer);
     let found = writer.into_inner();
-    let other = Refusal::NotCanonical(found.place() as u64);
-    match outcome {
-        Ok(()) => {
-            if found.is_whole() {
-                Ok(offer)
-            } else {
-                Err(other)
-            }
-        }
-        Err(Refusal::WriteFault) => {
-            if found.has_differed() {
-                Err(other)
-            } else {
-                Err(Refusal::Memory)
-            }
-        }
-        Err(_) => Err(Refusal::Memory),
-    }
+    found.verdict(outcome)?;
+    Ok(offer)
 }
 
 /// The batches and deletions that a canonical file holds. Refused is the first fault of the bytes, then `NotCanonical`, or a want
@@ -127,6 +111,7 @@ pub fn open<R: Read>(alloc: Global, reader: &mut Counted<R>, own: Origin) -> Res
     ensures end { OnOk result (IsAtEnd (R.remaining reader.new.0)) }
     ensures within { OnOk result (IsWithin (R.remaining reader.old.0)) }
     ensures kept { OnOk result (reader.new.1 ≡ reader.old.1) }
+    ensures whole { 1 ≤ own.0 → IfErr result (λ e. ComesOfWhole e (R.remaining reader.old.0) (R.remaining reader.new.0)) }
     ensures fault { IfErr result (λ e. CountsFailure (GaveMore (R.remaining reader.old.0) (R.remaining reader.new.0)) e reader.old.1 reader.new.1) }
 {
     if own.0 == 0 {
@@ -144,6 +129,7 @@ pub fn check<R: Read>(alloc: Global, reader: &mut Counted<R>) -> Result<Checked,
     ensures end { OnOk result (IsAtEnd (R.remaining reader.new.0)) }
     ensures within { OnOk result (IsWithin (R.remaining reader.old.0)) }
     ensures kept { OnOk result (reader.new.1 ≡ reader.old.1) }
+    ensures whole { IfErr result (λ e. ComesOfWhole e (R.remaining reader.old.0) (R.remaining reader.new.0)) }
     ensures fault { IfErr result (λ e. CountsFailure (GaveMore (R.remaining reader.old.0) (R.remaining reader.new.0)) e reader.old.1 reader.new.1) }
 {
     let input = read_input(alloc, reader)?;

@@ -1,8 +1,9 @@
 //! Reading a schema from bytes: how many columns there are, the table's name, and each column's type and name.
-ghost use Rattle.std.specs.Prelude.{◌≡◌, ◌≤◌, length, map};
+ghost use Rattle.std.specs.Prelude.{◌≡◌, ◌≤◌, length, map, IsTrue, IfErr};
 ghost use Rattle.std.specs.List.{list_all, list_any};
 ghost use Rattle.table_model.specs.Table.{has_name, ColumnShape};
 ghost use Rattle.segment_core.specs.Format.{Format, Reads, all};
+ghost use Rattle.column_file.specs.Input.{is_fault_of_bytes};
 ghost use Rattle.column_file.specs.SchemaBytes.{text, is_upper, is_name, name, column_type, shape_of, column, column_count, schema};
 
 use segment_core::{place_of, read_number};
@@ -12,7 +13,8 @@ use table_model::{ColType, Refusal, Schema, is_identifier, same_word};
 /// The text of 1 to 64 bytes at the front, and what stands after it.
 #[tactic(auto, unfolding(crate::specs::SchemaBytes::text))]
 fn read_text(total: usize, bytes: &[u8]) -> Result<(&[u8], &[u8]), Refusal>
-    ensures { Reads (λ x. (x.0.now, x.1.now)) result (text.read total bytes.now) }
+    ensures read { Reads (λ x. (x.0.now, x.1.now)) result (text.read total bytes.now) }
+    ensures fault { IfErr result (λ e. IsTrue (is_fault_of_bytes e)) }
 {
     let (size, rest) = read_number(total, bytes, 1)?;
     if size < 1 || 64 < size {
@@ -42,7 +44,8 @@ fn is_name(text: &[u8]) -> bool
 /// The name at the front, and what stands after it.
 #[tactic(auto, unfolding(crate::specs::SchemaBytes::name))]
 fn read_name(total: usize, bytes: &[u8]) -> Result<(&str, &[u8]), Refusal>
-    ensures { Reads (λ x. (x.0.now, x.1.now)) result (name.read total bytes.now) }
+    ensures read { Reads (λ x. (x.0.now, x.1.now)) result (name.read total bytes.now) }
+    ensures fault { IfErr result (λ e. IsTrue (is_fault_of_bytes e)) }
 {
     let (text, rest) = read_text(total, bytes)?;
     if !is_name(text) {
@@ -57,7 +60,8 @@ fn read_name(total: usize, bytes: &[u8]) -> Result<(&str, &[u8]), Refusal>
 /// The column type at the front, and what stands after it.
 #[tactic(auto, unfolding(crate::specs::SchemaBytes::column_type))]
 fn read_column_type(total: usize, bytes: &[u8]) -> Result<(ColType, &[u8]), Refusal>
-    ensures { Reads (λ x. (x.0, x.1.now)) result (column_type.read total bytes.now) }
+    ensures read { Reads (λ x. (x.0, x.1.now)) result (column_type.read total bytes.now) }
+    ensures fault { IfErr result (λ e. IsTrue (is_fault_of_bytes e)) }
 {
     let (tag, rest) = read_number(total, bytes, 1)?;
     if tag == 2 {
@@ -88,7 +92,8 @@ fn read_column<'a>(
     bytes: &'a [u8],
     front: &[(&str, ColType)],
 ) -> Result<(&'a str, ColType, &'a [u8]), Refusal>
-    ensures { Reads (λ x. (shape_of (x.0.now, x.1), x.2.now)) result ((column (map (λ c. shape_of (c.0.now, c.1)) front.now)).read total bytes.now) }
+    ensures read { Reads (λ x. (shape_of (x.0.now, x.1), x.2.now)) result ((column (map (λ c. shape_of (c.0.now, c.1)) front.now)).read total bytes.now) }
+    ensures fault { IfErr result (λ e. IsTrue (is_fault_of_bytes e)) }
 {
     let (column_type, rest) = read_column_type(total, bytes)?;
     let (name, rest) = read_name(total, rest)?;
@@ -120,7 +125,8 @@ fn read_columns<'a>(
 /// How many columns there are, 1 to 32, and what stands after that.
 #[tactic(auto, unfolding(crate::specs::SchemaBytes::column_count))]
 fn read_column_count(total: usize, bytes: &[u8]) -> Result<(usize, &[u8]), Refusal>
-    ensures { Reads (λ x. (x.0, x.1.now)) result (column_count.read total bytes.now) }
+    ensures read { Reads (λ x. (x.0, x.1.now)) result (column_count.read total bytes.now) }
+    ensures fault { IfErr result (λ e. IsTrue (is_fault_of_bytes e)) }
 {
     let (count, rest) = read_number(total, bytes, 2)?;
     if count < 1 || 32 < count {

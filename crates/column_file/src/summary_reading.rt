@@ -7,7 +7,7 @@ ghost use Rattle.table_model.specs.Faults.{IsWithin, GaveMore};
 ghost use Rattle.table_model.specs.Name.{is_proper_name};
 ghost use Rattle.segment_core.specs.Format.{Format, Reads, number, all, constant, read_whole};
 ghost use Rattle.column_file.specs.SummaryBytes.{version, head, proper_name, precedes, is_after, batch_name, name_count, names, summary, summary_read};
-ghost use Rattle.column_file.specs.Input.{Judges, CountsFailure, is_refusal_of_reading};
+ghost use Rattle.column_file.specs.Input.{Judges, CountsFailure, ComesOfWhole, is_fault_of_bytes, is_refusal_of_reading};
 
 use crate::input::read_input;
 use crate::schema_reading::read_schema;
@@ -23,7 +23,8 @@ pub(crate) const SUMMARY: [u8; 4] = *b"FLSM";
 
 /// What stands after the bytes that a format begins with: `BadMagic` where they are others.
 fn read_magic<'a>(total: usize, bytes: &'a [u8], magic: &[u8]) -> Result<&'a [u8], Refusal>
-    ensures { Reads (λ x. (magic.now, x.now)) result ((constant magic.now Refusal.BadMagic).read total bytes.now) }
+    ensures read { Reads (λ x. (magic.now, x.now)) result ((constant magic.now Refusal.BadMagic).read total bytes.now) }
+    ensures fault { IfErr result (λ e. IsTrue (is_fault_of_bytes e)) }
 {
     if bytes.len() < magic.len() {
         return Err(Refusal::Truncated(total as u64));
@@ -38,7 +39,8 @@ fn read_magic<'a>(total: usize, bytes: &'a [u8], magic: &[u8]) -> Result<&'a [u8
 /// What stands after the version, which is 1.
 #[tactic(auto, unfolding(crate::specs::SummaryBytes::version))]
 fn read_version(total: usize, bytes: &[u8]) -> Result<(u64, &[u8]), Refusal>
-    ensures { Reads (λ x. (x.0, x.1.now)) result (version.read total bytes.now) }
+    ensures read { Reads (λ x. (x.0, x.1.now)) result (version.read total bytes.now) }
+    ensures fault { IfErr result (λ e. IsTrue (is_fault_of_bytes e)) }
 {
     let (version, rest) = read_number(total, bytes, 2)?;
     if version != 1 {
@@ -65,7 +67,8 @@ pub(crate) fn read_head<'a>(
 /// The proper name at the front, and what stands after it.
 #[tactic(auto, unfolding(crate::specs::SummaryBytes::proper_name, crate::specs::SummaryBytes::any_name))]
 pub(crate) fn read_proper_name(total: usize, bytes: &[u8]) -> Result<(BatchName, &[u8]), Refusal>
-    ensures { Reads (λ x. (x.0, x.1.now)) result (proper_name.read total bytes.now) }
+    ensures read { Reads (λ x. (x.0, x.1.now)) result (proper_name.read total bytes.now) }
+    ensures fault { IfErr result (λ e. IsTrue (is_fault_of_bytes e)) }
 {
     let (origin, after_origin) = read_number(total, bytes, 4)?;
     let (number, rest) = read_number(total, after_origin, 4)?;
@@ -100,7 +103,8 @@ fn read_batch_name<'a>(
     bytes: &'a [u8],
     front: &[BatchName],
 ) -> Result<(BatchName, &'a [u8]), Refusal>
-    ensures { Reads (λ x. (x.0, x.1.now)) result ((batch_name front.now).read total bytes.now) }
+    ensures read { Reads (λ x. (x.0, x.1.now)) result ((batch_name front.now).read total bytes.now) }
+    ensures fault { IfErr result (λ e. IsTrue (is_fault_of_bytes e)) }
 {
     let (name, rest) = read_proper_name(total, bytes)?;
     if !is_after(front, name) {
@@ -131,7 +135,8 @@ fn read_batch_names(
 /// How many names there are, at most 65,536, and what stands after that.
 #[tactic(auto, unfolding(crate::specs::SummaryBytes::name_count))]
 pub(crate) fn read_name_count(total: usize, bytes: &[u8]) -> Result<(usize, &[u8]), Refusal>
-    ensures { Reads (λ x. (x.0, x.1.now)) result (name_count.read total bytes.now) }
+    ensures read { Reads (λ x. (x.0, x.1.now)) result (name_count.read total bytes.now) }
+    ensures fault { IfErr result (λ e. IsTrue (is_fault_of_bytes e)) }
 {
     let (count, rest) = read_number(total, bytes, 4)?;
     if 65_536 < count {
@@ -197,6 +202,7 @@ pub fn read_summary<R: Read>(alloc: Global, reader: &mut Counted<R>) -> Result<S
     ensures end { OnOk result (IsAtEnd (R.remaining reader.new.0)) }
     ensures within { OnOk result (IsWithin (R.remaining reader.old.0)) }
     ensures kept { OnOk result (reader.new.1 ≡ reader.old.1) }
+    ensures whole { IfErr result (λ e. ComesOfWhole e (R.remaining reader.old.0) (R.remaining reader.new.0)) }
     ensures fault { IfErr result (λ e. CountsFailure (GaveMore (R.remaining reader.old.0) (R.remaining reader.new.0)) e reader.old.1 reader.new.1) }
 {
     let input = read_input(alloc, reader)?;

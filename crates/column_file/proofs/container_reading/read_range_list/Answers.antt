@@ -9,13 +9,13 @@ use Rattle.column_file.proofs.container_reading.read_range_list.Goals as goal
 pub returns-in_err-range : goal.returns-in_err-range
 returns-in_err-range c =
     let p = err_from_is_err_and c.from_residual.result c.from_residual.ensures.1 in
-    rw (p.1, p.2) (λ not_memory. ends range c.args.count c.loop.counter (map deleted_of c.loop.found.items) c.args.total c.loop.rest.now c.in_err-range.field-0.0 _ c.loop-test.true (rw c.as_slice.ensures.value at c.in_err-range.ensures not_memory) c.loop.invariant)
+    rw (p.1, p.2) (λ not_memory. ends range c.args.count c.loop.counter (map deleted_of c.loop.found.items) c.args.total c.loop.rest.now c.in_err-range.field-0.0 _ c.loop-test.true (rw c.as_slice.ensures.value at c.in_err-range.ensures.read not_memory) c.loop.invariant)
 
 pub loop-preserved : goal.loop-preserved
 loop-preserved c =
     let items : c.push.new.self.items ≡ c.loop.found.items ++ c.in_ok-range.range ∷ [] = search rules in
     let parts : map deleted_of c.push.new.self.items ≡ map deleted_of c.loop.found.items ++ deleted_of c.in_ok-range.range ∷ [] = ap (λ (xs : List RowRange). map deleted_of xs) items ∙ map-append deleted_of c.loop.found.items (c.in_ok-range.range ∷ []) in
-    rw parts (goes_on range c.args.count c.loop.counter (map deleted_of c.loop.found.items) c.args.total c.loop.rest.now (deleted_of c.in_ok-range.range) c.in_ok-range.after.now _ c.loop-test.true (rw c.as_slice.ensures.value at c.in_ok-range.ensures) c.loop.invariant)
+    rw parts (goes_on range c.args.count c.loop.counter (map deleted_of c.loop.found.items) c.args.total c.loop.rest.now (deleted_of c.in_ok-range.range) c.in_ok-range.after.now _ c.loop-test.true (rw c.as_slice.ensures.value at c.in_ok-range.ensures.read) c.loop.invariant)
 
 pub returns : goal.returns
 returns c = is_done range c.args.count c.loop.counter (map deleted_of c.loop.found.items) c.args.total c.loop.rest.now _ c.loop-test.false c.loop.invariant

@@ -5,7 +5,7 @@ use Rattle.column_file.specs.Files.{offer_read}
 use Rattle.std.proofs.lemmas.Result.{err_from_is_err_and}
 use Rattle.table_model.specs.Faults.{GaveMore}
 use Rattle.column_file.proofs.FaultsOfBytes.{counts_none, refusal_listed, offer_read_judged}
-use Rattle.column_file.proofs.Inputs.{judged, unread, unread_listed}
+use Rattle.column_file.proofs.Inputs.{judged, unread, unread_listed, unread_whole, was_whole}
 use Rattle.column_file.proofs.offer_reading.read_offer.Goals as goal
 
 pub returns-clause-read : goal.returns-clause-read
@@ -30,3 +30,11 @@ pub returns-in_err-input-clause-refused : goal.returns-in_err-input-clause-refus
 returns-in_err-input-clause-refused g c =
     let p = err_from_is_err_and c.from_residual.result c.from_residual.ensures.1 in
     rw (p.1, p.2) (unread_listed c.in_err-input.field-0.0 c.in_err-input.ensures.refused)
+
+pub returns-clause-whole : goal.returns-clause-whole
+returns-clause-whole g c = was_whole c.offer_in.result (g.R.Read.remaining c.args.reader.now.0) (g.R.Read.remaining c.read_input.new.reader.0) c.in_ok-input.ensures.within c.in_ok-input.ensures.end
+
+pub returns-in_err-input-clause-whole : goal.returns-in_err-input-clause-whole
+returns-in_err-input-clause-whole g c =
+    let p = err_from_is_err_and c.from_residual.result c.from_residual.ensures.1 in
+    rw (p.1, p.2) (unread_whole c.in_err-input.field-0.0 (g.R.Read.remaining c.args.reader.now.0) (g.R.Read.remaining c.read_input.new.reader.0) c.in_err-input.ensures.refused)

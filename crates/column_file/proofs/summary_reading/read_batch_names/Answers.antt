@@ -7,12 +7,12 @@ use Rattle.column_file.proofs.summary_reading.read_batch_names.Goals as goal
 pub returns-in_err-name : goal.returns-in_err-name
 returns-in_err-name c =
     let p = err_from_is_err_and c.from_residual.result c.from_residual.ensures.1 in
-    rw (p.1, p.2) (λ not_memory. ends batch_name c.args.count c.loop.counter c.loop.names.items c.args.total c.loop.rest.now c.in_err-name.field-0.0 _ c.loop-test.true (rw c.as_slice.ensures.value at c.in_err-name.ensures not_memory) c.loop.invariant)
+    rw (p.1, p.2) (λ not_memory. ends batch_name c.args.count c.loop.counter c.loop.names.items c.args.total c.loop.rest.now c.in_err-name.field-0.0 _ c.loop-test.true (rw c.as_slice.ensures.value at c.in_err-name.ensures.read not_memory) c.loop.invariant)
 
 pub loop-preserved : goal.loop-preserved
 loop-preserved c =
     let items : c.push.new.self.items ≡ c.loop.names.items ++ c.in_ok-name.name ∷ [] = search rules in
-    rw items (goes_on batch_name c.args.count c.loop.counter c.loop.names.items c.args.total c.loop.rest.now c.in_ok-name.name c.in_ok-name.after.now _ c.loop-test.true (rw c.as_slice.ensures.value at c.in_ok-name.ensures) c.loop.invariant)
+    rw items (goes_on batch_name c.args.count c.loop.counter c.loop.names.items c.args.total c.loop.rest.now c.in_ok-name.name c.in_ok-name.after.now _ c.loop-test.true (rw c.as_slice.ensures.value at c.in_ok-name.ensures.read) c.loop.invariant)
 
 pub returns : goal.returns
 returns c = is_done batch_name c.args.count c.loop.counter c.loop.names.items c.args.total c.loop.rest.now _ c.loop-test.false c.loop.invariant
