@@ -18,6 +18,7 @@ pub mod DistinctLemmas
 pub mod TableLemmas
 pub mod ShownLemmas
 pub mod MaskedLemmas
+pub mod AmongLemmas
 pub mod SliceLemmas
 pub mod RowsBelow
 pub mod PlaceLemmas

@@ -1,15 +1,17 @@
-//! BETWEEN and IN over decoded cells, row by row.
-ghost use Rattle.std.specs.Prelude.{◌≡◌};
+//! BETWEEN over decoded cells row by row, and IN row by row or literal by literal.
+ghost use Rattle.std.specs.Prelude.{◌≡◌, cond, IfSome, List, None, Some, ℤ, pos, slice_index_or};
 ghost use Rattle.std.specs.List.{list_any};
 ghost use Rattle.std.specs.Ordering.{int_eq};
 ghost use Rattle.table_model.specs.Answer.{whole};
 ghost use Rattle.table_model.specs.Condition.{is_among};
 ghost use Rattle.table_model.specs.Truth.{and_of, comparison};
 ghost use Rattle.table_model.specs.declared.op.Op.TheVariants.{GreaterOrEqual, LessOrEqual};
+ghost use Rattle.transpose_order.specs.Mask.{has, rows_of};
 ghost use Rattle.query_eval.specs.Decoded.{decoded_at};
 ghost use Rattle.query_eval.specs.Where.{IsPair};
 
 use crate::decoded::Decoded;
+use crate::masked_folds::equal_rows;
 use crate::pair::Pair;
 use table_model::{Op, Truth};
 use transpose_order::Mask;
@@ -62,8 +64,8 @@ fn among(cell: Option<i128>, literals: &[i128]) -> Truth
     }
 }
 
-/// IN at the rows of a mask.
-pub fn among_rows(operand: &Decoded, literals: &[i128], mask: &Mask) -> Pair
+/// IN at the rows of a mask, row by row.
+fn among_by_row(operand: &Decoded, literals: &[i128], mask: &Mask) -> Pair
     ensures { IsPair mask.now (λ n. is_among (whole (decoded_at operand.now n)) literals.now) result }
 {
     let mut pair = Pair {
@@ -76,4 +78,69 @@ pub fn among_rows(operand: &Decoded, literals: &[i128], mask: &Mask) -> Pair
         }
     }
     pair
+}
+
+/// A literal as a value of 64 bits, or `None` where it isn't one.
+fn value_of(literal: i128) -> Option<i64>
+    ensures { IfSome result (λ value. value ≡ literal) }
+{
+    match i64::try_from(literal) {
+        Ok(value) => Some(value),
+        Err(_) => None,
+    }
+}
+
+/// The rows whose value is a literal, or `None` where it doesn't fit 64 bits.
+fn literal_rows(values: &[i64; 1024], literal: i128) -> Option<Mask>
+    ensures { IfSome result (λ rows. rows ≡ rows_of (λ n. int_eq (slice_index_or values.now n (pos 0)) literal)) }
+{
+    let value = value_of(literal)?;
+    Some(equal_rows(values, value))
+}
+
+/// The rows whose value is one of the literals, or `None` where one of them doesn't fit 64 bits.
+fn values_among(values: &[i64; 1024], literals: &[i128]) -> Option<Mask>
+    ensures { IfSome result (λ found. found ≡ rows_of (λ n. list_any (int_eq (slice_index_or values.now n (pos 0))) literals.now)) }
+{
+    let mut found = Mask::none();
+    for literal in literals {
+        let rows = literal_rows(values, *literal)?;
+        found = found.or(&rows);
+    }
+    Some(found)
+}
+
+/// IN of a column's cells at the rows of a mask, by the rows whose value is one of the literals: a null is unknown beside each
+/// literal, and false beside none.
+fn among_found(nulls: &Mask, found: &Mask, literals: &[i128], mask: &Mask) -> Pair
+    ensures { (values : List ℤ) → found.now ≡ rows_of (λ n. list_any (int_eq (slice_index_or values n (pos 0))) literals.now) → IsPair mask.now (λ n. is_among (whole (cond (has nulls.now n) None (Some (slice_index_or values n (pos 0))))) literals.now) result }
+{
+    let known = if literals.is_empty() {
+        mask.and(mask)
+    } else {
+        mask.and_not(nulls)
+    };
+    Pair {
+        yes: known.and(found),
+        no: known.and_not(found),
+    }
+}
+
+/// IN at the rows of a mask. A look at a column's 1024 values for one literal costs what 256 rows cost with it, so that few rows
+/// and many literals go row by row, and so does a literal that doesn't fit 64 bits.
+pub fn among_rows(operand: &Decoded, literals: &[i128], mask: &Mask) -> Pair
+    ensures { IsPair mask.now (λ n. is_among (whole (decoded_at operand.now n)) literals.now) result }
+{
+    match operand {
+        Decoded::Column { nulls, values } => {
+            if literals.len() > 5 && mask.count() < 256 {
+                return among_by_row(operand, literals, mask);
+            }
+            match values_among(values, literals) {
+                Some(found) => among_found(nulls, &found, literals, mask),
+                None => among_by_row(operand, literals, mask),
+            }
+        }
+        Decoded::Fixed(_) => among_by_row(operand, literals, mask),
+    }
 }
