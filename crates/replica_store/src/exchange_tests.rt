@@ -150,16 +150,21 @@ fn offers_alone(offer: &Offer, batch: OneColumn<'_>) -> bool {
     found == name(batch.0, batch.1) && has_values(segment, batch.2)
 }
 
+/// The first of the offers.
+fn first_offer(alloc: Global) -> Result<Offer, Refusal> {
+    LATE_OFFERS[0].offer(alloc)
+}
+
 #[test]
 fn an_offer_has_what_the_summary_lacks_alone(rt: HostRuntime) -> Result<(), Fail> {
-    let offer = LATE_OFFERS[0].offer(rt.alloc())?;
+    let offer = first_offer(rt.alloc())?;
     assert!(rt; offers_alone(&offer, (1, 2, &[2])));
     Ok(())
 }
 
 /// What a receiver answers to the first of the offers.
 fn take_first(alloc: Global, receiver: &mut Store) -> Result<(), Refusal> {
-    let offer = LATE_OFFERS[0].offer(alloc)?;
+    let offer = first_offer(alloc)?;
     apply(alloc, receiver, &offer)
 }
 

@@ -14,26 +14,38 @@ const WIDE_VECTORS: [(u32, u32); 6] = [(0, 0), (0, 1), (1, 0), (1, 1), (2, 0), (
 
 const CODINGS: [Coding; 4] = [Coding::For, Coding::Delta, Coding::Runs, Coding::Dict];
 
-/// A row of a SMALLINT, an INTEGER and a BIGINT: a few values with nulls among them, values that ascend with nulls in runs, and
-/// values far apart.
-fn wide_row(alloc: Global, ordinal: u16) -> Result<Row, AllocError> {
+/// One of a few values from -3 to 3, with nulls among them.
+fn few(ordinal: u16) -> Option<i128> {
+    if ordinal % 5 == 4 {
+        None
+    } else {
+        Some(i128::from(ordinal % 7) - 3)
+    }
+}
+
+/// A value that ascends with the ordinal, or a null of a run.
+fn ascending(ordinal: u16) -> Option<i128> {
+    if ordinal / 64 % 3 == 2 {
+        None
+    } else {
+        Some(1_000_000 + i128::from(ordinal))
+    }
+}
+
+/// A value far from its neighbours'.
+fn apart(ordinal: u16) -> Option<i128> {
     let n = i128::from(ordinal);
-    let few = if ordinal % 5 == 4 {
-        None
+    Some(if ordinal % 2 == 0 {
+        9_000_000_000_000_000_000 - n
     } else {
-        Some(n % 7 - 3)
-    };
-    let ascending = if ordinal / 64 % 3 == 2 {
-        None
-    } else {
-        Some(1_000_000 + n)
-    };
-    let apart = if ordinal % 2 == 0 {
-        Some(9_000_000_000_000_000_000 - n)
-    } else {
-        Some(-n)
-    };
-    Ok(Row::from_cells(Vec::from_slice(alloc, &[few, ascending, apart])?))
+        -n
+    })
+}
+
+/// A row of a SMALLINT, an INTEGER and a BIGINT.
+fn wide_row(alloc: Global, ordinal: u16) -> Result<Row, AllocError> {
+    let cells = [few(ordinal), ascending(ordinal), apart(ordinal)];
+    Ok(Row::from_cells(Vec::from_slice(alloc, &cells)?))
 }
 
 fn wide_rows(alloc: Global) -> Result<Vec<Row>, AllocError> {

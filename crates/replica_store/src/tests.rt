@@ -32,10 +32,15 @@ pub(crate) fn row_name(origin: u32, number: u32, ordinal: u16) -> RowName {
     }
 }
 
+/// A row of one cell.
+fn row_of(alloc: Global, cell: Option<i128>) -> Result<Row, AllocError> {
+    Ok(Row::from_cells(Vec::from_slice(alloc, &[cell])?))
+}
+
 pub(crate) fn rows_of(alloc: Global, values: &[i128]) -> Result<Vec<Row>, AllocError> {
     let mut rows = Vec::with_capacity(alloc, values.len())?;
     for value in values {
-        rows.push(Row::from_cells(Vec::from_slice(alloc, &[Some(*value)])?))?;
+        rows.push(row_of(alloc, Some(*value))?)?;
     }
     Ok(rows)
 }
@@ -43,7 +48,7 @@ pub(crate) fn rows_of(alloc: Global, values: &[i128]) -> Result<Vec<Row>, AllocE
 fn many_rows(alloc: Global, count: usize) -> Result<Vec<Row>, AllocError> {
     let mut rows = Vec::with_capacity(alloc, count)?;
     for _ in 0..count {
-        rows.push(Row::from_cells(Vec::from_slice(alloc, &[None])?))?;
+        rows.push(row_of(alloc, None)?)?;
     }
     Ok(rows)
 }
