@@ -1,5 +1,5 @@
 //! How many distinct values a vector has, without a sort where their low sixteen bits tell them apart.
-ghost use Rattle.std.specs.Prelude.{◌≡◌, ◌==◌, ◌||◌, cond, ℕ, ◌+◌, ◌-◌, ◌*◌, ◌/◌, ◌<◌, ◌≤◌, ◌↔◌, IsSome, IfSome, IfNone, IsTrue, true, false, length};
+ghost use Rattle.std.specs.Prelude.{◌≡◌, ◌==◌, ◌||◌, cond, ℕ, ◌+◌, ◌-◌, ◌*◌, ◌/◌, ◌<◌, ◌≤◌, ◌↔◌, IsSome, IfSome, IfNone, IsTrue, true, false, length, ℤ, pos, ◌≤ℤ◌, ◌+ℤ◌};
 ghost use Rattle.transpose_order.specs.Mask.{truth_at};
 ghost use Rattle.transpose_order.specs.Place.{IsLaneWidth};
 ghost use Rattle.bit_interleave.specs.Arithmetic.{least_width};
@@ -61,8 +61,10 @@ fn count_keys(values: &[i64; 1024], limit: usize) -> Option<usize>
 
 /// Whether the values span fewer than 65,536 numbers, so that no two distinct values have one key.
 fn are_near(values: &[i64; 1024]) -> bool
-    ensures { IsTrue result → (m n : ℕ) → m < 1024 → n < 1024
+    ensures apart { IsTrue result → (m n : ℕ) → m < 1024 → n < 1024
         → key_of (value_at values.now m) ≡ key_of (value_at values.now n) → value_at values.now m ≡ value_at values.now n }
+    ensures near { (low : ℤ) → ((n : ℕ) → n < 1024 → low ≤ℤ value_at values.now n)
+        → ((n : ℕ) → n < 1024 → value_at values.now n ≤ℤ (low +ℤ pos 65535)) → IsTrue result }
 {
     let mut least = values[0];
     let mut greatest = values[0];
@@ -99,6 +101,7 @@ pub(crate) fn payload_bytes(lane_width: usize, count: usize, width: usize) -> u1
 pub(crate) fn most_values(lane_width: usize, bound: u16) -> usize
     requires { IsLaneWidth lane_width }
     ensures enough { (count : ℕ) → result < count → count ≤ 1024 → bound ≤ count * lane_width / 8 + 128 * least_width (count - 1) }
+    ensures many { result ≤ 1024 }
     ensures reached { 0 < result → result * lane_width / 8 + 128 * least_width (result - 1) < bound }
 {
     let mut most: usize = 0;

@@ -11,4 +11,4 @@ returns-in_err-keys-clause-none c =
 
 pub returns-then-are_near-clause-some : goal.returns-then-are_near-clause-some
 returns-then-are_near-clause-some c =
-    c.in_ok-keys.ensures.some ∙ keys_apart c.args.values.now (λ m n h l. c.are_near.ensures c.if-are_near.true m n (omega (arith, c.told-values)) (omega (arith, c.told-values)))
+    c.in_ok-keys.ensures.some ∙ keys_apart c.args.values.now (λ m n h l. c.are_near.ensures.apart c.if-are_near.true m n (omega (arith, c.told-values)) (omega (arith, c.told-values)))
