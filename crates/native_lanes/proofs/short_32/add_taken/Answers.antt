@@ -3,7 +3,6 @@ use Rattle.std.proofs.Common.{◌==◌, ℕ, ◌+◌, cond, slice_index, ap, ◌
 use Rattle.std.specs.Int.{bit_at}
 use Rattle.std.proofs.lemmas.List.{length-set}
 use Rattle.native_lanes.proofs.ListLemmas.{set_more, set_rest}
-use Rattle.native_lanes.proofs.ShortLemmas.{taken_at_most}
 use Rattle.native_lanes.proofs.short_32.add_taken.Goals as goal
 
 pub loop-i-preserved : goal.loop-i-preserved

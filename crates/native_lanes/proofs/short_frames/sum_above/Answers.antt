@@ -2,7 +2,7 @@
 use Rattle.std.proofs.Common.{rules, ◌≡◌, ℕ, ◌*◌, ◌^◌, ◌≤◌, ℤ, pos, neg_ℤ, ◌+ℤ◌, ◌*ℤ◌, ◌≤ℤ◌, FitsSigned, to_z, of_z, sym, ap, ◌∙◌, subst, arith}
 use Rattle.std.specs.Int.{w64, w128}
 use Rattle.std.proofs.lemmas.Int.{ints, to_z-of_z}
-use Rattle.transpose_order.specs.Mask.{has, count_below}
+use Rattle.transpose_order.specs.Mask.{has}
 use Rattle.transpose_order.proofs.MaskLemmas.{count_below-le}
 use Rattle.native_lanes.proofs.TimesLemmas.{times_bound}
 use Rattle.native_lanes.proofs.short_frames.sum_above.Goals as goal

@@ -1,6 +1,6 @@
 -- Where the frame is short, the values are the reference and the numbers, and else the walk's numbers are the raised values.
 use Rattle.std.proofs.Common.{rules, FitsSigned, ◌≡◌, ℕ, ◌+◌, ◌*◌, ◌/◌, cond, length, pos, ◌+ℤ◌, ◌*ℤ◌, List, sym, ap, ◌∙◌}
-use Rattle.std.specs.Int.{w64, w128}
+use Rattle.std.specs.Int.{w128}
 use Rattle.std.proofs.lemmas.Int.{to_z-of_z}
 use Rattle.transpose_order.specs.Mask.{has, count_below}
 use Rattle.transpose_order.specs.Place.{lane_of, step_of}
