@@ -1,6 +1,7 @@
 //! BETWEEN over decoded cells row by row, and IN row by row or literal by literal.
-ghost use Rattle.std.specs.Prelude.{◌≡◌, cond, IfSome, List, None, Some, ℤ, pos, slice_index_or};
-ghost use Rattle.std.specs.List.{list_any};
+ghost use Rattle.std.specs.Prelude.{◌≡◌, cond, FitsSigned, IfSome, IsSome, List, None, Some, ℤ, pos, slice_index_or};
+ghost use Rattle.std.specs.Int.{w64};
+ghost use Rattle.std.specs.List.{All, list_any};
 ghost use Rattle.std.specs.Ordering.{int_eq};
 ghost use Rattle.table_model.specs.Answer.{whole};
 ghost use Rattle.table_model.specs.Condition.{is_among};
@@ -82,7 +83,8 @@ fn among_by_row(operand: &Decoded, literals: &[i128], mask: &Mask) -> Pair
 
 /// A literal as a value of 64 bits, or `None` where it isn't one.
 fn value_of(literal: i128) -> Option<i64>
-    ensures { IfSome result (λ value. value ≡ literal) }
+    ensures value { IfSome result (λ value. value ≡ literal) }
+    ensures answers { FitsSigned w64 literal → IsSome result }
 {
     match i64::try_from(literal) {
         Ok(value) => Some(value),
@@ -92,7 +94,8 @@ fn value_of(literal: i128) -> Option<i64>
 
 /// The rows whose value is a literal, or `None` where it doesn't fit 64 bits.
 fn literal_rows(values: &[i64; 1024], literal: i128) -> Option<Mask>
-    ensures { IfSome result (λ rows. rows ≡ rows_of (λ n. int_eq (slice_index_or values.now n (pos 0)) literal)) }
+    ensures answers { FitsSigned w64 literal → IsSome result }
+    ensures rows { IfSome result (λ rows. rows ≡ rows_of (λ n. int_eq (slice_index_or values.now n (pos 0)) literal)) }
 {
     let value = value_of(literal)?;
     Some(equal_rows(values, value))
@@ -100,7 +103,8 @@ fn literal_rows(values: &[i64; 1024], literal: i128) -> Option<Mask>
 
 /// The rows whose value is one of the literals, or `None` where one of them doesn't fit 64 bits.
 fn values_among(values: &[i64; 1024], literals: &[i128]) -> Option<Mask>
-    ensures { IfSome result (λ found. found ≡ rows_of (λ n. list_any (int_eq (slice_index_or values.now n (pos 0))) literals.now)) }
+    ensures answers { All (FitsSigned w64) literals.now → IsSome result }
+    ensures rows { IfSome result (λ found. found ≡ rows_of (λ n. list_any (int_eq (slice_index_or values.now n (pos 0))) literals.now)) }
 {
     let mut found = Mask::none();
     for literal in literals {

@@ -8,11 +8,11 @@ use Rattle.transpose_order.specs.MaskWords.{rows_of-like}
 use Rattle.query_eval.proofs.AmongLemmas.{int_eq_flip}
 use Rattle.query_eval.proofs.rows.literal_rows.Goals as goal
 
-pub returns : goal.returns
-returns c =
+pub returns-clause-rows : goal.returns-clause-rows
+returns-clause-rows c =
     let values = c.args.values.now in
     let fits : FitsSigned w128 c.args.literal = search rules in
-    let is : c.in_ok-value.value ≡ c.args.literal = c.in_ok-value.ensures ∙ to_z-of_z w128 c.args.literal fits in
+    let is : c.in_ok-value.value ≡ c.args.literal = c.in_ok-value.ensures.value ∙ to_z-of_z w128 c.args.literal fits in
     let fits_64 : FitsSigned w64 c.in_ok-value.value = search rules in
     subst (λ (z : ℤ). c.equal_rows.result ≡ rows_of (λ n. int_eq z (get_or values n (pos 0)))) (to_z-of_z w64 c.in_ok-value.value fits_64 ∙ is) c.equal_rows.ensures
     ∙ rows_of-like (λ n. int_eq c.args.literal (get_or values n (pos 0))) (λ n. int_eq (get_or values n (pos 0)) c.args.literal) (λ n h. int_eq_flip c.args.literal (get_or values n (pos 0)))

@@ -14,5 +14,5 @@ loop-literal-preserved c =
     let values = c.args.values.now in
     let fits : FitsSigned w128 (get_or literals i (pos 0)) = search rules in
     let one : c.in_ok-rows.rows ≡ rows_of (λ n. int_eq (get_or values n (pos 0)) (get_or literals i (pos 0))) =
-    subst (λ (z : ℤ). c.in_ok-rows.rows ≡ rows_of (λ n. int_eq (get_or values n (pos 0)) z)) (to_z-of_z w128 (get_or literals i (pos 0)) fits) c.in_ok-rows.ensures in
+    subst (λ (z : ℤ). c.in_ok-rows.rows ≡ rows_of (λ n. int_eq (get_or values n (pos 0)) z)) (to_z-of_z w128 (get_or literals i (pos 0)) fits) c.in_ok-rows.ensures.rows in
     among_more values literals i c.loop-literal.found c.in_ok-rows.rows c.or-found.result c.loop-literal-test.true c.loop-literal.invariant one c.or-found.ensures
