@@ -43,11 +43,11 @@ known_no false null f z n ns e = refl
 known_no true true f z n ns e = sym (ap is_false (predicates.null_among n ns))
 known_no true false f z n ns e = ap not e ∙ sym (ap is_false (predicates.whole_among z (n ∷ ns)) ∙ is_false-truth_of (list_any (int_eq z) (n ∷ ns)))
 
-none_yes : (m f : Bool) → f ≡ false → ((m && m) && f) ≡ (m && false)
+none_yes : (m f : Bool) → f ≡ false → (m && f) ≡ (m && false)
 none_yes false f e = refl
 none_yes true f e = e
 
-none_no : (m f : Bool) → f ≡ false → ((m && m) && not f) ≡ (m && true)
+none_no : (m f : Bool) → f ≡ false → (m && not f) ≡ (m && true)
 none_no false f e = refl
 none_no true f e = ap not e
 
@@ -59,9 +59,9 @@ module _ (nulls mask known found : List Bool) (values : List ℤ) (pair : Pair) 
     no = no ∙ is_no mask (λ n. is_among (whole (cond (has nulls n) None (Some (slice_index_or values n (pos 0))))) (x ∷ xs)) _ (λ n h. ap (λ b. b && not (has found n)) (ap (λ m. has m n) f ∙ has-rows_of (λ n. has mask n && not (has nulls n)) n h) ∙ known_no (has mask n) (has nulls n) (has found n) (get_or values n (pos 0)) x xs (ap (λ m. has m n) e ∙ has-rows_of (λ n. list_any (int_eq (get_or values n (pos 0))) (x ∷ xs)) n h));
   }
 
-  pub pair_among_none : (literals : List ℤ) → length literals ≡ 0 → found ≡ rows_of (λ n. list_any (int_eq (get_or values n (pos 0))) literals) → known ≡ rows_of (λ n. has mask n && has mask n) → IsPair mask (λ n. is_among (whole (cond (has nulls n) None (Some (slice_index_or values n (pos 0))))) literals) pair
+  pub pair_among_none : (literals : List ℤ) → length literals ≡ 0 → found ≡ rows_of (λ n. list_any (int_eq (get_or values n (pos 0))) literals) → known ≡ mask → IsPair mask (λ n. is_among (whole (cond (has nulls n) None (Some (slice_index_or values n (pos 0))))) literals) pair
   pair_among_none (x ∷ xs) none e f = absurd (omega (arith, none))
   pair_among_none [] none e f = record {
-    yes = yes ∙ is_yes mask (λ n. is_among (whole (cond (has nulls n) None (Some (slice_index_or values n (pos 0))))) []) _ (λ n h. ap (λ b. b && has found n) (ap (λ m. has m n) f ∙ has-rows_of (λ n. has mask n && has mask n) n h) ∙ none_yes (has mask n) (has found n) (ap (λ m. has m n) e ∙ has-rows_of (λ n. list_any (int_eq (get_or values n (pos 0))) []) n h));
-    no = no ∙ is_no mask (λ n. is_among (whole (cond (has nulls n) None (Some (slice_index_or values n (pos 0))))) []) _ (λ n h. ap (λ b. b && not (has found n)) (ap (λ m. has m n) f ∙ has-rows_of (λ n. has mask n && has mask n) n h) ∙ none_no (has mask n) (has found n) (ap (λ m. has m n) e ∙ has-rows_of (λ n. list_any (int_eq (get_or values n (pos 0))) []) n h));
+    yes = yes ∙ is_yes mask (λ n. is_among (whole (cond (has nulls n) None (Some (slice_index_or values n (pos 0))))) []) _ (λ n h. ap (λ b. b && has found n) (ap (λ m. has m n) f) ∙ none_yes (has mask n) (has found n) (ap (λ m. has m n) e ∙ has-rows_of (λ n. list_any (int_eq (get_or values n (pos 0))) []) n h));
+    no = no ∙ is_no mask (λ n. is_among (whole (cond (has nulls n) None (Some (slice_index_or values n (pos 0))))) []) _ (λ n h. ap (λ b. b && not (has found n)) (ap (λ m. has m n) f) ∙ none_no (has mask n) (has found n) (ap (λ m. has m n) e ∙ has-rows_of (λ n. list_any (int_eq (get_or values n (pos 0))) []) n h));
   }

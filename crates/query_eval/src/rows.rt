@@ -120,7 +120,7 @@ fn among_found(nulls: &Mask, found: &Mask, literals: &[i128], mask: &Mask) -> Pa
     ensures { (values : List ℤ) → found.now ≡ rows_of (λ n. list_any (int_eq (slice_index_or values n (pos 0))) literals.now) → IsPair mask.now (λ n. is_among (whole (cond (has nulls.now n) None (Some (slice_index_or values n (pos 0))))) literals.now) result }
 {
     let known = if literals.is_empty() {
-        mask.and(mask)
+        *mask
     } else {
         mask.and_not(nulls)
     };
