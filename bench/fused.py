@@ -7,15 +7,14 @@ once, which takes some minutes. It needs the commands rt and rustc.
 import sys
 
 sys.dont_write_bytecode = True
-from speeds import measured, options, print_tables
+from speeds import measured, options, print_tables, ratio_text
 from workspace import TOP, libraries_below
 
 SLOW = 0.7
 
 
 def ratio_of(proved, plain):
-    ratio = proved / plain
-    return f"**{ratio:.2f}**" if ratio < SLOW else f"{ratio:.2f}"
+    return ratio_text(proved / plain, proved / plain < SLOW)
 
 
 def print_least(names, best):

@@ -43,6 +43,11 @@ def measured(given, libraries, name, sources):
     return [cpu or "default" for cpu in cpus], best
 
 
+def ratio_text(ratio, is_slow):
+    """A ratio with two decimals, in bold where it is slow."""
+    return f"**{ratio:.2f}**" if is_slow else f"{ratio:.2f}"
+
+
 def print_tables(names, best, ratio_of):
     """Prints a table of each kernel, a row for each lane width and data; `ratio_of` gives the text of a ratio of both speeds."""
     heads = ["T", "data", *(f"{side}, {name}" for name in names for side in ("Rattle", "plain Rust", "ratio"))]

@@ -1,7 +1,7 @@
 //! The four codings of a vector and their kernels, as plain Rust has them.
 use crate::mixed::Words;
 use crate::native::{Lanes, Native, lanes_of};
-use crate::plain_packing::pack_each;
+use crate::plain_packing::{pack_numbers, width_of};
 use crate::word::{Word, first_row};
 
 pub enum Form<U, const LANES: usize> {
@@ -21,23 +21,11 @@ pub struct Dict {
     codes: Lanes<u16, 64>,
 }
 
-fn width_of(greatest: u64) -> usize {
-    64 - greatest.leading_zeros() as usize
-}
-
-fn packed<U: Word>(width: usize, number: impl Fn(usize) -> u64) -> Vec<U> {
-    let mut words = vec![U::default(); width * U::LANES];
-    if width > 0 {
-        pack_each(width, |row| U::from_number(number(row)), &mut words);
-    }
-    words
-}
-
 pub fn frame_of<U: Native, const LANES: usize>(values: &[i64; 1024]) -> Form<U, LANES> {
     let least = *values.iter().min().expect("a value");
     let greatest = *values.iter().max().expect("a value");
     let width = width_of(greatest.wrapping_sub(least) as u64);
-    let words = packed(width, |row| values[row].wrapping_sub(least) as u64);
+    let words = pack_numbers(width, |row| values[row].wrapping_sub(least) as u64);
     let starts = [U::default(); LANES];
     Form::Lanes(Lanes { width, words, carried: false, starts, added: U::from_number(least as u64) })
 }
@@ -51,7 +39,7 @@ pub fn deltas_of<U: Native, const LANES: usize>(values: &[i64; 1024]) -> Form<U,
     let gap = |row: usize| if row % U::BITS == 0 { 0 } else { difference(row).wrapping_sub(least) as u64 };
     let first = |lane: usize| values[64 * (lane % 16) + first_row::<U>(lane / 16)];
     let starts = std::array::from_fn(|lane| U::from_number(first(lane).wrapping_sub(least) as u64));
-    Form::Lanes(Lanes { width, words: packed(width, gap), carried: true, starts, added: U::from_number(least as u64) })
+    Form::Lanes(Lanes { width, words: pack_numbers(width, gap), carried: true, starts, added: U::from_number(least as u64) })
 }
 
 pub fn runs_of<U, const LANES: usize>(values: &[i64; 1024]) -> Form<U, LANES> {
@@ -71,7 +59,7 @@ pub fn dict_of<U, const LANES: usize>(values: &[i64; 1024]) -> Form<U, LANES> {
     sorted.dedup();
     let width = width_of(sorted.len() as u64 - 1);
     let places: Vec<u64> = values.iter().map(|value| sorted.binary_search(value).expect("a value") as u64).collect();
-    let words = packed(width, |row| places[row]);
+    let words = pack_numbers(width, |row| places[row]);
     let codes = Lanes { width, words, carried: false, starts: [0; 64], added: 0 };
     Form::Dict(Dict { values: sorted, codes })
 }

@@ -1,5 +1,5 @@
 //! The four codings as plain Rust has them.
-use crate::plain_packing::{each_value, pack_each};
+use crate::plain_packing::{each_value, pack_numbers, width_of};
 use crate::word::{Word, first_row};
 
 /// What each coding does, with the vector's lanes of type `U`.
@@ -26,18 +26,6 @@ pub fn words_sum<U: Word>(words: &[U]) -> u64 {
 pub fn values_sum(values: &[i64]) -> u64 {
     let mix = |sum: u64, value: &i64| sum.wrapping_mul(31).wrapping_add(*value as u64);
     values.iter().fold(0, mix)
-}
-
-fn width_of(greatest: u64) -> usize {
-    64 - greatest.leading_zeros() as usize
-}
-
-fn pack_numbers<U: Word>(width: usize, number: impl Fn(usize) -> u64) -> Vec<U> {
-    let mut words = vec![U::default(); width * U::LANES];
-    if width > 0 {
-        pack_each(width, |row| U::from_number(number(row)), &mut words);
-    }
-    words
 }
 
 fn each_number<U: Word>(width: usize, words: &[U], mut take: impl FnMut(usize, U)) {

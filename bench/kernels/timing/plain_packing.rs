@@ -49,6 +49,20 @@ pub fn pack_each<U: Word>(width: usize, value: impl Fn(usize) -> U, words: &mut 
     }
 }
 
+/// The bits that a number takes.
+pub fn width_of(greatest: u64) -> usize {
+    64 - greatest.leading_zeros() as usize
+}
+
+/// The words that hold each row's number in `width` bits.
+pub fn pack_numbers<U: Word>(width: usize, number: impl Fn(usize) -> u64) -> Vec<U> {
+    let mut words = vec![U::default(); width * U::LANES];
+    if width > 0 {
+        pack_each(width, |row| U::from_number(number(row)), &mut words);
+    }
+    words
+}
+
 #[inline(always)]
 fn unpack<U: Word>(width: usize, words: &[U], values: &mut [U; 1024]) {
     each_value(width, words, |row, value| values[row] = value);
