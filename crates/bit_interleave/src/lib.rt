@@ -25,6 +25,3 @@ pub use laws::{
 pub use packing::{pack, pack_at};
 pub use unpacking::{step, step_at, unpack, unpack_at};
 pub use words::Words;
-
-#[cfg(test)]
-mod tests;

@@ -15,6 +15,3 @@ pub use held::Held;
 pub use laws::{names_have_one_order, rows_have_one_list_of_ranges};
 pub use run::Run;
 pub use tombs::Tombs;
-
-#[cfg(test)]
-mod tests;

@@ -7,8 +7,6 @@ mod laws;
 mod message;
 mod reply;
 mod runner;
-#[cfg(test)]
-mod tests;
 
 pub use cluster::Cluster;
 pub use laws::history_laws;

@@ -3,8 +3,6 @@
 
 mod fault;
 mod requests;
-#[cfg(test)]
-mod tests;
 
 pub use fault::Fault;
 pub use requests::{Request, Source, arguments, read_request};

@@ -15,6 +15,3 @@ pub use laws::{
     least_delta_is_a_form, least_delta_is_narrowest, least_frame_gives_back, least_frame_is_a_form,
     least_frame_is_narrowest, sums_give_their_rows,
 };
-
-#[cfg(test)]
-mod tests;

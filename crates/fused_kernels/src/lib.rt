@@ -33,10 +33,3 @@ pub use paths::{
 pub use ranges::compare_range;
 pub use sums::sum;
 pub use vector_lanes::VectorLanes;
-
-#[cfg(test)]
-mod plain_lanes;
-#[cfg(test)]
-mod tests;
-#[cfg(test)]
-mod vector_tests;

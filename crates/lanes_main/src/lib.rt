@@ -3,8 +3,6 @@
 #![tactic(auto)]
 
 mod file_check;
-#[cfg(test)]
-mod file_tests;
 mod interpreter;
 mod laws;
 mod line_part;
@@ -12,8 +10,6 @@ mod notes;
 mod querying;
 mod reply_format;
 mod session;
-#[cfg(test)]
-mod tests;
 
 pub use cluster_history::{Cluster, Message, Reply, history_laws, run};
 pub use file_check::check_file;

@@ -28,4 +28,3 @@ pub mod VectorLemmas
 pub mod MentionLemmas
 pub mod AnswerLemmas
 pub mod OrderLemmas
-pub mod PlainLemmas

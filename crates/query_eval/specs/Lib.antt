@@ -15,4 +15,3 @@ pub mod QueryMentions
 pub mod Grouping
 pub mod Places
 pub mod Slices
-pub mod PlainRows

@@ -22,8 +22,6 @@ mod names;
 mod pair;
 mod places;
 mod placing;
-#[cfg(test)]
-mod plain_columns;
 mod plan;
 mod predicates;
 mod rows;
@@ -36,8 +34,6 @@ mod table_fields;
 mod taking;
 mod tally;
 mod tallying;
-#[cfg(test)]
-mod tests;
 mod where_masks;
 
 pub use aggregate::{Aggregate, place_or_end};

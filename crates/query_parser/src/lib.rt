@@ -16,6 +16,3 @@ mod token;
 pub use laws::texts_are_unambiguous;
 pub use names::resolve;
 pub use query::parse;
-
-#[cfg(test)]
-mod tests;

@@ -13,12 +13,3 @@ pub use laws::{exchange_laws, keeping_laws, merge_laws};
 pub use offer::Offer;
 pub use store::{MAX_BATCHES, Store};
 pub use summary::Summary;
-
-#[cfg(test)]
-mod exchange_tests;
-#[cfg(test)]
-mod recode_tests;
-#[cfg(test)]
-mod refused_tests;
-#[cfg(test)]
-mod tests;

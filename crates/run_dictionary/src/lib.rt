@@ -11,6 +11,3 @@ pub use dicts::{
     Dict, codes_stand_in_lanes, least_dict_gives_back, least_dict_is_a_form, least_dict_is_fewest,
 };
 pub use runs::{Runs, least_runs_are_a_form, least_runs_are_fewest, least_runs_give_back};
-
-#[cfg(test)]
-mod tests;

@@ -9,8 +9,6 @@ mod laws;
 mod line;
 mod rows;
 mod step;
-#[cfg(test)]
-mod tests;
 mod words;
 
 pub use command::{Command, TableCommand};

@@ -28,10 +28,3 @@ pub use coding::Coding;
 pub use formats::{place_of, read_number};
 pub use segment::{Segment, forms_tell_rows};
 pub use writing::{write_number, write_value, write_values, write_whole};
-
-#[cfg(test)]
-mod bytes_tests;
-#[cfg(test)]
-mod refused_tests;
-#[cfg(test)]
-mod tests;

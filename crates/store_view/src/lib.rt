@@ -2,8 +2,6 @@
 #![tactic(auto)]
 
 mod asking;
-#[cfg(test)]
-mod refused_tests;
 mod view;
 
 pub use asking::ask;

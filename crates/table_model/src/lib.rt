@@ -34,6 +34,3 @@ pub use row::{Row, Rows, same_rows};
 pub use schema::{ColType, Column, Schema};
 pub use stop::Stop;
 pub use truth::Truth;
-
-#[cfg(test)]
-mod tests;

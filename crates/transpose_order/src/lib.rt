@@ -12,6 +12,3 @@ pub use places::{
     every_place_is_a_row, one_order_serves_every_width, pieces_stand_in_words, place,
     place_in_word, places_are_distinct, position, row_at,
 };
-
-#[cfg(test)]
-mod tests;

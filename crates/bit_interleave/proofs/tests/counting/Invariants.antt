@@ -1,9 +1,0 @@
--- Each value so far has 64 bits.
-use Rattle.std.proofs.Common.{◌≡◌, ℕ, ◌<◌, ◌^◌, length, slice_index}
-use Rattle.bit_interleave.proofs.tests.counting.Given as goal
-
-abbrev pub invariant-loop-n : goal.invariant-loop-n
-invariant-loop-n l = record {
-  long : length l.values ≡ 1024;
-  fit : (k : ℕ) → k < l.n → slice_index l.values k < 2 ^ 64;
-}

@@ -1,0 +1,82 @@
+//! The texts of help, of faults of the command line and of refusals, as a user sees them.
+
+use command_line::{Fault, read_request};
+use std::alloc::{AllocError, Global};
+use std::test::Fail;
+use table_model::{BatchName, Number, Origin, Refusal};
+
+/// These words, each in memory of its own.
+fn words_of(alloc: Global, words: &[&str]) -> Result<Vec<String>, AllocError> {
+    let mut given = Vec::new(alloc);
+    for word in words {
+        given.push(String::from_str(alloc, word)?)?;
+    }
+    Ok(given)
+}
+
+/// What the command line of these words prints where it runs nothing.
+fn text_of(alloc: Global, words: &[&str]) -> Result<String, AllocError> {
+    let given = words_of(alloc, words)?;
+    match read_request(alloc, given.as_slice()) {
+        Ok(_) => Ok(String::new(alloc)),
+        Err(fault) => fault.to_string(alloc),
+    }
+}
+
+const PROGRAM_HELP: &str =
+    "A replicated column store for one table of nullable integer columns\n\nUsage: lanes <COMMAND>\n\nCommands:\n  run    Runs a script and writes its replies to standard output\n  check  Says whether a file is a canonical one, and how many batches and ranges of deletions it has\n  merge  Writes the canonical file of what all of some files hold; where a merge is refused, OUT stays as it was\n  query  Writes the answers of queries over a file, one after another; docs/SQL.md has the language\n  help   Print this message or the help of the given subcommand(s)\n\nOptions:\n  -h, --help     Print help\n  -V, --version  Print version\n";
+
+const RUN_HELP: &str =
+    "Runs a script and writes its replies to standard output\n\nUsage: lanes run [OPTIONS] [FILE]\n\nArguments:\n  [FILE]  The script's file, or - for standard input, as where none is named\n\nOptions:\n      --explain  Say on standard error of each refused line its number and why it is refused\n  -h, --help     Print help\n\nA script is lines such as these, each of which has a reply:\n  table 2 T A SMALLINT\n  append 1 (7),(NULL)\n  query 1 SELECT COUNT(*) FROM T\nAll lines and replies are in docs/FORMATS.md, and examples/ has scripts to run.\n";
+
+// Help names each command; a fault names what is wrong, the usage, and where help is.
+const TEXTS: [(&[&str], &str); 9] = [
+    (&["lanes", "--help"], PROGRAM_HELP),
+    (&["lanes", "help"], PROGRAM_HELP),
+    (&["lanes", "run", "--help"], RUN_HELP),
+    (&["lanes", "--version"], "lanes 0.1.0\n"),
+    (
+        &["lanes"],
+        "error: 'lanes' requires a subcommand but one was not provided\n  [subcommands: run, check, merge, query, help]\n\nUsage: lanes <COMMAND>\n\nFor more information, try '--help'.\n",
+    ),
+    (
+        &["lanes", "run", "x", "y"],
+        "error: unexpected argument 'y' found\n\nUsage: lanes run [OPTIONS] [FILE]\n\nFor more information, try '--help'.\n",
+    ),
+    (
+        &["lanes", "bogus"],
+        "error: unrecognized subcommand 'bogus'\n\nUsage: lanes <COMMAND>\n\nFor more information, try '--help'.\n",
+    ),
+    (&["lanes", "run"], ""),
+    (&["lanes", "run", "x"], ""),
+];
+
+#[test]
+fn help_and_faults_of_the_command_line_have_their_texts(rt: HostRuntime) -> Result<(), Fail> {
+    for &(words, want) in &TEXTS {
+        let text = text_of(rt.alloc(), words)?;
+        assert!(rt; text.as_str() == want, "printed {text}");
+    }
+    Ok(())
+}
+
+const NAME: BatchName = BatchName {
+    origin: Origin(1),
+    number: Number(2),
+};
+
+const LINES: [(Refusal, &str); 4] = [
+    (Refusal::Memory, "refused Memory"),
+    (Refusal::ReadFault, "refused ReadFault"),
+    (Refusal::WriteFault, "refused WriteFault"),
+    (Refusal::Conflict(NAME), "refused Conflict 1.2"),
+];
+
+#[test]
+fn a_refusal_is_one_line(rt: HostRuntime) -> Result<(), Fail> {
+    for &(refusal, want) in &LINES {
+        let text = Fault::from(refusal).to_string(rt.alloc())?;
+        assert!(rt; text.as_str() == want, "printed {text}");
+    }
+    Ok(())
+}

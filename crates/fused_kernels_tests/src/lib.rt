@@ -1,0 +1,9 @@
+//! Tests of fused_kernels: the kernels over coded vectors and over lanes that another crate gives, at values worked out by hand.
+#![tactic(auto)]
+
+#[cfg(test)]
+mod plain_lanes;
+#[cfg(test)]
+mod tests;
+#[cfg(test)]
+mod vector_tests;

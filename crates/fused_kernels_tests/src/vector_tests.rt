@@ -1,0 +1,572 @@
+//! The calls on coded vectors in each coding, at values worked out by hand.
+use fused_kernels::{
+    Meter, compare_vector, compare_vector_range, compare_vectors, count, decode_vector, vector_max,
+    vector_min, vector_sum,
+};
+use segment_core::{CodedVector, Coding, Segment};
+use std::alloc::{AllocError, Global};
+use std::process::Abort;
+use std::test::Fail;
+use table_model::{ColType, Op, Refusal, Row, Schema, check_rows};
+use transpose_order::Mask;
+
+const TYPES: [ColType; 3] = [ColType::SmallInt, ColType::Integer, ColType::BigInt];
+
+const CODINGS: [Coding; 4] = [Coding::For, Coding::Delta, Coding::Runs, Coding::Dict];
+
+/// What a test's column holds.
+#[derive(Clone, Copy)]
+enum Pattern {
+    All(i128),
+    Counting,
+    Alternating(i128, i128),
+    ThirdsNull,
+    /// The upper bits of a number mixed from the row, without so many of 64, less another number; each eleventh row is null. The
+    /// third part is joined to the row: with 1, each even row has the value of the odd row after it.
+    Mixed(usize, i64, usize),
+}
+
+/// A number mixed from a row, without so many of its lowest bits.
+fn mixed(row: usize, without: usize) -> u64 {
+    let number = (row as u64)
+        .wrapping_add(1)
+        .wrapping_mul(0x9e37_79b9_7f4a_7c15);
+    if without < 64 { number >> without } else { 0 }
+}
+
+fn cell_of(pattern: Pattern, row: usize) -> Option<i128> {
+    match pattern {
+        Pattern::All(value) => Some(value),
+        Pattern::Counting => Some(row as i128),
+        Pattern::Alternating(even, odd) => Some(if row % 2 == 0 { even } else { odd }),
+        Pattern::ThirdsNull => {
+            if row % 3 == 0 {
+                None
+            } else {
+                Some(row as i128)
+            }
+        }
+        Pattern::Mixed(without, less, joined) => {
+            if row % 11 == 5 {
+                None
+            } else {
+                Some(i128::from(mixed(row | joined, without)) - i128::from(less))
+            }
+        }
+    }
+}
+
+/// So many rows of one cell.
+fn rows_of(alloc: Global, count: usize, pattern: Pattern) -> Result<Vec<Row>, AllocError> {
+    let mut rows = Vec::with_capacity(alloc, count)?;
+    for row in 0..count {
+        rows.push(Row::from_cells(Vec::from_slice(alloc, &[cell_of(pattern, row)])?))?;
+    }
+    Ok(rows)
+}
+
+/// The segment of a table with one column.
+fn segment_of(alloc: Global, column_type: ColType, rows: &[Row]) -> Result<Segment, Refusal> {
+    let schema = Schema::new(alloc, "T", &[("A", column_type)])?;
+    check_rows(&schema, rows)?;
+    Ok(Segment::build(alloc, &schema, rows)?)
+}
+
+/// The first vector of a segment.
+fn first(rt: &impl Abort, alloc: Global, segment: &Segment) -> Result<CodedVector, AllocError> {
+    assert!(rt; segment.columns() > 0);
+    assert!(rt; segment.rows() > 0);
+    segment.vector(0, 0).copy(alloc)
+}
+
+/// The canonical vector of so many rows of a column, at least one.
+fn canonical(
+    rt: &impl Abort,
+    alloc: Global,
+    column_type: ColType,
+    count: usize,
+    pattern: Pattern,
+) -> Result<CodedVector, Fail> {
+    let rows = rows_of(alloc, count, pattern)?;
+    let segment = segment_of(alloc, column_type, &rows)?;
+    Ok(first(rt, alloc, &segment)?)
+}
+
+/// That column in a coding.
+fn coded(
+    rt: &impl Abort,
+    alloc: Global,
+    column_type: ColType,
+    count: usize,
+    pattern: Pattern,
+    coding: Coding,
+) -> Result<CodedVector, Fail> {
+    let vector = canonical(rt, alloc, column_type, count, pattern)?;
+    Ok(vector.recoded(alloc, coding)?)
+}
+
+/// The rows from `first` on, up to `end`, which is not included.
+fn rows(rt: &impl Abort, first: usize, end: usize) -> Mask {
+    assert!(rt; first <= end);
+    assert!(rt; end <= 1024);
+    let mut mask = Mask::none();
+    mask.set_range(first, end, true);
+    mask
+}
+
+/// The sum, the least and the greatest value of the rows looked at, and how many they are.
+type Folds = (i128, Option<i64>, Option<i64>, u32);
+
+/// What the calls answer of one vector, each counting one pass.
+fn folds(rt: &impl Abort, vector: &CodedVector, mask: &Mask) -> Folds {
+    let mut meter = Meter::new();
+    let folds = (
+        vector_sum(vector, mask, &mut meter),
+        vector_min(vector, mask, &mut meter),
+        vector_max(vector, mask, &mut meter),
+        count(vector, mask),
+    );
+    assert_eq!(rt; meter.count(), 3);
+    folds
+}
+
+fn check_equal(rt: &impl Abort, vector: &CodedVector, value: i64) {
+    assert_eq!(rt;
+        folds(rt, vector, &Mask::all()),
+        (i128::from(value) * 1024, Some(value), Some(value), 1024)
+    );
+}
+
+fn check_ends(rt: &impl Abort, vector: &CodedVector, least: i64, greatest: i64) {
+    assert_eq!(rt;
+        folds(rt, vector, &Mask::all()),
+        (-512, Some(least), Some(greatest), 1024)
+    );
+    assert_eq!(rt;
+        folds(rt, vector, &rows(rt, 7, 8)),
+        (i128::from(greatest), Some(greatest), Some(greatest), 1)
+    );
+}
+
+/// The column of one value alone, in each coding.
+fn check_equal_of(
+    rt: &impl Abort,
+    alloc: Global,
+    column_type: ColType,
+    value: i64,
+) -> Result<(), Fail> {
+    let all = Pattern::All(i128::from(value));
+    for &coding in &CODINGS {
+        let vector = coded(rt, alloc, column_type, 1024, all, coding)?;
+        check_equal(rt, &vector, value);
+    }
+    Ok(())
+}
+
+/// The column of the least value alone, and that of both ends by turns, in each coding.
+fn check_ends_of(
+    rt: &impl Abort,
+    alloc: Global,
+    column_type: ColType,
+    least: i64,
+    greatest: i64,
+) -> Result<(), Fail> {
+    check_equal_of(rt, alloc, column_type, least)?;
+    let ends = Pattern::Alternating(i128::from(least), i128::from(greatest));
+    for &coding in &CODINGS {
+        let vector = coded(rt, alloc, column_type, 1024, ends, coding)?;
+        check_ends(rt, &vector, least, greatest);
+    }
+    Ok(())
+}
+
+/// The column types, and the least and the greatest number of each.
+const ENDS: [(ColType, i64, i64); 3] = [
+    (ColType::SmallInt, i16::MIN as i64, i16::MAX as i64),
+    (ColType::Integer, i32::MIN as i64, i32::MAX as i64),
+    (ColType::BigInt, i64::MIN, i64::MAX),
+];
+
+// 1024 times the least value, and 512 times both: the least and the greatest come to -1.
+#[test]
+fn the_ends_of_each_lane_width_add_up(rt: HostRuntime) -> Result<(), Fail> {
+    for &(column_type, least, greatest) in &ENDS {
+        check_ends_of(&rt, rt.alloc(), column_type, least, greatest)?;
+    }
+    Ok(())
+}
+
+/// Rows from one up to another, and what the calls answer of those among them that are no multiples of three.
+const THIRDS: [(usize, usize, Folds); 6] = [
+    (10, 20, (100, Some(10), Some(19), 7)),
+    (0, 1024, (348843, Some(1), Some(1022), 682)),
+    (1022, 1024, (1022, Some(1022), Some(1022), 1)),
+    (1023, 1024, (0, None, None, 0)),
+    (9, 10, (0, None, None, 0)),
+    (0, 0, (0, None, None, 0)),
+];
+
+fn check_thirds(rt: &impl Abort, vector: &CodedVector) {
+    for &(first, end, expected) in &THIRDS {
+        assert_eq!(rt; folds(rt, vector, &rows(rt, first, end)), expected);
+    }
+}
+
+// Rows 10 to 19 without the multiples of three are 10, 11, 13, 14, 16, 17 and 19. Rows 0 to 1022 add up to 522753, of which the
+// multiples of three are 3 * 57970; they are 341.
+#[test]
+fn rows_past_the_end_null_or_out_of_the_mask_are_not_looked_at(
+    rt: HostRuntime,
+) -> Result<(), Fail> {
+    for &column_type in &TYPES {
+        for &coding in &CODINGS {
+            let pattern = Pattern::ThirdsNull;
+            let vector = coded(&rt, rt.alloc(), column_type, 1023, pattern, coding)?;
+            check_thirds(&rt, &vector);
+        }
+    }
+    Ok(())
+}
+
+/// The rows of a mask that are listed.
+fn lists(mask: &Mask, listed: &[usize]) -> bool {
+    for row in listed {
+        if *row >= 1024 || !mask.get(*row) {
+            return false;
+        }
+    }
+    mask.count() == listed.len()
+}
+
+/// A comparison counts one pass, and parts the rows looked at into those listed.
+fn check_parts(
+    rt: &impl Abort,
+    vector: &CodedVector,
+    mask: &Mask,
+    (op, literal): (Op, i128),
+    yes: &[usize],
+    no: &[usize],
+) {
+    let mut meter = Meter::new();
+    let (holds, fails) = compare_vector(vector, op, literal, mask, &mut meter);
+    assert_eq!(rt;
+        (lists(&holds, yes), lists(&fails, no), meter.count()),
+        (true, true, 1)
+    );
+}
+
+/// A range counts one pass, and parts the rows looked at into those listed.
+fn check_range(
+    rt: &impl Abort,
+    vector: &CodedVector,
+    mask: &Mask,
+    (low, high): (i128, i128),
+    yes: &[usize],
+    no: &[usize],
+) {
+    let mut meter = Meter::new();
+    let (holds, fails) = compare_vector_range(vector, low, high, mask, &mut meter);
+    assert_eq!(rt;
+        (lists(&holds, yes), lists(&fails, no), meter.count()),
+        (true, true, 1)
+    );
+}
+
+fn check_one_row(rt: &impl Abort, vector: &CodedVector) {
+    let all = Mask::all();
+    assert_eq!(rt; folds(rt, vector, &all), (-7, Some(-7), Some(-7), 1));
+    check_parts(rt, vector, &all, (Op::Equal, -7), &[0], &[]);
+}
+
+#[test]
+fn a_vector_may_have_one_row(rt: HostRuntime) -> Result<(), Fail> {
+    for &column_type in &TYPES {
+        for &coding in &CODINGS {
+            let vector = coded(&rt, rt.alloc(), column_type, 1, Pattern::All(-7), coding)?;
+            check_one_row(&rt, &vector);
+        }
+    }
+    Ok(())
+}
+
+/// A comparison with a number, and of rows 10 to 19 those for which it holds and those for which it doesn't.
+const COMPARED: [((Op, i128), &[usize], &[usize]); 3] = [
+    ((Op::Less, 14), &[10, 11, 13], &[14, 16, 17, 19]),
+    ((Op::NotEqual, 16), &[10, 11, 13, 14, 17, 19], &[16]),
+    ((Op::Greater, i128::MIN), &[10, 11, 13, 14, 16, 17, 19], &[]),
+];
+
+fn check_thirds_compared(rt: &impl Abort, vector: &CodedVector) {
+    let some = rows(rt, 10, 20);
+    for &(comparison, yes, no) in &COMPARED {
+        check_parts(rt, vector, &some, comparison, yes, no);
+    }
+    let (yes, no) = (&[11, 13, 14, 16], &[10, 17, 19]);
+    check_range(rt, vector, &some, (11, 16), yes, no);
+}
+
+// Of 10, 11, 13, 14, 16, 17 and 19, and at the ends of what numbers there are.
+#[test]
+fn a_comparison_parts_the_rows_looked_at_in_each_coding(rt: HostRuntime) -> Result<(), Fail> {
+    for &column_type in &TYPES {
+        for &coding in &CODINGS {
+            let pattern = Pattern::ThirdsNull;
+            let vector = coded(&rt, rt.alloc(), column_type, 1023, pattern, coding)?;
+            check_thirds_compared(&rt, &vector);
+        }
+    }
+    Ok(())
+}
+
+/// A comparison with the least number or with the greatest one, and of rows 6 and 7, which have the one and the other, those for
+/// which it holds and those for which it doesn't.
+const AT_ENDS: [(Op, bool, &[usize], &[usize]); 3] = [
+    (Op::LessOrEqual, false, &[6], &[7]),
+    (Op::GreaterOrEqual, true, &[7], &[6]),
+    (Op::Greater, true, &[], &[6, 7]),
+];
+
+fn check_ends_compared(rt: &impl Abort, vector: &CodedVector, low: i128, high: i128) {
+    let pair = rows(rt, 6, 8);
+    for &(op, with_high, yes, no) in &AT_ENDS {
+        let literal = if with_high { high } else { low };
+        check_parts(rt, vector, &pair, (op, literal), yes, no);
+    }
+    check_range(rt, vector, &pair, (-1, 1), &[], &[6, 7]);
+}
+
+/// The ends of a type's numbers by turns, compared in each coding.
+fn check_ends_of_compared(
+    rt: &impl Abort,
+    alloc: Global,
+    column_type: ColType,
+    least: i64,
+    greatest: i64,
+) -> Result<(), Fail> {
+    let (low, high) = (i128::from(least), i128::from(greatest));
+    for &coding in &CODINGS {
+        let pattern = Pattern::Alternating(low, high);
+        let vector = coded(rt, alloc, column_type, 1024, pattern, coding)?;
+        check_ends_compared(rt, &vector, low, high);
+    }
+    Ok(())
+}
+
+#[test]
+fn the_ends_of_each_lane_width_are_compared(rt: HostRuntime) -> Result<(), Fail> {
+    for &(column_type, least, greatest) in &ENDS {
+        check_ends_of_compared(&rt, rt.alloc(), column_type, least, greatest)?;
+    }
+    Ok(())
+}
+
+/// A comparison of two vectors, which counts two passes.
+fn parted_by(
+    rt: &impl Abort,
+    left: &CodedVector,
+    op: Op,
+    right: &CodedVector,
+    mask: &Mask,
+) -> (Mask, Mask) {
+    let mut meter = Meter::new();
+    let parts = compare_vectors(left, op, right, mask, &mut meter);
+    assert_eq!(rt; meter.count(), 2);
+    parts
+}
+
+fn check_two(rt: &impl Abort, left: &CodedVector, right: &CodedVector) {
+    let (yes, no) = parted_by(rt, left, Op::LessOrEqual, right, &Mask::all());
+    assert_eq!(rt; (yes.count(), no.count()), (501, 523));
+    let (yes, no) = parted_by(rt, left, Op::Less, right, &rows(rt, 998, 1002));
+    assert_eq!(rt;
+        (lists(&yes, &[999]), lists(&no, &[998, 1000, 1001])),
+        (true, true)
+    );
+}
+
+/// The rows' numbers against 0 and 1000 by turns, in each coding.
+fn check_left(rt: &impl Abort, alloc: Global, left: &CodedVector) -> Result<(), Fail> {
+    let ends = Pattern::Alternating(0, 1000);
+    for &coding in &CODINGS {
+        let right = coded(rt, alloc, ColType::BigInt, 1024, ends, coding)?;
+        check_two(rt, left, &right);
+    }
+    Ok(())
+}
+
+// A row's number is at most 0 at row 0 alone, and at most 1000 at the 500 odd rows up to 999.
+#[test]
+fn two_vectors_of_any_codings_are_compared(rt: HostRuntime) -> Result<(), Fail> {
+    let pattern = Pattern::Counting;
+    for &coding in &CODINGS {
+        let left = coded(&rt, rt.alloc(), ColType::SmallInt, 1024, pattern, coding)?;
+        check_left(&rt, rt.alloc(), &left)?;
+    }
+    Ok(())
+}
+
+fn are_counting(values: &[i64; 1024]) -> bool {
+    for row in 0..1024 {
+        if values[row] != row as i64 {
+            return false;
+        }
+    }
+    true
+}
+
+/// The values of a vector, which counts one pass to decode.
+fn decoded(rt: &impl Abort, vector: &CodedVector) -> [i64; 1024] {
+    let mut values = [-1; 1024];
+    let mut meter = Meter::new();
+    decode_vector(vector, &mut values, &mut meter);
+    assert_eq!(rt; meter.count(), 1);
+    values
+}
+
+#[test]
+fn a_vector_is_decoded_in_row_order(rt: HostRuntime) -> Result<(), Fail> {
+    let pattern = Pattern::Counting;
+    for &coding in &CODINGS {
+        let vector = coded(&rt, rt.alloc(), ColType::Integer, 1024, pattern, coding)?;
+        assert!(rt; are_counting(&decoded(&rt, &vector)));
+    }
+    Ok(())
+}
+
+/// A column type, how many of 64 bits a column's numbers are without, and what is taken off them: their frames have the widths 0,
+/// 3, half of the type's bits, all but one of them, and at 16 and 32 bits all.
+const WIDTHS: [(ColType, usize, i64); 15] = [
+    (ColType::SmallInt, 64, 5),
+    (ColType::SmallInt, 61, 4),
+    (ColType::SmallInt, 56, 0x80),
+    (ColType::SmallInt, 49, 0x4000),
+    (ColType::SmallInt, 48, 0x8000),
+    (ColType::Integer, 64, 5),
+    (ColType::Integer, 61, 4),
+    (ColType::Integer, 48, 0x8000),
+    (ColType::Integer, 33, 0x4000_0000),
+    (ColType::Integer, 32, 0x8000_0000),
+    (ColType::BigInt, 64, 5),
+    (ColType::BigInt, 61, 4),
+    (ColType::BigInt, 32, 0x8000_0000),
+    (ColType::BigInt, 1, 0x4000_0000_0000_0000),
+    (ColType::BigInt, 1, -1),
+];
+
+/// Two codings that have native lanes, and a comparison.
+const BESIDE: [(Coding, Op, Coding); 6] = [
+    (Coding::For, Op::Equal, Coding::For),
+    (Coding::For, Op::Less, Coding::Delta),
+    (Coding::Delta, Op::LessOrEqual, Coding::For),
+    (Coding::Delta, Op::NotEqual, Coding::Delta),
+    (Coding::For, Op::Greater, Coding::For),
+    (Coding::Delta, Op::GreaterOrEqual, Coding::Delta),
+];
+
+fn holds(op: Op, left: i128, right: i128) -> bool {
+    match op {
+        Op::Equal => left == right,
+        Op::NotEqual => left != right,
+        Op::Less => left < right,
+        Op::LessOrEqual => left <= right,
+        Op::Greater => left > right,
+        Op::GreaterOrEqual => left >= right,
+    }
+}
+
+/// Whether the comparison of a row's two cells holds and whether it doesn't: neither where one is null or the row isn't looked at.
+fn parts_of(looked_at: bool, op: Op, left: Option<i128>, right: Option<i128>) -> (bool, bool) {
+    match (left, right) {
+        (Some(left), Some(right)) => (
+            looked_at && holds(op, left, right),
+            looked_at && !holds(op, left, right),
+        ),
+        _ => (false, false),
+    }
+}
+
+fn check_beside(
+    rt: &impl Abort,
+    (left, left_cells): (&CodedVector, Pattern),
+    op: Op,
+    (right, right_cells): (&CodedVector, Pattern),
+    mask: &Mask,
+) {
+    let (yes, no) = parted_by(rt, left, op, right, mask);
+    for row in 0..1024 {
+        let (left, right) = (cell_of(left_cells, row), cell_of(right_cells, row));
+        let expected = parts_of(mask.get(row), op, left, right);
+        assert_eq!(rt; (yes.get(row), no.get(row)), expected);
+    }
+}
+
+/// Two columns compared over all rows and over some.
+fn check_beside_masks(
+    rt: &impl Abort,
+    left: (&CodedVector, Pattern),
+    op: Op,
+    right: (&CodedVector, Pattern),
+) {
+    check_beside(rt, left, op, right, &Mask::all());
+    check_beside(rt, left, op, right, &rows(rt, 100, 701));
+}
+
+/// Two columns of a type that are equal at odd rows, compared in a pair of codings.
+fn check_beside_in(
+    rt: &impl Abort,
+    alloc: Global,
+    column_type: ColType,
+    (left_cells, right_cells): (Pattern, Pattern),
+    (left_coding, op, right_coding): (Coding, Op, Coding),
+) -> Result<(), Fail> {
+    let left = coded(rt, alloc, column_type, 1024, left_cells, left_coding)?;
+    let right = coded(rt, alloc, column_type, 1024, right_cells, right_coding)?;
+    check_beside_masks(rt, (&left, left_cells), op, (&right, right_cells));
+    Ok(())
+}
+
+/// Those columns in each pair of codings.
+fn check_beside_of(
+    rt: &impl Abort,
+    alloc: Global,
+    column_type: ColType,
+    cells: (Pattern, Pattern),
+) -> Result<(), Fail> {
+    for &codings in &BESIDE {
+        check_beside_in(rt, alloc, column_type, cells, codings)?;
+    }
+    Ok(())
+}
+
+// What is expected is worked out of the cells, one row at a time.
+#[test]
+fn two_vectors_of_one_lane_width_are_compared_at_each_width(rt: HostRuntime) -> Result<(), Fail> {
+    for &(column_type, without, less) in &WIDTHS {
+        let left = Pattern::Mixed(without, less, 0);
+        let right = Pattern::Mixed(without, less, 1);
+        check_beside_of(&rt, rt.alloc(), column_type, (left, right))?;
+    }
+    Ok(())
+}
+
+fn check_decoded(rt: &impl Abort, vector: &CodedVector, cells: Pattern) {
+    let values = decoded(rt, vector);
+    for row in 0..1024 {
+        if let Some(cell) = cell_of(cells, row) {
+            assert_eq!(rt; i128::from(values[row]), cell);
+        }
+    }
+}
+
+// What is expected is the cells.
+#[test]
+fn vectors_of_each_width_are_decoded(rt: HostRuntime) -> Result<(), Fail> {
+    for &(column_type, without, less) in &WIDTHS {
+        let cells = Pattern::Mixed(without, less, 0);
+        for &coding in &CODINGS {
+            let vector = coded(&rt, rt.alloc(), column_type, 1024, cells, coding)?;
+            check_decoded(&rt, &vector, cells);
+        }
+    }
+    Ok(())
+}

@@ -1,0 +1,7 @@
+//! Tests of query_eval: answers worked out by hand, over plain rows that are a query's columns.
+#![tactic(auto)]
+
+#[cfg(test)]
+mod plain_columns;
+#[cfg(test)]
+mod tests;

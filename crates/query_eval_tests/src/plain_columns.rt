@@ -1,0 +1,349 @@
+//! One batch of plain rows, none of them deleted, as the columns of a query.
+ghost use Rattle.std.specs.Prelude.{◌≡◌, ◌<◌, ◌≤◌, ◌+◌, ◌*◌, ◌^◌, ℕ, List, Bool, true, length, take, ℤ, pos, Some, slice_index_or, IfOk};
+ghost use Rattle.table_model.specs.Answer.{whole};
+ghost use Rattle.table_model.specs.Condition.{is_null};
+ghost use Rattle.table_model.specs.Group.{IsWithin};
+ghost use Rattle.table_model.specs.Passes.{raised};
+ghost use Rattle.table_model.specs.Truth.{comparison};
+ghost use Rattle.table_model.specs.Values.{total, least, greatest};
+ghost use Rattle.table_model.specs.declared.truth.Truth.{Truth as TruthValue};
+ghost use Rattle.transpose_order.specs.Mask.{rows_of, has};
+ghost use Rattle.query_eval.specs.Below.{IsPairBelow};
+ghost use Rattle.query_eval.specs.Decoded.{decoded_at};
+ghost use Rattle.query_eval_tests.specs.PlainRows.{plain_vector};
+ghost use Rattle.query_eval.specs.Vector.{cell_at, is_live, looked_at};
+ghost use Rattle.query_eval.specs.Where.{IsPair};
+
+use query_eval::{Columns, Decoded, Pair, between_rows, greater, lesser};
+use std::marker::Model;
+use table_model::{BatchName, Number, Op, Origin, Refusal, Rows, Schema, Truth, check_rows};
+use transpose_order::Mask;
+
+/// How many rows a vector has.
+const VECTOR_ROWS: usize = 1024;
+
+/// The rows of a table's batch 1.1, none of them deleted, and how many passes were made over the values of its vectors.
+#[derive(Drop)]
+pub struct PlainColumns {
+    schema: Schema,
+    rows: Rows,
+    passes: u128,
+}
+
+impl Model for PlainColumns {
+    ghost use Rattle.query_eval_tests.specs.PlainRows.{PlainForm, coded_plain};
+    ghost use Rattle.table_model.specs.Table.{IsBatch};
+
+    ghost Value = { PlainForm };
+
+    ghost coded = { coded_plain };
+
+    ghost view = { λ c. record { table = c.schema; rows = c.rows; passes = c.passes } };
+
+    ghost invariant = { λ c. IsBatch c.schema c.rows };
+}
+
+/// Takes in the truth value of a condition at one row more.
+fn put(pair: &mut Pair, row: usize, truth: Truth)
+    requires { row < 1024 }
+    ensures { (mask : List Bool) (t : ℕ → TruthValue) → IsPairBelow row mask t pair.old → has mask row ≡ true → t row ≡ truth → IsPairBelow (row + 1) mask t pair.new }
+{
+    match truth {
+        Truth::True => pair.yes.set_range(row, row + 1, true),
+        Truth::False => pair.no.set_range(row, row + 1, true),
+        Truth::Unknown => {}
+    }
+}
+
+/// The sum of some values.
+fn sum_of(values: &[i64]) -> i128
+    requires { length values.now ≤ 2 ^ 32 }
+    ensures value { result ≡ total values.now }
+    ensures within { IsWithin (2 ^ 95) result }
+{
+    let mut sum = 0;
+    for value in values {
+        sum += i128::from(*value);
+    }
+    sum
+}
+
+/// The least of some values.
+fn least_of(values: &[i64]) -> Option<i64>
+    ensures { result ≡ least values.now }
+{
+    let mut least = None;
+    for value in values {
+        least = lesser(least, Some(*value));
+    }
+    least
+}
+
+/// The greatest of some values.
+fn greatest_of(values: &[i64]) -> Option<i64>
+    ensures { result ≡ greatest values.now }
+{
+    let mut greatest = None;
+    for value in values {
+        greatest = greater(greatest, Some(*value));
+    }
+    greatest
+}
+
+/// The comparison of two sides at the rows of a mask.
+fn compare_rows(left: &Decoded, op: Op, right: &Decoded, mask: &Mask) -> Pair
+    ensures { IsPair mask.now (λ n. comparison op (decoded_at left.now n) (decoded_at right.now n)) result }
+{
+    let mut pair = Pair {
+        yes: Mask::none(),
+        no: Mask::none(),
+    };
+    for row in 0..1024 {
+        if mask.get(row) {
+            put(&mut pair, row, op.compare(left.at(row), right.at(row)));
+        }
+    }
+    pair
+}
+
+impl PlainColumns {
+    /// Columns with these rows, of which no pass was made; or why the rows are no batch of the table.
+    pub fn new(schema: Schema, rows: Rows) -> Result<PlainColumns, Refusal>
+        ensures { IfOk result (λ columns. columns ≡ record { table = schema; rows = rows; passes = 0 }) }
+    {
+        check_rows(&schema, rows.as_slice())?;
+        Ok(PlainColumns {
+            schema,
+            rows,
+            passes: 0,
+        })
+    }
+
+    /// How many passes were made.
+    pub fn passes(&self) -> u128
+        ensures { result ≡ self.now.passes }
+    {
+        self.passes
+    }
+
+    /// The cell of a column at a row of a vector as the rows have it, `None` past the last row.
+    fn stored_cell(&self, column: usize, vector: usize, row: usize) -> Option<i128>
+        requires vector { 1024 * vector < length self.now.rows }
+        requires row { row < 1024 }
+        ensures { result ≡ cell_at (plain_vector self.now.rows vector) column row }
+    {
+        let rows = self.rows.as_slice();
+        let ordinal = VECTOR_ROWS * vector + row;
+        if ordinal < rows.len() {
+            match rows[ordinal].cells().get(column) {
+                None => None,
+                Some(cell) => *cell,
+            }
+        } else {
+            None
+        }
+    }
+
+    /// The cell of a column at a row of a vector, `None` past the last row.
+    fn cell(&self, column: usize, vector: usize, row: usize) -> Option<i64>
+        requires vector { 1024 * vector < length self.now.rows }
+        requires row { row < 1024 }
+        ensures { result ≡ cell_at (plain_vector self.now.rows vector) column row }
+    {
+        let _schema = &self.schema;
+        match self.stored_cell(column, vector, row) {
+            None => None,
+            Some(value) => Some(value as i64),
+        }
+    }
+
+    /// The rows of a vector at which a column is null.
+    fn nulls_at(&self, column: usize, vector: usize) -> Mask
+        requires { 1024 * vector < length self.now.rows }
+        ensures { result ≡ rows_of (λ n. is_null (whole (cell_at (plain_vector self.now.rows vector) column n))) }
+    {
+        let mut nulls = Mask::none();
+        for row in 0..1024 {
+            if self.cell(column, vector, row).is_none() {
+                nulls.set_range(row, row + 1, true);
+            }
+        }
+        nulls
+    }
+
+    /// Writes a column's values in row order.
+    fn write_values(&self, column: usize, vector: usize, values: &mut [i64; 1024])
+        requires { 1024 * vector < length self.now.rows }
+        ensures { (n : ℕ) (z : ℤ) → n < 1024 → cell_at (plain_vector self.now.rows vector) column n ≡ Some z → slice_index_or values.new n (pos 0) ≡ z }
+    {
+        for row in 0..1024 {
+            if let Some(value) = self.cell(column, vector, row) {
+                values[row] = value;
+            }
+        }
+    }
+
+    /// A column's cells.
+    fn decoded(&self, column: usize, vector: usize) -> Decoded
+        requires { 1024 * vector < length self.now.rows }
+        ensures { (n : ℕ) → n < 1024 → decoded_at result n ≡ cell_at (plain_vector self.now.rows vector) column n }
+    {
+        let nulls = self.nulls_at(column, vector);
+        let mut values = [0; 1024];
+        self.write_values(column, vector, &mut values);
+        Decoded::Column { nulls, values }
+    }
+
+    /// A column's values at the rows of a mask, and how many they are.
+    fn values_at(&self, column: usize, vector: usize, mask: &Mask) -> ([i64; 1024], usize)
+        requires { 1024 * vector < length self.now.rows }
+        ensures long { length result.0 ≡ 1024 }
+        ensures few { result.1 ≤ 1024 }
+        ensures values { take result.1 result.0 ≡ looked_at (plain_vector self.now.rows vector) column mask.now }
+    {
+        let mut values = [0; 1024];
+        let mut count = 0;
+        for row in 0..1024 {
+            if mask.get(row) {
+                if let Some(value) = self.cell(column, vector, row) {
+                    values[count] = value;
+                    count += 1;
+                }
+            }
+        }
+        (values, count)
+    }
+
+    /// Counts some passes more.
+    fn count_passes(&mut self, passes: u128)
+        ensures { self.new ≡ record { table = self.old.table; rows = self.old.rows; passes = raised passes self.old.passes } }
+    {
+        self.passes = self.passes.saturating_add(passes);
+    }
+}
+
+impl Columns for PlainColumns {
+    ghost use Rattle.query_eval_tests.specs.PlainRows.{plain_state};
+
+    ghost table = { λ c. c.table };
+
+    ghost state = { λ c. plain_state c.rows };
+
+    ghost passes = { λ c. c.passes };
+
+    fn schema(&self) -> &Schema {
+        &self.schema
+    }
+
+    fn batches(&self) -> usize {
+        let _rows = &self.rows;
+        1
+    }
+
+    fn name(&self, _batch: usize) -> BatchName {
+        BatchName {
+            origin: Origin(1),
+            number: Number(1),
+        }
+    }
+
+    fn vectors(&self, _batch: usize) -> usize {
+        self.rows.as_slice().len().div_ceil(VECTOR_ROWS)
+    }
+
+    fn live(&self, _batch: usize, vector: usize) -> Mask {
+        let mut live = Mask::none();
+        let _schema = &self.schema;
+        let left = self.rows.as_slice().len() - VECTOR_ROWS * vector;
+        live.set_range(0, left.min(VECTOR_ROWS), true);
+        live
+    }
+
+    fn nulls(&self, _batch: usize, column: usize, vector: usize) -> Mask {
+        self.nulls_at(column, vector)
+    }
+
+    fn compare(
+        &mut self,
+        _batch: usize,
+        column: usize,
+        vector: usize,
+        op: Op,
+        literal: i128,
+        mask: &Mask,
+    ) -> (Mask, Mask) {
+        let cells = self.decoded(column, vector);
+        let pair = compare_rows(&cells, op, &Decoded::Fixed(Some(literal)), mask);
+        self.count_passes(1);
+        (pair.yes, pair.no)
+    }
+
+    fn compare_range(
+        &mut self,
+        _batch: usize,
+        column: usize,
+        vector: usize,
+        low: i128,
+        high: i128,
+        mask: &Mask,
+    ) -> (Mask, Mask) {
+        let cells = self.decoded(column, vector);
+        let pair = between_rows(
+            &cells,
+            &Decoded::Fixed(Some(low)),
+            &Decoded::Fixed(Some(high)),
+            mask,
+        );
+        self.count_passes(1);
+        (pair.yes, pair.no)
+    }
+
+    fn compare_columns(
+        &mut self,
+        _batch: usize,
+        left: usize,
+        vector: usize,
+        op: Op,
+        right: usize,
+        mask: &Mask,
+    ) -> (Mask, Mask) {
+        let lefts = self.decoded(left, vector);
+        let rights = self.decoded(right, vector);
+        let pair = compare_rows(&lefts, op, &rights, mask);
+        self.count_passes(2);
+        (pair.yes, pair.no)
+    }
+
+    fn count(&self, _batch: usize, column: usize, vector: usize, mask: &Mask) -> usize {
+        self.values_at(column, vector, mask).1
+    }
+
+    fn sum(&mut self, _batch: usize, column: usize, vector: usize, mask: &Mask) -> i128 {
+        let (values, count) = self.values_at(column, vector, mask);
+        self.count_passes(1);
+        sum_of(&values[..count])
+    }
+
+    fn min(&mut self, _batch: usize, column: usize, vector: usize, mask: &Mask) -> Option<i64> {
+        let (values, count) = self.values_at(column, vector, mask);
+        self.count_passes(1);
+        least_of(&values[..count])
+    }
+
+    fn max(&mut self, _batch: usize, column: usize, vector: usize, mask: &Mask) -> Option<i64> {
+        let (values, count) = self.values_at(column, vector, mask);
+        self.count_passes(1);
+        greatest_of(&values[..count])
+    }
+
+    fn decode_into(
+        &mut self,
+        _batch: usize,
+        column: usize,
+        vector: usize,
+        values: &mut [i64; 1024],
+    ) {
+        self.write_values(column, vector, values);
+        self.count_passes(1);
+    }
+}

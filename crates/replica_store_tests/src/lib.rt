@@ -1,0 +1,11 @@
+//! Tests of replica_store: what stores, summaries and offers answer at worked values, and where a growth is refused.
+#![tactic(auto)]
+
+#[cfg(test)]
+mod exchange_tests;
+#[cfg(test)]
+mod recode_tests;
+#[cfg(test)]
+mod refused_tests;
+#[cfg(test)]
+mod tests;

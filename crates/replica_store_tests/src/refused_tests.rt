@@ -1,0 +1,272 @@
+//! Calls of a store, each with a growth refused. A test's own growths are counted from 1: with the Nth refused, a test fails by an
+//! `AllocError` or `Memory` of its set-up, or, where it was a growth of the call that it is of, with the text `REFUSED` or
+//! `CHANGED`; with none refused it passes. The command `tests/refused-memory` refuses each in turn and counts those texts. A call
+//! whose test's name ends in `grows_nowhere` has none to refuse.
+//!
+//! A function that makes a store, or drops one, is dear to prove on each of its ways out. So each call is made where the store is
+//! only lent, and what the call needs is made by one function for all calls that need the same.
+use crate::exchange_tests::{offer_after, summary_after};
+use crate::tests::{Deleted, OneColumn, Told, is_state, name, row_name, rows_of, told_store};
+use replica_store::{Offer, Store, Summary};
+use segment_core::Coding;
+use std::alloc::Global;
+use std::test::Fail;
+use table_model::{Refusal, Row};
+
+/// The call answered that memory was refused; what it was given is as it was, and the same call again succeeds.
+const REFUSED: &str = "a growth was refused, and all is as it was";
+
+/// The call answered otherwise, or what it was given is not as it was.
+const CHANGED: &str = "a growth was refused, and not all is as it was";
+
+/// What the store of these tests holds.
+const HELD: &[Told] = &[Told::Batch(1, 1, &[10, 11]), Told::Deletion(1, 1, 0, 0)];
+
+/// A store's batch alone: a set of deletions grows with its first range, and then has room for some.
+const UNDELETED: &[Told] = &[Told::Batch(1, 1, &[10, 11])];
+
+/// What another store holds, beside which the first lacks a batch and a deletion.
+const BESIDE: &[Told] = &[Told::Batch(2, 1, &[20]), Told::Deletion(2, 1, 5, 9)];
+
+/// What came of a call.
+#[derive(Clone, Copy)]
+enum Came {
+    /// It was done.
+    Done,
+    /// It answered that memory was refused; what it was given is as it was, and the same call again succeeds.
+    Refused,
+    /// It answered otherwise, or what it was given is not as it was.
+    Changed,
+}
+
+/// What came of a call that was refused so.
+fn refused(fault: Refusal, is_as_it_was: bool) -> Came {
+    if fault == Refusal::Memory && is_as_it_was {
+        Came::Refused
+    } else {
+        Came::Changed
+    }
+}
+
+/// The end of a test, by what came of its call.
+fn end(came: Came) -> Result<(), Fail> {
+    match came {
+        Came::Done => Ok(()),
+        Came::Refused => Err(Fail::new(REFUSED)),
+        Came::Changed => Err(Fail::new(CHANGED)),
+    }
+}
+
+/// A call of a store that is given rows at most.
+#[derive(Clone, Copy)]
+enum Call {
+    Append,
+    Insert(u32, u32),
+    Delete,
+    Summary,
+    Recode,
+}
+
+/// Makes an insert of the rows under the name with this origin and number.
+fn insert(
+    alloc: Global,
+    store: &mut Store,
+    place: (u32, u32),
+    rows: &[Row],
+) -> Result<(), Refusal> {
+    let _ = store.insert(alloc, name(place.0, place.1), rows)?;
+    Ok(())
+}
+
+/// Makes a summary.
+fn summary(alloc: Global, store: &Store) -> Result<(), Refusal> {
+    let _ = store.summary(alloc)?;
+    Ok(())
+}
+
+/// Makes the call.
+fn made(alloc: Global, store: &mut Store, call: Call, rows: &[Row]) -> Result<(), Refusal> {
+    match call {
+        Call::Append => store.append(alloc, rows).map(|_| ()),
+        Call::Insert(origin, number) => insert(alloc, store, (origin, number), rows),
+        Call::Delete => store.delete(alloc, row_name(4, 4, 3), 9),
+        Call::Summary => summary(alloc, store),
+        Call::Recode => store.recode(alloc, name(1, 1), 0, 0, Coding::Dict),
+    }
+}
+
+/// What came of the call, made of a store that has the batch of the constants above and these deletions.
+fn came_of(
+    alloc: Global,
+    store: &mut Store,
+    call: Call,
+    rows: &[Row],
+    deleted: &[Deleted],
+    live: u64,
+) -> Came {
+    match made(alloc, store, call, rows) {
+        Ok(()) => Came::Done,
+        Err(fault) => {
+            let is_same = is_state(store, &[(1, 1, &[10, 11])], deleted, live);
+            let again = made(alloc, store, call, rows);
+            refused(fault, is_same && again.is_ok())
+        }
+    }
+}
+
+/// What came of the call, given rows of these values, of a store with the batch and its deletion.
+fn called(alloc: Global, call: Call, values: &[i128]) -> Result<Came, Refusal> {
+    let rows = rows_of(alloc, values)?;
+    let mut store = told_store(alloc, 1, HELD)?;
+    Ok(came_of(alloc, &mut store, call, rows.as_slice(), &[(1, 1, 0, 0)], 1))
+}
+
+#[test]
+fn a_refused_append_leaves_the_store(rt: HostRuntime) -> Result<(), Fail> {
+    end(called(rt.alloc(), Call::Append, &[1, 2, 3])?)
+}
+
+#[test]
+fn a_refused_insert_leaves_the_store(rt: HostRuntime) -> Result<(), Fail> {
+    end(called(rt.alloc(), Call::Insert(3, 3), &[1, 2, 3])?)
+}
+
+#[test]
+fn an_insert_of_a_held_batch_grows_nowhere(rt: HostRuntime) -> Result<(), Fail> {
+    end(called(rt.alloc(), Call::Insert(1, 1), &[10, 11])?)
+}
+
+#[test]
+fn a_refused_summary_leaves_the_store(rt: HostRuntime) -> Result<(), Fail> {
+    end(called(rt.alloc(), Call::Summary, &[])?)
+}
+
+#[test]
+fn a_refused_recode_leaves_the_store(rt: HostRuntime) -> Result<(), Fail> {
+    end(called(rt.alloc(), Call::Recode, &[])?)
+}
+
+/// What came of a delete of a store with the batch alone.
+fn deleted(alloc: Global) -> Result<Came, Refusal> {
+    let mut store = told_store(alloc, 1, UNDELETED)?;
+    Ok(came_of(alloc, &mut store, Call::Delete, &[], &[], 2))
+}
+
+#[test]
+fn a_refused_delete_leaves_the_store(rt: HostRuntime) -> Result<(), Fail> {
+    end(deleted(rt.alloc())?)
+}
+
+/// Whether a store is as it was before the call.
+fn is_held(store: &Store) -> bool {
+    is_state(store, &[(1, 1, &[10, 11])], &[(1, 1, 0, 0)], 1)
+}
+
+/// Whether a store has what it held and what the other holds.
+fn is_joined(store: &Store) -> bool {
+    let batches: [OneColumn<'_>; 2] = [(1, 1, &[10, 11]), (2, 1, &[20])];
+    is_state(store, &batches, &[(1, 1, 0, 0), (2, 1, 5, 9)], 2)
+}
+
+/// What came of a merge of the other store.
+fn came_of_merge(alloc: Global, store: &mut Store, other: &Store) -> Came {
+    match store.merge(alloc, other) {
+        Ok(()) => Came::Done,
+        Err(fault) => {
+            let is_same = is_held(store);
+            let again = store.merge(alloc, other);
+            refused(fault, is_same && again.is_ok() && is_joined(store))
+        }
+    }
+}
+
+/// What came of a merge of the other store into the store of these tests.
+fn merged_with(alloc: Global, other: &Store) -> Result<Came, Refusal> {
+    let mut store = told_store(alloc, 1, HELD)?;
+    Ok(came_of_merge(alloc, &mut store, other))
+}
+
+/// What came of a merge of a store that was told these.
+fn merged(alloc: Global, theirs: &[Told]) -> Result<Came, Refusal> {
+    let other = told_store(alloc, 2, theirs)?;
+    merged_with(alloc, &other)
+}
+
+#[test]
+fn a_refused_merge_leaves_the_store(rt: HostRuntime) -> Result<(), Fail> {
+    end(merged(rt.alloc(), BESIDE)?)
+}
+
+#[test]
+fn a_merge_that_brings_nothing_grows_nowhere(rt: HostRuntime) -> Result<(), Fail> {
+    end(merged(rt.alloc(), HELD)?)
+}
+
+/// Makes an offer to the summary.
+fn offer(alloc: Global, store: &Store, summary: &Summary) -> Result<(), Refusal> {
+    let _ = store.offer(alloc, summary)?;
+    Ok(())
+}
+
+/// What came of an offer to the summary.
+fn came_of_offer(alloc: Global, store: &Store, summary: &Summary) -> Came {
+    match offer(alloc, store, summary) {
+        Ok(()) => Came::Done,
+        Err(fault) => {
+            let again = offer(alloc, store, summary);
+            refused(fault, is_held(store) && again.is_ok())
+        }
+    }
+}
+
+/// What came of an offer of the store to one that holds nothing.
+fn offered_by(alloc: Global, store: &Store) -> Result<Came, Refusal> {
+    let summary = summary_after(alloc, &[])?;
+    Ok(came_of_offer(alloc, store, &summary))
+}
+
+/// What came of an offer to a store that holds nothing.
+fn offered(alloc: Global) -> Result<Came, Refusal> {
+    let store = told_store(alloc, 1, HELD)?;
+    offered_by(alloc, &store)
+}
+
+#[test]
+fn a_refused_offer_leaves_the_store(rt: HostRuntime) -> Result<(), Fail> {
+    end(offered(rt.alloc())?)
+}
+
+/// What came of an offer that was applied.
+fn came_of_apply(alloc: Global, store: &mut Store, offer: &Offer) -> Came {
+    match store.apply(alloc, offer) {
+        Ok(()) => Came::Done,
+        Err(fault) => {
+            let is_same = is_held(store);
+            let again = store.apply(alloc, offer);
+            refused(fault, is_same && again.is_ok() && is_joined(store))
+        }
+    }
+}
+
+/// An offer of what another store holds to a store that holds nothing.
+fn offer_beside(alloc: Global) -> Result<Offer, Refusal> {
+    let summary = summary_after(alloc, &[])?;
+    offer_after(alloc, BESIDE, &summary)
+}
+
+/// What came of an offer where the store of these tests applied it.
+fn applied_to_held(alloc: Global, offer: &Offer) -> Result<Came, Refusal> {
+    let mut store = told_store(alloc, 1, HELD)?;
+    Ok(came_of_apply(alloc, &mut store, offer))
+}
+
+/// What came of that offer where it was applied.
+fn applied(alloc: Global) -> Result<Came, Refusal> {
+    let offer = offer_beside(alloc)?;
+    applied_to_held(alloc, &offer)
+}
+
+#[test]
+fn a_refused_apply_leaves_the_store(rt: HostRuntime) -> Result<(), Fail> {
+    end(applied(rt.alloc())?)
+}

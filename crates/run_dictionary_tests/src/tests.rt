@@ -1,0 +1,298 @@
+//! Runs and dictionaries at values worked out by hand from the definitions of the codings.
+ghost use Rattle.std.specs.Prelude.{◌<◌};
+ghost use Rattle.transpose_order.specs.Place.{IsLaneWidth};
+ghost use Rattle.bit_interleave.specs.Range.{AreInRange};
+
+use bit_interleave::{Words, wrap};
+use run_dictionary::{Dict, Runs};
+use std::alloc::Global;
+use std::process::Abort;
+use std::test::Fail;
+use transpose_order::Mask;
+
+/// What a test's vector holds: multiples of a step, one number, two in turn, or one up to a row and another from it on.
+#[derive(Clone, Copy)]
+enum Pattern {
+    Ramp(u64),
+    All(u64),
+    Alternating(u64, u64),
+    ChangedAt(usize, u64, u64),
+}
+
+fn bits_at(pattern: Pattern, row: usize) -> u64 {
+    match pattern {
+        Pattern::Ramp(step) => step.wrapping_mul(row as u64),
+        Pattern::All(bits) => bits,
+        Pattern::Alternating(even, odd) => { if row % 2 == 0 { even } else { odd } }
+        Pattern::ChangedAt(change, before, after) => { if row < change { before } else { after } }
+    }
+}
+
+/// The vector of a pattern, each value cut to `lane_width` bits.
+fn column(lane_width: usize, pattern: Pattern) -> [i64; 1024]
+    requires { IsLaneWidth lane_width }
+    ensures { AreInRange lane_width result }
+{
+    let mut values = [0; 1024];
+    for row in 0..1024 {
+        values[row] = wrap(lane_width, bits_at(pattern, row));
+    }
+    values
+}
+
+/// The runs at 16 bits have 0 up to row 499, and 32767 from row 500 on.
+fn two_runs_part_at_500(rt: &impl Abort, runs: &Runs) {
+    assert_eq!(rt;
+        (runs.lane_width(), runs.value(499), runs.value(500)),
+        (16, 0, 32767)
+    );
+    assert_eq!(rt; (runs.run_at(499), runs.run_at(500)), (0, 1));
+}
+
+// Row 500 is bit 4 of byte 62, so bit 52 of word 7.
+#[test]
+fn two_runs_take_a_mask_with_one_start(rt: HostRuntime) -> Result<(), Fail> {
+    let values = column(16, Pattern::ChangedAt(500, 0, 32767));
+    let runs = Runs::encode(rt.alloc(), &values, 16)?;
+    let mut words = [0; 16];
+    words[7] = 1 << 52;
+    assert_eq!(rt; runs.starts().words(), &words);
+    assert_eq!(rt; runs.values(), [0, 32767].as_slice());
+    two_runs_part_at_500(&rt, &runs);
+    Ok(())
+}
+
+/// The dictionary has 0 at even rows and 32767 at odd ones.
+fn has_alternating_values(rt: &impl Abort, dict: &Dict) {
+    assert_eq!(rt; dict.values(), [0, 32767].as_slice());
+    assert_eq!(rt; (dict.value(0), dict.value(1023)), (0, 32767));
+    assert_eq!(rt; dict.piece(1).to_array(), [32767; 16]);
+    assert_eq!(rt; dict.places_between(1, 32767), (1, 2));
+}
+
+// A lane has sixteen neighbouring rows, so each word of codes has its odd bits set.
+#[test]
+fn alternating_values_take_codes_of_one_bit(rt: HostRuntime) -> Result<(), Fail> {
+    let values = column(16, Pattern::Alternating(0, 32767));
+    let dict = Dict::encode(rt.alloc(), &values, 16)?;
+    assert_eq!(rt; (dict.lane_width(), dict.width()), (16, 1));
+    has_alternating_values(&rt, &dict);
+    assert_eq!(rt; dict.codes().words_16(), [0xAAAA; 64].as_slice());
+    assert_eq!(rt;
+        (
+            Dict::codes_fit(1, dict.codes(), 2),
+            Dict::codes_fit(1, dict.codes(), 1)
+        ),
+        (true, false)
+    );
+    Ok(())
+}
+
+/// A copy of runs has their parts and decodes to the vector.
+fn runs_copy_decodes(
+    rt: &impl Abort,
+    alloc: Global,
+    runs: &Runs,
+    values: &[i64; 1024],
+) -> Result<(), Fail> {
+    let copy = runs.copy(alloc)?;
+    assert_eq!(rt; copy.lane_width(), runs.lane_width());
+    assert_eq!(rt; copy.starts().words(), runs.starts().words());
+    assert_eq!(rt; copy.values(), runs.values());
+    let mut back = [1; 1024];
+    copy.decode(&mut back);
+    assert_eq!(rt; back.as_slice(), values.as_slice());
+    Ok(())
+}
+
+/// A vector's least runs have `bytes` bytes and are the least, and their copy has their parts and decodes to the vector.
+fn runs_come_back(
+    rt: &impl Abort,
+    alloc: Global,
+    lane_width: usize,
+    values: &[i64; 1024],
+    bytes: u16,
+) -> Result<(), Fail>
+    requires lane_width { IsLaneWidth lane_width }
+    requires range { AreInRange lane_width values.now }
+{
+    let runs = Runs::encode(alloc, values, lane_width)?;
+    assert_eq!(rt;
+        (
+            Runs::size(values, lane_width),
+            runs.bytes_len(),
+            runs.is_least()
+        ),
+        (bytes, bytes, true)
+    );
+    assert_eq!(rt; runs.lane_width(), lane_width);
+    runs_copy_decodes(rt, alloc, &runs, values)
+}
+
+/// A copy of a dictionary has its parts and decodes to the vector.
+fn dict_copy_decodes(
+    rt: &impl Abort,
+    alloc: Global,
+    dict: &Dict,
+    values: &[i64; 1024],
+) -> Result<(), Fail> {
+    let copy = dict.copy(alloc)?;
+    assert_eq!(rt;
+        (copy.lane_width(), copy.width()),
+        (dict.lane_width(), dict.width())
+    );
+    assert_eq!(rt; copy.values(), dict.values());
+    assert_eq!(rt; copy.codes().words_16(), dict.codes().words_16());
+    let mut back = [1; 1024];
+    copy.decode(&mut back);
+    assert_eq!(rt; back.as_slice(), values.as_slice());
+    Ok(())
+}
+
+/// A vector's least dictionary has `bytes` bytes and is the least, and its copy has its parts and decodes to the vector.
+fn dict_comes_back(
+    rt: &impl Abort,
+    alloc: Global,
+    lane_width: usize,
+    values: &[i64; 1024],
+    bytes: u16,
+) -> Result<(), Fail>
+    requires lane_width { IsLaneWidth lane_width }
+    requires range { AreInRange lane_width values.now }
+{
+    let dict = Dict::encode(alloc, values, lane_width)?;
+    assert_eq!(rt;
+        (
+            Dict::size(values, lane_width),
+            dict.bytes_len(),
+            dict.is_least()
+        ),
+        (bytes, bytes, true)
+    );
+    assert_eq!(rt; dict.lane_width(), lane_width);
+    dict_copy_decodes(rt, alloc, &dict, values)
+}
+
+/// A vector comes back from both codings, of which the first has `bytes[0]` bytes and the second `bytes[1]`.
+fn comes_back(
+    rt: &impl Abort,
+    alloc: Global,
+    lane_width: usize,
+    pattern: Pattern,
+    bytes: [u16; 2],
+) -> Result<(), Fail>
+    requires { IsLaneWidth lane_width }
+{
+    let values = column(lane_width, pattern);
+    runs_come_back(rt, alloc, lane_width, &values, bytes[0])?;
+    dict_comes_back(rt, alloc, lane_width, &values, bytes[1])
+}
+
+/// The least value alone, the greatest alone, the two in turn, and 1024 values, each with its bytes.
+fn extremes_come_back(
+    rt: &impl Abort,
+    alloc: Global,
+    lane_width: usize,
+    bytes: [[u16; 2]; 4],
+) -> Result<(), Fail>
+    requires { IsLaneWidth lane_width }
+{
+    let least = 1 << (lane_width - 1);
+    let greatest = least - 1;
+    for (pattern, bytes) in [
+        (Pattern::All(least), bytes[0]),
+        (Pattern::All(greatest), bytes[1]),
+        (Pattern::Alternating(least, greatest), bytes[2]),
+        (Pattern::Ramp(1), bytes[3]),
+    ] {
+        comes_back(rt, alloc, lane_width, pattern, bytes)?;
+    }
+    Ok(())
+}
+
+// The bytes are 128 + runs * T / 8, and distinct values * T / 8 + 128 * width. A step of 2 ^ 64 - 1 is -1.
+#[test]
+fn vectors_have_their_bytes(rt: HostRuntime) -> Result<(), Fail> {
+    let alloc = rt.alloc();
+    for &(pattern, bytes) in &[
+        (Pattern::All(7), [130, 2]),
+        (Pattern::Ramp(1), [2176, 3328]),
+        (Pattern::Ramp(u64::MAX), [2176, 3328]),
+        (Pattern::ChangedAt(500, 0, 32767), [132, 132]),
+        (Pattern::Alternating(0, 32767), [2176, 132]),
+    ] {
+        comes_back(&rt, alloc, 16, pattern, bytes)?;
+    }
+    Ok(())
+}
+
+// One run or 1024; one value, two or 1024, of which the codes have no bit, one or ten.
+#[test]
+fn extreme_values_come_back(rt: HostRuntime) -> Result<(), Fail> {
+    let alloc = rt.alloc();
+    let bytes = [[130, 2], [130, 2], [2176, 132], [2176, 3328]];
+    extremes_come_back(&rt, alloc, 16, bytes)?;
+    let bytes = [[132, 4], [132, 4], [4224, 136], [4224, 5376]];
+    extremes_come_back(&rt, alloc, 32, bytes)?;
+    let bytes = [[136, 8], [136, 8], [8320, 144], [8320, 9472]];
+    extremes_come_back(&rt, alloc, 64, bytes)
+}
+
+/// The runs of parts that stood in bytes, where they agree.
+fn read_runs(starts: Mask, values: Vec<i64>) -> Option<Runs>
+    requires { AreInRange 64 values.items }
+{
+    if starts.get(0) || values.len() != Runs::count_for(&starts) {
+        return None;
+    }
+    Some(Runs::from_parts(64, starts, values))
+}
+
+#[test]
+fn neighbouring_runs_may_be_equal(rt: HostRuntime) -> Result<(), Fail> {
+    let mut starts = Mask::none();
+    starts.set_range(5, 6, true);
+    let runs = read_runs(starts, vec![in rt.alloc(); 7, 7]?).ok_or("parts agree")?;
+    let mut values = [0; 1024];
+    runs.decode(&mut values);
+    assert_eq!(rt; values, [7; 1024]);
+    assert_eq!(rt;
+        (runs.is_least(), runs.bytes_len(), runs.value(5)),
+        (false, 144, 7)
+    );
+    Ok(())
+}
+
+// A code of one bit is below 2 whatever the words, so no row need use the second value.
+#[test]
+fn a_dictionary_may_have_a_value_without_a_row(rt: HostRuntime) -> Result<(), Fail> {
+    let codes = Words::pack(rt.alloc(), 16, 1, &[0; 1024])?;
+    let dict = Dict::from_parts(64, 1, vec![in rt.alloc(); -4, 9]?, codes);
+    let mut values = [0; 1024];
+    dict.decode(&mut values);
+    assert_eq!(rt; values, [-4; 1024]);
+    assert_eq!(rt; (dict.is_least(), dict.bytes_len()), (false, 144));
+    Ok(())
+}
+
+// Values that span fewer than 65,536 numbers, and more; the bytes as in the tables above.
+#[test]
+fn a_size_is_known_only_below_the_bound(rt: HostRuntime) {
+    sizes_end_at(&rt, 16, Pattern::Alternating(0, 32767), 132);
+    sizes_end_at(&rt, 16, Pattern::Ramp(1), 3328);
+    sizes_end_at(&rt, 64, Pattern::Alternating(1 << 63, (1 << 63) - 1), 144);
+    sizes_end_at(&rt, 64, Pattern::Ramp(1 << 53), 9472);
+}
+
+/// The least dictionary of a vector has `bytes` bytes, which are not below `bytes`.
+fn sizes_end_at(rt: &impl Abort, lane_width: usize, pattern: Pattern, bytes: u16)
+    requires width { IsLaneWidth lane_width }
+    requires bytes { bytes < 65535 }
+{
+    let values = column(lane_width, pattern);
+    assert_eq!(rt; Dict::size_below(&values, lane_width, bytes), None);
+    assert_eq!(rt;
+        Dict::size_below(&values, lane_width, bytes + 1),
+        Some(bytes)
+    );
+}

@@ -1,0 +1,318 @@
+//! A batch's columns in bytes, at bytes and places worked out by hand from the format.
+ghost use Rattle.std.specs.Prelude.{◌≤◌, length};
+
+use crate::tests::{Pattern, first, rows_of, segment_of};
+use segment_core::{Coded, Segment};
+use std::alloc::{AllocError, Global};
+use std::process::Abort;
+use std::test::Fail;
+use table_model::{ColType, Counted, Refusal, Schema, Stop};
+
+/// The schema of one SMALLINT column.
+pub(crate) fn one_column(alloc: Global) -> Result<Schema, Refusal> {
+    Schema::new(alloc, "T", &[("A", ColType::SmallInt)])
+}
+
+/// Adds so many of one byte.
+fn add_repeated(bytes: &mut Vec<u8>, count: usize, byte: u8) -> Result<(), AllocError> {
+    for _ in 0..count {
+        bytes.push(byte)?;
+    }
+    Ok(())
+}
+
+/// Adds a front, then so many bytes that are 0, then what is left.
+fn add(bytes: &mut Vec<u8>, front: &[u8], zeros: usize, back: &[u8]) -> Result<(), AllocError> {
+    bytes.extend_from_slice(front)?;
+    add_repeated(bytes, zeros, 0)?;
+    bytes.extend_from_slice(back)
+}
+
+/// So many of each byte, one after another.
+fn repeated(alloc: Global, parts: &[(usize, u8)]) -> Result<Vec<u8>, AllocError> {
+    let mut bytes = Vec::new(alloc);
+    for (count, byte) in parts {
+        add_repeated(&mut bytes, *count, *byte)?;
+    }
+    Ok(bytes)
+}
+
+/// The bytes of the segment of 1024 rows in one SMALLINT column.
+fn bytes_of(alloc: Global, pattern: Pattern) -> Result<Vec<u8>, Refusal> {
+    let rows = rows_of(alloc, 1024, pattern)?;
+    let segment = segment_of(alloc, ColType::SmallInt, &rows)?;
+    let mut writer = Counted::new(Vec::new(alloc));
+    segment.write_bytes(&mut writer)?;
+    Ok(writer.into_inner())
+}
+
+/// What reading one row of one SMALLINT column from such bytes is refused as.
+fn fault_of(alloc: Global, front: &[u8], zeros: usize) -> Result<Option<Refusal>, Refusal> {
+    let schema = one_column(alloc)?;
+    let mut bytes = Vec::new(alloc);
+    add(&mut bytes, front, zeros, &[])?;
+    Ok(Segment::read_bytes(alloc, &schema, 1, &bytes, 0).err())
+}
+
+/// One row of one SMALLINT column that stands in such bytes from a place on, and the place after it.
+fn one_row(alloc: Global, bytes: &[u8], at: usize) -> Result<(Segment, usize), Refusal>
+    requires { at ≤ length bytes.now }
+{
+    let schema = one_column(alloc)?;
+    Segment::read_bytes(alloc, &schema, 1, bytes, at)
+}
+
+/// A row of 7 in FOR.
+fn check_seven(rt: &impl Abort, segment: &Segment) {
+    let vector = first(rt, segment);
+    assert_eq!(rt; (vector.rows(), vector.nulls().is_none()), (1, true));
+    match vector.coded() {
+        Coded::For(form) => assert_eq!(rt; form.get().value(0), 7),
+        _ => assert!(rt; false, "the tag is FOR's"),
+    }
+}
+
+// Flag 0, tag 0, width 0, count 0, reference 7.
+#[test]
+fn one_row_of_seven_takes_seven_bytes(rt: HostRuntime) -> Result<(), Fail> {
+    let bytes = [9, 9, 0, 0, 0, 0, 0, 7, 0, 5];
+    let (segment, next) = one_row(rt.alloc(), &bytes, 2)?;
+    assert_eq!(rt; (segment.rows(), segment.columns(), next), (1, 1, 9));
+    check_seven(&rt, &segment);
+    let copy = segment.copy(rt.alloc())?;
+    let rows = rows_of(rt.alloc(), 1, Pattern::All(7))?;
+    assert!(rt; copy.same_rows(&segment) && copy.has_rows(&rows));
+    Ok(())
+}
+
+// Null flag, tag, width and count, then the payload. Row 500 is bit 4 of byte 62 of the start mask. Sixteen rows side by side
+// are a lane, so that codes 0, 1, 0, 1, .. of one bit fill words of AAAA. DELTA has a least delta of 1 and then for each lane its
+// first value less 1: lane 0 begins at row 0, and lane 1 at row 64.
+const CANONICAL: [(Pattern, &[(usize, u8)]); 3] = [
+    (Pattern::All(7), &[(5, 0), (1, 7), (1, 0)]),
+    (
+        Pattern::ChangedAt(500, 0, 32767),
+        &[
+            (1, 0),
+            (1, 2),
+            (1, 1),
+            (1, 2),
+            (63, 0),
+            (1, 16),
+            (67, 0),
+            (1, 255),
+            (1, 127),
+        ],
+    ),
+    (
+        Pattern::Alternating(0, 32767),
+        &[
+            (1, 0),
+            (1, 3),
+            (1, 1),
+            (1, 2),
+            (3, 0),
+            (1, 255),
+            (1, 127),
+            (128, 170),
+        ],
+    ),
+];
+
+#[test]
+fn canonical_vectors_have_these_bytes(rt: HostRuntime) -> Result<(), Fail> {
+    let alloc = rt.alloc();
+    for &(pattern, parts) in &CANONICAL {
+        assert_eq!(rt; bytes_of(alloc, pattern)?, repeated(alloc, parts)?);
+    }
+    let deltas = bytes_of(alloc, Pattern::Counting)?;
+    assert_eq!(rt; deltas.len(), 135);
+    assert!(rt; deltas.starts_with(&[0, 1, 0, 0, 0, 1, 0, 255, 255, 63, 0]));
+    Ok(())
+}
+
+// A width may be the lane's, and no more; a code's may be 16 at every lane width.
+const WIDTHS: [(ColType, [u8; 3], Refusal); 10] = [
+    (ColType::Integer, [0, 0, 33], Refusal::BadWidth(2)),
+    (ColType::Integer, [0, 1, 33], Refusal::BadWidth(2)),
+    (ColType::Integer, [0, 3, 17], Refusal::BadWidth(2)),
+    (ColType::Integer, [0, 0, 32], Refusal::Truncated(3)),
+    (ColType::BigInt, [0, 0, 65], Refusal::BadWidth(2)),
+    (ColType::BigInt, [0, 1, 65], Refusal::BadWidth(2)),
+    (ColType::BigInt, [0, 3, 17], Refusal::BadWidth(2)),
+    (ColType::BigInt, [0, 1, 64], Refusal::Truncated(3)),
+    (ColType::BigInt, [0, 2, 2], Refusal::BadWidth(2)),
+    (ColType::BigInt, [0, 3, 16], Refusal::Truncated(3)),
+];
+
+#[test]
+fn widths_have_their_limits_at_each_type(rt: HostRuntime) -> Result<(), Fail> {
+    let alloc = rt.alloc();
+    for &(column_type, bytes, fault) in &WIDTHS {
+        let schema = Schema::new(alloc, "T", &[("A", column_type)])?;
+        let read = Segment::read_bytes(alloc, &schema, 1, &bytes, 0);
+        assert_eq!(rt; read.err(), Some(fault));
+    }
+    Ok(())
+}
+
+/// Fronts, how many bytes that are 0 follow each, and the fault. The null flag is byte 0, the tag 1, the width 2, the count 3 and 4,
+/// and the payload begins at 5.
+const FAULTS: [(&[u8], usize, Refusal); 23] = [
+    (&[2], 0, Refusal::BadMask(0)),
+    (&[0, 4], 0, Refusal::BadTag(1)),
+    (&[0, 0, 17], 0, Refusal::BadWidth(2)),
+    (&[0, 1, 17], 0, Refusal::BadWidth(2)),
+    (&[0, 2, 0], 0, Refusal::BadWidth(2)),
+    (&[0, 3, 17], 0, Refusal::BadWidth(2)),
+    (&[0, 0, 16, 1, 0], 0, Refusal::BadCount(3)),
+    (&[0, 1, 16, 0, 1], 0, Refusal::BadCount(3)),
+    (&[0, 2, 1, 0, 0], 0, Refusal::BadCount(3)),
+    (&[0, 2, 1, 1, 4], 0, Refusal::BadCount(3)),
+    (&[0, 3, 16, 1, 4], 0, Refusal::BadCount(3)),
+    // Masks. Row n is bit n % 8 of byte n / 8: a mask's first byte 1 is row 0, and 2 is row 1.
+    (&[1], 128, Refusal::BadMask(1)),
+    (&[1, 2], 127, Refusal::BadMask(1)),
+    (&[1, 3], 127, Refusal::BadMask(1)),
+    (&[1, 1], 127, Refusal::Truncated(129)),
+    (&[0, 2, 1, 1, 0, 1], 127, Refusal::BadMask(5)),
+    (&[0, 2, 1, 1, 0, 2], 127, Refusal::BadCount(3)),
+    (&[0, 2, 1, 2, 0, 2], 127, Refusal::Truncated(133)),
+    (&[0, 2, 1, 2, 0, 2], 126, Refusal::Truncated(132)),
+    // Dictionaries. A second value that is no greater comes before the end of the bytes. One bit set of a code of one bit makes it 1.
+    (&[0, 3, 1, 2, 0, 7, 0, 7, 0], 0, Refusal::BadDictionary(7)),
+    (
+        &[0, 3, 1, 3, 0, 7, 0, 255, 255, 9],
+        0,
+        Refusal::BadDictionary(7),
+    ),
+    (&[0, 3, 1, 1, 0, 7, 0, 1], 127, Refusal::BadCode(7)),
+    (&[0, 3, 1, 1, 0, 7, 0, 1], 126, Refusal::Truncated(134)),
+];
+
+#[test]
+fn each_field_has_its_fault_at_its_place(rt: HostRuntime) -> Result<(), Fail> {
+    for &(front, zeros, fault) in &FAULTS {
+        assert_eq!(rt;
+            fault_of(rt.alloc(), front, zeros)?,
+            Some(fault),
+            "after {front:?}"
+        );
+    }
+    Ok(())
+}
+
+/// The bytes of 1,025 rows of three columns in parts: a front, how many bytes that are 0 follow it, and the rest.
+const THREE_COLUMNS: [(&[u8], usize, &[u8]); 8] = [
+    // SMALLINT: row 0 null, FOR of width 0, reference 7; then one row, DELTA of width 0, least delta 1, 64 bases of 0.
+    (&[1, 1], 127, &[0, 0, 0, 0, 7, 0]),
+    (&[0, 1, 0, 0, 0, 1, 0], 128, &[]),
+    // INTEGER: RLE of two runs, 7 and then 8 from row 1 on; then one row, null, RLE of one run.
+    (&[0, 2, 1, 2, 0, 2], 127, &[7, 0, 0, 0, 8, 0, 0, 0]),
+    (&[1, 1], 127, &[2, 1, 1, 0]),
+    (&[], 128, &[255, 255, 255, 255]),
+    // BIGINT: DICT of -1 and 2 with codes of one bit, all 0; then DICT of one value with codes of no bit.
+    (
+        &[0, 3, 1, 2, 0],
+        0,
+        &[255, 255, 255, 255, 255, 255, 255, 255],
+    ),
+    (&[2], 135, &[]),
+    (&[0, 3, 0, 1, 0], 7, &[128]),
+];
+
+fn three_columns(alloc: Global) -> Result<Vec<u8>, AllocError> {
+    let mut bytes = Vec::new(alloc);
+    for &(front, zeros, back) in &THREE_COLUMNS {
+        add(&mut bytes, front, zeros, back)?;
+    }
+    Ok(bytes)
+}
+
+/// The names and types of those columns.
+const THREE_TYPES: [(&str, ColType); 3] = [
+    ("A", ColType::SmallInt),
+    ("B", ColType::Integer),
+    ("C", ColType::BigInt),
+];
+
+/// The 1,025 rows that stand in such bytes, and the place after them.
+fn three_read(alloc: Global, bytes: &[u8]) -> Result<(Segment, usize), Refusal> {
+    let schema = Schema::new(alloc, "T", &THREE_TYPES)?;
+    Segment::read_bytes(alloc, &schema, 1025, bytes, 0)
+}
+
+#[test]
+fn every_proper_front_is_truncated_with_its_length(rt: HostRuntime) -> Result<(), Fail> {
+    let alloc = rt.alloc();
+    let schema = Schema::new(alloc, "T", &THREE_TYPES)?;
+    let bytes = three_columns(alloc)?;
+    for end in 0..bytes.len() {
+        let front = Segment::read_bytes(alloc, &schema, 1025, &bytes[..end], 0);
+        assert_eq!(rt; front.err(), Some(Refusal::Truncated(end as u64)));
+    }
+    Ok(())
+}
+
+/// What writing a segment answers, what was written and how often the writer failed, where the writer passes so many bytes on.
+fn written_until(
+    alloc: Global,
+    segment: &Segment,
+    left: usize,
+) -> (Result<(), Refusal>, Vec<u8>, u64) {
+    let mut writer = Counted::new(Stop {
+        inner: Vec::new(alloc),
+        left,
+    });
+    let outcome = segment.write_bytes(&mut writer);
+    let failures = writer.failures();
+    let Stop { inner, .. } = writer.into_inner();
+    (outcome, inner, failures)
+}
+
+/// Whether a segment with these bytes is written so far as a writer passes bytes on, and refused once where that is not to the end.
+fn stops_at(alloc: Global, segment: &Segment, bytes: &[u8], left: usize) -> bool {
+    let (outcome, written, failures) = written_until(alloc, segment, left);
+    let ends = if left < bytes.len() {
+        (Err(Refusal::WriteFault), 1)
+    } else {
+        (Ok(()), 0)
+    };
+    (outcome, failures) == ends && bytes.get(..left) == Some(written.as_slice())
+}
+
+fn check_stops(rt: &impl Abort, alloc: Global, segment: &Segment, bytes: &[u8]) {
+    for left in 0..=bytes.len() {
+        assert!(rt; stops_at(alloc, segment, bytes, left), "at {left}");
+    }
+}
+
+#[test]
+fn a_writer_that_stops_at_a_byte_has_the_bytes_before_it(rt: HostRuntime) -> Result<(), Fail> {
+    let bytes = three_columns(rt.alloc())?;
+    let (segment, next) = three_read(rt.alloc(), &bytes)?;
+    assert_eq!(rt;
+        (segment.rows(), segment.columns(), next),
+        (1025, 3, bytes.len())
+    );
+    check_stops(&rt, rt.alloc(), &segment, &bytes);
+    Ok(())
+}
+
+/// What writing a segment into so much room answers, and how often the writer failed.
+fn written_into(segment: &Segment, room: &mut [u8]) -> (Result<(), Refusal>, u64) {
+    let mut writer = Counted::new(room);
+    let outcome = segment.write_bytes(&mut writer);
+    (outcome, writer.failures())
+}
+
+// Six bytes have room for all but the last of the seven.
+#[test]
+fn a_full_writer_has_a_front_and_a_fault(rt: HostRuntime) -> Result<(), Fail> {
+    let (segment, _) = one_row(rt.alloc(), &[0, 0, 0, 0, 0, 7, 0], 0)?;
+    let mut room = [1; 6];
+    let ends = written_into(&segment, &mut room);
+    assert_eq!(rt; ends, (Err(Refusal::WriteFault), 1));
+    assert_eq!(rt; room, [0, 0, 0, 0, 0, 7]);
+    Ok(())
+}
