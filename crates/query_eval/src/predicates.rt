@@ -16,6 +16,32 @@ use crate::side::{Side, side_of};
 use table_model::{Literals, Operand};
 use transpose_order::Mask;
 
+/// BETWEEN of three sides at the rows of a mask: each column takes one pass. It stands apart from `between_sides`, which for most
+/// conditions needs no room for three decoded columns and so makes none.
+fn between_decoded<C: Columns>(
+    columns: &mut C,
+    batch: usize,
+    vector: usize,
+    operand: Side,
+    low: Side,
+    high: Side,
+    mask: &Mask,
+) -> Pair
+    requires there { IsThere (C.state columns.old) batch vector }
+    requires operand { HasColumn (C.table columns.old) operand }
+    requires low { HasColumn (C.table columns.old) low }
+    requires high { HasColumn (C.table columns.old) high }
+    ensures value { IsPair mask.now (λ n. and_of (comparison GreaterOrEqual (side_at (vector_at (C.state columns.old) batch vector) operand n) (side_at (vector_at (C.state columns.old) batch vector) low n)) (comparison LessOrEqual (side_at (vector_at (C.state columns.old) batch vector) operand n) (side_at (vector_at (C.state columns.old) batch vector) high n))) result }
+    ensures table { C.table columns.new ≡ C.table columns.old }
+    ensures state { C.state columns.new ≡ C.state columns.old }
+    ensures passes { C.passes columns.new ≤ C.passes columns.old + (side_mentions operand + (side_mentions low + side_mentions high)) }
+{
+    let operand = decode(columns, batch, vector, operand);
+    let low = decode(columns, batch, vector, low);
+    let high = decode(columns, batch, vector, high);
+    between_rows(&operand, &low, &high, mask)
+}
+
 /// BETWEEN of three sides at the rows of a mask: a column between two literals takes one pass, and else each column one.
 fn between_sides<C: Columns>(
     columns: &mut C,
@@ -41,10 +67,7 @@ fn between_sides<C: Columns>(
         let (yes, no) = columns.compare_range(batch, column, vector, low, high, mask);
         return Pair { yes, no };
     }
-    let operand = decode(columns, batch, vector, operand);
-    let low = decode(columns, batch, vector, low);
-    let high = decode(columns, batch, vector, high);
-    between_rows(&operand, &low, &high, mask)
+    between_decoded(columns, batch, vector, operand, low, high, mask)
 }
 
 /// BETWEEN of three operands at the rows of a mask.

@@ -3,7 +3,7 @@ use Rattle.std.proofs.Common.{ap, ◌∙◌}
 use Rattle.table_model.specs.State.{State}
 use Rattle.query_eval.specs.Vector.{vector_at}
 use Rattle.query_eval.proofs.PredicateLemmas.{decoded_between}
-use Rattle.query_eval.proofs.predicates.between_sides.Goals as goal
+use Rattle.query_eval.proofs.predicates.between_decoded.Goals as goal
 
 pub returns-clause-value : goal.returns-clause-value
 returns-clause-value g c =
