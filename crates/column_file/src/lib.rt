@@ -28,14 +28,3 @@ pub use schema_reading::read_schema;
 pub use schema_writing::write_schema;
 pub use summary_reading::{read_summary, read_summary_bytes};
 pub use summary_writing::write_summary;
-
-#[cfg(test)]
-mod file_tests;
-#[cfg(test)]
-mod filling_tests;
-#[cfg(test)]
-mod refused_tests;
-#[cfg(test)]
-mod stop_tests;
-#[cfg(test)]
-mod tests;

@@ -44,11 +44,16 @@ fn new_store(alloc: Global, own: Origin) -> Result<Store, Refusal> {
     Store::new(alloc, &schema, own)
 }
 
+/// A row of one cell.
+fn row_of(alloc: Global, cell: Option<i128>) -> Result<Row, AllocError> {
+    Ok(Row::from_cells(Vec::from_slice(alloc, &[cell])?))
+}
+
 /// The rows 7, NULL and 7.
 fn three_rows(alloc: Global) -> Result<Vec<Row>, AllocError> {
     let mut rows = Vec::with_capacity(alloc, 3)?;
     for &cell in &[Some(7), None, Some(7)] {
-        rows.push(Row::from_cells(Vec::from_slice(alloc, &[cell])?))?;
+        rows.push(row_of(alloc, cell)?)?;
     }
     Ok(rows)
 }
@@ -115,6 +120,18 @@ fn sent(alloc: Global, bytes: &[u8]) -> Result<Store, Refusal> {
     applied(alloc, &offer)
 }
 
+/// The same for the file of one row with a change.
+fn sent_from(alloc: Global, change: &Change) -> Result<Store, Refusal> {
+    let bytes = changed(alloc, change)?;
+    sent(alloc, &bytes)
+}
+
+/// The store that the file of one row with a change opens to.
+fn opened_from(alloc: Global, change: &Change) -> Result<Store, Refusal> {
+    let bytes = changed(alloc, change)?;
+    opened(alloc, &bytes)
+}
+
 /// How a store is filled.
 #[derive(Clone, Copy, Debug)]
 enum Filling {
@@ -134,9 +151,9 @@ fn filled(alloc: Global, filling: Filling) -> Result<Store, Refusal> {
     match filling {
         Filling::Told => told(alloc),
         Filling::Recoded => recoded(alloc),
-        Filling::Opened => opened(alloc, &changed(alloc, &FRAME)?),
+        Filling::Opened => opened_from(alloc, &FRAME),
         Filling::Offered => offered(alloc),
-        Filling::Sent => sent(alloc, &changed(alloc, &DICTIONARY)?),
+        Filling::Sent => sent_from(alloc, &DICTIONARY),
     }
 }
 

@@ -1,11 +1,9 @@
 //! Files and offers in bytes, at bytes and places worked out by hand from the formats.
-use crate::canonical_writing::export;
-use crate::offer_reading::read_offer;
-use crate::offer_writing::write_offer;
-use crate::opening::{Checked, check, open};
+use column_file::{Checked, check, export, open, read_offer, write_offer};
 use replica_store::{Offer, Store, Summary};
 use segment_core::Coding;
 use std::alloc::{AllocError, Global};
+use std::process::Abort;
 use std::test::Fail;
 use table_model::{BatchName, Counted, Number, Origin, Refusal, Stop};
 
@@ -20,16 +18,21 @@ pub(crate) type Change = (usize, usize, &'static [(&'static [u8], usize)]);
 
 pub(crate) const ZEROS: &[u8] = &[0; 256];
 
+/// Adds these pieces, and then what stands after them.
+fn extend(bytes: &mut Vec<u8>, pieces: &[(&[u8], usize)], back: &[u8]) -> Result<(), AllocError> {
+    for (piece, zeros) in pieces {
+        bytes.extend_from_slice(piece)?;
+        bytes.extend_from_slice(ZEROS.split_at((*zeros).min(ZEROS.len())).0)?;
+    }
+    bytes.extend_from_slice(back)
+}
+
 /// That file with a change.
 pub(crate) fn changed(alloc: Global, change: &Change) -> Result<Vec<u8>, AllocError> {
     let (front, _) = ONE_ROW.split_at(change.0.min(ONE_ROW.len()));
     let (_, back) = ONE_ROW.split_at(change.1.min(ONE_ROW.len()));
     let mut bytes = Vec::from_slice(alloc, front)?;
-    for (piece, zeros) in change.2 {
-        bytes.extend_from_slice(piece)?;
-        bytes.extend_from_slice(ZEROS.split_at((*zeros).min(ZEROS.len())).0)?;
-    }
-    bytes.extend_from_slice(back)?;
+    extend(&mut bytes, change.2, back)?;
     Ok(bytes)
 }
 
@@ -69,15 +72,29 @@ fn is_offered(alloc: Global, store: &Store, bytes: &[u8]) -> Result<bool, Refusa
     is_written(alloc, &offer, bytes)
 }
 
+/// What opening a file is refused as.
+fn open_fault(alloc: Global, bytes: &[u8]) -> Option<Refusal> {
+    opened(alloc, bytes).err()
+}
+
+/// What checking a file is refused as.
+fn check_fault(alloc: Global, bytes: &[u8]) -> Option<Refusal> {
+    check(alloc, &mut Counted::new(bytes)).err()
+}
+
+/// What reading an offer is refused as.
+fn offer_fault(alloc: Global, bytes: &[u8]) -> Option<Refusal> {
+    offer_from(alloc, bytes).err()
+}
+
 /// Whether opening and checking are refused so.
 fn is_refused(alloc: Global, bytes: &[u8], fault: Refusal) -> bool {
-    opened(alloc, bytes).err() == Some(fault)
-        && check(alloc, &mut Counted::new(bytes)).err() == Some(fault)
+    open_fault(alloc, bytes) == Some(fault) && check_fault(alloc, bytes) == Some(fault)
 }
 
 /// Whether reading an offer is refused so as well.
 fn is_no_offer(alloc: Global, bytes: &[u8], fault: Refusal) -> bool {
-    is_refused(alloc, bytes, fault) && offer_from(alloc, bytes).err() == Some(fault)
+    is_refused(alloc, bytes, fault) && offer_fault(alloc, bytes) == Some(fault)
 }
 
 /// One row 1, 2, 3 of batch 2.1 and the deleted rows 2.1.0 and 2.1.9: 198 bytes. The three values are runs.
@@ -185,17 +202,23 @@ fn comes_back(alloc: Global, bytes: &[u8], checked: Checked) -> Result<bool, Ref
     Ok(is_checked(alloc, bytes, checked) && is_told_again(alloc, bytes)?)
 }
 
+/// Whether the file of one row with a change has this length, and comes back.
+fn changed_comes_back(
+    alloc: Global,
+    change: &Change,
+    length: usize,
+    checked: Checked,
+) -> Result<bool, Refusal> {
+    let bytes = changed(alloc, change)?;
+    Ok(bytes.len() == length && comes_back(alloc, &bytes, checked)?)
+}
+
 #[test]
 fn what_is_opened_is_exported_and_offered_again(rt: HostRuntime) -> Result<(), Fail> {
-    let alloc = rt.alloc();
-    for (change, length, batches, ranges) in CANONICAL {
-        let bytes = changed(alloc, change)?;
-        let checked = Checked {
-            batches: *batches,
-            ranges: *ranges,
-        };
+    for &(change, length, batches, ranges) in CANONICAL {
+        let checked = Checked { batches, ranges };
         assert!(rt;
-            bytes.len() == *length && comes_back(alloc, &bytes, checked)?,
+            changed_comes_back(rt.alloc(), &change, length, checked)?,
             "of {length} bytes"
         );
     }
@@ -267,13 +290,11 @@ const WIDE: Change = (
 // 10 bytes before the columns, 102 for them, 14 before the vectors; 11 of 135 bytes, 11 of 137 and 10 of 141; and the count of ranges.
 #[test]
 fn a_file_of_32_columns_without_values_is_exported_again(rt: HostRuntime) -> Result<(), Fail> {
-    let bytes = changed(rt.alloc(), &WIDE)?;
     let checked = Checked {
         batches: 1,
         ranges: 0,
     };
-    assert_eq!(rt; bytes.len(), 4536);
-    assert!(rt; comes_back(rt.alloc(), &bytes, checked)?);
+    assert!(rt; changed_comes_back(rt.alloc(), &WIDE, 4536, checked)?);
     Ok(())
 }
 
@@ -439,14 +460,18 @@ const FAULTS: &[(Change, Refusal)] = &[
     ((34, 42, &[(b"\x01", 7)]), Refusal::Truncated(42)),
 ];
 
+/// Whether the file of one row with a change is no file and no offer, but refused so.
+fn is_changed_to_fault(alloc: Global, change: &Change, fault: Refusal) -> Result<bool, AllocError> {
+    let bytes = changed(alloc, change)?;
+    Ok(is_no_offer(alloc, &bytes, fault))
+}
+
 #[test]
 fn the_first_fault_of_a_file_is_answered_at_its_place(rt: HostRuntime) -> Result<(), Fail> {
-    let alloc = rt.alloc();
-    for (change, fault) in FAULTS {
-        let bytes = changed(alloc, change)?;
+    for (index, (change, fault)) in FAULTS.iter().enumerate() {
         assert!(rt;
-            is_no_offer(alloc, &bytes, *fault),
-            "{fault:?} of {bytes:?}"
+            is_changed_to_fault(rt.alloc(), change, *fault)?,
+            "{fault:?} of change {index}"
         );
     }
     Ok(())
@@ -633,17 +658,21 @@ fn a_file_tells_no_coding_and_an_offer_does(rt: HostRuntime) -> Result<(), Fail>
     Ok(())
 }
 
-#[test]
-fn every_proper_front_of_a_file_is_truncated_with_its_length(rt: HostRuntime) -> Result<(), Fail> {
-    let alloc = rt.alloc();
-    let bytes = changed(alloc, &THREE_ROWS)?;
+/// Sees that each proper front of a file is refused with its length.
+fn see_fronts_truncated(rt: &impl Abort, alloc: Global, bytes: &[u8]) {
     for end in 0..bytes.len() {
-        let (front, _) = bytes.as_slice().split_at(end);
+        let (front, _) = bytes.split_at(end);
         assert!(rt;
             is_no_offer(alloc, front, Refusal::Truncated(end as u64)),
             "{end}"
         );
     }
+}
+
+#[test]
+fn every_proper_front_of_a_file_is_truncated_with_its_length(rt: HostRuntime) -> Result<(), Fail> {
+    let bytes = changed(rt.alloc(), &THREE_ROWS)?;
+    see_fronts_truncated(&rt, rt.alloc(), &bytes);
     Ok(())
 }
 

@@ -2,14 +2,9 @@
 //! refused, a test fails by an `AllocError` or `Memory` of its set-up, or, where it was a growth of the call that it is of, with the
 //! text `REFUSED` or `CHANGED`; with none refused it passes. The command `tests/refused-memory` refuses each in turn and counts those
 //! texts. A call whose test's name ends in `grows_nowhere` has none to refuse.
-use crate::canonical_writing::export;
 use crate::file_tests::{THREE_ROWS, ZEROS, changed, offer_from, opened};
-use crate::offer_reading::read_offer;
-use crate::offer_writing::write_offer;
-use crate::opening::{check, open};
-use crate::summary_reading::read_summary;
-use crate::summary_writing::write_summary;
 use crate::tests::TWO_NAMES;
+use column_file::{check, export, open, read_offer, read_summary, write_offer, write_summary};
 use replica_store::{Offer, Store};
 use segment_core::Coding;
 use std::alloc::Global;

@@ -1,6 +1,6 @@
 //! Summaries in bytes, at bytes and places worked out by hand from the format.
-use crate::summary_reading::{read_summary, read_summary_bytes};
-use crate::summary_writing::write_summary;
+use column_file::{read_summary, read_summary_bytes, write_summary};
+use replica_store::Summary;
 use std::alloc::{AllocError, Global};
 use std::test::Fail;
 use table_model::{Counted, Refusal};
@@ -68,28 +68,39 @@ fn the_first_fault_of_a_summary_is_answered_at_its_place(rt: HostRuntime) -> Res
     Ok(())
 }
 
-/// The summary of T(A SMALLINT) with as many names as there may be, 1.1, 1.3, 1.5 and so on: no two of them are one run.
-fn names_with_gaps(alloc: Global) -> Result<Vec<u8>, AllocError> {
-    let mut bytes = Vec::from_slice(alloc, b"FLSM\x01\0\x01\0\x01T\x02\x01A\0\0\x01\0")?;
+/// Adds the names 1.1, 1.3, 1.5 and so on, as many as there may be.
+fn add_names_with_gaps(bytes: &mut Vec<u8>) -> Result<(), AllocError> {
     for k in 0..65_536u32 {
         bytes.extend_from_slice(b"\x01\0\0\0")?;
         bytes.extend_from_slice(&(2 * k + 1).to_le_bytes())?;
     }
+    Ok(())
+}
+
+/// The summary of T(A SMALLINT) with as many names as there may be, 1.1, 1.3, 1.5 and so on: no two of them are one run.
+fn names_with_gaps(alloc: Global) -> Result<Vec<u8>, AllocError> {
+    let mut bytes = Vec::from_slice(alloc, b"FLSM\x01\0\x01\0\x01T\x02\x01A\0\0\x01\0")?;
+    add_names_with_gaps(&mut bytes)?;
     Ok(bytes)
 }
 
-/// What the summary that bytes are is written as.
-fn written_again(alloc: Global, bytes: &[u8]) -> Result<Vec<u8>, Refusal> {
-    let summary = read_summary(alloc, &mut Counted::new(bytes))?;
+/// Whether a summary is written as these bytes.
+fn is_written(alloc: Global, summary: &Summary, bytes: &[u8]) -> Result<bool, Refusal> {
     let mut writer = Counted::new(Vec::new(alloc));
-    write_summary(&summary, &mut writer)?;
-    Ok(writer.into_inner())
+    write_summary(summary, &mut writer)?;
+    Ok(writer.into_inner().as_slice() == bytes)
+}
+
+/// Whether the summary that bytes are is written as them.
+fn is_written_again(alloc: Global, bytes: &[u8]) -> Result<bool, Refusal> {
+    let summary = read_summary(alloc, &mut Counted::new(bytes))?;
+    is_written(alloc, &summary, bytes)
 }
 
 #[test]
 fn a_summary_of_65536_names_with_gaps_is_written_again(rt: HostRuntime) -> Result<(), Fail> {
     let bytes = names_with_gaps(rt.alloc())?;
     assert_eq!(rt; bytes.len(), 524_305);
-    assert!(rt; written_again(rt.alloc(), &bytes)? == bytes);
+    assert!(rt; is_written_again(rt.alloc(), &bytes)?);
     Ok(())
 }
