@@ -59,7 +59,7 @@ pub fn predicate_masks<C: Columns>(
     }
 }
 
-/// A condition of WHERE at the rows of a mask: each mention of a column takes at most one pass.
+/// A condition of WHERE at the rows of a mask: each mention of a column takes at most one pass, and none over no rows.
 #[cycle(masks)]
 pub fn condition_masks<C: Columns>(
     columns: &mut C,
@@ -74,6 +74,9 @@ pub fn condition_masks<C: Columns>(
     ensures state { C.state columns.new ≡ C.state columns.old }
     ensures passes { C.passes columns.new ≤ C.passes columns.old + condition_mentions condition.now }
 {
+    if mask.next_true(0) == 1024 {
+        return Pair::everywhere(Truth::Unknown, mask);
+    }
     let mut pair = Pair::everywhere(Truth::False, mask);
     for term in &condition.terms {
         let next = term_masks(columns, batch, vector, term, mask);

@@ -7,7 +7,12 @@ use Rattle.query_eval.specs.Mentions.{condition_mentions}
 use Rattle.query_eval.specs.Vector.{vector_at}
 use Rattle.query_eval.specs.Where.{IsPair, truth_in}
 use Rattle.query_eval.proofs.FormulaLemmas.{terms_more, factors_more, moved}
+use Rattle.query_eval.proofs.PairLemmas.{pair_nowhere}
 use Rattle.query_eval.proofs.where_masks.+masks.Goals as goal
+
+pub condition_masks-returns-then-next_true-eq1024-clause-value : goal.condition_masks-returns-then-next_true-eq1024-clause-value
+condition_masks-returns-then-next_true-eq1024-clause-value g t c =
+    pair_nowhere c.args.mask.now _ _ c.everywhere.result (λ n h. c.next_true.ensures.none n (omega arith) (omega (arith, h, c.if-next_true-eq1024.true))) c.everywhere.ensures
 
 pub condition_masks-loop-term-preserved : goal.condition_masks-loop-term-preserved
 condition_masks-loop-term-preserved g t c =
