@@ -1,6 +1,6 @@
 //! Queries over plain rows: answers worked out by hand, and the passes that their mentions of columns allow.
 use crate::plain_columns::PlainColumns;
-use query_eval::{answer, text};
+use query_eval::{Decoded, Pair, among_rows, answer, between_rows, text};
 use std::alloc::{AllocError, Global};
 use std::process::Abort;
 use std::test::Fail;
@@ -8,6 +8,7 @@ use table_model::{
     ColType, ColumnMention, Condition, Factor, Fold, Item, ItemValue, Name, Op, Operand, Predicate,
     Primary, Query, Row, Rows, Schema, SetFunction, Term, Test,
 };
+use transpose_order::Mask;
 
 type Columns2 = [Option<i128>; 2];
 
@@ -276,4 +277,45 @@ fn groups_in_runs_of_rows(rt: HostRuntime) -> Result<(), Fail> {
         "A,COUNT(*),SUM(B),MAX(B)\n0,400,471,499\n1,400,1152921504606912863,1152921504606848073\n2,300,12771,399\n";
     let query = query(rt.alloc(), &asked, None, &["A"])?;
     has_answer(&rt, rt.alloc(), &rows_of_runs(), &query, (wanted, 8))
+}
+
+/// Whether a pair says true at all rows of a mask, false at all of them, or neither at any row.
+fn is_everywhere(pair: &Pair, mask: &Mask, truth: Option<bool>) -> bool {
+    let none = Mask::none();
+    match truth {
+        Some(true) => pair.yes == *mask && pair.no == none,
+        Some(false) => pair.yes == none && pair.no == *mask,
+        None => pair.yes == none && pair.no == none,
+    }
+}
+
+// A cell that is the same at each row is looked up among literals, and between two cells, at the rows of the mask alone.
+#[test]
+fn a_cell_is_judged_at_the_rows_of_the_mask(rt: HostRuntime) {
+    let mut mask = Mask::none();
+    mask.set_range(5, 9, true);
+    for (cell, truth) in [(Some(7), Some(true)), (Some(8), Some(false)), (None, None)] {
+        let pair = among_rows(&Decoded::Fixed(cell), &[6, 7], &mask);
+        assert!(rt;
+            is_everywhere(&pair, &mask, truth),
+            "{cell:?} among 6 and 7"
+        );
+    }
+    for (cell, high, truth) in [
+        (Some(7), Some(7), Some(true)),
+        (Some(5), None, Some(false)),
+        (Some(6), None, None),
+        (None, Some(7), None),
+    ] {
+        let pair = between_rows(
+            &Decoded::Fixed(cell),
+            &Decoded::Fixed(Some(6)),
+            &Decoded::Fixed(high),
+            &mask,
+        );
+        assert!(rt;
+            is_everywhere(&pair, &mask, truth),
+            "{cell:?} from 6 to {high:?}"
+        );
+    }
 }
