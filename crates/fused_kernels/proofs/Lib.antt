@@ -11,3 +11,4 @@ pub mod RunFoldLemmas
 pub mod RowsLemmas
 pub mod CodeLemmas
 pub mod CodeRangeLemmas
+pub mod CodeSumLemmas

@@ -1,6 +1,7 @@
 -- The loop over the runs of a vector: where it stands, and the rows of a run.
-use Rattle.std.proofs.Common.{◌≡◌, ◌==◌, ℕ, suc, ◌+◌, ◌-◌, ◌*◌, ◌/◌, ◌%◌, ◌<◌, ◌≤◌, ◌&&◌, ◌||◌, ◌⊎◌, inl, inr, Bool, true, false, nat_le, nat_lt, min, pos, List, length, replicate, slice_index_or, refl, sym, ap, ◌∙◌, arith}
-use Rattle.std.proofs.lemmas.Bool.{cases_lt}
+use Rattle.std.proofs.Common.{◌≡◌, ◌==◌, ℕ, suc, ◌+◌, ◌-◌, ◌*◌, ◌/◌, ◌%◌, ◌<◌, ◌≤◌, ◌&&◌, ◌||◌, ◌⊎◌, inl, inr, Bool, true, false, nat_le, nat_lt, min, zero, ℤ, pos, List, [], ◌∷◌, length, replicate, slice_index_or, refl, sym, ap, ◌∙◌, arith}
+use Rattle.std.proofs.lemmas.Bool.{cases_lt, false≢true}
+use Rattle.std.specs.List.{list_any}
 use Rattle.std.proofs.lemmas.Bool.Decides.{nat_tests}
 use Rattle.std.specs.Int.{bit_at}
 use Rattle.std.proofs.lemmas.Nat.Bits.{bit_at-zero}
@@ -83,6 +84,25 @@ all_runs form row index is at done = by_row (cases_lt row 1024)
     by_row : (row < 1024) ⊎ (1024 ≤ row) → row ≡ 1024
     by_row (inl l) = absurd (omega (arith, is.count, at.begins l, count_below-rises (λ i. has form.starts (suc i)) row 1023 (omega arith)))
     by_row (inr l) = omega (arith, at.within)
+
+-- ---- values that no run has
+none_is : (p : ℤ → Bool) (xs : List ℤ) (i : ℕ) → i < length xs → list_any p xs ≡ false → p (slice_index_or xs i (pos 0)) ≡ false
+none_is p [] i l e = absurd (omega (arith, l))
+none_is p (x ∷ xs) zero l e = first (p x) e
+  where
+    first : (b : Bool) → (b || list_any p xs) ≡ false → b ≡ false
+    first true f = f
+    first false f = refl
+none_is p (x ∷ xs) (suc i) l e = none_is p xs i (omega (arith, l)) (rest (p x) e)
+  where
+    rest : (b : Bool) → (b || list_any p xs) ≡ false → list_any p xs ≡ false
+    rest true f = absurd (false≢true (sym f))
+    rest false f = f
+
+-- what is true of no run's value is true of no row's
+pub no_run : (form : RunForm) (p : ℤ → Bool) (n : ℕ) → IsRunForm form → n < 1024 → list_any p form.values ≡ false → p (run_value form n) ≡ false
+no_run form p n is h none =
+    none_is p form.values (run_of form.starts n) (omega (arith, is.count, count_below-rises (λ i. has form.starts (suc i)) n 1023 (omega (arith, h)))) none
 
 -- ---- the rows found so far
 -- one more run, which is found or not

@@ -1,8 +1,8 @@
 //! Set functions and comparisons of dictionaries, by the codes.
-ghost use Rattle.std.specs.Prelude.{◌≡◌, ◌==◌, ℕ, ◌*◌, ◌^◌, ◌<◌, ◌≤◌, cond, length, slice_index, pos, ◌+ℤ◌, Some, None};
+ghost use Rattle.std.specs.Prelude.{IsTrue, ◌≡◌, ◌↔◌, ◌==◌, ℕ, ◌*◌, ◌^◌, ◌<◌, ◌≤◌, cond, length, slice_index, pos, ◌+ℤ◌, ◌-ℤ◌, ◌≤ℤ◌, Some, None};
 ghost use Rattle.std.specs.Int.{bit_at};
 ghost use Rattle.transpose_order.specs.Mask.{has, rows_of};
-ghost use Rattle.bit_interleave.specs.Range.{value_at};
+ghost use Rattle.bit_interleave.specs.Range.{AreInRange, value_at};
 ghost use Rattle.run_dictionary.specs.Dict.{code_at, dict_value};
 ghost use Rattle.table_model.specs.Values.{lesser, greater};
 ghost use Rattle.native_lanes.specs.Between.{between};
@@ -81,10 +81,73 @@ fn raised_sum_of_codes(form: &Dict, rows: &Mask) -> u128
     sum
 }
 
-/// The sum of the values of a mask's rows.
+/// The least number of 32 bits, signed.
+const LEAST_NARROW: i64 = -0x8000_0000;
+
+/// The greatest number of 32 bits, signed.
+const GREATEST_NARROW: i64 = 0x7FFF_FFFF;
+
+/// Whether the values of a dictionary are in the range of 32 bits: its ends are, since its values ascend.
+fn are_narrow(form: &Dict) -> bool
+    ensures { IsTrue result ↔ AreInRange 32 form.now.values }
+{
+    let _ = form.lane_width();
+    let values = form.values();
+    LEAST_NARROW <= values[0] && values[values.len() - 1] <= GREATEST_NARROW
+}
+
+/// A value where it is taken, else 0.
+#[inline(always)]
+fn value_if(taken: bool, value: i64) -> i64
+    ensures { result ≡ cond taken value (pos 0) }
+{
+    if taken { value } else { 0 }
+}
+
+/// The values of a step's codes, of a dictionary of values of 32 bits, added up where the lane's bit of the step is set.
+#[inline(always)]
+fn narrow_sum_of_step(values: &[i64], codes: &[u16; 64], rows: &[u16; 64], step: usize) -> i64
+    requires step { step < 16 }
+    requires codes { (lane : ℕ) → lane < 64 → slice_index codes.now lane < length values.now }
+    requires narrow { AreInRange 32 values.now }
+    ensures sum { result ≡ fold_to ◌+ℤ◌ (pos 0) 64 (λ lane.
+        cond (bit_at (slice_index rows.now lane) step == 1) (value_at values.now (slice_index codes.now lane)) (pos 0)) }
+    ensures least { (pos 0 -ℤ pos (2 ^ 31 * 64)) ≤ℤ result }
+    ensures most { result ≤ℤ pos (2 ^ 31 * 64) }
+{
+    let mut sum: i64 = 0;
+    for i in 0..64 {
+        let value = values[usize::from(codes[i])];
+        sum += value_if(rows[i] >> step & 1 == 1, value);
+    }
+    sum
+}
+
+/// The sum of the values of a mask's rows, of a dictionary of values of 32 bits.
+fn narrow_sum_of_codes(form: &Dict, rows: &Mask) -> i64
+    requires { AreInRange 32 form.now.values }
+    ensures { result ≡ fold_to ◌+ℤ◌ (pos 0) 1024 (λ n. cond (has rows.now n) (dict_value form.now n) (pos 0)) }
+{
+    let _ = form.lane_width();
+    let width = form.width();
+    let words = form.codes().words_16();
+    let values = form.values();
+    let lanes = lanes_of_mask_16(rows);
+    let mut sum: i64 = 0;
+    for step in 0..16 {
+        let codes = numbers_16(width, words, step);
+        sum += narrow_sum_of_step(values, &codes, &lanes, step);
+    }
+    sum
+}
+
+/// The sum of the values of a mask's rows. Those of 32 bits are added as they are, and longer ones raised, so that no sum wraps.
 pub(crate) fn sum_of_codes(form: &Dict, rows: &Mask) -> i128
     ensures { result ≡ fold_to ◌+ℤ◌ (pos 0) 1024 (λ n. cond (has rows.now n) (dict_value form.now n) (pos 0)) }
 {
+    if are_narrow(form) {
+        return i128::from(narrow_sum_of_codes(form, rows));
+    }
     raised_sum_of_codes(form, rows) as i128 - rows.count_below(1024) as i128 * (1 << 63)
 }
 

@@ -50,9 +50,13 @@ pub(crate) fn rows_among(rows: usize, nulls: &Mask, mask: &Mask) -> Mask
     requires { rows ≤ 1024 }
     ensures { result ≡ rows_of (λ n. nat_lt n rows && (has mask.now n && not (has nulls.now n))) }
 {
+    let some = mask.and_not(nulls);
+    if rows == 1024 {
+        return some;
+    }
     let mut covered = Mask::none();
     covered.set_range(0, rows, true);
-    covered.and(&mask.and_not(nulls))
+    covered.and(&some)
 }
 
 /// The rows that a kernel looks at: those covered that the mask has and that aren't null.

@@ -1,6 +1,7 @@
 //! Comparisons of runs of equal values with a range of numbers, run by run.
 ghost use Rattle.std.specs.Prelude.{◌≡◌, ◌==◌, ℕ, ◌+◌, ◌<◌, ◌≤◌, ◌&&◌, ◌||◌, nat_le, nat_lt};
 ghost use Rattle.std.specs.Int.{bit_at};
+ghost use Rattle.std.specs.List.{list_any};
 ghost use Rattle.transpose_order.specs.Mask.{rows_of, truth_at};
 ghost use Rattle.run_dictionary.specs.Runs.{run_value};
 ghost use Rattle.fused_kernels.specs.Seen.{between};
@@ -44,11 +45,21 @@ fn set_run_if(words: &mut [u64; 16], first: usize, end: usize, set: bool)
     }
 }
 
-/// The rows whose run's value is neither below `low` nor above `high`.
+/// Whether one of some values is neither below `low` nor above `high`.
+fn is_one_between(values: &[i64], low: i64, high: i64) -> bool
+    ensures { result ≡ list_any (between low high) values.now }
+{
+    values.iter().any(|value| is_between(low, high, *value))
+}
+
+/// The rows whose run's value is neither below `low` nor above `high`. Where that is no run's, no row is looked for.
 pub(crate) fn runs_between(form: &Runs, low: i64, high: i64) -> Mask
     ensures { result ≡ rows_of (λ n. between low high (run_value form.now n)) }
 {
     let _ = form.lane_width();
+    if !is_one_between(form.values(), low, high) {
+        return Mask::none();
+    }
     let mut found = [0; 16];
     let mut row = 0;
     for value in form.values() {

@@ -1,9 +1,17 @@
 -- Each mask row by row.
-use Rattle.std.proofs.Common.{◌≡◌, ℕ, Bool, ◌&&◌, not, true, false, cond, nat_lt, nat_le, ap, ◌∙◌}
+use Rattle.std.proofs.Common.{◌≡◌, ℕ, Bool, ◌&&◌, not, true, false, cond, nat_lt, nat_le, sym, ap, ◌∙◌, arith}
+use Rattle.std.proofs.lemmas.Bool.Decides.{nat_tests}
 use Rattle.transpose_order.specs.Mask.{has}
 use Rattle.transpose_order.specs.MaskWords.{rows_of-like, has-rows_of}
 use Rattle.native_lanes.proofs.BoolLemmas.{cond_true_false, zero_le}
 use Rattle.fused_kernels.proofs.lanes.rows_among.Goals as goal
+
+pub returns-then-rows-eq1024 : goal.returns-then-rows-eq1024
+returns-then-rows-eq1024 c =
+    let kept : ℕ → Bool = λ n. has c.args.mask.now n && not (has c.args.nulls.now n) in
+    c.and_not-some.ensures
+    ∙ rows_of-like kept (λ n. nat_lt n c.args.rows && kept n)
+    (λ n h. let on : nat_lt n c.args.rows ≡ true = grind (arith, nat_tests, h, c.if-rows-eq1024.true) in sym (ap (λ b. b && kept n) on))
 
 pub returns : goal.returns
 returns c =
@@ -19,4 +27,4 @@ returns c =
     ∙ ap (λ b. cond (b && nat_lt n rows) true (has none n)) (zero_le n)
     ∙ ap (λ b. cond (nat_lt n rows) true b) (ap (λ m. has m n) c.none-covered.ensures ∙ has-rows_of (λ _. false) n h)
     ∙ cond_true_false (nat_lt n rows) in
-    ap (λ x. x && has c.and_not.result n) covered ∙ ap (λ x. nat_lt n rows && x) (ap (λ m. has m n) c.and_not.ensures ∙ has-rows_of kept n h))
+    ap (λ x. x && has c.and_not-some.result n) covered ∙ ap (λ x. nat_lt n rows && x) (ap (λ m. has m n) c.and_not-some.ensures ∙ has-rows_of kept n h))

@@ -1,14 +1,26 @@
 -- A run is found or not, whole.
 use Rattle.std.proofs.Common.{rules, ◌≡◌, ◌+◌, ◌<◌, ◌≤◌, ◌&&◌, ◌||◌, nat_le, nat_lt, ℕ, ℤ, Bool, true, false, pos, List, slice_index_or, length, subst, FitsSigned, to_z, of_z, sym, ap, ◌∙◌, arith}
 use Rattle.std.specs.Int.{w64}
+use Rattle.std.specs.List.{list_any}
 use Rattle.std.proofs.lemmas.Int.{to_z-of_z}
 use Rattle.std.proofs.lemmas.Bool.Decides.{nat_tests}
 use Rattle.transpose_order.specs.Mask.{has, truth_at}
 use Rattle.transpose_order.specs.MaskWords.{rows_of-like}
 use Rattle.run_dictionary.specs.Runs.{run_value}
 use Rattle.fused_kernels.specs.Seen.{between}
-use Rattle.fused_kernels.proofs.RunLemmas.{first_run, next_run, value_of_run, all_runs, found_more, no_truth}
+use Rattle.native_lanes.proofs.PackedLemmas.{passed_between}
+use Rattle.fused_kernels.proofs.RunLemmas.{first_run, no_run, next_run, value_of_run, all_runs, found_more, no_truth}
 use Rattle.fused_kernels.proofs.runs.runs_between.Goals as goal
+
+pub returns-then-not-is_one_between : goal.returns-then-not-is_one_between
+returns-then-not-is_one_between c =
+    let form = c.args.form.now in
+    let low = to_z w64 (of_z w64 c.args.low) in
+    let high = to_z w64 (of_z w64 c.args.high) in
+    let none : list_any (between low high) form.values ≡ false = subst (λ (xs : List ℤ). list_any (between low high) xs ≡ false) c.values.ensures.values (sym c.is_one_between.ensures ∙ c.if-not-is_one_between.true) in
+    c.none.ensures
+    ∙ rows_of-like (λ _. false) (λ n. between c.args.low c.args.high (run_value form n))
+    (λ n h. sym (sym (passed_between c.args.low c.args.high (run_value form n) c.ranges.low c.ranges.high) ∙ no_run form (between low high) n c.lane_width.ensures.form h none))
 
 pub loop-value-init : goal.loop-value-init
 loop-value-init c = record {
