@@ -1,5 +1,5 @@
 //! Canonical vectors of the rows of a batch.
-ghost use Rattle.std.specs.Prelude.{◌≡◌, ◌≢◌, ℕ, ◌*◌, ◌<◌, ◌≤◌, false, ℤ, FitsSigned, None, [], length, take, drop, slice_index_or, IfSome, IfOk};
+ghost use Rattle.std.specs.Prelude.{◌≡◌, ◌≢◌, ℕ, ◌*◌, ◌<◌, ◌≤◌, false, ℤ, FitsSigned, None, [], length, take, drop, slice_index_or, IfSome, IsSome, IfOk};
 ghost use Rattle.std.specs.Int.{w64};
 ghost use Rattle.transpose_order.specs.Place.{IsLaneWidth};
 ghost use Rattle.transpose_order.specs.Mask.{has};
@@ -72,7 +72,8 @@ fn canonical_vector(
 fn only_value(rows: &[Row], column: usize) -> Option<i64>
     requires some { 1 ≤ length rows.now }
     requires column { HasColumn 64 rows.now column }
-    ensures { IfSome result (λ value. AreSame (length rows.now) value (column_cells rows.now column)) }
+    ensures value { IfSome result (λ value. AreSame (length rows.now) value (column_cells rows.now column)) }
+    ensures told { (value : ℤ) → AreSame (length rows.now) value (column_cells rows.now column) → IsSome result }
 {
     let first = cell_at(&rows[0], column);
     for row in rows {

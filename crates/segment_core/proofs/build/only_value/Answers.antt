@@ -28,3 +28,14 @@ overflow_cast-result c =
     let fits : FitsSigned w64 c.in-Some.value = c.requires.column.fit 0 c.in-Some.value within (c.loop-row.invariant 0 (omega arith) ∙ c.in-Some.is) in
     let wide : FitsSigned w128 c.in-Some.value = search rules in
     subst (λ (z : ℤ). FitsSigned w64 z) (sym (to_z-of_z w128 c.in-Some.value wide)) fits
+
+pub returns-then-ne-clause-told : goal.returns-then-ne-clause-told
+returns-then-ne-clause-told c = λ value same.
+    let rows = c.args.rows.now in
+    let cells = column_cells rows c.args.column in
+    let i = c.loop-row.row-index in
+    let some : 0 < length rows = omega (arith, c.requires.some) in
+    let here : c.cell_at.result ≡ slice_index_or cells i None = cell_read rows c.args.column i c.row-item.result c.cell_at.result c.loop-row-test.true c.row-item.is c.cell_at.ensures in
+    let first : c.cell_at-first.result ≡ slice_index_or cells 0 None = cell_read rows c.args.column 0 c.index-rows-0.result c.cell_at-first.result some c.index-rows-0.is c.cell_at-first.ensures in
+    let alike : c.cell_at.result ≡ c.cell_at-first.result = here ∙ same.each i c.loop-row-test.true ∙ sym (first ∙ same.each 0 some) in
+    search (rules, alike)
