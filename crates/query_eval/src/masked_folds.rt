@@ -134,7 +134,8 @@ fn raised(value: i64) -> u64
 
 /// Whether the values are short: each is at least -2^52 and below 2^52.
 pub fn are_short(values: &[i64; 1024]) -> bool
-    ensures { result ≡ true → AreShort values.now }
+    ensures short { result ≡ true → AreShort values.now }
+    ensures told { AreShort values.now → result ≡ true }
 {
     let mut long: u64 = 0;
     for row in 0..1024 {
