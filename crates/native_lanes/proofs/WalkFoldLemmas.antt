@@ -8,7 +8,7 @@ use Rattle.transpose_order.specs.Mask.{has, count_below}
 use Rattle.transpose_order.proofs.MaskLemmas.{count_below-zero, count_below-suc}
 use Rattle.transpose_order.specs.Place.{IsLaneWidth, row_at, lane_of, step_of}
 use Rattle.native_lanes.specs.Folds.{fold_to}
-use Rattle.native_lanes.specs.Walks.{Walk, number_at, number_of_row, turned}
+use Rattle.native_lanes.specs.Walks.{Walk, number_at, number_of_row, turned, half_on, further}
 use Rattle.native_lanes.proofs.FoldLemmas.{IsJoin, fold_to-zero, fold_to-suc, fold_to-same}
 use Rattle.native_lanes.proofs.WalkLemmas.{fold_to-lanes, row_of_walk, number_at-below}
 
@@ -24,6 +24,22 @@ greatest_of_walk walk rows t flipped greatests width is lanes =
     (λ lane h. lanes lane h ∙ fold_to-same max 0 t (λ s. cond (has rows (row_at t lane s)) (turned t flipped (number_at walk lane s)) 0) (λ s. f (row_at t lane s))
     (λ s l. ap (λ n. cond (has rows (row_at t lane s)) (turned t flipped n) 0) (sym (row_of_walk walk t lane s is width h l))))
     ∙ fold_to-lanes max 0 greatest_is_join t f width
+
+-- the one of two numbers that is further, half on and turned, is the greater of both
+further_one : (flipped below : Bool) (so_far number : ℕ) → nat_lt (half_on number) (half_on so_far) ≡ below
+    → turned 64 flipped (half_on (cond flipped (cond below number so_far) (cond below so_far number))) ≡ max (turned 64 flipped (half_on so_far)) (turned 64 flipped (half_on number))
+further_one true true so_far number is = let h : half_on number < half_on so_far = grind (arith, nat_tests) in omega (arith, h)
+further_one true false so_far number is = let h : half_on so_far ≤ half_on number = grind (arith, nat_tests) in omega (arith, h)
+further_one false true so_far number is = let h : half_on number < half_on so_far = grind (arith, nat_tests) in omega (arith, h)
+further_one false false so_far number is = let h : half_on so_far ≤ half_on number = grind (arith, nat_tests) in omega (arith, h)
+
+pub further_is : (flipped taken : Bool) (so_far number : ℕ)
+    → turned 64 flipped (half_on (cond taken (further flipped so_far number) so_far)) ≡ max (turned 64 flipped (half_on so_far)) (cond taken (turned 64 flipped (half_on number)) 0)
+further_is flipped true so_far number = further_one flipped (nat_lt (half_on number) (half_on so_far)) so_far number refl
+further_is flipped false so_far number = alone (turned 64 flipped (half_on so_far))
+  where
+    alone : (n : ℕ) → n ≡ max n 0
+    alone n = omega arith
 
 pub number_of_row-below : (walk : Walk) (t n : ℕ) → walk.lane_width ≡ t → number_of_row walk n ≤ 2 ^ t - 1
 unfolding number_of_row

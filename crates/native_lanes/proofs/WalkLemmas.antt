@@ -7,7 +7,7 @@ use Rattle.transpose_order.proofs.PlaceLemmas.{row_at-piece, lane_of-row_at}
 use Rattle.std.proofs.lemmas.Nat.{mod_below, pow_pos}
 use Rattle.bit_interleave.specs.Packing.{packed_value}
 use Rattle.native_lanes.specs.Folds.{fold_to}
-use Rattle.native_lanes.specs.Walks.{Walk, walked, number_before, number_at, number_of_row}
+use Rattle.native_lanes.specs.Walks.{Walk, walked, number_before, number_at, number_of_row, half_on}
 use Rattle.native_lanes.proofs.FoldLemmas.{IsJoin, fold_to-zero, fold_to-suc, fold_to-same, fold_to-blocks, fold_to-pieces}
 
 -- ---- folds of folds
@@ -90,6 +90,56 @@ pub number_at-below : (walk : Walk) (lane step : ℕ) → number_at walk lane st
 number_at-below walk lane step =
     subst (λ (n : ℕ). n < 2 ^ walk.lane_width) (number_at-is walk lane step)
     (mod_below (cond walk.carried (number_before walk lane step) 0 + walk.added + packed_value walk.lane_width walk.width walk.words lane step) (2 ^ walk.lane_width) (omega (arith, pow_pos walk.lane_width)))
+
+-- ---- a walk whose numbers are an offset further
+step_further : (n added packed offset : ℕ) → ((n + offset) % 2 ^ 64 + added + packed) % 2 ^ 64 ≡ ((n + added + packed) % 2 ^ 64 + offset) % 2 ^ 64
+step_further n added packed offset = omega arith
+
+carried_further : (start added offset : ℕ) (number : ℕ → ℕ) (k : ℕ) → walked (2 ^ 64) true ((start + offset) % 2 ^ 64) added number k ≡ (walked (2 ^ 64) true start added number k + offset) % 2 ^ 64
+unfolding walked
+carried_further start added offset number zero = refl
+carried_further start added offset number (suc k) =
+    ap (λ (n : ℕ). (n + added + number k) % 2 ^ 64) (carried_further start added offset number k)
+    ∙ step_further (walked (2 ^ 64) true start added number k) added (number k) offset
+
+anew_further : (start shifted added offset : ℕ) (number : ℕ → ℕ) (k : ℕ) → walked (2 ^ 64) false shifted ((added + offset) % 2 ^ 64) number (suc k) ≡ (walked (2 ^ 64) false start added number (suc k) + offset) % 2 ^ 64
+unfolding walked
+anew_further start shifted added offset number k = anew added (number k)
+  where
+    anew : (a p : ℕ) → (0 + (a + offset) % 2 ^ 64 + p) % 2 ^ 64 ≡ ((0 + a + p) % 2 ^ 64 + offset) % 2 ^ 64
+    anew a p = omega arith
+
+walked_further : (carried : Bool) (start shifted added moved offset : ℕ) (number : ℕ → ℕ) (k : ℕ) → shifted ≡ (start + offset) % 2 ^ 64 → moved ≡ cond carried added ((added + offset) % 2 ^ 64)
+    → walked (2 ^ 64) carried shifted moved number (suc k) ≡ (walked (2 ^ 64) carried start added number (suc k) + offset) % 2 ^ 64
+walked_further true start shifted added moved offset number k starts adds =
+    ap (λ (n : ℕ). walked (2 ^ 64) true n moved number (suc k)) starts ∙ ap (λ (n : ℕ). walked (2 ^ 64) true ((start + offset) % 2 ^ 64) n number (suc k)) adds
+    ∙ carried_further start added offset number (suc k)
+walked_further false start shifted added moved offset number k starts adds =
+    ap (λ (n : ℕ). walked (2 ^ 64) false shifted n number (suc k)) adds ∙ anew_further start shifted added offset number k
+
+pub shifted_walk : (width : ℕ) (words starts shifted : List ℕ) (carried : Bool) (added moved offset lane step : ℕ) → slice_index shifted lane ≡ (slice_index starts lane + offset) % 2 ^ 64
+    → moved ≡ cond carried added ((added + offset) % 2 ^ 64)
+    → number_at (record { lane_width = 64; width = width; words = words; carried = carried; starts = shifted; added = moved }) lane step
+    ≡ (number_at (record { lane_width = 64; width = width; words = words; carried = carried; starts = starts; added = added }) lane step + offset) % 2 ^ 64
+unfolding number_before
+shifted_walk width words starts shifted carried added moved offset lane step starts_are adds =
+    let packed : ℕ → ℕ = packed_value 64 width words lane in
+    let later : step + 1 ≡ suc step = omega arith in
+    ap (walked (2 ^ 64) carried (slice_index shifted lane) moved packed) later
+    ∙ walked_further carried (slice_index starts lane) (slice_index shifted lane) added moved offset packed step starts_are adds
+    ∙ sym (ap (λ (k : ℕ). (walked (2 ^ 64) carried (slice_index starts lane) added packed k + offset) % 2 ^ 64) later)
+
+pub half_on_offset : (n offset : ℕ) → half_on ((n + half_on offset) % 2 ^ 64) ≡ (n + offset) % 2 ^ 64
+half_on_offset n offset = omega arith
+
+-- half on once more, a number is as it was
+pub half_on_again : (walk shifted : Walk) (lane step : ℕ) → walk.lane_width ≡ 64 → number_at shifted lane step ≡ (number_at walk lane step + 2 ^ 63) % 2 ^ 64 → half_on (number_at shifted lane step) ≡ number_at walk lane step
+half_on_again walk shifted lane step is further =
+    let below : number_at walk lane step < 2 ^ 64 = subst (λ (t : ℕ). number_at walk lane step < 2 ^ t) is (number_at-below walk lane step) in
+    ap (λ (n : ℕ). half_on n) further ∙ back (number_at walk lane step) below
+  where
+    back : (n : ℕ) → n < 2 ^ 64 → half_on (half_on n) ≡ n
+    back n below = omega (arith, below)
 
 -- ---- a row's number, and the sum of the rows
 pub row_of_walk : (walk : Walk) (t lane step : ℕ) → walk.lane_width ≡ t → IsLaneWidth t → lane < 1024 / t → step < t → number_of_row walk (row_at t lane step) ≡ number_at walk lane step

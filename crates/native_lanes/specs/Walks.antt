@@ -1,5 +1,5 @@
 -- Lanes gone through step by step, and the numbers that they come to.
-use Rattle.std.specs.Prelude.{ℕ, zero, suc, ◌+◌, ◌-◌, ◌^◌, ◌%◌, Bool, cond, List, slice_index}
+use Rattle.std.specs.Prelude.{ℕ, zero, suc, ◌+◌, ◌-◌, ◌^◌, ◌%◌, nat_lt, Bool, cond, List, slice_index}
 use Rattle.transpose_order.specs.Place.{lane_of, step_of}
 use Rattle.bit_interleave.specs.Packing.{packed_value}
 
@@ -34,3 +34,13 @@ number_of_row walk n = number_at walk (lane_of walk.lane_width n) (step_of walk.
 -- a number, or how far it is below the greatest of t bits
 abbrev pub turned : ℕ → Bool → ℕ → ℕ
 turned t flipped number = cond flipped (2 ^ t - 1 - number) number
+
+-- a number, half of those of 64 bits further, modulo two to the power of 64: what is below another as signed numbers of 64 bits, is
+-- below it so
+abbrev pub half_on : ℕ → ℕ
+half_on number = (number + 2 ^ 63) % 2 ^ 64
+
+-- of a number so far and another, the one that is greater, or where that is asked less, once both are half on
+abbrev pub further : Bool → ℕ → ℕ → ℕ
+further flipped so_far number =
+    cond flipped (cond (nat_lt (half_on number) (half_on so_far)) number so_far) (cond (nat_lt (half_on number) (half_on so_far)) so_far number)

@@ -5,6 +5,7 @@ ghost use Rattle.transpose_order.specs.Mask.{rows_of};
 ghost use Rattle.transpose_order.specs.Place.{lane_of, step_of};
 ghost use Rattle.bit_interleave.specs.Packing.{packed_value};
 ghost use Rattle.native_lanes.specs.Pairs.{number_passes};
+ghost use Rattle.native_lanes.specs.Walks.{half_on};
 
 use transpose_order::Mask;
 
@@ -33,6 +34,16 @@ fn across_words(low: u64, high: u64, shift: usize, width: usize) -> u64
     (low >> shift | high << (64 - shift)) & ones
 }
 
+/// The 16 words from an index on.
+#[inline(always)]
+fn sixteen_from(words: &[u64], at: usize) -> &[u64]
+    requires { at + 16 ≤ length words.now }
+    ensures count { length result.now ≡ 16 }
+    ensures words { (i : ℕ) → i < 16 → slice_index result.now i ≡ slice_index words.now (at + i) }
+{
+    &words[at..at + 16]
+}
+
 /// The numbers of all lanes at a step, of 16 words for each bit of the width.
 #[inline(always)]
 pub(crate) fn numbers_64(width: usize, words: &[u64], step: usize) -> [u64; 16]
@@ -48,14 +59,16 @@ pub(crate) fn numbers_64(width: usize, words: &[u64], step: usize) -> [u64; 16]
     let bit = step * width;
     let shift = bit % 64;
     let at = bit / 64 * 16;
+    let low = sixteen_from(words, at);
     if shift + width <= 64 {
         for i in 0..16 {
-            numbers[i] = within_word(words[at + i], shift, width);
+            numbers[i] = within_word(low[i], shift, width);
         }
         return numbers;
     }
+    let high = sixteen_from(words, at + 16);
     for i in 0..16 {
-        numbers[i] = across_words(words[at + i], words[at + 16 + i], shift, width);
+        numbers[i] = across_words(low[i], high[i], shift, width);
     }
     numbers
 }
@@ -74,7 +87,8 @@ pub fn with_bit(word: u64, place: usize, set: bool) -> u64
     requires { place < 64 }
     ensures { (p : ℕ) → p < 64 → (bit_at result p == 1) ≡ ((set && (p == place)) || (bit_at word p == 1)) }
 {
-    word | u64::from(set) << place
+    let bit = 1 << place;
+    if set { word | bit } else { word }
 }
 
 /// Sets a step's bit of each lane whose number plus an offset, modulo two to the power of 64, is at most a span.
@@ -89,19 +103,28 @@ pub(crate) fn mark(marks: &mut [u64; 16], numbers: &[u64; 16], offset: u64, span
     }
 }
 
-/// Whether a number is equal to another, or where `equal` is false, below it.
+/// A number, half of those of 64 bits further, modulo two to the power of 64. Two numbers compare, once both are half on, as they
+/// do as signed ones, for which there is an instruction.
+#[inline(always)]
+pub(crate) fn half_on(number: u64) -> u64
+    ensures { result ≡ half_on number }
+{
+    number.wrapping_add(1 << 63)
+}
+
+/// Whether a number is equal to another, or where `equal` is false, below it, once both are half on.
 #[inline(always)]
 fn passes(equal: bool, number: u64, other: u64) -> bool
-    ensures { result ≡ number_passes equal number other }
+    ensures { result ≡ number_passes equal (half_on number) (half_on other) }
 {
     if equal {
-        number == other
+        half_on(number) == half_on(other)
     } else {
-        number < other
+        half_on(number) < half_on(other)
     }
 }
 
-/// Sets a step's bit of each lane whose number is equal to another, or where `equal` is false, below it.
+/// Sets a step's bit of each lane whose number is equal to another, or where `equal` is false, below it, once both are half on.
 #[inline(always)]
 pub(crate) fn mark_beside(
     marks: &mut [u64; 16],
@@ -112,7 +135,7 @@ pub(crate) fn mark_beside(
 )
     requires { step < 64 }
     ensures { (lane r : ℕ) → lane < 16 → r < 64 → (bit_at (slice_index marks.new lane) r == 1)
-        ≡ ((number_passes equal (slice_index numbers.now lane) (slice_index others.now lane) && (r == step)) || (bit_at (slice_index marks.old lane) r == 1)) }
+        ≡ ((number_passes equal (half_on (slice_index numbers.now lane)) (half_on (slice_index others.now lane)) && (r == step)) || (bit_at (slice_index marks.old lane) r == 1)) }
 {
     for i in 0..16 {
         marks[i] = with_bit(marks[i], step, passes(equal, numbers[i], others[i]));

@@ -1,5 +1,5 @@
 //! Lanes of 64 bits gone through step by step, all 16 of them at once, by loops that the compiler makes vectors of.
-ghost use Rattle.std.specs.Prelude.{IsTrue, ◌≡◌, ◌==◌, ℕ, suc, ◌+◌, ◌-◌, ◌*◌, ◌/◌, ◌%◌, ◌^◌, ◌<◌, ◌≤◌, ◌&&◌, cond, length, slice_index, nat_le, min, max, FitsSigned, ℤ, int_lt, pos, ◌+ℤ◌, Some, None, IfSome, true};
+ghost use Rattle.std.specs.Prelude.{IsTrue, ◌≡◌, ◌==◌, ℕ, suc, ◌+◌, ◌-◌, ◌*◌, ◌/◌, ◌%◌, ◌^◌, ◌<◌, ◌≤◌, ◌&&◌, cond, length, slice_index, nat_le, min, max, FitsSigned, ℤ, int_lt, pos, ◌+ℤ◌, Some, None, IfSome, true, false};
 ghost use Rattle.std.specs.Int.{bit_at, w64};
 ghost use Rattle.transpose_order.specs.Mask.{has, rows_of};
 ghost use Rattle.transpose_order.specs.Place.{row_at};
@@ -11,10 +11,10 @@ ghost use Rattle.table_model.specs.Values.{lesser, greater};
 ghost use Rattle.native_lanes.specs.Folds.{fold_to};
 ghost use Rattle.native_lanes.specs.Between.{between};
 ghost use Rattle.native_lanes.specs.Pairs.{number_passes, value_passes};
-ghost use Rattle.native_lanes.specs.Walks.{number_before, number_at, number_of_row, turned};
+ghost use Rattle.native_lanes.specs.Walks.{number_before, number_at, number_of_row, turned, half_on, further};
 
 use crate::full::are_all_set;
-use crate::native_64::{mark, mark_beside, mask_of_lanes, numbers_64};
+use crate::native_64::{half_on, mark, mark_beside, mask_of_lanes, numbers_64};
 use crate::packed::greatest_number;
 use crate::raised::{raised_range, value_above};
 use frame_delta::{Delta, For};
@@ -158,22 +158,97 @@ fn turned(flipped: bool, number: u64) -> u64
     if flipped { u64::MAX - number } else { number }
 }
 
-/// Raises each lane's number so far to the lane's number, turned, where its bit of a step is set.
+/// Each of 16 numbers plus an offset, modulo two to the power of 64.
 #[inline(always)]
-fn raise(
-    greatests: &mut [u64; 16],
+fn all_shifted(numbers: &[u64; 16], offset: u64) -> [u64; 16]
+    ensures { (lane : ℕ) → lane < 16 → slice_index result lane ≡ (slice_index numbers.now lane + offset) % 2 ^ 64 }
+{
+    let mut shifted = [0; 16];
+    for lane in 0..16 {
+        shifted[lane] = numbers[lane].wrapping_add(offset);
+    }
+    shifted
+}
+
+/// What each step adds in a walk whose numbers are an offset further. Where numbers are carried, it is what they start with that is
+/// further.
+#[inline(always)]
+fn added_further(carried: bool, added: u64, offset: u64) -> u64
+    ensures { result ≡ cond carried added ((added + offset) % 2 ^ 64) }
+{
+    if carried {
+        added
+    } else {
+        added.wrapping_add(offset)
+    }
+}
+
+/// Of a number so far and another, the one that is greater, or where `flipped` is true less, once both are half on.
+#[inline(always)]
+fn further(flipped: bool, so_far: u64, number: u64) -> u64
+    ensures { result ≡ further flipped so_far number }
+{
+    let below = half_on(number) < half_on(so_far);
+    if below == flipped { number } else { so_far }
+}
+
+/// The number that each is further than, or as far as: half on it is 0, or where `flipped` is true the greatest of 64 bits.
+#[inline(always)]
+fn least_far(flipped: bool) -> u64
+    ensures { turned 64 flipped (half_on result) ≡ 0 }
+{
+    if flipped { (1 << 63) - 1 } else { 1 << 63 }
+}
+
+/// Takes each lane's number so far to the lane's number where that is further.
+#[inline(always)]
+fn go_further(furthest: &mut [u64; 16], flipped: bool, numbers: &[u64; 16])
+    ensures { (lane : ℕ) → lane < 16 → slice_index furthest.new lane ≡ further flipped (slice_index furthest.old lane) (slice_index numbers.now lane) }
+{
+    for i in 0..16 {
+        furthest[i] = further(flipped, furthest[i], numbers[i]);
+    }
+}
+
+/// Takes each lane's number so far to the lane's number where that is further and its bit of a step is set.
+#[inline(always)]
+fn go_further_where(
+    furthest: &mut [u64; 16],
     flipped: bool,
     numbers: &[u64; 16],
     rows: &[u64; 16],
     step: usize,
 )
     requires { step < 64 }
-    ensures { (lane : ℕ) → lane < 16 → slice_index greatests.new lane
-        ≡ max (slice_index greatests.old lane) (cond (bit_at (slice_index rows.now lane) step == 1) (turned 64 flipped (slice_index numbers.now lane)) 0) }
+    ensures { (lane : ℕ) → lane < 16 → slice_index furthest.new lane
+        ≡ cond (bit_at (slice_index rows.now lane) step == 1) (further flipped (slice_index furthest.old lane) (slice_index numbers.now lane)) (slice_index furthest.old lane) }
 {
     for i in 0..16 {
-        let number = chosen(rows[i], step, turned(flipped, numbers[i]), 0);
-        greatests[i] = greatests[i].max(number);
+        let number = further(flipped, furthest[i], numbers[i]);
+        furthest[i] = chosen(rows[i], step, number, furthest[i]);
+    }
+}
+
+/// Takes each lane's number so far to the lane's number where that is further and its bit of a step is set, where it is known
+/// whether the bits of all lanes are set.
+#[inline(always)]
+fn further_step(
+    are_all: bool,
+    furthest: &mut [u64; 16],
+    flipped: bool,
+    numbers: &[u64; 16],
+    rows: &[u64; 16],
+    step: usize,
+)
+    requires all { IsTrue are_all → (lane : ℕ) → lane < 16 → bit_at (slice_index rows.now lane) step ≡ 1 }
+    requires step { step < 64 }
+    ensures { (lane : ℕ) → lane < 16 → slice_index furthest.new lane
+        ≡ cond (bit_at (slice_index rows.now lane) step == 1) (further flipped (slice_index furthest.old lane) (slice_index numbers.now lane)) (slice_index furthest.old lane) }
+{
+    if are_all {
+        go_further(furthest, flipped, numbers);
+    } else {
+        go_further_where(furthest, flipped, numbers, rows, step);
     }
 }
 
@@ -246,6 +321,17 @@ impl<'a> Walk64<'a> {
     {
         let packed = numbers_64(self.width, self.words, step);
         advance(numbers, &packed, self.carried, self.added);
+    }
+
+    /// A walk whose numbers are an offset further, modulo two to the power of 64.
+    #[inline(always)]
+    fn shifted(&self, offset: u64) -> Walk64<'a>
+        ensures numbers { (lane step : ℕ) → lane < 16 → step < 64 → number_at result lane step ≡ (number_at self.now lane step + offset) % 2 ^ 64 }
+        ensures width { self.now.lane_width ≡ 64 }
+    {
+        let starts = all_shifted(&self.starts, offset);
+        let added = added_further(self.carried, self.added, offset);
+        Walk64::new(self.width, self.words, self.carried, starts, added)
     }
 
     /// The sum of the numbers of a mask's rows.
@@ -347,14 +433,27 @@ impl<'a> Walk64<'a> {
         ensures value { result ≡ fold_to max 0 1024 (λ n. cond (has rows.now n) (turned 64 flipped (number_of_row self.now n)) 0) }
         ensures below { (n : ℕ) → number_of_row self.now n ≤ 2 ^ 64 - 1 }
     {
+        let furthest = self.shifted(1 << 63).furthest_of_lanes(flipped, rows);
+        greatest_of_turned(flipped, &all_shifted(&furthest, 1 << 63))
+    }
+
+    /// For each lane, of the numbers of a mask's rows, the one that is greatest, or where `flipped` is true least, once they are
+    /// half on.
+    #[inline(always)]
+    fn furthest_of_lanes(&self, flipped: bool, rows: &Mask) -> [u64; 16]
+        ensures { (lane : ℕ) → lane < 16 → turned 64 flipped (half_on (slice_index result lane))
+            ≡ fold_to max 0 64 (λ step. cond (has rows.now (row_at 64 lane step)) (turned 64 flipped (half_on (number_at self.now lane step))) 0) }
+    {
         let lanes = lanes_of_mask_64(rows);
+        let are_all = are_all_set(&lanes);
         let mut numbers = self.starts;
-        let mut greatests = [0; 16];
+        let start = least_far(flipped);
+        let mut furthest = [start; 16];
         for step in 0..64 {
             self.go(step, &mut numbers);
-            raise(&mut greatests, flipped, &numbers, &lanes, step);
+            further_step(are_all, &mut furthest, flipped, &numbers, &lanes, step);
         }
-        greatest_of_lanes(&greatests)
+        furthest
     }
 
     /// The greatest value of a mask's rows, none over none, where each row's number is how far its value is above the least of
@@ -385,11 +484,20 @@ impl<'a> Walk64<'a> {
         ensures { (lane step : ℕ) → lane < 16 → step < 64 → (bit_at (slice_index result lane) step == 1)
             ≡ nat_le ((number_at self.now lane step + offset) % 2 ^ 64) span }
     {
+        self.shifted(half_on(offset)).marks_up_to(span)
+    }
+
+    /// For each lane, the bits of the steps at which the number, half on, is at most a span.
+    #[inline(always)]
+    fn marks_up_to(&self, span: u64) -> [u64; 16]
+        ensures { (lane step : ℕ) → lane < 16 → step < 64 → (bit_at (slice_index result lane) step == 1)
+            ≡ nat_le (half_on (number_at self.now lane step)) span }
+    {
         let mut numbers = self.starts;
         let mut marks = [0; 16];
         for step in 0..64 {
             self.go(step, &mut numbers);
-            mark(&mut marks, &numbers, offset, span, step);
+            mark(&mut marks, &numbers, 1 << 63, span, step);
         }
         marks
     }
@@ -423,9 +531,44 @@ impl<'a> Walk64<'a> {
     }
 
     /// For each lane, the bits of the steps at which the number is equal to another walk's, or where `equal` is false, below it.
+    #[inline(always)]
     fn marks_beside(&self, equal: bool, other: &Walk64<'_>) -> [u64; 16]
         ensures { (lane step : ℕ) → lane < 16 → step < 64 → (bit_at (slice_index result lane) step == 1)
             ≡ number_passes equal (number_at self.now lane step) (number_at other.now lane step) }
+    {
+        let left = self.shifted(1 << 63);
+        let right = other.shifted(1 << 63);
+        if equal {
+            return left.marks_equal(&right);
+        }
+        left.marks_below(&right)
+    }
+
+    /// For each lane, the bits of the steps at which the number is equal to another walk's, once both are half on. It stands apart,
+    /// as does `marks_below`, so that the compiler makes vectors of its loop.
+    #[inline(never)]
+    fn marks_equal(&self, other: &Walk64<'_>) -> [u64; 16]
+        ensures { (lane step : ℕ) → lane < 16 → step < 64 → (bit_at (slice_index result lane) step == 1)
+            ≡ number_passes true (half_on (number_at self.now lane step)) (half_on (number_at other.now lane step)) }
+    {
+        self.marks_beside_half_on(true, other)
+    }
+
+    /// For each lane, the bits of the steps at which the number is below another walk's, once both are half on.
+    #[inline(never)]
+    fn marks_below(&self, other: &Walk64<'_>) -> [u64; 16]
+        ensures { (lane step : ℕ) → lane < 16 → step < 64 → (bit_at (slice_index result lane) step == 1)
+            ≡ number_passes false (half_on (number_at self.now lane step)) (half_on (number_at other.now lane step)) }
+    {
+        self.marks_beside_half_on(false, other)
+    }
+
+    /// For each lane, the bits of the steps at which the number is equal to another walk's, or where `equal` is false, below it, once
+    /// both are half on.
+    #[inline(always)]
+    fn marks_beside_half_on(&self, equal: bool, other: &Walk64<'_>) -> [u64; 16]
+        ensures { (lane step : ℕ) → lane < 16 → step < 64 → (bit_at (slice_index result lane) step == 1)
+            ≡ number_passes equal (half_on (number_at self.now lane step)) (half_on (number_at other.now lane step)) }
     {
         let mut numbers = self.starts;
         let mut others = other.starts;

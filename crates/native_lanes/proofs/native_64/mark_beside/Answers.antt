@@ -3,6 +3,7 @@ use Rattle.std.proofs.Common.{◌≡◌, ◌==◌, ℕ, ◌<◌, ◌&&◌, ◌||
 use Rattle.std.specs.Int.{bit_at}
 use Rattle.std.proofs.lemmas.List.{get_or-set_same, get_or-set_other, length-set}
 use Rattle.native_lanes.specs.Pairs.{number_passes}
+use Rattle.native_lanes.specs.Walks.{half_on}
 use Rattle.native_lanes.proofs.native_64.mark_beside.Goals as goal
 
 pub loop-i-preserved : goal.loop-i-preserved
@@ -11,7 +12,7 @@ loop-i-preserved c =
     let old = c.loop-i.marks in
     let word = c.with_bit.result in
     let inside : i < length old = omega (arith, c.loop-i.invariant.long, c.loop-i-test.true) in
-    let test : ℕ → Bool = λ k. number_passes c.args.equal (slice_index c.args.numbers.now k) (slice_index c.args.others.now k) in
+    let test : ℕ → Bool = λ k. number_passes c.args.equal (half_on (slice_index c.args.numbers.now k)) (half_on (slice_index c.args.others.now k)) in
     record {
       long = length-set old i word ∙ c.loop-i.invariant.long;
       marked = λ k r h l.

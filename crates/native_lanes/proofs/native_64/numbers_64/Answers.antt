@@ -24,7 +24,7 @@ loop-i-preserved c =
     record {
       long = length-set c.loop-i.numbers i x ∙ c.loop-i.invariant.long;
       done = one_more (λ k. packed_value 64 c.args.width c.args.words.now k c.args.step) c.loop-i.numbers i x (omega (arith, c.loop-i.invariant.long, c.loop-i-test.true)) c.loop-i.invariant.done
-          (c.within_word.ensures ∙ within_one_word 64 c.args.width c.args.words.now i c.args.step (omega arith) c.if-shift-width-le64.true);
+          (c.within_word.ensures ∙ ap (λ n. n / 2 ^ (c.args.step * c.args.width % 64) % 2 ^ c.args.width) (c.sixteen_from-low.ensures.words i (omega arith)) ∙ within_one_word 64 c.args.width c.args.words.now i c.args.step (omega arith) c.if-shift-width-le64.true);
     }
 
 pub loop-i-2-preserved : goal.loop-i-2-preserved
@@ -38,6 +38,8 @@ loop-i-2-preserved c =
       long = length-set c.loop-i-2.numbers i x ∙ c.loop-i-2.invariant.long;
       done = one_more (λ k. packed_value 64 c.args.width words k c.args.step) c.loop-i-2.numbers i x (omega (arith, c.loop-i-2.invariant.long, c.loop-i-2-test.true)) c.loop-i-2.invariant.done
           (c.across_words.ensures
+          ∙ ap (λ n. bit_or (n / 2 ^ (bit % 64)) (get_or c.sixteen_from-high.result.now i 0 * 2 ^ (64 - bit % 64) % 2 ^ 64) % 2 ^ c.args.width) (c.sixteen_from-low.ensures.words i (omega arith))
+          ∙ ap (λ n. bit_or (get_or words (bit / 64 * 16 + i) 0 / 2 ^ (bit % 64)) (n * 2 ^ (64 - bit % 64) % 2 ^ 64) % 2 ^ c.args.width) (c.sixteen_from-high.ensures.words i (omega arith))
           ∙ ap (λ k. bit_or (get_or words (bit / 64 * 16 + i) 0 / 2 ^ (bit % 64)) (get_or words k 0 * 2 ^ (64 - bit % 64) % 2 ^ 64) % 2 ^ c.args.width) next
           ∙ across_native 64 c.args.width words i c.args.step (omega arith) (omega arith) c.requires.width (c.type_inv.words (bit / 64 * 16 + i)).fits);
     }

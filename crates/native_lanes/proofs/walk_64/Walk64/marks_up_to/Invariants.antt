@@ -2,10 +2,10 @@
 use Rattle.std.proofs.Common.{◌≡◌, ◌==◌, ℕ, ◌+◌, ◌%◌, ◌^◌, ◌<◌, ◌&&◌, nat_lt, nat_le, slice_index}
 use Rattle.std.specs.Int.{bit_at}
 use Rattle.native_lanes.specs.Walks.{number_before, number_at}
-use Rattle.native_lanes.proofs.walk_64.Walk64.marks.Given as goal
+use Rattle.native_lanes.proofs.walk_64.Walk64.marks_up_to.Given as goal
 
 abbrev pub invariant-loop-step : goal.invariant-loop-step
 invariant-loop-step l = record {
   numbers : (lane : ℕ) → lane < 16 → slice_index l.numbers lane ≡ number_before l.self lane l.step;
-  marks : (lane r : ℕ) → lane < 16 → r < 64 → (bit_at (slice_index l.marks lane) r == 1) ≡ (nat_lt r l.step && nat_le ((number_at l.self lane r + l.offset) % 2 ^ 64) l.span);
+  marks : (lane r : ℕ) → lane < 16 → r < 64 → (bit_at (slice_index l.marks lane) r == 1) ≡ (nat_lt r l.step && nat_le ((number_at l.self lane r + 2 ^ 63) % 2 ^ 64) l.span);
 }
