@@ -418,34 +418,39 @@ impl<'a> Walk64<'a> {
         ensures value { result ≡ fold_to max 0 1024 (λ n. cond (has rows.now n) (turned 64 flipped (number_of_row self.now n)) 0) }
         ensures below { (n : ℕ) → number_of_row self.now n ≤ 2 ^ 64 - 1 }
     {
-        if self.carried && are_all_set(&lanes_of_mask_64(rows)) {
+        if !are_all_set(&lanes_of_mask_64(rows)) {
+            return self.greatest_by_steps(false, flipped, rows);
+        }
+        if self.carried {
             let first = self.first_numbers();
             if self.is_rising(&first) {
                 return self.greatest_of_rising(flipped, &first, rows);
             }
         }
-        self.greatest_by_steps(flipped, rows)
+        self.greatest_by_steps(true, flipped, rows)
     }
 
-    /// What `greatest` answers, by all steps.
+    /// What `greatest` answers, by all steps, where it is known whether all rows are taken.
     #[inline(always)]
-    fn greatest_by_steps(&self, flipped: bool, rows: &Mask) -> u64
+    fn greatest_by_steps(&self, are_all: bool, flipped: bool, rows: &Mask) -> u64
+        requires { IsTrue are_all → (lane step : ℕ) → lane < 16 → step < 64 → has rows.now (row_at 64 lane step) ≡ true }
         ensures value { result ≡ fold_to max 0 1024 (λ n. cond (has rows.now n) (turned 64 flipped (number_of_row self.now n)) 0) }
         ensures below { (n : ℕ) → number_of_row self.now n ≤ 2 ^ 64 - 1 }
     {
-        let furthest = self.shifted(1 << 63).furthest_of_lanes(flipped, rows);
+        let half = self.shifted(1 << 63);
+        let furthest = half.furthest_of_lanes(are_all, flipped, rows);
         greatest_of_turned(flipped, &all_shifted(&furthest, 1 << 63))
     }
 
     /// For each lane, of the numbers of a mask's rows, the one that is greatest, or where `flipped` is true least, once they are
-    /// half on.
+    /// half on, where it is known whether all rows are taken.
     #[inline(always)]
-    fn furthest_of_lanes(&self, flipped: bool, rows: &Mask) -> [u64; 16]
+    fn furthest_of_lanes(&self, are_all: bool, flipped: bool, rows: &Mask) -> [u64; 16]
+        requires { IsTrue are_all → (lane step : ℕ) → lane < 16 → step < 64 → has rows.now (row_at 64 lane step) ≡ true }
         ensures { (lane : ℕ) → lane < 16 → turned 64 flipped (half_on (slice_index result lane))
             ≡ fold_to max 0 64 (λ step. cond (has rows.now (row_at 64 lane step)) (turned 64 flipped (half_on (number_at self.now lane step))) 0) }
     {
         let lanes = lanes_of_mask_64(rows);
-        let are_all = are_all_set(&lanes);
         let mut numbers = self.starts;
         let start = least_far(flipped);
         let mut furthest = [start; 16];

@@ -1,6 +1,7 @@
 -- A step takes each lane's number so far to its own, where that is further and its row is taken.
 use Rattle.std.proofs.Common.{◌≡◌, ◌==◌, ℕ, Bool, max, cond, slice_index, sym, ap, ◌∙◌, arith}
 use Rattle.std.specs.Int.{bit_at}
+use Rattle.std.proofs.lemmas.Bool.Decides.{nat_tests}
 use Rattle.std.proofs.lemmas.List.{get_or-replicate}
 use Rattle.transpose_order.specs.Mask.{has}
 use Rattle.transpose_order.specs.Place.{row_at}
@@ -49,3 +50,8 @@ returns c = λ lane h.
     let all : c.loop-step.step ≡ 64 = omega arith in
     c.loop-step.invariant.furthest lane h
     ∙ ap (λ (k : ℕ). fold_to max 0 k (λ s. cond (has c.args.rows.now (row_at 64 lane s)) (turned 64 c.args.flipped (half_on (number_at c.args.self.now lane s))) 0)) all
+
+pub further_step-requires-clause-all : goal.further_step-requires-clause-all
+further_step-requires-clause-all c all lane h =
+    let one = c.lanes_of_mask_64-lanes.ensures lane c.loop-step.step h c.loop-step-test.true ∙ c.requires all lane c.loop-step.step h c.loop-step-test.true in
+    grind (arith, nat_tests, one)
