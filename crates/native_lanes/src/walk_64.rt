@@ -54,12 +54,25 @@ fn stepped(carried: bool, before: u64, added: u64, number: u64) -> u64
 
 /// Takes the numbers of all lanes one step on.
 #[inline(always)]
-fn advance(numbers: &mut [u64; 16], packed: &[u64; 16], carried: bool, added: u64)
+fn advance_lanes(numbers: &mut [u64; 16], packed: &[u64; 16], carried: bool, added: u64)
     ensures { (lane : ℕ) → lane < 16 → slice_index numbers.new lane
         ≡ (cond carried (slice_index numbers.old lane) 0 + added + slice_index packed.now lane) % 2 ^ 64 }
 {
     for i in 0..16 {
         numbers[i] = stepped(carried, numbers[i], added, packed[i]);
+    }
+}
+
+/// Takes the numbers of all lanes one step on, by a loop of its own for those that are carried and for those that aren't.
+#[inline(always)]
+fn advance(numbers: &mut [u64; 16], packed: &[u64; 16], carried: bool, added: u64)
+    ensures { (lane : ℕ) → lane < 16 → slice_index numbers.new lane
+        ≡ (cond carried (slice_index numbers.old lane) 0 + added + slice_index packed.now lane) % 2 ^ 64 }
+{
+    if carried {
+        advance_lanes(numbers, packed, true, added);
+    } else {
+        advance_lanes(numbers, packed, false, added);
     }
 }
 

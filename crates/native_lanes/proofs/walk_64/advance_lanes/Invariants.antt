@@ -1,6 +1,6 @@
 -- the lanes before lane i are a step on, the others are as they were
 use Rattle.std.proofs.Common.{◌≡◌, ℕ, ◌+◌, ◌%◌, ◌^◌, ◌<◌, ◌≤◌, cond, length, slice_index}
-use Rattle.native_lanes.proofs.walk_64.advance.Given as goal
+use Rattle.native_lanes.proofs.walk_64.advance_lanes.Given as goal
 
 abbrev pub invariant-loop-i : goal.invariant-loop-i
 invariant-loop-i l = record {
