@@ -16,8 +16,9 @@ use crate::side::{Side, side_of};
 use table_model::{Literals, Operand};
 use transpose_order::Mask;
 
-/// BETWEEN of three sides at the rows of a mask: each column takes one pass. It stands apart from `between_sides`, which for most
-/// conditions needs no room for three decoded columns and so makes none.
+/// BETWEEN of three sides at the rows of a mask: each column takes one pass. It stands apart from `between_sides`, and is never
+/// taken into it, since most conditions need no room for three decoded columns.
+#[inline(never)]
 fn between_decoded<C: Columns>(
     columns: &mut C,
     batch: usize,
@@ -92,7 +93,8 @@ pub fn between_operands<C: Columns>(
     between_sides(columns, batch, vector, operand, low, high, mask)
 }
 
-/// IN of an operand at the rows of a mask.
+/// IN of an operand at the rows of a mask. Its room for a decoded column is its own: most conditions need none.
+#[inline(never)]
 pub fn among_operand<C: Columns>(
     columns: &mut C,
     batch: usize,
