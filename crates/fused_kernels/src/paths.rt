@@ -355,7 +355,8 @@ fn compare_vectors_by_lanes(
     compare_columns(&mut lefts, op, &mut rights, mask)
 }
 
-/// A comparison of two vectors' values, decoded.
+/// A comparison of two vectors' values, decoded. Its room for them is its own: no other comparison needs any.
+#[inline(never)]
 fn compare_decoded(left: &CodedVector, op: Op, right: &CodedVector, mask: &Mask) -> (Mask, Mask)
     ensures yes { result.0 ≡ rows_of (λ n. (looked_at (vector_seen left.now 0) mask.now n && looked_at (vector_seen right.now 0) mask.now n)
         && compared op (value_in left.now.coded n) (value_in right.now.coded n)) }
