@@ -6,13 +6,15 @@
 FOLDER holds T.flcf and T.csv, the canonical file and the rows of one table of counts that sites report (SITE SMALLINT, DAY
 INTEGER, KIND SMALLINT, EVENTS BIGINT, ERRORS INTEGER, TOTAL BIGINT). PROGRAM beside is run as `PROGRAM FOLDER/T.csv N` and
 prints lines `query NAME MS,MS,.. ANSWER`; the bench then prints both sides and their ratio, and says where the answers differ.
+Q10 is timed beside a plain loop that unpacks each vector and puts each value into a set (queries/distinct.rs), where `rustc` is
+there, since a program beside may read bounds and dictionaries alone.
 Without a folder, lanes is timed alone, on 400,000 rows of its own.
 
 A query's time is that of a run that asks a cheap query and then this one many times, less that of a run with the cheap query
 alone, by the number of times: the best of N runs each. The opening of the file so falls out. The times are as many as make the
 run half a second longer, or 8,192. What is measured on a loaded machine says little.
 """
-import argparse, os, subprocess, sys, tempfile, time
+import argparse, os, shutil, subprocess, sys, tempfile, time
 
 TOP = os.path.dirname(os.path.dirname(os.path.abspath(__file__)))
 CHEAP = "SELECT COUNT(*) FROM T"
@@ -86,6 +88,16 @@ def beside(other, folder, runs):
     return found
 
 
+def plain_loop(room):
+    """The program of Q10's plain loop, or nothing where there is no compiler."""
+    if not shutil.which("rustc"):
+        return None
+    made = os.path.join(room, "distinct")
+    source = os.path.join(TOP, "bench", "queries", "distinct.rs")
+    subprocess.run(["rustc", "--edition=2021", "-O", "-C", "target-cpu=native", source, "-o", made], check=True)
+    return made
+
+
 def main():
     asked = argparse.ArgumentParser(description="Times queries over a canonical file.")
     asked.add_argument("--program", default=os.path.join(TOP, "crates", "lanes", "out", "lanes"))
@@ -98,6 +110,8 @@ def main():
         if not given.data:
             own_file(given.program, room)
         others = beside(given.beside, folder, given.runs) if given.beside else {}
+        loop = plain_loop(room) if given.data else None
+        others |= beside(loop, folder, given.runs) if loop else {}
         for name, query in QUERIES:
             time_of, answer = milliseconds(given.program, os.path.join(folder, "T.flcf"), query, given.runs)
             line = f"{name} {time_of:9.3f} ms"

@@ -7,6 +7,7 @@ use Rattle.table_model.specs.State.{State}
 use Rattle.table_model.specs.Table.{Table}
 use Rattle.table_model.specs.declared.query.Factor.{Factor}
 use Rattle.table_model.specs.declared.query.Term.{Term}
+use Rattle.query_eval.specs.Pairs.{yes_of}
 use Rattle.query_eval.specs.Vector.{vector_at}
 use Rattle.query_eval.specs.Where.{IsPair, truth_in}
 use Rattle.query_eval.specs.declared.pair.Pair.{Pair}
@@ -22,3 +23,7 @@ factors_more xs i x h e =
 pub moved : (t u : Table) (s r : State) (batch vector : ℕ) (f : Formula) (mask : List Bool) (c : Pair) → t ≡ u → s ≡ r → IsPair mask (truth_in t (vector_at s batch vector) f) c → IsPair mask (truth_in u (vector_at r batch vector) f) c
 moved t u s r batch vector f mask c e g p =
     subst (λ (x : State). IsPair mask (truth_in u (vector_at x batch vector) f) c) g (subst (λ (x : Table). IsPair mask (truth_in x (vector_at s batch vector) f) c) e p)
+
+pub moved_rows : (t u : Table) (s r : State) (batch vector : ℕ) (f : Formula) (mask found : List Bool) → t ≡ u → s ≡ r → found ≡ yes_of mask (truth_in t (vector_at s batch vector) f) → found ≡ yes_of mask (truth_in u (vector_at r batch vector) f)
+moved_rows t u s r batch vector f mask found e g p =
+    subst (λ (x : State). found ≡ yes_of mask (truth_in u (vector_at x batch vector) f)) g (subst (λ (x : Table). found ≡ yes_of mask (truth_in x (vector_at s batch vector) f)) e p)

@@ -193,3 +193,37 @@ pub masked : (mask of here rest : List Bool) (test : ℕ → Bool) (c : Pair) �
 masked mask of here rest test c e f g h k =
     let seen : here ≡ rows_of (λ n. has mask n && test n) = f ∙ rows_of-like _ _ (λ n l. ap (λ b. has mask n && b) (ap (λ m. has m n) e ∙ has-rows_of test n l)) in
     tested mask here rest test c seen g h k
+
+or_rest : (m : Bool) (s t : Truth) (f r w : Bool) → f ≡ (m && is_true s) → r ≡ (m && not f) → w ≡ (r && is_true t) → (f || w) ≡ (m && is_true (or_of s t))
+or_rest false s t f r w ef er ew = ap (λ b. b || w) ef ∙ ew ∙ ap (λ b. b && is_true t) er
+or_rest true True t f r w ef er ew = ap (λ b. b || w) ef ∙ sym (is_true-or_of True t)
+or_rest true False t f r w ef er ew = ap (λ b. b || w) ef ∙ ew ∙ ap (λ b. b && is_true t) (er ∙ ap not ef) ∙ sym (is_true-or_of False t)
+or_rest true Unknown t f r w ef er ew = ap (λ b. b || w) ef ∙ ew ∙ ap (λ b. b && is_true t) (er ∙ ap not ef) ∙ sym (is_true-or_of Unknown t)
+
+-- where an OR is true, its second condition being asked for only at the rows at which the first isn't
+pub yes_or : (mask found rest next : List Bool) (s t : ℕ → Truth) → found ≡ yes_of mask s → rest ≡ rows_of (λ n. has mask n && not (has found n)) → next ≡ yes_of rest t → rows_of (λ n. has found n || has next n) ≡ yes_of mask (λ n. or_of (s n) (t n))
+yes_or mask found rest next s t e g h =
+    is_yes mask (λ n. or_of (s n) (t n)) _
+    (λ n l. or_rest (has mask n) (s n) (t n) _ _ _ (ap (λ m. has m n) e ∙ has_yes mask s n l) (ap (λ m. has m n) g ∙ has-rows_of (λ n. has mask n && not (has found n)) n l) (ap (λ m. has m n) h ∙ has_yes rest t n l))
+
+and_rest : (m : Bool) (s t : Truth) (r : Bool) → r ≡ (m && is_true s) → (r && is_true t) ≡ (m && is_true (and_of s t))
+and_rest false s t r e = ap (λ b. b && is_true t) e
+and_rest true s t r e = ap (λ b. b && is_true t) e ∙ sym (is_true-and_of s t)
+
+-- where an AND is true, its second condition being asked for only at the rows at which the first is
+pub yes_and : (mask rows next : List Bool) (s t : ℕ → Truth) → rows ≡ yes_of mask s → next ≡ yes_of rows t → next ≡ yes_of mask (λ n. and_of (s n) (t n))
+yes_and mask rows next s t e h =
+    let f : yes_of rows t ≡ rows_of (λ n. has rows n && is_true (t n)) = sym (is_yes rows t _ (λ n l. refl)) in
+    h ∙ f ∙ is_yes mask (λ n. and_of (s n) (t n)) _ (λ n l. and_rest (has mask n) (s n) (t n) _ (ap (λ m. has m n) e ∙ has_yes mask s n l))
+
+-- over no rows nothing is true
+pub none_yes : (mask : List Bool) (t : ℕ → Truth) → ((n : ℕ) → n < 1024 → has mask n ≡ false) → rows_of (λ _. false) ≡ yes_of mask t
+none_yes mask t h = is_yes mask t _ (λ n l. sym (ap (λ b. b && is_true (t n)) (h n l)))
+
+-- no row is where what is false everywhere is true
+pub false_yes : (mask : List Bool) → rows_of (λ _. false) ≡ yes_of mask (λ _. False)
+false_yes mask = is_yes mask (λ _. False) _ (λ n l. and-false (has mask n))
+
+-- all rows are where what is true everywhere is true
+pub true_yes : (mask : List Bool) → rows_of (λ n. has mask n && has mask n) ≡ yes_of mask (λ _. True)
+true_yes mask = is_yes mask (λ _. True) _ (λ n l. twice (has mask n) ∙ and-true (has mask n))

@@ -155,4 +155,8 @@ pub trait Columns {
         ensures table { table self.new ≡ table self.old }
         ensures state { state self.new ≡ state self.old }
         ensures passes { passes self.new ≡ raised 1 (passes self.old) };
+
+    /// How many passes over vectors were made, or the greatest number where they were more.
+    fn passes(&self) -> u128
+        ensures { result ≡ passes self.now };
 }

@@ -16,7 +16,7 @@ ghost use Rattle.query_eval.specs.Kept.{
 ghost use Rattle.query_eval.specs.Vector.{IsThere, vector_at, batch_count};
 
 use crate::columns::Columns;
-use crate::where_masks::condition_masks;
+use crate::true_rows::condition_rows;
 use std::alloc::{AllocError, Global};
 use table_model::Condition;
 use transpose_order::Mask;
@@ -48,10 +48,7 @@ pub fn kept_mask<C: Columns>(
     }
     match condition {
         None => live,
-        Some(condition) => {
-            let pair = condition_masks(columns, batch, vector, condition, &live);
-            pair.yes
-        }
+        Some(condition) => condition_rows(columns, batch, vector, condition, &live),
     }
 }
 

@@ -34,6 +34,7 @@ mod table_fields;
 mod taking;
 mod tally;
 mod tallying;
+mod true_rows;
 mod where_masks;
 
 pub use aggregate::{Aggregate, place_or_end};
@@ -57,4 +58,5 @@ pub use seen::{is_kept, item_at};
 pub use side::{Side, compare_operands, compare_sides, null_operand, null_rows, side_of};
 pub use table_fields::whole_table;
 pub use tally::{Tally, TallyKind};
+pub use true_rows::condition_rows;
 pub use where_masks::{condition_masks, predicate_masks};

@@ -111,7 +111,7 @@ fn term_masks<C: Columns>(
 
 /// A factor at the rows of a mask.
 #[cycle(masks)]
-fn factor_masks<C: Columns>(
+pub(crate) fn factor_masks<C: Columns>(
     columns: &mut C,
     batch: usize,
     vector: usize,
@@ -130,7 +130,7 @@ fn factor_masks<C: Columns>(
 
 /// A test at the rows of a mask.
 #[cycle(masks)]
-fn test_masks<C: Columns>(
+pub(crate) fn test_masks<C: Columns>(
     columns: &mut C,
     batch: usize,
     vector: usize,

@@ -119,13 +119,6 @@ impl PlainColumns {
         })
     }
 
-    /// How many passes were made.
-    pub fn passes(&self) -> u128
-        ensures { result ≡ self.now.passes }
-    {
-        self.passes
-    }
-
     /// The cell of a column at a row of a vector as the rows have it, `None` past the last row.
     fn stored_cell(&self, column: usize, vector: usize, row: usize) -> Option<i128>
         requires vector { 1024 * vector < length self.now.rows }
@@ -345,5 +338,9 @@ impl Columns for PlainColumns {
     ) {
         self.write_values(column, vector, values);
         self.count_passes(1);
+    }
+
+    fn passes(&self) -> u128 {
+        self.passes
     }
 }

@@ -1,6 +1,6 @@
 //! Queries over plain rows: answers worked out by hand, and the passes that their mentions of columns allow.
 use crate::plain_columns::PlainColumns;
-use query_eval::{Decoded, Pair, among_rows, answer, between_rows, text};
+use query_eval::{Columns, Decoded, Pair, among_rows, answer, between_rows, text};
 use std::alloc::{AllocError, Global};
 use std::process::Abort;
 use std::test::Fail;

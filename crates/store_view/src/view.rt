@@ -172,4 +172,8 @@ impl<'a> Columns for StoreView<'a> {
         let found = vector_in(self.store, batch, column, vector);
         decode_vector(found, values, &mut self.meter);
     }
+
+    fn passes(&self) -> u128 {
+        self.meter.count()
+    }
 }

@@ -14,9 +14,9 @@ returns-in-None-clause-value g c =
 
 pub returns-in-Some-clause-value : goal.returns-in-Some-clause-value
 returns-in-Some-clause-value g c =
-    kept-where (g.C.Columns.table c.args.columns.now) c.args.condition.now c.in-Some.condition (vector_at (g.C.Columns.state c.args.columns.now) c.args.batch c.args.vector) c.live-live.result _ c.live-live.ensures c.in-Some.is c.condition_masks-pair.ensures.value.yes
+    kept-where (g.C.Columns.table c.args.columns.now) c.args.condition.now c.in-Some.condition (vector_at (g.C.Columns.state c.args.columns.now) c.args.batch c.args.vector) c.live-live.result _ c.live-live.ensures c.in-Some.is c.condition_rows.ensures.value
 
 pub returns-in-Some-clause-passes : goal.returns-in-Some-clause-passes
 returns-in-Some-clause-passes g c =
     passes-where (vector_at (g.C.Columns.state c.args.columns.now) c.args.batch c.args.vector) c.args.condition.now c.in-Some.condition _ _
-    (live-some (vector_at (g.C.Columns.state c.args.columns.now) c.args.batch c.args.vector) c.live-live.result c.count.result c.live-live.ensures c.count.ensures c.if-count-eq0.false) c.in-Some.is c.condition_masks-pair.ensures.passes
+    (live-some (vector_at (g.C.Columns.state c.args.columns.now) c.args.batch c.args.vector) c.live-live.result c.count.result c.live-live.ensures c.count.ensures c.if-count-eq0.false) c.in-Some.is c.condition_rows.ensures.passes
