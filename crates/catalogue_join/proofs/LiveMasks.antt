@@ -97,11 +97,26 @@ cleared_is old first last start begun reached range =
     same : (n : ℕ) (b : Bool) → n < 1024 → cond (leb (max first start - start) n && ltb n (min (last + 1) (start + 1024) - start)) false b ≡ (b && not (leb first (start + n) && leb (start + n) last))
     same n b h = grind (arith, nat_tests)
 
--- the mask of the first rows, which no range has cleared yet
-pub covered_is : (old : List Bool) (rows : ℕ) (place : ℕ → ℕ) → old ≡ rows_of (λ _. false) → rows_of (λ n. cond (leb 0 n && ltb n rows) true (has old n)) ≡ rows_of (λ n. ltb n rows && not (among row_range_shape [] (place n)))
-covered_is old rows place none =
-    rows_of-like (λ n. cond (leb 0 n && ltb n rows) true (has old n)) (λ n. ltb n rows && not (among row_range_shape [] (place n)))
+-- no row stands past the first 1024
+pub full_is : (rows : ℕ) → rows ≡ 1024 → rows_of (λ _. true) ≡ rows_of (λ n. ltb n rows)
+full_is rows full = rows_of-like (λ _. true) (λ n. ltb n rows) (λ n h. here n h)
+  where
+    here : (n : ℕ) → n < 1024 → true ≡ ltb n rows
+    here n h = grind (arith, nat_tests, full)
+
+-- the first rows set in a mask without rows
+pub front_is : (old : List Bool) (rows : ℕ) → old ≡ rows_of (λ _. false) → rows_of (λ n. cond (leb 0 n && ltb n rows) true (has old n)) ≡ rows_of (λ n. ltb n rows)
+front_is old rows none =
+    rows_of-like (λ n. cond (leb 0 n && ltb n rows) true (has old n)) (λ n. ltb n rows)
     (λ n h. same n (has old n) (ap (λ m. has m n) none ∙ has-rows_of (λ _. false) n h))
   where
-    same : (n : ℕ) (b : Bool) → b ≡ false → cond (leb 0 n && ltb n rows) true b ≡ (ltb n rows && true)
+    same : (n : ℕ) (b : Bool) → b ≡ false → cond (leb 0 n && ltb n rows) true b ≡ ltb n rows
     same n b e = grind (arith, nat_tests)
+
+-- no range has cleared a row yet
+pub uncleared_is : (rows : ℕ) (place : ℕ → ℕ) → rows_of (λ n. ltb n rows) ≡ rows_of (λ n. ltb n rows && not (among row_range_shape [] (place n)))
+uncleared_is rows place = rows_of-like (λ n. ltb n rows) (λ n. ltb n rows && not (among row_range_shape [] (place n))) (λ n h. same (ltb n rows))
+  where
+    same : (b : Bool) → b ≡ (b && true)
+    same true = refl
+    same false = refl

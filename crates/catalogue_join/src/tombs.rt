@@ -1,5 +1,5 @@
 //! Deleted rows: a set of row names, kept as its maximal ranges.
-ghost use Rattle.std.specs.Prelude.{◌≡◌, ◌≤◌, ◌<◌, ◌+◌, ◌&&◌, not, nat_le, OnOk, OnErr, IfOk, IsTrue, List};
+ghost use Rattle.std.specs.Prelude.{◌≡◌, ◌≤◌, ◌<◌, ◌+◌, ◌&&◌, not, nat_le, nat_lt, OnOk, OnErr, IfOk, IsTrue, List};
 ghost use Rattle.std.specs.FinSet as set;
 ghost use Rattle.table_model.specs.Name.{is_proper_name};
 ghost use Rattle.transpose_order.specs.Mask.{rows_of, has};
@@ -11,6 +11,9 @@ use std::alloc::{AllocError, Global};
 use std::marker::Model;
 use table_model::{BatchName, RowName};
 use transpose_order::Mask;
+
+/// How many rows a vector has.
+const VECTOR_ROWS: usize = 1024;
 
 /// The names of deleted rows, held or not: a set of row names.
 #[derive(Drop)]
@@ -112,18 +115,31 @@ impl Tombs {
         requires rows { rows ≤ 1024 }
         ensures { result ≡ rows_of (is_live self.now batch vector rows) }
     {
-        let mut live = Mask::none();
-        live.set_range(0, rows, true);
-        let start = 1024 * vector;
+        let mut live = first_rows(rows);
+        let start = VECTOR_ROWS * vector;
         let first = RowName {
             batch,
             ordinal: start as u16,
         };
-        for deleted in self.ranges.overlapping((first, first.ordinal + 1023)) {
+        let last = start + (VECTOR_ROWS - 1);
+        for deleted in self.ranges.overlapping((first, last as u16)) {
             clear(&mut live, *deleted, start);
         }
         live
     }
+}
+
+// The mask of a vector's first rows, at most 1024: of all rows at once, where the vector is full.
+fn first_rows(rows: usize) -> Mask
+    requires { rows ≤ 1024 }
+    ensures { result ≡ rows_of (λ n. nat_lt n rows) }
+{
+    if rows == VECTOR_ROWS {
+        return Mask::all();
+    }
+    let mut mask = Mask::none();
+    mask.set_range(0, rows, true);
+    mask
 }
 
 // Sets the deleted rows of a vector to false, whose first row has the ordinal `start`.
@@ -136,6 +152,6 @@ fn clear(live: &mut Mask, deleted: (RowName, u16), start: usize)
         && not (nat_le deleted.0.ordinal (start + n) && nat_le (start + n) deleted.1)) }
 {
     let from = usize::from(deleted.0.ordinal).max(start);
-    let end = (usize::from(deleted.1) + 1).min(start + 1024);
+    let end = (usize::from(deleted.1) + 1).min(start + VECTOR_ROWS);
     live.set_range(from - start, end - start, false);
 }

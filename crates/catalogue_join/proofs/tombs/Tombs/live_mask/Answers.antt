@@ -5,11 +5,11 @@ use Rattle.transpose_order.specs.Mask.{rows_of}
 use Rattle.catalogue_join.specs.Span.{among}
 use Rattle.catalogue_join.specs.RowRange.{row_place, row_range_shape}
 use Rattle.catalogue_join.specs.LiveMask.{is_live}
-use Rattle.catalogue_join.proofs.LiveMasks.{no_range, overlap_meets, cleared_more, covered_is, live_is}
+use Rattle.catalogue_join.proofs.LiveMasks.{no_range, overlap_meets, cleared_more, uncleared_is, live_is}
 use Rattle.catalogue_join.proofs.tombs.Tombs.live_mask.Goals as goal
 
 pub loop-deleted-init : goal.loop-deleted-init
-loop-deleted-init c = c.set_range.ensures ∙ covered_is c.none-live.result c.args.rows (λ n. row_place c.args.batch (1024 * c.args.vector + n)) c.none-live.ensures
+loop-deleted-init c = c.first_rows-live.ensures ∙ uncleared_is c.args.rows (λ n. row_place c.args.batch (1024 * c.args.vector + n))
 
 pub clear-requires-clause-begun : goal.clear-requires-clause-begun
 clear-requires-clause-begun c =
