@@ -9,7 +9,7 @@ use Rattle.std.specs.Ordering.{is_lt, is_eq, eq_by_cmp}
 use Rattle.std.specs.FinMap as map
 use Rattle.std.specs.FinMap.Entries.{is_sorted, below_all}
 use Rattle.std.specs.FinSet as set
-use Rattle.table_model.specs.Name.{name_cmp, row_name_cmp}
+use Rattle.table_model.specs.Name.{name_cmp}
 use Rattle.table_model.specs.State.{Batch}
 use Rattle.table_model.specs.declared.names.BatchName.{BatchName}
 use Rattle.table_model.specs.declared.names.Origin.{Origin}
@@ -20,7 +20,7 @@ use Rattle.segment_core.specs.declared.coding.Coding.{Coding}
 use Rattle.replica_store.specs.Entries.{count_below, merge}
 use Rattle.replica_store.specs.Parted.{Each, IsUpTo, IsPast, AreParted}
 use Rattle.replica_store.specs.Replica.{lacked_by, differs}
-use Rattle.replica_store.specs.Segments.{Entry, RecodesEntries, conflict_in, live_in, AreShort}
+use Rattle.replica_store.specs.Segments.{Entry, RecodesEntries, conflict_in}
 use Rattle.replica_store.proofs.Maps.{Sorted}
 use Rattle.replica_store.proofs.Merges.{merge-nil}
 use Rattle.replica_store.proofs.Numbers.{is_up_to}
@@ -243,19 +243,6 @@ conflict-back m (e ∷ es) fs is =
       | true ↦ λ h. cc
       | false ↦ λ h. conflict-back m es fs h
     ] is
-
--- the live rows of both parts
-pub live-append : (deleted : set.FinSet row_name_cmp) (es fs : List Entry) → live_in deleted (es ++ fs) ≡ live_in deleted es + live_in deleted fs
-live-append deleted [] fs = omega arith
-live-append deleted (e ∷ es) fs = let rest = live-append deleted es fs in omega (arith, rest)
-
-pub short-front : (es fs : List Entry) → AreShort (es ++ fs) → AreShort es
-short-front [] fs h = tt
-short-front (e ∷ es) fs h = (h.0, short-front es fs h.1)
-
-pub short-back : (es fs : List Entry) → AreShort (es ++ fs) → AreShort fs
-short-back [] fs h = h
-short-back (e ∷ es) fs h = short-back es fs h.1
 
 -- what holds of each entry holds of each of either part
 pub All-front : (P : Entry → Type 0) (es fs : List Entry) → All P (es ++ fs) → All P es

@@ -1,5 +1,4 @@
 pub mod Conflicts
-pub mod Counts
 pub mod InParts
 pub mod Joining
 pub mod Limits

@@ -1,21 +1,18 @@
 -- The rows of a map of segments: what it has at a name are the rows of the segment there.
-use Rattle.std.specs.Prelude.{◌≡◌, ℕ, zero, suc, ◌+◌, ◌*◌, ◌≤◌, max, ◌==◌, Bool, true, false, cond, ◌&&◌, T, List, [], ◌∷◌, length, Option, Some, None, option_map, is_some, slice_get}
-use Rattle.std.proofs.Common.{refl, sym, ap, subst, ◌∙◌, arith}
+use Rattle.std.specs.Prelude.{◌≡◌, ℕ, zero, suc, max, ◌==◌, Bool, true, false, cond, ◌&&◌, T, List, [], ◌∷◌, length, Option, Some, None, option_map, is_some, slice_get}
+use Rattle.std.proofs.Common.{refl, sym, ap, subst, ◌∙◌}
 use Rattle.std.specs.Ordering.{eq_by_cmp, is_lt}
 use Rattle.std.specs.FinMap as map
 use Rattle.std.specs.FinMap.Entries.{is_sorted, below_all}
-use Rattle.std.specs.FinSet as set
-use Rattle.transpose_order.specs.Mask.{count_below}
-use Rattle.transpose_order.proofs.MaskLemmas.{count_below-le}
-use Rattle.table_model.specs.Name.{name_cmp, row_name_cmp}
+use Rattle.table_model.specs.Name.{name_cmp}
 use Rattle.table_model.specs.State.{Batch, union_of}
 use Rattle.table_model.specs.declared.names.BatchName.{BatchName}
 use Rattle.table_model.specs.declared.names.Origin.{Origin}
 use Rattle.table_model.proofs.NameOrder.{names_total}
 use Rattle.table_model.proofs.Joins.{or_else, get-union}
 use Rattle.segment_core.specs.Segment.{SegmentForm}
-use Rattle.replica_store.specs.Replica.{AllShort, greatest_number, conflict_with, differs, live_total, is_live_row}
-use Rattle.replica_store.specs.Segments.{Entry, rows_entries, rows_in, union_in, conflict_in, live_in, AreShort}
+use Rattle.replica_store.specs.Replica.{greatest_number, conflict_with, differs}
+use Rattle.replica_store.specs.Segments.{Entry, rows_entries, rows_in, union_in, conflict_in}
 use Rattle.replica_store.proofs.Maps.{entries-as_map}
 use Rattle.replica_store.proofs.Unions.{get-union_in, same_maps}
 
@@ -98,22 +95,10 @@ pub conflict-rows : (ours : map.FinMap name_cmp Batch) (es : List Entry) → con
 conflict-rows ours [] = refl
 conflict-rows ours (e ∷ es) = ap (λ (o : Option BatchName). cond (differs (map.get ours e.0) e.1.rows) (Some e.0) o) (conflict-rows ours es)
 
-pub live-rows : (deleted : set.FinSet row_name_cmp) (es : List Entry) → live_in deleted es ≡ live_total deleted (rows_entries es)
-live-rows deleted [] = refl
-live-rows deleted (e ∷ es) = ap (λ (n : ℕ). count_below (is_live_row deleted e.0) (length e.1.rows) + n) (live-rows deleted es)
-
-pub short-rows : (es : List Entry) → AllShort (rows_entries es) → AreShort es
-short-rows [] h = tt
-short-rows (e ∷ es) h = (h.0, short-rows es h.1)
-
 pub slice_get-rows : (es : List Entry) (i : ℕ) (e : Entry) → slice_get es i ≡ Some e → slice_get (rows_entries es) i ≡ Some (e.0, e.1.rows)
 slice_get-rows [] i e is = cc
 slice_get-rows (x ∷ es) zero e is = let here : x ≡ e = cc in ap (λ (y : Entry). let pair : BatchName × Batch = (y.0, y.1.rows) in Some pair) here
 slice_get-rows (x ∷ es) (suc i) e is = slice_get-rows es i e is
-
-pub live_in-le : (deleted : set.FinSet row_name_cmp) (es : List Entry) → AreShort es → live_in deleted es ≤ 65536 * length es
-live_in-le deleted [] h = omega arith
-live_in-le deleted (e ∷ es) h = let rest = live_in-le deleted es h.1 in let here = h.0 in let few = count_below-le (is_live_row deleted e.0) (length e.1.rows) in omega arith
 
 no_rows : (o : Option SegmentForm) → option_map rows o ≡ None → o ≡ None
 no_rows None e = refl

@@ -3,11 +3,10 @@ use Rattle.std.specs.Prelude.{◌≡◌, ℕ, ◌+◌, ◌/◌, ◌≤◌, max, 
 use Rattle.std.specs.Coded.{Coded, code_by, coded×, coded_ℕ}
 use Rattle.std.specs.FinMap as map
 use Rattle.std.specs.FinSet as set
-use Rattle.table_model.specs.Name.{name_cmp, row_name_cmp, is_proper_name}
-use Rattle.table_model.specs.State.{State, Batch, coded_state, empty_state, union_of, join, live_rows, same_rows}
+use Rattle.table_model.specs.Name.{name_cmp, is_proper_name}
+use Rattle.table_model.specs.State.{State, Batch, coded_state, empty_state, union_of, join, same_rows}
 use Rattle.table_model.specs.Table.{Table, coded_table, rows_fault, same_table, IsBatch}
 pub use Rattle.catalogue_join.specs.RowRange.{row_names, rows_between}
-use Rattle.transpose_order.specs.Mask.{count_below}
 use Rattle.table_model.specs.declared.names.Origin.{Origin}
 use Rattle.table_model.specs.declared.names.BatchName.{BatchName}
 use Rattle.table_model.specs.declared.names.RowName.{RowName}
@@ -197,21 +196,3 @@ with_join r other = joined_with r other.state
 -- merge: the state becomes the join
 abbrev pub merged : Replica → Replica → Result (Unit {0} × Replica) Refusal
 merged r other = unless_fault (merge_fault r other) (Ok (tt, with_join r other))
-
--- how many live rows a replica has
-abbrev pub live_count : Replica → ℕ
-live_count r = length (live_rows r.state)
-
--- whether the row of this ordinal isn't deleted
-abbrev pub is_live_row : set.FinSet row_name_cmp → BatchName → ℕ → Bool
-is_live_row deleted batch n = let row : RowName = record { batch = batch; ordinal = n } in not (set.contains deleted row)
-
--- how many rows of the batches aren't deleted
-abbrev pub live_total : set.FinSet row_name_cmp → List (BatchName × Batch) → ℕ
-live_total deleted [] = 0
-live_total deleted (e ∷ es) = count_below (is_live_row deleted e.0) (length e.1) + live_total deleted es
-
--- no batch is longer than a batch may be
-abbrev pub AllShort : List (BatchName × Batch) → Type 0
-AllShort [] = Unit {0}
-AllShort (e ∷ es) = (length e.1 ≤ 65536) × AllShort es

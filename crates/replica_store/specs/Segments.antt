@@ -1,10 +1,8 @@
 -- A store: a replica, and beside it the segments that its batches lie in, which have their codings.
-use Rattle.std.specs.Prelude.{◌≡◌, ◌⊎◌, ◌&&◌, Bool, IsTrue, is_some, nat_lt, slice_get, ℕ, cond, List, [], ◌∷◌, ◌++◌, ◌+◌, ◌≤◌, length, slice_set, Option, Some, None, Result, Ok, Err, refl}
+use Rattle.std.specs.Prelude.{◌≡◌, ◌⊎◌, ◌&&◌, Bool, IsTrue, is_some, nat_lt, slice_get, ℕ, cond, List, [], ◌∷◌, ◌++◌, length, slice_set, Option, Some, None, Result, Ok, Err, refl}
 use Rattle.std.specs.Coded.{Coded, code_by, coded×}
 use Rattle.std.specs.FinMap as map
-use Rattle.std.specs.FinSet as set
-use Rattle.transpose_order.specs.Mask.{count_below}
-use Rattle.table_model.specs.Name.{name_cmp, row_name_cmp, coded_name, is_proper_name}
+use Rattle.table_model.specs.Name.{name_cmp, coded_name, is_proper_name}
 use Rattle.table_model.specs.Outcome.{Acts}
 use Rattle.table_model.specs.State.{Batch}
 use Rattle.table_model.specs.declared.names.BatchName.{BatchName}
@@ -15,7 +13,7 @@ use Rattle.table_model.specs.Table.{Table, IsBatch}
 use Rattle.segment_core.specs.Segment.{SegmentForm, recoded, vector_at, widths_in, widths_of}
 use Rattle.segment_core.specs.declared.coding.Coding.{Coding}
 use Rattle.segment_core.specs.SegmentCode.{coded_segment}
-use Rattle.replica_store.specs.Replica.{Replica, coded_replica, coded_origin, differs, is_live_row, vectors_of, IsSound}
+use Rattle.replica_store.specs.Replica.{Replica, coded_replica, coded_origin, differs, vectors_of, IsSound}
 
 -- a batch's segment with its name
 abbrev pub Entry : Type 0
@@ -90,16 +88,6 @@ recoded_in segments name column vector coding = put_under segments name (recoded
 abbrev pub conflict_in : map.FinMap name_cmp Batch → List Entry → Option BatchName
 conflict_in ours [] = None
 conflict_in ours (e ∷ es) = cond (differs (map.get ours e.0) e.1.rows) (Some e.0) (conflict_in ours es)
-
--- how many rows of the segments aren't deleted
-abbrev pub live_in : set.FinSet row_name_cmp → List Entry → ℕ
-live_in deleted [] = 0
-live_in deleted (e ∷ es) = count_below (is_live_row deleted e.0) (length e.1.rows) + live_in deleted es
-
--- no segment is longer than a batch may be
-abbrev pub AreShort : List Entry → Type 0
-AreShort [] = Unit {0}
-AreShort (e ∷ es) = (length e.1.rows ≤ 65536) × AreShort es
 
 -- the entry at a place has this name
 abbrev pub HoldsAt : List Entry → BatchName → ℕ → Type 0

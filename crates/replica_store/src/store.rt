@@ -1,9 +1,8 @@
 //! A replica's store: a table's schema, an own origin, and a state that appends, inserts and merges change.
-ghost use Rattle.std.specs.Prelude.{◌++◌, ◌≡◌, ◌<◌, ◌≤◌, length, slice_get, Some, None, Ok, Err, true, IsOk, IfOk, IfErr, OnOk, OnErr, IsTrue, T};
+ghost use Rattle.std.specs.Prelude.{◌++◌, ◌≡◌, ◌<◌, ◌≤◌, slice_get, Some, None, Ok, Err, true, IsOk, IfOk, IfErr, OnOk, OnErr, IsTrue, T};
 ghost use Rattle.std.specs.FinMap as map;
 ghost use Rattle.std.specs.List.{All};
 ghost use Rattle.table_model.specs.Name.{name_cmp, is_proper_name};
-ghost use Rattle.transpose_order.specs.Mask.{count_below};
 ghost use Rattle.table_model.specs.Outcome.{Acts, Gives, unless};
 ghost use Rattle.table_model.specs.State.{union_of};
 ghost use Rattle.table_model.specs.Table.{IsBatch};
@@ -11,8 +10,8 @@ ghost use Rattle.segment_core.specs.Segment.{canonical_segment, widths_in, width
 ghost use Rattle.segment_core.specs.SegmentBytes.{HasBytesIn};
 ghost use Rattle.replica_store.specs.Exchange.{summary_of, offered, unlisted, applied, opened};
 ghost use Rattle.replica_store.specs.Parted.{AreParted};
-ghost use Rattle.replica_store.specs.Replica.{Replica, IsWithinLimits, new_replica, entries_of, names_of, appended, inserted, merged, merge_fault, next_name, place_for, replica_with, with_batch, joined_with, live_count, is_live_row, deleted_rows, delete_fault, recoded_rows, recode_fault};
-ghost use Rattle.replica_store.specs.Segments.{rows_in, union_in, recoded_in, live_in, AreShort, AreStored, IsStored, IsSoundStore, HasVector};
+ghost use Rattle.replica_store.specs.Replica.{Replica, IsWithinLimits, new_replica, entries_of, names_of, appended, inserted, merged, merge_fault, next_name, place_for, replica_with, with_batch, joined_with, deleted_rows, delete_fault, recoded_rows, recode_fault};
+ghost use Rattle.replica_store.specs.Segments.{rows_in, union_in, recoded_in, AreStored, IsStored, IsSoundStore, HasVector};
 ghost use Rattle.segment_core.specs.declared.coding.Coding.{Coding};
 ghost use Rattle.replica_store.specs.declared.inserted.Inserted.TheVariants.{New, Already};
 
@@ -33,7 +32,7 @@ pub const MAX_BATCHES: usize = 65_536;
 const VECTOR_ROWS: usize = 1024;
 
 /// The greatest number that a batch may have.
-const LAST_NUMBER: u32 = 4_294_967_295;
+const LAST_NUMBER: u32 = u32::MAX;
 
 /// One replica of a table. Contracts see it as the replica, which is a schema, an own origin and a state, and beside that the
 /// segments in which its batches lie, with their codings.
@@ -149,14 +148,6 @@ impl Store {
         ensures { result.now ≡ self.now.replica.state.deleted }
     {
         &self.tombs
-    }
-
-    /// How many live rows there are: rows of a batch that is held whose names aren't deleted.
-    pub fn live_count(&self) -> u64
-        ensures { result ≡ live_count self.now.replica }
-    {
-        let (first, second) = self.batches.parts();
-        count_live(first, &self.tombs) + count_live(second, &self.tombs)
     }
 
     /// Puts the rows in as a batch of the own origin, with one more than the greatest number that is held of it, else 1.
@@ -457,30 +448,4 @@ fn delete_fault(first: RowName, last: u16) -> Result<(), Refusal>
         return Err(Refusal::BadRange(0));
     }
     Ok(())
-}
-
-/// How many rows of the batches aren't deleted.
-fn count_live(entries: &[(BatchName, Segment)], tombs: &Tombs) -> u64
-    requires limit { length entries.now ≤ 65536 }
-    requires short { AreShort entries.now }
-    ensures { result ≡ live_in tombs.now entries.now }
-{
-    let mut count = 0;
-    for (name, segment) in entries {
-        count += count_live_rows(*name, segment.rows(), tombs) as u64;
-    }
-    count
-}
-
-/// How many of the first rows of a batch aren't deleted, by the words of masks.
-fn count_live_rows(batch: BatchName, rows: usize, tombs: &Tombs) -> usize
-    requires { rows ≤ 65536 }
-    ensures { result ≡ count_below (is_live_row tombs.now batch) rows }
-{
-    let mut count = 0;
-    for vector in 0..rows.div_ceil(VECTOR_ROWS) {
-        let covered = (rows - VECTOR_ROWS * vector).min(VECTOR_ROWS);
-        count += tombs.live_mask(batch, vector, covered).count();
-    }
-    count
 }
