@@ -1,5 +1,5 @@
 -- The mask of the rows that are kept.
-use Rattle.std.proofs.Common.{◌≡◌, ℕ, zero, suc, ◌+◌, ◌≤◌, ◌==◌, Bool, true, false, not, cond, ◌&&◌, List, [], ◌∷◌, Option, Some, None, count_by, refl, sym, ap, ◌∙◌, arith}
+use Rattle.std.proofs.Common.{◌≡◌, ℕ, zero, suc, ◌+◌, ◌<◌, ◌≤◌, ◌==◌, length, Bool, true, false, not, cond, ◌&&◌, List, [], ◌∷◌, Option, Some, None, count_by, refl, sym, ap, ◌∙◌, arith}
 use Rattle.std.proofs.lemmas.Bool.Decides.{nat_tests}
 use Rattle.std.proofs.lemmas.List.Sums.{sum_by-cons}
 use Rattle.table_model.specs.Condition.{condition_truth}
@@ -25,6 +25,12 @@ no_true [] n h = refl
 no_true (true ∷ xs) n h = absurd (omega (arith, sum_by-cons (λ (b : Bool). cond b 1 0) true xs))
 no_true (false ∷ xs) zero h = refl
 no_true (false ∷ xs) (suc n) h = no_true xs n (omega (arith, sum_by-cons (λ (b : Bool). cond b 1 0) false xs))
+
+-- and where each is false, none is counted
+pub none_counted : (xs : List Bool) → ((n : ℕ) → n < length xs → has xs n ≡ false) → count_by (λ b. b) xs ≡ 0
+none_counted [] h = refl
+none_counted (true ∷ xs) h = absurd (grind (arith, h 0 (omega arith)))
+none_counted (false ∷ xs) h = omega (arith, sum_by-cons (λ (b : Bool). cond b 1 0) false xs, none_counted xs (λ n l. h (suc n) (omega (arith, l))))
 
 pub kept-nowhere : (table : Table) (condition : Option Formula) (v : Vector) (live : List Bool) → live ≡ rows_of (is_live v) → count_by (λ b. b) live ≡ 0 → live ≡ kept_mask table condition v
 unfolding kept_mask

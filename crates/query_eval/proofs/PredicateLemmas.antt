@@ -44,8 +44,8 @@ operands_between table s batch vector x l k a b d mask c there e f g p =
     ∙ ap (λ t. and_of t (field_comparison LessOrEqual (whole (side_at v a n)) (whole (side_at v d n)))) (cells_compared GreaterOrEqual (side_at v a n) (side_at v b n))
     ∙ ap (and_of (comparison GreaterOrEqual (side_at v a n) (side_at v b n))) (cells_compared LessOrEqual (side_at v a n) (side_at v d n)))) p
 
-pub operand_among : (table : Table) (s : State) (batch vector : ℕ) (x : Operand) (a : Side) (cells : Decoded) (literals : List ℤ) (mask : List Bool) (c : Pair) → IsThere s batch vector → StandsFor table s x a → ((n : ℕ) → n < 1024 → decoded_at cells n ≡ side_at (vector_at s batch vector) a n) → IsPair mask (λ n. is_among (whole (decoded_at cells n)) literals) c → IsPair mask (λ n. is_among (operand_at table (vector_at s batch vector) x n) literals) c
-operand_among table s batch vector x a cells literals mask c there e f p =
+pub operand_among : (table : Table) (s : State) (batch vector : ℕ) (x : Operand) (a : Side) (literals : List ℤ) (mask : List Bool) (c : Pair) → IsThere s batch vector → StandsFor table s x a → IsPair mask (λ n. is_among (whole (side_at (vector_at s batch vector) a n)) literals) c → IsPair mask (λ n. is_among (operand_at table (vector_at s batch vector) x n) literals) c
+operand_among table s batch vector x a literals mask c there e p =
     let v = vector_at s batch vector in
     pair_alike mask _ (λ n. is_among (operand_at table v x n) literals) c
-    (λ n h. ap (λ (o : Option ℤ). is_among (whole o) literals) (f n h) ∙ ap (λ z. is_among z literals) (sym (e batch vector n there))) p
+    (λ n h. ap (λ z. is_among z literals) (sym (e batch vector n there))) p

@@ -19,6 +19,7 @@ pub fn count_rows(kept: &[KeptVector]) -> u128
 {
     let mut count = 0;
     for one in kept {
+        // That a mask has 1024 places is told by its words.
         let _words = one.rows.words();
         count += one.rows.count() as u128;
     }

@@ -1,5 +1,5 @@
 //! The rows that a query keeps: those that aren't deleted and at which WHERE is true.
-ghost use Rattle.std.specs.Prelude.{◌≡◌, ◌<◌, ◌≤◌, ◌+◌, ◌*◌, ◌++◌, cond, length, All, IfOk, OnOk};
+ghost use Rattle.std.specs.Prelude.{◌≡◌, ◌≢◌, ◌<◌, ◌≤◌, ◌+◌, ◌*◌, ◌++◌, cond, count_by, false, length, All, IfOk, IsTrue, OnOk};
 ghost use Rattle.query_eval.specs.Kept.{
   where_mentions,
   kept_mask,
@@ -29,6 +29,16 @@ pub struct KeptVector {
     pub rows: Mask,
 }
 
+/// Whether a mask has a row.
+fn has_rows(mask: &Mask) -> bool
+    ensures some { IsTrue result → count_by (λ row. row) mask.now ≢ 0 }
+    ensures none { result ≡ false → count_by (λ row. row) mask.now ≡ 0 }
+{
+    // That a mask has 1024 places is told by its words.
+    let _words = mask.words();
+    mask.next_true(0) < 1024
+}
+
 /// The rows of a vector that aren't deleted and at which WHERE is true. A vector without a live row takes no pass.
 pub fn kept_mask<C: Columns>(
     columns: &mut C,
@@ -43,7 +53,7 @@ pub fn kept_mask<C: Columns>(
     ensures passes { C.passes columns.new ≤ C.passes columns.old + cond (has_live (vector_at (C.state columns.old) batch vector)) (where_mentions condition.now) 0 }
 {
     let live = columns.live(batch, vector);
-    if live.count() == 0 {
+    if !has_rows(&live) {
         return live;
     }
     match condition {
@@ -70,7 +80,7 @@ fn keep_batch<C: Columns>(
 {
     for vector in 0..columns.vectors(batch) {
         let rows = kept_mask(columns, batch, vector, condition);
-        if rows.count() != 0 {
+        if has_rows(&rows) {
             kept.push(KeptVector {
                 batch,
                 vector,

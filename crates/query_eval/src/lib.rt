@@ -53,7 +53,7 @@ pub use kept::{KeptVector, kept_mask, kept_vectors};
 pub use pair::Pair;
 pub use plan::Plan;
 pub use predicates::{among_operand, between_operands};
-pub use rows::{among_rows, between_rows};
+pub use rows::{among_rows, among_values, between_rows};
 pub use seen::{is_kept, item_at};
 pub use side::{Side, compare_operands, compare_sides, null_operand, null_rows, side_of};
 pub use table_fields::whole_table;

@@ -73,6 +73,7 @@ pub fn count_at(rows: &Mask) -> usize
     ensures value { (values : List ℤ) → result ≡ length (values_at rows.now values) }
     ensures few { result ≤ 1024 }
 {
+    // That a mask has 1024 places is told by its words.
     let _words = rows.words();
     rows.count()
 }

@@ -1,17 +1,18 @@
 //! BETWEEN and IN of operands of WHERE over the rows of a vector, as pairs of masks.
-ghost use Rattle.std.specs.Prelude.{◌≡◌, ◌≤◌, ◌+◌};
+ghost use Rattle.std.specs.Prelude.{◌≡◌, ◌<◌, ◌≤◌, ◌+◌, length};
+ghost use Rattle.table_model.specs.Answer.{whole};
 ghost use Rattle.table_model.specs.Condition.{between, is_among};
 ghost use Rattle.table_model.specs.Truth.{and_of, comparison};
 ghost use Rattle.table_model.specs.declared.op.Op.TheVariants.{GreaterOrEqual, LessOrEqual};
 ghost use Rattle.query_eval.specs.Mentions.{operand_mentions};
 ghost use Rattle.query_eval.specs.Side.{side_at, side_mentions, HasColumn};
-ghost use Rattle.query_eval.specs.Vector.{IsThere, vector_at};
+ghost use Rattle.query_eval.specs.Vector.{IsThere, cell_at, vector_at};
 ghost use Rattle.query_eval.specs.Where.{IsPair, operand_at};
 
 use crate::columns::Columns;
 use crate::decoded::decode;
 use crate::pair::Pair;
-use crate::rows::{among_rows, between_rows};
+use crate::rows::{among, among_values, between_rows};
 use crate::side::{Side, side_of};
 use table_model::{Literals, Operand};
 use transpose_order::Mask;
@@ -93,8 +94,52 @@ pub fn between_operands<C: Columns>(
     between_sides(columns, batch, vector, operand, low, high, mask)
 }
 
-/// IN of an operand at the rows of a mask. Its room for a decoded column is its own: most conditions need none.
+/// IN of a column at the rows of a mask, which takes one pass. Its room for the values is its own: most conditions need none.
 #[inline(never)]
+fn among_column<C: Columns>(
+    columns: &mut C,
+    batch: usize,
+    vector: usize,
+    column: usize,
+    literals: &[i128],
+    mask: &Mask,
+) -> Pair
+    requires there { IsThere (C.state columns.old) batch vector }
+    requires column { column < length (C.table columns.old).columns }
+    ensures value { IsPair mask.now (λ n. is_among (whole (cell_at (vector_at (C.state columns.old) batch vector) column n)) literals.now) result }
+    ensures table { C.table columns.new ≡ C.table columns.old }
+    ensures state { C.state columns.new ≡ C.state columns.old }
+    ensures passes { C.passes columns.new ≤ C.passes columns.old + 1 }
+{
+    let nulls = columns.nulls(batch, column, vector);
+    let mut values = [0; 1024];
+    columns.decode_into(batch, column, vector, &mut values);
+    among_values(&nulls, &values, literals, mask)
+}
+
+/// IN of a side at the rows of a mask.
+fn among_side<C: Columns>(
+    columns: &mut C,
+    batch: usize,
+    vector: usize,
+    side: Side,
+    literals: &[i128],
+    mask: &Mask,
+) -> Pair
+    requires there { IsThere (C.state columns.old) batch vector }
+    requires column { HasColumn (C.table columns.old) side }
+    ensures value { IsPair mask.now (λ n. is_among (whole (side_at (vector_at (C.state columns.old) batch vector) side n)) literals.now) result }
+    ensures table { C.table columns.new ≡ C.table columns.old }
+    ensures state { C.state columns.new ≡ C.state columns.old }
+    ensures passes { C.passes columns.new ≤ C.passes columns.old + side_mentions side }
+{
+    match side {
+        Side::Column(column) => among_column(columns, batch, vector, column, literals, mask),
+        Side::Fixed(cell) => Pair::everywhere(among(cell, literals), mask),
+    }
+}
+
+/// IN of an operand at the rows of a mask.
 pub fn among_operand<C: Columns>(
     columns: &mut C,
     batch: usize,
@@ -110,6 +155,5 @@ pub fn among_operand<C: Columns>(
     ensures passes { C.passes columns.new ≤ C.passes columns.old + operand_mentions operand.now }
 {
     let side = side_of(columns, operand);
-    let cells = decode(columns, batch, vector, side);
-    among_rows(&cells, literals.as_slice(), mask)
+    among_side(columns, batch, vector, side, literals.as_slice(), mask)
 }

@@ -1,5 +1,5 @@
 //! BETWEEN over decoded cells row by row, and IN row by row or literal by literal.
-ghost use Rattle.std.specs.Prelude.{◌≡◌, cond, FitsSigned, IfSome, IsSome, List, None, Some, ℤ, pos, slice_index_or};
+ghost use Rattle.std.specs.Prelude.{◌≡◌, ◌<◌, cond, FitsSigned, IfSome, IsSome, List, None, Some, ℤ, pos, slice_index_or};
 ghost use Rattle.std.specs.Int.{w64};
 ghost use Rattle.std.specs.List.{All, list_any};
 ghost use Rattle.std.specs.Ordering.{int_eq};
@@ -16,6 +16,12 @@ use crate::masked_folds::equal_rows;
 use crate::pair::Pair;
 use table_model::{Op, Truth};
 use transpose_order::Mask;
+
+/// So many literals are not gone through one by one over all values where few rows are looked at.
+const MANY_LITERALS: usize = 5;
+
+/// So many rows cost with one literal what a look at all values for it costs.
+const FEW_ROWS: usize = 256;
 
 /// BETWEEN of three cells.
 fn between(cell: Option<i128>, low: Option<i128>, high: Option<i128>) -> Truth
@@ -50,7 +56,7 @@ fn contains(literals: &[i128], value: i128) -> bool
 }
 
 /// IN of a cell.
-fn among(cell: Option<i128>, literals: &[i128]) -> Truth
+pub(crate) fn among(cell: Option<i128>, literals: &[i128]) -> Truth
     ensures { result ≡ is_among (whole cell) literals.now }
 {
     match cell {
@@ -65,9 +71,21 @@ fn among(cell: Option<i128>, literals: &[i128]) -> Truth
     }
 }
 
-/// IN at the rows of a mask, row by row.
-fn among_by_row(operand: &Decoded, literals: &[i128], mask: &Mask) -> Pair
-    ensures { IsPair mask.now (λ n. is_among (whole (decoded_at operand.now n)) literals.now) result }
+/// The cell at a row of a column with these nulls and values.
+fn cell_of(nulls: &Mask, values: &[i64; 1024], row: usize) -> Option<i128>
+    requires { row < 1024 }
+    ensures { result ≡ cond (has nulls.now row) None (Some (slice_index_or values.now row (pos 0))) }
+{
+    if nulls.get(row) {
+        None
+    } else {
+        Some(i128::from(values[row]))
+    }
+}
+
+/// IN of a column's cells at the rows of a mask, row by row.
+fn among_by_row(nulls: &Mask, values: &[i64; 1024], literals: &[i128], mask: &Mask) -> Pair
+    ensures { IsPair mask.now (λ n. is_among (whole (cond (has nulls.now n) None (Some (slice_index_or values.now n (pos 0))))) literals.now) result }
 {
     let mut pair = Pair {
         yes: Mask::none(),
@@ -75,7 +93,7 @@ fn among_by_row(operand: &Decoded, literals: &[i128], mask: &Mask) -> Pair
     };
     for row in 0..1024 {
         if mask.get(row) {
-            pair.put(row, among(operand.at(row), literals));
+            pair.put(row, among(cell_of(nulls, values, row), literals));
         }
     }
     pair
@@ -130,21 +148,26 @@ fn among_found(nulls: &Mask, found: &Mask, literals: &[i128], mask: &Mask) -> Pa
     }
 }
 
-/// IN at the rows of a mask. A look at a column's 1024 values for one literal costs what 256 rows cost with it, so that few rows
-/// and many literals go row by row, and so does a literal that doesn't fit 64 bits.
+/// IN of a column with these nulls and values at the rows of a mask. A look at the 1024 values for one literal costs what 256 rows
+/// cost with it, so that few rows and many literals go row by row, and so does a literal that doesn't fit 64 bits.
+pub fn among_values(nulls: &Mask, values: &[i64; 1024], literals: &[i128], mask: &Mask) -> Pair
+    ensures { IsPair mask.now (λ n. is_among (whole (cond (has nulls.now n) None (Some (slice_index_or values.now n (pos 0))))) literals.now) result }
+{
+    if literals.len() > MANY_LITERALS && mask.count() < FEW_ROWS {
+        return among_by_row(nulls, values, literals, mask);
+    }
+    match values_among(values, literals) {
+        Some(found) => among_found(nulls, &found, literals, mask),
+        None => among_by_row(nulls, values, literals, mask),
+    }
+}
+
+/// IN at the rows of a mask.
 pub fn among_rows(operand: &Decoded, literals: &[i128], mask: &Mask) -> Pair
     ensures { IsPair mask.now (λ n. is_among (whole (decoded_at operand.now n)) literals.now) result }
 {
     match operand {
-        Decoded::Column { nulls, values } => {
-            if literals.len() > 5 && mask.count() < 256 {
-                return among_by_row(operand, literals, mask);
-            }
-            match values_among(values, literals) {
-                Some(found) => among_found(nulls, &found, literals, mask),
-                None => among_by_row(operand, literals, mask),
-            }
-        }
-        Decoded::Fixed(_) => among_by_row(operand, literals, mask),
+        Decoded::Column { nulls, values } => among_values(nulls, values, literals, mask),
+        Decoded::Fixed(cell) => Pair::everywhere(among(*cell, literals), mask),
     }
 }

@@ -58,6 +58,7 @@ fn vector_in(store: &Store, batch: usize, column: usize, vector: usize) -> &Code
     ensures { HasCells result.now (vector_at store.now.replica.state batch vector) column }
 {
     let (_, segment) = store.batch(batch);
+    // These tell which rows and columns the segment has, and how many rows the vector covers.
     let _rows = segment.rows();
     let _columns = segment.columns();
     let found = segment.vector(column, vector);
@@ -98,7 +99,9 @@ impl<'a> Columns for StoreView<'a> {
     fn nulls(&self, batch: usize, column: usize, vector: usize) -> Mask {
         let found = vector_in(self.store, batch, column, vector);
         let mut nulls = found.null_rows();
-        nulls.set_range(found.rows(), VECTOR_ROWS, true);
+        if found.rows() < VECTOR_ROWS {
+            nulls.set_range(found.rows(), VECTOR_ROWS, true);
+        }
         nulls
     }
 

@@ -7,7 +7,7 @@ use Rattle.query_eval.specs.declared.kept.KeptVector.{KeptVector}
 use Rattle.query_eval.proofs.KeptSteps.{rows-pushed, rows-skipped, live-counted, passes-more, passes-within, counted-le}
 use Rattle.query_eval.proofs.Lifted.{front_kept-all}
 use Rattle.query_eval.proofs.kept.keep_batch.Goals as goal
-use Rattle.query_eval.proofs.kept.keep_batch.Goals.{then-count-ne0+in_ok-push, else-count-ne0}
+use Rattle.query_eval.proofs.kept.keep_batch.Goals.{then-has_rows+in_ok-push, else-has_rows}
 
 pub returns-in_err-push-clause-passes : goal.returns-in_err-push-clause-passes
 returns-in_err-push-clause-passes g c =
@@ -28,10 +28,10 @@ loop-vector-preserved g c =
     let within : i < vector_count s batch = omega (arith, c.vectors-vector-end.ensures) in
     let k : KeptVector = record { batch = batch; vector = i; rows = m.result } in
     let passes = passes-more table _ condition s _ batch i inv.table inv.state m.result m.ensures.value (where_mentions condition) _ _ _ inv.passes m.ensures.passes in
-    elim c.if-count-ne0.branch [
-      | then-count-ne0+in_ok-push w ↦
-          let e : c.if-count-ne0.kept.items ≡ c.loop-vector.kept.items ++ k ∷ [] = ap (λ v. v.items) w.kept-is ∙ w.in_ok-push.ensures.items in
-          let one = live-counted table _ condition s _ batch i inv.table inv.state m.result m.ensures.value c.count.result c.count.ensures w.if-count-ne0.true in
+    elim c.if-has_rows.branch [
+      | then-has_rows+in_ok-push w ↦
+          let e : c.if-has_rows.kept.items ≡ c.loop-vector.kept.items ++ k ∷ [] = ap (λ v. v.items) w.kept-is ∙ w.in_ok-push.ensures.items in
+          let one = live-counted table _ condition s _ batch i inv.table inv.state m.result m.ensures.value _ refl (c.has_rows.ensures.some w.if-has_rows.true) in
           record {
             rows = rows-pushed table _ condition s _ batch i inv.table inv.state m.result m.ensures.value c.loop-vector.kept.items _ k _ within inv.rows e refl refl refl;
             there = subst (AreThere s) (sym e) (All-push (λ (x : KeptVector). IsThere s x.batch x.vector) c.loop-vector.kept.items k inv.there (record { batches = c.requires.batch; vectors = within }));
@@ -40,11 +40,11 @@ loop-vector-preserved g c =
             state = m.ensures.state ∙ inv.state;
             passes = passes;
           }
-      | else-count-ne0 w ↦
-          let e : c.if-count-ne0.kept.items ≡ c.loop-vector.kept.items = ap (λ v. v.items) w.kept-is in
+      | else-has_rows w ↦
+          let e : c.if-has_rows.kept.items ≡ c.loop-vector.kept.items = ap (λ v. v.items) w.kept-is in
           let up = counted-le (λ v. has_live (vector_at s batch v)) i (i + 1) (omega arith) in
           record {
-            rows = ap (rows_in s) e ∙ rows-skipped table _ condition s _ batch i inv.table inv.state m.result m.ensures.value c.loop-vector.kept.items _ within inv.rows (sym c.count.ensures ∙ w.if-count-ne0.false);
+            rows = ap (rows_in s) e ∙ rows-skipped table _ condition s _ batch i inv.table inv.state m.result m.ensures.value c.loop-vector.kept.items _ within inv.rows (c.has_rows.ensures.none w.if-has_rows.false);
             there = subst (AreThere s) (sym e) inv.there;
             few = omega (arith, ap length e, up, inv.few);
             table = m.ensures.table ∙ inv.table;
