@@ -11,7 +11,7 @@ use transpose_order::{Mask, place_in_word};
 
 /// The lesser of two numbers where the second is taken, else the first.
 #[inline(always)]
-fn lesser_if(taken: bool, least: i64, number: i64) -> i64
+pub(crate) fn lesser_if(taken: bool, least: i64, number: i64) -> i64
     ensures { result ≡ cond taken (int_min least number) least }
 {
     if taken { least.min(number) } else { least }
@@ -19,7 +19,7 @@ fn lesser_if(taken: bool, least: i64, number: i64) -> i64
 
 /// The greater of two numbers where the second is taken, else the first.
 #[inline(always)]
-fn greater_if(taken: bool, greatest: i64, number: i64) -> i64
+pub(crate) fn greater_if(taken: bool, greatest: i64, number: i64) -> i64
     ensures { result ≡ cond taken (int_max greatest number) greatest }
 {
     if taken {

@@ -14,6 +14,7 @@ mod lanes;
 mod meter;
 mod paths;
 mod ranges;
+mod row_counts;
 mod run_folds;
 mod runs;
 mod sums;

@@ -1,10 +1,14 @@
 //! Set functions of runs of equal values, run by run.
-ghost use Rattle.std.specs.Prelude.{◌≡◌, cond, pos, ◌+ℤ◌, Some, None};
+ghost use Rattle.std.specs.Prelude.{◌≡◌, ◌-◌, ◌^◌, cond, pos, negsuc, ◌+ℤ◌, Some, None, length, IsTrue, ℕ, ◌<◌, true};
+ghost use Rattle.std.specs.Int.{int_min, int_max};
 ghost use Rattle.transpose_order.specs.Mask.{has};
+ghost use Rattle.bit_interleave.specs.Range.{value_at};
 ghost use Rattle.run_dictionary.specs.Runs.{run_value};
 ghost use Rattle.table_model.specs.Values.{lesser, greater};
 ghost use Rattle.native_lanes.specs.Folds.{fold_to};
 
+use crate::extremes::{greater_if, lesser_if};
+use crate::row_counts::{rows_before_words, rows_below};
 use native_lanes::times;
 use run_dictionary::Runs;
 use transpose_order::Mask;
@@ -14,12 +18,14 @@ pub(crate) fn sum_of_runs(form: &Runs, rows: &Mask) -> i128
     ensures { result ≡ fold_to ◌+ℤ◌ (pos 0) 1024 (λ n. cond (has rows.now n) (run_value form.now n) (pos 0)) }
 {
     let _ = form.lane_width();
+    let words = rows.words();
+    let before_words = rows_before_words(words);
     let mut sum = 0;
     let mut row = 0;
     let mut before = 0;
     for value in form.values() {
         let end = form.starts().next_true(row + 1);
-        let upto = rows.count_below(end);
+        let upto = rows_below(words, &before_words, end);
         sum += times(*value, upto - before);
         before = upto;
         row = end;
@@ -27,56 +33,99 @@ pub(crate) fn sum_of_runs(form: &Runs, rows: &Mask) -> i128
     sum
 }
 
-/// The lesser of a least value so far and another where that is taken, and the least value so far where it isn't.
-fn lesser_if(taken: bool, least: Option<i64>, value: i64) -> Option<i64>
-    ensures { result ≡ cond taken (lesser least (Some value)) least }
+/// The least of some numbers, and the greatest of 64 bits over none.
+fn least_of_all(numbers: &[i64]) -> i64
+    ensures { result ≡ fold_to int_min (pos (2 ^ 63 - 1)) (length numbers.now) (value_at numbers.now) }
 {
-    match least {
-        None if taken => Some(value),
-        Some(least) if taken => Some(least.min(value)),
-        least => least,
-    }
-}
-
-/// The greater of a greatest value so far and another where that is taken, and the greatest value so far where it isn't.
-fn greater_if(taken: bool, greatest: Option<i64>, value: i64) -> Option<i64>
-    ensures { result ≡ cond taken (greater greatest (Some value)) greatest }
-{
-    match greatest {
-        None if taken => Some(value),
-        Some(greatest) if taken => Some(greatest.max(value)),
-        greatest => greatest,
-    }
-}
-
-/// The least value of a mask's rows, none over none.
-pub(crate) fn least_of_runs(form: &Runs, rows: &Mask) -> Option<i64>
-    ensures { result ≡ fold_to lesser None 1024 (λ n. cond (has rows.now n) (Some (run_value form.now n)) None) }
-{
-    let _ = form.lane_width();
-    let mut least = None;
-    let mut row = 0;
-    for value in form.values() {
-        let end = form.starts().next_true(row + 1);
-        let taken = rows.next_true(row);
-        least = lesser_if(taken < end, least, *value);
-        row = end;
+    let mut least = i64::MAX;
+    for number in numbers {
+        least = least.min(*number);
     }
     least
 }
 
+/// The greatest of some numbers, and the least of 64 bits over none.
+fn greatest_of_all(numbers: &[i64]) -> i64
+    ensures { result ≡ fold_to int_max (negsuc (2 ^ 63 - 1)) (length numbers.now) (value_at numbers.now) }
+{
+    let mut greatest = i64::MIN;
+    for number in numbers {
+        greatest = greatest.max(*number);
+    }
+    greatest
+}
+
+/// Whether a mask has all 1024 rows.
+fn has_all_rows(rows: &Mask) -> bool
+    ensures { IsTrue result → (n : ℕ) → n < 1024 → has rows.now n ≡ true }
+{
+    *rows == Mask::all()
+}
+
+/// The least value of a mask's rows, none over none.
+fn least_of_rows(form: &Runs, rows: &Mask) -> Option<i64>
+    ensures { result ≡ fold_to lesser None 1024 (λ n. cond (has rows.now n) (Some (run_value form.now n)) None) }
+{
+    let _ = form.lane_width();
+    let words = rows.words();
+    let before_words = rows_before_words(words);
+    let mut least = i64::MAX;
+    let mut row = 0;
+    let mut before = 0;
+    for value in form.values() {
+        let end = form.starts().next_true(row + 1);
+        let upto = rows_below(words, &before_words, end);
+        least = lesser_if(before < upto, least, *value);
+        before = upto;
+        row = end;
+    }
+    if before == 0 {
+        return None;
+    }
+    Some(least)
+}
+
 /// The greatest value of a mask's rows, none over none.
+fn greatest_of_rows(form: &Runs, rows: &Mask) -> Option<i64>
+    ensures { result ≡ fold_to greater None 1024 (λ n. cond (has rows.now n) (Some (run_value form.now n)) None) }
+{
+    let _ = form.lane_width();
+    let words = rows.words();
+    let before_words = rows_before_words(words);
+    let mut greatest = i64::MIN;
+    let mut row = 0;
+    let mut before = 0;
+    for value in form.values() {
+        let end = form.starts().next_true(row + 1);
+        let upto = rows_below(words, &before_words, end);
+        greatest = greater_if(before < upto, greatest, *value);
+        before = upto;
+        row = end;
+    }
+    if before == 0 {
+        return None;
+    }
+    Some(greatest)
+}
+
+/// The least value of a mask's rows, none over none. Where the mask has all rows, none is looked for: each run has one at least.
+pub(crate) fn least_of_runs(form: &Runs, rows: &Mask) -> Option<i64>
+    ensures { result ≡ fold_to lesser None 1024 (λ n. cond (has rows.now n) (Some (run_value form.now n)) None) }
+{
+    let _ = form.lane_width();
+    if has_all_rows(rows) {
+        return Some(least_of_all(form.values()));
+    }
+    least_of_rows(form, rows)
+}
+
+/// The greatest value of a mask's rows, none over none. Where the mask has all rows, none is looked for: each run has one at least.
 pub(crate) fn greatest_of_runs(form: &Runs, rows: &Mask) -> Option<i64>
     ensures { result ≡ fold_to greater None 1024 (λ n. cond (has rows.now n) (Some (run_value form.now n)) None) }
 {
     let _ = form.lane_width();
-    let mut greatest = None;
-    let mut row = 0;
-    for value in form.values() {
-        let end = form.starts().next_true(row + 1);
-        let taken = rows.next_true(row);
-        greatest = greater_if(taken < end, greatest, *value);
-        row = end;
+    if has_all_rows(rows) {
+        return Some(greatest_of_all(form.values()));
     }
-    greatest
+    greatest_of_rows(form, rows)
 }

@@ -9,7 +9,7 @@ use Rattle.run_dictionary.proofs.CountLemmas.{count_below-rises}
 use Rattle.native_lanes.specs.Folds.{fold_to}
 use Rattle.native_lanes.proofs.FoldLemmas.{fold_to-zero}
 use Rattle.fused_kernels.proofs.RunLemmas.{first_run, next_run, value_of_run, all_runs}
-use Rattle.fused_kernels.proofs.RunFoldLemmas.{sum_more}
+use Rattle.fused_kernels.proofs.RunFoldLemmas.{counted_in_words, sum_more}
 use Rattle.native_lanes.proofs.TimesLemmas.{sum_fits}
 use Rattle.segment_core.specs.declared.coded.Coded.TheVariants.{Runs}
 use Rattle.fused_kernels.proofs.VectorLemmas.{value_in_fits}
@@ -24,11 +24,11 @@ loop-value-init c = record {
 
 pub overflow_sub-upto : goal.overflow_sub-upto
 overflow_sub-upto c =
-    omega (arith, c.loop-value.invariant.before, c.count_below-upto.ensures, count_below-rises (has c.args.rows.now) c.loop-value.row c.next_true-end.result (omega (arith, c.next_true-end.ensures.order)))
+    omega (arith, c.loop-value.invariant.before, (c.rows_below-upto.ensures ∙ counted_in_words c.words-words.result.now c.args.rows.now c.next_true-end.result (sym c.words-words.ensures) c.next_true-end.ensures.within), count_below-rises (has c.args.rows.now) c.loop-value.row c.next_true-end.result (omega (arith, c.next_true-end.ensures.order)))
 
 pub times-sum-requires : goal.times-sum-requires
 times-sum-requires c =
-    omega (arith, c.count_below-upto.ensures, count_below-le (has c.args.rows.now) c.next_true-end.result, c.next_true-end.ensures.within)
+    omega (arith, (c.rows_below-upto.ensures ∙ counted_in_words c.words-words.result.now c.args.rows.now c.next_true-end.result (sym c.words-words.ensures) c.next_true-end.ensures.within), count_below-le (has c.args.rows.now) c.next_true-end.result, c.next_true-end.ensures.within)
 
 -- the sum with a run more
 summed : (c : goal.After-times-sum) → to_z w128 c.loop-value.sum-bits +ℤ to_z w128 (of_z w128 c.times-sum.result) ≡ fold_to ◌+ℤ◌ (pos 0) c.next_true-end.result (λ n. cond (has c.args.rows.now n) (run_value c.args.form.now n) (pos 0))
@@ -50,8 +50,8 @@ summed c =
     let f : ℕ → ℤ = λ n. cond (b n) (run_value form n) (pos 0) in
     ap (λ z. z +ℤ to_z w128 (of_z w128 c.times-sum.result)) c.loop-value.invariant.sum
     ∙ ap (λ z. fold_to ◌+ℤ◌ (pos 0) row f +ℤ z) (to_z-of_z w128 c.times-sum.result wide ∙ c.times-sum.ensures)
-    ∙ ap (λ z. fold_to ◌+ℤ◌ (pos 0) row f +ℤ (z *ℤ pos (c.count_below-upto.result - c.loop-value.before))) (to_z-of_z w64 value fits ∙ is)
-    ∙ ap (λ (k : ℕ). fold_to ◌+ℤ◌ (pos 0) row f +ℤ (v *ℤ pos (k - c.loop-value.before))) c.count_below-upto.ensures
+    ∙ ap (λ z. fold_to ◌+ℤ◌ (pos 0) row f +ℤ (z *ℤ pos (c.rows_below-upto.result - c.loop-value.before))) (to_z-of_z w64 value fits ∙ is)
+    ∙ ap (λ (k : ℕ). fold_to ◌+ℤ◌ (pos 0) row f +ℤ (v *ℤ pos (k - c.loop-value.before))) (c.rows_below-upto.ensures ∙ counted_in_words c.words-words.result.now c.args.rows.now c.next_true-end.result (sym c.words-words.ensures) c.next_true-end.ensures.within)
     ∙ ap (λ (k : ℕ). fold_to ◌+ℤ◌ (pos 0) row f +ℤ (v *ℤ pos (count_below b end - k))) c.loop-value.invariant.before
     ∙ sum_more f b v row end order (λ n from below. ap (λ z. cond (b n) z (pos 0)) (value_of_run form row end index n c.loop-value.invariant.begins left none from below))
 
@@ -72,7 +72,7 @@ loop-value-preserved c =
     let start : end < 1024 → has form.starts end ≡ true = subst (λ (m : List Bool). end < 1024 → has m end ≡ true) c.starts.ensures c.next_true-end.ensures.here in
     record {
       begins = next_run form row end index c.lane_width.ensures.form c.loop-value.invariant.begins left c.next_true-end.ensures.order c.next_true-end.ensures.within none start;
-      before = c.count_below-upto.ensures;
+      before = (c.rows_below-upto.ensures ∙ counted_in_words c.words-words.result.now c.args.rows.now c.next_true-end.result (sym c.words-words.ensures) c.next_true-end.ensures.within);
       sum = to_z-of_z w128 _ (overflow_add-sum c) ∙ summed c;
     }
 
