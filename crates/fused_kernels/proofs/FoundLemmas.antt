@@ -1,11 +1,11 @@
 -- The rows found are those at which the test holds, with bounds of 128 bits as they are passed.
-use Rattle.std.proofs.Common.{◌≡◌, ◌<◌, not, Bool, if◌then◌else◌, ℕ, ℤ, List, FitsSigned, to_z, of_z, sym, ap, ◌∙◌}
+use Rattle.std.proofs.Common.{◌≡◌, ◌<◌, not, Bool, if◌then◌else◌, ℕ, ℤ, List, Option, Some, None, IfSome, FitsSigned, to_z, of_z, sym, ap, ◌∙◌}
 use Rattle.std.specs.Int.{w128}
 use Rattle.std.proofs.lemmas.Int.{to_z-of_z}
 use Rattle.table_model.specs.Truth.{compared}
 use Rattle.table_model.specs.declared.op.Op.{Op}
 use Rattle.transpose_order.specs.Mask.{rows_of, has}
-use Rattle.transpose_order.specs.MaskWords.{has-rows_of}
+use Rattle.transpose_order.specs.MaskWords.{rows_of-like, has-rows_of}
 use Rattle.segment_core.specs.Coded.{value_in}
 use Rattle.segment_core.specs.declared.coded.Coded.{Coded}
 use Rattle.fused_kernels.specs.Seen.{between}
@@ -23,3 +23,8 @@ pub held_where : (held found : List Bool) (inside : Bool) (op : Op) (literal low
 held_where held found inside op literal low high v n is h at fits range =
     ap (λ m. has m n) is ∙ has-rows_of (λ n. if inside then has found n else not (has found n)) n h
     ∙ ap (λ b. if inside then b else not b) at ∙ sym range ∙ ap (compared op v) (to_z-of_z w128 literal fits)
+
+-- rows that are found where a test holds are found where one holds that is the same
+pub found_alike : (found : Option (List Bool)) (f g : ℕ → Bool) → IfSome found (λ rows. rows ≡ rows_of f) → ((n : ℕ) → n < 1024 → f n ≡ g n) → IfSome found (λ rows. rows ≡ rows_of g)
+found_alike None f g is same = is
+found_alike (Some rows) f g is same = is ∙ rows_of-like f g same

@@ -12,3 +12,4 @@ pub mod RowsLemmas
 pub mod CodeLemmas
 pub mod CodeRangeLemmas
 pub mod CodeSumLemmas
+pub mod OneValueLemmas

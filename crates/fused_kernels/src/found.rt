@@ -1,5 +1,6 @@
 //! The rows of a coded vector whose value is in a range, found by the way that its coding has.
 ghost use Rattle.std.specs.Prelude.{◌≡◌, ℕ, ◌<◌, ◌&&◌, not, IfSome, IsSome, if◌then◌else◌};
+ghost use Rattle.table_model.specs.Truth.{compared};
 ghost use Rattle.transpose_order.specs.Mask.{rows_of, has};
 ghost use Rattle.frame_delta.specs.Frame.{frame_value};
 ghost use Rattle.run_dictionary.specs.Runs.{RunForm};
@@ -11,12 +12,14 @@ ghost use Rattle.fused_kernels.specs.Seen.{looked_at, between};
 ghost use Rattle.fused_kernels.specs.VectorSeen.{vector_seen};
 
 use crate::codes::dict_between;
+use crate::comparisons::range_of;
 use crate::lanes::rows_among;
 use crate::ranges::{first_from, last_up_to};
 use crate::runs::runs_between;
 use frame_delta::For;
 use native_lanes::{deltas_within, frame_between, frame_within};
 use segment_core::{Coded, CodedVector};
+use table_model::Op;
 use transpose_order::Mask;
 
 /// The rows of a vector that are looked at: those of the mask that are covered and not null.
@@ -85,6 +88,22 @@ pub(crate) fn held(found: &Mask, inside: bool) -> Mask
         return Mask::all().and(found);
     }
     found.not()
+}
+
+/// The rows at which a comparison of the value with a literal holds, or none where the lanes have to be looked at, which are of 8
+/// bits then.
+pub(crate) fn found_by_literal(coded: &Coded, op: Op, literal: i128) -> Option<Mask>
+    ensures rows { IfSome result (λ found. found ≡ rows_of (λ n. compared op (value_in coded.now n) literal)) }
+    ensures wide { 8 < lane_width_of coded.now → IsSome result }
+    ensures runs { (form : RunForm) → coded.now ≡ InRuns form → IsSome result }
+    ensures dict { (form : DictForm) → coded.now ≡ InDict form → IsSome result }
+{
+    let _ = coded.lane_width();
+    let (low, high, inside) = range_of(op, literal);
+    match found_between(coded, low, high) {
+        None => None,
+        Some(found) => Some(held(&found, inside)),
+    }
 }
 
 /// The rows of a vector looked at that are among those found, and the other rows looked at.

@@ -12,6 +12,7 @@ mod extremes;
 mod found;
 mod lanes;
 mod meter;
+mod one_value;
 mod paths;
 mod ranges;
 mod row_counts;

@@ -1,22 +1,24 @@
 //! The kernels over coded vectors, each with its count of passes.
-ghost use Rattle.std.specs.Prelude.{◌≡◌, ℕ, ◌&&◌, not};
+ghost use Rattle.std.specs.Prelude.{◌≡◌, ◌<◌, ℕ, ◌&&◌, not, IfSome, IsSome};
 ghost use Rattle.table_model.specs.Truth.{compared};
 ghost use Rattle.table_model.specs.Values.{total, least, greatest};
 ghost use Rattle.transpose_order.specs.Mask.{rows_of};
-ghost use Rattle.segment_core.specs.Coded.{value_in, values_of};
+ghost use Rattle.frame_delta.specs.Frame.{FrameForm};
+ghost use Rattle.segment_core.specs.Coded.{value_in, values_of, lane_width_of};
 ghost use Rattle.segment_core.specs.declared.coded.Coded.TheVariants.{For as InFor, Delta as InDelta, Runs as InRuns, Dict as InDict};
 ghost use Rattle.table_model.specs.Passes.{raised};
 ghost use Rattle.fused_kernels.specs.Seen.{looked_at, values_looked_at, between};
-ghost use Rattle.fused_kernels.specs.VectorSeen.{vector_seen};
+ghost use Rattle.fused_kernels.specs.VectorSeen.{vector_seen, native_width};
 
 use crate::beside::found_beside;
 use crate::code_values::decode_codes;
 use crate::codes::{greatest_of_codes, least_of_codes, sum_of_codes};
 use crate::columns::{compare_columns, rows_where};
-use crate::comparisons::{compare, range_of};
+use crate::comparisons::compare;
 use crate::extremes::{max, min};
-use crate::found::{both_parted, found_between, held, parted, rows_of_vector};
+use crate::found::{both_parted, found_between, found_by_literal, parted, rows_of_vector};
 use crate::meter::Meter;
+use crate::one_value::found_beside_one;
 use crate::ranges::compare_range;
 use crate::run_folds::{greatest_of_runs, least_of_runs, sum_of_runs};
 use crate::sums::sum;
@@ -298,13 +300,11 @@ pub fn compare_vector(
     ensures no { result.1 ≡ rows_of (λ n. looked_at (vector_seen vector.now 0) mask.now n && not (compared op (value_in vector.now.coded n) literal)) }
     ensures pass { meter.new ≡ raised 1 meter.old }
 {
-    let _ = vector.rows();
-    let (low, high, inside) = range_of(op, literal);
-    match found_between(vector.coded(), low, high) {
+    match found_by_literal(vector.coded(), op, literal) {
         None => compare_by_lanes(vector, op, literal, mask, meter),
         Some(found) => {
             meter.add_pass();
-            parted(vector, &held(&found, inside), mask)
+            parted(vector, &found, mask)
         }
     }
 }
@@ -372,9 +372,8 @@ fn compare_decoded(left: &CodedVector, op: Op, right: &CodedVector, mask: &Mask)
     (rows.and(&found), rows.and_not(&found))
 }
 
-/// The rows looked at at which the comparison of two vectors' values holds, and those at which it doesn't. Rows of the mask that
-/// both cover and that are null in neither are looked at. The meter counts two passes more.
-pub fn compare_vectors(
+/// A comparison of two vectors' values, decoded where one of them has runs or a dictionary, else by their lanes.
+fn compare_value_by_value(
     left: &CodedVector,
     op: Op,
     right: &CodedVector,
@@ -392,8 +391,39 @@ pub fn compare_vectors(
         meter.add_pass();
         return compare_decoded(left, op, right, mask);
     }
-    match found_beside(left.coded(), op, right.coded()) {
-        None => compare_vectors_by_lanes(left, op, right, mask, meter),
+    compare_vectors_by_lanes(left, op, right, mask, meter)
+}
+
+/// The rows at which a comparison of two vectors' values holds, or none where they have to be decoded or their lanes looked at.
+fn found_of_both(left: &Coded, op: Op, right: &Coded) -> Option<Mask>
+    ensures rows { IfSome result (λ found. found ≡ rows_of (λ n. compared op (value_in left.now n) (value_in right.now n))) }
+    ensures right { (form : FrameForm) → right.now ≡ InFor form → form.width ≡ 0 → 8 < lane_width_of left.now → IsSome result }
+    ensures left { (form : FrameForm) → left.now ≡ InFor form → form.width ≡ 0 → 8 < lane_width_of right.now → IsSome result }
+    ensures lanes { native_width left.now ≡ native_width right.now → 8 < native_width left.now → IsSome result }
+{
+    match found_beside_one(left, op, right) {
+        None => found_beside(left, op, right),
+        Some(found) => Some(found),
+    }
+}
+
+/// The rows looked at at which the comparison of two vectors' values holds, and those at which it doesn't. Rows of the mask that
+/// both cover and that are null in neither are looked at. The meter counts two passes more.
+pub fn compare_vectors(
+    left: &CodedVector,
+    op: Op,
+    right: &CodedVector,
+    mask: &Mask,
+    meter: &mut Meter,
+) -> (Mask, Mask)
+    ensures yes { result.0 ≡ rows_of (λ n. (looked_at (vector_seen left.now 0) mask.now n && looked_at (vector_seen right.now 0) mask.now n)
+        && compared op (value_in left.now.coded n) (value_in right.now.coded n)) }
+    ensures no { result.1 ≡ rows_of (λ n. (looked_at (vector_seen left.now 0) mask.now n && looked_at (vector_seen right.now 0) mask.now n)
+        && not (compared op (value_in left.now.coded n) (value_in right.now.coded n))) }
+    ensures pass { meter.new ≡ raised 2 meter.old }
+{
+    match found_of_both(left.coded(), op, right.coded()) {
+        None => compare_value_by_value(left, op, right, mask, meter),
         Some(found) => {
             meter.add_pass();
             meter.add_pass();

@@ -1,0 +1,77 @@
+//! Comparisons of two coded vectors of which one has one value: the other is compared with that number.
+ghost use Rattle.std.specs.Prelude.{◌≡◌, ◌<◌, ℕ, ℤ, IfSome, IsSome};
+ghost use Rattle.transpose_order.specs.Mask.{rows_of};
+ghost use Rattle.frame_delta.specs.Frame.{FrameForm, frame_value};
+ghost use Rattle.table_model.specs.Truth.{compared};
+ghost use Rattle.segment_core.specs.Coded.{value_in, lane_width_of};
+ghost use Rattle.segment_core.specs.declared.coded.Coded.TheVariants.{For as InFor};
+
+use crate::found::found_by_literal;
+use frame_delta::For;
+use segment_core::Coded;
+use table_model::Op;
+use transpose_order::Mask;
+
+/// The reference of a frame without packed numbers, which is its value at each row, or none where it has packed numbers.
+fn reference_alone(form: &For) -> Option<i64>
+    ensures value { IfSome result (λ value. (n : ℕ) → frame_value form.now n ≡ value) }
+    ensures answers { form.now.width ≡ 0 → IsSome result }
+{
+    let _ = form.lane_width();
+    if form.width() == 0 {
+        return Some(form.reference());
+    }
+    None
+}
+
+/// The value that a vector has at each row where it is a frame without packed numbers, or none.
+fn one_value_of(coded: &Coded) -> Option<i64>
+    ensures value { IfSome result (λ value. (n : ℕ) → value_in coded.now n ≡ value) }
+    ensures answers { (form : FrameForm) → coded.now ≡ InFor form → form.width ≡ 0 → IsSome result }
+{
+    match coded {
+        Coded::For(form) => reference_alone(form.get()),
+        Coded::Delta(_) => None,
+        Coded::Runs(_) => None,
+        Coded::Dict(_) => None,
+    }
+}
+
+/// The comparison that holds of two numbers where another holds of them by turns.
+fn turned(op: Op) -> Op
+    ensures { (left right : ℤ) → compared result right left ≡ compared op left right }
+{
+    match op {
+        Op::Equal => Op::Equal,
+        Op::NotEqual => Op::NotEqual,
+        Op::Less => Op::Greater,
+        Op::LessOrEqual => Op::GreaterOrEqual,
+        Op::Greater => Op::Less,
+        Op::GreaterOrEqual => Op::LessOrEqual,
+    }
+}
+
+/// The rows at which a comparison of a vector's values with another's holds, where the other is a frame without packed numbers, or
+/// none. It may be none too where the vector's lanes are of 8 bits.
+fn found_beside_right(left: &Coded, op: Op, right: &Coded) -> Option<Mask>
+    ensures rows { IfSome result (λ found. found ≡ rows_of (λ n. compared op (value_in left.now n) (value_in right.now n))) }
+    ensures answers { (form : FrameForm) → right.now ≡ InFor form → form.width ≡ 0 → 8 < lane_width_of left.now → IsSome result }
+{
+    match one_value_of(right) {
+        None => None,
+        Some(value) => found_by_literal(left, op, i128::from(value)),
+    }
+}
+
+/// The rows at which a comparison of two vectors' values holds, where one of them is a frame without packed numbers, or none. It
+/// may be none too where the other's lanes are of 8 bits.
+pub(crate) fn found_beside_one(left: &Coded, op: Op, right: &Coded) -> Option<Mask>
+    ensures rows { IfSome result (λ found. found ≡ rows_of (λ n. compared op (value_in left.now n) (value_in right.now n))) }
+    ensures right { (form : FrameForm) → right.now ≡ InFor form → form.width ≡ 0 → 8 < lane_width_of left.now → IsSome result }
+    ensures left { (form : FrameForm) → left.now ≡ InFor form → form.width ≡ 0 → 8 < lane_width_of right.now → IsSome result }
+{
+    match found_beside_right(left, op, right) {
+        None => found_beside_right(right, turned(op), left),
+        Some(found) => Some(found),
+    }
+}
