@@ -1,9 +1,9 @@
 -- Lanes change in nothing but the number of pieces given.
-use Rattle.std.proofs.Common.{◌≡◌, ℕ, ◌+◌, ◌*◌, ◌/◌, ◌%◌, ◌<◌, ℤ, pos, List, length, refl, sym, ap, ◌∙◌, subst}
+use Rattle.std.proofs.Common.{◌≡◌, ℕ, ◌+◌, ◌*◌, ◌/◌, ◌%◌, ◌<◌, ◌≤◌, ℤ, pos, List, length, refl, sym, ap, ◌∙◌, subst, arith}
 use Rattle.transpose_order.specs.Place.{IsLaneWidth, place_of}
 use Rattle.transpose_order.specs.MaskWords.{rows_of-same}
 use Rattle.bit_interleave.specs.Range.{value_at}
-use Rattle.fused_kernels.specs.Seen.{LanesSeen, AreLanes, given_of}
+use Rattle.fused_kernels.specs.Seen.{LanesSeen, AreLanes, AreOnlyRead, given_of}
 use Rattle.fused_kernels.proofs.PieceLemmas.{place_of_row}
 
 pub none_given : (s : LanesSeen) → s.given ≡ 0 → s ≡ given_of s 0
@@ -11,6 +11,12 @@ none_given s e = ap (given_of s) e
 
 pub one_more : (s now next : LanesSeen) (q : ℕ) → now ≡ given_of s q → next ≡ given_of now (now.given + 1) → next ≡ given_of s (q + 1)
 one_more s now next q before one = one ∙ ap (λ (x : LanesSeen). given_of x (x.given + 1)) before
+
+-- lanes of which so many pieces were given
+pub only_read : (s now : LanesSeen) (q : ℕ) → q ≤ 64 → now ≡ given_of s q → AreOnlyRead s now
+only_read s now q few e =
+    let given : now.given ≡ q = ap (λ (x : LanesSeen). x.given) e in
+    record { given = omega (arith, few, given); same = e ∙ ap (given_of s) (sym given) }
 
 pub form_kept : (s now : LanesSeen) (q : ℕ) → AreLanes s → now ≡ given_of s q → AreLanes now
 form_kept s now q form e =

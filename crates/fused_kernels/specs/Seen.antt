@@ -33,6 +33,11 @@ next_of s = sixteen_of (λ i. value_at s.values (64 * i + place_of s.lane_width 
 abbrev pub given_of : LanesSeen → ℕ → LanesSeen
 given_of s q = record { lane_width = s.lane_width; rows = s.rows; nulls = s.nulls; values = s.values; given = q }
 
+-- lanes before and after a kernel: 64 pieces at most were given, and nothing but their number has changed
+pub record AreOnlyRead (before after : LanesSeen) : Type 0 where
+  pub given : after.given ≤ 64
+  pub same : after ≡ given_of before after.given
+
 -- row n is looked at: it is covered, the mask has it, and it isn't null
 abbrev pub looked_at : LanesSeen → List Bool → ℕ → Bool
 looked_at s mask n = nat_lt n s.rows && (has mask n && not (has s.nulls n))

@@ -5,7 +5,7 @@ ghost use Rattle.std.specs.Ordering.{int_eq};
 ghost use Rattle.table_model.specs.Truth.{compared};
 ghost use Rattle.transpose_order.specs.Mask.{rows_of};
 ghost use Rattle.bit_interleave.specs.Range.{value_at};
-ghost use Rattle.fused_kernels.specs.Seen.{LanesSeen, looked_at};
+ghost use Rattle.fused_kernels.specs.Seen.{LanesSeen, AreOnlyRead, looked_at};
 
 use crate::decoding::decode_into;
 use crate::lanes::{Lanes, rows_to_look_at};
@@ -89,6 +89,8 @@ pub fn compare_columns<A: Lanes, B: Lanes>(
         && compared op (value_at (A.seen left.old).values n) (value_at (B.seen right.old).values n)) }
     ensures no { result.1 ≡ rows_of (λ n. (looked_at (A.seen left.old) mask.now n && looked_at (B.seen right.old) mask.now n)
         && not (compared op (value_at (A.seen left.old).values n) (value_at (B.seen right.old).values n))) }
+    ensures left { AreOnlyRead (A.seen left.old) (A.seen left.new) }
+    ensures right { AreOnlyRead (B.seen right.old) (B.seen right.new) }
 {
     let rows = rows_to_look_at(left, mask).and(&rows_to_look_at(right, mask));
     let mut lefts = [0; 1024];

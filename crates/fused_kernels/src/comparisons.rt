@@ -4,7 +4,7 @@ ghost use Rattle.std.specs.Int.{w64};
 ghost use Rattle.table_model.specs.Truth.{compared};
 ghost use Rattle.transpose_order.specs.Mask.{rows_of};
 ghost use Rattle.bit_interleave.specs.Range.{value_at};
-ghost use Rattle.fused_kernels.specs.Seen.{LanesSeen, looked_at, between};
+ghost use Rattle.fused_kernels.specs.Seen.{LanesSeen, AreOnlyRead, looked_at, between};
 
 use crate::lanes::Lanes;
 use crate::ranges::compare_range;
@@ -34,6 +34,7 @@ pub fn compare<L: Lanes>(lanes: &mut L, op: Op, literal: i128, mask: &Mask) -> (
     requires { (L.seen lanes.old).given ≡ 0 }
     ensures yes { result.0 ≡ rows_of (λ n. looked_at (L.seen lanes.old) mask.now n && compared op (value_at (L.seen lanes.old).values n) literal) }
     ensures no { result.1 ≡ rows_of (λ n. looked_at (L.seen lanes.old) mask.now n && not (compared op (value_at (L.seen lanes.old).values n) literal)) }
+    ensures only_read { AreOnlyRead (L.seen lanes.old) (L.seen lanes.new) }
 {
     let (low, high, inside) = range_of(op, literal);
     let (within, without) = compare_range(lanes, low, high, mask);

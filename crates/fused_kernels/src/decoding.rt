@@ -1,7 +1,7 @@
 //! Lanes as values in row order.
 ghost use Rattle.std.specs.Prelude.{◌≡◌, ◌≢◌, ℕ, ◌+◌, ◌*◌, ◌%◌, ◌<◌};
 ghost use Rattle.bit_interleave.specs.Range.{value_at};
-ghost use Rattle.fused_kernels.specs.Seen.{LanesSeen};
+ghost use Rattle.fused_kernels.specs.Seen.{LanesSeen, AreOnlyRead};
 
 use crate::lanes::{Lanes, next_values};
 use transpose_order::place_in_word;
@@ -22,7 +22,8 @@ fn put_piece(piece: &[i64; 16], place: usize, values: &mut [i64; 1024])
 /// value may stand.
 pub fn decode_into<L: Lanes>(lanes: &mut L, values: &mut [i64; 1024])
     requires { (L.seen lanes.old).given ≡ 0 }
-    ensures { values.new ≡ (L.seen lanes.old).values }
+    ensures values { values.new ≡ (L.seen lanes.old).values }
+    ensures only_read { AreOnlyRead (L.seen lanes.old) (L.seen lanes.new) }
 {
     let lane_width = lanes.lane_width();
     for piece in 0..64 {

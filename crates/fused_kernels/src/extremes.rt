@@ -3,7 +3,7 @@ ghost use Rattle.std.specs.Prelude.{◌≡◌, ◌==◌, ℕ, ◌-◌, ◌^◌, 
 ghost use Rattle.std.specs.Int.{bit_at, int_min, int_max};
 ghost use Rattle.table_model.specs.Values.{least, greatest};
 ghost use Rattle.bit_interleave.specs.Range.{value_at};
-ghost use Rattle.fused_kernels.specs.Seen.{LanesSeen, values_looked_at};
+ghost use Rattle.fused_kernels.specs.Seen.{LanesSeen, AreOnlyRead, values_looked_at};
 ghost use Rattle.native_lanes.specs.Folds.{fold_to};
 
 use crate::lanes::{Lanes, next_values, rows_to_look_at};
@@ -79,7 +79,8 @@ fn greatest_of(numbers: &[i64; 16]) -> i64
 /// covered and not null are looked at.
 pub fn min<L: Lanes>(lanes: &mut L, mask: &Mask) -> Option<i64>
     requires { (L.seen lanes.old).given ≡ 0 }
-    ensures { result ≡ least (values_looked_at (L.seen lanes.old) mask.now) }
+    ensures value { result ≡ least (values_looked_at (L.seen lanes.old) mask.now) }
+    ensures only_read { AreOnlyRead (L.seen lanes.old) (L.seen lanes.new) }
 {
     let lane_width = lanes.lane_width();
     let rows = rows_to_look_at(lanes, mask);
@@ -103,7 +104,8 @@ pub fn min<L: Lanes>(lanes: &mut L, mask: &Mask) -> Option<i64>
 /// covered and not null are looked at.
 pub fn max<L: Lanes>(lanes: &mut L, mask: &Mask) -> Option<i64>
     requires { (L.seen lanes.old).given ≡ 0 }
-    ensures { result ≡ greatest (values_looked_at (L.seen lanes.old) mask.now) }
+    ensures value { result ≡ greatest (values_looked_at (L.seen lanes.old) mask.now) }
+    ensures only_read { AreOnlyRead (L.seen lanes.old) (L.seen lanes.new) }
 {
     let lane_width = lanes.lane_width();
     let rows = rows_to_look_at(lanes, mask);

@@ -3,7 +3,7 @@ ghost use Rattle.std.specs.Prelude.{◌≡◌, ◌==◌, ℕ, ◌+◌, ◌*◌, 
 ghost use Rattle.std.specs.Int.{bit_at, w64};
 ghost use Rattle.transpose_order.specs.Mask.{rows_of};
 ghost use Rattle.bit_interleave.specs.Range.{value_at};
-ghost use Rattle.fused_kernels.specs.Seen.{LanesSeen, AreLanes, looked_at, between};
+ghost use Rattle.fused_kernels.specs.Seen.{LanesSeen, AreLanes, AreOnlyRead, looked_at, between};
 
 use crate::lanes::{Lanes, next_values, rows_to_look_at};
 use native_lanes::with_bit;
@@ -32,7 +32,8 @@ fn mark(found: &mut [u64; 16], numbers: &[i64; 16], low: i64, high: i64, place: 
 /// The rows whose value is neither below `low` nor above `high`, whether a kernel looks at them or not.
 fn rows_between<L: Lanes>(lanes: &mut L, low: i64, high: i64) -> Mask
     requires { (L.seen lanes.old).given ≡ 0 }
-    ensures { result ≡ rows_of (λ n. between low high (value_at (L.seen lanes.old).values n)) }
+    ensures rows { result ≡ rows_of (λ n. between low high (value_at (L.seen lanes.old).values n)) }
+    ensures only_read { AreOnlyRead (L.seen lanes.old) (L.seen lanes.new) }
 {
     let lane_width = lanes.lane_width();
     let mut found = [0; 16];
@@ -79,6 +80,7 @@ pub fn compare_range<L: Lanes>(lanes: &mut L, low: i128, high: i128, mask: &Mask
     ensures yes { result.0 ≡ rows_of (λ n. looked_at (L.seen lanes.old) mask.now n && between low high (value_at (L.seen lanes.old).values n)) }
     ensures no { result.1 ≡ rows_of (λ n. looked_at (L.seen lanes.old) mask.now n && not (between low high (value_at (L.seen lanes.old).values n))) }
     ensures form { AreLanes (L.seen lanes.old) }
+    ensures only_read { AreOnlyRead (L.seen lanes.old) (L.seen lanes.new) }
 {
     let _ = lanes.lane_width();
     let rows = rows_to_look_at(lanes, mask);

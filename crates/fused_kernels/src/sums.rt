@@ -4,7 +4,7 @@ ghost use Rattle.std.specs.Int.{bit_at};
 ghost use Rattle.table_model.specs.Values.{total};
 ghost use Rattle.bit_interleave.specs.Range.{value_at};
 ghost use Rattle.native_lanes.specs.Folds.{fold_to};
-ghost use Rattle.fused_kernels.specs.Seen.{LanesSeen, values_looked_at};
+ghost use Rattle.fused_kernels.specs.Seen.{LanesSeen, AreOnlyRead, values_looked_at};
 
 use crate::lanes::{Lanes, next_values, rows_to_look_at};
 use native_lanes::sum_of_lanes;
@@ -53,7 +53,8 @@ fn add_halves(sums: &mut [u64; 16], numbers: &[u64; 16], shift: usize)
 /// that no sum wraps.
 pub fn sum<L: Lanes>(lanes: &mut L, mask: &Mask) -> i128
     requires { (L.seen lanes.old).given ≡ 0 }
-    ensures { result ≡ total (values_looked_at (L.seen lanes.old) mask.now) }
+    ensures value { result ≡ total (values_looked_at (L.seen lanes.old) mask.now) }
+    ensures only_read { AreOnlyRead (L.seen lanes.old) (L.seen lanes.new) }
 {
     let lane_width = lanes.lane_width();
     let rows = rows_to_look_at(lanes, mask);

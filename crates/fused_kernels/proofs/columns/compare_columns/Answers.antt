@@ -12,8 +12,8 @@ use Rattle.fused_kernels.proofs.columns.compare_columns.Goals as goal
 found_here : (g : given.Over) (c : goal.After-and_not g) → (n : ℕ) → n < 1024 → has c.rows_where-found.result n ≡ compared c.args.op (value_at (g.A.Lanes.seen c.args.left.now).values n) (value_at (g.B.Lanes.seen c.args.right.now).values n)
 found_here g c = λ n h.
     ap (λ m. has m n) c.rows_where-found.ensures ∙ has-rows_of (λ n. compared c.args.op (value_at c.decode_into.new.values n) (value_at c.decode_into-2.new.values n)) n h
-    ∙ ap (λ (xs : List ℤ). compared c.args.op (value_at xs n) (value_at c.decode_into-2.new.values n)) c.decode_into.ensures
-    ∙ ap (λ (xs : List ℤ). compared c.args.op (value_at (g.A.Lanes.seen c.args.left.now).values n) (value_at xs n)) c.decode_into-2.ensures
+    ∙ ap (λ (xs : List ℤ). compared c.args.op (value_at xs n) (value_at c.decode_into-2.new.values n)) c.decode_into.ensures.values
+    ∙ ap (λ (xs : List ℤ). compared c.args.op (value_at (g.A.Lanes.seen c.args.left.now).values n) (value_at xs n)) c.decode_into-2.ensures.values
 
 both_here : (g : given.Over) (c : goal.After-and_not g) → c.and-rows.result ≡ rows_of (λ n. looked_at (g.A.Lanes.seen c.args.left.now) c.args.mask.now n && looked_at (g.B.Lanes.seen c.args.right.now) c.args.mask.now n)
 both_here g c =

@@ -4,7 +4,7 @@ use Rattle.transpose_order.specs.Place.{place_of}
 use Rattle.bit_interleave.specs.Range.{value_at}
 use Rattle.fused_kernels.specs.Seen.{LanesSeen}
 use Rattle.fused_kernels.proofs.PieceLemmas.{other_place}
-use Rattle.fused_kernels.proofs.SeenLemmas.{none_given, one_more, next_is, width_of, values_are}
+use Rattle.fused_kernels.proofs.SeenLemmas.{none_given, one_more, only_read, next_is, width_of, values_are}
 use Rattle.fused_kernels.proofs.decoding.decode_into.Goals as goal
 
 pub loop-piece-init : goal.loop-piece-init
@@ -28,7 +28,10 @@ loop-piece-preserved g c =
           k;
     }
 
-pub returns : goal.returns
-returns g c =
+pub returns-clause-values : goal.returns-clause-values
+returns-clause-values g c =
     values_are (g.L.Lanes.seen c.args.lanes.now) c.lane_width-lane_width.result c.loop-piece.values c.lane_width-lane_width.ensures.form c.lane_width-lane_width.ensures.value c.loop-piece.invariant.long
     (λ i q h l. c.loop-piece.invariant.written i q h (omega arith))
+
+pub returns-clause-only_read : goal.returns-clause-only_read
+returns-clause-only_read g c = only_read (g.L.Lanes.seen c.args.lanes.now) (g.L.Lanes.seen c.loop-piece.lanes) c.loop-piece.piece (omega arith) c.loop-piece.invariant.seen

@@ -15,7 +15,7 @@ use Rattle.native_lanes.proofs.FoldLemmas.{fold_to-zero, fold_to-more}
 use Rattle.fused_kernels.proofs.CountLemmas.{length-looked_at}
 use Rattle.fused_kernels.proofs.ExtremeLemmas.{or_else, taken_by_greater, greatest_by_lanes, greatest_of_none, greatest_of_some}
 use Rattle.fused_kernels.proofs.RangeLemmas.{value_fits}
-use Rattle.fused_kernels.proofs.SeenLemmas.{none_given, one_more, next_is, width_of}
+use Rattle.fused_kernels.proofs.SeenLemmas.{none_given, one_more, only_read, next_is, width_of}
 use Rattle.fused_kernels.proofs.extremes.max.Goals as goal
 
 pub loop-piece-init : goal.loop-piece-init
@@ -55,14 +55,14 @@ loop-piece-preserved g c =
           ∙ ap (or_else top) (sym (fold_to-more greater None q (f i)));
     }
 
-pub returns-then-count-eq0 : goal.returns-then-count-eq0
-returns-then-count-eq0 g c =
+pub returns-then-count-eq0-clause-value : goal.returns-then-count-eq0-clause-value
+returns-then-count-eq0-clause-value g c =
     let s : LanesSeen = g.L.Lanes.seen c.args.lanes.now in
     let counted : c.count.result ≡ count_below (looked_at s c.args.mask.now) 1024 = c.count.ensures ∙ ap (count_by (λ row. row)) c.rows_to_look_at-rows.ensures ∙ count_by-rows_of (looked_at s c.args.mask.now) in
     sym (greatest_of_none (values_looked_at s c.args.mask.now) (omega (arith, counted, length-looked_at s c.args.mask.now, c.if-count-eq0.true)))
 
-pub returns : goal.returns
-returns g c =
+pub returns-clause-value : goal.returns-clause-value
+returns-clause-value g c =
     let s : LanesSeen = g.L.Lanes.seen c.args.lanes.now in
     let t = c.lane_width-lane_width.result in
     let rows = c.rows_to_look_at-rows.result in
@@ -75,3 +75,9 @@ returns g c =
     (λ i h. c.loop-piece.invariant.greatests i h ∙ ap (λ n. or_else (negsuc (2 ^ 63 - 1)) (fold_to greater None n (λ q. cond (has rows (64 * i + place_of t q)) (Some (value_at s.values (64 * i + place_of t q))) None))) all) in
     ap Some (to_z-of_z w64 c.greatest_of.result result ∙ found)
     ∙ sym (greatest_of_some (values_looked_at s c.args.mask.now) (negsuc (2 ^ 63 - 1)) (omega (arith, counted, length-looked_at s c.args.mask.now, c.if-count-eq0.false)))
+
+pub returns-then-count-eq0-clause-only_read : goal.returns-then-count-eq0-clause-only_read
+returns-then-count-eq0-clause-only_read g c = only_read (g.L.Lanes.seen c.args.lanes.now) (g.L.Lanes.seen c.loop-piece.lanes) c.loop-piece.piece (omega arith) c.loop-piece.invariant.seen
+
+pub returns-clause-only_read : goal.returns-clause-only_read
+returns-clause-only_read g c = only_read (g.L.Lanes.seen c.args.lanes.now) (g.L.Lanes.seen c.loop-piece.lanes) c.loop-piece.piece (omega arith) c.loop-piece.invariant.seen

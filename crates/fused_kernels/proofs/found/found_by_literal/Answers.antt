@@ -1,5 +1,5 @@
 -- The comparison holds in the range or out of it.
-use Rattle.std.proofs.Common.{rules, ◌≡◌, ◌<◌, ℕ, FitsSigned, not, if◌then◌else◌, sym, refl, ◌∙◌}
+use Rattle.std.proofs.Common.{rules, FitsSigned, not, if◌then◌else◌, sym, refl, ◌∙◌}
 use Rattle.std.specs.Int.{w128}
 use Rattle.table_model.specs.Truth.{compared}
 use Rattle.transpose_order.specs.Mask.{has, rows_of}

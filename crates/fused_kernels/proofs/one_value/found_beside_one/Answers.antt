@@ -1,5 +1,5 @@
 -- A comparison by turns.
-use Rattle.std.proofs.Common.{rules, ◌≡◌, ◌<◌, ℕ, ℤ, sym, ap, ◌∙◌}
+use Rattle.std.proofs.Common.{ℕ, ℤ}
 use Rattle.table_model.specs.Truth.{compared}
 use Rattle.segment_core.specs.Coded.{value_in}
 use Rattle.fused_kernels.proofs.FoundLemmas.{found_alike}

@@ -1,5 +1,5 @@
 -- The literal is the value at each row.
-use Rattle.std.proofs.Common.{rules, ◌≡◌, ◌<◌, ℕ, ℤ, to_z, of_z, FitsSigned, sym, ap, ◌∙◌}
+use Rattle.std.proofs.Common.{rules, ◌≡◌, ℕ, ℤ, to_z, of_z, FitsSigned, sym, ap, ◌∙◌}
 use Rattle.std.specs.Int.{w64, w128}
 use Rattle.std.proofs.lemmas.Int.{to_z-of_z}
 use Rattle.table_model.specs.Truth.{compared}

@@ -1,5 +1,5 @@
 -- Nothing is added to the reference.
-use Rattle.std.proofs.Common.{rules, ◌≡◌, FitsSigned, sym, ◌∙◌}
+use Rattle.std.proofs.Common.{rules, FitsSigned, sym, ◌∙◌}
 use Rattle.std.specs.Int.{w64}
 use Rattle.std.proofs.lemmas.Int.{to_z-of_z}
 use Rattle.fused_kernels.proofs.OneValueLemmas.{reference_is_value}

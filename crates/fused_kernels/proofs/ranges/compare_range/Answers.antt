@@ -7,6 +7,7 @@ use Rattle.transpose_order.specs.MaskWords.{has-rows_of}
 use Rattle.bit_interleave.specs.Range.{value_at}
 use Rattle.fused_kernels.specs.Seen.{LanesSeen, looked_at, between}
 use Rattle.fused_kernels.proofs.RangeLemmas.{value_fits, past_greatest, before_least, rows_and, rows_and_not, each_row}
+use Rattle.fused_kernels.proofs.SeenLemmas.{none_given, only_read}
 use Rattle.fused_kernels.proofs.ranges.compare_range.Given as given
 use Rattle.fused_kernels.proofs.ranges.compare_range.Goals as goal
 use Rattle.fused_kernels.proofs.ranges.compare_range.Goals.{then-from-low-via-then-from-low, then-from-low-via-else-from-low+then-high-from}
@@ -22,6 +23,11 @@ returns-then-from-low-clause-no g c =
     c.rows_to_look_at-rows.ensures
     ∙ each_row (looked_at s c.args.mask.now) (λ n. between c.args.low c.args.high (value_at s.values n)) (λ n h. outside (value_at s.values n) (value_fits s n c.lane_width.ensures.form h))
 
+pub returns-then-from-low-clause-only_read : goal.returns-then-from-low-clause-only_read
+returns-then-from-low-clause-only_read g c =
+    let s : LanesSeen = g.L.Lanes.seen c.args.lanes.now in
+    only_read s s 0 (omega arith) (none_given s c.requires)
+
 -- a row was found exactly where its value is in the range
 found_where : (s : LanesSeen) (low high first last : ℤ) (found : List Bool) → found ≡ rows_of (λ n. between first last (value_at s.values n)) → ((n : ℕ) → n < 1024 → FitsSigned w64 (value_at s.values n)) → ((value : ℤ) → FitsSigned w64 value → int_le first value ≡ int_le low value) → ((value : ℤ) → FitsSigned w64 value → int_le value last ≡ int_le value high) → (n : ℕ) → n < 1024 → has found n ≡ between low high (value_at s.values n)
 found_where s low high first last found is fit lower higher n h =
@@ -36,7 +42,7 @@ found_here g c =
     let last : ℤ = to_z w64 (of_z w64 c.last_up_to.result) in
     let first_fits : FitsSigned w64 c.first_from.result = search rules in
     let last_fits : FitsSigned w64 c.last_up_to.result = search rules in
-    found_where s c.args.low c.args.high first last c.rows_between-found.result c.rows_between-found.ensures (λ n h. value_fits s n c.lane_width.ensures.form h)
+    found_where s c.args.low c.args.high first last c.rows_between-found.result c.rows_between-found.ensures.rows (λ n h. value_fits s n c.lane_width.ensures.form h)
     (λ value fits. ap (λ x. int_le x value) (to_z-of_z w64 c.first_from.result first_fits) ∙ c.first_from.ensures value fits ∙ ap (λ x. int_le x value) (to_z-of_z w128 c.args.low c.ranges.low))
     (λ value fits. ap (λ x. int_le value x) (to_z-of_z w64 c.last_up_to.result last_fits) ∙ c.last_up_to.ensures value fits ∙ ap (λ x. int_le value x) (to_z-of_z w128 c.args.high c.ranges.high))
 

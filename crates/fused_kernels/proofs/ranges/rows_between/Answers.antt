@@ -10,7 +10,7 @@ use Rattle.bit_interleave.specs.Range.{value_at}
 use Rattle.bit_interleave.proofs.PieceLemmas.{place_of-place_of}
 use Rattle.fused_kernels.specs.Seen.{LanesSeen, between}
 use Rattle.native_lanes.proofs.MarkLemmas.{marked_more}
-use Rattle.fused_kernels.proofs.SeenLemmas.{one_more, next_is, width_of}
+use Rattle.fused_kernels.proofs.SeenLemmas.{one_more, only_read, next_is, width_of}
 use Rattle.fused_kernels.proofs.ranges.rows_between.Goals as goal
 
 pub loop-piece-preserved : goal.loop-piece-preserved
@@ -34,8 +34,8 @@ loop-piece-preserved g c =
           (λ e. ap (λ (x : ℕ). test (64 * j + x)) (sym e));
     }
 
-pub returns : goal.returns
-returns g c =
+pub returns-clause-rows : goal.returns-clause-rows
+returns-clause-rows g c =
     let s : LanesSeen = g.L.Lanes.seen c.args.lanes.now in
     let t = c.lane_width-lane_width.result in
     let low = to_z w64 (of_z w64 c.args.low) in
@@ -51,3 +51,6 @@ returns g c =
     c.loop-piece.invariant.marked j p h k ∙ ap (λ b. b && test (64 * j + p)) on)
     ∙ rows_of-like test (λ n. between c.args.low c.args.high (value_at s.values n))
     (λ n _. ap (λ x. between x high (value_at s.values n)) (to_z-of_z w64 c.args.low c.ranges.low) ∙ ap (λ x. between c.args.low x (value_at s.values n)) (to_z-of_z w64 c.args.high c.ranges.high))
+
+pub returns-clause-only_read : goal.returns-clause-only_read
+returns-clause-only_read g c = only_read (g.L.Lanes.seen c.args.lanes.now) (g.L.Lanes.seen c.loop-piece.lanes) c.loop-piece.piece (omega arith) c.loop-piece.invariant.seen

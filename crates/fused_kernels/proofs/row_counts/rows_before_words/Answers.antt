@@ -1,5 +1,5 @@
 -- A word has as many rows as it has ones.
-use Rattle.std.proofs.Common.{◌≡◌, ℕ, ◌+◌, ◌*◌, ◌^◌, ◌<◌, length, set, get_or, slice_index, slice_index_or, sym, ap, ◌∙◌, below_more, arith, rules}
+use Rattle.std.proofs.Common.{◌≡◌, ◌*◌, ◌^◌, ◌<◌, length, set, get_or, slice_index_or, sym, ◌∙◌, below_more, arith, rules}
 use Rattle.std.proofs.lemmas.List.{get_or-set_same, get_or-set_other, length-set}
 use Rattle.std.proofs.lemmas.Nat.{ones-le}
 use Rattle.transpose_order.specs.Mask.{truth_at, count_below}

@@ -1,5 +1,5 @@
 -- Each run has a row.
-use Rattle.std.proofs.Common.{rules, ◌≡◌, ◌<◌, ◌-◌, ◌^◌, pos, ℤ, List, length, Some, FitsSigned, subst, sym, ap, ◌∙◌, arith}
+use Rattle.std.proofs.Common.{rules, ◌-◌, ◌^◌, pos, ℤ, List, length, Some, FitsSigned, subst, ap, ◌∙◌}
 use Rattle.std.specs.Int.{w64, int_min}
 use Rattle.std.proofs.lemmas.Int.{to_z-of_z}
 use Rattle.transpose_order.specs.Mask.{has}

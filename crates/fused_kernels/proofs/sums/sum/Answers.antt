@@ -14,7 +14,7 @@ use Rattle.fused_kernels.specs.Seen.{LanesSeen, looked_at, values_looked_at}
 use Rattle.native_lanes.proofs.FoldLemmas.{fold_to-zero, fold_to-more}
 use Rattle.fused_kernels.proofs.SumLemmas.{halves, raised_fits, sum_by_lanes}
 use Rattle.fused_kernels.proofs.RangeLemmas.{value_fits}
-use Rattle.fused_kernels.proofs.SeenLemmas.{none_given, one_more, next_is, width_of}
+use Rattle.fused_kernels.proofs.SeenLemmas.{none_given, one_more, only_read, next_is, width_of}
 use Rattle.fused_kernels.proofs.sums.sum.Goals as goal
 
 pub loop-piece-init : goal.loop-piece-init
@@ -61,8 +61,8 @@ loop-piece-preserved g c =
           ∙ ap (λ z. fold_to ◌+ℤ◌ (pos 0) q (f i) +ℤ z) term ∙ sym (fold_to-more ◌+ℤ◌ (pos 0) q (f i));
     }
 
-pub returns : goal.returns
-returns g c =
+pub returns-clause-value : goal.returns-clause-value
+returns-clause-value g c =
     let s : LanesSeen = g.L.Lanes.seen c.args.lanes.now in
     let t = c.lane_width-lane_width.result in
     let rows = c.rows_to_look_at-rows.result in
@@ -76,3 +76,6 @@ returns g c =
     let counted : c.count.result ≡ count_below (looked_at s c.args.mask.now) 1024 = c.count.ensures ∙ ap (count_by (λ row. row)) c.rows_to_look_at-rows.ensures ∙ count_by-rows_of (looked_at s c.args.mask.now) in
     let few : c.count.result ≤ 1024 = omega (arith, counted, count_below-le (looked_at s c.args.mask.now) 1024) in
     omega (arith, ints, sums, low, high, few)
+
+pub returns-clause-only_read : goal.returns-clause-only_read
+returns-clause-only_read g c = only_read (g.L.Lanes.seen c.args.lanes.now) (g.L.Lanes.seen c.loop-piece.lanes) c.loop-piece.piece (omega arith) c.loop-piece.invariant.seen
