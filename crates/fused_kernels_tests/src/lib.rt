@@ -2,6 +2,8 @@
 #![tactic(auto)]
 
 #[cfg(test)]
+mod edge_tests;
+#[cfg(test)]
 mod plain_lanes;
 #[cfg(test)]
 mod tests;

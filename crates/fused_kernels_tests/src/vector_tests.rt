@@ -1,7 +1,7 @@
 //! The calls on coded vectors in each coding, at values worked out by hand.
 use fused_kernels::{
-    Meter, compare_vector, compare_vector_range, compare_vectors, count, decode_vector, vector_max,
-    vector_min, vector_sum,
+    Meter, VectorLanes, compare_columns, compare_vector, compare_vector_range, compare_vectors,
+    count, decode_vector, vector_max, vector_min, vector_sum,
 };
 use segment_core::{CodedVector, Coding, Segment};
 use std::alloc::{AllocError, Global};
@@ -568,5 +568,125 @@ fn vectors_of_each_width_are_decoded(rt: HostRuntime) -> Result<(), Fail> {
             check_decoded(&rt, &vector, cells);
         }
     }
+    Ok(())
+}
+
+/// A comparison of two vectors by their lanes.
+fn parted_by_lanes(left: &CodedVector, op: Op, right: &CodedVector, mask: &Mask) -> (Mask, Mask) {
+    let mut meter = Meter::new();
+    let mut lefts = VectorLanes::new(left, &mut meter);
+    let mut rights = VectorLanes::new(right, &mut meter);
+    compare_columns(&mut lefts, op, &mut rights, mask)
+}
+
+/// Of rows 3 to 6, 3 and 6 are null on one side alone, and both sides have the row's number.
+fn check_one_null(rt: &impl Abort, left: &CodedVector, right: &CodedVector) {
+    let some = rows(rt, 3, 7);
+    let (yes, no) = parted_by(rt, left, Op::LessOrEqual, right, &some);
+    assert_eq!(rt; (lists(&yes, &[4, 5]), lists(&no, &[])), (true, true));
+    let (yes, no) = parted_by_lanes(left, Op::Less, right, &some);
+    assert_eq!(rt; (lists(&yes, &[]), lists(&no, &[4, 5])), (true, true));
+}
+
+#[test]
+fn a_row_that_is_null_on_one_side_alone_is_not_looked_at(rt: HostRuntime) -> Result<(), Fail> {
+    let alloc = rt.alloc();
+    for &coding in &CODINGS {
+        let some = coded(
+            &rt,
+            alloc,
+            ColType::Integer,
+            1024,
+            Pattern::ThirdsNull,
+            coding,
+        )?;
+        let all = coded(
+            &rt,
+            alloc,
+            ColType::Integer,
+            1024,
+            Pattern::Counting,
+            coding,
+        )?;
+        check_one_null(&rt, &some, &all);
+        check_one_null(&rt, &all, &some);
+    }
+    Ok(())
+}
+
+/// No row of an empty mask is looked at, by any comparison.
+fn check_no_row(rt: &impl Abort, left: &CodedVector, right: &CodedVector) {
+    let none = Mask::none();
+    check_parts(rt, left, &none, (Op::Less, 5), &[], &[]);
+    check_range(rt, left, &none, (2, 5), &[], &[]);
+    let (yes, no) = parted_by(rt, left, Op::Less, right, &none);
+    assert_eq!(rt; (yes.count(), no.count()), (0, 0));
+}
+
+#[test]
+fn no_row_of_an_empty_mask_is_compared(rt: HostRuntime) -> Result<(), Fail> {
+    let alloc = rt.alloc();
+    let right = coded(
+        &rt,
+        alloc,
+        ColType::Integer,
+        1024,
+        Pattern::Counting,
+        Coding::For,
+    )?;
+    for &coding in &CODINGS {
+        let left = coded(
+            &rt,
+            alloc,
+            ColType::Integer,
+            1024,
+            Pattern::Counting,
+            coding,
+        )?;
+        check_no_row(&rt, &left, &right);
+    }
+    Ok(())
+}
+
+/// Cells of one value, whose frame has no packed numbers.
+const ONE_VALUE: Pattern = Pattern::All(500);
+
+/// One value beside the rows' numbers, on either side, by the comparisons that tell a row from the others.
+fn check_one_value(rt: &impl Abort, one: &CodedVector, others: &CodedVector) {
+    let mask = Mask::all();
+    for &op in &[Op::Equal, Op::Less] {
+        check_beside(rt, (one, ONE_VALUE), op, (others, Pattern::Counting), &mask);
+        check_beside(rt, (others, Pattern::Counting), op, (one, ONE_VALUE), &mask);
+    }
+}
+
+// What is expected is worked out of the cells: 500 is the number of one row, and 500 rows have less.
+#[test]
+fn a_vector_of_one_value_is_compared_with_each_coding(rt: HostRuntime) -> Result<(), Fail> {
+    let alloc = rt.alloc();
+    let one = coded(&rt, alloc, ColType::BigInt, 1024, ONE_VALUE, Coding::For)?;
+    for &coding in &CODINGS {
+        let others = coded(
+            &rt,
+            alloc,
+            ColType::SmallInt,
+            1024,
+            Pattern::Counting,
+            coding,
+        )?;
+        check_one_value(&rt, &one, &others);
+    }
+    Ok(())
+}
+
+#[test]
+fn two_vectors_of_one_value_are_compared(rt: HostRuntime) -> Result<(), Fail> {
+    let alloc = rt.alloc();
+    let one = coded(&rt, alloc, ColType::BigInt, 1024, ONE_VALUE, Coding::For)?;
+    let same = coded(&rt, alloc, ColType::SmallInt, 1024, ONE_VALUE, Coding::For)?;
+    let (yes, no) = parted_by(&rt, &one, Op::Equal, &same, &Mask::all());
+    assert_eq!(rt; (yes.count(), no.count()), (1024, 0));
+    let (yes, no) = parted_by(&rt, &one, Op::Less, &same, &Mask::all());
+    assert_eq!(rt; (yes.count(), no.count()), (0, 1024));
     Ok(())
 }
