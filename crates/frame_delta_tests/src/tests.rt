@@ -13,7 +13,7 @@ use std::test::Fail;
 
 /// What a test's vector holds: multiples of a step, one number, two in turn, or one up to a row and another from it on.
 #[derive(Clone, Copy)]
-enum Pattern {
+pub(super) enum Pattern {
     Ramp(u64),
     All(u64),
     Alternating(u64, u64),
@@ -30,7 +30,7 @@ fn bits_at(pattern: Pattern, row: usize) -> u64 {
 }
 
 /// The vector of a pattern, each value cut to `lane_width` bits.
-fn column(lane_width: usize, pattern: Pattern) -> [i64; 1024]
+pub(super) fn column(lane_width: usize, pattern: Pattern) -> [i64; 1024]
     requires { IsLaneWidth lane_width }
     ensures { AreInRange lane_width result }
 {
