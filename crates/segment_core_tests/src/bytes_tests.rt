@@ -46,12 +46,10 @@ fn bytes_of(alloc: Global, pattern: Pattern) -> Result<Vec<u8>, Refusal> {
     Ok(writer.into_inner())
 }
 
-/// What reading one row of one SMALLINT column from such bytes is refused as.
-fn fault_of(alloc: Global, front: &[u8], zeros: usize) -> Result<Option<Refusal>, Refusal> {
+/// What reading one row of one SMALLINT column from bytes is refused as.
+fn fault_of(alloc: Global, bytes: &[u8]) -> Result<Option<Refusal>, Refusal> {
     let schema = one_column(alloc)?;
-    let mut bytes = Vec::new(alloc);
-    add(&mut bytes, front, zeros, &[])?;
-    Ok(Segment::read_bytes(alloc, &schema, 1, &bytes, 0).err())
+    Ok(Segment::read_bytes(alloc, &schema, 1, bytes, 0).err())
 }
 
 /// One row of one SMALLINT column that stands in such bytes from a place on, and the place after it.
@@ -158,7 +156,7 @@ fn widths_have_their_limits_at_each_type(rt: HostRuntime) -> Result<(), Fail> {
 
 /// Fronts, how many bytes that are 0 follow each, and the fault. The null flag is byte 0, the tag 1, the width 2, the count 3 and 4,
 /// and the payload begins at 5.
-const FAULTS: [(&[u8], usize, Refusal); 23] = [
+const FAULTS: [(&[u8], usize, Refusal); 24] = [
     (&[2], 0, Refusal::BadMask(0)),
     (&[0, 4], 0, Refusal::BadTag(1)),
     (&[0, 0, 17], 0, Refusal::BadWidth(2)),
@@ -169,6 +167,7 @@ const FAULTS: [(&[u8], usize, Refusal); 23] = [
     (&[0, 1, 16, 0, 1], 0, Refusal::BadCount(3)),
     (&[0, 2, 1, 0, 0], 0, Refusal::BadCount(3)),
     (&[0, 2, 1, 1, 4], 0, Refusal::BadCount(3)),
+    (&[0, 3, 1, 0, 0], 0, Refusal::BadCount(3)),
     (&[0, 3, 16, 1, 4], 0, Refusal::BadCount(3)),
     // Masks. Row n is bit n % 8 of byte n / 8: a mask's first byte 1 is row 0, and 2 is row 1.
     (&[1], 128, Refusal::BadMask(1)),
@@ -193,8 +192,10 @@ const FAULTS: [(&[u8], usize, Refusal); 23] = [
 #[test]
 fn each_field_has_its_fault_at_its_place(rt: HostRuntime) -> Result<(), Fail> {
     for &(front, zeros, fault) in &FAULTS {
+        let mut bytes = Vec::new(rt.alloc());
+        add(&mut bytes, front, zeros, &[])?;
         assert_eq!(rt;
-            fault_of(rt.alloc(), front, zeros)?,
+            fault_of(rt.alloc(), &bytes)?,
             Some(fault),
             "after {front:?}"
         );
@@ -202,23 +203,80 @@ fn each_field_has_its_fault_at_its_place(rt: HostRuntime) -> Result<(), Fail> {
     Ok(())
 }
 
-/// The bytes of 1,025 rows of three columns in parts: a front, how many bytes that are 0 follow it, and the rest.
-const THREE_COLUMNS: [(&[u8], usize, &[u8]); 8] = [
-    // SMALLINT: row 0 null, FOR of width 0, reference 7; then one row, DELTA of width 0, least delta 1, 64 bases of 0.
-    (&[1, 1], 127, &[0, 0, 0, 0, 7, 0]),
-    (&[0, 1, 0, 0, 0, 1, 0], 128, &[]),
-    // INTEGER: RLE of two runs, 7 and then 8 from row 1 on; then one row, null, RLE of one run.
-    (&[0, 2, 1, 2, 0, 2], 127, &[7, 0, 0, 0, 8, 0, 0, 0]),
-    (&[1, 1], 127, &[2, 1, 1, 0]),
-    (&[], 128, &[255, 255, 255, 255]),
-    // BIGINT: DICT of -1 and 2 with codes of one bit, all 0; then DICT of one value with codes of no bit.
+/// One row in DICT of the value 7 with codes of one bit, in parts of so many of one byte, and the fault. A code of 1 isn't below the
+/// count of 1. The null flag and mask come first, then tag, width, count and value; the codes begin at 7, and at 135 after a mask.
+const CODES: [(&[(usize, u8)], Option<Refusal>); 4] = [
+    // The one row is null, and each code is 0.
     (
-        &[0, 3, 1, 2, 0],
-        0,
-        &[255, 255, 255, 255, 255, 255, 255, 255],
+        &[(2, 1), (127, 0), (1, 3), (2, 1), (1, 0), (1, 7), (129, 0)],
+        None,
     ),
-    (&[2], 135, &[]),
-    (&[0, 3, 0, 1, 0], 7, &[128]),
+    // The code of the null row is 1, bit 0 of the first word.
+    (
+        &[
+            (2, 1),
+            (127, 0),
+            (1, 3),
+            (2, 1),
+            (1, 0),
+            (1, 7),
+            (1, 0),
+            (1, 1),
+            (127, 0),
+        ],
+        Some(Refusal::BadCode(135)),
+    ),
+    // The code at row 1 is 1, bit 1 of the first word, and at row 1023, the last bit of the last; there is row 0 alone.
+    (
+        &[
+            (1, 0),
+            (1, 3),
+            (2, 1),
+            (1, 0),
+            (1, 7),
+            (1, 0),
+            (1, 2),
+            (127, 0),
+        ],
+        Some(Refusal::BadCode(7)),
+    ),
+    (
+        &[(1, 0), (1, 3), (2, 1), (1, 0), (1, 7), (128, 0), (1, 128)],
+        Some(Refusal::BadCode(7)),
+    ),
+];
+
+#[test]
+fn codes_are_judged_where_a_row_is_null_or_absent(rt: HostRuntime) -> Result<(), Fail> {
+    for &(parts, fault) in &CODES {
+        let bytes = repeated(rt.alloc(), parts)?;
+        assert_eq!(rt; fault_of(rt.alloc(), &bytes)?, fault);
+    }
+    Ok(())
+}
+
+/// The bytes of 1,025 rows of three columns in parts: a front, how many bytes that are 0 follow it, and the rest. Each vector has a
+/// null, and packed numbers or codes are of one bit, of which the last alone is set.
+const THREE_COLUMNS: [(&[u8], usize, &[u8]); 12] = [
+    // SMALLINT: row 0 null, FOR of reference 7; then one row, null, DELTA of least delta 1 and 64 bases of 0.
+    (&[1, 1], 127, &[0, 1, 0, 0, 7, 0]),
+    (&[], 127, &[128]),
+    (&[1, 1], 127, &[1, 1, 0, 0, 1, 0]),
+    (&[], 255, &[128]),
+    // INTEGER: row 1 null, RLE of two runs, 7 and then 8 from row 1 on; then one row, null, DICT of -1 and 2.
+    (&[1, 2], 127, &[2, 1, 2, 0]),
+    (&[2], 127, &[7, 0, 0, 0, 8, 0, 0, 0]),
+    (&[1, 1], 127, &[3, 1, 2, 0, 255, 255, 255, 255, 2, 0, 0, 0]),
+    (&[], 127, &[128]),
+    // BIGINT: row 0 null, DICT of -1 and 2; then one row, null, DELTA of least delta 1 and 16 bases of 0.
+    (
+        &[1, 1],
+        127,
+        &[3, 1, 2, 0, 255, 255, 255, 255, 255, 255, 255, 255],
+    ),
+    (&[2], 134, &[128]),
+    (&[1, 1], 127, &[1, 1, 0, 0, 1]),
+    (&[], 262, &[128]),
 ];
 
 fn three_columns(alloc: Global) -> Result<Vec<u8>, AllocError> {

@@ -2,11 +2,12 @@
 //! an `AllocError` or `Memory` of its set-up, or, where it was a growth of the call that it is of, with the text `REFUSED` or
 //! `CHANGED`; with none refused it passes. The command `tests/refused-memory` refuses each in turn and counts those texts.
 use crate::bytes_tests::one_column;
+use crate::tests::{Pattern, first, rows_of, rows_with};
 use segment_core::{Coding, Segment};
 use std::alloc::{AllocError, Global};
 use std::process::Abort;
 use std::test::Fail;
-use table_model::{Counted, Refusal, Row};
+use table_model::{Counted, Refusal, Row, check_rows};
 
 /// The call answered that memory was refused; what it was given is as it was, and the same call again succeeds.
 const REFUSED: &str = "a growth was refused, and all is as it was";
@@ -20,6 +21,42 @@ const ROOM: usize = 512;
 /// The end of a test whose call was refused.
 fn refused(is_as_it_was: bool) -> Result<(), Fail> {
     Err(Fail::new(if is_as_it_was { REFUSED } else { CHANGED }))
+}
+
+/// The bytes of two rows, 7 and null: the null mask, FOR of reference 7 with packed values of one bit, all 0.
+fn frame_bytes() -> [u8; 263] {
+    let mut bytes = [0; 263];
+    bytes[0] = 1;
+    bytes[1] = 2;
+    bytes[130] = 1;
+    bytes[133] = 7;
+    bytes
+}
+
+/// The bytes of two rows, 7 and null: the null mask, DELTA of least delta 0, a base of 7 in lane 0, and packed values of one bit,
+/// all 0.
+fn delta_bytes() -> [u8; 391] {
+    let mut bytes = [0; 391];
+    bytes[0] = 1;
+    bytes[1] = 2;
+    bytes[129] = 1;
+    bytes[130] = 1;
+    bytes[135] = 7;
+    bytes
+}
+
+/// The bytes of two rows, 7 and null: the null mask, RLE of 7 and from row 1 on 8.
+fn run_bytes() -> [u8; 265] {
+    let mut bytes = [0; 265];
+    bytes[0] = 1;
+    bytes[1] = 2;
+    bytes[129] = 2;
+    bytes[130] = 1;
+    bytes[131] = 2;
+    bytes[133] = 2;
+    bytes[261] = 7;
+    bytes[263] = 8;
+    bytes
 }
 
 /// The bytes of two rows, 7 and null: the null mask, DICT of 7 and 8 with codes of one bit, all 0.
@@ -42,15 +79,19 @@ fn bytes_of(segment: &Segment) -> Result<[u8; ROOM], Refusal> {
     Ok(room)
 }
 
-#[test]
-fn a_refused_read_gives_no_segment(rt: HostRuntime) -> Result<(), Fail> {
-    let alloc = rt.alloc();
+/// The segment of two rows in such bytes, and the place after it.
+fn two_rows(alloc: Global, bytes: &[u8]) -> Result<(Segment, usize), Refusal> {
     let schema = one_column(alloc)?;
-    let bytes = dictionary_bytes();
-    match Segment::read_bytes(alloc, &schema, 2, &bytes, 0) {
-        Ok((segment, next)) => assert_eq!(rt; (segment.rows(), next), (2, 265)),
+    Segment::read_bytes(alloc, &schema, 2, bytes, 0)
+}
+
+/// Two rows are read from their bytes, to the end, and where that is refused there is no segment.
+fn is_read(rt: &impl Abort, alloc: Global, bytes: &[u8]) -> Result<(), Fail> {
+    let schema = one_column(alloc)?;
+    match Segment::read_bytes(alloc, &schema, 2, bytes, 0) {
+        Ok((segment, next)) => assert_eq!(rt; (segment.rows(), next), (2, bytes.len())),
         Err(fault) => {
-            let again = Segment::read_bytes(alloc, &schema, 2, &bytes, 0);
+            let again = Segment::read_bytes(alloc, &schema, 2, bytes, 0);
             return refused(fault == Refusal::Memory && again.is_ok());
         }
     }
@@ -58,10 +99,28 @@ fn a_refused_read_gives_no_segment(rt: HostRuntime) -> Result<(), Fail> {
 }
 
 #[test]
-fn a_refused_copy_leaves_its_source(rt: HostRuntime) -> Result<(), Fail> {
-    let alloc = rt.alloc();
-    let schema = one_column(alloc)?;
-    let (segment, _) = Segment::read_bytes(alloc, &schema, 2, &dictionary_bytes(), 0)?;
+fn a_refused_read_of_a_frame_gives_no_segment(rt: HostRuntime) -> Result<(), Fail> {
+    is_read(&rt, rt.alloc(), &frame_bytes())
+}
+
+#[test]
+fn a_refused_read_of_deltas_gives_no_segment(rt: HostRuntime) -> Result<(), Fail> {
+    is_read(&rt, rt.alloc(), &delta_bytes())
+}
+
+#[test]
+fn a_refused_read_of_runs_gives_no_segment(rt: HostRuntime) -> Result<(), Fail> {
+    is_read(&rt, rt.alloc(), &run_bytes())
+}
+
+#[test]
+fn a_refused_read_of_a_dictionary_gives_no_segment(rt: HostRuntime) -> Result<(), Fail> {
+    is_read(&rt, rt.alloc(), &dictionary_bytes())
+}
+
+/// Two rows that stood in bytes are copied, and left as they were where that is refused.
+fn is_copied(rt: &impl Abort, alloc: Global, bytes: &[u8]) -> Result<(), Fail> {
+    let (segment, _) = two_rows(alloc, bytes)?;
     let before = bytes_of(&segment)?;
     match segment.copy(alloc) {
         Ok(copy) => assert!(rt; bytes_of(&copy)? == before),
@@ -74,13 +133,31 @@ fn a_refused_copy_leaves_its_source(rt: HostRuntime) -> Result<(), Fail> {
 }
 
 #[test]
-fn a_refused_canonical_copy_leaves_its_source(rt: HostRuntime) -> Result<(), Fail> {
-    let alloc = rt.alloc();
-    let schema = one_column(alloc)?;
-    let (segment, _) = Segment::read_bytes(alloc, &schema, 2, &dictionary_bytes(), 0)?;
+fn a_refused_copy_of_a_frame_leaves_its_source(rt: HostRuntime) -> Result<(), Fail> {
+    is_copied(&rt, rt.alloc(), &frame_bytes())
+}
+
+#[test]
+fn a_refused_copy_of_deltas_leaves_its_source(rt: HostRuntime) -> Result<(), Fail> {
+    is_copied(&rt, rt.alloc(), &delta_bytes())
+}
+
+#[test]
+fn a_refused_copy_of_runs_leaves_its_source(rt: HostRuntime) -> Result<(), Fail> {
+    is_copied(&rt, rt.alloc(), &run_bytes())
+}
+
+#[test]
+fn a_refused_copy_of_a_dictionary_leaves_its_source(rt: HostRuntime) -> Result<(), Fail> {
+    is_copied(&rt, rt.alloc(), &dictionary_bytes())
+}
+
+/// Two rows that stood in bytes have a canonical copy, and are left as they were where that is refused.
+fn is_copied_canonically(rt: &impl Abort, alloc: Global, bytes: &[u8]) -> Result<(), Fail> {
+    let (segment, _) = two_rows(alloc, bytes)?;
     let before = bytes_of(&segment)?;
     match segment.canonical_copy(alloc) {
-        Ok(copy) => assert!(rt; copy.canonical()),
+        Ok(copy) => assert!(rt; copy.canonical() && copy.same_rows(&segment)),
         Err(AllocError) => {
             let is_same = bytes_of(&segment)? == before;
             return refused(is_same && segment.canonical_copy(alloc).is_ok());
@@ -89,10 +166,29 @@ fn a_refused_canonical_copy_leaves_its_source(rt: HostRuntime) -> Result<(), Fai
     Ok(())
 }
 
+#[test]
+fn a_refused_canonical_copy_of_a_frame_leaves_its_source(rt: HostRuntime) -> Result<(), Fail> {
+    is_copied_canonically(&rt, rt.alloc(), &frame_bytes())
+}
+
+#[test]
+fn a_refused_canonical_copy_of_deltas_leaves_its_source(rt: HostRuntime) -> Result<(), Fail> {
+    is_copied_canonically(&rt, rt.alloc(), &delta_bytes())
+}
+
+#[test]
+fn a_refused_canonical_copy_of_runs_leaves_its_source(rt: HostRuntime) -> Result<(), Fail> {
+    is_copied_canonically(&rt, rt.alloc(), &run_bytes())
+}
+
+#[test]
+fn a_refused_canonical_copy_of_a_dictionary_leaves_its_source(rt: HostRuntime) -> Result<(), Fail> {
+    is_copied_canonically(&rt, rt.alloc(), &dictionary_bytes())
+}
+
 /// A segment recoded, and what is left of it where that is refused.
 fn is_recoded(rt: &impl Abort, alloc: Global, coding: Coding) -> Result<(), Fail> {
-    let schema = one_column(alloc)?;
-    let (mut segment, _) = Segment::read_bytes(alloc, &schema, 2, &dictionary_bytes(), 0)?;
+    let (mut segment, _) = two_rows(alloc, &dictionary_bytes())?;
     let before = bytes_of(&segment)?;
     match segment.recode(alloc, 0, 0, coding) {
         Ok(()) => assert!(rt; segment.rows() == 2 && segment.coding(0, 0) == coding),
@@ -125,27 +221,63 @@ fn a_refused_recoding_to_dict_changes_nothing(rt: HostRuntime) -> Result<(), Fai
     is_recoded(&rt, rt.alloc(), Coding::Dict)
 }
 
-/// A row of one cell.
-fn row_of(alloc: Global, cell: Option<i128>) -> Result<Row, AllocError> {
-    Ok(Row::from_cells(Vec::from_slice(alloc, &[cell])?))
+/// Whether a segment was built, and has the rows.
+fn has_built(built: &Result<Segment, AllocError>, rows: &[Row]) -> bool {
+    match built {
+        Ok(segment) => segment.has_rows(rows),
+        Err(AllocError) => false,
+    }
 }
 
-#[test]
-fn a_refused_build_gives_no_segment(rt: HostRuntime) -> Result<(), Fail> {
-    let alloc = rt.alloc();
+/// A segment is built of rows, whose first vector has a coding and so many bytes, and where that is refused there is none.
+fn is_built(rt: &impl Abort, alloc: Global, rows: &[Row], form: (Coding, u16)) -> Result<(), Fail> {
     let schema = one_column(alloc)?;
-    let rows = [
-        row_of(alloc, Some(7))?,
-        row_of(alloc, None)?,
-        row_of(alloc, Some(9))?,
-    ];
-    table_model::check_rows(&schema, &rows)?;
-    match Segment::build(alloc, &schema, &rows) {
-        Ok(segment) => assert!(rt; segment.has_rows(&rows)),
+    check_rows(&schema, rows)?;
+    match Segment::build(alloc, &schema, rows) {
+        Ok(segment) => {
+            let vector = first(rt, &segment);
+            assert_eq!(rt; (vector.coding(), vector.coded().bytes_len()), form);
+            assert!(rt; segment.has_rows(rows));
+        }
         Err(AllocError) => {
-            let again = Segment::build(alloc, &schema, &rows)?;
-            return refused(again.has_rows(&rows));
+            let again = Segment::build(alloc, &schema, rows);
+            return refused(has_built(&again, rows));
         }
     }
     Ok(())
+}
+
+// One value in all rows takes the 2 bytes of a reference alone.
+#[test]
+fn a_refused_build_of_one_value_gives_no_segment(rt: HostRuntime) -> Result<(), Fail> {
+    let rows = rows_of(rt.alloc(), 2, Pattern::All(7))?;
+    is_built(&rt, rt.alloc(), &rows, (Coding::For, 2))
+}
+
+// The filled vector is 7, 7, 8, 8, ..: a reference and a bit a row are 130 bytes, a mask and two values 132.
+#[test]
+fn a_refused_build_of_a_frame_gives_no_segment(rt: HostRuntime) -> Result<(), Fail> {
+    let rows = rows_with(rt.alloc(), &[Some(7), None, Some(8)])?;
+    is_built(&rt, rt.alloc(), &rows, (Coding::For, 130))
+}
+
+// 0 to 65, then 65: the differences are 1 and 0. A least delta, 64 bases and a bit a row are 258 bytes, a mask and 66 values 260.
+#[test]
+fn a_refused_build_of_deltas_gives_no_segment(rt: HostRuntime) -> Result<(), Fail> {
+    let rows = rows_of(rt.alloc(), 66, Pattern::Counting)?;
+    is_built(&rt, rt.alloc(), &rows, (Coding::Delta, 258))
+}
+
+// 7, 7, 9, 9, ..: a mask and two values are 132 bytes, and so are two values and a bit a row, which come later.
+#[test]
+fn a_refused_build_of_runs_gives_no_segment(rt: HostRuntime) -> Result<(), Fail> {
+    let rows = rows_with(rt.alloc(), &[Some(7), None, Some(9)])?;
+    is_built(&rt, rt.alloc(), &rows, (Coding::Runs, 132))
+}
+
+// 7, 7, 9, 7, 7, ..: two values and a bit a row are 132 bytes, a mask and three values 134.
+#[test]
+fn a_refused_build_of_a_dictionary_gives_no_segment(rt: HostRuntime) -> Result<(), Fail> {
+    let rows = rows_with(rt.alloc(), &[Some(7), None, Some(9), Some(7)])?;
+    is_built(&rt, rt.alloc(), &rows, (Coding::Dict, 132))
 }

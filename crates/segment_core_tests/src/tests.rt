@@ -112,7 +112,7 @@ fn each_vector_takes_the_coding_of_fewest_bytes(rt: HostRuntime) -> Result<(), F
 }
 
 /// Rows of one cell each.
-fn rows_with(alloc: Global, cells: &[Option<i128>]) -> Result<Vec<Row>, AllocError> {
+pub(super) fn rows_with(alloc: Global, cells: &[Option<i128>]) -> Result<Vec<Row>, AllocError> {
     let mut rows = Vec::with_capacity(alloc, cells.len())?;
     for cell in cells {
         rows.push(Row::from_cells(Vec::from_slice(alloc, &[*cell])?))?;
