@@ -1,5 +1,7 @@
-//! Tests of catalogue_join: sets of names and of rows, at values worked out by hand.
+//! Tests of catalogue_join: sets of names and of rows, at values worked out by hand, and where a growth is refused.
 #![tactic(auto)]
 
+#[cfg(test)]
+mod refused_tests;
 #[cfg(test)]
 mod tests;

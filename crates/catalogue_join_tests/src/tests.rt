@@ -7,7 +7,7 @@ use std::process::Abort;
 use std::test::Fail;
 use table_model::{BatchName, Number, Origin, RowName};
 
-fn batch(origin: u32, number: u32) -> BatchName
+pub(crate) fn batch(origin: u32, number: u32) -> BatchName
     ensures { result ≡ record { origin = record { 0 = origin }; number = record { 0 = number } } }
 {
     BatchName {
@@ -16,7 +16,7 @@ fn batch(origin: u32, number: u32) -> BatchName
     }
 }
 
-fn row(number: u32, ordinal: u16) -> RowName
+pub(crate) fn row(number: u32, ordinal: u16) -> RowName
     ensures { result ≡ record { batch = record { origin = record { 0 = 1 }; number = record { 0 = number } }; ordinal = ordinal } }
 {
     RowName {
@@ -26,7 +26,7 @@ fn row(number: u32, ordinal: u16) -> RowName
 }
 
 // The names of origin 1 with these numbers, each at least 1.
-fn held_of(alloc: Global, numbers: &[u32]) -> Result<Held, AllocError> {
+pub(crate) fn held_of(alloc: Global, numbers: &[u32]) -> Result<Held, AllocError> {
     let mut held = Held::new(alloc);
     for number in numbers {
         if *number > 0 {

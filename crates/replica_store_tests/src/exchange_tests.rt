@@ -14,7 +14,7 @@ struct Late {
     gained: &'static [Told],
     batches: &'static [OneColumn<'static>],
     deleted: &'static [Deleted],
-    live: u64,
+    live: usize,
 }
 
 const LATE_OFFERS: [Late; 4] = [

@@ -1,5 +1,5 @@
 //! Batches whose vectors are put into other codings: their rows stay, and merges keep the codings of either side.
-use crate::tests::{Told, has_batches, merge, name, store_of, told_store};
+use crate::tests::{Told, count_live, has_batches, merge, name, store_of, told_store};
 use replica_store::Store;
 use segment_core::{Coding, Segment};
 use std::alloc::{AllocError, Global};
@@ -199,7 +199,7 @@ fn recoded_seven(alloc: Global, coding: Coding) -> Result<Store, Refusal> {
 /// Whether a store has the batch 1.1 of one live row, 7, in this coding.
 fn has_seven(store: &Store, coding: Coding) -> bool {
     has_batches(store, &[(1, 1, &[7])])
-        && store.live_count() == 1
+        && count_live(store) == 1
         && coding_at(store, 0, 0) == Some(coding)
 }
 

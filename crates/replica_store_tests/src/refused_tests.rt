@@ -11,7 +11,7 @@ use replica_store::{Offer, Store, Summary};
 use segment_core::Coding;
 use std::alloc::Global;
 use std::test::Fail;
-use table_model::{Refusal, Row};
+use table_model::{ColType, Origin, Refusal, Row, Schema};
 
 /// The call answered that memory was refused; what it was given is as it was, and the same call again succeeds.
 const REFUSED: &str = "a growth was refused, and all is as it was";
@@ -102,7 +102,7 @@ fn came_of(
     call: Call,
     rows: &[Row],
     deleted: &[Deleted],
-    live: u64,
+    live: usize,
 ) -> Came {
     match made(alloc, store, call, rows) {
         Ok(()) => Came::Done,
@@ -269,4 +269,64 @@ fn applied(alloc: Global) -> Result<Came, Refusal> {
 #[test]
 fn a_refused_apply_leaves_the_store(rt: HostRuntime) -> Result<(), Fail> {
     end(applied(rt.alloc())?)
+}
+
+/// A call that makes a value of a schema.
+#[derive(Clone, Copy)]
+enum Making {
+    Store,
+    Summary,
+}
+
+/// Makes a store of the table.
+fn new_store(alloc: Global, schema: &Schema) -> Result<(), Refusal> {
+    let _ = Store::new(alloc, schema, Origin(1))?;
+    Ok(())
+}
+
+/// Makes a summary of the table without names.
+fn empty_summary(alloc: Global, schema: &Schema) -> Result<(), Refusal> {
+    let _ = Summary::empty(alloc, schema)?;
+    Ok(())
+}
+
+/// Makes the value.
+fn make(alloc: Global, schema: &Schema, making: Making) -> Result<(), Refusal> {
+    match making {
+        Making::Store => new_store(alloc, schema),
+        Making::Summary => empty_summary(alloc, schema),
+    }
+}
+
+/// Whether a schema is that of these tests.
+fn is_table(schema: &Schema) -> bool {
+    schema.table() == "T" && schema.columns() == 2
+}
+
+/// What came of a call that makes a value of the schema.
+fn came_of_making(alloc: Global, schema: &Schema, making: Making) -> Came {
+    match make(alloc, schema, making) {
+        Ok(()) => Came::Done,
+        Err(fault) => {
+            let again = make(alloc, schema, making);
+            refused(fault, is_table(schema) && again.is_ok())
+        }
+    }
+}
+
+/// What came of a call that makes a value of a schema of two columns.
+fn made_of_two(alloc: Global, making: Making) -> Result<Came, Refusal> {
+    let columns = [("A", ColType::SmallInt), ("B", ColType::BigInt)];
+    let schema = Schema::new(alloc, "T", &columns)?;
+    Ok(came_of_making(alloc, &schema, making))
+}
+
+#[test]
+fn a_refused_store_leaves_its_schema(rt: HostRuntime) -> Result<(), Fail> {
+    end(made_of_two(rt.alloc(), Making::Store)?)
+}
+
+#[test]
+fn a_refused_summary_without_names_leaves_its_schema(rt: HostRuntime) -> Result<(), Fail> {
+    end(made_of_two(rt.alloc(), Making::Summary)?)
 }
