@@ -115,9 +115,9 @@ pub(crate) const THREE_ROWS: Change = (
 );
 
 // The file of one row, of the row -32,768, and of one row that is null.
-const SAME: Change = (42, 42, &[]);
+pub(crate) const SAME: Change = (42, 42, &[]);
 
-const LEAST: Change = (32, 34, &[(b"\0\x80", 0)]);
+pub(crate) const LEAST: Change = (32, 34, &[(b"\0\x80", 0)]);
 
 const NULL: Change = (27, 34, &[(b"\x01\x01", 133)]);
 
@@ -477,11 +477,14 @@ fn the_first_fault_of_a_file_is_answered_at_its_place(rt: HostRuntime) -> Result
     Ok(())
 }
 
+/// The row -32,768 as FOR of width 1: the packed value 1 above the reference 32,767, which wraps.
+pub(crate) const WRAPPING: Change = (29, 34, &[(b"\x01\0\0\xff\x7f\x01", 127)]);
+
 // Other forms of one vector, the first place that isn't canonical, and the canonical file of its rows.
 const OFFERS: &[(Change, u64, Change)] = &[
     // FOR at width 1, once with the reference 7, once with 32,767 and the packed value 1, which wraps.
     ((29, 34, &[(b"\x01\0\0\x07", 129)]), 29, SAME),
-    ((29, 34, &[(b"\x01\0\0\xff\x7f\x01", 127)]), 29, LEAST),
+    (WRAPPING, 29, LEAST),
     // A dictionary of 7, and of 7 and 8 with codes of one bit.
     ((28, 34, &[(b"\x03\0\x01\0\x07\0", 0)]), 28, SAME),
     ((28, 34, &[(b"\x03\x01\x02\0\x07\0\x08", 129)]), 28, SAME),
@@ -516,7 +519,7 @@ fn store_from(alloc: Global, offer: &[u8]) -> Result<Store, Refusal> {
 }
 
 /// Whether a store has the file of one row with a change.
-fn has_file(alloc: Global, store: &Store, change: &Change) -> Result<bool, Refusal> {
+pub(crate) fn has_file(alloc: Global, store: &Store, change: &Change) -> Result<bool, Refusal> {
     let file = changed(alloc, change)?;
     is_export(alloc, store, &file)
 }
@@ -623,26 +626,29 @@ fn tells_coding_in_offers(alloc: Global, coding: Coding, change: &Change) -> Res
 // The coding stands at 28. DELTA has 64 bases of 7, RLE one run of 7.
 const CODINGS: &[(Coding, Change)] = &[
     (Coding::For, (28, 34, &[(b"\0\0\0\0\x07\0", 0)])),
-    (Coding::Dict, (28, 34, &[(b"\x03\0\x01\0\x07\0", 0)])),
+    (Coding::Dict, IN_DICTIONARY),
     (
         Coding::Runs,
         (28, 34, &[(b"\x02\x01\x01", 129), (b"\x07\0", 0)]),
     ),
-    (
-        Coding::Delta,
-        (
-            28,
-            34,
-            &[
-                (b"\x01", 5),
-                (SIXTEEN_SEVENS, 0),
-                (SIXTEEN_SEVENS, 0),
-                (SIXTEEN_SEVENS, 0),
-                (SIXTEEN_SEVENS, 0),
-            ],
-        ),
-    ),
+    (Coding::Delta, IN_DELTAS),
 ];
+
+/// The row 7 in a dictionary of 7.
+pub(crate) const IN_DICTIONARY: Change = (28, 34, &[(b"\x03\0\x01\0\x07\0", 0)]);
+
+/// The row 7 in DELTA: 170 bytes.
+pub(crate) const IN_DELTAS: Change = (
+    28,
+    34,
+    &[
+        (b"\x01", 5),
+        (SIXTEEN_SEVENS, 0),
+        (SIXTEEN_SEVENS, 0),
+        (SIXTEEN_SEVENS, 0),
+        (SIXTEEN_SEVENS, 0),
+    ],
+);
 
 const SIXTEEN_SEVENS: &[u8] =
     b"\x07\0\x07\0\x07\0\x07\0\x07\0\x07\0\x07\0\x07\0\x07\0\x07\0\x07\0\x07\0\x07\0\x07\0\x07\0\x07\0";
@@ -673,6 +679,20 @@ fn see_fronts_truncated(rt: &impl Abort, alloc: Global, bytes: &[u8]) {
 fn every_proper_front_of_a_file_is_truncated_with_its_length(rt: HostRuntime) -> Result<(), Fail> {
     let bytes = changed(rt.alloc(), &THREE_ROWS)?;
     see_fronts_truncated(&rt, rt.alloc(), &bytes);
+    Ok(())
+}
+
+/// Whether the file of one row with a change, and one byte more behind it, is no file and no offer, but refused so.
+fn is_too_long(alloc: Global, change: &Change, fault: Refusal) -> Result<bool, AllocError> {
+    let mut bytes = changed(alloc, change)?;
+    bytes.push(0)?;
+    Ok(is_no_offer(alloc, &bytes, fault))
+}
+
+// The byte stands behind the ranges of a file of 198 bytes.
+#[test]
+fn a_byte_behind_the_ranges_is_refused_at_its_place(rt: HostRuntime) -> Result<(), Fail> {
+    assert!(rt; is_too_long(rt.alloc(), &THREE_ROWS, Refusal::TrailingBytes(198))?);
     Ok(())
 }
 

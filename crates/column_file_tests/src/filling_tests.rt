@@ -7,7 +7,7 @@ use std::test::Fail;
 use table_model::{BatchName, ColType, Number, Origin, Refusal, Row, RowName, Schema};
 
 /// The batch that all of them hold.
-const NAME: BatchName = BatchName {
+pub(crate) const NAME: BatchName = BatchName {
     origin: Origin(1),
     number: Number(1),
 };
@@ -39,13 +39,13 @@ const DICTIONARY: Change = (
 );
 
 /// A store of T(A SMALLINT) that holds nothing.
-fn new_store(alloc: Global, own: Origin) -> Result<Store, Refusal> {
+pub(crate) fn new_store(alloc: Global, own: Origin) -> Result<Store, Refusal> {
     let schema = Schema::new(alloc, "T", &[("A", ColType::SmallInt)])?;
     Store::new(alloc, &schema, own)
 }
 
 /// A row of one cell.
-fn row_of(alloc: Global, cell: Option<i128>) -> Result<Row, AllocError> {
+pub(crate) fn row_of(alloc: Global, cell: Option<i128>) -> Result<Row, AllocError> {
     Ok(Row::from_cells(Vec::from_slice(alloc, &[cell])?))
 }
 
@@ -121,7 +121,7 @@ fn sent(alloc: Global, bytes: &[u8]) -> Result<Store, Refusal> {
 }
 
 /// The same for the file of one row with a change.
-fn sent_from(alloc: Global, change: &Change) -> Result<Store, Refusal> {
+pub(crate) fn sent_from(alloc: Global, change: &Change) -> Result<Store, Refusal> {
     let bytes = changed(alloc, change)?;
     sent(alloc, &bytes)
 }

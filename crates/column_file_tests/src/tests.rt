@@ -1,9 +1,10 @@
 //! Summaries in bytes, at bytes and places worked out by hand from the format.
+use crate::filling_tests::{new_store, row_of};
 use column_file::{read_summary, read_summary_bytes, write_summary};
-use replica_store::Summary;
+use replica_store::{Store, Summary};
 use std::alloc::{AllocError, Global};
 use std::test::Fail;
-use table_model::{Counted, Refusal};
+use table_model::{BatchName, Counted, Number, Origin, Refusal};
 
 /// The summary of T(A SMALLINT) with the names 1.1 and 1.3, between which one is lacked: 33 bytes.
 pub(crate) const TWO_NAMES: &[u8] =
@@ -12,9 +13,14 @@ pub(crate) const TWO_NAMES: &[u8] =
 /// What stands before the names of that summary, with the count 2: 17 bytes.
 const HEAD: &[u8] = b"FLSM\x01\0\x01\0\x01T\x02\x01A\x02\0\0\0";
 
-/// What reading such bytes is refused as.
-fn fault(alloc: Global, bytes: &[u8]) -> Option<Refusal> {
+/// What reading the schema and the names that bytes are is refused as.
+fn bytes_fault(alloc: Global, bytes: &[u8]) -> Option<Refusal> {
     read_summary_bytes(alloc, bytes).err()
+}
+
+/// What reading the summary that a reader has is refused as.
+fn summary_fault(alloc: Global, bytes: &[u8]) -> Option<Refusal> {
+    read_summary(alloc, &mut Counted::new(bytes)).err()
 }
 
 #[test]
@@ -63,8 +69,45 @@ fn the_first_fault_of_a_summary_is_answered_at_its_place(rt: HostRuntime) -> Res
         ),
     ];
     for (bytes, want) in cases {
-        assert_eq!(rt; fault(rt.alloc(), bytes), Some(*want), "at {bytes:?}");
+        assert_eq!(rt; bytes_fault(rt.alloc(), bytes), Some(*want), "at {bytes:?}");
+        assert_eq!(rt;
+            summary_fault(rt.alloc(), bytes),
+            Some(*want),
+            "at {bytes:?}"
+        );
     }
+    Ok(())
+}
+
+/// Puts the one row 7 under the name of origin 1 with this number.
+fn insert(alloc: Global, store: &mut Store, number: u32) -> Result<(), Refusal> {
+    let mut rows = Vec::with_capacity(alloc, 1)?;
+    rows.push(row_of(alloc, Some(7))?)?;
+    let name = BatchName {
+        origin: Origin(1),
+        number: Number(number),
+    };
+    let _ = store.insert(alloc, name, rows.as_slice())?;
+    Ok(())
+}
+
+/// Whether a store's summary is written as these bytes.
+fn is_summed_up(alloc: Global, store: &Store, bytes: &[u8]) -> Result<bool, Refusal> {
+    let summary = store.summary(alloc)?;
+    is_written(alloc, &summary, bytes)
+}
+
+/// Whether a store that is given the names 1.1 and 1.3 has such a summary.
+fn sums_up(alloc: Global, store: &mut Store, bytes: &[u8]) -> Result<bool, Refusal> {
+    insert(alloc, store, 1)?;
+    insert(alloc, store, 3)?;
+    is_summed_up(alloc, store, bytes)
+}
+
+#[test]
+fn the_summary_of_a_store_with_a_gap_has_both_names(rt: HostRuntime) -> Result<(), Fail> {
+    let mut store = new_store(rt.alloc(), Origin(2))?;
+    assert!(rt; sums_up(rt.alloc(), &mut store, TWO_NAMES)?);
     Ok(())
 }
 
