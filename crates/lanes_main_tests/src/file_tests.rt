@@ -1,9 +1,9 @@
 //! Scripts that export and open files. The files' bytes are worked out by hand, field by field, from the rules of files.
 use crate::tests::text_of;
-use lanes_main::{query_file_with_notes, script};
+use lanes_main::query_file_with_notes;
 use std::alloc::Global;
 use std::test::Fail;
-use table_model::{Counted, Refusal, Stop};
+use table_model::{Counted, Refusal};
 
 /// A file's bytes in hexadecimal digits: parts, each followed by so many bytes 00.
 type Parts = &'static [(&'static str, usize)];
@@ -415,99 +415,6 @@ fn a_caret_stands_under_the_place_where_a_query_is_refused(rt: HostRuntime) -> R
         assert!(rt; outcome == Some(refusal));
         assert!(rt; answered.as_slice() == answers.as_bytes());
         assert!(rt; notes.as_slice() == shown.as_bytes(), "at {shown}");
-    }
-    Ok(())
-}
-
-/// A script whose reader or writer stops: its lines, their replies, and after how many bytes each line and its reply end.
-struct Stopped {
-    lines: &'static str,
-    replies: &'static str,
-    ends: &'static [(usize, usize)],
-}
-
-/// Scripts that stop, one of them with files.
-const STOPPED: [Stopped; 2] = [
-    Stopped {
-        lines: "table 2 T A SMALLINT\nappend 1 (7)\nmerge 2 1\nquery 2 SELECT COUNT(*) FROM T\n",
-        replies: "ok\nok 1.1\nok\nok 1\nCOUNT(*)\n1\n",
-        ends: &[(21, 3), (34, 10), (44, 13), (75, 29)],
-    },
-    Stopped {
-        lines: "table 2 T A SMALLINT\nappend 1 (7)\nexport 1\nopen 2 464c43460100010001540201410100000001000000010000000000000000000007000000000000000000\nexport 2\n",
-        replies: "ok\nok 1.1\nok 464c43460100010001540201410100000001000000010000000000000000000007000000000000000000\nok\nok 464c43460100010001540201410100000001000000010000000000000000000007000000000000000000\n",
-        ends: &[(21, 3), (34, 10), (43, 98), (135, 101), (144, 189)],
-    },
-];
-
-impl Stopped {
-    /// How many bytes of replies are due once so many bytes of the lines were read: those of the whole lines.
-    fn due_after(&self, read: usize) -> usize {
-        let mut due = 0;
-        for (line_end, reply_end) in self.ends {
-            if *line_end <= read {
-                due = *reply_end;
-            }
-        }
-        due
-    }
-
-    /// Whether a reader that fails after so many bytes ends the script as a failed read, with the replies to all whole lines.
-    fn is_answered_after_read(&self, alloc: Global, left: usize) -> bool {
-        let mut reader = Counted::new(Stop {
-            inner: self.lines.as_bytes(),
-            left,
-        });
-        let mut writer = Counted::new(Vec::new(alloc));
-        let outcome = script(alloc, &mut reader, &mut writer);
-        let written = writer.into_inner();
-        outcome == Err(Refusal::ReadFault)
-            && reader.failures() == 1
-            && written.len() == self.due_after(left)
-            && self.replies.as_bytes().starts_with(written.as_slice())
-    }
-
-    /// Whether a writer that fails after so many bytes ends the script as a failed write, with so much of the replies.
-    fn is_written_until(&self, alloc: Global, left: usize) -> bool {
-        let mut reader = Counted::new(self.lines.as_bytes());
-        let mut writer = Counted::new(Stop {
-            inner: Vec::new(alloc),
-            left,
-        });
-        let outcome = script(alloc, &mut reader, &mut writer);
-        let failures = writer.failures();
-        let written = writer.into_inner().inner;
-        outcome == Err(Refusal::WriteFault)
-            && failures == 1
-            && written.len() == left
-            && self.replies.as_bytes().starts_with(written.as_slice())
-    }
-}
-
-// A reader that fails after n bytes, for each n up to the whole script.
-#[test]
-fn after_a_failed_read_the_whole_lines_are_answered(rt: HostRuntime) -> Result<(), Fail> {
-    for stopped in &STOPPED {
-        for left in 0..=stopped.lines.len() {
-            assert!(rt;
-                stopped.is_answered_after_read(rt.alloc(), left),
-                "after {left} bytes"
-            );
-        }
-    }
-    Ok(())
-}
-
-// A writer that fails after n bytes, for each n below the whole text.
-#[test]
-fn after_a_failed_write_a_front_of_the_replies_is_written(rt: HostRuntime) -> Result<(), Fail> {
-    for stopped in &STOPPED {
-        for left in 0..stopped.replies.len() {
-            assert!(rt;
-                stopped.is_written_until(rt.alloc(), left),
-                "after {left} bytes"
-            );
-        }
     }
     Ok(())
 }

@@ -4,4 +4,8 @@
 #[cfg(test)]
 mod file_tests;
 #[cfg(test)]
+mod refused_tests;
+#[cfg(test)]
+mod stop_tests;
+#[cfg(test)]
 mod tests;

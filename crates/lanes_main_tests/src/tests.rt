@@ -352,6 +352,7 @@ fn texts_of(alloc: Global, replies: &[Reply]) -> Result<Vec<u8>, Refusal> {
     Ok(texts)
 }
 
+// The query counts the rows of both batches that aren't deleted: 2 and 1.
 #[test]
 fn a_run_has_the_reply_to_each_step(rt: HostRuntime) -> Result<(), Fail> {
     let schema = Schema::new(rt.alloc(), "T", &[("A", ColType::BigInt)])?;
@@ -362,12 +363,12 @@ fn a_run_has_the_reply_to_each_step(rt: HostRuntime) -> Result<(), Fail> {
     let want =
         b"ok 1.1\nrefused EmptyBatch\nok\nok new\nrefused Conflict 9.2\nok\nok 1\nCOUNT(*)\n3\n";
     assert!(rt; text.as_slice() == want.as_slice());
-    assert!(rt; cluster.stores().len() == 2 && cluster.stores()[0].live_count() == 3);
+    assert!(rt; cluster.stores().len() == 2 && cluster.stores()[0].batches() == 2);
     Ok(())
 }
 
 /// The canonical file of one batch 1.1 with one row, which is 7, in a table T of one column A SMALLINT.
-const ONE_ROW: [u8; 42] = [
+pub(crate) const ONE_ROW: [u8; 42] = [
     70, 76, 67, 70, 1, 0, 1, 0, 1, 84, 2, 1, 65, 1, 0, 0, 0, 1, 0, 0, 0, 1, 0, 0, 0, 0, 0, 0, 0, 0,
     0, 0, 7, 0, 0, 0, 0, 0, 0, 0, 0, 0,
 ];
