@@ -111,6 +111,9 @@ CASES = [
     Case("a file that would be written over stays where another is empty", ["merge", "t", "t", "u"], 1, err=b"refused Truncated 0\n", files={"t": ONE_ROW, "u": b""}, writes={"t": ONE_ROW, "u": b""}),
     Case("the files to merge are judged in order", ["merge", "out", "u", "d"], 1, err=b"refused Truncated 0\n", files={"u": b"", **FOLDER}, writes={"out": None}),
     Case("the file to write is judged after them", ["merge", "d", "u"], 1, err=b"refused Truncated 0\n", files={"u": b"", **FOLDER}, writes=FOLDER),
+    Case("the name - is a file's name for what merge reads", ["merge", "out", "t", "-"], 0, b"ok\n", input=OTHER_ROW, files={"t": ONE_ROW, "-": SECOND_BATCH}, writes={"out": BOTH, "-": SECOND_BATCH}),
+    Case("where no file has that name it is a failed read", ["merge", "out", "-"], 1, err=b"refused ReadFault\n", input=ONE_ROW, writes={"out": None, "-": None}),
+    Case("the name - is a file's name for what merge writes", ["merge", "-", "t"], 0, b"ok\n", files={"t": ONE_ROW}, writes={"-": ONE_ROW}),
     Case("merge wants a file to write and one to read", ["merge", "out"], 2, err=[b"IN"]),
     Case("a query over a file is answered", ["query", "t", "SELECT SUM(A) FROM T"], 0, b"SUM(A)\n7\n", files={"t": ONE_ROW}),
     Case(
