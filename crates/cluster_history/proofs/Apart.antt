@@ -127,7 +127,7 @@ stored_back stores front back place from s other new result parts is_len before 
     (replica_at back 0 s (omega arith) held) (replica_at front from other (omega arith) lent) acts)
 
 -- a list that is written over one of the same length
-refill : (n : ℕ) (xs ws : List StoreForm) → n ≡ length xs → length ws ≡ length xs → take n (ws ++ drop (length ws) xs) ≡ ws
+pub refill : (n : ℕ) (xs ws : List StoreForm) → n ≡ length xs → length ws ≡ length xs → take n (ws ++ drop (length ws) xs) ≡ ws
 refill n xs ws is same =
     (λ i. take ((is ∙ sym same) i) (ws ++ drop_all (length ws) xs (omega arith) i)) ∙ take-append_seam ws []
 

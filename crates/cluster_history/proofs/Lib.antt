@@ -5,6 +5,7 @@ pub mod Messages
 pub mod Numbers
 pub mod Opened
 pub mod Placed
+pub mod Recodes
 pub mod Runs
 pub mod Sent
 pub mod Takes

@@ -1,4 +1,5 @@
 pub mod Cluster
 pub mod History
 pub mod Message
+pub mod Recoded
 pub mod Run

@@ -4,6 +4,7 @@ ghost use Rattle.query_parser.specs.Descent.{Reads};
 ghost use Rattle.table_model.specs.Outcome.{Acts, Gives};
 ghost use Rattle.cluster_history.specs.Cluster.{new_cluster, new_replicas, replicas_in, empty_replica, place_of, with_message, append_step, delete_step, ask_step, serve_step, recode_step, open_step, export_step, merged_in, query_step};
 ghost use Rattle.cluster_history.specs.Message.{carried, messages_in};
+ghost use Rattle.cluster_history.specs.Recoded.{RecodesAt};
 ghost use Rattle.cluster_history.specs.Run.{ActsOn, StepTo};
 
 use crate::files::{exported, opened};
@@ -220,7 +221,15 @@ impl Cluster {
         let Some(place) = self.place_of(replica) else {
             return Err(Refusal::NoSuchReplica);
         };
-        self.stores[place].recode(alloc, name, column, vector, coding)?;
+        recode_at(
+            alloc,
+            self.stores.as_mut_slice(),
+            place,
+            name,
+            column,
+            vector,
+            coding,
+        )?;
         Ok(Reply::Done)
     }
 
@@ -358,4 +367,21 @@ fn merge_apart(
         let (front, back) = stores.split_at_mut(place);
         back[0].merge(alloc, &front[from])
     }
+}
+
+/// Puts a vector of a batch of the replica at a place into another coding. The other replicas stay, codings included, and so does
+/// that one where it is refused.
+fn recode_at(
+    alloc: Global,
+    stores: &mut [Store],
+    place: usize,
+    name: BatchName,
+    column: u32,
+    vector: u32,
+    coding: Coding,
+) -> Result<(), Refusal>
+    requires { place < length stores.old }
+    ensures { RecodesAt stores.old result stores.new place name column vector coding }
+{
+    stores[place].recode(alloc, name, column, vector, coding)
 }
