@@ -2,4 +2,8 @@
 #![tactic(auto)]
 
 #[cfg(test)]
+mod recode_tests;
+#[cfg(test)]
+mod refused_tests;
+#[cfg(test)]
 mod tests;

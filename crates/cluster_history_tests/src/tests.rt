@@ -4,20 +4,29 @@ use replica_store::Store;
 use script_lines::Step;
 use std::alloc::Global;
 use std::test::Fail;
-use table_model::{ColType, Refusal, Schema};
+use table_model::{BatchName, ColType, Number, Origin, Refusal, Schema};
+
+pub(crate) fn name(origin: u32, number: u32) -> BatchName {
+    BatchName {
+        origin: Origin(origin),
+        number: Number(number),
+    }
+}
 
 /// What a step is to be answered.
 #[derive(Clone, Copy)]
-enum Want {
+pub(crate) enum Want {
     Done,
+    Named(u32, u32),
     Sent(u32),
     Refused(Refusal),
 }
 
 /// Whether a reply is the wanted one.
-fn is_wanted(reply: Option<&Reply>, want: Want) -> bool {
+pub(crate) fn is_wanted(reply: Option<&Reply>, want: Want) -> bool {
     match (reply, want) {
         (Some(Reply::Done), Want::Done) => true,
+        (Some(Reply::Named(made)), Want::Named(origin, number)) => *made == name(origin, number),
         (Some(Reply::Sent(number)), Want::Sent(wanted)) => *number == wanted,
         (Some(Reply::Refused(refusal)), Want::Refused(wanted)) => *refusal == wanted,
         _ => false,
