@@ -1,5 +1,7 @@
 //! The view of a store that queries are answered by.
-ghost use Rattle.std.specs.Prelude.{◌≡◌, ◌<◌, length, ℤ, Some, slice_index_or, pos};
+ghost use Rattle.std.specs.Prelude.{◌≡◌, ◌<◌, ◌&&◌, if◌then◌else◌, nat_le, nat_lt, true, length, ℤ, Some, slice_index_or, pos};
+ghost use Rattle.segment_core.specs.CodedVector.{is_null};
+ghost use Rattle.transpose_order.specs.Mask.{rows_of, has};
 ghost use Rattle.table_model.specs.Truth.{comparison, and_of};
 ghost use Rattle.table_model.specs.declared.op.Op.TheVariants.{GreaterOrEqual, LessOrEqual};
 ghost use Rattle.table_model.specs.Values.{total, least, greatest};
@@ -66,6 +68,20 @@ fn vector_in(store: &Store, batch: usize, column: usize, vector: usize) -> &Code
     found
 }
 
+/// A vector's null rows, and those past the rows that it covers.
+fn missing_rows(vector: &CodedVector) -> Mask
+    ensures { result ≡ rows_of (λ n. if nat_le vector.now.rows n && nat_lt n 1024 then true else has (rows_of (is_null vector.now.nulls)) n) }
+{
+    let nulls = vector.null_rows();
+    let covered = vector.rows();
+    if covered == VECTOR_ROWS {
+        return nulls;
+    }
+    let mut missing = nulls;
+    missing.set_range(covered, VECTOR_ROWS, true);
+    missing
+}
+
 impl<'a> Columns for StoreView<'a> {
     ghost table = { λ v. v.table };
 
@@ -98,11 +114,7 @@ impl<'a> Columns for StoreView<'a> {
 
     fn nulls(&self, batch: usize, column: usize, vector: usize) -> Mask {
         let found = vector_in(self.store, batch, column, vector);
-        let mut nulls = found.null_rows();
-        if found.rows() < VECTOR_ROWS {
-            nulls.set_range(found.rows(), VECTOR_ROWS, true);
-        }
-        nulls
+        missing_rows(found)
     }
 
     fn compare(

@@ -1,10 +1,10 @@
 -- The rows of the null mask, and those past the rows of the vector.
-use Rattle.std.proofs.Common.{ℕ, ap, ◌∙◌, Bool, true, List, ◌&&◌, nat_le, nat_lt, if◌then◌else◌}
+use Rattle.std.proofs.Common.{ap, ◌∙◌}
 use Rattle.store_view.specs.View.{ViewForm}
 use Rattle.store_view.proofs.view.StoreViewColumns.nulls.Goals as goal
 use Rattle.table_model.specs.Answer.{whole}
 use Rattle.table_model.specs.Condition.{is_null}
-use Rattle.transpose_order.specs.Mask.{rows_of, has}
+use Rattle.transpose_order.specs.Mask.{rows_of}
 use Rattle.transpose_order.specs.MaskWords.{rows_of-like}
 use Rattle.query_eval.specs.Vector.{vector_at, cell_at}
 use Rattle.store_view.proofs.KernelLemmas.{null_at}
@@ -12,8 +12,6 @@ use Rattle.store_view.proofs.KernelLemmas.{null_at}
 pub returns : goal.returns
 returns c =
     let s = c.self.inside.store.now.replica.state in
-    c.set_range.ensures
-    ∙ ap (λ (first : ℕ). rows_of (λ n. if nat_le first n && nat_lt n 1024 then true else has c.null_rows-nulls.result n)) c.rows.ensures.value
-    ∙ ap (λ (mask : List Bool). rows_of (λ n. if nat_le c.vector_in-found.result.now.rows n && nat_lt n 1024 then true else has mask n)) c.null_rows-nulls.ensures
+    c.missing_rows.ensures
     ∙ rows_of-like _ _ (λ n low. null_at c.vector_in-found.result.now (vector_at s c.args.batch c.args.vector) c.args.column c.vector_in-found.ensures n low)
     ∙ ap (λ (v : ViewForm). rows_of (λ n. is_null (whole (cell_at (vector_at v.state c.args.batch c.args.vector) c.args.column n)))) c.self.view_is
