@@ -18,7 +18,7 @@ unfolding row_count
 count_spelled zero some = absurd (omega arith)
 count_spelled (suc n) some = let less : n ≡ suc n - 1 = omega arith in ap (number 2).spell less
 
-batch_parts : (table : Table) (front : List Entry) (e : Entry) → (batch table front).spell e ≡ (batch_name (map name_of front)).spell e.0 ++ (row_count.spell e.1.0 ++ (batch_columns table e.1.0).spell e.1.1)
+pub batch_parts : (table : Table) (front : List Entry) (e : Entry) → (batch table front).spell e ≡ (batch_name (map name_of front)).spell e.0 ++ (row_count.spell e.1.0 ++ (batch_columns table e.1.0).spell e.1.1)
 unfolding batch
 batch_parts table front e = refl
 

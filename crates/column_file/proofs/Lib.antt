@@ -20,3 +20,7 @@ pub mod SummaryAgain
 pub mod HasFiles
 pub mod Comparisons
 pub mod OpenedSegments
+pub mod Differences
+pub mod FirstOthers
+pub mod BatchDifferences
+pub mod Judgements

@@ -1,10 +1,9 @@
 -- A canonical file opens to canonical segments.
-use Rattle.std.proofs.Common.{◌≡◌, ℕ, suc, ◌<◌, ◌==◌, ◌&&◌, Bool, true, false, cond, All, List, [], ◌∷◌, ◌++◌, map, length, Result, Ok, Err, IfOk, sym, ap, subst, refl, ◌∙◌, arith}
+use Rattle.std.proofs.Common.{◌≡◌, ℕ, suc, ◌<◌, ◌==◌, ◌&&◌, Bool, true, false, cond, All, List, [], ◌∷◌, ◌++◌, map, length, Result, Ok, Err, IfOk, sym, ap, refl, ◌∙◌, arith}
 use Rattle.std.specs.List.{AllByRecursion}
 use Rattle.std.specs.FinMap as finite
 use Rattle.std.proofs.lemmas.Bool.{and_parts}
 use Rattle.std.proofs.lemmas.List.Elements.{All-from_recursion}
-use Rattle.table_model.specs.Identifier.{same_text}
 use Rattle.table_model.specs.Name.{is_proper_name}
 use Rattle.table_model.specs.Outcome.{Gives}
 use Rattle.table_model.specs.State.{Batch}
@@ -12,10 +11,9 @@ use Rattle.table_model.specs.Table.{Table, IsTable}
 use Rattle.table_model.specs.declared.names.BatchName.{BatchName}
 use Rattle.table_model.specs.declared.names.Origin.{Origin}
 use Rattle.table_model.specs.declared.refusal.Refusal.{Refusal}
-use Rattle.table_model.specs.declared.refusal.Refusal.TheVariants.{BadName, NotCanonical}
-use Rattle.table_model.proofs.SameTable.{one_text}
+use Rattle.table_model.specs.declared.refusal.Refusal.TheVariants.{BadName}
 use Rattle.catalogue_join.specs.RowRange.{RowRange, AreMaximal, rows_in as rows_deleted}
-use Rattle.segment_core.specs.Format.{AreBytes, Reads, number, valid_all, read_whole}
+use Rattle.segment_core.specs.Format.{AreBytes, number, valid_all, read_whole}
 use Rattle.segment_core.specs.Segment.{widths_in, widths_of, canonical_forms}
 use Rattle.segment_core.specs.SegmentBytes.{batch_columns}
 use Rattle.segment_core.proofs.NumberLaws.{number_valid}
@@ -24,8 +22,7 @@ use Rattle.replica_store.specs.Segments.{Entry as Held, StoreForm, IsStored, row
 use Rattle.replica_store.specs.Exchange.{OfferForm, AreOffered, offering, opened}
 use Rattle.column_file.specs.SummaryBytes.{any_name, proper_name, is_after, batch_name}
 use Rattle.column_file.specs.ContainerBytes.{row_count, Entry, entry_of, name_of, batch, Deleted, container}
-use Rattle.column_file.specs.Files.{canonical_entry, canonical_file, judged, canonical_read, first_difference, AreCanonicalOf, IsCanonicalHeld, IsNumbered, AreNumbered, HasFile}
-use Rattle.column_file.proofs.FileLaws.{files_open}
+use Rattle.column_file.specs.Files.{canonical_entry, AreCanonicalOf, IsCanonicalHeld, IsNumbered, AreNumbered, HasFile}
 use Rattle.column_file.proofs.HasFiles.{entries_are, has_file}
 use Rattle.column_file.proofs.OfferReading.{container_parts}
 
@@ -71,31 +68,6 @@ read_has_file bytes o items ds rs fit is table within batches entries maximal ro
     let p = container_parts bytes o.schema (map entry_of items) ds fit is in
     let numbered : AreNumbered items = All-from_recursion (λ (e : Held). IsNumbered e.0) items (each_numbered o.schema [] items p.batches) in
     has_file o.schema o.state o.segments items rs table within batches entries numbered maximal rows count
-
--- ---- what was compared
-
-same_from : (bytes : List ℕ) (o x : OfferForm) → judged bytes o ≡ Ok x → (same_text bytes (canonical_file o.schema o.state) ≡ true) × (o ≡ x)
-same_from bytes o x is = go (same_text bytes (canonical_file o.schema o.state)) is
-  where
-    go : (b : Bool) → cond b (Ok o) (Err (NotCanonical (first_difference bytes (canonical_file o.schema o.state)))) ≡ Ok x → (b ≡ true) × (o ≡ x)
-    go true e = (refl, cc)
-    go false e = absurd cc
-
--- what is the canonical file of what it holds is the file of canonical segments
-pub compared_segments : (bytes : List ℕ) (o : OfferForm) (r : Result OfferForm Refusal) → HasFile o.schema o.state → canonical_read bytes ≡ judged bytes o → Reads (λ (x : OfferForm). x) r (judged bytes o)
-    → IfOk r (λ (x : OfferForm). AreCanonicalOf x.schema x.state.batches x.segments)
-compared_segments bytes o (Err e) h read reads = tt
-compared_segments bytes o (Ok x) h read reads =
-    let s = same_from bytes o x reads in
-    let file : bytes ≡ canonical_file o.schema o.state = one_text bytes (canonical_file o.schema o.state) s.0 in
-    let f = files_open o.schema o.state h in
-    let both : one x ≡ one f.0 = sym reads ∙ sym read ∙ ap canonical_read file ∙ f.1 in
-    let same : x ≡ f.0 = cc in
-    let here : AreCanonicalOf o.schema o.state.batches x.segments = subst (λ (y : OfferForm). AreCanonicalOf o.schema o.state.batches y.segments) (sym same) f.4 in
-    subst (λ (y : OfferForm). AreCanonicalOf y.schema y.state.batches x.segments) s.1 here
-  where
-    one : OfferForm → Result OfferForm Refusal
-    one y = Ok y
 
 -- ---- the store of an offer
 

@@ -8,14 +8,15 @@ use Rattle.table_model.specs.Table.{Table}
 use Rattle.table_model.specs.declared.refusal.Refusal.{Refusal}
 use Rattle.table_model.specs.declared.refusal.Refusal.TheVariants.{Memory, NotCanonical, WriteFault}
 use Rattle.catalogue_join.specs.RowRange.{RowRange}
-use Rattle.segment_core.specs.Format.{AreBytes, Reads, read_whole}
+use Rattle.segment_core.specs.Format.{AreBytes, Reads, Writes, read_whole, ◌>>=◌}
 use Rattle.table_model.specs.Faults.{AppendsFront}
 use Rattle.table_model.specs.Identifier.{same_text}
 use Rattle.segment_core.specs.Segment.{widths_in, widths_of, canonical_forms}
 use Rattle.replica_store.specs.Segments.{Entry as Held, IsStored, rows_in}
 use Rattle.replica_store.specs.Exchange.{OfferForm, AreOffered}
 use Rattle.column_file.specs.ContainerBytes.{Entry, entry_of, deleted_of, container}
-use Rattle.column_file.specs.Files.{ranges_of, canonical_as_read, canonical_file, first_difference, judged, offer_read, canonical_read, checked_from, IsCanonicalHeld, is_same_range, Exports}
+use Rattle.column_file.specs.Files.{ranges_of, canonical_as_read, canonical_file, first_difference, judged, offer_read, canonical_read, checked_from, IsCanonicalHeld, is_same_range}
+use Rattle.column_file.specs.Differing.{matched}
 use Rattle.column_file.specs.Comparing.{is_whole, has_differed, verdict, told}
 use Rattle.column_file.proofs.Comparisons.{more_after, told_apart}
 use Rattle.column_file.proofs.ContainerLaws.{container_is_lawful}
@@ -103,15 +104,13 @@ not_same a b n false same is other = refl
 
 -- ---- what a comparison answers
 
-pub judged_same : (bytes file : List ℕ) (o : OfferForm) (n : ℕ) → file ≡ canonical_file o.schema o.state → n ≡ first_difference bytes file → n ≡ length bytes → n ≡ length file → judged bytes o ≡ Ok o
-judged_same bytes file o n made is first second =
-    let same : same_text bytes (canonical_file o.schema o.state) ≡ true = ap (same_text bytes) (sym made) ∙ same_by_place bytes file n is first second in
-    rw same refl
+pub matched_same : (bytes text : List ℕ) (n : ℕ) → n ≡ first_difference bytes text → n ≡ length bytes → n ≡ length text → matched bytes text ≡ Ok tt
+matched_same bytes text n is first second = rw (same_by_place bytes text n is first second) refl
 
-pub judged_other : (bytes file : List ℕ) (o : OfferForm) (n : ℕ) → file ≡ canonical_file o.schema o.state → n ≡ first_difference bytes file → (eqb n (length bytes) && eqb n (length file)) ≡ false → judged bytes o ≡ Err (NotCanonical n)
-judged_other bytes file o n made is other =
-    let differ : same_text bytes (canonical_file o.schema o.state) ≡ false = ap (same_text bytes) (sym made) ∙ not_same bytes file n (same_text bytes file) refl is other in
-    let place : first_difference bytes (canonical_file o.schema o.state) ≡ n = ap (first_difference bytes) (sym made) ∙ sym is in
+pub matched_other : (bytes text : List ℕ) (n : ℕ) → n ≡ first_difference bytes text → (eqb n (length bytes) && eqb n (length text)) ≡ false → matched bytes text ≡ Err (NotCanonical n)
+matched_other bytes text n is other =
+    let differ : same_text bytes text ≡ false = not_same bytes text n (same_text bytes text) refl is other in
+    let place : first_difference bytes text ≡ n = sym is in
     rw (differ, place) refl
 
 -- ---- what is canonical
@@ -134,7 +133,7 @@ front_more a b i d in_a in_b so_far here =
 pub front_whole : (a b : List RowRange) (i : ℕ) → length a ≤ i → length b ≤ i → take i a ≡ take i b → a ≡ b
 front_whole a b i in_a in_b same = sym (take_all i a in_a) ∙ same ∙ take_all i b in_b
 
-canonical_items : (t : Table) (items : List Held) → All (IsStored t) items → All IsCanonicalHeld items → map entry_of items ≡ map (canonical_as_read t) items
+pub canonical_items : (t : Table) (items : List Held) → All (IsStored t) items → All IsCanonicalHeld items → map entry_of items ≡ map (canonical_as_read t) items
 canonical_items t [] stored canonical = refl
 canonical_items t (e ∷ items) stored canonical =
     let here = stored 0 e (omega arith) in
@@ -177,82 +176,92 @@ canonical_read_judged bytes = then_judged (offer_read bytes) (judged bytes) (off
 pub checked_is : (bytes : List ℕ) (o : OfferForm) (batches ranges : ℕ) → canonical_read bytes ≡ Ok o → batches ≡ finite.len o.state.batches → ranges ≡ length (ranges_of o.state.deleted) → checked_from bytes ≡ Ok (batches, ranges)
 checked_is bytes o batches ranges is count many = rw is (λ i. Ok (sym count i, sym many i))
 
-pub judged_ends : (bytes file : List ℕ) (o : OfferForm) (n : ℕ) → file ≡ canonical_file o.schema o.state → n ≡ first_difference bytes file → (eqb n (length bytes) && eqb n (length file)) ≡ true → judged bytes o ≡ Ok o
-judged_ends bytes file o n made is ends =
-    let v = and_parts (eqb n (length bytes)) (eqb n (length file)) ends in
-    judged_same bytes file o n made is (eqb-true _ _ v.0) (eqb-true _ _ v.1)
+pub matched_ends : (bytes text : List ℕ) (n : ℕ) → n ≡ first_difference bytes text → (eqb n (length bytes) && eqb n (length text)) ≡ true → matched bytes text ≡ Ok tt
+matched_ends bytes text n is ends =
+    let v = and_parts (eqb n (length bytes)) (eqb n (length text)) ends in
+    matched_same bytes text n is (eqb-true _ _ v.0) (eqb-true _ _ v.1)
 
--- ---- what a comparison that the canonical file was written to says
+-- ---- what a comparison that a text was written to says
 
--- the whole file was written, and nothing else was expected
-pub whole_judged : (bytes : List ℕ) (o : OfferForm) (c : List ℕ × List ℕ) (whole : Bool) → told c ≡ told (bytes, []) ++ canonical_file o.schema o.state
-    → whole ≡ (eqb (first_difference c.0 c.1) (length c.0) && eqb (first_difference c.0 c.1) (length c.1)) → whole ≡ true → judged bytes o ≡ Ok o
-whole_judged bytes o c whole written tells test =
-    let file = canonical_file o.schema o.state in
-    let apart = told_apart c bytes file written in
-    let place : first_difference c.0 c.1 ≡ first_difference bytes file = (λ i. first_difference (apart.0 i) (apart.1 i)) in
-    judged_ends bytes file o (first_difference bytes file) refl refl ((λ i. eqb (sym place i) (length (sym apart.0 i)) && eqb (sym place i) (length (sym apart.1 i))) ∙ sym tells ∙ test)
+less_is_other : (m k : ℕ) → m < k → eqb m k ≡ false
+less_is_other m k less = grind (arith, nat_tests)
 
--- the whole file was written, and something else was expected
-pub other_judged : (bytes : List ℕ) (o : OfferForm) (c : List ℕ × List ℕ) (whole : Bool) (n : ℕ) → told c ≡ told (bytes, []) ++ canonical_file o.schema o.state
-    → whole ≡ (eqb (first_difference c.0 c.1) (length c.0) && eqb (first_difference c.0 c.1) (length c.1)) → whole ≡ false → n ≡ first_difference c.0 c.1 → judged bytes o ≡ Err (NotCanonical n)
-other_judged bytes o c whole n written tells test at =
-    let file = canonical_file o.schema o.state in
-    let apart = told_apart c bytes file written in
-    let place : first_difference c.0 c.1 ≡ first_difference bytes file = (λ i. first_difference (apart.0 i) (apart.1 i)) in
-    let found : n ≡ first_difference bytes file = at ∙ place in
-    judged_other bytes file o n refl found ((λ i. eqb (at i) (length (sym apart.0 i)) && eqb (at i) (length (sym apart.1 i))) ∙ sym tells ∙ test)
+and_false : (b : Bool) → (b && false) ≡ false
+and_false true = refl
+and_false false = refl
 
--- a front of the file was written, of which a byte wasn't expected
-pub front_judged : (bytes : List ℕ) (o : OfferForm) (c : List ℕ × List ℕ) (n : ℕ) (front back : List ℕ) → canonical_file o.schema o.state ≡ front ++ back → told c ≡ told (bytes, []) ++ front
-    → first_difference c.0 c.1 < length c.1 → n ≡ first_difference c.0 c.1 → judged bytes o ≡ Err (NotCanonical n)
-front_judged bytes o c n front back parts written below at =
-    let file = canonical_file o.schema o.state in
+no_end : (b : Bool) (m k : ℕ) → m < k → (b && eqb m k) ≡ false
+no_end b m k less = ap (λ (t : Bool). b && t) (less_is_other m k less) ∙ and_false b
+
+-- the whole text was written, and nothing else was expected
+pub whole_matched : (bytes text : List ℕ) (c : List ℕ × List ℕ) (whole : Bool) → told c ≡ told (bytes, []) ++ text
+    → whole ≡ (eqb (first_difference c.0 c.1) (length c.0) && eqb (first_difference c.0 c.1) (length c.1)) → whole ≡ true → matched bytes text ≡ Ok tt
+whole_matched bytes text c whole written tells test =
+    let apart = told_apart c bytes text written in
+    let place : first_difference c.0 c.1 ≡ first_difference bytes text = (λ i. first_difference (apart.0 i) (apart.1 i)) in
+    matched_ends bytes text (first_difference bytes text) refl ((λ i. eqb (sym place i) (length (sym apart.0 i)) && eqb (sym place i) (length (sym apart.1 i))) ∙ sym tells ∙ test)
+
+-- the whole text was written, and something else was expected
+pub other_matched : (bytes text : List ℕ) (c : List ℕ × List ℕ) (whole : Bool) (n : ℕ) → told c ≡ told (bytes, []) ++ text
+    → whole ≡ (eqb (first_difference c.0 c.1) (length c.0) && eqb (first_difference c.0 c.1) (length c.1)) → whole ≡ false → n ≡ first_difference c.0 c.1 → matched bytes text ≡ Err (NotCanonical n)
+other_matched bytes text c whole n written tells test at =
+    let apart = told_apart c bytes text written in
+    let place : first_difference c.0 c.1 ≡ first_difference bytes text = (λ i. first_difference (apart.0 i) (apart.1 i)) in
+    matched_other bytes text n (at ∙ place) ((λ i. eqb (at i) (length (sym apart.0 i)) && eqb (at i) (length (sym apart.1 i))) ∙ sym tells ∙ test)
+
+-- a front of the text was written, of which a byte wasn't expected
+pub front_matched : (bytes text : List ℕ) (c : List ℕ × List ℕ) (n : ℕ) (front back : List ℕ) → text ≡ front ++ back → told c ≡ told (bytes, []) ++ front
+    → first_difference c.0 c.1 < length c.1 → n ≡ first_difference c.0 c.1 → matched bytes text ≡ Err (NotCanonical n)
+front_matched bytes text c n front back parts written below at =
     let apart = told_apart c bytes front written in
     let place : first_difference c.0 c.1 ≡ first_difference bytes front = (λ i. first_difference (apart.0 i) (apart.1 i)) in
     let long : length c.1 ≡ length front = ap length apart.1 in
     let inside : first_difference bytes front < length front = omega (arith, below, place, long) in
-    let found : n ≡ first_difference bytes file = at ∙ place ∙ sym (more_after bytes front back inside) ∙ ap (first_difference bytes) (sym parts) in
-    let file_long : length file ≡ length front + length back = ap length parts ∙ length-append front back in
-    let past : n < length file = omega (arith, at, place, inside, file_long) in
-    judged_other bytes file o n refl found (no_end (eqb n (length bytes)) n (length file) past)
-  where
-    less_is_other : (m k : ℕ) → m < k → eqb m k ≡ false
-    less_is_other m k less = grind (arith, nat_tests)
+    let found : n ≡ first_difference bytes text = at ∙ place ∙ sym (more_after bytes front back inside) ∙ ap (first_difference bytes) (sym parts) in
+    let text_long : length text ≡ length front + length back = ap length parts ∙ length-append front back in
+    let past : n < length text = omega (arith, at, place, inside, text_long) in
+    matched_other bytes text n found (no_end (eqb n (length bytes)) n (length text) past)
 
-    and_false : (b : Bool) → (b && false) ≡ false
-    and_false true = refl
-    and_false false = refl
-
-    no_end : (b : Bool) (m k : ℕ) → m < k → (b && eqb m k) ≡ false
-    no_end b m k less = ap (λ (t : Bool). b && t) (less_is_other m k less) ∙ and_false b
-
--- what a comparison says, to which the canonical file was written, is what is judged
-pub verdict_judged : (bytes : List ℕ) (o : OfferForm) (start c : List ℕ × List ℕ) (outcome : Result (Unit {0}) Refusal) (before after : ℕ) → start ≡ (bytes, []) → Exports outcome (Some (told start)) (Some (told c)) before after (canonical_file o.schema o.state)
-    → Reads (λ (done : Unit {0}). o) (verdict c outcome) (judged bytes o)
-verdict_judged bytes o start c (Ok done) before after from written = go (is_whole c) refl
+-- what a comparison says, to which a text was written, is what it is matched to
+pub verdict_matched : (bytes text : List ℕ) (start c : List ℕ × List ℕ) (outcome : Result (Unit {0}) Refusal) (before after : ℕ) → start ≡ (bytes, []) → Writes outcome (Some (told start)) (Some (told c)) before after text
+    → Reads (λ (done : Unit {0}). done) (verdict c outcome) (matched bytes text)
+verdict_matched bytes text start c (Ok done) before after from written = go (is_whole c) refl
   where
     n : ℕ
     n = first_difference c.0 c.1
 
-    text : told c ≡ told (bytes, []) ++ canonical_file o.schema o.state
-    text = written.0 ∙ ap (λ (w : List ℕ × List ℕ). told w ++ canonical_file o.schema o.state) from
+    came : told c ≡ told (bytes, []) ++ text
+    came = written.0 ∙ ap (λ (w : List ℕ × List ℕ). told w ++ text) from
 
-    go : (b : Bool) → is_whole c ≡ b → Reads (λ (done : Unit {0}). o) (cond b (Ok done) (Err (NotCanonical n))) (judged bytes o)
-    go true test = whole_judged bytes o c (is_whole c) text refl test
-    go false test = λ not_memory. other_judged bytes o c (is_whole c) n text refl test refl
-verdict_judged bytes o start c (Err WriteFault) before after from written = go (has_differed c) refl
+    go : (b : Bool) → is_whole c ≡ b → Reads (λ (done : Unit {0}). done) (cond b (Ok done) (Err (NotCanonical n))) (matched bytes text)
+    go true test = whole_matched bytes text c (is_whole c) came refl test
+    go false test = λ not_memory. other_matched bytes text c (is_whole c) n came refl test refl
+verdict_matched bytes text start c (Err WriteFault) before after from written = go (has_differed c) refl
   where
     n : ℕ
     n = first_difference c.0 c.1
 
-    front : AppendsFront (Some (told start)) (Some (told c)) (canonical_file o.schema o.state)
+    front : AppendsFront (Some (told start)) (Some (told c)) text
     front = written.2
 
-    text : told c ≡ told (bytes, []) ++ front.0
-    text = front.3 ∙ ap (λ (w : List ℕ × List ℕ). told w ++ front.0) from
+    came : told c ≡ told (bytes, []) ++ front.0
+    came = front.3 ∙ ap (λ (w : List ℕ × List ℕ). told w ++ front.0) from
 
-    go : (b : Bool) → has_differed c ≡ b → Reads (λ (done : Unit {0}). o) (cond b (Err (NotCanonical n)) (Err Memory)) (judged bytes o)
-    go true test = λ not_memory. front_judged bytes o c n front.0 front.1 front.2 text (ltb-true n (length c.1) test) refl
+    go : (b : Bool) → has_differed c ≡ b → Reads (λ (done : Unit {0}). done) (cond b (Err (NotCanonical n)) (Err Memory)) (matched bytes text)
+    go true test = λ not_memory. front_matched bytes text c n front.0 front.1 front.2 came (ltb-true n (length c.1) test) refl
     go false test = λ not_memory. absurd (not_memory refl)
-verdict_judged bytes o start c (Err other) before after from written = λ not_memory. absurd (not_memory refl)
+verdict_matched bytes text start c (Err other) before after from written = λ not_memory. absurd (not_memory refl)
+
+-- ---- texts that differ inside
+
+pub matched_inside : (bytes text : List ℕ) → first_difference bytes text < length text → matched bytes text ≡ Err (NotCanonical (first_difference bytes text))
+matched_inside bytes text below = matched_other bytes text (first_difference bytes text) refl (no_end (eqb (first_difference bytes text) (length bytes)) (first_difference bytes text) (length text) below)
+
+-- what is judged of an offer is what the bytes and its canonical file are matched to
+pub judged_matched : (bytes file : List ℕ) (o : OfferForm) → file ≡ canonical_file o.schema o.state → judged bytes o ≡ (matched bytes file >>= λ (done : Unit {0}). Ok o)
+judged_matched bytes file o is =
+    rw (sym is) (go (same_text bytes file))
+  where
+    go : (b : Bool) → cond b (Ok o) (Err (NotCanonical (first_difference bytes file))) ≡ (cond b (Ok tt) (Err (NotCanonical (first_difference bytes file))) >>= λ (done : Unit {0}). Ok o)
+    go true = refl
+    go false = refl

@@ -5,3 +5,4 @@ pub mod Input
 pub mod Ordered
 pub mod Files
 pub mod Comparing
+pub mod Differing

@@ -10,7 +10,7 @@ ghost use Rattle.column_file.specs.Files.{chosen, AreChosen, AreNumbered, canoni
 use crate::container_reading::CONTAINER;
 use crate::container_writing::{write_batch, write_ranges};
 use crate::summary_writing::write_head;
-use replica_store::{Offer, Store};
+use replica_store::Store;
 use segment_core::{Segment, write_number};
 use std::alloc::{AllocError, Global};
 use std::io::Write;
@@ -154,26 +154,5 @@ pub fn export<W: Write>(
         second,
         second_made.as_slice(),
         store.tombs().ranges(),
-    )
-}
-
-/// Writes the canonical file of an offer's schema and state, as [`export`] does of a store's.
-pub(crate) fn export_offer<W: Write>(
-    alloc: Global,
-    offer: &Offer,
-    writer: &mut Counted<W>,
-) -> Result<(), Refusal>
-    ensures { Exports result (W.contents writer.old.0) (W.contents writer.new.0) writer.old.1 writer.new.1 (canonical_file offer.now.schema offer.now.state) }
-{
-    let entries = offer.entries();
-    let made = canonical_copies(alloc, entries)?;
-    write_canonical(
-        writer,
-        offer.schema(),
-        entries,
-        made.as_slice(),
-        &[],
-        &[],
-        offer.tombs().ranges(),
     )
 }

@@ -11,8 +11,8 @@ use table_model::{Counted, READ_LIMIT, Refusal};
 /// How many bytes are asked for at once.
 const CHUNK: usize = 65_536;
 
-/// One more than the most bytes that one call reads: each round but the last reads a byte at least.
-const ROUNDS: u64 = 281_474_976_710_657;
+/// How many times is read at most: each round but the last reads a byte at least.
+const ROUNDS: u64 = READ_LIMIT + 1;
 
 /// What a reader has, read to its end through a buffer. `ReadFault` where a read fails or more than 2^48 bytes come, and `Memory`
 /// where there is none for what came.

@@ -5,6 +5,7 @@ mod canonical_writing;
 mod comparing;
 mod container_reading;
 mod container_writing;
+mod differing;
 mod input;
 mod laws;
 mod offer_reading;

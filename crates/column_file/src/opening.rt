@@ -1,22 +1,26 @@
 //! Opening and checking canonical files.
-ghost use Rattle.std.specs.Prelude.{◌≡◌, ◌≤◌, ◌==◌, ◌&&◌, length, Err, Ok, IsTrue, IfOk, IfErr, OnOk};
+ghost use Rattle.std.specs.Prelude.{◌≡◌, ◌≤◌, ◌==◌, ◌&&◌, length, map, Err, Ok, IsTrue, IfOk, IfErr, OnOk};
 ghost use Rattle.std.specs.Io.KnownBytes.{IsAtEnd};
 ghost use Rattle.std.specs.List.{All};
 ghost use Rattle.table_model.specs.Faults.{IsWithin, GaveMore};
 ghost use Rattle.segment_core.specs.Format.{Reads};
-ghost use Rattle.column_file.specs.Files.{IsCanonicalHeld, AreCanonicalOf, is_same_range, judged, canonical_read, opened_from, checked_from};
+ghost use Rattle.replica_store.specs.Segments.{IsStored};
+ghost use Rattle.column_file.specs.ContainerBytes.{entry_of, deleted_of, container};
+ghost use Rattle.column_file.specs.Differing.{matched};
+ghost use Rattle.column_file.specs.Files.{AreCanonicalOf, is_same_range, canonical_read, opened_from, checked_from};
 ghost use Rattle.column_file.specs.Input.{Judges, CountsFailure, ComesOfWhole, is_refusal_of_reading};
 
-use crate::canonical_writing::export_offer;
 use crate::comparing::Comparison;
 use crate::container_reading::read_container;
+use crate::container_writing::write_container;
+use crate::differing::judge_batches;
 use crate::input::read_input;
 use crate::offer_reading::tombs_of;
 use replica_store::{Offer, Store};
 use segment_core::Segment;
 use std::alloc::Global;
 use std::io::Read;
-use table_model::{BatchName, Counted, Origin, Refusal, RowName};
+use table_model::{BatchName, Counted, Origin, Refusal, RowName, Schema};
 
 /// What a canonical file has.
 #[derive(Clone, Copy, Debug, PartialEq, Eq)]
@@ -25,19 +29,6 @@ pub struct Checked {
     pub batches: u32,
     /// How many maximal ranges of deleted rows.
     pub ranges: u64,
-}
-
-/// Whether each segment is canonical. A segment remembers that it is, so that an export doesn't judge it again.
-fn are_canonical(entries: &mut Vec<(BatchName, Segment)>) -> bool
-    ensures canonical { IsTrue result → All IsCanonicalHeld entries.old.items }
-    ensures kept { entries.new.items ≡ entries.old.items }
-{
-    for index in 0..entries.len() {
-        if !entries[index].1.judge() {
-            return false;
-        }
-    }
-    true
 }
 
 /// Whether two ranges are the same.
@@ -65,16 +56,22 @@ fn are_same_ranges(a: &[(RowName, u16)], b: &[(RowName, u16)]) -> bool
     true
 }
 
-/// The offer that bytes hold, where they are the canonical file of it: else `NotCanonical` with the first place that differs. The file
-/// is compared as it is written, and stands nowhere.
-fn compared(alloc: Global, bytes: &[u8], offer: Offer) -> Result<Offer, Refusal>
-    ensures { Reads (λ x. x) result (judged bytes.now offer) }
+/// Refuses bytes that aren't a container of a table's batches, at most 65,536, in their present codings, and of ranges of deleted
+/// rows: `NotCanonical` with the first place that differs. The container is compared as it is written, and stands nowhere.
+fn compared(
+    bytes: &[u8],
+    schema: &Schema,
+    entries: &[(BatchName, Segment)],
+    deleted: &[(RowName, u16)],
+) -> Result<(), Refusal>
+    requires limit { length entries.now ≤ 65536 }
+    requires stored { All (IsStored schema.now) entries.now }
+    ensures { Reads (λ x. x) result (matched bytes.now (container.spell (schema.now, (map entry_of entries.now, map deleted_of deleted.now)))) }
 {
     let mut writer = Counted::new(Comparison::new(bytes));
-    let outcome = export_offer(alloc, &offer, &mut writer);
+    let outcome = write_container(&mut writer, schema, entries, deleted);
     let found = writer.into_inner();
-    found.verdict(outcome)?;
-    Ok(offer)
+    found.verdict(outcome)
 }
 
 /// The batches and deletions that a canonical file holds. Refused is the first fault of the bytes, then `NotCanonical`, or a want
@@ -86,16 +83,14 @@ fn canonical_in(alloc: Global, bytes: &[u8]) -> Result<Offer, Refusal>
     let (schema, mut batches, ranges) = read_container(alloc, bytes)?;
     let tombs = tombs_of(alloc, ranges.as_slice())?;
     let maximal = are_same_ranges(ranges.as_slice(), tombs.ranges());
-    let canonical = are_canonical(&mut batches);
-    let offer = Offer::from_parts(schema, batches, tombs);
+    let canonical = judge_batches(alloc, &mut batches)?;
     if maximal && canonical {
-        return Ok(offer);
+        return Ok(Offer::from_parts(schema, batches, tombs));
     }
-    // `column_list` ensures that it is a table's schema, and `batches` that the batches are within the limits.
-    let _columns = offer.schema().column_list();
-    let _count = offer.batches();
-    let _ranges = offer.tombs().ranges().len();
-    compared(alloc, bytes, offer)
+    // `column_list` ensures that it is a table's schema.
+    let _columns = schema.column_list();
+    compared(bytes, &schema, batches.as_slice(), tombs.ranges())?;
+    Ok(Offer::from_parts(schema, batches, tombs))
 }
 
 /// The store of an own origin that has what a canonical file holds. The reader is read to its end first.

@@ -1,4 +1,4 @@
-use Rattle.std.proofs.Common.{◌∙◌, ◌+◌, ◌-◌, ◌++◌, List, ℕ, length, take, true, sym, ap, arith}
+use Rattle.std.proofs.Common.{◌∙◌, ◌+◌, ◌-◌, ◌++◌, List, ℕ, length, take, sym, ap, arith}
 use Rattle.column_file.specs.Comparing.{told, has_differed}
 use Rattle.column_file.proofs.Comparisons.{none_here, differed_is, inside_first, inside_second, same_came, other_came, place_moved}
 use Rattle.column_file.proofs.comparing.ComparisonWrite.write.Goals as goal

@@ -1,0 +1,11 @@
+use Rattle.column_file.proofs.FirstOthers.{recoded_alike, recoded_refused}
+use Rattle.column_file.proofs.differing.put_first_other.Goals as goal
+
+pub returns-clause-differ : goal.returns-clause-differ
+returns-clause-differ c =
+    recoded_alike c.args.segment.now c.recode.new.self c.rows-rows.result c.in-Some.column c.in-Some.vector c.in_ok-coding.coding c.vector.result.now c.recode.result c.rows-rows.ensures.form c.rows-rows.ensures.rows c.in-Some.ensures c.vector.ensures
+    c.in_ok-coding.ensures c.recode.ensures.act c.recode.ensures.rows c.rows-rows.ensures.valid c.recode.ensures.valid
+
+pub returns-clause-refused : goal.returns-clause-refused
+returns-clause-refused c =
+    recoded_refused c.args.segment.now c.recode.new.self c.in-Some.column c.in-Some.vector c.in_ok-coding.coding c.vector.result.now c.recode.result c.vector.ensures c.recode.ensures.act
