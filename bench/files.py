@@ -1,20 +1,24 @@
 #!/usr/bin/env python3
 """Times the program on canonical files and prints a table: how long it takes to check a file, to open it and to export it again, at a
-quarter, a half and the whole of some batches, and how much memory a check takes at its peak, also of files whose counts claim more
-than their bytes hold.
+quarter, a half and the whole of some batches, and how much memory a check takes at its peak beside a bound, also of files whose counts
+claim more than their bytes hold and of files that are made to take much memory for their bytes.
 
 The batches are those of the script T.lanes in the folder that --data names (a `table` line and then `append` lines of one replica), or
 of a script of the bench's own. A time is the least processor time of some runs of a process, less that of a file with no batch: `open` is a query
 that reads no vector, `export` a merge of one file less `open`. Beside them stand the times of bench/files/plain.rs, which reads the
 file into vectors and writes them again with no checks; and with --beside PROGRAM those of a program that is run as
 `PROGRAM T.csv TURNS FILE` on the folder's T.csv and prints the lines `read ms, no checks`, a tab and a number, and `canonical check
-ms`, a tab, `all`, a tab and a number.
+ms`, a tab, `all`, a tab and a number, which are medians of the time that passes: so is then what stands beside them.
 """
-import argparse, os, pathlib, random, shutil, subprocess, sys, tempfile
+import argparse, os, pathlib, random, shutil, statistics, subprocess, sys, tempfile, time
 
 TOP = pathlib.Path(__file__).resolve().parent.parent
 PLAIN = TOP / "bench" / "files" / "plain.rs"
 QUERY = "SELECT COUNT(*) FROM T"
+BOUND = "3 times the bytes, 256 bytes for each vector, and 64 for each range and each name of a batch"
+KNOWN = """Of a file of few bytes the peak tells the pages of the buffer that is read through, and little else. Known: the values of runs and
+of dictionaries and the bases of deltas are held as numbers of 64 bits whatever the column's lanes are, so four times their bytes at
+16 bits and twice at 32: files of narrow columns that are mostly such values may be over."""
 HEAD = b"FLCF" + bytes([1, 0, 1, 0, 1]) + b"T" + bytes([2, 1]) + b"A"
 
 
@@ -51,6 +55,16 @@ def seconds(words, runs):
     return least
 
 
+def median_passed(words, runs):
+    """The median time that passes in some runs of a process that ends well."""
+    passed = []
+    for _ in range(runs):
+        start = time.perf_counter()
+        subprocess.run(words, stdout=subprocess.DEVNULL, check=True)
+        passed.append(time.perf_counter() - start)
+    return statistics.median(passed)
+
+
 def peak(words):
     """The peak memory of a process in bytes, and what it wrote. A small program starts it, since Python's own memory would count."""
     done = subprocess.run(["time", "-q", "-f", "%M", *words], stdout=subprocess.PIPE, stderr=subprocess.PIPE, text=True)
@@ -81,45 +95,131 @@ def print_times(program, plain, files, folder, runs):
         print(f"| {name} | {path.stat().st_size:,} | {checked:.1f} | {opened:.1f} | {export:.1f} | {read:.1f} | {write:.1f} | {export / write:.2f} |", flush=True)
 
 
-def print_beside(program, rows, path, folder, runs):
-    """The times of another program that reads and checks the same file."""
+def print_beside(program, beside, rows, path, folder, runs):
+    """The times of another program that reads and checks the same file, and the ratio: the median time that passes on both sides."""
     other = folder / "other"
-    lines = subprocess.run([program, rows, str(runs), other], stdout=subprocess.PIPE, text=True, check=True).stdout.splitlines()
+    lines = subprocess.run([beside, rows, str(runs), other], stdout=subprocess.PIPE, text=True, check=True).stdout.splitlines()
     told = {line.rsplit("\t", 1)[0]: line.rsplit("\t", 1)[1] for line in lines}
-    same = "the same bytes" if other.read_bytes() == path.read_bytes() else "other bytes"
-    print(f"\nBeside it, on {same}: read {told['read ms, no checks']} ms, canonical check {told[chr(9).join(['canonical check ms', 'all'])]} ms")
+    same = "the same bytes" if other.read_bytes() == path.read_bytes() else "OTHER BYTES"
+    read, judged = float(told["read ms, no checks"]), float(told["canonical check ms\tall"])
+    ours = 1e3 * (median_passed([program, "check", path], runs) - median_passed([program, "check", folder / "nothing"], runs))
+    print(f"\nBeside it, on {same}, medians of the time that passes: a check {ours:.1f} ms, less that of a file with no batch; the other program's read {read:.1f} and canonical check {judged:.1f} ms; ratio {ours / (read + judged):.2f}")
+
+
+def numbers(values, size):
+    """Numbers of so many bytes each, the lowest byte first."""
+    return b"".join(value.to_bytes(size, "little", signed=True) for value in values)
+
+
+def made(kind, columns, batches, vector):
+    """A file of so many batches of 65,536 rows of so many columns of a type, each of whose vectors `vector()` gives."""
+    names = b"".join(bytes([kind, 2]) + f"A{chr(65 + column)}".encode() for column in range(columns))
+    head = b"FLCF" + bytes([1, 0, columns, 0, 1]) + b"T" + names + batches.to_bytes(4, "little")
+    listed = (numbers([1, number + 1], 4) + b"\xff\xff" + b"".join(vector() for _ in range(64 * columns)) for number in range(batches))
+    return head + b"".join(listed) + bytes(8)
+
+
+def ranges_of_two(count):
+    """A file of so many ranges of two deleted rows, 10,000 a batch."""
+    places = (divmod(place, 10_000) for place in range(count))
+    return HEAD + bytes(4) + count.to_bytes(8, "little") + b"".join(numbers([1, batch + 1], 4) + (6 * row).to_bytes(2, "little") + (6 * row + 1).to_bytes(2, "little") for batch, row in places)
+
+
+def single_rows(columns):
+    """A file of 65,536 batches of one row of so many SMALLINT columns."""
+    names = b"".join(bytes([2, 2]) + f"A{chr(65 + column)}".encode() for column in range(columns))
+    head = b"FLCF" + bytes([1, 0, columns, 0, 1]) + b"T" + names + (65_536).to_bytes(4, "little")
+    return head + b"".join(numbers([1, number + 1], 4) + bytes(2) + (bytes(5) + (number % 9).to_bytes(2, "little")) * columns for number in range(65_536)) + bytes(8)
+
+
+def in_frame_from_0(chance):
+    """A BIGINT vector of random numbers as distances of 64 bits from 0, where the canonical form has the least number as its reference."""
+    return bytes([0, 0, 64, 0, 0]) + bytes(8) + chance.randbytes(8192)
+
+
+def wide_in_deltas():
+    """A BIGINT vector of 269 bytes in DELTA of width 1, whose deltas are 2^63 - 1 and, once, one more, which is -2^63: so the least DELTA
+    has width 64, and the canonical form, FOR of width 64, has 8,205 bytes."""
+    return bytes([0, 1, 1, 0, 0]) + numbers([2**63 - 1], 8) + numbers((-1_000 * lane for lane in range(16)), 8) + (1 << 485).to_bytes(128, "little")
+
+
+def narrow_runs(chance):
+    """A SMALLINT vector of 600 runs, canonical: no other coding of so many values that lie so far apart is as short."""
+    starts = sum(1 << row for row in chance.sample(range(1, 1024), 599))
+    return bytes([0, 2, 1]) + (600).to_bytes(2, "little") + starts.to_bytes(128, "little") + numbers(chance.sample(range(-(2**15), 2**15), 600), 2)
+
+
+def narrow_dictionary(chance):
+    """A SMALLINT vector of a dictionary of 1,024 values, which isn't canonical: FOR is shorter."""
+    values = sorted(chance.sample(range(-(2**15), 2**15), 1024))
+    return bytes([0, 3, 10]) + (1024).to_bytes(2, "little") + numbers(values, 2) + chance.randbytes(1280)
+
+
+def narrow_deltas(chance):
+    """A SMALLINT vector in DELTA of width 0, canonical: 64 lanes that each grow by the same step."""
+    return bytes([0, 1, 0, 0, 0]) + numbers([chance.randrange(3, 100), *(chance.randrange(-(2**15), 2**15) for _ in range(64))], 2)
 
 
 def hostile():
-    """The name of each file that is refused late or claims more than its bytes hold, and the file."""
+    """The name of each file that is refused late, claims more than its bytes hold, or is to take much memory for its bytes; and the
+    file."""
     name = bytes([1, 0, 0, 0, 1, 0, 0, 0])
-    yield "8 batches of a column, not canonical", not_canonical(8, 1)
-    yield "a batch of 8 columns, not canonical", not_canonical(1, 8)
+    chance = random.Random(2)
+    yield "8 batches of a BIGINT column, FOR from 0", made(8, 1, 8, lambda: in_frame_from_0(chance))
+    yield "a batch of 8 BIGINT columns, FOR from 0", made(8, 8, 1, lambda: in_frame_from_0(chance))
+    yield "a batch of 32 BIGINT columns in 269 bytes a vector for 8,205", made(8, 32, 1, wide_in_deltas)
+    yield "8 batches of 32 BIGINT columns in 269 bytes a vector for 8,205", made(8, 32, 8, wide_in_deltas)
+    yield "a batch of 32 SMALLINT columns, 600 runs a vector", made(2, 32, 1, lambda: narrow_runs(chance))
+    yield "a batch of 32 SMALLINT columns, 1,024 dictionary values a vector", made(2, 32, 1, lambda: narrow_dictionary(chance))
+    yield "16 batches of 32 SMALLINT columns, DELTA of width 0", made(2, 32, 16, lambda: narrow_deltas(chance))
+    yield "65,536 batches of one row", single_rows(1)
+    yield "65,536 batches of one row of 32 columns", single_rows(32)
+    yield "10,000 ranges", ranges_of_two(10_000)
+    yield "300,000 ranges", ranges_of_two(300_000)
     yield "65,536 batches, none there", HEAD + bytes([0, 0, 1, 0])
     yield "2^64 - 1 ranges, none there", HEAD + bytes(4) + b"\xff" * 8
     yield "65,536 rows, one vector there", HEAD + bytes([1, 0, 0, 0]) + name + b"\xff\xff" + bytes(7)
     yield "1,024 dictionary values, none there", HEAD + bytes([1, 0, 0, 0]) + name + bytes(2) + bytes([0, 3, 16, 0, 4])
 
 
-def not_canonical(batches, columns):
-    """A file of so many batches of 65,536 rows of so many BIGINT columns, in which each vector stands for random numbers as distances of
-    64 bits from 0, where the canonical form has the least number as its reference."""
-    chance = random.Random(2)
-    names = b"".join(bytes([8, 2]) + f"A{chr(65 + column)}".encode() for column in range(columns))
-    head = b"FLCF" + bytes([1, 0, columns, 0, 1]) + b"T" + names + batches.to_bytes(4, "little")
-    vector = bytes([0, 0, 64, 0, 0]) + bytes(8)
-    rows = b"\xff\xff"
-    listed = ((number + 1).to_bytes(4, "little") + rows + b"".join(vector + chance.randbytes(8192) for _ in range(64 * columns)) for number in range(batches))
-    return head + b"".join(b"\1\0\0\0" + batch for batch in listed) + bytes(8)
+def payload_size(size, tag, width, count):
+    """How many bytes the payload of a coding takes, of values of so many bytes."""
+    words = 128 * width
+    return (size + words, size + 1024 // 8 + words, 128 + size * count, size * count + words)[tag]
+
+
+def counted(data):
+    """How many vectors the bytes of a container hold, and how many names of batches and ranges, and where they end. What is cut off
+    isn't counted."""
+    at = 9 + data[8]
+    sizes = []
+    for _ in range(data[6]):
+        sizes.append(data[at])
+        at += 2 + data[at + 1]
+    batches, at = int.from_bytes(data[at : at + 4], "little"), at + 4
+    vectors = listed = 0
+    for _ in range(batches):
+        if at + 10 > len(data):
+            return vectors, listed, len(data)
+        rows, at = int.from_bytes(data[at + 8 : at + 10], "little") + 1, at + 10
+        listed += 1
+        for size in (size for size in sizes for _ in range((rows + 1023) // 1024)):
+            at += 1 + (128 if data[at : at + 1] == b"\1" else 0)
+            if at + 4 > len(data):
+                return vectors, listed, len(data)
+            at += 4 + payload_size(size, data[at], data[at + 1], int.from_bytes(data[at + 2 : at + 4], "little"))
+            if at > len(data):
+                return vectors, listed, len(data)
+            vectors += 1
+    claimed, there = int.from_bytes(data[at : at + 8], "little"), (len(data) - at - 8) // 12
+    return vectors, listed + min(claimed, there), at + 8 + 12 * min(claimed, there)
 
 
 def extremes():
     """The name of each file at the limits of what a file holds, and the file, written from the format by hand."""
     name = b"\1\0\0\0"
-    batches = b"".join(name + (number + 1).to_bytes(4, "little") + bytes(7) + (number % 9).to_bytes(2, "little") for number in range(65_536))
-    yield "65,536 batches of one row", HEAD + (65_536).to_bytes(4, "little") + batches + bytes(8)
-    ranges = b"".join(name + name + (6 * row).to_bytes(2, "little") + (6 * row + 1).to_bytes(2, "little") for row in range(10_000))
-    yield "10,000 ranges", HEAD + bytes(4) + (10_000).to_bytes(8, "little") + ranges
+    yield "65,536 batches of one row", single_rows(1)
+    yield "10,000 ranges", ranges_of_two(10_000)
     kinds = [(2, 4, 8)[column % 3] for column in range(32)]
     head = b"FLCF" + bytes([1, 0, 32, 0, 1]) + b"T" + b"".join(bytes([kind, 3]) + f"C{column:02}".encode() for column, kind in enumerate(kinds))
     columns = b"".join(b"\1" + b"\xff" * 128 + bytes(4 + kind) + b"\1\1" + bytes(127) + bytes(4 + kind) for kind in kinds)
@@ -139,17 +239,25 @@ def print_extremes(program, folder):
 
 
 def print_peaks(program, files, folder):
+    """The peak memory of a check of each file beside the bound that is wanted."""
     if not shutil.which("time"):
         print("\nPeak memory isn't measured: there is no program `time`.")
         return
     nothing = folder / "nothing"
     own, _ = peak([program, "check", nothing])
-    print(f"\nPeak memory of a check, beyond the {own:,} bytes of a file with no batch:\n\n| File | bytes | peak | peak by bytes | said |\n|---|---:|---:|---:|---|")
+    print(f"\nPeak memory of a check, beyond the {own:,} bytes of a file with no batch. The bound is {BOUND}.\n")
+    print("| File | bytes | vectors | names and ranges | peak | peak by bytes | bound | over it | said |\n|---|---:|---:|---:|---:|---:|---:|---|---|")
     path = folder / "hostile"
+    over = []
     for name, data in [*((name, path.read_bytes()) for name, path in files), *hostile()]:
         path.write_bytes(data)
         most, said = peak([program, "check", path])
-        print(f"| {name} | {len(data):,} | {most - own:,} | {(most - own) / len(data):.2f} | {said} |", flush=True)
+        vectors, listed, _ = counted(data)
+        bound = 3 * len(data) + 256 * vectors + 64 * listed
+        if most - own > bound:
+            over.append(name)
+        print(f"| {name} | {len(data):,} | {vectors:,} | {listed:,} | {most - own:,} | {(most - own) / len(data):.2f} | {bound:,} | {'OVER' if most - own > bound else ''} | {said} |", flush=True)
+    print(f"\nOver the bound: {'; '.join(over) or 'none'}. {KNOWN}")
 
 
 def main():
@@ -174,7 +282,7 @@ def main():
             made_file(program, [lines[0], *batches[: len(batches) // part]], files[-1][1])
         print_times(program, plain, files, folder, given.runs)
         if given.beside:
-            print_beside(given.beside, given.data / "T.csv", files[-1][1], folder, given.runs)
+            print_beside(program, given.beside, given.data / "T.csv", files[-1][1], folder, given.runs)
         print_extremes(program, folder)
         print_peaks(program, files, folder)
 
