@@ -1,5 +1,7 @@
-//! Tests of store_view: queries over a store, each with a growth refused.
+//! Tests of store_view: queries over a store, with the passes that they take, and with a growth refused.
 #![tactic(auto)]
 
+#[cfg(test)]
+mod passes_tests;
 #[cfg(test)]
 mod refused_tests;

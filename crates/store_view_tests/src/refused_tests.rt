@@ -26,12 +26,12 @@ fn refused(is_as_it_was: bool) -> Result<(), Fail> {
     Err(Fail::new(if is_as_it_was { REFUSED } else { CHANGED }))
 }
 
-/// A store with the rows 4, 5, null and 5.
+/// A store with the rows 5, null, 5 and 2.
 fn filled_store(alloc: Global) -> Result<Store, Refusal> {
     let schema = Schema::new(alloc, "T", &[("A", ColType::SmallInt)])?;
     let mut store = Store::new(alloc, &schema, Origin(1))?;
     let mut rows = Vec::with_capacity(alloc, 4)?;
-    for &cell in &[Some(4), Some(5), None, Some(5)] {
+    for &cell in &[Some(5), None, Some(5), Some(2)] {
         rows.push(Row::from_cells(Vec::from_slice(alloc, &[cell])?))?;
     }
     let _ = store.append(alloc, rows.as_slice())?;

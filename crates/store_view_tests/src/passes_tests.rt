@@ -1,0 +1,170 @@
+//! Queries over a store: their answers, worked out by hand, and the passes that their mentions of columns allow: each at most one
+//! for each vector that has a live row.
+use query_eval::{Columns, answer, text};
+use query_parser::{parse, resolve};
+use replica_store::Store;
+use std::alloc::{AllocError, Global};
+use std::process::Abort;
+use std::test::Fail;
+use store_view::StoreView;
+use table_model::{BatchName, ColType, Number, Origin, Refusal, Row, RowName, Schema};
+
+/// A query, its answer's lines, and how many passes it takes at most.
+type Asked = (&'static str, &'static str, u128);
+
+/// A store without rows.
+fn empty_store(alloc: Global, columns: &[(&str, ColType)]) -> Result<Store, Refusal> {
+    let schema = Schema::new(alloc, "T", columns)?;
+    Store::new(alloc, &schema, Origin(1))
+}
+
+/// A row with these cells.
+fn row_of(alloc: Global, cells: &[Option<i128>]) -> Result<Row, AllocError> {
+    Ok(Row::from_cells(Vec::from_slice(alloc, cells)?))
+}
+
+/// A store whose one batch has so many rows of one column: 0 each, or from 1 on where they differ.
+fn filled_store(alloc: Global, count: usize, differ: bool) -> Result<Store, Refusal> {
+    let mut store = empty_store(alloc, &[("A", ColType::SmallInt)])?;
+    let mut rows = Vec::new(alloc);
+    for n in 0..count {
+        let value = if differ { n as i128 + 1 } else { 0 };
+        rows.push(row_of(alloc, &[Some(value)])?)?;
+    }
+    let _ = store.append(alloc, rows.as_slice())?;
+    Ok(store)
+}
+
+/// The lines of a query's answer over a store, and how many passes a view of the store made for it.
+fn answered(alloc: Global, store: &Store, query: &str) -> Result<(String, u128), Fail> {
+    let query = parse(alloc, query)?;
+    resolve(&query, store.schema())?;
+    let mut view = StoreView::new(store);
+    let found = answer(alloc, &mut view, &query)?;
+    let lines = String::from_utf8(text(alloc, &found)?)?;
+    Ok((lines, view.passes()))
+}
+
+/// Each query has its answer over a store, and takes at most its passes.
+fn has_answers(rt: &impl Abort, alloc: Global, store: &Store, asked: &[Asked]) -> Result<(), Fail> {
+    for &(query, wanted, most) in asked {
+        let (lines, passes) = answered(alloc, store, query)?;
+        assert_eq!(rt; lines.as_str(), wanted, "{query}");
+        assert!(rt; passes <= most, "{query}: {passes} passes");
+    }
+    Ok(())
+}
+
+/// How many rows are more than a vector has, by one.
+const TWO_VECTORS: usize = 1025;
+
+/// Queries over two vectors of rows of 0.
+const OF_TWO_VECTORS: [Asked; 4] = [
+    ("SELECT COUNT(*) FROM T", "COUNT(*)\n1025\n", 0),
+    ("SELECT SUM(A) FROM T WHERE A >= 0", "SUM(A)\n0\n", 4),
+    (
+        "SELECT COUNT(*) FROM T WHERE A IN (1,2,3)",
+        "COUNT(*)\n0\n",
+        2,
+    ),
+    (
+        "SELECT COUNT(*) FROM T WHERE A BETWEEN 0 AND 5",
+        "COUNT(*)\n1025\n",
+        2,
+    ),
+];
+
+#[test]
+fn a_mention_takes_at_most_a_pass_a_vector(rt: HostRuntime) -> Result<(), Fail> {
+    let store = filled_store(rt.alloc(), TWO_VECTORS, false)?;
+    has_answers(&rt, rt.alloc(), &store, &OF_TWO_VECTORS)
+}
+
+/// Deletes the rows of the batch's first vector.
+fn delete_first_vector(alloc: Global, store: &mut Store) -> Result<(), Refusal> {
+    let first = RowName {
+        batch: BatchName {
+            origin: Origin(1),
+            number: Number(1),
+        },
+        ordinal: 0,
+    };
+    store.delete(alloc, first, 1023)
+}
+
+/// Queries over the one row of 0 that is left in the second vector.
+const OF_ONE_LEFT: [Asked; 3] = [
+    ("SELECT COUNT(*) FROM T", "COUNT(*)\n1\n", 0),
+    ("SELECT SUM(A) FROM T WHERE A >= 0", "SUM(A)\n0\n", 2),
+    (
+        "SELECT COUNT(*) FROM T WHERE A BETWEEN 0 AND 5",
+        "COUNT(*)\n1\n",
+        1,
+    ),
+];
+
+#[test]
+fn a_vector_without_a_live_row_takes_no_pass(rt: HostRuntime) -> Result<(), Fail> {
+    let mut store = filled_store(rt.alloc(), TWO_VECTORS, false)?;
+    delete_first_vector(rt.alloc(), &mut store)?;
+    has_answers(&rt, rt.alloc(), &store, &OF_ONE_LEFT)
+}
+
+/// A query with ten groups: it mentions the column three times.
+const OF_TEN_GROUPS: [Asked; 1] = [(
+    "SELECT A,SUM(A) FROM T GROUP BY A",
+    "A,SUM(A)\n1,1\n2,2\n3,3\n4,4\n5,5\n6,6\n7,7\n8,8\n9,9\n10,10\n",
+    3,
+)];
+
+#[test]
+fn ten_groups_take_no_pass_each(rt: HostRuntime) -> Result<(), Fail> {
+    let store = filled_store(rt.alloc(), 10, true)?;
+    has_answers(&rt, rt.alloc(), &store, &OF_TEN_GROUPS)
+}
+
+/// Rows of three columns: the first is from the second to the third at the first and the last row, and isn't at the second and,
+/// whatever the null stands for, at the fourth.
+const THREE_COLUMNS: [[Option<i128>; 3]; 5] = [
+    [Some(1), Some(0), Some(2)],
+    [Some(5), Some(6), Some(9)],
+    [None, Some(1), Some(2)],
+    [Some(3), None, Some(2)],
+    [Some(3), Some(3), Some(3)],
+];
+
+/// A store with the rows of three columns.
+fn store_of_three_columns(alloc: Global) -> Result<Store, Refusal> {
+    let columns = [
+        ("A", ColType::SmallInt),
+        ("B", ColType::Integer),
+        ("C", ColType::BigInt),
+    ];
+    let mut store = empty_store(alloc, &columns)?;
+    let mut rows = Vec::new(alloc);
+    for cells in &THREE_COLUMNS {
+        rows.push(row_of(alloc, cells.as_slice())?)?;
+    }
+    let _ = store.append(alloc, rows.as_slice())?;
+    Ok(store)
+}
+
+/// Queries that mention three columns, over one vector.
+const OF_THREE_COLUMNS: [Asked; 2] = [
+    (
+        "SELECT COUNT(*) FROM T WHERE A BETWEEN B AND C",
+        "COUNT(*)\n2\n",
+        3,
+    ),
+    (
+        "SELECT COUNT(*) FROM T WHERE A NOT BETWEEN B AND C",
+        "COUNT(*)\n2\n",
+        3,
+    ),
+];
+
+#[test]
+fn three_columns_take_at_most_a_pass_each(rt: HostRuntime) -> Result<(), Fail> {
+    let store = store_of_three_columns(rt.alloc())?;
+    has_answers(&rt, rt.alloc(), &store, &OF_THREE_COLUMNS)
+}
