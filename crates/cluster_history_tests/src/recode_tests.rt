@@ -10,41 +10,139 @@ use std::test::Fail;
 use table_model::{ColType, Refusal, Row, Rows, Schema};
 
 const FOR: Coding = Coding::For;
+
 const DELTA: Coding = Coding::Delta;
+
 const RLE: Coding = Coding::Runs;
+
 const DICT: Coding = Coding::Dict;
 
 /// A recode: the replica, the number of the batch of origin 1, the column, the vector and the coding; its reply; and the codings
 /// of the three columns of batch 1.1 after it, at replica 1 and at replica 2.
-type Recode = (
-    (u32, u32, u32, u32, Coding),
-    Want,
-    [Coding; 3],
-    [Coding; 3],
-);
+type Recode = ((u32, u32, u32, u32, Coding), Want, [Coding; 3], [Coding; 3]);
 
 /// Recodes one after another. A value alone is coded as FOR, whose payload is then the smallest.
 const RECODES: [Recode; 20] = [
-    ((1, 1, 0, 0, DELTA), Want::Done, [DELTA, FOR, FOR], [FOR, FOR, FOR]),
-    ((1, 1, 0, 0, RLE), Want::Done, [RLE, FOR, FOR], [FOR, FOR, FOR]),
-    ((1, 1, 0, 0, FOR), Want::Done, [FOR, FOR, FOR], [FOR, FOR, FOR]),
-    ((1, 1, 0, 0, DICT), Want::Done, [DICT, FOR, FOR], [FOR, FOR, FOR]),
-    ((1, 1, 1, 0, DELTA), Want::Done, [DICT, DELTA, FOR], [FOR, FOR, FOR]),
-    ((1, 1, 1, 0, DICT), Want::Done, [DICT, DICT, FOR], [FOR, FOR, FOR]),
-    ((1, 1, 1, 0, FOR), Want::Done, [DICT, FOR, FOR], [FOR, FOR, FOR]),
-    ((1, 1, 1, 0, RLE), Want::Done, [DICT, RLE, FOR], [FOR, FOR, FOR]),
-    ((1, 1, 2, 0, RLE), Want::Done, [DICT, RLE, RLE], [FOR, FOR, FOR]),
-    ((1, 1, 2, 0, DICT), Want::Done, [DICT, RLE, DICT], [FOR, FOR, FOR]),
-    ((1, 1, 2, 0, FOR), Want::Done, [DICT, RLE, FOR], [FOR, FOR, FOR]),
-    ((1, 1, 2, 0, DELTA), Want::Done, [DICT, RLE, DELTA], [FOR, FOR, FOR]),
-    ((2, 1, 0, 0, DELTA), Want::Done, [DICT, RLE, DELTA], [DELTA, FOR, FOR]),
-    ((2, 1, 1, 0, DICT), Want::Done, [DICT, RLE, DELTA], [DELTA, DICT, FOR]),
-    ((2, 1, 2, 0, RLE), Want::Done, [DICT, RLE, DELTA], [DELTA, DICT, RLE]),
-    ((1, 1, 3, 0, FOR), Want::Refused(Refusal::NoSuchVector), [DICT, RLE, DELTA], [DELTA, DICT, RLE]),
-    ((1, 1, 0, 1, FOR), Want::Refused(Refusal::NoSuchVector), [DICT, RLE, DELTA], [DELTA, DICT, RLE]),
-    ((1, 2, 0, 0, FOR), Want::Refused(Refusal::NoSuchVector), [DICT, RLE, DELTA], [DELTA, DICT, RLE]),
-    ((0, 1, 0, 0, FOR), Want::Refused(Refusal::NoSuchReplica), [DICT, RLE, DELTA], [DELTA, DICT, RLE]),
-    ((3, 1, 0, 0, FOR), Want::Refused(Refusal::NoSuchReplica), [DICT, RLE, DELTA], [DELTA, DICT, RLE]),
+    (
+        (1, 1, 0, 0, DELTA),
+        Want::Done,
+        [DELTA, FOR, FOR],
+        [FOR, FOR, FOR],
+    ),
+    (
+        (1, 1, 0, 0, RLE),
+        Want::Done,
+        [RLE, FOR, FOR],
+        [FOR, FOR, FOR],
+    ),
+    (
+        (1, 1, 0, 0, FOR),
+        Want::Done,
+        [FOR, FOR, FOR],
+        [FOR, FOR, FOR],
+    ),
+    (
+        (1, 1, 0, 0, DICT),
+        Want::Done,
+        [DICT, FOR, FOR],
+        [FOR, FOR, FOR],
+    ),
+    (
+        (1, 1, 1, 0, DELTA),
+        Want::Done,
+        [DICT, DELTA, FOR],
+        [FOR, FOR, FOR],
+    ),
+    (
+        (1, 1, 1, 0, DICT),
+        Want::Done,
+        [DICT, DICT, FOR],
+        [FOR, FOR, FOR],
+    ),
+    (
+        (1, 1, 1, 0, FOR),
+        Want::Done,
+        [DICT, FOR, FOR],
+        [FOR, FOR, FOR],
+    ),
+    (
+        (1, 1, 1, 0, RLE),
+        Want::Done,
+        [DICT, RLE, FOR],
+        [FOR, FOR, FOR],
+    ),
+    (
+        (1, 1, 2, 0, RLE),
+        Want::Done,
+        [DICT, RLE, RLE],
+        [FOR, FOR, FOR],
+    ),
+    (
+        (1, 1, 2, 0, DICT),
+        Want::Done,
+        [DICT, RLE, DICT],
+        [FOR, FOR, FOR],
+    ),
+    (
+        (1, 1, 2, 0, FOR),
+        Want::Done,
+        [DICT, RLE, FOR],
+        [FOR, FOR, FOR],
+    ),
+    (
+        (1, 1, 2, 0, DELTA),
+        Want::Done,
+        [DICT, RLE, DELTA],
+        [FOR, FOR, FOR],
+    ),
+    (
+        (2, 1, 0, 0, DELTA),
+        Want::Done,
+        [DICT, RLE, DELTA],
+        [DELTA, FOR, FOR],
+    ),
+    (
+        (2, 1, 1, 0, DICT),
+        Want::Done,
+        [DICT, RLE, DELTA],
+        [DELTA, DICT, FOR],
+    ),
+    (
+        (2, 1, 2, 0, RLE),
+        Want::Done,
+        [DICT, RLE, DELTA],
+        [DELTA, DICT, RLE],
+    ),
+    (
+        (1, 1, 3, 0, FOR),
+        Want::Refused(Refusal::NoSuchVector),
+        [DICT, RLE, DELTA],
+        [DELTA, DICT, RLE],
+    ),
+    (
+        (1, 1, 0, 1, FOR),
+        Want::Refused(Refusal::NoSuchVector),
+        [DICT, RLE, DELTA],
+        [DELTA, DICT, RLE],
+    ),
+    (
+        (1, 2, 0, 0, FOR),
+        Want::Refused(Refusal::NoSuchVector),
+        [DICT, RLE, DELTA],
+        [DELTA, DICT, RLE],
+    ),
+    (
+        (0, 1, 0, 0, FOR),
+        Want::Refused(Refusal::NoSuchReplica),
+        [DICT, RLE, DELTA],
+        [DELTA, DICT, RLE],
+    ),
+    (
+        (3, 1, 0, 0, FOR),
+        Want::Refused(Refusal::NoSuchReplica),
+        [DICT, RLE, DELTA],
+        [DELTA, DICT, RLE],
+    ),
 ];
 
 /// The coding of a column's vector, of a segment of one row.
@@ -97,7 +195,13 @@ fn wide_cluster(alloc: Global) -> Result<Cluster, Refusal> {
     let mut cluster = Cluster::new(alloc, &schema, 2)?;
     let rows = one_row(alloc)?;
     let _ = cluster.act(alloc, &Step::Append { replica: 1, rows })?;
-    let _ = cluster.act(alloc, &Step::Merge { replica: 2, other: 1 })?;
+    let _ = cluster.act(
+        alloc,
+        &Step::Merge {
+            replica: 2,
+            other: 1,
+        },
+    )?;
     Ok(cluster)
 }
 

@@ -81,7 +81,9 @@ type Holds = (Option<Coding>, Option<Coding>, usize);
 type Outcome = ([Want; STEPS], Holds);
 
 const MEMORY: Want = Want::Refused(Refusal::Memory);
+
 const NO_MESSAGE: Want = Want::Refused(Refusal::NoSuchMessage);
+
 const NO_VECTOR: Want = Want::Refused(Refusal::NoSuchVector);
 
 /// A cluster before the run.
@@ -89,7 +91,13 @@ const NOTHING: Holds = (None, None, 0);
 
 /// What the run comes to where no step lacks memory: replica 1 gets a batch, 2 asks, 1 serves that and 2 takes it and recodes it.
 const WHOLE: Outcome = (
-    [Want::Named(1, 1), Want::Sent(1), Want::Sent(2), Want::Done, Want::Done],
+    [
+        Want::Named(1, 1),
+        Want::Sent(1),
+        Want::Sent(2),
+        Want::Done,
+        Want::Done,
+    ],
     (Some(Coding::For), Some(Coding::Dict), 2),
 );
 
@@ -105,15 +113,33 @@ const LACKING: [Outcome; STEPS] = [
         (Some(Coding::For), None, 0),
     ),
     (
-        [Want::Named(1, 1), Want::Sent(1), MEMORY, NO_MESSAGE, NO_VECTOR],
+        [
+            Want::Named(1, 1),
+            Want::Sent(1),
+            MEMORY,
+            NO_MESSAGE,
+            NO_VECTOR,
+        ],
         (Some(Coding::For), None, 1),
     ),
     (
-        [Want::Named(1, 1), Want::Sent(1), Want::Sent(2), MEMORY, NO_VECTOR],
+        [
+            Want::Named(1, 1),
+            Want::Sent(1),
+            Want::Sent(2),
+            MEMORY,
+            NO_VECTOR,
+        ],
         (Some(Coding::For), None, 2),
     ),
     (
-        [Want::Named(1, 1), Want::Sent(1), Want::Sent(2), Want::Done, MEMORY],
+        [
+            Want::Named(1, 1),
+            Want::Sent(1),
+            Want::Sent(2),
+            Want::Done,
+            MEMORY,
+        ],
         (Some(Coding::For), Some(Coding::For), 2),
     ),
 ];
@@ -132,8 +158,14 @@ fn steps(alloc: Global) -> Result<Vec<Step>, Refusal> {
     let mut steps = Vec::with_capacity(alloc, STEPS)?;
     steps.push(Step::Append { replica: 1, rows })?;
     steps.push(Step::Ask { replica: 2 })?;
-    steps.push(Step::Serve { replica: 1, message: 1 })?;
-    steps.push(Step::Take { replica: 2, message: 2 })?;
+    steps.push(Step::Serve {
+        replica: 1,
+        message: 1,
+    })?;
+    steps.push(Step::Take {
+        replica: 2,
+        message: 2,
+    })?;
     steps.push(Step::Recode {
         replica: 2,
         name: name(1, 1),
@@ -225,6 +257,9 @@ fn came_of_step(
     replies: &[Reply],
     place: usize,
 ) -> Came {
+    if place >= STEPS {
+        return Came::Changed;
+    }
     let (Some(outcome), Some(step), Some(want)) = (
         LACKING.get(place),
         steps.get(place..place + 1),
