@@ -54,7 +54,7 @@ pub recode_refused : (c : ClusterParts) (schema : Table) (stores lent new : List
     → cluster_with schema stores messages ≡ c → lent ≡ stores → n ≡ length stores → Some place ≡ place_of (length c.stores) replica → place < length c.stores
     → RecodesAt lent (Err e) new place name column vector coding
     → (cluster_with schema (take n (new ++ drop (length new) stores)) messages ≡ c)
-      × ((recode_step c replica name column vector ≡ Err e) ⊎ ((e ≡ Memory) × IsOk (recode_step c replica name column vector)))
+    × ((recode_step c replica name column vector ≡ Err e) ⊎ ((e ≡ Memory) × IsOk (recode_step c replica name column vector)))
 unfolding recode_step
 recode_refused c schema stores lent new messages n replica place name column vector coding e view is_lent is_len is below recodes =
     let s : StoreForm = recodes.0 in
