@@ -72,7 +72,8 @@ fn between_sides<C: Columns>(
     between_decoded(columns, batch, vector, operand, low, high, mask)
 }
 
-/// BETWEEN of three operands at the rows of a mask.
+/// BETWEEN of three operands at the rows of a mask. It is never taken into its caller, whose other predicates need more room.
+#[inline(never)]
 pub fn between_operands<C: Columns>(
     columns: &mut C,
     batch: usize,
