@@ -4,8 +4,9 @@ ghost use Rattle.table_model.specs.Answer.{whole};
 ghost use Rattle.table_model.specs.Condition.{is_null};
 ghost use Rattle.table_model.specs.Group.{IsWithin};
 ghost use Rattle.table_model.specs.Passes.{raised};
-ghost use Rattle.table_model.specs.Truth.{comparison};
+ghost use Rattle.table_model.specs.Truth.{and_of, comparison};
 ghost use Rattle.table_model.specs.Values.{total, least, greatest};
+ghost use Rattle.table_model.specs.declared.op.Op.TheVariants.{GreaterOrEqual, LessOrEqual};
 ghost use Rattle.table_model.specs.declared.truth.Truth.{Truth as TruthValue};
 ghost use Rattle.transpose_order.specs.Mask.{rows_of, has};
 ghost use Rattle.query_eval.specs.Below.{IsPairBelow};
@@ -14,7 +15,7 @@ ghost use Rattle.query_eval_tests.specs.PlainRows.{plain_vector};
 ghost use Rattle.query_eval.specs.Vector.{cell_at, is_live, looked_at};
 ghost use Rattle.query_eval.specs.Where.{IsPair};
 
-use query_eval::{Columns, Decoded, Pair, between_rows, greater, lesser};
+use query_eval::{Columns, Decoded, Pair, greater, lesser};
 use std::marker::Model;
 use table_model::{BatchName, Number, Op, Origin, Refusal, Rows, Schema, Truth, check_rows};
 use transpose_order::Mask;
@@ -101,6 +102,35 @@ fn compare_rows(left: &Decoded, op: Op, right: &Decoded, mask: &Mask) -> Pair
     for row in 0..1024 {
         if mask.get(row) {
             put(&mut pair, row, op.compare(left.at(row), right.at(row)));
+        }
+    }
+    pair
+}
+
+/// Whether a cell is neither below another nor above a third.
+fn within(cell: Option<i128>, low: Option<i128>, high: Option<i128>) -> Truth
+    ensures { result ≡ and_of (comparison GreaterOrEqual cell low) (comparison LessOrEqual cell high) }
+{
+    Op::GreaterOrEqual
+        .compare(cell, low)
+        .and(Op::LessOrEqual.compare(cell, high))
+}
+
+/// Whether cells are neither below others nor above thirds, at the rows of a mask.
+fn range_rows(operand: &Decoded, low: &Decoded, high: &Decoded, mask: &Mask) -> Pair
+    ensures { IsPair mask.now (λ n. and_of (comparison GreaterOrEqual (decoded_at operand.now n) (decoded_at low.now n)) (comparison LessOrEqual (decoded_at operand.now n) (decoded_at high.now n))) result }
+{
+    let mut pair = Pair {
+        yes: Mask::none(),
+        no: Mask::none(),
+    };
+    for row in 0..1024 {
+        if mask.get(row) {
+            put(
+                &mut pair,
+                row,
+                within(operand.at(row), low.at(row), high.at(row)),
+            );
         }
     }
     pair
@@ -281,7 +311,7 @@ impl Columns for PlainColumns {
         mask: &Mask,
     ) -> (Mask, Mask) {
         let cells = self.decoded(column, vector);
-        let pair = between_rows(
+        let pair = range_rows(
             &cells,
             &Decoded::Fixed(Some(low)),
             &Decoded::Fixed(Some(high)),
