@@ -221,7 +221,8 @@ impl Told {
     /// Whether a writer that fails after so many bytes ends the call as a failed write, with so much of the text.
     fn is_written_until(&self, alloc: Global, left: usize) -> bool {
         let ended = self.ended(alloc, PLENTY, left);
-        let (front, _) = self.text.as_bytes().split_at(left);
+        let text = self.text.as_bytes();
+        let (front, _) = text.split_at(left.min(text.len()));
         ended.is(Err(Refusal::WriteFault), (0, 1), front)
     }
 

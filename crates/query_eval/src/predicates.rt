@@ -1,10 +1,11 @@
 //! BETWEEN and IN of operands of WHERE over the rows of a vector, as pairs of masks.
-ghost use Rattle.std.specs.Prelude.{◌≡◌, ◌<◌, ◌≤◌, ◌+◌, length};
+ghost use Rattle.std.specs.Prelude.{◌≡◌, ◌<◌, ◌≤◌, ◌+◌, length, Some};
 ghost use Rattle.table_model.specs.Answer.{whole};
 ghost use Rattle.table_model.specs.Condition.{between, is_among};
 ghost use Rattle.table_model.specs.Truth.{and_of, comparison};
 ghost use Rattle.table_model.specs.declared.op.Op.TheVariants.{GreaterOrEqual, LessOrEqual};
 ghost use Rattle.query_eval.specs.Mentions.{operand_mentions};
+ghost use Rattle.query_eval.specs.Pairs.{yes_of};
 ghost use Rattle.query_eval.specs.Side.{side_at, side_mentions, HasColumn};
 ghost use Rattle.query_eval.specs.Vector.{IsThere, cell_at, vector_at};
 ghost use Rattle.query_eval.specs.Where.{IsPair, operand_at};
@@ -12,7 +13,7 @@ ghost use Rattle.query_eval.specs.Where.{IsPair, operand_at};
 use crate::columns::Columns;
 use crate::decoded::decode;
 use crate::pair::Pair;
-use crate::rows::{among, among_values, between_rows};
+use crate::rows::{among, among_values, between, between_rows};
 use crate::side::{Side, side_of};
 use table_model::{Literals, Operand};
 use transpose_order::Mask;
@@ -72,8 +73,36 @@ fn between_sides<C: Columns>(
     between_decoded(columns, batch, vector, operand, low, high, mask)
 }
 
-/// BETWEEN of three operands at the rows of a mask. It is never taken into its caller, whose other predicates need more room.
-#[inline(never)]
+/// The rows of a mask at which an operand is between two numbers. A column takes one pass, and no mask is made of the rows at which
+/// it isn't.
+pub fn range_rows<C: Columns>(
+    columns: &mut C,
+    batch: usize,
+    vector: usize,
+    operand: &Operand,
+    low: i128,
+    high: i128,
+    mask: &Mask,
+) -> Mask
+    requires there { IsThere (C.state columns.old) batch vector }
+    ensures value { result ≡ yes_of mask.now (λ n. between (operand_at (C.table columns.old) (vector_at (C.state columns.old) batch vector) operand.now n) (whole (Some low)) (whole (Some high))) }
+    ensures table { C.table columns.new ≡ C.table columns.old }
+    ensures state { C.state columns.new ≡ C.state columns.old }
+    ensures passes { C.passes columns.new ≤ C.passes columns.old + operand_mentions operand.now }
+{
+    match side_of(columns, operand) {
+        Side::Column(column) => {
+            let (yes, _no) = columns.compare_range(batch, column, vector, low, high, mask);
+            yes
+        }
+        Side::Fixed(cell) => {
+            let pair = Pair::everywhere(between(cell, Some(low), Some(high)), mask);
+            pair.yes
+        }
+    }
+}
+
+/// BETWEEN of three operands at the rows of a mask.
 pub fn between_operands<C: Columns>(
     columns: &mut C,
     batch: usize,

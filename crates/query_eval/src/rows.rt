@@ -24,7 +24,7 @@ const MANY_LITERALS: usize = 5;
 const FEW_ROWS: usize = 256;
 
 /// BETWEEN of three cells.
-fn between(cell: Option<i128>, low: Option<i128>, high: Option<i128>) -> Truth
+pub(crate) fn between(cell: Option<i128>, low: Option<i128>, high: Option<i128>) -> Truth
     ensures { result ≡ and_of (comparison GreaterOrEqual cell low) (comparison LessOrEqual cell high) }
 {
     Op::GreaterOrEqual

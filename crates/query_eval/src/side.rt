@@ -114,9 +114,7 @@ pub fn null_rows<C: Columns>(
     }
 }
 
-/// The comparison of two operands of WHERE at the rows of a mask. A comparison of two literals takes no pass. It is never taken
-/// into its caller, since comparisons of two columns need room that no other predicate does.
-#[inline(never)]
+/// The comparison of two operands of WHERE at the rows of a mask. A comparison of two literals takes no pass.
 pub fn compare_operands<C: Columns>(
     columns: &mut C,
     batch: usize,

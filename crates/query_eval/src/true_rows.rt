@@ -5,14 +5,16 @@
 //! IS alone, of pairs of masks.
 ghost use Rattle.std.specs.Prelude.{◌≡◌, ◌≤◌, ◌+◌};
 ghost use Rattle.table_model.specs.Query.{formula_of_factor, formula_of_primary, formula_of_term, formula_of_test};
-ghost use Rattle.query_eval.specs.Mentions.{condition_mentions};
+ghost use Rattle.table_model.specs.Formula.{says};
+ghost use Rattle.query_eval.specs.Mentions.{condition_mentions, predicate_mentions};
 ghost use Rattle.query_eval.specs.Pairs.{yes_of};
 ghost use Rattle.query_eval.specs.Vector.{IsThere, vector_at};
 ghost use Rattle.query_eval.specs.Where.{truth_in};
 
 use crate::columns::Columns;
+use crate::predicates::range_rows;
 use crate::where_masks::{factor_masks, predicate_masks, test_masks};
-use table_model::{Condition, Factor, Primary, Term, Test};
+use table_model::{Condition, Factor, Operand, Predicate, Primary, Term, Test};
 use transpose_order::Mask;
 
 /// The rows of a mask at which a condition is true: each mention of a column takes at most one pass, and none over no rows.
@@ -127,7 +129,32 @@ fn primary_rows<C: Columns>(
 {
     match primary {
         Primary::Nested(condition) => condition_rows(columns, batch, vector, condition, mask),
-        Primary::Predicate(predicate) => {
+        Primary::Predicate(predicate) => predicate_rows(columns, batch, vector, predicate, mask),
+    }
+}
+
+/// The rows of a mask at which a predicate is true.
+fn predicate_rows<C: Columns>(
+    columns: &mut C,
+    batch: usize,
+    vector: usize,
+    predicate: &Predicate,
+    mask: &Mask,
+) -> Mask
+    requires there { IsThere (C.state columns.old) batch vector }
+    ensures value { result ≡ yes_of mask.now (truth_in (C.table columns.old) (vector_at (C.state columns.old) batch vector) (says predicate.now)) }
+    ensures table { C.table columns.new ≡ C.table columns.old }
+    ensures state { C.state columns.new ≡ C.state columns.old }
+    ensures passes { C.passes columns.new ≤ C.passes columns.old + predicate_mentions predicate.now }
+{
+    match predicate {
+        Predicate::Between {
+            operand,
+            negated: false,
+            low: Operand::Literal(low),
+            high: Operand::Literal(high),
+        } => range_rows(columns, batch, vector, operand, *low, *high, mask),
+        _ => {
             let pair = predicate_masks(columns, batch, vector, predicate, mask);
             pair.yes
         }
