@@ -1,13 +1,17 @@
 #!/usr/bin/env python3
 """Runs scripts through the program and prints, for each, the size, seconds, MB of script text a second and peak memory.
 
+    python3 bench/scripts.py [--program PROGRAM] [--runs N]
+
+Without a program named it is the one that ./lanes builds. Of several runs of a script the least time counts.
+
 A peak of less than about 20 MiB is not seen: it is what this program itself takes when it starts the other.
 """
-import os, resource, subprocess, sys, tempfile, time
+import argparse, os, subprocess, sys, tempfile, time
 
 TOP = os.path.dirname(os.path.dirname(os.path.abspath(__file__)))
 # What the command ./lanes runs, once it has built it.
-PROGRAM = os.path.join(TOP, "crates", "lanes", "out", "lanes")
+BUILT = os.path.join(TOP, "crates", "lanes", "out", "lanes")
 
 
 def batches(replicas, kind, count, rows, last):
@@ -85,36 +89,48 @@ def scripts():
         yield f"{count} batches below as many", batches_below(count)
 
 
-def run(name, lines):
-    with tempfile.NamedTemporaryFile("w", suffix=".lanes", delete=False) as script:
-        script.writelines(lines)
-    size = os.path.getsize(script.name)
+def once(program, script):
+    """The seconds of a run of a script, what the system says of it, and its status and last reply."""
     start = time.monotonic()
-    with open(script.name) as text:
-        child = subprocess.Popen([PROGRAM, "run"], stdin=text, stdout=subprocess.PIPE)
-        last = ""
+    with open(script) as text:
+        child = subprocess.Popen([program, "run"], stdin=text, stdout=subprocess.PIPE)
+        last = b""
         for line in child.stdout:
             last = line
         _, status, usage = os.wait4(child.pid, 0)
-    seconds = time.monotonic() - start
+    return time.monotonic() - start, usage.ru_maxrss / 1024, status >> 8, last.decode().strip()
+
+
+def run(given, name, lines):
+    """Prints the least time of a few runs of a script, and answers it."""
+    with tempfile.NamedTemporaryFile("w", suffix=".lanes", delete=False) as script:
+        script.writelines(lines)
+    size = os.path.getsize(script.name) / 1e6
+    seconds, peak, status, last = min(once(given.program, script.name) for _ in range(given.runs))
     os.unlink(script.name)
-    print(f"{name:34} {size / 1e6:8.2f} MB {seconds:8.2f} s {size / 1e6 / seconds:8.2f} MB/s {usage.ru_maxrss / 1024:8.1f} MiB peak  status {status >> 8}  last reply {last.decode().strip()}", flush=True)
+    print(f"{name:34} {size:8.2f} MB {seconds:8.3f} s {size / seconds:8.2f} MB/s {peak:8.1f} MiB peak  status {status}  last reply {last}", flush=True)
     return seconds
 
 
-def appends_after_a_merge(count):
+def appends_after_a_merge(given, count):
     """Prints how many times an append into an empty store an append takes after a merge of so many batches of a greater origin."""
-    empty = run(f"{count} batches of one row", small_batches(count))
-    merged = run(f"merge {count} batches", merged_from_above(count))
-    both = run(f"{count} batches below as many", batches_below(count))
+    empty = run(given, f"{count} batches of one row", small_batches(count))
+    merged = run(given, f"merge {count} batches", merged_from_above(count))
+    both = run(given, f"{count} batches below as many", batches_below(count))
     print(f"an append after a merge takes {(both - merged) / empty:.2f} times one into an empty store", flush=True)
 
 
 def main():
-    subprocess.run([os.path.join(TOP, "lanes"), "--help"], stdout=subprocess.DEVNULL, check=True)
+    asked = argparse.ArgumentParser(description="Times scripts through the program.")
+    asked.add_argument("--program")
+    asked.add_argument("--runs", type=int, default=3)
+    given = asked.parse_args()
+    if not given.program:
+        subprocess.run([os.path.join(TOP, "lanes"), "--help"], stdout=subprocess.DEVNULL, check=True)
+        given.program = BUILT
     for name, lines in scripts():
-        run(name, lines)
-    appends_after_a_merge(32768)
+        run(given, name, lines)
+    appends_after_a_merge(given, 32768)
 
 
 if __name__ == "__main__":
