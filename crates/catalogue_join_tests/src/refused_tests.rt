@@ -179,3 +179,49 @@ fn a_refused_join_of_rows_leaves_both_sets(rt: HostRuntime) -> Result<(), Fail> 
     let mut tombs = tombs_with(rt.alloc(), &RANGES)?;
     join_other_rows(rt.alloc(), &mut tombs)
 }
+
+/// Whether a copy was made, with the names of these tests.
+fn is_copied(copied: &Result<Held, AllocError>) -> bool {
+    match copied {
+        Ok(held) => has_names(held, &NAMES),
+        Err(AllocError) => false,
+    }
+}
+
+/// Copies a set with the names of these tests.
+fn copy_names(alloc: Global, held: &Held) -> Result<(), Fail> {
+    let copied = held.copy(alloc);
+    if is_copied(&copied) {
+        return Ok(());
+    }
+    refused(copied.is_err() && has_names(held, &NAMES) && is_copied(&held.copy(alloc)))
+}
+
+#[test]
+fn a_refused_copy_leaves_its_names(rt: HostRuntime) -> Result<(), Fail> {
+    let held = held_of(rt.alloc(), &NAMES)?;
+    copy_names(rt.alloc(), &held)
+}
+
+/// Whether a copy was made, with the ranges of these tests.
+fn are_copied(copied: &Result<Tombs, AllocError>) -> bool {
+    match copied {
+        Ok(tombs) => has_ranges(tombs, &RANGES),
+        Err(AllocError) => false,
+    }
+}
+
+/// Copies a set with the ranges of these tests.
+fn copy_rows(alloc: Global, tombs: &Tombs) -> Result<(), Fail> {
+    let copied = tombs.copy(alloc);
+    if are_copied(&copied) {
+        return Ok(());
+    }
+    refused(copied.is_err() && has_ranges(tombs, &RANGES) && are_copied(&tombs.copy(alloc)))
+}
+
+#[test]
+fn a_refused_copy_leaves_its_rows(rt: HostRuntime) -> Result<(), Fail> {
+    let tombs = tombs_with(rt.alloc(), &RANGES)?;
+    copy_rows(rt.alloc(), &tombs)
+}

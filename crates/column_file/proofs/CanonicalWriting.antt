@@ -93,7 +93,3 @@ two_lists_spelled t xs ys =
     ap (spell_all (batch t) []) (map-append f xs ys) ∙ spell_all-append (batch t) [] (map f xs) (map f ys)
     ∙ ap (λ (bytes : List ℕ). spell_all (batch t) [] (map f xs) ++ bytes) (anywhere t (map f xs) [] (map f ys)) in
     batches_spelled t (map f (xs ++ ys)) ∙ (λ i. (number 4).spell (count i) ++ parts i)
-
--- none of no batches is anything else, and no copies were made of none
-pub none_chosen : AreChosen [] []
-none_chosen = record { long = refl; each_one = λ i d below. absurd (omega (arith, below)) }

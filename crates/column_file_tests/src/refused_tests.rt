@@ -107,7 +107,7 @@ fn a_refused_check_counts_nothing(rt: HostRuntime) -> Result<(), Fail> {
     is_checked(rt.alloc(), &bytes, None)
 }
 
-// FOR of width 1 in the place of width 0: the canonical copy is made, and the file is compared with it.
+// FOR of width 1 in the place of width 0: the vector is put into its canonical form where it lies, and the file is compared.
 #[test]
 fn a_refused_check_of_another_form_is_not_judged(rt: HostRuntime) -> Result<(), Fail> {
     let bytes = changed(rt.alloc(), &(29, 34, &[(b"\x01\0\0\x07", 129)]))?;

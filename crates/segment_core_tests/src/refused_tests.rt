@@ -3,7 +3,7 @@
 //! `CHANGED`; with none refused it passes. The command `tests/refused-memory` refuses each in turn and counts those texts.
 use crate::bytes_tests::one_column;
 use crate::tests::{Pattern, first, rows_of, rows_with};
-use segment_core::{Coding, Segment};
+use segment_core::{CodedVector, Coding, Segment};
 use std::alloc::{AllocError, Global};
 use std::process::Abort;
 use std::test::Fail;
@@ -280,4 +280,57 @@ fn a_refused_build_of_runs_gives_no_segment(rt: HostRuntime) -> Result<(), Fail>
 fn a_refused_build_of_a_dictionary_gives_no_segment(rt: HostRuntime) -> Result<(), Fail> {
     let rows = rows_with(rt.alloc(), &[Some(7), None, Some(9), Some(7)])?;
     is_built(&rt, rt.alloc(), &rows, (Coding::Dict, 132))
+}
+
+/// Whether a vector stands for the two rows of these tests, 7 and null, in a coding.
+fn is_two_rows(vector: &CodedVector, coding: Coding) -> bool {
+    vector.rows() == 2
+        && vector.coding() == coding
+        && vector.value(0) == Some(7)
+        && vector.value(1) == None
+}
+
+/// Whether a vector was copied, and stands for the two rows of these tests.
+fn has_copied(copied: &Result<CodedVector, AllocError>, coding: Coding) -> bool {
+    match copied {
+        Ok(vector) => is_two_rows(vector, coding),
+        Err(AllocError) => false,
+    }
+}
+
+/// The vector of two rows that stood in bytes is copied, and left as it was where that is refused.
+fn is_vector_copied(
+    rt: &impl Abort,
+    alloc: Global,
+    bytes: &[u8],
+    coding: Coding,
+) -> Result<(), Fail> {
+    let (segment, _) = two_rows(alloc, bytes)?;
+    let vector = first(rt, &segment);
+    let copied = vector.copy(alloc);
+    if has_copied(&copied, coding) {
+        return Ok(());
+    }
+    let again = vector.copy(alloc);
+    refused(copied.is_err() && is_two_rows(vector, coding) && has_copied(&again, coding))
+}
+
+#[test]
+fn a_refused_copy_of_a_vector_leaves_its_frame(rt: HostRuntime) -> Result<(), Fail> {
+    is_vector_copied(&rt, rt.alloc(), &frame_bytes(), Coding::For)
+}
+
+#[test]
+fn a_refused_copy_of_a_vector_leaves_its_deltas(rt: HostRuntime) -> Result<(), Fail> {
+    is_vector_copied(&rt, rt.alloc(), &delta_bytes(), Coding::Delta)
+}
+
+#[test]
+fn a_refused_copy_of_a_vector_leaves_its_runs(rt: HostRuntime) -> Result<(), Fail> {
+    is_vector_copied(&rt, rt.alloc(), &run_bytes(), Coding::Runs)
+}
+
+#[test]
+fn a_refused_copy_of_a_vector_leaves_its_dictionary(rt: HostRuntime) -> Result<(), Fail> {
+    is_vector_copied(&rt, rt.alloc(), &dictionary_bytes(), Coding::Dict)
 }

@@ -1,9 +1,9 @@
-//! Calls of schemas, each with a growth refused. A test's own growths are counted from 1: with the Nth refused, a test fails by
+//! Calls of schemas and rows, each with a growth refused. A test's own growths are counted from 1: with the Nth refused, a test fails by
 //! an `AllocError` or `Memory` of its set-up, or, where it was a growth of the call that it is of, with the text `REFUSED` or
 //! `CHANGED`; with none refused it passes. The command `tests/refused-memory` refuses each in turn and counts those texts.
 use std::alloc::{AllocError, Global};
 use std::test::Fail;
-use table_model::{ColType, Refusal, Schema};
+use table_model::{ColType, Refusal, Row, Rows, Schema, same_rows};
 
 /// The call answered that memory was refused; what it was given is as it was, and the same call again succeeds.
 const REFUSED: &str = "a growth was refused, and all is as it was";
@@ -62,4 +62,51 @@ fn see_copy(alloc: Global, schema: &Schema) -> Result<(), Fail> {
 fn a_refused_copy_leaves_its_schema(rt: HostRuntime) -> Result<(), Fail> {
     let schema = Schema::new(rt.alloc(), "T", &COLUMNS)?;
     see_copy(rt.alloc(), &schema)
+}
+
+/// The cells of a row of these tests.
+const CELLS: [Option<i128>; 2] = [Some(7), None];
+
+/// Copies a row of these tests.
+fn copy_row(alloc: Global, row: &Row) -> Result<(), Fail> {
+    match row.copy(alloc) {
+        Ok(copied) => if copied.cells() == CELLS.as_slice() {
+            Ok(())
+        } else {
+            refused(false)
+        },
+        Err(AllocError) => refused(row.cells() == CELLS.as_slice() && row.copy(alloc).is_ok()),
+    }
+}
+
+#[test]
+fn a_refused_copy_leaves_its_row(rt: HostRuntime) -> Result<(), Fail> {
+    let row = Row::from_cells(Vec::from_slice(rt.alloc(), &CELLS)?);
+    copy_row(rt.alloc(), &row)
+}
+
+/// Copies a list of rows.
+fn copy_rows(alloc: Global, rows: &[Row]) -> Result<(), Fail> {
+    match Rows::copy_of(alloc, rows) {
+        Ok(copied) => if same_rows(copied.as_slice(), rows) {
+            Ok(())
+        } else {
+            refused(false)
+        },
+        Err(AllocError) => refused(rows.len() == 2 && Rows::copy_of(alloc, rows).is_ok()),
+    }
+}
+
+/// Two rows of these tests.
+fn two_rows(alloc: Global) -> Result<[Row; 2], AllocError> {
+    Ok([
+        Row::from_cells(Vec::from_slice(alloc, &CELLS)?),
+        Row::from_cells(Vec::from_slice(alloc, &CELLS)?),
+    ])
+}
+
+#[test]
+fn a_refused_copy_leaves_its_list_of_rows(rt: HostRuntime) -> Result<(), Fail> {
+    let rows = two_rows(rt.alloc())?;
+    copy_rows(rt.alloc(), &rows)
 }

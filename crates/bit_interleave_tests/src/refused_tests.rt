@@ -1,0 +1,115 @@
+//! Calls of words, each with a growth refused. A test's own growths are counted from 1: with the Nth refused, a test fails by
+//! an `AllocError` of its set-up, or, where it was a growth of the call that it is of, with the text `REFUSED` or `CHANGED`; with
+//! none refused it passes. The command `tests/refused-memory` refuses each in turn and counts those texts.
+ghost use Rattle.std.specs.Prelude.{◌≤◌, ◌^◌, ◌<◌};
+ghost use Rattle.transpose_order.specs.Place.{IsLaneWidth};
+
+use bit_interleave::Words;
+use std::alloc::{AllocError, Global};
+use std::test::Fail;
+
+/// The call answered that memory was refused; what it was given is as it was, and the same call again succeeds.
+const REFUSED: &str = "a growth was refused, and all is as it was";
+
+/// The call answered otherwise, or what it was given is not as it was.
+const CHANGED: &str = "a growth was refused, and not all is as it was";
+
+/// The numbers of these tests' words, which fit 8 bits.
+const NUMBERS: [u64; 4] = [1, 255, 0, 128];
+
+/// The end of a test whose call was refused.
+fn refused(is_as_it_was: bool) -> Result<(), Fail> {
+    Err(Fail::new(if is_as_it_was { REFUSED } else { CHANGED }))
+}
+
+/// Whether words have the numbers of these tests.
+fn has_numbers(words: &Words) -> bool {
+    if words.len() != NUMBERS.len() {
+        return false;
+    }
+    for i in 0..NUMBERS.len() {
+        if words.word(i) != NUMBERS[i] {
+            return false;
+        }
+    }
+    true
+}
+
+/// Whether words were made, and have the numbers of these tests.
+fn is_made(made: &Result<Words, AllocError>) -> bool {
+    match made {
+        Ok(words) => has_numbers(words),
+        Err(AllocError) => false,
+    }
+}
+
+/// Makes words of these tests' numbers.
+fn make(alloc: Global, lane_width: usize) -> Result<(), Fail>
+    requires { IsLaneWidth lane_width }
+{
+    match Words::from_numbers(alloc, lane_width, &NUMBERS) {
+        Ok(words) => if has_numbers(&words) {
+            Ok(())
+        } else {
+            refused(false)
+        },
+        Err(AllocError) => refused(is_made(&Words::from_numbers(alloc, lane_width, &NUMBERS))),
+    }
+}
+
+#[test]
+fn refused_words_can_be_made_again(rt: HostRuntime) -> Result<(), Fail> {
+    make(rt.alloc(), 8)?;
+    make(rt.alloc(), 16)?;
+    make(rt.alloc(), 32)?;
+    make(rt.alloc(), 64)
+}
+
+/// Packs 1024 zeros in one bit each.
+fn pack(alloc: Global, lane_width: usize) -> Result<(), AllocError>
+    requires { IsLaneWidth lane_width }
+{
+    let _ = Words::pack(alloc, lane_width, 1, &[0; 1024])?;
+    Ok(())
+}
+
+/// The same, for a test.
+fn see_pack(alloc: Global, lane_width: usize) -> Result<(), Fail>
+    requires { IsLaneWidth lane_width }
+{
+    match pack(alloc, lane_width) {
+        Ok(()) => Ok(()),
+        Err(AllocError) => refused(pack(alloc, lane_width).is_ok()),
+    }
+}
+
+#[test]
+fn refused_values_can_be_packed_again(rt: HostRuntime) -> Result<(), Fail> {
+    see_pack(rt.alloc(), 8)?;
+    see_pack(rt.alloc(), 16)?;
+    see_pack(rt.alloc(), 32)?;
+    see_pack(rt.alloc(), 64)
+}
+
+/// Copies the words of these tests.
+fn copy(alloc: Global, lane_width: usize) -> Result<(), Fail>
+    requires { IsLaneWidth lane_width }
+{
+    let words = Words::from_numbers(alloc, lane_width, &NUMBERS)?;
+    match words.copy(alloc) {
+        Ok(copied) => if has_numbers(&copied) {
+            Ok(())
+        } else {
+            refused(false)
+        },
+        Err(AllocError) => refused(has_numbers(&words) && is_made(&words.copy(alloc))),
+    }
+}
+
+#[test]
+fn a_refused_copy_leaves_its_words(rt: HostRuntime) -> Result<(), Fail> {
+    copy(rt.alloc(), 8)?;
+    copy(rt.alloc(), 16)?;
+    copy(rt.alloc(), 32)?;
+    copy(rt.alloc(), 64)
+}
