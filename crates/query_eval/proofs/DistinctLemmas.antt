@@ -8,23 +8,18 @@ use Rattle.std.proofs.lemmas.List.Elements.{filter_map-append}
 use Rattle.std.proofs.lemmas.List.Folds.{list_any-append}
 use Rattle.table_model.proofs.AnswerOrder.{fold_value-alike}
 use Rattle.table_model.proofs.Alike.{length-alike}
-use Rattle.table_model.proofs.Bounds.{length-distinct, length-values_in}
+use Rattle.table_model.proofs.Bounds.{length-distinct}
 use Rattle.table_model.proofs.Parts.{AreApart}
 use Rattle.table_model.proofs.Rearranged.{Rearranged}
 use Rattle.table_model.proofs.SameMembers.{distinct-alike}
 use Rattle.table_model.specs.Answer.{whole}
 use Rattle.table_model.specs.Condition.{is_null}
-use Rattle.table_model.specs.Group.{values_in}
 use Rattle.table_model.specs.Meaning.{fold_value}
-use Rattle.table_model.specs.State.{Cells, State}
 use Rattle.table_model.specs.Values.{distinct, present}
 use Rattle.table_model.specs.declared.query.Fold.{Fold}
 use Rattle.transpose_order.specs.Mask.{rows_of, has}
 use Rattle.transpose_order.specs.MaskWords.{has-rows_of, length-rows_of, get_or-rows_of}
-use Rattle.query_eval.specs.Kept.{rows_in}
-use Rattle.query_eval.specs.Vector.{Vector, vector_at, cell_at, looked_at}
-use Rattle.query_eval.specs.declared.kept.KeptVector.{KeptVector}
-use Rattle.query_eval.proofs.ColumnLemmas.{values-more}
+use Rattle.query_eval.specs.Vector.{Vector, cell_at, looked_at}
 use Rattle.query_eval.proofs.Lifted.{rows_of-alike}
 
 -- ---- one row more
@@ -69,7 +64,7 @@ member-skip rows values k z old first h here before =
     let last : list_any (int_eq z) (present (picked rows values k ∷ [])) ≡ false = ap (λ b. list_any (int_eq z) (present (cond b (Some (slice_index_or values k (pos 0))) None ∷ []))) here in
     before ∙ ap (λ b. first || b) (sym (member-more rows values k z h ∙ ap (λ b. list_any (int_eq z) (present (take k (rows_of (picked rows values)))) || b) last ∙ or_none _))
 
--- ---- one vector more
+-- ---- a decoded column
 pub decoded-values : (v : Vector) (column : ℕ) (mask nulls rows : List Bool) (values : List ℤ) → nulls ≡ rows_of (λ n. is_null (whole (cell_at v column n))) → rows ≡ rows_of (λ n. has mask n && not (has nulls n)) → ((n : ℕ) (z : ℤ) → n < 1024 → cell_at v column n ≡ Some z → slice_index_or values n (pos 0) ≡ z) → present (rows_of (picked rows values)) ≡ looked_at v column mask
 unfolding looked_at
 decoded-values v column mask nulls rows values e f d =
@@ -82,12 +77,6 @@ decoded-values v column mask nulls rows values e f d =
     one true None x h = refl
     one true (Some z) x h = ap (λ y. Some y) (h z refl)
     one false o x h = refl
-
-pub members-more : (s : State) (kept : List KeptVector) (i : ℕ) (k : KeptVector) (column : ℕ) (z : ℤ) (values : List ℤ) (old new : Bool) → i < length kept → k ≡ get_or kept i k → values ≡ looked_at (vector_at s k.batch k.vector) column k.rows → old ≡ list_any (int_eq z) (values_in column (rows_in s (take i kept))) → new ≡ (old || list_any (int_eq z) values) → new ≡ list_any (int_eq z) (values_in column (rows_in s (take (i + 1) kept)))
-members-more s kept i k column z values old new h is e before after =
-    after ∙ ap (λ b. b || list_any (int_eq z) values) before
-    ∙ ap (λ zs. list_any (int_eq z) (values_in column (rows_in s (take i kept))) || list_any (int_eq z) zs) e
-    ∙ sym (ap (list_any (int_eq z)) (values-more s kept i k h is column) ∙ list_any-append (int_eq z) (values_in column (rows_in s (take i kept))) (looked_at (vector_at s k.batch k.vector) column k.rows))
 
 -- ---- the values in the end
 none_same : (x : ℤ) (xs : List ℤ) → AllByRecursion (λ y. int_eq x y ≡ false) xs → list_any (int_eq x) xs ≡ false
@@ -109,6 +98,3 @@ pub set_few : (xs zs : List ℤ) → IsDistinct int_eq xs → ((z : ℤ) → lis
 set_few xs zs d h =
     let same = length-alike xs (distinct zs) (alike xs zs d h) in
     omega (arith, same, length-distinct zs)
-
-pub distinct-few : (xs : List ℤ) (column : ℕ) (rows : List Cells) → IsDistinct int_eq xs → ((z : ℤ) → list_any (int_eq z) xs ≡ list_any (int_eq z) (values_in column rows)) → length xs ≤ length rows
-distinct-few xs column rows d h = omega (arith, set_few xs (values_in column rows) d h, length-values_in rows column)

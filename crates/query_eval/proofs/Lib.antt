@@ -28,3 +28,4 @@ pub mod VectorLemmas
 pub mod MentionLemmas
 pub mod AnswerLemmas
 pub mod OrderLemmas
+pub mod TakenLemmas

@@ -1,7 +1,6 @@
 -- Each aggregate that a query asks for is a mention of a set function in it.
-use Rattle.std.proofs.Common.{◌≡◌, ℕ, ◌+◌, ◌*◌, ◌≤◌, List, [], ◌∷◌, ◌++◌, map, length, sum_by, Option, Some, None, refl, arith}
+use Rattle.std.proofs.Common.{◌≡◌, ℕ, ◌+◌, ◌≤◌, List, [], ◌∷◌, ◌++◌, map, length, sum_by, Option, Some, None, refl, arith}
 use Rattle.std.specs.List.{flat_map}
-use Rattle.std.proofs.Math.Nat.{mul-le-mul_left}
 use Rattle.std.proofs.lemmas.List.{length-map}
 use Rattle.std.proofs.lemmas.List.Sums.{sum_by-cons, sum_by-append}
 use Rattle.table_model.specs.Formula.{Formula, says, in_parentheses, is_truth, negation, no_factor, both, no_term, either}
@@ -83,11 +82,3 @@ mentions-within columns query =
     omega (arith, length-map {B = ℕ} query.grouping (λ (column : ColumnMention). place_of columns column.name), as_aggregates columns (functions_of query), joined items (having_functions query.having), in_items query.items, in_having query.having)
 
 -- the passes of WHERE, and those of the groups of the vectors in which rows are kept
-pub passes-whole : (W G Q live few p0 p q : ℕ) → W + G ≤ Q → few ≤ live → p ≤ p0 + W * live → q ≤ p + G * few → q ≤ p0 + Q * live
-passes-whole W G Q live few p0 p q h f b a =
-    omega (arith, mul-le-mul_left G f, mul-le-mul_left live h, b, a)
-
-pub passes-first : (W G Q live p0 p : ℕ) → W + G ≤ Q → p ≤ p0 + W * live → p ≤ p0 + Q * live
-passes-first W G Q live p0 p h b =
-    let less : W ≤ Q = omega arith in
-    omega (arith, mul-le-mul_left live less, b)

@@ -1,5 +1,5 @@
 -- BETWEEN and IN of operands by their sides.
-use Rattle.std.proofs.Common.{◌≡◌, ℕ, ◌<◌, Bool, ◌&&◌, List, ℤ, Option, sym, ap, ◌∙◌}
+use Rattle.std.proofs.Common.{◌≡◌, ℕ, ◌<◌, Bool, ◌&&◌, List, ℤ, sym, ap, ◌∙◌}
 use Rattle.table_model.proofs.Predicates.{cells_compared}
 use Rattle.table_model.specs.Answer.{whole}
 use Rattle.table_model.specs.Condition.{between, is_among, field_comparison}

@@ -1,67 +1,22 @@
 -- The set functions of all rows that are kept.
-use Rattle.std.proofs.Common.{◌≡◌, ℕ, zero, suc, ◌+◌, ◌*◌, ◌<◌, ◌≤◌, Bool, true, false, not, cond, List, [], ◌∷◌, ◌++◌, map, filter, length, sum_by, get_or, take, Option, None, refl, sym, ap, subst, ◌∙◌, arith}
+use Rattle.std.proofs.Common.{◌≡◌, ℕ, zero, suc, ◌<◌, Bool, true, false, not, cond, List, [], ◌∷◌, ◌++◌, map, filter, length, get_or, Option, refl, sym, ap, subst, arith}
 use Rattle.std.specs.FinMap as finite
 use Rattle.std.specs.FinSet as set
-use Rattle.std.specs.List.{flat_map, cons_option}
-use Rattle.std.proofs.Math.Nat.{mul-le-mul_left}
-use Rattle.std.proofs.lemmas.List.{take_more, map-append, length-map}
-use Rattle.std.proofs.lemmas.List.Sums.{sum_by_more, sum_by-take-le, length-filter, count_by-le-length}
+use Rattle.std.specs.List.{flat_map}
+use Rattle.std.proofs.lemmas.List.{map-append, length-map}
+use Rattle.std.proofs.lemmas.List.Sums.{length-filter, count_by-le-length}
 use Rattle.table_model.specs.Formula.{Formula}
-use Rattle.table_model.specs.Group.{cell, values_in, groups_of}
-use Rattle.table_model.specs.Meaning.{fold_value, once_if}
+use Rattle.table_model.specs.Group.{groups_of}
 use Rattle.table_model.specs.State.{Cells, Batch, State, named_from, named_rows, live_rows}
-use Rattle.table_model.specs.Table.{Table, ColumnShape, IsRow, AreRows}
-use Rattle.table_model.specs.Values.{present}
-use Rattle.table_model.specs.declared.answer.Field.{Field}
+use Rattle.table_model.specs.Table.{Table, ColumnShape, AreRows}
 use Rattle.table_model.specs.declared.names.BatchName.{BatchName}
 use Rattle.table_model.specs.declared.names.RowName.{RowName}
-use Rattle.table_model.specs.declared.query.Fold.{Fold}
 use Rattle.query_eval.specs.Aggregate.{aggregate_value}
 use Rattle.query_eval.specs.Finished.{GroupFields, finished_groups}
 use Rattle.query_eval.specs.Kept.{AreFew, rows_alive, rows_kept}
-use Rattle.query_eval.specs.QueryMentions.{aggregate_mentions}
 use Rattle.query_eval.specs.Vector.{IsWithin, batch_at}
 use Rattle.query_eval.specs.declared.aggregate.Aggregate.{Aggregate}
-use Rattle.query_eval.specs.declared.aggregate.Aggregate.TheVariants.{Folded}
 use Rattle.query_eval.proofs.Lifted.{keeps}
-
--- ---- a column that the table hasn't
-past_end : (columns : List ColumnShape) (row : Cells) (place : ℕ) → IsRow columns row → length columns ≤ place → cell row place ≡ None
-past_end columns [] place h l = refl
-past_end [] (v ∷ vs) place h l = absurd h
-past_end (c ∷ cs) (v ∷ vs) zero h l = absurd (omega arith)
-past_end (c ∷ cs) (v ∷ vs) (suc n) h l = past_end cs vs n h.1 (omega arith)
-
-no-values : (columns : List ColumnShape) (rows : List Cells) (place : ℕ) → AreRows columns rows → length columns ≤ place → present (map (λ row. cell row place) rows) ≡ []
-no-values columns [] place h l = refl
-no-values columns (row ∷ rows) place h l =
-    ap (λ o. cons_option o (present (map (λ r. cell r place) rows))) (past_end columns row place h.0 l) ∙ no-values columns rows place h.1 l
-
-none_once : (distinct : Bool) → [] ≡ once_if distinct []
-none_once true = refl
-none_once false = refl
-
-pub missing-field : (table : Table) (rows : List Cells) (fold : Fold) (distinct : Bool) (place : ℕ) → AreRows table.columns rows → length table.columns ≤ place → fold_value fold [] ≡ aggregate_value (Folded fold distinct place) rows
-unfolding values_in
-missing-field table rows fold distinct place h l =
-    ap (fold_value fold) (none_once distinct ∙ ap (once_if distinct) (sym (no-values table.columns rows place h l)))
-
--- ---- one aggregate more
-pub passes-aggregate : (xs : List Aggregate) (i K p0 p q : ℕ) (a d : Aggregate) → i < length xs → a ≡ get_or xs i d → p ≤ p0 + sum_by aggregate_mentions (take i xs) * K → q ≤ p + aggregate_mentions a * K → q ≤ p0 + sum_by aggregate_mentions (take (i + 1) xs) * K
-passes-aggregate xs i K p0 p q a d h is before after =
-    let more : sum_by aggregate_mentions (take (i + 1) xs) ≡ sum_by aggregate_mentions (take i xs) + aggregate_mentions a = sum_by_more aggregate_mentions xs i d h ∙ ap (λ (x : Aggregate). sum_by aggregate_mentions (take i xs) + aggregate_mentions x) (sym is) in
-    omega (arith, ap (λ n. n * K) more, before, after)
-
-pub passes-aggregates : (xs : List Aggregate) (i K p0 p q : ℕ) (a d : Aggregate) → i < length xs → a ≡ get_or xs i d → p ≤ p0 + sum_by aggregate_mentions (take i xs) * K → q ≤ p + aggregate_mentions a * K → q ≤ p0 + sum_by aggregate_mentions xs * K
-passes-aggregates xs i K p0 p q a d h is before after =
-    let all : K * sum_by aggregate_mentions (take (i + 1) xs) ≤ K * sum_by aggregate_mentions xs = mul-le-mul_left K (sum_by-take-le aggregate_mentions xs (i + 1)) in
-    omega (arith, passes-aggregate xs i K p0 p q a d h is before after, all)
-
-pub fields-more : (rows : List Cells) (xs : List Aggregate) (i : ℕ) (d : Aggregate) (before after : List Field) (field : Field) → i < length xs → before ≡ map (λ a. aggregate_value a rows) (take i xs) → field ≡ aggregate_value (get_or xs i d) rows → after ≡ before ++ field ∷ [] → after ≡ map (λ a. aggregate_value a rows) (take (i + 1) xs)
-fields-more rows xs i d before after field h b f e =
-    let value : Aggregate → Field = λ a. aggregate_value a rows in
-    e ∙ ap (λ l. l ++ field ∷ []) b ∙ ap (λ x. map value (take i xs) ++ x ∷ []) f
-    ∙ sym (ap (map value) (take_more xs i d h) ∙ map-append value (take i xs) (get_or xs i d ∷ []))
 
 -- ---- the one group
 pub whole-group : (aggregates : List Aggregate) (rows : List Cells) (group : GroupFields) → group.key ≡ [] → group.fields ≡ map (λ a. aggregate_value a rows) aggregates → group ∷ [] ≡ finished_groups aggregates [] rows

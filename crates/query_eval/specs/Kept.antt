@@ -1,7 +1,6 @@
 -- The rows that a query keeps: those that aren't deleted and at which WHERE is true.
-use Rattle.std.specs.Prelude.{ℕ, zero, suc, ◌+◌, ◌==◌, ◌≤◌, ◌^◌, Bool, ◌&&◌, not, cond, List, map, filter, length, count_by, All, Option, Some, None}
+use Rattle.std.specs.Prelude.{ℕ, zero, suc, ◌+◌, ◌==◌, ◌≤◌, ◌^◌, Bool, ◌&&◌, not, cond, List, map, filter, length, count_by, Option, Some, None}
 use Rattle.std.specs.FinSet as set
-use Rattle.std.specs.List.{flat_map}
 use Rattle.table_model.specs.Formula.{Formula}
 use Rattle.table_model.specs.Meaning.{at_row, is_kept}
 use Rattle.table_model.specs.State.{Cells, State, named_from, live_rows}
@@ -10,8 +9,7 @@ use Rattle.table_model.specs.Values.{present}
 use Rattle.table_model.specs.declared.names.RowName.{RowName}
 use Rattle.transpose_order.specs.Mask.{rows_of, has, count_below}
 use Rattle.query_eval.specs.Mentions.{condition_mentions}
-use Rattle.query_eval.specs.Vector.{Vector, IsThere, vector_at, row_at, is_live, batch_at, batch_count, vector_count}
-use Rattle.query_eval.specs.declared.kept.KeptVector.{KeptVector}
+use Rattle.query_eval.specs.Vector.{Vector, vector_at, row_at, is_live, batch_at, batch_count, vector_count}
 
 -- how many columns WHERE mentions, none where it is absent
 abbrev pub where_mentions : Option Formula → ℕ
@@ -55,15 +53,7 @@ rows_kept table condition rows = filter (λ row. is_kept condition (at_row table
 unfoldable pub rows_at : Vector → List Bool → List Cells
 rows_at v mask = present (rows_of (λ n. cond (has mask n) (Some (row_at v n)) None))
 
--- the rows of some vectors that are kept, vector by vector
-unfoldable pub rows_in : State → List KeptVector → List Cells
-rows_in s kept = flat_map (λ (k : KeptVector). rows_at (vector_at s k.batch k.vector) k.rows) kept
-
 -- at most 2^32 rows, each a row of the table
 pub record AreFew (table : Table) (rows : List Cells) : Type 0 where
   pub fit : AreRows table.columns rows
   pub few : length rows ≤ 2 ^ 32
-
--- each is one of the state's vectors
-abbrev pub AreThere : State → List KeptVector → Type 0
-AreThere s kept = All (λ (k : KeptVector). IsThere s k.batch k.vector) kept

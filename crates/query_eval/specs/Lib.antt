@@ -15,3 +15,4 @@ pub mod QueryMentions
 pub mod Grouping
 pub mod Places
 pub mod Slices
+pub mod Taken

@@ -5,7 +5,7 @@ ghost use Rattle.table_model.specs.Group.{IsWithin};
 ghost use Rattle.table_model.specs.Meaning.{fold_value};
 ghost use Rattle.table_model.specs.Values.{total, total_or_null, mean, least, greatest};
 
-use crate::column_folds::{greater, lesser};
+use crate::extremes::{greater, lesser};
 use table_model::{Field, Fold};
 
 /// A whole number, or null.

@@ -1,5 +1,5 @@
 //! The groups of a query with GROUP BY, when they are finished.
-ghost use Rattle.std.specs.Prelude.{◌≡◌, ◌<◌, ◌≤◌, ◌+◌, ◌*◌, ℕ, List, None, map, length, slice_index_or, sum_by, IfOk};
+ghost use Rattle.std.specs.Prelude.{◌≡◌, ◌<◌, ◌≤◌, ℕ, List, None, map, length, slice_index_or, IfOk};
 ghost use Rattle.std.specs.Global.{Vec as Items};
 ghost use Rattle.std.specs.Option.{IfSome};
 ghost use Rattle.query_eval.specs.declared.tally.Tally.{Tally as ATally};
@@ -10,14 +10,11 @@ ghost use Rattle.table_model.specs.Table.{Table};
 ghost use Rattle.query_eval.specs.Aggregate.{aggregate_value};
 ghost use Rattle.query_eval.specs.Finished.{finished_groups, finished_of};
 ghost use Rattle.query_eval.specs.Grouping.{AreGroups, AreHeld, IsHeld};
-ghost use Rattle.query_eval.specs.Kept.{rows_in, AreThere, AreFew};
-ghost use Rattle.query_eval.specs.QueryMentions.{aggregate_mentions};
+ghost use Rattle.query_eval.specs.Kept.{AreFew};
 
 use crate::aggregate::Aggregate;
-use crate::columns::Columns;
 use crate::finished::{FinishedGroup, Key};
-use crate::grouping::group_vectors;
-use crate::kept::KeptVector;
+use crate::grouping::Groups;
 use crate::plan::Plan;
 use crate::tally::Tally;
 use std::alloc::{AllocError, Global};
@@ -25,7 +22,11 @@ use std::collections::BTreeMap;
 use table_model::{Field, Fold};
 
 /// The value of an aggregate by its tally.
-fn value_of(alloc: Global, aggregate: Aggregate, tally: &Tally) -> Result<Field, AllocError>
+pub(crate) fn value_of(
+    alloc: Global,
+    aggregate: Aggregate,
+    tally: &Tally,
+) -> Result<Field, AllocError>
     ensures { IfOk result (λ field. (table : Table) (rows : List Cells) → AreFew table rows → IsHeld rows aggregate tally.now → field ≡ aggregate_value aggregate rows) }
 {
     match aggregate {
@@ -88,23 +89,14 @@ fn in_order(
     Ok(finished)
 }
 
-/// The groups of the rows that are kept in some vectors, in ascending order of their keys. Each mention of a column takes at
-/// most one pass a vector.
-pub fn grouped_table<C: Columns>(
+/// The groups of the rows that were taken in, in ascending order of their keys.
+pub fn grouped_table(
     alloc: Global,
-    columns: &mut C,
-    kept: &[KeptVector],
     plan: &Plan,
+    groups: Groups,
 ) -> Result<Vec<FinishedGroup>, AllocError>
-    requires grouped { 1 ≤ length plan.now.grouping }
-    requires there { AreThere (C.state columns.old) kept.now }
-    requires few { AreFew (C.table columns.old) (rows_in (C.state columns.old) kept.now) }
-    ensures value { IfOk result (λ groups. groups.items ≡ finished_groups plan.now.aggregates plan.now.grouping (rows_in (C.state columns.old) kept.now)) }
-    ensures table { C.table columns.new ≡ C.table columns.old }
-    ensures state { C.state columns.new ≡ C.state columns.old }
-    ensures passes { IfOk result (λ _. C.passes columns.new ≤ C.passes columns.old + (length plan.now.grouping + sum_by aggregate_mentions plan.now.aggregates) * length kept.now) }
+    ensures { IfOk result (λ finished. (table : Table) (rows : List Cells) → 1 ≤ length plan.now.grouping → AreFew table rows → AreGroups plan.now.grouping plan.now.aggregates rows groups.places.index groups.tallies.items → finished.items ≡ finished_groups plan.now.aggregates plan.now.grouping rows) }
 {
-    let groups = group_vectors(alloc, columns, plan, kept)?;
     let mut index = groups.places.into_index();
     let finished = in_order(
         alloc,

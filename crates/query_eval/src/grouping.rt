@@ -1,8 +1,8 @@
 //! Groups under way, vector by vector.
-ghost use Rattle.std.specs.Prelude.{◌≡◌, ◌≤◌, ◌+◌, ◌*◌, ◌++◌, [], ℕ, List, length, IfOk, OnOk};
+ghost use Rattle.std.specs.Prelude.{◌≡◌, ◌≤◌, ◌+◌, ◌++◌, [], ℕ, List, length, IfOk, OnOk};
 ghost use Rattle.table_model.specs.State.{Cells};
 ghost use Rattle.query_eval.specs.Grouping.{AreEmpty, AreGroups, plan_mentions};
-ghost use Rattle.query_eval.specs.Kept.{rows_at, rows_in, AreThere};
+ghost use Rattle.query_eval.specs.Kept.{rows_at};
 ghost use Rattle.query_eval.specs.Places.{IsIndex};
 ghost use Rattle.query_eval.specs.Vector.{IsThere, vector_at};
 
@@ -27,9 +27,23 @@ pub struct Groups {
 
 /// Room for what is known of a vector's rows, one vector after another: a decoded column, and the rows split by their groups.
 #[derive(Drop)]
-struct Room {
-    values: [i64; 1024],
-    split: Split,
+pub struct Room {
+    pub values: [i64; 1024],
+    pub split: Split,
+}
+
+impl Room {
+    /// Room in which nothing is known. It takes no memory yet.
+    pub fn new(alloc: Global) -> Room {
+        Room {
+            values: [0; 1024],
+            split: Split {
+                slices: Vec::new(alloc),
+                left: Mask::none(),
+                places: [0; 1024],
+            },
+        }
+    }
 }
 
 /// No tallies yet, for each aggregate.
@@ -45,7 +59,7 @@ fn no_tallies(alloc: Global, aggregates: &[Aggregate]) -> Result<Vec<Vec<Tally>>
 
 impl Groups {
     /// No groups.
-    fn none(alloc: Global, aggregates: &[Aggregate]) -> Result<Groups, AllocError>
+    pub fn none(alloc: Global, aggregates: &[Aggregate]) -> Result<Groups, AllocError>
         ensures index { IfOk result (λ groups. IsIndex groups.places) }
         ensures groups { IfOk result (λ groups. (by : List ℕ) → AreGroups by aggregates.now [] groups.places.index groups.tallies.items) }
     {
@@ -56,7 +70,7 @@ impl Groups {
 }
 
 /// Takes a vector's kept rows into their groups. Each mention of a column takes at most one pass.
-fn group_vector<C: Columns>(
+pub fn group_vector<C: Columns>(
     alloc: Global,
     columns: &mut C,
     plan: &Plan,
@@ -91,33 +105,4 @@ fn group_vector<C: Columns>(
         &mut room.values,
     )?;
     Ok(())
-}
-
-/// Takes the kept rows of some vectors into their groups. Each mention of a column takes at most one pass a vector.
-pub fn group_vectors<C: Columns>(
-    alloc: Global,
-    columns: &mut C,
-    plan: &Plan,
-    kept: &[KeptVector],
-) -> Result<Groups, AllocError>
-    requires { AreThere (C.state columns.old) kept.now }
-    ensures index { IfOk result (λ groups. IsIndex groups.places) }
-    ensures groups { IfOk result (λ groups. AreGroups plan.now.grouping plan.now.aggregates (rows_in (C.state columns.old) kept.now) groups.places.index groups.tallies.items) }
-    ensures table { C.table columns.new ≡ C.table columns.old }
-    ensures state { C.state columns.new ≡ C.state columns.old }
-    ensures passes { IfOk result (λ _. C.passes columns.new ≤ C.passes columns.old + plan_mentions plan.now * length kept.now) }
-{
-    let mut groups = Groups::none(alloc, plan.aggregates())?;
-    let mut room = Room {
-        values: [0; 1024],
-        split: Split {
-            slices: Vec::new(alloc),
-            left: Mask::none(),
-            places: [0; 1024],
-        },
-    };
-    for vector in kept {
-        group_vector(alloc, columns, plan, &mut groups, vector, &mut room)?;
-    }
-    Ok(groups)
 }

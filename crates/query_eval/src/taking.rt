@@ -41,7 +41,7 @@ fn fold_kind(distinct: bool, fold: Fold) -> TallyKind
 }
 
 /// What the tallies of an aggregate keep.
-fn aggregate_kind(aggregate: Aggregate) -> TallyKind
+pub(crate) fn aggregate_kind(aggregate: Aggregate) -> TallyKind
     ensures { result ≡ aggregate_kind aggregate }
 {
     match aggregate {

@@ -4,15 +4,15 @@ ghost use Rattle.std.specs.List.{list_any};
 ghost use Rattle.std.specs.Ordering.{int_eq};
 ghost use Rattle.std.specs.Int.{w128};
 ghost use Rattle.table_model.specs.Meaning.{fold_value, once_if};
-ghost use Rattle.table_model.specs.Values.{distinct};
+ghost use Rattle.table_model.specs.Values.{distinct, total, least as least_of, greatest as greatest_of};
 ghost use Rattle.table_model.proofs.Bounds.{AreSmall};
 ghost use Rattle.query_eval.specs.Slices.{AreShort, values_at};
 ghost use Rattle.query_eval.specs.Tally.{AreTold, IsTally, kind_of};
 ghost use Rattle.query_eval.specs.declared.tally.TallyKind.TheVariants as kinds;
 ghost use Rattle.query_eval.specs.TallyKinds.{fold_kind};
 
-use crate::column_folds::{greater, lesser};
 use crate::distinct::{add_values, set_values};
+use crate::extremes::{greater, lesser};
 use crate::field_values::{sum_field, values_field, whole_field};
 use crate::masked_folds::{count_at, greatest_at, least_at, sum_at};
 use std::alloc::{AllocError, Global};
@@ -104,13 +104,20 @@ impl Sums {
         self.sum = added(self.sum, i128::from(more));
     }
 
+    /// Takes in so many values more, which have this sum.
+    fn add_many(&mut self, count: usize, sum: i128)
+        ensures { (values more : List ℤ) → count ≡ length more → sum ≡ total more → AreTold values self.old → AreTold (values ++ more) self.new }
+    {
+        self.count = self.count.saturating_add(count as u64);
+        self.sum = added(self.sum, sum);
+    }
+
     /// Takes in the values at the rows of a mask, which are short where `short` says so.
     fn add_rows(&mut self, values: &[i64; 1024], short: bool, rows: &Mask)
         requires { short ≡ true → AreShort values.now }
         ensures { (before : List ℤ) → AreTold before self.old → AreTold (before ++ values_at rows.now values.now) self.new }
     {
-        self.count = self.count.saturating_add(count_at(rows) as u64);
-        self.sum = added(self.sum, sum_at(values, short, rows));
+        self.add_many(count_at(rows), sum_at(values, short, rows));
     }
 
     /// AVG of the values, where the fold is that, and else SUM.
@@ -185,6 +192,49 @@ impl Tally {
     {
         if let Tally::Count(count) = self {
             *count = count.saturating_add(more as u64);
+        }
+    }
+
+    /// What it keeps.
+    pub fn kind(&self) -> TallyKind
+        ensures { result ≡ kind_of self.now }
+    {
+        match self {
+            Tally::Count(_) => TallyKind::Count,
+            Tally::Sum(_) => TallyKind::Sum,
+            Tally::Least(_) => TallyKind::Least,
+            Tally::Greatest(_) => TallyKind::Greatest,
+            Tally::Distinct(_) => TallyKind::Distinct,
+        }
+    }
+
+    /// Takes so many values more, which have this sum, into a sum. A tally of another kind stays as it is.
+    pub fn sum_more(&mut self, count: usize, sum: i128)
+        ensures values { (values more : List ℤ) → kind_of self.old ≡ kinds.Sum → count ≡ length more → sum ≡ total more → IsTally values self.old → IsTally (values ++ more) self.new }
+        ensures kind { kind_of self.new ≡ kind_of self.old }
+    {
+        if let Tally::Sum(sums) = self {
+            sums.add_many(count, sum);
+        }
+    }
+
+    /// Takes values more, of which this is the least, into a least value. A tally of another kind stays as it is.
+    pub fn least_more(&mut self, least: Option<i64>)
+        ensures values { (values more : List ℤ) → kind_of self.old ≡ kinds.Least → least ≡ least_of more → IsTally values self.old → IsTally (values ++ more) self.new }
+        ensures kind { kind_of self.new ≡ kind_of self.old }
+    {
+        if let Tally::Least(before) = self {
+            *before = lesser(*before, least);
+        }
+    }
+
+    /// Takes values more, of which this is the greatest, into a greatest value. A tally of another kind stays as it is.
+    pub fn greatest_more(&mut self, greatest: Option<i64>)
+        ensures values { (values more : List ℤ) → kind_of self.old ≡ kinds.Greatest → greatest ≡ greatest_of more → IsTally values self.old → IsTally (values ++ more) self.new }
+        ensures kind { kind_of self.new ≡ kind_of self.old }
+    {
+        if let Tally::Greatest(before) = self {
+            *before = greater(*before, greatest);
         }
     }
 

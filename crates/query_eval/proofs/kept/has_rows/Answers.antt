@@ -1,5 +1,5 @@
 -- The first true row, or none.
-use Rattle.std.proofs.Common.{◌≡◌, ℕ, Bool, length, true, false, sym, ap, ◌∙◌, arith}
+use Rattle.std.proofs.Common.{◌≡◌, length, ap, ◌∙◌, arith}
 use Rattle.std.proofs.lemmas.Bool.Decides.{nat_tests}
 use Rattle.transpose_order.specs.MaskWords.{length-rows_of}
 use Rattle.query_eval.proofs.KeptLemmas.{no_true, none_counted}
