@@ -17,7 +17,7 @@ use crate::coded::Coded;
 use crate::coding::Coding;
 use crate::cover::Cover;
 use crate::fill::fill;
-use crate::same_form::same_form;
+use crate::same_form::{same_form, same_values};
 use frame_delta::{Delta, For};
 use run_dictionary::{Dict, Runs};
 use std::alloc::{AllocError, Global};
@@ -199,7 +199,7 @@ impl CodedVector {
         self.coded.decode(&mut values);
         let mut full = values;
         self.fill_decoded(&mut full);
-        if !same_values(&values, &full) {
+        if !same_values(values.as_slice(), full.as_slice()) {
             return false;
         }
         if !self.coded.is_least() {
@@ -284,18 +284,6 @@ fn some_rows(alloc: Global, mask: &Mask) -> Result<Option<Boxed<Mask>>, AllocErr
         return Ok(None);
     }
     Ok(Some(Boxed::new(alloc, *mask)?))
-}
-
-/// Whether two vectors of 1024 values are the same, row for row.
-fn same_values(values: &[i64; 1024], others: &[i64; 1024]) -> bool
-    ensures { IsTrue result ↔ (values.now ≡ others.now) }
-{
-    for row in 0..1024 {
-        if values[row] != others[row] {
-            return false;
-        }
-    }
-    true
 }
 
 /// Whether the cells of so many rows, 1024 at most, are the same under two masks of nulls and among two vectors of values.

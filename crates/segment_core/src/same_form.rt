@@ -24,7 +24,7 @@ fn same_words(words: &Words, others: &Words) -> bool
 }
 
 /// Whether two lists of values are the same.
-fn same_values(values: &[i64], others: &[i64]) -> bool
+pub(crate) fn same_values(values: &[i64], others: &[i64]) -> bool
     ensures { IsTrue result ↔ (values.now ≡ others.now) }
 {
     values == others

@@ -22,7 +22,7 @@ returns-then-not-same_values c =
     let values : c.decode.new.values ≡ values_of v.coded = c.decode.ensures.values ∙ ap (λ (x : VectorForm). values_of x.coded) c.self.view_is in (
       λ no. absurd (cc),
       λ e. let parts = canonical_parts v t is (lane_width_is v.coded is.form) refl e in
-          c.if-not-same_values.ensures.1 (values ∙ parts.values ∙ sym c.fill_decoded.ensures.values),
+          c.if-not-same_values.ensures.1 (c.as_slice.ensures ∙ values ∙ parts.values ∙ sym c.fill_decoded.ensures.values ∙ sym c.as_slice-2.ensures),
     )
 
 pub returns-then-not-is_least : goal.returns-then-not-is_least
@@ -49,7 +49,7 @@ returns c =
     let is : IsVector v = subst (λ (x : VectorForm). IsVector x) c.self.view_is c.self.invariant in
     let coded : c.self.inside.coded ≡ v.coded = ap (λ (x : VectorForm). x.coded) c.self.view_is in
     let values : values_of v.coded ≡ filled (cells_of v) =
-    sym (c.decode.ensures.values ∙ ap values_of coded) ∙ c.if-not-same_values.ensures.0 refl ∙ c.fill_decoded.ensures.values in
+    sym (c.decode.ensures.values ∙ ap values_of coded) ∙ sym c.as_slice.ensures ∙ c.if-not-same_values.ensures.0 refl ∙ c.as_slice-2.ensures ∙ c.fill_decoded.ensures.values in
     let least : v.coded ≡ least_form (coding_of v.coded) t (values_of v.coded) =
     sym coded ∙ c.if-not-is_least.ensures.0 refl ∙ ap (λ k. least_form (coding_of k) (lane_width_of k) (values_of k)) coded in
     let chosen : c.choose.result ≡ choice t (filled (cells_of v)) =
