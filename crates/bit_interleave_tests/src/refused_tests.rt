@@ -65,32 +65,6 @@ fn refused_words_can_be_made_again(rt: HostRuntime) -> Result<(), Fail> {
     make(rt.alloc(), 64)
 }
 
-/// Packs 1024 zeros in one bit each.
-fn pack(alloc: Global, lane_width: usize) -> Result<(), AllocError>
-    requires { IsLaneWidth lane_width }
-{
-    let _ = Words::pack(alloc, lane_width, 1, &[0; 1024])?;
-    Ok(())
-}
-
-/// The same, for a test.
-fn see_pack(alloc: Global, lane_width: usize) -> Result<(), Fail>
-    requires { IsLaneWidth lane_width }
-{
-    match pack(alloc, lane_width) {
-        Ok(()) => Ok(()),
-        Err(AllocError) => refused(pack(alloc, lane_width).is_ok()),
-    }
-}
-
-#[test]
-fn refused_values_can_be_packed_again(rt: HostRuntime) -> Result<(), Fail> {
-    see_pack(rt.alloc(), 8)?;
-    see_pack(rt.alloc(), 16)?;
-    see_pack(rt.alloc(), 32)?;
-    see_pack(rt.alloc(), 64)
-}
-
 /// Copies the words of these tests.
 fn copy(alloc: Global, lane_width: usize) -> Result<(), Fail>
     requires { IsLaneWidth lane_width }
