@@ -11,3 +11,4 @@ pub mod RoundTrip
 pub mod WordsLemmas
 pub mod ValueLemmas
 pub mod WordBytesLemmas
+pub mod ValuesLemmas

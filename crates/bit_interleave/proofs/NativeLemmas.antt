@@ -1,5 +1,5 @@
 -- Sixteen words shifted and masked at their own type, and then widened.
-use Rattle.std.proofs.Common.{◌≡◌, ℕ, ◌+◌, ◌-◌, ◌*◌, ◌/◌, ◌%◌, ◌^◌, ◌<◌, ◌≤◌, List, map, length, get_or, replicate, bit_and, bit_or, Fits, sym, ap, subst, ◌∙◌, arith}
+use Rattle.std.proofs.Common.{◌≡◌, ℕ, ◌+◌, ◌-◌, ◌*◌, ◌/◌, ◌%◌, ◌^◌, ◌<◌, ◌≤◌, List, map, length, get_or, replicate, bit_and, bit_or, Fits, sym, ap, ◌∙◌, arith}
 use Rattle.std.specs.Int.{w64}
 use Rattle.std.specs.Simd.Lanes.{zip2, chunk, Each1}
 use Rattle.std.proofs.Math.Nat.{pow-le-pow_right}

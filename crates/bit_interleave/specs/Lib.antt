@@ -4,3 +4,5 @@ pub mod Packing
 pub mod PackedWords
 pub mod StoredWords
 pub mod PackedBytes
+pub mod LaneValues
+pub mod StoredValues

@@ -7,10 +7,12 @@
 #![tactic(auto)]
 
 mod arithmetic;
+mod lane_value;
 mod lane_word;
 mod laws;
 mod packing;
 mod unpacking;
+mod values;
 mod word_bytes;
 mod words;
 
@@ -24,4 +26,5 @@ pub use laws::{
 };
 pub use packing::{pack, pack_at};
 pub use unpacking::{step, step_at, unpack, unpack_at};
+pub use values::Values;
 pub use words::Words;

@@ -5,10 +5,11 @@ ghost use Rattle.std.specs.Prelude.{◌≡◌, ◌*◌, ◌/◌, ◌<◌, ◌≤
 ghost use Rattle.std.specs.List.{All};
 ghost use Rattle.transpose_order.specs.Place.{IsLaneWidth};
 ghost use Rattle.bit_interleave.specs.PackedWords.{HasWidth};
+ghost use Rattle.bit_interleave.specs.Range.{AreInRange};
 
 use bit_interleave::{
-    LaneWord, Words, pack, pack_at, packed_vectors_are_blocks_of_bytes, packing_undoes_unpacking,
-    step, step_at, unpack, unpack_at, unpacking_undoes_packing, width_of,
+    LaneWord, Values, Words, pack, pack_at, packed_vectors_are_blocks_of_bytes,
+    packing_undoes_unpacking, step, step_at, unpack, unpack_at, unpacking_undoes_packing, width_of,
     words_and_bytes_come_back, wrap, wrap_lanes, wrapping_difference, wrapping_sum,
     wrapping_sum_with,
 };
@@ -470,4 +471,68 @@ fn sums_and_differences_wrap_at_their_width(rt: HostRuntime) {
         ],
         [-32768, -32768, 2147483647, i64::MAX]
     );
+}
+
+/// Values of a lane width are the numbers that they are made of, and are the same as a copy and not as other numbers.
+fn values_hold(
+    rt: &impl Abort,
+    alloc: Global,
+    lane_width: usize,
+    numbers: &[i64; 3],
+    others: &[i64; 3],
+) -> Result<(), Fail>
+    requires lane_width { IsLaneWidth lane_width }
+    requires numbers { AreInRange lane_width numbers.now }
+    requires others { AreInRange lane_width others.now }
+{
+    let values = Values::from_slice(alloc, lane_width, numbers)?;
+    assert_eq!(rt; (values.lane_width(), values.len()), (lane_width, 3));
+    assert_eq!(rt; [values.get(0), values.get(1), values.get(2)], *numbers);
+    assert_eq!(rt; values.in_room(&mut [1; 1024]), numbers.as_slice());
+    let copied = values.copy(alloc)?;
+    assert_eq!(rt; copied.in_room(&mut [1; 1024]), numbers.as_slice());
+    let unlike = Values::from_slice(alloc, lane_width, others)?;
+    assert_eq!(rt;
+        (values.is_same(&copied), values.is_same(&unlike)),
+        (true, false)
+    );
+    Ok(())
+}
+
+// The least and the greatest of each width, and one number changed.
+#[test]
+fn values_are_kept_at_their_width_and_copied(rt: HostRuntime) -> Result<(), Fail> {
+    let alloc = rt.alloc();
+    values_hold(&rt, alloc, 8, &[-128, 0, 127], &[-128, 0, 126])?;
+    values_hold(&rt, alloc, 16, &[-32768, 0, 32767], &[-32768, 1, 32767])?;
+    let least = -0x8000_0000;
+    values_hold(
+        &rt,
+        alloc,
+        32,
+        &[least, 0, 0x7FFF_FFFF],
+        &[-1, 0, 0x7FFF_FFFF],
+    )?;
+    values_hold(&rt, alloc, 64, &[i64::MIN, 0, i64::MAX], &[i64::MIN, 0, -1])
+}
+
+#[test]
+fn values_are_read_at_their_own_types(rt: HostRuntime) -> Result<(), Fail> {
+    let alloc = rt.alloc();
+    let of_8 = Values::from_slice(alloc, 8, &[-128, 127])?;
+    assert_eq!(rt; of_8.values_8(), [-128, 127].as_slice());
+    let of_16 = Values::from_slice(alloc, 16, &[-128, 127])?;
+    assert_eq!(rt; of_16.values_16(), [-128, 127].as_slice());
+    let of_32 = Values::from_slice(alloc, 32, &[-128, 127])?;
+    assert_eq!(rt; of_32.values_32(), [-128, 127].as_slice());
+    let of_64 = Values::from_slice(alloc, 64, &[-128, 127])?;
+    assert_eq!(rt; of_64.values_64(), [-128, 127].as_slice());
+    assert!(rt; !of_8.is_same(&of_16));
+    Ok(())
+}
+
+#[test]
+fn no_numbers_make_no_values(rt: HostRuntime) -> Result<(), Fail> {
+    assert!(rt; Values::from_slice(rt.alloc(), 64, &[])?.is_empty());
+    Ok(())
 }

@@ -11,7 +11,7 @@ ghost use Rattle.frame_delta.specs.Delta.{IsDeltaForm, AreSums, delta_value, del
 use crate::differences::{bases_of, differences_within, fill_first_steps, starts_at_zero};
 use crate::extremes::{Frame, gaps_above, spread_of};
 use crate::pieces::{added, put_four, raised};
-use bit_interleave::{LaneWord, Words, step_at, wrap};
+use bit_interleave::{LaneWord, Values, Words, step_at, wrap};
 use std::alloc::{AllocError, Global};
 use std::marker::Model;
 use std::simd::prelude::*;
@@ -24,40 +24,43 @@ use transpose_order::{place, place_in_word};
 #[derive(Drop)]
 pub struct Delta {
     least: i64,
-    bases: Vec<i64>,
+    bases: Values,
     words: Words,
 }
 
 impl Model for Delta {
+    ghost use Rattle.std.specs.Prelude.{◌≡◌};
     ghost use Rattle.bit_interleave.specs.PackedWords.{packed_width};
     ghost use Rattle.frame_delta.specs.Delta.{DeltaForm, IsDeltaForm};
 
     ghost Value = { DeltaForm };
 
-    ghost view = { λ c. record { lane_width = c.words.lane_width; width = packed_width c.words; least = c.least; bases = c.bases.items; words = c.words } };
+    ghost view = { λ c. record { lane_width = c.words.lane_width; width = packed_width c.words; least = c.least; bases = c.bases.values; words = c.words } };
 
-    ghost invariant = { λ c. IsDeltaForm (record { lane_width = c.words.lane_width; width = packed_width c.words; least = c.least; bases = c.bases.items; words = c.words }) };
+    ghost invariant = { λ c. IsDeltaForm (record { lane_width = c.words.lane_width; width = packed_width c.words; least = c.least; bases = c.bases.values; words = c.words }) × (c.bases.lane_width ≡ c.words.lane_width) };
 }
 
 /// The bits of sixteen bases from place `at` on.
-fn base_bits(bases: &[i64], at: usize) -> Simd<u64, 16>
-    requires { at + 16 ≤ length bases.now }
+fn base_bits(bases: &Values, at: usize) -> Simd<u64, 16>
+    requires at { at < 1024 }
+    requires within { at + 16 ≤ length bases.now.values }
     ensures long { length result ≡ 16 }
-    ensures lanes { (i : ℕ) → i < 16 → slice_index result i ≡ cast_unsigned w64 (value_at bases.now (at + i)) }
+    ensures lanes { (i : ℕ) → i < 16 → slice_index result i ≡ cast_unsigned w64 (value_at bases.now.values (at + i)) }
 {
     let mut numbers = [0; 16];
     for i in 0..16 {
-        numbers[i] = bases[at + i].cast_unsigned();
+        numbers[i] = bases.get(at + i).cast_unsigned();
     }
     Simd::from_array(numbers)
 }
 
 /// The lanes before a step: the bases before step 0, and else the sums so far.
-fn lanes_before(step: usize, sums: Simd<u64, 16>, bases: &[i64], at: usize) -> Simd<u64, 16>
+fn lanes_before(step: usize, sums: Simd<u64, 16>, bases: &Values, at: usize) -> Simd<u64, 16>
     requires sums { length sums ≡ 16 }
-    requires at { at + 16 ≤ length bases.now }
+    requires at { at < 1024 }
+    requires within { at + 16 ≤ length bases.now.values }
     ensures long { length result ≡ 16 }
-    ensures first { step ≡ 0 → (i : ℕ) → i < 16 → slice_index result i ≡ cast_unsigned w64 (value_at bases.now (at + i)) }
+    ensures first { step ≡ 0 → (i : ℕ) → i < 16 → slice_index result i ≡ cast_unsigned w64 (value_at bases.now.values (at + i)) }
     ensures later { step ≢ 0 → result ≡ sums }
 {
     if step != 0 {
@@ -70,15 +73,15 @@ fn lanes_before(step: usize, sums: Simd<u64, 16>, bases: &[i64], at: usize) -> S
 fn write_sums<U: LaneWord>(
     width: usize,
     least: i64,
-    bases: &[i64],
+    bases: &Values,
     words: &[U],
     values: &mut [i64; 1024],
 )
     requires width { width ≤ U.BITS }
-    requires base_count { length bases.now ≡ 1024 / U.BITS }
-    requires bases { AreInRange U.BITS bases.now }
+    requires base_count { length bases.now.values ≡ 1024 / U.BITS }
+    requires bases { AreInRange U.BITS bases.now.values }
     requires words { length words.now ≡ width * (1024 / U.BITS) }
-    ensures values { values.new ≡ delta_values (record { lane_width = U.BITS; width = width; least = least; bases = bases.now; words = record { lane_width = U.BITS; numbers = map U.number words.now } }) }
+    ensures values { values.new ≡ delta_values (record { lane_width = U.BITS; width = width; least = least; bases = bases.now.values; words = record { lane_width = U.BITS; numbers = map U.number words.now } }) }
     ensures fit { AreInRange U.BITS values.new }
 {
     let bits = U::BITS;
@@ -135,25 +138,19 @@ impl Delta {
         })
     }
 
-    /// The vector with these parts: words of `lane_width` bits, `width * (1024 / lane_width)` of them with `width` at most
-    /// `lane_width`, and a least delta and `1024 / lane_width` bases in lane order, all in the range of `lane_width` bits, signed.
-    /// It need not be the least form.
-    pub fn from_parts(
-        lane_width: usize,
-        width: usize,
-        least: i64,
-        bases: Vec<i64>,
-        words: Words,
-    ) -> Self
-        requires lane_width { lane_width ≡ words.lane_width }
+    /// The vector with these parts: words of 8, 16, 32 or 64 bits, `width * lanes` of them for `lanes = 1024 / words.lane_width()`
+    /// with `width` at most the lane width, `lanes` bases in lane order, of the lane width as well, and a least delta in its range,
+    /// signed. It need not be the least form.
+    pub fn from_parts(width: usize, least: i64, bases: Values, words: Words) -> Self
+        requires lanes { bases.lane_width ≡ words.lane_width }
         requires width { HasWidth words width }
-        requires least { FitsSigned (integer_width lane_width) least }
-        requires base_count { length bases.items ≡ 1024 / lane_width }
-        requires bases { AreInRange lane_width bases.items }
-        ensures { result ≡ record { lane_width = lane_width; width = width; least = least; bases = bases.items; words = words } }
+        requires least { FitsSigned (integer_width words.lane_width) least }
+        requires base_count { length bases.values ≡ 1024 / words.lane_width }
+        ensures { result ≡ record { lane_width = words.lane_width; width = width; least = least; bases = bases.values; words = words } }
     {
-        // `len` ensures that the words fit their lanes, which a form's rule names; the width is told by the words.
-        let _ = (lane_width, width, words.len());
+        // `lane_width` ensures that the bases are in range and `len` that the words fit their lanes, which a form's rule names; the
+        // width is told by the words.
+        let _ = (width, bases.lane_width(), words.lane_width(), words.len());
         Delta {
             least,
             bases,
@@ -166,9 +163,8 @@ impl Delta {
         ensures values { values.new ≡ delta_values self.now }
         ensures fit { AreInRange self.now.lane_width values.new }
     {
-        let (least, words) = (self.least, &self.words);
+        let (least, bases, words) = (self.least, &self.bases, &self.words);
         let width = words.packed_width();
-        let bases = self.bases.as_slice();
         match words.lane_width() {
             8 => write_sums(width, least, bases, words.words_8(), values),
             16 => write_sums(width, least, bases, words.words_16(), values),
@@ -187,7 +183,7 @@ impl Delta {
         let (lane, last) = place(lane_width, row);
         let width = self.words.packed_width();
         let least = self.least.cast_unsigned();
-        let mut sum = self.bases[lane].cast_unsigned();
+        let mut sum = self.bases.get(lane).cast_unsigned();
         for step in 0..last + 1 {
             let number = self.words.value(width, lane, step);
             sum = sum.wrapping_add(least).wrapping_add(number);
@@ -207,7 +203,7 @@ impl Delta {
         let lane_width = self.words.lane_width();
         let group = piece / lane_width;
         let step = piece % lane_width;
-        let from = lanes_before(step, before, self.bases.as_slice(), 16 * group);
+        let from = lanes_before(step, before, &self.bases, 16 * group);
         let width = self.words.packed_width();
         let numbers = self.words.step(width, group, step);
         added(raised(from, self.least.cast_unsigned()), numbers)
@@ -255,12 +251,12 @@ impl Delta {
     }
 
     /// The bases in lane order, one a lane of the `1024 / lane_width`, each in the range of the lane width, signed.
-    pub fn bases(&self) -> &[i64]
-        ensures value { result.now ≡ self.now.bases }
-        ensures count { length result.now ≡ 1024 / self.now.lane_width }
-        ensures fit { AreInRange self.now.lane_width result.now }
+    pub fn bases(&self) -> &Values
+        ensures value { result.now ≡ record { lane_width = self.now.lane_width; values = self.now.bases } }
+        ensures count { length self.now.bases ≡ 1024 / self.now.lane_width }
+        ensures fit { AreInRange self.now.lane_width self.now.bases }
     {
-        self.bases.as_slice()
+        &self.bases
     }
 
     /// The packed words, `width * (1024 / lane_width)` of them, each of the lane width.
@@ -282,7 +278,7 @@ impl Delta {
     pub fn copy(&self, alloc: Global) -> Result<Self, AllocError>
         ensures { IfOk result (λ coded. coded ≡ self.now) }
     {
-        let bases = Vec::from_slice(alloc, self.bases.as_slice())?;
+        let bases = self.bases.copy(alloc)?;
         let words = self.words.copy(alloc)?;
         Ok(Delta {
             least: self.least,

@@ -1,12 +1,12 @@
 //! The differences of neighbours within the lanes of a vector. A lane is as many rows one after another as it has bits.
-ghost use Rattle.std.specs.Prelude.{◌≡◌, ℕ, ◌/◌, ◌<◌, ◌-ℤ◌, ◌↔◌, true, false, slice_index, slice_index_or, vec_capacity, IsTrue, IfOk};
+ghost use Rattle.std.specs.Prelude.{◌≡◌, ℕ, ◌/◌, ◌<◌, ◌-ℤ◌, ◌↔◌, true, false, slice_index, slice_index_or, IsTrue, IfOk};
 ghost use Rattle.std.specs.Int.{int_wrap};
 ghost use Rattle.transpose_order.specs.Place.{IsLaneWidth, row_at};
 ghost use Rattle.bit_interleave.specs.Arithmetic.{integer_width};
 ghost use Rattle.bit_interleave.specs.Range.{value_at};
 ghost use Rattle.frame_delta.specs.Delta.{is_later, difference_at, differences_within, bases_of};
 
-use bit_interleave::wrapping_difference;
+use bit_interleave::{Values, wrapping_difference};
 use std::alloc::{AllocError, Global};
 use transpose_order::row_at;
 
@@ -63,23 +63,22 @@ fn base_at(lane_width: usize, least: i64, values: &[i64; 1024], lane: usize) -> 
     wrapping_difference(lane_width, values[row_at(lane_width, lane, 0)], least)
 }
 
-/// Each lane's first value less the least delta, in lane order, with no room to spare.
+/// Each lane's first value less the least delta, in lane order, at the lane width.
 pub(crate) fn bases_of(
     alloc: Global,
     lane_width: usize,
     least: i64,
     values: &[i64; 1024],
-) -> Result<Vec<i64>, AllocError>
+) -> Result<Values, AllocError>
     requires { IsLaneWidth lane_width }
-    ensures items { IfOk result (λ bases. bases.items ≡ bases_of lane_width least values.now) }
-    ensures exact { IfOk result (λ bases. vec_capacity bases ≡ 1024 / lane_width) }
+    ensures { IfOk result (λ bases. bases ≡ record { lane_width = lane_width; values = bases_of lane_width least values.now }) }
 {
     let lanes = 1024 / lane_width;
-    let mut bases = Vec::with_capacity(alloc, lanes)?;
+    let mut bases = [0; 128];
     for lane in 0..lanes {
-        bases.push_reserved(base_at(lane_width, least, values, lane));
+        bases[lane] = base_at(lane_width, least, values, lane);
     }
-    Ok(bases)
+    Values::from_slice(alloc, lane_width, &bases[..lanes])
 }
 
 /// Whether each packed number at step 0 is 0.

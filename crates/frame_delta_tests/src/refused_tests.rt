@@ -1,7 +1,7 @@
 //! Calls that grow, each with a growth refused. A test's own growths are counted from 1: with the Nth refused, a test fails by
 //! an `AllocError` of its set-up, or, where it was a growth of the call that it is of, with the text `REFUSED` or `CHANGED`; with
 //! none refused it passes. The command `tests/refused-memory` refuses each in turn and counts those texts.
-use crate::tests::{Pattern, column};
+use column_patterns::{Pattern, column};
 use frame_delta::{Delta, For};
 use std::alloc::AllocError;
 use std::test::Fail;

@@ -4,42 +4,13 @@ ghost use Rattle.std.specs.List.{All};
 ghost use Rattle.transpose_order.specs.Place.{IsLaneWidth};
 ghost use Rattle.bit_interleave.specs.Range.{AreInRange};
 
-use bit_interleave::{Words, wrap};
+use bit_interleave::{Values, Words};
+use column_patterns::{Pattern, column};
 use frame_delta::{Delta, For};
 use std::alloc::Global;
 use std::process::Abort;
 use std::simd::prelude::*;
 use std::test::Fail;
-
-/// What a test's vector holds: multiples of a step, one number, two in turn, or one up to a row and another from it on.
-#[derive(Clone, Copy)]
-pub(super) enum Pattern {
-    Ramp(u64),
-    All(u64),
-    Alternating(u64, u64),
-    ChangedAt(usize, u64, u64),
-}
-
-fn bits_at(pattern: Pattern, row: usize) -> u64 {
-    match pattern {
-        Pattern::Ramp(step) => step.wrapping_mul(row as u64),
-        Pattern::All(bits) => bits,
-        Pattern::Alternating(even, odd) => { if row % 2 == 0 { even } else { odd } }
-        Pattern::ChangedAt(change, before, after) => { if row < change { before } else { after } }
-    }
-}
-
-/// The vector of a pattern, each value cut to `lane_width` bits.
-pub(super) fn column(lane_width: usize, pattern: Pattern) -> [i64; 1024]
-    requires { IsLaneWidth lane_width }
-    ensures { AreInRange lane_width result }
-{
-    let mut values = [0; 1024];
-    for row in 0..1024 {
-        values[row] = wrap(lane_width, bits_at(pattern, row));
-    }
-    values
-}
 
 /// Words of which the first is a number and the others are 0.
 fn first_then_zeros(first: u64) -> [u64; 64]
@@ -173,14 +144,9 @@ fn bases_stand_in_lane_order(rt: HostRuntime) -> Result<(), Fail> {
     let coded = Delta::encode(rt.alloc(), &column(32, Pattern::Ramp(3)), 32)?;
     assert_eq!(rt; (coded.least(), coded.width()), (3, 0));
     let bases = coded.bases();
-    assert_eq!(rt;
-        (
-            bases.get(0).copied(),
-            bases.get(1).copied(),
-            bases.get(16).copied()
-        ),
-        (Some(-3), Some(189), Some(93))
-    );
+    assert_eq!(rt; bases.lane_width(), 32);
+    assert!(rt; bases.len() == 32);
+    assert_eq!(rt; (bases.get(0), bases.get(1), bases.get(16)), (-3, 189, 93));
     Ok(())
 }
 
@@ -221,7 +187,8 @@ fn delta_of_one_bit(alloc: Global, first: u64) -> Result<Delta, Fail>
     requires { first < 2 ^ 16 }
 {
     let words = Words::from_numbers(alloc, 16, &first_then_zeros(first))?;
-    Ok(Delta::from_parts(16, 1, 2, vec![in alloc; 5; 64]?, words))
+    let bases = Values::from_slice(alloc, 16, &[5; 64])?;
+    Ok(Delta::from_parts(1, 2, bases, words))
 }
 
 // Each lane is 7, 9 and so on up to 37, whose least form needs no bit.

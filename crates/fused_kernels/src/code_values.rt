@@ -42,7 +42,8 @@ pub(crate) fn decode_codes(form: &Dict, rows: &mut [i64; 1024])
     let _ = form.lane_width();
     let width = form.width();
     let words = form.codes().words_16();
-    let values = form.values();
+    let mut room = [0; 1024];
+    let values = form.values().in_room(&mut room);
     for step in 0..16 {
         let codes = numbers_16(width, words, step);
         put_step(values, &codes, step, rows);

@@ -31,7 +31,7 @@ pub(crate) fn greatest_of_codes(form: &Dict, rows: &Mask) -> Option<i64>
         return None;
     }
     let code = walk_of_codes(form).greatest(false, rows);
-    Some(form.values()[usize::from(code)])
+    Some(form.values().get(usize::from(code)))
 }
 
 /// The least value of a mask's rows, none over none. It is that of the least code, since a dictionary's values ascend.
@@ -43,7 +43,7 @@ pub(crate) fn least_of_codes(form: &Dict, rows: &Mask) -> Option<i64>
         return None;
     }
     let code = u16::MAX - walk_of_codes(form).greatest(true, rows);
-    Some(form.values()[usize::from(code)])
+    Some(form.values().get(usize::from(code)))
 }
 
 /// How far the values of a step's codes are above the least of 64 bits, added up where the lane's bit of the step is set.
@@ -71,7 +71,8 @@ fn raised_sum_of_codes(form: &Dict, rows: &Mask) -> u128
     let _ = form.lane_width();
     let width = form.width();
     let words = form.codes().words_16();
-    let values = form.values();
+    let mut room = [0; 1024];
+    let values = form.values().in_room(&mut room);
     let lanes = lanes_of_mask_16(rows);
     let mut sum = 0;
     for step in 0..16 {
@@ -93,7 +94,7 @@ fn are_narrow(form: &Dict) -> bool
 {
     let _ = form.lane_width();
     let values = form.values();
-    LEAST_NARROW <= values[0] && values[values.len() - 1] <= GREATEST_NARROW
+    LEAST_NARROW <= values.get(0) && values.get(values.len() - 1) <= GREATEST_NARROW
 }
 
 /// A value where it is taken, else 0.
@@ -131,7 +132,8 @@ fn narrow_sum_of_codes(form: &Dict, rows: &Mask) -> i64
     let _ = form.lane_width();
     let width = form.width();
     let words = form.codes().words_16();
-    let values = form.values();
+    let mut room = [0; 1024];
+    let values = form.values().in_room(&mut room);
     let lanes = lanes_of_mask_16(rows);
     let mut sum: i64 = 0;
     for step in 0..16 {

@@ -9,6 +9,7 @@ ghost use Rattle.native_lanes.specs.Folds.{fold_to};
 
 use crate::extremes::{greater_if, lesser_if};
 use crate::row_counts::{rows_before_words, rows_below};
+use bit_interleave::Values;
 use native_lanes::times;
 use run_dictionary::Runs;
 use transpose_order::Mask;
@@ -23,34 +24,35 @@ pub(crate) fn sum_of_runs(form: &Runs, rows: &Mask) -> i128
     let mut sum = 0;
     let mut row = 0;
     let mut before = 0;
-    for value in form.values() {
+    let values = form.values();
+    for run in 0..values.len() {
         let end = form.starts().next_true(row + 1);
         let upto = rows_below(words, &before_words, end);
-        sum += times(*value, upto - before);
+        sum += times(values.get(run), upto - before);
         before = upto;
         row = end;
     }
     sum
 }
 
-/// The least of some numbers, and the greatest of 64 bits over none.
-fn least_of_all(numbers: &[i64]) -> i64
-    ensures { result ≡ fold_to int_min (pos (2 ^ 63 - 1)) (length numbers.now) (value_at numbers.now) }
+/// The least of some values, and the greatest of 64 bits over none.
+fn least_of_all(values: &Values) -> i64
+    ensures { result ≡ fold_to int_min (pos (2 ^ 63 - 1)) (length values.now.values) (value_at values.now.values) }
 {
     let mut least = i64::MAX;
-    for number in numbers {
-        least = least.min(*number);
+    for i in 0..values.len() {
+        least = least.min(values.get(i));
     }
     least
 }
 
-/// The greatest of some numbers, and the least of 64 bits over none.
-fn greatest_of_all(numbers: &[i64]) -> i64
-    ensures { result ≡ fold_to int_max (negsuc (2 ^ 63 - 1)) (length numbers.now) (value_at numbers.now) }
+/// The greatest of some values, and the least of 64 bits over none.
+fn greatest_of_all(values: &Values) -> i64
+    ensures { result ≡ fold_to int_max (negsuc (2 ^ 63 - 1)) (length values.now.values) (value_at values.now.values) }
 {
     let mut greatest = i64::MIN;
-    for number in numbers {
-        greatest = greatest.max(*number);
+    for i in 0..values.len() {
+        greatest = greatest.max(values.get(i));
     }
     greatest
 }
@@ -72,10 +74,11 @@ fn least_of_rows(form: &Runs, rows: &Mask) -> Option<i64>
     let mut least = i64::MAX;
     let mut row = 0;
     let mut before = 0;
-    for value in form.values() {
+    let values = form.values();
+    for run in 0..values.len() {
         let end = form.starts().next_true(row + 1);
         let upto = rows_below(words, &before_words, end);
-        least = lesser_if(before < upto, least, *value);
+        least = lesser_if(before < upto, least, values.get(run));
         before = upto;
         row = end;
     }
@@ -95,10 +98,11 @@ fn greatest_of_rows(form: &Runs, rows: &Mask) -> Option<i64>
     let mut greatest = i64::MIN;
     let mut row = 0;
     let mut before = 0;
-    for value in form.values() {
+    let values = form.values();
+    for run in 0..values.len() {
         let end = form.starts().next_true(row + 1);
         let upto = rows_below(words, &before_words, end);
-        greatest = greater_if(before < upto, greatest, *value);
+        greatest = greater_if(before < upto, greatest, values.get(run));
         before = upto;
         row = end;
     }

@@ -7,6 +7,7 @@ ghost use Rattle.run_dictionary.specs.Runs.{run_value};
 ghost use Rattle.fused_kernels.specs.Seen.{between};
 
 use crate::ranges::is_between;
+use bit_interleave::Values;
 use run_dictionary::Runs;
 use transpose_order::Mask;
 
@@ -46,10 +47,15 @@ fn set_run_if(words: &mut [u64; 16], first: usize, end: usize, set: bool)
 }
 
 /// Whether one of some values is neither below `low` nor above `high`.
-fn is_one_between(values: &[i64], low: i64, high: i64) -> bool
-    ensures { result ≡ list_any (between low high) values.now }
+fn is_one_between(values: &Values, low: i64, high: i64) -> bool
+    ensures { result ≡ list_any (between low high) values.now.values }
 {
-    values.iter().any(|value| is_between(low, high, *value))
+    for i in 0..values.len() {
+        if is_between(low, high, values.get(i)) {
+            return true;
+        }
+    }
+    false
 }
 
 /// The rows whose run's value is neither below `low` nor above `high`. Where that is no run's, no row is looked for.
@@ -57,14 +63,15 @@ pub(crate) fn runs_between(form: &Runs, low: i64, high: i64) -> Mask
     ensures { result ≡ rows_of (λ n. between low high (run_value form.now n)) }
 {
     let _ = form.lane_width();
-    if !is_one_between(form.values(), low, high) {
+    let values = form.values();
+    if !is_one_between(values, low, high) {
         return Mask::none();
     }
     let mut found = [0; 16];
     let mut row = 0;
-    for value in form.values() {
+    for run in 0..values.len() {
         let end = form.starts().next_true(row + 1);
-        set_run_if(&mut found, row, end, is_between(low, high, *value));
+        set_run_if(&mut found, row, end, is_between(low, high, values.get(run)));
         row = end;
     }
     Mask::from_words(found)

@@ -2,6 +2,7 @@
 ghost use Rattle.std.specs.Prelude.{◌≡◌, ◌≢◌, ℕ, ◌+◌, ◌-◌, ◌*◌, ◌%◌, ◌<◌, true, length};
 ghost use Rattle.transpose_order.specs.Place.{place_of};
 ghost use Rattle.bit_interleave.specs.Packing.{sixteen_of};
+ghost use Rattle.bit_interleave.specs.Range.{value_at};
 ghost use Rattle.frame_delta.specs.Delta.{delta_value, AreSums};
 ghost use Rattle.run_dictionary.specs.Runs.{run_of, run_value};
 ghost use Rattle.segment_core.specs.Coded.{value_in, IsCodedForm};
@@ -81,6 +82,15 @@ fn run_after(form: &Runs, row: usize, known: bool, before: u64) -> usize
     }
 }
 
+/// The value of a run.
+#[inline(always)]
+fn value_of_run(form: &Runs, run: usize) -> i64
+    requires { run < length form.now.values }
+    ensures { result ≡ value_at form.now.values run }
+{
+    form.values().get(run)
+}
+
 /// A piece of runs. The numbers are those of the runs of the piece before, where it is of the same lanes, and become those of
 /// this piece.
 fn run_piece(form: &Runs, piece: usize, runs: &mut [u64; 16]) -> Simd<i64, 16>
@@ -96,7 +106,7 @@ fn run_piece(form: &Runs, piece: usize, runs: &mut [u64; 16]) -> Simd<i64, 16>
     for i in 0..16 {
         let run = run_after(form, 64 * i + place, known, runs[i]);
         runs[i] = run as u64;
-        values[i] = form.values()[run];
+        values[i] = value_of_run(form, run);
     }
     Simd::from_array(values)
 }

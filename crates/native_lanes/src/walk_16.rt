@@ -4,7 +4,7 @@ ghost use Rattle.std.specs.Int.{bit_at, w16};
 ghost use Rattle.transpose_order.specs.Mask.{has, rows_of};
 ghost use Rattle.transpose_order.specs.Place.{row_at};
 ghost use Rattle.bit_interleave.specs.Packing.{packed_value};
-ghost use Rattle.bit_interleave.specs.Range.{AreInRange, value_at};
+ghost use Rattle.bit_interleave.specs.Range.{value_at};
 ghost use Rattle.frame_delta.specs.Frame.{frame_value};
 ghost use Rattle.frame_delta.specs.Delta.{delta_value};
 ghost use Rattle.table_model.specs.Values.{lesser, greater};
@@ -373,14 +373,13 @@ fn bits(value: i64) -> u16
 }
 
 /// How far each of 64 values of 16 bits is above the least of 16 bits.
-fn all_raised(values: &[i64]) -> [u16; 64]
-    requires count { length values.now ≡ 64 }
-    requires fit { AreInRange 16 values.now }
+fn all_raised(values: &[i16]) -> [u16; 64]
+    requires { length values.now ≡ 64 }
     ensures { (lane : ℕ) → lane < 64 → pos (slice_index result lane) ≡ value_at values.now lane +ℤ pos (2 ^ 15) }
 {
     let mut numbers = [0; 64];
     for lane in 0..64 {
-        numbers[lane] = raised(values[lane]);
+        numbers[lane] = raised(i64::from(values[lane]));
     }
     numbers
 }
@@ -403,7 +402,7 @@ pub(crate) fn walk_of_deltas_16(form: &Delta) -> Walk16<'_>
     ensures { (n : ℕ) → n < 1024 → pos (number_of_row result n) ≡ delta_value form.now n +ℤ pos (2 ^ 15) }
 {
     let _ = form.lane_width();
-    let starts = all_raised(form.bases());
+    let starts = all_raised(form.bases().values_16());
     let added = bits(form.least());
     Walk16::new(form.width(), form.words().words_16(), true, starts, added)
 }

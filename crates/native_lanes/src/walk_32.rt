@@ -4,7 +4,7 @@ ghost use Rattle.std.specs.Int.{bit_at, w32};
 ghost use Rattle.transpose_order.specs.Mask.{has, rows_of};
 ghost use Rattle.transpose_order.specs.Place.{row_at};
 ghost use Rattle.bit_interleave.specs.Packing.{packed_value};
-ghost use Rattle.bit_interleave.specs.Range.{AreInRange, value_at};
+ghost use Rattle.bit_interleave.specs.Range.{value_at};
 ghost use Rattle.frame_delta.specs.Frame.{frame_value};
 ghost use Rattle.frame_delta.specs.Delta.{delta_value};
 ghost use Rattle.table_model.specs.Values.{lesser, greater};
@@ -366,14 +366,13 @@ fn bits(value: i64) -> u32
 }
 
 /// How far each of 32 values of 32 bits is above the least of 32 bits.
-fn all_raised(values: &[i64]) -> [u32; 32]
-    requires count { length values.now ≡ 32 }
-    requires fit { AreInRange 32 values.now }
+fn all_raised(values: &[i32]) -> [u32; 32]
+    requires { length values.now ≡ 32 }
     ensures { (lane : ℕ) → lane < 32 → pos (slice_index result lane) ≡ value_at values.now lane +ℤ pos (2 ^ 31) }
 {
     let mut numbers = [0; 32];
     for lane in 0..32 {
-        numbers[lane] = raised(values[lane]);
+        numbers[lane] = raised(i64::from(values[lane]));
     }
     numbers
 }
@@ -396,7 +395,7 @@ pub(crate) fn walk_of_deltas_32(form: &Delta) -> Walk32<'_>
     ensures { (n : ℕ) → n < 1024 → pos (number_of_row result n) ≡ delta_value form.now n +ℤ pos (2 ^ 31) }
 {
     let _ = form.lane_width();
-    let starts = all_raised(form.bases());
+    let starts = all_raised(form.bases().values_32());
     let added = bits(form.least());
     Walk32::new(form.width(), form.words().words_32(), true, starts, added)
 }

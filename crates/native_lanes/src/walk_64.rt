@@ -4,7 +4,7 @@ ghost use Rattle.std.specs.Int.{bit_at, w64};
 ghost use Rattle.transpose_order.specs.Mask.{has, rows_of};
 ghost use Rattle.transpose_order.specs.Place.{row_at};
 ghost use Rattle.bit_interleave.specs.Packing.{packed_value};
-ghost use Rattle.bit_interleave.specs.Range.{AreInRange, value_at};
+ghost use Rattle.bit_interleave.specs.Range.{value_at};
 ghost use Rattle.frame_delta.specs.Frame.{frame_value};
 ghost use Rattle.frame_delta.specs.Delta.{delta_value};
 ghost use Rattle.table_model.specs.Values.{lesser, greater};
@@ -631,8 +631,7 @@ fn bits(value: i64) -> u64
 
 /// How far each of 16 values of 64 bits is above the least of 64 bits.
 fn all_raised(values: &[i64]) -> [u64; 16]
-    requires count { length values.now ≡ 16 }
-    requires fit { AreInRange 64 values.now }
+    requires { length values.now ≡ 16 }
     ensures { (lane : ℕ) → lane < 16 → pos (slice_index result lane) ≡ value_at values.now lane +ℤ pos (2 ^ 63) }
 {
     let mut numbers = [0; 16];
@@ -660,7 +659,7 @@ pub(crate) fn walk_of_deltas_64(form: &Delta) -> Walk64<'_>
     ensures { (n : ℕ) → n < 1024 → pos (number_of_row result n) ≡ delta_value form.now n +ℤ pos (2 ^ 63) }
 {
     let _ = form.lane_width();
-    let starts = all_raised(form.bases());
+    let starts = all_raised(form.bases().values_64());
     let added = bits(form.least());
     Walk64::new(form.width(), form.words().words_64(), true, starts, added)
 }

@@ -1,8 +1,8 @@
 -- A code is a place among ascending values, so packed and unpacked codes look up the values that they were made of.
-use Rattle.std.proofs.Common.{◌≡◌, ℕ, zero, suc, ◌+◌, ◌-◌, ◌*◌, ◌/◌, ◌%◌, ◌^◌, ◌<◌, ◌≤◌, Bool, true, false, cond, int_lt, int_le, ℤ, pos, FitsSigned, ◌<ℤ◌, ◌≤ℤ◌, ◌↔◌, List, [], ◌∷◌, map, length, take, replicate, get_or, Contains, ◌⊎◌, inl, inr, sym, ap, ◌∙◌, refl, subst, arith}
+use Rattle.std.proofs.Common.{◌≡◌, ℕ, zero, suc, ◌+◌, ◌-◌, ◌*◌, ◌/◌, ◌%◌, ◌^◌, ◌<◌, ◌≤◌, Bool, true, false, cond, int_lt, ℤ, pos, FitsSigned, ◌<ℤ◌, ◌≤ℤ◌, ◌+ℤ◌, ◌↔◌, List, [], ◌∷◌, map, length, take, replicate, get_or, Contains, ◌⊎◌, inl, inr, sym, ap, ◌∙◌, refl, subst, arith}
 use Rattle.std.specs.List.{All}
 use Rattle.std.specs.Ordering.{int_eq, int_cmp, is_eq, ordering_index}
-use Rattle.std.specs.List.Sorted.{IsNonDecreasingBy, IsPartitionedBy, IsPartitionPoint}
+use Rattle.std.specs.List.Sorted.{IsNonDecreasingBy, IsPartitionPoint}
 use Rattle.std.specs.declared.cmp.Ordering.TheVariants.{Less, Equal, Greater}
 use Rattle.std.proofs.lemmas.Int.{ints}
 use Rattle.std.proofs.lemmas.Bool.{cases_lt, false_from_ne_true, false≢true}
@@ -335,7 +335,7 @@ code_at-row_at form lane step h l =
 
 -- ---- the places of a range of values
 -- an earlier value isn't above a later one
-at_most_later : (xs : List ℤ) → IsAscending xs → (i j : ℕ) (d : ℤ) → i ≤ j → j < length xs → get_or xs i d ≤ℤ get_or xs j d
+pub at_most_later : (xs : List ℤ) → IsAscending xs → (i j : ℕ) (d : ℤ) → i ≤ j → j < length xs → get_or xs i d ≤ℤ get_or xs j d
 at_most_later xs h i j d l m = by_order (cases_lt i j)
   where
     at_most : (x y : ℤ) → x <ℤ y → x ≤ℤ y
@@ -350,38 +350,40 @@ at_most_later xs h i j d l m = by_order (cases_lt i j)
         at_most _ _ (subst (λ (z : ℤ). z <ℤ get_or xs j d) (get_or_default xs i (pos 0) d (omega arith))
         (subst (λ (z : ℤ). get_or xs i (pos 0) <ℤ z) (get_or_default xs j (pos 0) d m) (less_at xs (Ascends-from_neighbours xs h) i j g m)))
 
-pub IsPartitionedBy-int_lt : (xs : List ℤ) (low : ℤ) → IsAscending xs → IsPartitionedBy (λ v. int_lt v low) xs
-IsPartitionedBy-int_lt xs low h i j d l m passes = below _ _ _ (at_most_later xs h i j d l m) passes
+-- before a value below a number all are below it
+pub below_before : (xs : List ℤ) (low : ℤ) (middle k : ℕ) → IsAscending xs → middle < length xs → get_or xs middle (pos 0) <ℤ low → k < middle + 1 → get_or xs k (pos 0) <ℤ low
+below_before xs low middle k h m less l = through _ _ low (at_most_later xs h k middle (pos 0) (omega arith) m) less
   where
-    below : (x y low : ℤ) → x ≤ℤ y → int_lt y low ≡ true → int_lt x low ≡ true
-    below x y low l e = test_from_less x low (through_left x y low l (less_from_test y low e))
+    through : (x y low : ℤ) → x ≤ℤ y → y <ℤ low → x <ℤ low
+    through x y low l m = omega (arith, ints)
 
-pub IsPartitionedBy-int_le : (xs : List ℤ) (high : ℤ) → IsAscending xs → IsPartitionedBy (λ v. int_le v high) xs
-IsPartitionedBy-int_le xs high h i j d l m passes = below _ _ _ (at_most_later xs h i j d l m) passes
+-- from a value not below a number on none is
+pub from_there : (xs : List ℤ) (low : ℤ) (middle k : ℕ) → IsAscending xs → low ≤ℤ get_or xs middle (pos 0) → middle ≤ k → k < length xs → low ≤ℤ get_or xs k (pos 0)
+from_there xs low middle k h most l m = through low _ _ most (at_most_later xs h middle k (pos 0) l m)
   where
-    below : (x y high : ℤ) → x ≤ℤ y → int_le y high ≡ true → int_le x high ≡ true
-    below x y high l e = grind (arith, ints)
+    through : (low x y : ℤ) → low ≤ℤ x → x ≤ℤ y → low ≤ℤ y
+    through low x y l m = omega (arith, ints)
 
 pub not_less_from_test : (x low : ℤ) → int_lt x low ≡ false → low ≤ℤ x
 not_less_from_test x low e = grind (arith, ints)
 
-pub at_most_from_test : (x high : ℤ) → int_le x high ≡ true → x ≤ℤ high
-at_most_from_test x high e = grind (arith, ints)
-
-pub not_at_most_from_test : (x high : ℤ) → int_le x high ≡ false → high <ℤ x
-not_at_most_from_test x high e = grind (arith, ints)
-
 -- a value is in a range exactly where its place is between the first place in it and the first above it
 pub place-between : (xs : List ℤ) (low high : ℤ) (first end : ℕ) → ((k : ℕ) → k < first → value_at xs k <ℤ low) → ((k : ℕ) → first ≤ k → k < length xs → low ≤ℤ value_at xs k)
-    → ((k : ℕ) → k < end → value_at xs k ≤ℤ high) → ((k : ℕ) → end ≤ k → k < length xs → high <ℤ value_at xs k) → (k : ℕ) → k < length xs
+    → ((k : ℕ) → k < end → value_at xs k <ℤ (high +ℤ pos 1)) → ((k : ℕ) → end ≤ k → k < length xs → (high +ℤ pos 1) ≤ℤ value_at xs k) → (k : ℕ) → k < length xs
     → ((low ≤ℤ value_at xs k) × (value_at xs k ≤ℤ high)) ↔ ((first ≤ k) × (k < end))
 place-between xs low high first end before from within above k h = (
   λ (l, m). (by_first (cases_lt k first) l, by_end (cases_lt k end) m),
-  λ (l, m). (from k l h, within k m),
+  λ (l, m). (from k l h, at_most (value_at xs k) high (within k m)),
 )
   where
     absurd_at : {X : Type 0} (x y : ℤ) → x <ℤ y → y ≤ℤ x → X
     absurd_at x y l m = absurd (omega (arith, ints))
+
+    at_most : (x y : ℤ) → x <ℤ (y +ℤ pos 1) → x ≤ℤ y
+    at_most x y l = omega (arith, ints)
+
+    past : (x y : ℤ) → (y +ℤ pos 1) ≤ℤ x → y <ℤ x
+    past x y l = omega (arith, ints)
 
     by_first : (k < first) ⊎ (first ≤ k) → low ≤ℤ value_at xs k → first ≤ k
     by_first (inl l) m = absurd_at (value_at xs k) low (before k l) m
@@ -389,7 +391,7 @@ place-between xs low high first end before from within above k h = (
 
     by_end : (k < end) ⊎ (end ≤ k) → value_at xs k ≤ℤ high → k < end
     by_end (inl l) m = l
-    by_end (inr l) m = absurd_at high (value_at xs k) (above k l h) m
+    by_end (inr l) m = absurd_at high (value_at xs k) (past (value_at xs k) high (above k l h)) m
 
 -- the codes of a piece of lanes of 16 bits
 pub codes_in_piece : (form : DictForm) → IsDictForm form → (piece : ℕ) (codes : List ℕ) → piece < 64 → codes ≡ sixteen_of (λ i. packed_value form.codes.lane_width form.width form.codes.numbers (16 * (piece / 16) + i) (piece % 16)) → (i : ℕ) → i < 16 → (64 * i + place_of 16 piece < 1024) × (get_or codes i 0 ≡ code_at form (64 * i + place_of 16 piece))

@@ -8,6 +8,7 @@ ghost use Rattle.bit_interleave.specs.Range.{value_at};
 ghost use Rattle.run_dictionary.specs.Dict.{distinct, IsAscending, code_of};
 
 use crate::run_words::{count_changes, write_changed};
+use bit_interleave::Values;
 use std::simd::prelude::*;
 
 /// Twelve bits mixed from those of a value, by which it is kept in a table.
@@ -125,36 +126,36 @@ pub(crate) fn write_values(dictionary: &[i64], codes: &[u64; 1024], into: &mut [
 }
 
 /// The dictionary's values at sixteen codes.
-pub(crate) fn values_at(dictionary: &[i64], codes: &[u64; 16]) -> Simd<i64, 16>
-    requires { (i : ℕ) → i < 16 → slice_index codes.now i < length dictionary.now }
-    ensures values { result ≡ sixteen_of (λ i. value_at dictionary.now (slice_index codes.now i)) }
+pub(crate) fn values_at(dictionary: &Values, codes: &[u64; 16]) -> Simd<i64, 16>
+    requires { (i : ℕ) → i < 16 → slice_index codes.now i < length dictionary.now.values }
+    ensures values { result ≡ sixteen_of (λ i. value_at dictionary.now.values (slice_index codes.now i)) }
     ensures fit { (i : ℕ) → i < 16 → FitsSigned w64 (value_at result i) }
 {
     let mut values = [0; 16];
     for i in 0..16 {
-        values[i] = dictionary[codes[i] as usize];
+        values[i] = dictionary.get(codes[i] as usize);
     }
     Simd::from_array(values)
 }
 
 /// The first place of a dictionary whose value is not below a number, or the dictionary's length.
-pub(crate) fn first_from(dictionary: &[i64], low: i64) -> usize
-    requires { IsAscending dictionary.now }
-    ensures bound { result ≤ length dictionary.now }
-    ensures before { (k : ℕ) → k < result → value_at dictionary.now k <ℤ low }
-    ensures from { (k : ℕ) → result ≤ k → k < length dictionary.now → low ≤ℤ value_at dictionary.now k }
+pub(crate) fn first_from(dictionary: &Values, low: i128) -> usize
+    requires { IsAscending dictionary.now.values }
+    ensures bound { result ≤ length dictionary.now.values }
+    ensures before { (k : ℕ) → k < result → value_at dictionary.now.values k <ℤ low }
+    ensures from { (k : ℕ) → result ≤ k → k < length dictionary.now.values → low ≤ℤ value_at dictionary.now.values k }
 {
-    dictionary.partition_point(|value| *value < low)
-}
-
-/// The first place of a dictionary whose value is above a number, or the dictionary's length.
-pub(crate) fn first_above(dictionary: &[i64], high: i64) -> usize
-    requires { IsAscending dictionary.now }
-    ensures bound { result ≤ length dictionary.now }
-    ensures before { (k : ℕ) → k < result → value_at dictionary.now k ≤ℤ high }
-    ensures from { (k : ℕ) → result ≤ k → k < length dictionary.now → high <ℤ value_at dictionary.now k }
-{
-    dictionary.partition_point(|value| *value <= high)
+    let mut first = 0;
+    let mut end = dictionary.len();
+    while first < end {
+        let middle = first + (end - first) / 2;
+        if i128::from(dictionary.get(middle)) < low {
+            first = middle + 1;
+        } else {
+            end = middle;
+        }
+    }
+    first
 }
 
 /// Which of the numbers below 1024 are codes of a row.

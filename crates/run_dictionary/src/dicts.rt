@@ -1,5 +1,5 @@
 //! Dictionary coding: the distinct values of a vector, and a packed code for each row.
-ghost use Rattle.std.specs.Prelude.{◌≡◌, ℕ, ◌+◌, ◌*◌, ◌<◌, ◌≤◌, ◌≤ℤ◌, ◌↔◌, IsTrue, IsSome, IfSome, IfOk, length, vec_len, FitsSigned};
+ghost use Rattle.std.specs.Prelude.{◌≡◌, ℕ, ◌+◌, ◌*◌, ◌<◌, ◌≤◌, ◌≤ℤ◌, ◌↔◌, IsTrue, IsSome, IfSome, IfOk, length, FitsSigned};
 ghost use Rattle.transpose_order.specs.Place.{IsLaneWidth, place_of};
 ghost use Rattle.bit_interleave.specs.PackedWords.{HasWidth};
 ghost use Rattle.bit_interleave.specs.Arithmetic.{integer_width};
@@ -8,11 +8,10 @@ ghost use Rattle.bit_interleave.specs.Range.{AreInRange, value_at};
 ghost use Rattle.run_dictionary.specs.Dict.{IsDictForm, IsAscending, AreCodesBelow, code_at, dict_value, dict_values, least_dict, dict_bytes, CodesStandInLanes, LeastDictIsAForm, LeastDictGivesBack, LeastDictIsFewest};
 
 use crate::codes::{
-    all_used, are_below, first_above, first_from, values_at, write_codes, write_distinct,
-    write_values,
+    all_used, are_below, first_from, values_at, write_codes, write_distinct, write_values,
 };
 use crate::counting::{count_distinct_to, most_values, payload_bytes};
-use bit_interleave::{Words, width_of};
+use bit_interleave::{Values, Words, width_of};
 use std::alloc::{AllocError, Global};
 use std::marker::Model;
 use std::simd::prelude::*;
@@ -20,23 +19,23 @@ use transpose_order::place;
 
 /// A vector of 1024 signed integers of 8, 16, 32 or 64 bits as a dictionary of ascending values, and the place of each row's
 /// value in it, packed in lanes of 16 bits whatever the lane width is. It is in the manner of FastLanes (VLDB 2023), of its
-/// section on light-weight encodings; the order of rows and the payload are our own.
+/// section on light-weight encodings; the order of rows and the payload are our own. The width of a code is told by how many
+/// words there are.
 #[derive(Drop)]
 pub struct Dict {
-    lane_width: u8,
-    width: u8,
-    values: Vec<i64>,
+    values: Values,
     codes: Words,
 }
 
 impl Model for Dict {
+    ghost use Rattle.bit_interleave.specs.PackedWords.{packed_width};
     ghost use Rattle.run_dictionary.specs.Dict.{DictForm, IsDictForm};
 
     ghost Value = { DictForm };
 
-    ghost view = { λ d. record { lane_width = d.lane_width; width = d.width; values = d.values.items; codes = d.codes } };
+    ghost view = { λ d. record { lane_width = d.values.lane_width; width = packed_width d.codes; values = d.values.values; codes = d.codes } };
 
-    ghost invariant = { λ d. IsDictForm (record { lane_width = d.lane_width; width = d.width; values = d.values.items; codes = d.codes }) };
+    ghost invariant = { λ d. IsDictForm (record { lane_width = d.values.lane_width; width = packed_width d.codes; values = d.values.values; codes = d.codes }) };
 }
 
 impl Dict {
@@ -81,9 +80,7 @@ impl Dict {
         write_codes(dictionary, values, &mut codes);
         let width = width_of(count as u64 - 1);
         Ok(Dict {
-            lane_width: lane_width as u8,
-            width: width as u8,
-            values: Vec::from_slice(alloc, dictionary)?,
+            values: Values::from_slice(alloc, lane_width, dictionary)?,
             codes: Words::pack(alloc, 16, width, &codes)?,
         })
     }
@@ -99,27 +96,20 @@ impl Dict {
         are_below(&unpacked, count)
     }
 
-    /// The vector with these parts: at most 1024 values, which ascend and are in the range of `lane_width` bits, signed, and
-    /// `64 * width` words of 16 bits of which each row's code is a place among the values. A value may have no row, so it need not
-    /// be the least form.
-    pub fn from_parts(lane_width: usize, width: usize, values: Vec<i64>, codes: Words) -> Self
-        requires lane_width { IsLaneWidth lane_width }
+    /// The vector with these parts: at most 1024 values, which ascend, and `64 * width` words of 16 bits of which each row's code
+    /// is a place among the values. A value may have no row, so it need not be the least form.
+    pub fn from_parts(width: usize, values: Values, codes: Words) -> Self
         requires words { codes.lane_width ≡ 16 }
         requires packed { HasWidth codes width }
-        requires many { vec_len values ≤ 1024 }
-        requires rises { IsAscending values.items }
-        requires codes { AreCodesBelow width codes (vec_len values) }
-        requires fit { AreInRange lane_width values.items }
-        ensures { result ≡ record { lane_width = lane_width; width = width; values = values.items; codes = codes } }
+        requires many { length values.values ≤ 1024 }
+        requires rises { IsAscending values.values }
+        requires codes { AreCodesBelow width codes (length values.values) }
+        ensures { result ≡ record { lane_width = values.lane_width; width = width; values = values.values; codes = codes } }
     {
-        // What the words' numbers are below is in the contract of their calls.
-        let _ = codes.len();
-        Dict {
-            lane_width: lane_width as u8,
-            width: width as u8,
-            values,
-            codes,
-        }
+        // What the words' numbers and the values are below is in the contracts of their calls; the width is told by the words.
+        let _ = (width, codes.len());
+        let _ = values.lane_width();
+        Dict { values, codes }
     }
 
     /// Writes the 1024 values in row order, each in the range of the lane width.
@@ -128,8 +118,9 @@ impl Dict {
         ensures fit { AreInRange self.now.lane_width values.new }
     {
         let mut codes = [0; 1024];
-        self.codes.unpack(self.width as usize, &mut codes);
-        write_values(&self.values, &codes, values);
+        self.codes.unpack(self.codes.packed_width(), &mut codes);
+        let mut room = [0; 1024];
+        write_values(self.values.in_room(&mut room), &codes, values);
     }
 
     /// The value of a row, 0 to 1023, in the range of the lane width.
@@ -139,7 +130,8 @@ impl Dict {
         ensures fits { FitsSigned (integer_width self.now.lane_width) result }
     {
         let (lane, step) = place(16, row);
-        self.values[self.codes.value(self.width as usize, lane, step) as usize]
+        let code = self.codes.value(self.codes.packed_width(), lane, step);
+        self.values.get(code as usize)
     }
 
     /// Sixteen of the values, each in the range of the lane width, for a piece from 0 to 63 of lanes of 16 bits: element i is
@@ -148,7 +140,8 @@ impl Dict {
         requires { piece < 64 }
         ensures { result ≡ sixteen_of (λ i. dict_value self.now (64 * i + place_of 16 piece)) }
     {
-        let codes = self.codes.step(self.width as usize, piece / 16, piece % 16);
+        let width = self.codes.packed_width();
+        let codes = self.codes.step(width, piece / 16, piece % 16);
         values_at(&self.values, &codes.to_array())
     }
 
@@ -162,8 +155,8 @@ impl Dict {
             ↔ ((result.0 ≤ code_at self.now n) × (code_at self.now n < result.1)) }
     {
         (
-            first_from(&self.values, low),
-            first_above(&self.values, high),
+            first_from(&self.values, i128::from(low)),
+            first_from(&self.values, i128::from(high) + 1),
         )
     }
 
@@ -172,9 +165,9 @@ impl Dict {
         ensures { result ≡ dict_bytes self.now }
     {
         payload_bytes(
-            self.lane_width as usize,
+            self.values.lane_width(),
             self.values.len(),
-            self.width as usize,
+            self.codes.packed_width(),
         )
     }
 
@@ -182,10 +175,11 @@ impl Dict {
     pub fn is_least(&self) -> bool
         ensures { IsTrue result ↔ (self.now ≡ least_dict self.now.lane_width (dict_values self.now)) }
     {
+        let width = self.codes.packed_width();
         let mut codes = [0; 1024];
-        self.codes.unpack(self.width as usize, &mut codes);
+        self.codes.unpack(width, &mut codes);
         let count = self.values.len();
-        self.width as usize == width_of(count as u64 - 1) && all_used(&codes, count)
+        width == width_of(count as u64 - 1) && all_used(&codes, count)
     }
 
     /// The same vector in memory of its own. Where memory is refused, an `AllocError`.
@@ -193,9 +187,7 @@ impl Dict {
         ensures { IfOk result (λ coded. coded ≡ self.now) }
     {
         Ok(Dict {
-            lane_width: self.lane_width,
-            width: self.width,
-            values: Vec::from_slice(alloc, &self.values)?,
+            values: self.values.copy(alloc)?,
             codes: self.codes.copy(alloc)?,
         })
     }
@@ -206,7 +198,7 @@ impl Dict {
         ensures lanes { IsLaneWidth result }
         ensures form { IsDictForm self.now }
     {
-        self.lane_width as usize
+        self.values.lane_width()
     }
 
     /// The width of a code in bits, from 0 to 16.
@@ -214,15 +206,15 @@ impl Dict {
         ensures value { result ≡ self.now.width }
         ensures bound { result ≤ 16 }
     {
-        self.width as usize
+        self.codes.packed_width()
     }
 
-    /// The values of the dictionary in ascending order, from 1 to 1024 of them, each in the range of the lane width, signed.
-    pub fn values(&self) -> &[i64]
-        ensures values { result.now ≡ self.now.values }
-        ensures some { 0 < length result.now }
-        ensures many { length result.now ≤ 1024 }
-        ensures fit { AreInRange self.now.lane_width result.now }
+    /// The values of the dictionary in ascending order, from 1 to 1024 of them, each kept at the lane width.
+    pub fn values(&self) -> &Values
+        ensures value { result.now ≡ record { lane_width = self.now.lane_width; values = self.now.values } }
+        ensures some { 0 < length self.now.values }
+        ensures many { length self.now.values ≤ 1024 }
+        ensures fit { AreInRange self.now.lane_width self.now.values }
     {
         &self.values
     }

@@ -1,5 +1,5 @@
 //! Run-length coding: where runs of equal values start, and the value of each.
-ghost use Rattle.std.specs.Prelude.{◌≡◌, ℕ, ◌+◌, ◌<◌, ◌≤◌, ◌↔◌, IsTrue, IfOk, false, List, length, vec_len, FitsSigned};
+ghost use Rattle.std.specs.Prelude.{◌≡◌, ℕ, ◌+◌, ◌<◌, ◌≤◌, ◌↔◌, IsTrue, IfOk, false, List, length, FitsSigned};
 ghost use Rattle.transpose_order.specs.Mask.{has};
 ghost use Rattle.transpose_order.specs.Place.{IsLaneWidth};
 ghost use Rattle.bit_interleave.specs.Arithmetic.{integer_width};
@@ -7,6 +7,7 @@ ghost use Rattle.bit_interleave.specs.Range.{AreInRange};
 ghost use Rattle.run_dictionary.specs.Runs.{IsRunForm, run_of, run_value, run_values, least_runs, run_bytes, LeastRunsAreAForm, LeastRunsGiveBack, LeastRunsAreFewest};
 
 use crate::run_words::{all_differ, changes, count_changes, write_changed, write_rows};
+use bit_interleave::Values;
 use std::alloc::{AllocError, Global};
 use std::marker::Model;
 use transpose_order::Mask;
@@ -16,9 +17,8 @@ use transpose_order::Mask;
 /// the payload, with a mask in row order, is our own.
 #[derive(Drop)]
 pub struct Runs {
-    lane_width: usize,
     starts: Mask,
-    values: Vec<i64>,
+    values: Values,
 }
 
 impl Model for Runs {
@@ -26,9 +26,9 @@ impl Model for Runs {
 
     ghost Value = { RunForm };
 
-    ghost view = { λ r. record { lane_width = r.lane_width; starts = r.starts; values = r.values.items } };
+    ghost view = { λ r. record { lane_width = r.values.lane_width; starts = r.starts; values = r.values.values } };
 
-    ghost invariant = { λ r. IsRunForm (record { lane_width = r.lane_width; starts = r.starts; values = r.values.items }) };
+    ghost invariant = { λ r. IsRunForm (record { lane_width = r.values.lane_width; starts = r.starts; values = r.values.values }) };
 }
 
 impl Runs {
@@ -56,9 +56,8 @@ impl Runs {
         let mut runs = [0; 1024];
         let count = write_changed(values, &mut runs);
         Ok(Runs {
-            lane_width,
             starts: changes(values),
-            values: Vec::from_slice(alloc, &runs[..count])?,
+            values: Values::from_slice(alloc, lane_width, &runs[..count])?,
         })
     }
 
@@ -72,22 +71,16 @@ impl Runs {
     }
 
     /// The vector with these parts: a mask of 1024 rows without row 0, and in the order of their rows a value for row 0 and one
-    /// for each row of the mask, in the range of `lane_width` bits, signed. Neighbouring runs may have one value, so it need not
-    /// be the least form.
-    pub fn from_parts(lane_width: usize, starts: Mask, values: Vec<i64>) -> Self
-        requires lane_width { IsLaneWidth lane_width }
+    /// for each row of the mask. Neighbouring runs may have one value, so it need not be the least form.
+    pub fn from_parts(starts: Mask, values: Values) -> Self
         requires first { has starts 0 ≡ false }
-        requires count { vec_len values ≡ run_of starts 1023 + 1 }
-        requires fit { AreInRange lane_width values.items }
-        ensures { result ≡ record { lane_width = lane_width; starts = starts; values = values.items } }
+        requires count { length values.values ≡ run_of starts 1023 + 1 }
+        ensures { result ≡ record { lane_width = values.lane_width; starts = starts; values = values.values } }
     {
-        // That a mask has 1024 rows is in the contract of its calls.
+        // That a mask has 1024 rows, and that values are in the range of their lane width, is in the contracts of their calls.
         let _ = starts.words();
-        Runs {
-            lane_width,
-            starts,
-            values,
-        }
+        let _ = values.lane_width();
+        Runs { starts, values }
     }
 
     /// Writes the 1024 values in row order, each in the range of the lane width.
@@ -95,7 +88,8 @@ impl Runs {
         ensures values { values.new ≡ run_values self.now }
         ensures fit { AreInRange self.now.lane_width values.new }
     {
-        write_rows(&self.starts, &self.values, values);
+        let mut room = [0; 1024];
+        write_rows(&self.starts, self.values.in_room(&mut room), values);
     }
 
     /// The place among the run values of the run of a row, 0 to 1023.
@@ -113,21 +107,22 @@ impl Runs {
         ensures value { result ≡ run_value self.now row }
         ensures fits { FitsSigned (integer_width self.now.lane_width) result }
     {
-        self.values[self.run_at(row)]
+        self.values.get(self.run_at(row))
     }
 
     /// The payload's bytes: 128 of the mask, and `lane_width / 8` for each run.
     pub fn bytes_len(&self) -> u16
         ensures { result ≡ run_bytes self.now }
     {
-        128 + (self.values.len() * self.lane_width / 8) as u16
+        128 + (self.values.len() * self.values.lane_width() / 8) as u16
     }
 
     /// Whether this is the least form of the values that it decodes to, part for part.
     pub fn is_least(&self) -> bool
         ensures { IsTrue result ↔ (self.now ≡ least_runs self.now.lane_width (run_values self.now)) }
     {
-        all_differ(&self.values)
+        let mut room = [0; 1024];
+        all_differ(self.values.in_room(&mut room))
     }
 
     /// The same vector in memory of its own. Where memory is refused, an `AllocError`.
@@ -135,9 +130,8 @@ impl Runs {
         ensures { IfOk result (λ coded. coded ≡ self.now) }
     {
         Ok(Runs {
-            lane_width: self.lane_width,
             starts: self.starts,
-            values: Vec::from_slice(alloc, &self.values)?,
+            values: self.values.copy(alloc)?,
         })
     }
 
@@ -147,7 +141,7 @@ impl Runs {
         ensures lanes { IsLaneWidth result }
         ensures form { IsRunForm self.now }
     {
-        self.lane_width
+        self.values.lane_width()
     }
 
     /// The rows after row 0 where a run starts.
@@ -157,12 +151,12 @@ impl Runs {
         &self.starts
     }
 
-    /// The values of the runs in order, from 1 to 1024 of them, each in the range of the lane width, signed.
-    pub fn values(&self) -> &[i64]
-        ensures values { result.now ≡ self.now.values }
-        ensures some { 0 < length result.now }
-        ensures many { length result.now ≤ 1024 }
-        ensures fit { AreInRange self.now.lane_width result.now }
+    /// The values of the runs in order, from 1 to 1024 of them, each kept at the lane width.
+    pub fn values(&self) -> &Values
+        ensures value { result.now ≡ record { lane_width = self.now.lane_width; values = self.now.values } }
+        ensures some { 0 < length self.now.values }
+        ensures many { length self.now.values ≤ 1024 }
+        ensures fit { AreInRange self.now.lane_width self.now.values }
     {
         &self.values
     }

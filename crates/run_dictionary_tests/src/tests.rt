@@ -3,42 +3,13 @@ ghost use Rattle.std.specs.Prelude.{◌<◌};
 ghost use Rattle.transpose_order.specs.Place.{IsLaneWidth};
 ghost use Rattle.bit_interleave.specs.Range.{AreInRange};
 
-use bit_interleave::{Words, wrap};
+use bit_interleave::{Values, Words};
+use column_patterns::{Pattern, column};
 use run_dictionary::{Dict, Runs};
 use std::alloc::Global;
 use std::process::Abort;
 use std::test::Fail;
 use transpose_order::Mask;
-
-/// What a test's vector holds: multiples of a step, one number, two in turn, or one up to a row and another from it on.
-#[derive(Clone, Copy)]
-pub(super) enum Pattern {
-    Ramp(u64),
-    All(u64),
-    Alternating(u64, u64),
-    ChangedAt(usize, u64, u64),
-}
-
-fn bits_at(pattern: Pattern, row: usize) -> u64 {
-    match pattern {
-        Pattern::Ramp(step) => step.wrapping_mul(row as u64),
-        Pattern::All(bits) => bits,
-        Pattern::Alternating(even, odd) => { if row % 2 == 0 { even } else { odd } }
-        Pattern::ChangedAt(change, before, after) => { if row < change { before } else { after } }
-    }
-}
-
-/// The vector of a pattern, each value cut to `lane_width` bits.
-pub(super) fn column(lane_width: usize, pattern: Pattern) -> [i64; 1024]
-    requires { IsLaneWidth lane_width }
-    ensures { AreInRange lane_width result }
-{
-    let mut values = [0; 1024];
-    for row in 0..1024 {
-        values[row] = wrap(lane_width, bits_at(pattern, row));
-    }
-    values
-}
 
 /// The runs at 16 bits have 0 up to row 499, and 32767 from row 500 on.
 fn two_runs_part_at_500(rt: &impl Abort, runs: &Runs) {
@@ -57,14 +28,20 @@ fn two_runs_take_a_mask_with_one_start(rt: HostRuntime) -> Result<(), Fail> {
     let mut words = [0; 16];
     words[7] = 1 << 52;
     assert_eq!(rt; runs.starts().words(), &words);
-    assert_eq!(rt; runs.values(), [0, 32767].as_slice());
+    assert_eq!(rt;
+        runs.values().in_room(&mut [0; 1024]),
+        [0, 32767].as_slice()
+    );
     two_runs_part_at_500(&rt, &runs);
     Ok(())
 }
 
 /// The dictionary has 0 at even rows and 32767 at odd ones.
 fn has_alternating_values(rt: &impl Abort, dict: &Dict) {
-    assert_eq!(rt; dict.values(), [0, 32767].as_slice());
+    assert_eq!(rt;
+        dict.values().in_room(&mut [0; 1024]),
+        [0, 32767].as_slice()
+    );
     assert_eq!(rt; (dict.value(0), dict.value(1023)), (0, 32767));
     assert_eq!(rt; dict.piece(1).to_array(), [32767; 16]);
     assert_eq!(rt; dict.places_between(1, 32767), (1, 2));
@@ -98,7 +75,7 @@ fn runs_copy_decodes(
     let copy = runs.copy(alloc)?;
     assert_eq!(rt; copy.lane_width(), runs.lane_width());
     assert_eq!(rt; copy.starts().words(), runs.starts().words());
-    assert_eq!(rt; copy.values(), runs.values());
+    assert!(rt; copy.values().is_same(runs.values()));
     let mut back = [1; 1024];
     copy.decode(&mut back);
     assert_eq!(rt; back.as_slice(), values.as_slice());
@@ -141,7 +118,7 @@ fn dict_copy_decodes(
         (copy.lane_width(), copy.width()),
         (dict.lane_width(), dict.width())
     );
-    assert_eq!(rt; copy.values(), dict.values());
+    assert!(rt; copy.values().is_same(dict.values()));
     assert_eq!(rt; copy.codes().words_16(), dict.codes().words_16());
     let mut back = [1; 1024];
     copy.decode(&mut back);
@@ -239,20 +216,19 @@ fn extreme_values_come_back(rt: HostRuntime) -> Result<(), Fail> {
 }
 
 /// The runs of parts that stood in bytes, where they agree.
-fn read_runs(starts: Mask, values: Vec<i64>) -> Option<Runs>
-    requires { AreInRange 64 values.items }
-{
+fn read_runs(starts: Mask, values: Values) -> Option<Runs> {
     if starts.get(0) || values.len() != Runs::count_for(&starts) {
         return None;
     }
-    Some(Runs::from_parts(64, starts, values))
+    Some(Runs::from_parts(starts, values))
 }
 
 #[test]
 fn neighbouring_runs_may_be_equal(rt: HostRuntime) -> Result<(), Fail> {
     let mut starts = Mask::none();
     starts.set_range(5, 6, true);
-    let runs = read_runs(starts, vec![in rt.alloc(); 7, 7]?).ok_or("parts agree")?;
+    let sevens = Values::from_slice(rt.alloc(), 64, &[7, 7])?;
+    let runs = read_runs(starts, sevens).ok_or("parts agree")?;
     let mut values = [0; 1024];
     runs.decode(&mut values);
     assert_eq!(rt; values, [7; 1024]);
@@ -267,7 +243,8 @@ fn neighbouring_runs_may_be_equal(rt: HostRuntime) -> Result<(), Fail> {
 #[test]
 fn a_dictionary_may_have_a_value_without_a_row(rt: HostRuntime) -> Result<(), Fail> {
     let codes = Words::pack(rt.alloc(), 16, 1, &[0; 1024])?;
-    let dict = Dict::from_parts(64, 1, vec![in rt.alloc(); -4, 9]?, codes);
+    let dictionary = Values::from_slice(rt.alloc(), 64, &[-4, 9])?;
+    let dict = Dict::from_parts(1, dictionary, codes);
     let mut values = [0; 1024];
     dict.decode(&mut values);
     assert_eq!(rt; values, [-4; 1024]);

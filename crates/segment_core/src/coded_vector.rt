@@ -34,12 +34,12 @@ pub struct CodedVector {
 }
 
 /// A vector takes 96 bytes at most beside its words, its bases, its values and its masks: 80 by frame of reference, 64 by runs,
-/// and 96 by deltas or by a dictionary.
+/// 96 by a dictionary, and 96 by deltas beside the 8 of their least delta.
 const _: () = prove!(size_of::<CodedVector>() == 32);
 
 const _: () = prove!(size_of::<CodedVector>() + size_of::<For>() == 80);
 
-const _: () = prove!(size_of::<CodedVector>() + size_of::<Delta>() == 96);
+const _: () = prove!(size_of::<CodedVector>() + size_of::<Delta>() == 96 + size_of::<i64>());
 
 const _: () = prove!(size_of::<CodedVector>() + size_of::<Runs>() == 64 + size_of::<Mask>());
 

@@ -4,11 +4,10 @@ ghost use Rattle.std.specs.List.{All};
 ghost use Rattle.transpose_order.specs.Place.{IsLaneWidth};
 ghost use Rattle.bit_interleave.specs.Arithmetic.{integer_width};
 ghost use Rattle.bit_interleave.specs.PackedWords.{HasWidth};
-ghost use Rattle.bit_interleave.specs.Range.{AreInRange};
 ghost use Rattle.segment_core.specs.Format.{Format, Reads, number, signed, all};
 ghost use Rattle.segment_core.specs.VectorBytes.{words};
 
-use bit_interleave::{Words, wrap};
+use bit_interleave::{Values, Words, wrap};
 use byteorder::{ByteOrder, LittleEndian};
 use std::alloc::Global;
 use table_model::Refusal;
@@ -76,26 +75,27 @@ pub(crate) fn read_words(
     Ok((Words::from_le_bytes(alloc, lane_width, front)?, rest))
 }
 
-/// So many values of `lane_width` bits, 8, 16, 32 or 64, at the front of what is left of an input of `total` bytes, and what
-/// stands after them. `Truncated` where there are fewer bytes.
+/// So many values of `lane_width` bits, 8, 16, 32 or 64, at most 1024, at the front of what is left of an input of `total` bytes,
+/// and what stands after them. `Truncated` where there are fewer bytes.
 pub(crate) fn read_values(
     alloc: Global,
     total: usize,
     bytes: &[u8],
     lane_width: usize,
     count: usize,
-) -> Result<(Vec<i64>, &[u8]), Refusal>
-    requires { IsLaneWidth lane_width }
-    ensures read { Reads (λ x. (x.0.items, x.1.now)) result ((all count (λ _. signed lane_width)).read total bytes.now) }
-    ensures count { IfOk result (λ x. length x.0.items ≡ count) }
-    ensures fit { IfOk result (λ x. AreInRange lane_width x.0.items) }
+) -> Result<(Values, &[u8]), Refusal>
+    requires lane_width { IsLaneWidth lane_width }
+    requires many { count ≤ 1024 }
+    ensures read { Reads (λ x. (x.0.values, x.1.now)) result ((all count (λ _. signed lane_width)).read total bytes.now) }
+    ensures count { IfOk result (λ x. length x.0.values ≡ count) }
+    ensures lanes { IfOk result (λ x. x.0.lane_width ≡ lane_width) }
 {
-    let mut values = Vec::new(alloc);
+    let mut room = [0; 1024];
     let mut rest = bytes;
-    for _ in 0..count {
+    for i in 0..count {
         let (value, after) = read_value(total, rest, lane_width)?;
-        values.push(value)?;
+        room[i] = value;
         rest = after;
     }
-    Ok((values, rest))
+    Ok((Values::from_slice(alloc, lane_width, &room[..count])?, rest))
 }

@@ -27,4 +27,4 @@ pub use coded_vector::CodedVector;
 pub use coding::Coding;
 pub use formats::{place_of, read_number};
 pub use segment::{Segment, forms_tell_rows};
-pub use writing::{write_number, write_value, write_values, write_whole};
+pub use writing::{write_number, write_value, write_whole};

@@ -54,7 +54,7 @@ fn same_deltas(form: &Delta, other: &Delta) -> bool
     form.lane_width() == other.lane_width()
         && form.width() == other.width()
         && form.least() == other.least()
-        && same_values(form.bases(), other.bases())
+        && form.bases().is_same(other.bases())
         && same_words(form.words(), other.words())
 }
 
@@ -64,7 +64,7 @@ fn same_runs(form: &Runs, other: &Runs) -> bool
 {
     form.lane_width() == other.lane_width()
         && same_mask(form.starts(), other.starts())
-        && same_values(form.values(), other.values())
+        && form.values().is_same(other.values())
 }
 
 /// Whether two forms of DICT are the same.
@@ -73,7 +73,7 @@ fn same_dictionary(form: &Dict, other: &Dict) -> bool
 {
     form.lane_width() == other.lane_width()
         && form.width() == other.width()
-        && same_values(form.values(), other.values())
+        && form.values().is_same(other.values())
         && same_words(form.codes(), other.codes())
 }
 

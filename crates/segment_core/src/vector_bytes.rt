@@ -3,7 +3,6 @@ ghost use Rattle.std.specs.Prelude.{◌≡◌, ℕ, ◌+◌, ◌-◌, ◌≤◌,
 ghost use Rattle.transpose_order.specs.Mask.{has};
 ghost use Rattle.transpose_order.specs.Place.{IsLaneWidth};
 ghost use Rattle.bit_interleave.specs.PackedWords.{HasWidth};
-ghost use Rattle.bit_interleave.specs.Range.{AreInRange};
 ghost use Rattle.run_dictionary.specs.Runs.{run_of};
 ghost use Rattle.run_dictionary.specs.Dict.{AreCodesBelow, IsAscending};
 ghost use Rattle.segment_core.specs.Coded.{lane_width_of};
@@ -16,7 +15,7 @@ use crate::coded::Coded;
 use crate::coded_vector::CodedVector;
 use crate::coding::Coding;
 use crate::formats::{place_of, read_number, read_value, read_values, read_words};
-use bit_interleave::Words;
+use bit_interleave::{Values, Words};
 use frame_delta::{Delta, For};
 use run_dictionary::{Dict, Runs};
 use std::alloc::Global;
@@ -214,10 +213,7 @@ fn read_deltas(
     let (least, rest) = read_value(total, bytes, lane_width)?;
     let (bases, rest) = read_values(alloc, total, rest, lane_width, 1024 / lane_width)?;
     let (words, rest) = read_words(alloc, total, rest, lane_width, width)?;
-    Ok((
-        Delta::from_parts(lane_width, width, least, bases, words),
-        rest,
-    ))
+    Ok((Delta::from_parts(width, least, bases, words), rest))
 }
 
 /// The start mask of so many runs at the front.
@@ -247,13 +243,14 @@ fn read_runs(
     lane_width: usize,
     count: usize,
 ) -> Result<(Runs, &[u8]), Refusal>
-    requires { IsLaneWidth lane_width }
+    requires lane_width { IsLaneWidth lane_width }
+    requires many { count ≤ 1024 }
     ensures read { Reads (λ x. (x.0, x.1.now)) result ((runs lane_width count).read total bytes.now) }
     ensures lanes { IfOk result (λ x. x.0.lane_width ≡ lane_width) }
 {
     let starts = read_starts(total, bytes, count)?;
     let (values, rest) = read_values(alloc, total, after_mask(bytes), lane_width, count)?;
-    Ok((Runs::from_parts(lane_width, starts, values), rest))
+    Ok((Runs::from_parts(starts, values), rest))
 }
 
 /// Whether a value is greater than the last of those before it, if there is one.
@@ -263,7 +260,7 @@ fn rises_after(front: &[i64], value: i64) -> bool
     front.is_empty() || front[front.len() - 1] < value
 }
 
-/// The values of a dictionary at the front, and what stands after them.
+/// The values of a dictionary, at most 1024, at the front, and what stands after them.
 #[tactic(auto, unfolding(crate::specs::VectorBytes::dictionary))]
 fn read_dictionary(
     alloc: Global,
@@ -271,24 +268,25 @@ fn read_dictionary(
     bytes: &[u8],
     lane_width: usize,
     count: usize,
-) -> Result<(Vec<i64>, &[u8]), Refusal>
-    requires { IsLaneWidth lane_width }
-    ensures read { Reads (λ x. (x.0.items, x.1.now)) result ((dictionary lane_width count).read total bytes.now) }
-    ensures count { IfOk result (λ x. length x.0.items ≡ count) }
-    ensures rises { IfOk result (λ x. IsAscending x.0.items) }
-    ensures fit { IfOk result (λ x. AreInRange lane_width x.0.items) }
+) -> Result<(Values, &[u8]), Refusal>
+    requires lane_width { IsLaneWidth lane_width }
+    requires many { count ≤ 1024 }
+    ensures read { Reads (λ x. (x.0.values, x.1.now)) result ((dictionary lane_width count).read total bytes.now) }
+    ensures count { IfOk result (λ x. length x.0.values ≡ count) }
+    ensures rises { IfOk result (λ x. IsAscending x.0.values) }
+    ensures lanes { IfOk result (λ x. x.0.lane_width ≡ lane_width) }
 {
-    let mut values = Vec::new(alloc);
+    let mut room = [0; 1024];
     let mut rest = bytes;
-    for _ in 0..count {
+    for i in 0..count {
         let (value, after) = read_value(total, rest, lane_width)?;
-        if !rises_after(values.as_slice(), value) {
+        if !rises_after(&room[..i], value) {
             return Err(Refusal::BadDictionary(place_of(total, rest)));
         }
-        values.push(value)?;
+        room[i] = value;
         rest = after;
     }
-    Ok((values, rest))
+    Ok((Values::from_slice(alloc, lane_width, &room[..count])?, rest))
 }
 
 /// Whether the code of each of 1024 rows is below a count.
@@ -341,7 +339,7 @@ fn read_dict(
 {
     let (values, rest) = read_dictionary(alloc, total, bytes, lane_width, count)?;
     let (codes, rest) = read_codes(alloc, total, rest, width, count)?;
-    Ok((Dict::from_parts(lane_width, width, values, codes), rest))
+    Ok((Dict::from_parts(width, values, codes), rest))
 }
 
 /// The payload after a header at the front, and what stands after it.

@@ -59,7 +59,7 @@ fn write_deltas<W: Write>(writer: &mut Counted<W>, form: &Delta) -> Result<(), R
 {
     let lane_width = form.lane_width();
     write_value(writer, form.least(), lane_width)?;
-    write_values(writer, form.bases(), lane_width)?;
+    write_values(writer, form.bases())?;
     write_words(writer, form.words(), form.width())
 }
 
@@ -69,7 +69,7 @@ fn write_runs<W: Write>(writer: &mut Counted<W>, form: &Runs) -> Result<(), Refu
         ((runs form.now.lane_width (length form.now.values)).spell form.now) }
 {
     write_mask(writer, form.starts())?;
-    write_values(writer, form.values(), form.lane_width())
+    write_values(writer, form.values())
 }
 
 /// Writes the payload of DICT.
@@ -77,7 +77,9 @@ fn write_dict<W: Write>(writer: &mut Counted<W>, form: &Dict) -> Result<(), Refu
     ensures { Writes result (W.contents writer.old.0) (W.contents writer.new.0) writer.old.1 writer.new.1
         ((dict form.now.lane_width form.now.width (length form.now.values)).spell form.now) }
 {
-    write_values(writer, form.values(), form.lane_width())?;
+    // `lane_width` ensures that codes stand in lanes of 16 bits.
+    let _lane_width = form.lane_width();
+    write_values(writer, form.values())?;
     write_words(writer, form.codes(), form.width())
 }
 

@@ -3,11 +3,10 @@ ghost use Rattle.std.specs.Prelude.{◌≡◌, ℕ, ◌*◌, ◌/◌, ◌^◌, �
 ghost use Rattle.transpose_order.specs.Place.{IsLaneWidth};
 ghost use Rattle.bit_interleave.specs.Arithmetic.{integer_width};
 ghost use Rattle.bit_interleave.specs.PackedWords.{FitLanes, HasWidth};
-ghost use Rattle.bit_interleave.specs.Range.{AreInRange};
 ghost use Rattle.segment_core.specs.Format.{Format, Writes, number, signed, all};
 ghost use Rattle.segment_core.specs.VectorBytes.{mask, words};
 
-use bit_interleave::Words;
+use bit_interleave::{Values, Words};
 use byteorder::{ByteOrder, LittleEndian};
 use std::io::Write;
 use table_model::{Counted, Refusal};
@@ -50,19 +49,17 @@ pub fn write_value<W: Write>(
     write_whole(writer, &bytes[..lane_width / 8])
 }
 
-/// Writes values of `lane_width` bits, 8, 16, 32 or 64, in order.
-pub fn write_values<W: Write>(
+/// Writes values in order, each in as many bytes as the lane width has.
+pub(crate) fn write_values<W: Write>(
     writer: &mut Counted<W>,
-    values: &[i64],
-    lane_width: usize,
+    values: &Values,
 ) -> Result<(), Refusal>
-    requires lane_width { IsLaneWidth lane_width }
-    requires fit { AreInRange lane_width values.now }
     ensures { Writes result (W.contents writer.old.0) (W.contents writer.new.0) writer.old.1 writer.new.1
-        ((all (length values.now) (λ _. signed lane_width)).spell values.now) }
+        ((all (length values.now.values) (λ _. signed values.now.lane_width)).spell values.now.values) }
 {
-    for value in values {
-        write_value(writer, *value, lane_width)?;
+    let lane_width = values.lane_width();
+    for i in 0..values.len() {
+        write_value(writer, values.get(i), lane_width)?;
     }
     Ok(())
 }

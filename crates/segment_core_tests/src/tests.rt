@@ -120,10 +120,14 @@ pub(super) fn rows_with(alloc: Global, cells: &[Option<i128>]) -> Result<Vec<Row
     Ok(rows)
 }
 
-/// The values of a vector that is in runs, and the first word of the mask of the rows at which a run starts.
-fn runs_of(vector: &CodedVector) -> Option<(&[i64], u64)> {
+/// The first and the last value of a vector that is in runs, and the first word of the mask of the rows at which a run starts.
+fn runs_of(vector: &CodedVector) -> Option<(i64, i64, u64)> {
     match vector.coded() {
-        Coded::Runs(runs) => Some((runs.get().values(), runs.get().starts().words()[0])),
+        Coded::Runs(runs) => {
+            let values = runs.get().values();
+            let starts = runs.get().starts().words()[0];
+            Some((values.get(0), values.get(values.len() - 1), starts))
+        }
         _ => None,
     }
 }
@@ -146,7 +150,7 @@ fn a_null_takes_the_value_before_it(rt: HostRuntime) -> Result<(), Fail> {
     assert_eq!(rt; seen(&rt, &segment), (1, 1, Coding::Runs, 132));
     let vector = first(&rt, &segment);
     assert!(rt; vector.null_rows().get(1));
-    assert!(rt; runs_of(vector) == Some(([1, 3].as_slice(), 4)));
+    assert!(rt; runs_of(vector) == Some((1, 3, 4)));
     assert_eq!(rt; three_values(&rt, &segment), [Some(1), None, Some(3)]);
     Ok(())
 }

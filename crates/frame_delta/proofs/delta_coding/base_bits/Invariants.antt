@@ -7,5 +7,5 @@ use Rattle.frame_delta.proofs.delta_coding.base_bits.Given as goal
 abbrev pub invariant-loop-i : goal.invariant-loop-i
 invariant-loop-i l = record {
   long : length l.numbers ≡ 16;
-  done : (k : ℕ) → k < l.i → slice_index l.numbers k ≡ cast_unsigned w64 (value_at l.bases (l.at + k));
+  done : (k : ℕ) → k < l.i → slice_index l.numbers k ≡ cast_unsigned w64 (value_at l.bases.values (l.at + k));
 }

@@ -22,7 +22,7 @@ loop-block-preserved g c =
     let r = to_z w64 (of_z w64 c.args.least) in
     let w = c.args.width in
     let words = map g.U.LaneWord.number c.args.words.now in
-    let bases : List ℤ = c.args.bases.now in
+    let bases : List ℤ = c.args.bases.now.values in
     let width : IsLaneWidth t = subst IsLaneWidth (sym c.BITS-bits.ensures) g.met.U.LaneWord.is_lane_width in
     let f : ℕ → ℕ → ℤ = λ l s. r +ℤ pos (packed_value t w words l s) in
     let value : ℕ → ℕ → ℤ = λ l s. int_wrap (integer_width t) (value_at bases l +ℤ sum_to (suc s) (f l)) in
@@ -109,7 +109,7 @@ returns-clause-values g c =
     let r = to_z w64 (of_z w64 c.args.least) in
     let w = c.args.width in
     let words = map g.U.LaneWord.number c.args.words.now in
-    let bases = c.args.bases.now in
+    let bases = c.args.bases.now.values in
     let width : IsLaneWidth t = subst IsLaneWidth (sym c.BITS-bits.ensures) g.met.U.LaneWord.is_lane_width in
     let form : ℕ → ℤ → DeltaForm = λ n z. record { lane_width = n; width = w; least = z; bases = bases; words = record { lane_width = n; numbers = words } } in
     rows_from_pieces t (λ l s. int_wrap (integer_width t) (value_at bases l +ℤ sum_to (suc s) (λ k. r +ℤ pos (packed_value t w words l k)))) c.loop-block.values width c.loop-block.invariant.long
@@ -119,5 +119,5 @@ returns-clause-values g c =
 
 pub returns-clause-fit : goal.returns-clause-fit
 returns-clause-fit g c =
-    let form : DeltaForm = record { lane_width = g.U.LaneWord.BITS; width = c.args.width; least = c.args.least; bases = c.args.bases.now; words = record { lane_width = g.U.LaneWord.BITS; numbers = map g.U.LaneWord.number c.args.words.now } } in
+    let form : DeltaForm = record { lane_width = g.U.LaneWord.BITS; width = c.args.width; least = c.args.least; bases = c.args.bases.now.values; words = record { lane_width = g.U.LaneWord.BITS; numbers = map g.U.LaneWord.number c.args.words.now } } in
     subst (λ (xs : List ℤ). AreInRange g.U.LaneWord.BITS xs) (sym (returns-clause-values g c)) (AreInRange-delta_values form)

@@ -4,6 +4,7 @@ use Rattle.transpose_order.specs.Place.{lane_of}
 use Rattle.transpose_order.specs.MaskWords.{rows_of-same}
 use Rattle.transpose_order.proofs.PlaceLemmas.{row_at-lane_of}
 use Rattle.bit_interleave.specs.Packing.{packed_value}
+use Rattle.bit_interleave.specs.LaneValues.{LaneValues}
 use Rattle.bit_interleave.specs.PackedWords.{PackedWords}
 use Rattle.bit_interleave.specs.Range.{value_at}
 use Rattle.run_dictionary.specs.Dict.{DictForm, IsDictForm, code_at, dict_value, dict_values}
@@ -28,7 +29,7 @@ put_step-requires-clause-codes c = λ lane h.
     ∙ sym (code_at-row_at form lane step h c.loop-step-test.true) in
     let inside = (lane_of-row_at 16 lane step (inr (inl refl)) h c.loop-step-test.true).0 in
     let below = is.codes (row_at 16 lane step) inside in
-    let many : length c.values-values.result.now ≡ length form.values = ap (λ (xs : List ℤ). length xs) c.values-values.ensures.values in
+    let many : length c.in_room-values.result.now ≡ length form.values = ap (λ (xs : List ℤ). length xs) (c.in_room-values.ensures.values ∙ ap (λ (x : LaneValues). x.values) c.values.ensures.value) in
     omega (arith, code, below, many)
 
 pub loop-step-preserved : goal.loop-step-preserved
@@ -36,7 +37,7 @@ loop-step-preserved c =
     let form : DictForm = c.args.form.now in
     let step = c.loop-step.step in
     let codes = c.numbers_16-codes.result in
-    let values = c.values-values.result.now in
+    let values = c.in_room-values.result.now in
     let code : (n : ℕ) → n < 1024 → n % 16 ≡ step → slice_index codes (lane_of 16 n) ≡ code_at form n =
     (λ n h e.
     c.numbers_16-codes.ensures (lane_of 16 n) (row_at-lane_of 16 n (inr (inl refl)) h).0
@@ -49,7 +50,7 @@ loop-step-preserved c =
       written = λ n h l.
           below_more (λ k. n % 16 ≡ k → value_at c.put_step.new.rows n ≡ dict_value form n) step
           (λ k before e. c.put_step.ensures.others n (λ (same : n % 16 ≡ step). omega (arith, before, e, same)) ∙ c.loop-step.invariant.written n h (omega (arith, before, e)))
-          (λ e. c.put_step.ensures.written n h e ∙ ap (λ (k : ℕ). value_at values k) (code n h e) ∙ ap (λ (xs : List ℤ). value_at xs (code_at form n)) c.values-values.ensures.values)
+          (λ e. c.put_step.ensures.written n h e ∙ ap (λ (k : ℕ). value_at values k) (code n h e) ∙ ap (λ (xs : List ℤ). value_at xs (code_at form n)) (c.in_room-values.ensures.values ∙ ap (λ (x : LaneValues). x.values) c.values.ensures.value))
           (n % 16) l refl;
     }
 

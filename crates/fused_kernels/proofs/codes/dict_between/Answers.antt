@@ -1,8 +1,9 @@
 -- The values in the range are those of the codes from the first place up to the end.
-use Rattle.std.proofs.Common.{◌≡◌, ℕ, ◌<◌, ◌&&◌, ◌-◌, nat_le, true, false, List, ℤ, length, to_z, of_z, sym, ap, ◌∙◌, subst, arith}
+use Rattle.std.proofs.Common.{◌≡◌, ℕ, ◌<◌, ◌&&◌, ◌-◌, nat_le, true, false, List, length, to_z, of_z, sym, ap, ◌∙◌, subst, arith}
 use Rattle.std.specs.Int.{w64}
 use Rattle.transpose_order.specs.Place.{lane_of, step_of}
 use Rattle.transpose_order.specs.MaskWords.{rows_of-like}
+use Rattle.bit_interleave.specs.LaneValues.{LaneValues}
 use Rattle.bit_interleave.specs.Packing.{packed_value}
 use Rattle.bit_interleave.specs.PackedWords.{PackedWords}
 use Rattle.run_dictionary.specs.Dict.{dict_value, code_at}
@@ -20,12 +21,12 @@ returns-then-end-first c =
     ∙ rows_of-like (λ _. false) (λ n. between c.args.low c.args.high (dict_value form n))
     (λ n h. sym (sym (passed_between c.args.low c.args.high (dict_value form n) c.ranges.low c.ranges.high) ∙ no_code low high (dict_value form n) c.places_between-first.result.0 c.places_between-first.result.1 (code_at form n) c.if-end-first.true (c.places_between-first.ensures.rows n h)))
 
-pub returns-then-end-values : goal.returns-then-end-values
-returns-then-end-values c =
+pub returns-then-end-len : goal.returns-then-end-len
+returns-then-end-len c =
     let form = c.args.form.now in
     let low = to_z w64 (of_z w64 c.args.low) in
     let high = to_z w64 (of_z w64 c.args.high) in
-    let end : c.places_between-first.result.1 ≡ length form.values = c.if-end-values.true ∙ ap (λ (xs : List ℤ). length xs) c.values.ensures.values in
+    let end : c.places_between-first.result.1 ≡ length form.values = c.if-end-len.true ∙ c.len.ensures ∙ ap (λ (x : LaneValues). length x.values) c.values.ensures.value in
     c.all.ensures
     ∙ rows_of-like (λ _. true) (λ n. between c.args.low c.args.high (dict_value form n))
     (λ n h.

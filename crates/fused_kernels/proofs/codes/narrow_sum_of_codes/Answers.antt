@@ -4,6 +4,7 @@ use Rattle.std.specs.Int.{bit_at, w64}
 use Rattle.std.proofs.lemmas.Int.{ints}
 use Rattle.transpose_order.specs.Mask.{has}
 use Rattle.transpose_order.specs.Place.{row_at}
+use Rattle.bit_interleave.specs.LaneValues.{LaneValues}
 use Rattle.bit_interleave.specs.PackedWords.{PackedWords}
 use Rattle.bit_interleave.specs.Range.{AreInRange, value_at}
 use Rattle.run_dictionary.specs.Dict.{DictForm, code_at, dict_value}
@@ -26,17 +27,17 @@ pub narrow_sum_of_step-sum-requires-clause-codes : goal.narrow_sum_of_step-sum-r
 narrow_sum_of_step-sum-requires-clause-codes c = λ lane h.
     let form : DictForm = c.args.form.now in
     let code = number_is_code form c.width-width.result c.words_16-words.result.now (slice_index c.numbers_16-codes.result lane) lane c.loop-step.step h c.loop-step-test.true (c.numbers_16-codes.ensures lane h) c.width-width.ensures.value (c.words_16-words.ensures ∙ ap (λ (x : PackedWords). x.numbers) c.codes.ensures.words) in
-    subst (λ (xs : List ℤ). slice_index c.numbers_16-codes.result lane < length xs) (sym c.values-values.ensures.values) (number_below form (slice_index c.numbers_16-codes.result lane) lane c.loop-step.step c.lane_width.ensures.form h c.loop-step-test.true code)
+    subst (λ (xs : List ℤ). slice_index c.numbers_16-codes.result lane < length xs) (sym (c.in_room-values.ensures.values ∙ ap (λ (x : LaneValues). x.values) c.values.ensures.value)) (number_below form (slice_index c.numbers_16-codes.result lane) lane c.loop-step.step c.lane_width.ensures.form h c.loop-step-test.true code)
 
 pub narrow_sum_of_step-sum-requires-clause-narrow : goal.narrow_sum_of_step-sum-requires-clause-narrow
-narrow_sum_of_step-sum-requires-clause-narrow c = subst (λ (xs : List ℤ). AreInRange 32 xs) (sym c.values-values.ensures.values) c.requires
+narrow_sum_of_step-sum-requires-clause-narrow c = subst (λ (xs : List ℤ). AreInRange 32 xs) (sym (c.in_room-values.ensures.values ∙ ap (λ (x : LaneValues). x.values) c.values.ensures.value)) c.requires
 
 pub loop-step-preserved : goal.loop-step-preserved
 loop-step-preserved c =
     let form : DictForm = c.args.form.now in
     let rows = c.args.rows.now in
     let step = c.loop-step.step in
-    let values = c.values-values.result.now in
+    let values = c.in_room-values.result.now in
     let lanes = c.lanes_of_mask_16-lanes.result in
     let codes = c.numbers_16-codes.result in
     let one : c.narrow_sum_of_step-sum.result ≡ fold_to ◌+ℤ◌ (pos 0) 64 (λ lane. term_of form rows (row_at 16 lane step)) =
@@ -45,7 +46,7 @@ loop-step-preserved c =
     (λ lane h.
     ap (λ (b : Bool). cond b (value_at values (slice_index codes lane)) (pos 0)) (c.lanes_of_mask_16-lanes.ensures lane step h c.loop-step-test.true)
     ∙ ap (λ (k : ℕ). cond (has rows (row_at 16 lane step)) (value_at values k) (pos 0)) (number_is_code form c.width-width.result c.words_16-words.result.now (slice_index codes lane) lane step h c.loop-step-test.true (c.numbers_16-codes.ensures lane h) c.width-width.ensures.value (c.words_16-words.ensures ∙ ap (λ (x : PackedWords). x.numbers) c.codes.ensures.words))
-    ∙ ap (λ (xs : List ℤ). cond (has rows (row_at 16 lane step)) (value_at xs (code_at form (row_at 16 lane step))) (pos 0)) c.values-values.ensures.values) in
+    ∙ ap (λ (xs : List ℤ). cond (has rows (row_at 16 lane step)) (value_at xs (code_at form (row_at 16 lane step))) (pos 0)) (c.in_room-values.ensures.values ∙ ap (λ (x : LaneValues). x.values) c.values.ensures.value)) in
     let steps : ℕ → ℤ = λ s. fold_to ◌+ℤ◌ (pos 0) 64 (λ lane. term_of form rows (row_at 16 lane s)) in
     let sum = c.narrow_sum_of_step-sum in
     let before : ℤ = to_z w64 c.loop-step.sum-bits in

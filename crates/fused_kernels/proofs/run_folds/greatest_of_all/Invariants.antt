@@ -5,5 +5,5 @@ use Rattle.bit_interleave.specs.Range.{value_at}
 use Rattle.native_lanes.specs.Folds.{fold_to}
 use Rattle.fused_kernels.proofs.run_folds.greatest_of_all.Given as goal
 
-abbrev pub invariant-loop-number : goal.invariant-loop-number
-invariant-loop-number l = l.greatest ≡ fold_to int_max (negsuc (2 ^ 63 - 1)) l.number-index (value_at l.numbers)
+abbrev pub invariant-loop-i : goal.invariant-loop-i
+invariant-loop-i l = l.greatest ≡ fold_to int_max (negsuc (2 ^ 63 - 1)) l.i (value_at l.values.values)

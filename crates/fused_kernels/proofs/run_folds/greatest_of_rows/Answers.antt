@@ -5,6 +5,7 @@ use Rattle.std.proofs.lemmas.Int.{to_z-of_z}
 use Rattle.table_model.specs.Values.{greater}
 use Rattle.transpose_order.specs.Mask.{has, count_below}
 use Rattle.transpose_order.proofs.MaskLemmas.{count_below-zero}
+use Rattle.bit_interleave.specs.LaneValues.{LaneValues}
 use Rattle.run_dictionary.specs.Runs.{run_value}
 use Rattle.native_lanes.specs.Folds.{fold_to}
 use Rattle.native_lanes.proofs.FoldLemmas.{fold_to-zero}
@@ -13,26 +14,25 @@ use Rattle.fused_kernels.proofs.RunLemmas.{first_run, next_run, value_of_run, al
 use Rattle.fused_kernels.proofs.RunFoldLemmas.{counted_in_words, greatest_more, greatest_tells, tells_none, tells_some}
 use Rattle.fused_kernels.proofs.run_folds.greatest_of_rows.Goals as goal
 
-pub loop-value-init : goal.loop-value-init
-loop-value-init c = record {
+pub loop-run-init : goal.loop-run-init
+loop-run-init c = record {
   begins = first_run c.args.form.now;
   before = sym (count_below-zero (has c.args.rows.now));
   greatest = sym (ap (or_else (negsuc (2 ^ 63 - 1))) (fold_to-zero greater None (λ n. cond (has c.args.rows.now n) (Some (run_value c.args.form.now n)) None)));
 }
 
-pub loop-value-preserved : goal.loop-value-preserved
-loop-value-preserved c =
+pub loop-run-preserved : goal.loop-run-preserved
+loop-run-preserved c =
     let form = c.args.form.now in
     let b : ℕ → Bool = has c.args.rows.now in
     let top = negsuc (2 ^ 63 - 1) in
-    let row = c.loop-value.row in
+    let row = c.loop-run.row in
     let end = c.next_true-end.result in
-    let index = c.loop-value.value-index in
-    let items = c.values-value-items.result.now in
-    let value : ℤ = slice_index_or items index (pos 0) in
+    let index = c.loop-run.run in
+    let value : ℤ = c.get.result in
     let v : ℤ = slice_index_or form.values index (pos 0) in
-    let is : value ≡ v = ap (λ xs. slice_index_or xs index (pos 0)) c.values-value-items.ensures.values in
-    let left : index < length form.values = subst (λ (xs : List ℤ). index < length xs) c.values-value-items.ensures.values c.loop-value-test.true in
+    let is : value ≡ v = c.get.ensures.value ∙ ap (λ (x : LaneValues). slice_index_or x.values index (pos 0)) c.values-values.ensures.value in
+    let left : index < length form.values = omega (arith, c.loop-run-test.true, c.len-run-end.ensures, ap (λ (x : LaneValues). length x.values) c.values-values.ensures.value) in
     let fits : FitsSigned w64 value = search rules in
     let none : (i : ℕ) → row + 1 ≤ i → i < end → has form.starts i ≡ false = subst (λ (m : List Bool). (i : ℕ) → row + 1 ≤ i → i < end → has m i ≡ false) c.starts.ensures c.next_true-end.ensures.none in
     let start : end < 1024 → has form.starts end ≡ true = subst (λ (m : List Bool). end < 1024 → has m end ≡ true) c.starts.ensures c.next_true-end.ensures.here in
@@ -40,38 +40,38 @@ loop-value-preserved c =
     let f : ℕ → Option ℤ = λ n. cond (b n) (Some (run_value form n)) None in
     let upto : c.rows_below-upto.result ≡ count_below b end = c.rows_below-upto.ensures ∙ counted_in_words c.words-words.result.now c.args.rows.now end (sym c.words-words.ensures) c.next_true-end.ensures.within in
     let old : Option ℤ = fold_to greater None row f in
-    let taken : nat_lt c.loop-value.before c.rows_below-upto.result ≡ nat_lt (count_below b row) (count_below b end) = ap (λ (k : ℕ). nat_lt k c.rows_below-upto.result) c.loop-value.invariant.before ∙ ap (nat_lt (count_below b row)) upto in
-    let so_far = to_z w64 c.loop-value.greatest-bits in
+    let taken : nat_lt c.loop-run.before c.rows_below-upto.result ≡ nat_lt (count_below b row) (count_below b end) = ap (λ (k : ℕ). nat_lt k c.rows_below-upto.result) c.loop-run.invariant.before ∙ ap (nat_lt (count_below b row)) upto in
+    let so_far = to_z w64 c.loop-run.greatest-bits in
     let after : FitsSigned w64 c.greater_if-greatest.result = search rules in
     record {
-      begins = next_run form row end index c.lane_width.ensures.form c.loop-value.invariant.begins left c.next_true-end.ensures.order c.next_true-end.ensures.within none start;
+      begins = next_run form row end index c.lane_width.ensures.form c.loop-run.invariant.begins left c.next_true-end.ensures.order c.next_true-end.ensures.within none start;
       before = upto;
       greatest =
           to_z-of_z w64 c.greater_if-greatest.result after ∙ c.greater_if-greatest.ensures
           ∙ ap (λ t. cond t (int_max so_far (to_z w64 (of_z w64 value))) so_far) taken
           ∙ ap (λ z. cond (nat_lt (count_below b row) (count_below b end)) (int_max so_far z) so_far) (to_z-of_z w64 value fits ∙ is)
-          ∙ ap (λ x. cond (nat_lt (count_below b row) (count_below b end)) (int_max x v) x) c.loop-value.invariant.greatest
+          ∙ ap (λ x. cond (nat_lt (count_below b row) (count_below b end)) (int_max x v) x) c.loop-run.invariant.greatest
           ∙ taken_by_greater (nat_lt (count_below b row) (count_below b end)) old v (subst (λ z. FitsSigned w64 z) is fits)
-          ∙ ap (or_else top) (greatest_more f b v row end old (search rules) order (λ n from below. ap (λ z. cond (b n) (Some z) None) (value_of_run form row end index n c.loop-value.invariant.begins left none from below)));
+          ∙ ap (or_else top) (greatest_more f b v row end old (search rules) order (λ n from below. ap (λ z. cond (b n) (Some z) None) (value_of_run form row end index n c.loop-run.invariant.begins left none from below)));
     }
 
 pub returns-then-before-eq0 : goal.returns-then-before-eq0
 returns-then-before-eq0 c =
     let form = c.args.form.now in
     let b : ℕ → Bool = has c.args.rows.now in
-    let done : length form.values ≤ c.loop-value.value-index = subst (λ (xs : List ℤ). length xs ≤ c.loop-value.value-index) c.values-value-items.ensures.values c.loop-value-test.false in
-    let all : c.loop-value.row ≡ 1024 = all_runs form c.loop-value.row c.loop-value.value-index c.lane_width.ensures.form c.loop-value.invariant.begins done in
-    let none : count_below b 1024 ≡ 0 = ap (count_below b) (sym all) ∙ sym c.loop-value.invariant.before ∙ c.if-before-eq0.true in
+    let done : length form.values ≤ c.loop-run.run = omega (arith, c.loop-run-test.false, c.len-run-end.ensures, ap (λ (x : LaneValues). length x.values) c.values-values.ensures.value) in
+    let all : c.loop-run.row ≡ 1024 = all_runs form c.loop-run.row c.loop-run.run c.lane_width.ensures.form c.loop-run.invariant.begins done in
+    let none : count_below b 1024 ≡ 0 = ap (count_below b) (sym all) ∙ sym c.loop-run.invariant.before ∙ c.if-before-eq0.true in
     tells_none (count_below b 1024) (fold_to greater None 1024 (λ n. cond (b n) (Some (run_value form n)) None)) (greatest_tells b (run_value form) 1024) none
 
 pub returns : goal.returns
 returns c =
     let form = c.args.form.now in
     let b : ℕ → Bool = has c.args.rows.now in
-    let done : length form.values ≤ c.loop-value.value-index = subst (λ (xs : List ℤ). length xs ≤ c.loop-value.value-index) c.values-value-items.ensures.values c.loop-value-test.false in
-    let all : c.loop-value.row ≡ 1024 = all_runs form c.loop-value.row c.loop-value.value-index c.lane_width.ensures.form c.loop-value.invariant.begins done in
-    let count : c.loop-value.before ≡ count_below b 1024 = c.loop-value.invariant.before ∙ ap (count_below b) all in
+    let done : length form.values ≤ c.loop-run.run = omega (arith, c.loop-run-test.false, c.len-run-end.ensures, ap (λ (x : LaneValues). length x.values) c.values-values.ensures.value) in
+    let all : c.loop-run.row ≡ 1024 = all_runs form c.loop-run.row c.loop-run.run c.lane_width.ensures.form c.loop-run.invariant.begins done in
+    let count : c.loop-run.before ≡ count_below b 1024 = c.loop-run.invariant.before ∙ ap (count_below b) all in
     let some : count_below b 1024 ≢ 0 = (λ e. c.if-before-eq0.false (count ∙ e)) in
     let f : ℕ → Option ℤ = λ n. cond (b n) (Some (run_value form n)) None in
-    ap Some (c.loop-value.invariant.greatest ∙ ap (λ (k : ℕ). or_else (negsuc (2 ^ 63 - 1)) (fold_to greater None k f)) all)
+    ap Some (c.loop-run.invariant.greatest ∙ ap (λ (k : ℕ). or_else (negsuc (2 ^ 63 - 1)) (fold_to greater None k f)) all)
     ∙ tells_some (count_below b 1024) (fold_to greater None 1024 f) (negsuc (2 ^ 63 - 1)) (greatest_tells b (run_value form) 1024) some

@@ -8,9 +8,9 @@ use Rattle.fused_kernels.proofs.ExtremeLemmas.{or_else}
 use Rattle.fused_kernels.proofs.RunLemmas.{BeginsRun}
 use Rattle.fused_kernels.proofs.run_folds.least_of_rows.Given as goal
 
-abbrev pub invariant-loop-value : goal.invariant-loop-value
-invariant-loop-value l = record {
-  begins : BeginsRun l.form l.row l.value-index;
+abbrev pub invariant-loop-run : goal.invariant-loop-run
+invariant-loop-run l = record {
+  begins : BeginsRun l.form l.row l.run;
   before : l.before ≡ count_below (has l.rows) l.row;
   least : l.least ≡ or_else (pos (2 ^ 63 - 1)) (fold_to lesser None l.row (λ n. cond (has l.rows n) (Some (run_value l.form n)) None));
 }

@@ -1,9 +1,11 @@
 -- Each run has a row.
-use Rattle.std.proofs.Common.{rules, ◌-◌, ◌^◌, pos, ℤ, List, length, Some, FitsSigned, subst, ap, ◌∙◌}
+use Rattle.std.proofs.Common.{rules, ◌-◌, ◌^◌, pos, length, Some, FitsSigned, ap, ◌∙◌}
 use Rattle.std.specs.Int.{w64, int_min}
 use Rattle.std.proofs.lemmas.Int.{to_z-of_z}
 use Rattle.transpose_order.specs.Mask.{has}
+use Rattle.bit_interleave.specs.LaneValues.{LaneValues}
 use Rattle.bit_interleave.specs.Range.{value_at}
+use Rattle.bit_interleave.proofs.WrapLemmas.{fits_wide}
 use Rattle.native_lanes.specs.Folds.{fold_to}
 use Rattle.fused_kernels.proofs.RunFoldLemmas.{least_of_all_rows}
 use Rattle.fused_kernels.proofs.run_folds.least_of_runs.Goals as goal
@@ -12,6 +14,7 @@ pub returns-then-has_all_rows : goal.returns-then-has_all_rows
 returns-then-has_all_rows c =
     let form = c.args.form.now in
     let passed : FitsSigned w64 c.least_of_all.result = search rules in
-    let first : FitsSigned w64 (value_at c.values.result.now 0) = search rules in
-    ap Some (to_z-of_z w64 c.least_of_all.result passed ∙ c.least_of_all.ensures ∙ ap (λ (xs : List ℤ). fold_to int_min (pos (2 ^ 63 - 1)) (length xs) (value_at xs)) c.values.ensures.values)
-    ∙ least_of_all_rows form (has c.args.rows.now) c.lane_width.ensures.form (subst (λ (xs : List ℤ). FitsSigned w64 (value_at xs 0)) c.values.ensures.values first) (c.has_all_rows.ensures (search rules))
+    let is = c.lane_width.ensures.form in
+    let first : FitsSigned w64 (value_at form.values 0) = fits_wide form.lane_width (value_at form.values 0) is.lane_width (is.range 0 (pos 0) c.values.ensures.some) in
+    ap Some (to_z-of_z w64 c.least_of_all.result passed ∙ c.least_of_all.ensures ∙ ap (λ (x : LaneValues). fold_to int_min (pos (2 ^ 63 - 1)) (length x.values) (value_at x.values)) c.values.ensures.value)
+    ∙ least_of_all_rows form (has c.args.rows.now) c.lane_width.ensures.form first (c.has_all_rows.ensures (search rules))

@@ -6,9 +6,9 @@ use Rattle.native_lanes.specs.Folds.{fold_to}
 use Rattle.fused_kernels.proofs.RunLemmas.{BeginsRun}
 use Rattle.fused_kernels.proofs.run_folds.sum_of_runs.Given as goal
 
-abbrev pub invariant-loop-value : goal.invariant-loop-value
-invariant-loop-value l = record {
-  begins : BeginsRun l.form l.row l.value-index;
+abbrev pub invariant-loop-run : goal.invariant-loop-run
+invariant-loop-run l = record {
+  begins : BeginsRun l.form l.row l.run;
   before : l.before ≡ count_below (has l.rows) l.row;
   sum : l.sum ≡ fold_to ◌+ℤ◌ (pos 0) l.row (λ n. cond (has l.rows n) (run_value l.form n) (pos 0));
 }

@@ -3,6 +3,7 @@ use Rattle.std.proofs.Common.{rules, FitsSigned, ◌≡◌, ℕ, ◌-◌, ◌/�
 use Rattle.bit_interleave.specs.Range.{value_at}
 use Rattle.std.specs.Int.{w64}
 use Rattle.native_lanes.proofs.PackedLemmas.{passed}
+use Rattle.bit_interleave.specs.LaneValues.{LaneValues}
 use Rattle.bit_interleave.specs.PackedWords.{PackedWords}
 use Rattle.frame_delta.specs.Delta.{DeltaForm, delta_value}
 use Rattle.native_lanes.specs.Walks.{Walk, number_of_row}
@@ -21,7 +22,7 @@ returns c = λ n h.
     ∙ ap (made 16 form.width) (c.words_16.ensures ∙ ap (λ (x : PackedWords). x.numbers) c.words.ensures.value) ∙ ap (λ t. made t form.width form.words.numbers) (sym c.requires) in
     let half : pos (2 ^ 15) ≡ pos (2 ^ (form.lane_width - 1)) = ap (λ (t : ℕ). pos (2 ^ (t - 1))) (sym c.requires) in
     let start : (lane : ℕ) → lane < 1024 / form.lane_width → pos (slice_index starts lane) ≡ value_at form.bases lane +ℤ pos (2 ^ (form.lane_width - 1)) =
-    (λ lane l. c.all_raised-starts.ensures lane (subst (λ (t : ℕ). lane < 1024 / t) c.requires l) ∙ ap (λ (xs : List ℤ). value_at xs lane +ℤ pos (2 ^ 15)) c.bases.ensures.value ∙ ap (λ z. value_at form.bases lane +ℤ z) half) in
+    (λ lane l. c.all_raised-starts.ensures lane (subst (λ (t : ℕ). lane < 1024 / t) c.requires l) ∙ ap (λ (xs : List ℤ). value_at xs lane +ℤ pos (2 ^ 15)) (c.values_16.ensures ∙ ap (λ (v : LaneValues). v.values) c.bases.ensures.value) ∙ ap (λ z. value_at form.bases lane +ℤ z) half) in
     let bits : pos added ≡ cond (int_lt form.least (pos 0)) (form.least +ℤ pos (2 ^ form.lane_width)) form.least =
     c.bits-added.ensures ∙ ap (λ (z : ℤ). cond (int_lt z (pos 0)) (z +ℤ pos (2 ^ 16)) z) (passed c.least.result form.least fits c.least.ensures.value)
     ∙ ap (λ (t : ℕ). cond (int_lt form.least (pos 0)) (form.least +ℤ pos (2 ^ t)) form.least) (sym c.requires) in

@@ -9,7 +9,7 @@ use Rattle.run_dictionary.proofs.codes.values_at.Goals as goal
 pub returns-clause-values : goal.returns-clause-values
 returns-clause-values c =
     read_back c.loop-i.values (λ i h. c.loop-i.invariant.fit i (omega (arith, c.loop-i.invariant.long)))
-    ∙ sixteen_of-same (λ i. value_at c.args.dictionary.now (slice_index c.args.codes.now i)) c.loop-i.values (pos 0) c.loop-i.invariant.long (λ i h. c.loop-i.invariant.done i (omega arith))
+    ∙ sixteen_of-same (λ i. value_at c.args.dictionary.now.values (slice_index c.args.codes.now i)) c.loop-i.values (pos 0) c.loop-i.invariant.long (λ i h. c.loop-i.invariant.done i (omega arith))
 
 pub returns-clause-fit : goal.returns-clause-fit
 returns-clause-fit c = λ i h.

@@ -7,6 +7,6 @@ use Rattle.run_dictionary.proofs.codes.values_at.Given as goal
 abbrev pub invariant-loop-i : goal.invariant-loop-i
 invariant-loop-i l = record {
   long : length l.values ≡ 16;
-  done : (k : ℕ) → k < l.i → value_at l.values k ≡ value_at l.dictionary (slice_index l.codes k);
+  done : (k : ℕ) → k < l.i → value_at l.values k ≡ value_at l.dictionary.values (slice_index l.codes k);
   fit : (k : ℕ) → k < l.i → FitsSigned w64 (value_at l.values k);
 }

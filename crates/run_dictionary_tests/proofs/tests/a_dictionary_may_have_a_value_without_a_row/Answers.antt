@@ -1,5 +1,6 @@
 -- A code of one bit is below 2.
-use Rattle.std.proofs.Common.{sym, subst, arith}
+use Rattle.std.proofs.Common.{length, ap, sym, subst, arith}
+use Rattle.bit_interleave.specs.LaneValues.{LaneValues}
 use Rattle.bit_interleave.specs.PackedWords.{PackedWords, HasWidth}
 use Rattle.transpose_order.specs.Place.{lane_of, step_of}
 use Rattle.bit_interleave.proofs.StepLemmas.{packed_value-below}
@@ -14,4 +15,4 @@ from_parts-dict-requires-clause-packed g c =
 pub from_parts-dict-requires-clause-codes : goal.from_parts-dict-requires-clause-codes
 unfolding packed_code
 from_parts-dict-requires-clause-codes g c = λ n h.
-    omega (arith, packed_value-below 16 1 c.in_ok-codes.codes.numbers (lane_of 16 n) (step_of 16 n), c.in_ok-vec.ensures.len)
+    omega (arith, packed_value-below 16 1 c.in_ok-codes.codes.numbers (lane_of 16 n) (step_of 16 n), ap (λ (v : LaneValues). length v.values) c.in_ok-dictionary.ensures)

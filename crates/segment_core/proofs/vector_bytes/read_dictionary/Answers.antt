@@ -1,9 +1,10 @@
-use Rattle.std.proofs.Common.{◌≡◌, ◌++◌, ◌∷◌, [], ◌∙◌, sym, List, ℤ, true, false, FitsSigned, rules, arith, ap, refl}
+use Rattle.std.proofs.Common.{◌≡◌, ℕ, ◌+◌, ◌++◌, ◌∷◌, [], ◌∙◌, ap, sym, refl, take, set, List, ℤ, Result, Ok, true, false, FitsSigned, rules, arith}
 use Rattle.std.specs.Int.{w64}
 use Rattle.std.proofs.lemmas.Int.{to_z-of_z}
-use Rattle.std.proofs.lemmas.List.{length-append}
+use Rattle.std.proofs.lemmas.List.{take_more_set}
 use Rattle.std.proofs.lemmas.List.Elements.{All-push}
 use Rattle.std.proofs.lemmas.Result.{err_from_is_err_and}
+use Rattle.table_model.specs.declared.refusal.Refusal.{Refusal}
 use Rattle.table_model.specs.declared.refusal.Refusal.TheVariants.{BadDictionary}
 use Rattle.bit_interleave.specs.Arithmetic.{integer_width}
 use Rattle.segment_core.specs.Format.{signed, checked}
@@ -16,31 +17,43 @@ pub returns-in_err-value-clause-read : goal.returns-in_err-value-clause-read
 unfolding dictionary
 returns-in_err-value-clause-read c =
     let p = err_from_is_err_and c.from_residual.result c.from_residual.ensures.1 in
-    rw (p.1, p.2) (λ not_memory. ends (λ front. checked (signed c.args.lane_width) (is_above front) BadDictionary) c.args.count c.loop.counter c.loop.values.items c.args.total c.loop.rest.now c.in_err-value.field-0.0 _ c.loop-test.true (rw (c.in_err-value.ensures.read not_memory) refl) c.loop.invariant.read)
+    rw (p.1, p.2) (λ not_memory. ends (λ front. checked (signed c.args.lane_width) (is_above front) BadDictionary) c.args.count c.loop-i.i (take c.loop-i.i c.loop-i.room) c.args.total c.loop-i.rest.now c.in_err-value.field-0.0 _ c.loop-i-test.true (rw (c.in_err-value.ensures.read not_memory) refl) c.loop-i.invariant.read)
 
 pub returns-then-not-rises_after-clause-read : goal.returns-then-not-rises_after-clause-read
 unfolding dictionary
 returns-then-not-rises_after-clause-read c = λ not_memory.
+    let front = take c.loop-i.i c.loop-i.room in
     let made : FitsSigned w64 c.in_ok-value.value = search rules in
-    let below : is_above c.loop.values.items c.in_ok-value.value ≡ false =
-    sym (c.rises_after.ensures ∙ ap (is_above c.as_slice.result.now) (to_z-of_z w64 c.in_ok-value.value made) ∙ ap (λ (front : List ℤ). is_above front c.in_ok-value.value) c.as_slice.ensures.value)
-    ∙ c.if-not-rises_after.true in
-    ends (λ front. checked (signed c.args.lane_width) (is_above front) BadDictionary) c.args.count c.loop.counter c.loop.values.items c.args.total c.loop.rest.now _ _ c.loop-test.true (rw c.place_of.ensures (checked_fails (signed c.args.lane_width) (is_above c.loop.values.items) BadDictionary c.args.total c.loop.rest.now c.in_ok-value.value c.in_ok-value.after.now c.in_ok-value.ensures.read below)) c.loop.invariant.read
+    let below : is_above front c.in_ok-value.value ≡ false =
+    sym (c.rises_after.ensures ∙ ap (is_above front) (to_z-of_z w64 c.in_ok-value.value made)) ∙ c.if-not-rises_after.true in
+    ends (λ front. checked (signed c.args.lane_width) (is_above front) BadDictionary) c.args.count c.loop-i.i front c.args.total c.loop-i.rest.now _ _ c.loop-i-test.true (rw c.place_of.ensures (checked_fails (signed c.args.lane_width) (is_above front) BadDictionary c.args.total c.loop-i.rest.now c.in_ok-value.value c.in_ok-value.after.now c.in_ok-value.ensures.read below)) c.loop-i.invariant.read
 
-pub loop-preserved : goal.loop-preserved
-loop-preserved c =
-    let made : FitsSigned w64 c.in_ok-value.value = search rules in
-    let items : c.push.new.self.items ≡ c.loop.values.items ++ c.in_ok-value.value ∷ [] = rw (c.in_ok-push.ensures.items, to_z-of_z w64 c.in_ok-value.value made) refl in
-    let above : is_above c.loop.values.items c.in_ok-value.value ≡ true =
-    sym (c.rises_after.ensures ∙ ap (is_above c.as_slice.result.now) (to_z-of_z w64 c.in_ok-value.value made) ∙ ap (λ (front : List ℤ). is_above front c.in_ok-value.value) c.as_slice.ensures.value)
-    ∙ c.if-not-rises_after.false in
+pub loop-i-preserved : goal.loop-i-preserved
+loop-i-preserved c =
+    let i = c.loop-i.i in
+    let room = c.loop-i.room in
+    let front = take i room in
+    let value = c.in_ok-value.value in
+    let made : FitsSigned w64 value = search rules in
+    let items : take (i + 1) (set room i _) ≡ front ++ value ∷ [] = ap (λ x. take (i + 1) (set room i x)) (to_z-of_z w64 value made) ∙ take_more_set room i value (omega (arith, c.loop-i.invariant.long, c.requires.many)) in
+    let above : is_above front value ≡ true =
+    sym (c.rises_after.ensures ∙ ap (is_above front) (to_z-of_z w64 value made)) ∙ c.if-not-rises_after.false in
     record {
-      read = rw items (goes_on (λ front. checked (signed c.args.lane_width) (is_above front) BadDictionary) c.args.count c.loop.counter c.loop.values.items c.args.total c.loop.rest.now c.in_ok-value.value c.in_ok-value.after.now _ c.loop-test.true (checked_passes (signed c.args.lane_width) (is_above c.loop.values.items) BadDictionary c.args.total c.loop.rest.now c.in_ok-value.value c.in_ok-value.after.now c.in_ok-value.ensures.read above) c.loop.invariant.read);
-      count = rw items (omega (arith, length-append c.loop.values.items (c.in_ok-value.value ∷ []), c.loop.invariant.count));
-      rises = rw items (rises_on c.loop.values.items c.in_ok-value.value c.loop.invariant.rises above);
-      fit = rw items (All-push (FitsSigned (integer_width c.args.lane_width)) c.loop.values.items c.in_ok-value.value c.loop.invariant.fit c.in_ok-value.ensures.fits);
+      long = search rules;
+      read = rw items (goes_on (λ front. checked (signed c.args.lane_width) (is_above front) BadDictionary) c.args.count i front c.args.total c.loop-i.rest.now value c.in_ok-value.after.now _ c.loop-i-test.true (checked_passes (signed c.args.lane_width) (is_above front) BadDictionary c.args.total c.loop-i.rest.now value c.in_ok-value.after.now c.in_ok-value.ensures.read above) c.loop-i.invariant.read);
+      rises = rw items (rises_on front value c.loop-i.invariant.rises above);
+      fit = rw items (All-push (FitsSigned (integer_width c.args.lane_width)) front value c.loop-i.invariant.fit c.in_ok-value.ensures.fits);
     }
 
 pub returns-clause-read : goal.returns-clause-read
 unfolding dictionary
-returns-clause-read c = is_done (λ front. checked (signed c.args.lane_width) (is_above front) BadDictionary) c.args.count c.loop.counter c.loop.values.items c.args.total c.loop.rest.now _ c.loop-test.false c.loop.invariant.read
+returns-clause-read c =
+    let room = c.loop-i.room in
+    let rest = c.loop-i.rest.now in
+    let every : c.loop-i.i ≡ c.args.count = omega (arith, c.loop-i-test.false, c.loop-i.auto.i-end) in
+    let kept : take c.loop-i.i room ≡ c.in_ok-from_slice.field-0.values = ap (λ n. take n room) every ∙ sym (ap (λ v. v.values) c.in_ok-from_slice.ensures) in
+    is_done (λ front. checked (signed c.args.lane_width) (is_above front) BadDictionary) c.args.count c.loop-i.i (take c.loop-i.i room) c.args.total rest _ c.loop-i-test.false c.loop-i.invariant.read
+    ∙ ap (λ (xs : List ℤ). found xs rest) kept
+  where
+    found : List ℤ → List ℕ → Result (List ℤ × List ℕ) Refusal
+    found xs rest = Ok (xs, rest)

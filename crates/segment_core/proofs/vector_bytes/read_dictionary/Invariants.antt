@@ -1,4 +1,5 @@
-use Rattle.std.proofs.Common.{◌≡◌, ◌-◌, [], length}
+-- What is still to be read after the values that stand in the room gives the whole.
+use Rattle.std.proofs.Common.{◌≡◌, ◌-◌, [], length, take}
 use Rattle.bit_interleave.specs.Range.{AreInRange}
 use Rattle.run_dictionary.specs.Dict.{IsAscending}
 use Rattle.table_model.specs.declared.refusal.Refusal.TheVariants.{BadDictionary}
@@ -6,11 +7,11 @@ use Rattle.segment_core.specs.Format.{signed, checked, read_all}
 use Rattle.segment_core.specs.VectorBytes.{is_above}
 use Rattle.segment_core.proofs.vector_bytes.read_dictionary.Given as goal
 
-abbrev pub invariant-loop : goal.invariant-loop
-invariant-loop l = record {
-  read : read_all (λ front. checked (signed l.lane_width) (is_above front) BadDictionary) (l.count - l.counter) l.values.items l.total l.rest
+abbrev pub invariant-loop-i : goal.invariant-loop-i
+invariant-loop-i l = record {
+  long : length l.room ≡ 1024;
+  read : read_all (λ front. checked (signed l.lane_width) (is_above front) BadDictionary) (l.count - l.i) (take l.i l.room) l.total l.rest
       ≡ read_all (λ front. checked (signed l.lane_width) (is_above front) BadDictionary) l.count [] l.total l.bytes;
-  count : length l.values.items ≡ l.counter;
-  rises : IsAscending l.values.items;
-  fit : AreInRange l.lane_width l.values.items;
+  rises : IsAscending (take l.i l.room);
+  fit : AreInRange l.lane_width (take l.i l.room);
 }

@@ -11,4 +11,4 @@ returns-in_err-values-clause-read c =
 
 pub returns-clause-read : goal.returns-clause-read
 unfolding runs
-returns-clause-read c = rw (c.in_ok-starts.ensures.read, c.after_mask.ensures, c.in_ok-values.ensures.read, c.from_parts.ensures) refl
+returns-clause-read c = rw (c.in_ok-starts.ensures.read, c.after_mask.ensures, c.in_ok-values.ensures.read, c.from_parts.ensures, c.in_ok-values.ensures.lanes) refl

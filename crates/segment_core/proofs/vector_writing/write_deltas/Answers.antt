@@ -21,7 +21,7 @@ returns-in_err-write_values g c =
     let p = err_from_is_err_and c.from_residual-in_err-write_values.result c.from_residual-in_err-write_values.ensures.1 in
     let made : FitsSigned w64 c.least.result = search rules in
     let h0 = rw (to_z-of_z w64 c.least.result made, c.least.ensures.value, c.lane_width-lane_width.ensures.value) at c.in_ok-write_value.ensures in
-    let e = rw (c.bases.ensures.value, c.lane_width-lane_width.ensures.value) at c.in_err-write_values.ensures in
+    let e = rw (c.bases.ensures.value) at c.in_err-write_values.ensures in
     rw (deltas_spelled c.args.form.now (c.lane_width-lane_width.ensures.form.words))
     (writes_both c.from_residual-in_err-write_values.result (g.W.Write.contents c.args.writer.now.0) (g.W.Write.contents c.write_value.new.writer.0) (g.W.Write.contents c.write_values.new.writer.0) c.args.writer.now.1 c.write_value.new.writer.1 c.write_values.new.writer.1 ((signed c.args.form.now.lane_width).spell c.args.form.now.least) (((all (length c.args.form.now.bases) (λ _. signed c.args.form.now.lane_width)).spell c.args.form.now.bases) ++ ((words c.args.form.now.words.lane_width c.args.form.now.width).spell c.args.form.now.words)) h0.0 h0.1
     (writes_front c.from_residual-in_err-write_values.result c.in_err-write_values.field-0.0 (g.W.Write.contents c.write_value.new.writer.0) (g.W.Write.contents c.write_values.new.writer.0) c.write_value.new.writer.1 c.write_values.new.writer.1 ((all (length c.args.form.now.bases) (λ _. signed c.args.form.now.lane_width)).spell c.args.form.now.bases) ((words c.args.form.now.words.lane_width c.args.form.now.width).spell c.args.form.now.words) (rw (← p.2) p.1) e))
@@ -30,7 +30,7 @@ pub returns : goal.returns
 returns g c =
     let made : FitsSigned w64 c.least.result = search rules in
     let h0 = rw (to_z-of_z w64 c.least.result made, c.least.ensures.value, c.lane_width-lane_width.ensures.value) at c.in_ok-write_value.ensures in
-    let h1 = rw (c.bases.ensures.value, c.lane_width-lane_width.ensures.value) at c.in_ok-write_values.ensures in
+    let h1 = rw (c.bases.ensures.value) at c.in_ok-write_values.ensures in
     let l = rw (c.words.ensures.value, c.width.ensures.value) at c.write_words.ensures in
     rw (deltas_spelled c.args.form.now (c.lane_width-lane_width.ensures.form.words))
     (writes_both c.write_words.result (g.W.Write.contents c.args.writer.now.0) (g.W.Write.contents c.write_value.new.writer.0) (g.W.Write.contents c.write_words.new.writer.0) c.args.writer.now.1 c.write_value.new.writer.1 c.write_words.new.writer.1 ((signed c.args.form.now.lane_width).spell c.args.form.now.least) (((all (length c.args.form.now.bases) (λ _. signed c.args.form.now.lane_width)).spell c.args.form.now.bases) ++ ((words c.args.form.now.words.lane_width c.args.form.now.width).spell c.args.form.now.words)) h0.0 h0.1

@@ -1,5 +1,5 @@
 -- The words are shifted, joined and masked.
-use Rattle.std.proofs.Common.{ℕ, ◌-◌, ◌<◌, ◌^◌, List, sym, subst, arith}
+use Rattle.std.proofs.Common.{ℕ, ◌-◌, ◌<◌, ◌^◌, List, sym, subst}
 use Rattle.std.specs.Int.{w64}
 use Rattle.std.specs.Simd.Lanes.{chunk, Each1}
 use Rattle.std.proofs.lemmas.List.{map-id}

@@ -3,6 +3,7 @@ use Rattle.std.proofs.Common.{ℕ, ◌^◌, ◌<◌, ◌≤◌, ◌≡◌, ℤ, 
 use Rattle.std.specs.Int.{w64}
 use Rattle.std.specs.List.{All}
 use Rattle.std.proofs.lemmas.Int.{to_z-of_z}
+use Rattle.bit_interleave.specs.LaneValues.{LaneValues}
 use Rattle.bit_interleave.specs.PackedWords.{PackedWords, words_packing, packed_width}
 use Rattle.bit_interleave.proofs.ValueLemmas.{packed_width-words_packing}
 use Rattle.bit_interleave.specs.Range.{AreInRange, value_at}
@@ -48,10 +49,12 @@ invariant_of-result c =
     let gaps = c.gaps_above-gaps.ensures ∙ ap (λ r. gaps_above r c.fill_first_steps.new.rows) least ∙ gaps_of_filled t values c.fill_first_steps.new.rows filled in
     let told : packed_width c.in_ok-words.words ≡ c.of-least.result.width =
     ap packed_width c.in_ok-words.ensures ∙ packed_width-words_packing t c.of-least.result.width c.gaps_above-gaps.result c.requires.lane_width (subst (λ (w : ℕ). w ≤ t) (sym wide) (delta_width_in_lane t values c.requires.lane_width)) in
-    let form : DeltaForm = record { lane_width = c.in_ok-words.words.lane_width; width = packed_width c.in_ok-words.words; least = to_z w64 (of_z w64 c.of-least.result.least); bases = c.in_ok-bases.bases.items; words = c.in_ok-words.words } in
-    subst IsDeltaForm
-    (sym (delta_from_parts form t values c.gaps_above-gaps.result (ap (λ (p : PackedWords). p.lane_width) c.in_ok-words.ensures) (c.in_ok-words.ensures ∙ ap (λ w. words_packing t w c.gaps_above-gaps.result) (sym told)) (told ∙ wide) least c.in_ok-bases.ensures.items (gaps ∙ ap (λ r. later_gaps t r values) (sym least))))
-    (least_delta_is_a_form t values c.requires.lane_width)
+    let form : DeltaForm = record { lane_width = c.in_ok-words.words.lane_width; width = packed_width c.in_ok-words.words; least = to_z w64 (of_z w64 c.of-least.result.least); bases = c.in_ok-bases.bases.values; words = c.in_ok-words.words } in (
+      subst IsDeltaForm
+          (sym (delta_from_parts form t values c.gaps_above-gaps.result (ap (λ (p : PackedWords). p.lane_width) c.in_ok-words.ensures) (c.in_ok-words.ensures ∙ ap (λ w. words_packing t w c.gaps_above-gaps.result) (sym told)) (told ∙ wide) least (ap (λ (v : LaneValues). v.values) c.in_ok-bases.ensures) (gaps ∙ ap (λ r. later_gaps t r values) (sym least))))
+          (least_delta_is_a_form t values c.requires.lane_width),
+      ap (λ (v : LaneValues). v.lane_width) c.in_ok-bases.ensures ∙ sym (ap (λ (p : PackedWords). p.lane_width) c.in_ok-words.ensures),
+    )
 
 pub returns : goal.returns
 returns c =
@@ -64,5 +67,5 @@ returns c =
     let gaps = c.gaps_above-gaps.ensures ∙ ap (λ r. gaps_above r c.fill_first_steps.new.rows) least ∙ gaps_of_filled t values c.fill_first_steps.new.rows filled in
     let told : packed_width c.in_ok-words.words ≡ c.of-least.result.width =
     ap packed_width c.in_ok-words.ensures ∙ packed_width-words_packing t c.of-least.result.width c.gaps_above-gaps.result c.requires.lane_width (subst (λ (w : ℕ). w ≤ t) (sym wide) (delta_width_in_lane t values c.requires.lane_width)) in
-    let form : DeltaForm = record { lane_width = c.in_ok-words.words.lane_width; width = packed_width c.in_ok-words.words; least = to_z w64 (of_z w64 c.of-least.result.least); bases = c.in_ok-bases.bases.items; words = c.in_ok-words.words } in
-    delta_from_parts form t values c.gaps_above-gaps.result (ap (λ (p : PackedWords). p.lane_width) c.in_ok-words.ensures) (c.in_ok-words.ensures ∙ ap (λ w. words_packing t w c.gaps_above-gaps.result) (sym told)) (told ∙ wide) least c.in_ok-bases.ensures.items (gaps ∙ ap (λ r. later_gaps t r values) (sym least))
+    let form : DeltaForm = record { lane_width = c.in_ok-words.words.lane_width; width = packed_width c.in_ok-words.words; least = to_z w64 (of_z w64 c.of-least.result.least); bases = c.in_ok-bases.bases.values; words = c.in_ok-words.words } in
+    delta_from_parts form t values c.gaps_above-gaps.result (ap (λ (p : PackedWords). p.lane_width) c.in_ok-words.ensures) (c.in_ok-words.ensures ∙ ap (λ w. words_packing t w c.gaps_above-gaps.result) (sym told)) (told ∙ wide) least (ap (λ (v : LaneValues). v.values) c.in_ok-bases.ensures) (gaps ∙ ap (λ r. later_gaps t r values) (sym least))

@@ -19,7 +19,7 @@ pub returns-then-not-starts_at_zero : goal.returns-then-not-starts_at_zero
 unfolding numbers_of_delta
 returns-then-not-starts_at_zero c =
     let words : PackedWords = c.self.inside.words in
-    let form : DeltaForm = record { lane_width = words.lane_width; width = packed_width words; least = c.self.inside.least; bases = c.self.inside.bases.items; words = words } in
+    let form : DeltaForm = record { lane_width = words.lane_width; width = packed_width words; least = c.self.inside.least; bases = c.self.inside.bases.values; words = words } in
     let same = c.lane_width-lane_width.ensures.value in
     let told = c.packed_width-width.ensures in
     let read : c.unpack.new.values ≡ numbers_of_delta form = c.unpack.ensures.values ∙ ap (λ w. unpacked words.lane_width w words.numbers) told in
@@ -27,14 +27,14 @@ returns-then-not-starts_at_zero c =
     λ z. c.starts_at_zero.ensures.1 (subst (λ (t : ℕ). StartAtZero t c.unpack.new.values) (sym same) (subst (λ (xs : List ℕ). StartAtZero form.lane_width xs) (sym read) z)) in
     subst (λ (f : DeltaForm). (IsTrue false → f ≡ least_delta f.lane_width (delta_values f)) × (f ≡ least_delta f.lane_width (delta_values f) → IsTrue false)) c.self.view_is (
       λ no. absurd (false≢true no),
-      λ is. subst (λ (b : Bool). IsTrue b) c.if-not-starts_at_zero.true (zeros (least_starts_at_zero form c.self.invariant.lane_width is)),
+      λ is. subst (λ (b : Bool). IsTrue b) c.if-not-starts_at_zero.true (zeros (least_starts_at_zero form c.self.invariant.0.lane_width is)),
     )
 
 pub returns : goal.returns
 unfolding numbers_of_delta
 returns c =
     let words : PackedWords = c.self.inside.words in
-    let form : DeltaForm = record { lane_width = words.lane_width; width = packed_width words; least = c.self.inside.least; bases = c.self.inside.bases.items; words = words } in
+    let form : DeltaForm = record { lane_width = words.lane_width; width = packed_width words; least = c.self.inside.least; bases = c.self.inside.bases.values; words = words } in
     let same = c.lane_width-lane_width.ensures.value in
     let told = c.packed_width-width.ensures in
     let read : c.unpack.new.values ≡ numbers_of_delta form = c.unpack.ensures.values ∙ ap (λ w. unpacked words.lane_width w words.numbers) told in
@@ -56,6 +56,6 @@ returns c =
     let here = subst (λ (t : ℕ). IsTightFrame t form.width r low high → IsTrue c.is_tight.result) same
     (subst (λ (z : ℤ). IsTightFrame c.lane_width-lane_width.result form.width z low high → IsTrue c.is_tight.result) whole (subst (λ (w : ℕ). IsTightFrame c.lane_width-lane_width.result w (to_z w64 (of_z w64 r)) low high → IsTrue c.is_tight.result) told c.is_tight.ensures.1)) in
     subst (λ (f : DeltaForm). (IsTrue c.is_tight.result → f ≡ least_delta f.lane_width (delta_values f)) × (f ≡ least_delta f.lane_width (delta_values f) → IsTrue c.is_tight.result)) c.self.view_is (
-      λ tight. tight_is_least form low high c.self.invariant.lane_width c.self.invariant.packed.fits c.self.invariant.least c.self.invariant.base_count c.self.invariant.bases back zeros spread (there tight),
-      λ is. here (least_is_tight form low high c.self.invariant.lane_width c.self.invariant.packed.fits c.self.invariant.least spread is),
+      λ tight. tight_is_least form low high c.self.invariant.0.lane_width c.self.invariant.0.packed.fits c.self.invariant.0.least c.self.invariant.0.base_count c.self.invariant.0.bases back zeros spread (there tight),
+      λ is. here (least_is_tight form low high c.self.invariant.0.lane_width c.self.invariant.0.packed.fits c.self.invariant.0.least spread is),
     )

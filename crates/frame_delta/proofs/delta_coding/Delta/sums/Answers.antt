@@ -36,25 +36,25 @@ returns c =
     let r = c.self.inside.least in
     let words = c.self.inside.words in
     let w = packed_width words in
-    let bases : List ℤ = c.self.inside.bases.items in
+    let bases : List ℤ = c.self.inside.bases.values in
     let form : ℕ → DeltaForm = λ n. record { lane_width = n; width = w; least = r; bases = bases; words = words } in
     let width = c.lane_width-lane_width.ensures.width in
     let g : ℕ → ℕ → ℤ = λ l s. r +ℤ pos (packed_value t w words.numbers l s) in
     let fits : FitsSigned w64 r = search rules in
     let bits = c.cast_unsigned.ensures ∙ ap (cast_unsigned w64) (to_z-of_z w64 r fits) in
     let same = c.lane_width-lane_width.ensures.value in
-    let count : length bases ≡ 1024 / t = c.self.invariant.base_count ∙ ap (λ (n : ℕ). 1024 / n) (sym same) in
+    let count : length bases ≡ 1024 / t = c.self.invariant.0.base_count ∙ ap (λ (n : ℕ). 1024 / n) (sym same) in
     let group = group_is_there t q width c.requires.piece in
     let lane : (i : ℕ) → i < 16 → get_or c.step-numbers.result i 0 ≡ packed_value t w words.numbers (16 * (q / t) + i) (q % t) =
     λ i h. ap (λ xs. get_or xs i 0) c.step-numbers.ensures.values ∙ get_or-sixteen_of (λ k. packed_value words.lane_width c.packed_width-width.result words.numbers (16 * (q / t) + k) (q % t)) i 0 h ∙ ap (λ v. packed_value words.lane_width v words.numbers (16 * (q / t) + i) (q % t)) c.packed_width-width.ensures ∙ ap (λ n. packed_value n w words.numbers (16 * (q / t) + i) (q % t)) (sym same) in
     let base_fits : (i : ℕ) → i < 16 → FitsSigned w64 (value_at bases (16 * (q / t) + i)) =
-    λ i h. fits_wide words.lane_width (value_at bases (16 * (q / t) + i)) c.self.invariant.lane_width (column_fits words.lane_width bases (16 * (q / t) + i) (omega (arith, count, group)) c.self.invariant.bases) in
+    λ i h. fits_wide words.lane_width (value_at bases (16 * (q / t) + i)) c.self.invariant.0.lane_width (column_fits words.lane_width bases (16 * (q / t) + i) (omega (arith, count, group)) c.self.invariant.0.bases) in
     let view : form t ≡ c.args.self.now = ap form same ∙ c.self.view_is in
     let earlier : q % t ≢ 0 → AreSums (form t) (q - 1) c.args.before =
     λ e. subst (λ f. AreSums f (q - 1) c.args.before) (sym view) (c.requires.before (λ z. e (ap (λ f. q % f.lane_width) view ∙ z))) in
     let start : q % t ≡ 0 → (i : ℕ) → i < 16 → int_wrap (integer_width t) (pos (get_or c.lanes_before-from.result i 0)) ≡ int_wrap (integer_width t) (value_at bases (16 * (q / t) + i) +ℤ sum_to (q % t) (g (16 * (q / t) + i))) =
     λ e i h.
-    ap (λ x. int_wrap (integer_width t) (pos x)) (c.lanes_before-from.ensures.first e i h ∙ ap (λ bs. cast_unsigned w64 (value_at bs (16 * (q / t) + i))) c.as_slice.ensures.value)
+    ap (λ x. int_wrap (integer_width t) (pos x)) (c.lanes_before-from.ensures.first e i h)
     ∙ sums_start t (value_at bases (16 * (q / t) + i)) (g (16 * (q / t) + i)) width (base_fits i h)
     ∙ ap (λ k. int_wrap (integer_width t) (value_at bases (16 * (q / t) + i) +ℤ sum_to k (g (16 * (q / t) + i)))) (sym e) in
     let on : q % t ≢ 0 → (i : ℕ) → i < 16 → int_wrap (integer_width t) (pos (get_or c.lanes_before-from.result i 0)) ≡ int_wrap (integer_width t) (value_at bases (16 * (q / t) + i) +ℤ sum_to (q % t) (g (16 * (q / t) + i))) =

@@ -2,7 +2,6 @@
 use Rattle.std.proofs.Common.{◌≡◌, ℕ, suc, ◌+◌, ◌/◌, ◌%◌, ◌^◌, ◌<◌, ℤ, pos, ◌+ℤ◌, List, length, rules, arith, sym, ap, ◌∙◌, subst, FitsSigned, add-one}
 use Rattle.std.specs.Int.{w64, int_wrap, cast_unsigned}
 use Rattle.std.proofs.lemmas.Int.{to_z-of_z}
-use Rattle.std.proofs.lemmas.List.{get_or_read}
 use Rattle.transpose_order.specs.Place.{step_of}
 use Rattle.transpose_order.proofs.PlaceLemmas.{row_at-lane_of}
 use Rattle.bit_interleave.specs.Arithmetic.{integer_width}
@@ -19,13 +18,13 @@ pub loop-step-init : goal.loop-step-init
 loop-step-init c =
     let t = c.lane_width-lane_width.result in
     let lane = c.place-lane.result.0 in
-    let bases : List ℤ = c.self.inside.bases.items in
+    let bases : List ℤ = c.self.inside.bases.values in
     let words = c.self.inside.words in
     let same = c.lane_width-lane_width.ensures.value in
-    let near : lane < length bases = omega (arith, c.place-lane.ensures.lane, (row_at-lane_of t c.args.row c.lane_width-lane_width.ensures.width c.requires).0, c.self.invariant.base_count, ap (λ (n : ℕ). 1024 / n) same) in
-    let found : FitsSigned w64 c.index.result.now = search rules in
-    let fits : FitsSigned w64 (value_at bases lane) = fits_wide words.lane_width (value_at bases lane) c.self.invariant.lane_width (column_fits words.lane_width bases lane near c.self.invariant.bases) in
-    ap (λ x. int_wrap (integer_width t) (pos x)) (c.cast_unsigned-sum.ensures ∙ ap (cast_unsigned w64) (to_z-of_z w64 c.index.result.now found ∙ get_or_read bases lane c.index.result.now near c.index.ensures (pos 0)))
+    let near : lane < length bases = omega (arith, c.place-lane.ensures.lane, (row_at-lane_of t c.args.row c.lane_width-lane_width.ensures.width c.requires).0, c.self.invariant.0.base_count, ap (λ (n : ℕ). 1024 / n) same) in
+    let found : FitsSigned w64 c.get.result = search rules in
+    let fits : FitsSigned w64 (value_at bases lane) = fits_wide words.lane_width (value_at bases lane) c.self.invariant.0.lane_width (column_fits words.lane_width bases lane near c.self.invariant.0.bases) in
+    ap (λ x. int_wrap (integer_width t) (pos x)) (c.cast_unsigned-sum.ensures ∙ ap (cast_unsigned w64) (to_z-of_z w64 c.get.result found ∙ c.get.ensures.value))
     ∙ sums_start t (value_at bases lane) (λ s. c.self.inside.least +ℤ pos (packed_value t (packed_width words) words.numbers lane s)) c.lane_width-lane_width.ensures.width fits
 
 pub loop-step-preserved : goal.loop-step-preserved
@@ -36,7 +35,7 @@ loop-step-preserved c =
     let r = c.self.inside.least in
     let words = c.self.inside.words in
     let w = packed_width words in
-    let base = value_at c.self.inside.bases.items lane in
+    let base = value_at c.self.inside.bases.values lane in
     let g : ℕ → ℤ = λ s. r +ℤ pos (packed_value t w words.numbers lane s) in
     let fits : FitsSigned w64 r = search rules in
     let bits = c.cast_unsigned-least.ensures ∙ ap (cast_unsigned w64) (to_z-of_z w64 r fits) in
@@ -53,7 +52,7 @@ returns-clause-value c =
     let r = c.self.inside.least in
     let words = c.self.inside.words in
     let w = packed_width words in
-    let bases : List ℤ = c.self.inside.bases.items in
+    let bases : List ℤ = c.self.inside.bases.values in
     let form : ℕ → DeltaForm = λ k. record { lane_width = k; width = w; least = r; bases = bases; words = words } in
     let sum_at : ℕ → ℕ → ℤ = λ l s. int_wrap (integer_width t) (value_at bases l +ℤ sum_to s (λ i. r +ℤ pos (packed_value t w words.numbers l i))) in
     let made : FitsSigned w64 c.wrap.result = search rules in
