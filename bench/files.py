@@ -16,9 +16,7 @@ TOP = pathlib.Path(__file__).resolve().parent.parent
 PLAIN = TOP / "bench" / "files" / "plain.rs"
 QUERY = "SELECT COUNT(*) FROM T"
 BOUND = "3 times the bytes, 256 bytes for each vector, and 64 for each range and each name of a batch"
-KNOWN = """Of a file of few bytes the peak tells the pages of the buffer that is read through, and little else. Known: the values of runs and
-of dictionaries and the bases of deltas are held as numbers of 64 bits whatever the column's lanes are, so four times their bytes at
-16 bits and twice at 32: files of narrow columns that are mostly such values may be over."""
+KNOWN = "Of a file of few bytes the peak tells the pages of the buffer that is read through, and little else."
 HEAD = b"FLCF" + bytes([1, 0, 1, 0, 1]) + b"T" + bytes([2, 1]) + b"A"
 
 
