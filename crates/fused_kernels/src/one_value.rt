@@ -1,5 +1,5 @@
 //! Comparisons of two coded vectors of which one has one value: the other is compared with that number.
-ghost use Rattle.std.specs.Prelude.{◌≡◌, ◌<◌, ℕ, ℤ, IfSome, IsSome};
+ghost use Rattle.std.specs.Prelude.{◌≡◌, ◌<◌, ℕ, IfSome, IsSome};
 ghost use Rattle.transpose_order.specs.Mask.{rows_of};
 ghost use Rattle.frame_delta.specs.Frame.{FrameForm, frame_value};
 ghost use Rattle.table_model.specs.Truth.{compared};
@@ -37,20 +37,6 @@ fn one_value_of(coded: &Coded) -> Option<i64>
     }
 }
 
-/// The comparison that holds of two numbers where another holds of them by turns.
-fn turned(op: Op) -> Op
-    ensures { (left right : ℤ) → compared result right left ≡ compared op left right }
-{
-    match op {
-        Op::Equal => Op::Equal,
-        Op::NotEqual => Op::NotEqual,
-        Op::Less => Op::Greater,
-        Op::LessOrEqual => Op::GreaterOrEqual,
-        Op::Greater => Op::Less,
-        Op::GreaterOrEqual => Op::LessOrEqual,
-    }
-}
-
 /// The rows at which a comparison of a vector's values with another's holds, where the other is a frame without packed numbers, or
 /// none. It may be none too where the vector's lanes are of 8 bits.
 fn found_beside_right(left: &Coded, op: Op, right: &Coded) -> Option<Mask>
@@ -71,7 +57,7 @@ pub(crate) fn found_beside_one(left: &Coded, op: Op, right: &Coded) -> Option<Ma
     ensures left { (form : FrameForm) → left.now ≡ InFor form → form.width ≡ 0 → 8 < lane_width_of right.now → IsSome result }
 {
     match found_beside_right(left, op, right) {
-        None => found_beside_right(right, turned(op), left),
+        None => found_beside_right(right, op.turned(), left),
         Some(found) => Some(found),
     }
 }

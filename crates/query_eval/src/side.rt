@@ -1,5 +1,5 @@
 //! The sides of comparisons, and comparisons by masks.
-ghost use Rattle.std.specs.Prelude.{◌≡◌, ◌<◌, ◌≤◌, ◌+◌, ℕ, ℤ, Option, length};
+ghost use Rattle.std.specs.Prelude.{◌≡◌, ◌<◌, ◌≤◌, ◌+◌, ℕ, length};
 ghost use Rattle.table_model.specs.Answer.{whole};
 ghost use Rattle.table_model.specs.Condition.{is_null, field_comparison};
 ghost use Rattle.table_model.specs.Truth.{comparison, truth_of};
@@ -39,20 +39,6 @@ pub fn side_of<C: Columns>(columns: &C, operand: &Operand) -> Side
     }
 }
 
-/// The comparison that holds of two numbers where this one holds of them the other way round.
-fn turned(op: Op) -> Op
-    ensures { (x y : Option ℤ) → comparison result y x ≡ comparison op x y }
-{
-    match op {
-        Op::Equal => Op::Equal,
-        Op::NotEqual => Op::NotEqual,
-        Op::Less => Op::Greater,
-        Op::LessOrEqual => Op::GreaterOrEqual,
-        Op::Greater => Op::Less,
-        Op::GreaterOrEqual => Op::LessOrEqual,
-    }
-}
-
 /// The comparison of two sides at the rows of a mask. A comparison without a column takes no pass.
 pub fn compare_sides<C: Columns>(
     columns: &mut C,
@@ -77,7 +63,7 @@ pub fn compare_sides<C: Columns>(
             Pair { yes, no }
         }
         (Side::Fixed(Some(literal)), Side::Column(column)) => {
-            let (yes, no) = columns.compare(batch, column, vector, turned(op), literal, mask);
+            let (yes, no) = columns.compare(batch, column, vector, op.turned(), literal, mask);
             Pair { yes, no }
         }
         (Side::Column(left), Side::Column(right)) => {

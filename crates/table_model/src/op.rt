@@ -1,5 +1,5 @@
 //! The six comparisons.
-ghost use Rattle.std.specs.Prelude.{◌≡◌};
+ghost use Rattle.std.specs.Prelude.{◌≡◌, ℤ, Option};
 ghost use Rattle.table_model.specs.Condition.{field_comparison, FitsMillionths};
 ghost use Rattle.table_model.specs.Truth.{compared, comparison};
 
@@ -48,6 +48,21 @@ impl Op {
         match (left, right) {
             (Some(x), Some(y)) => Truth::from_bool(self.holds(x, y)),
             (None, _) | (_, None) => Truth::Unknown,
+        }
+    }
+
+    /// The comparison that holds of two numbers where this one holds of them by turns: `<` is turned into `>`.
+    pub fn turned(self) -> Op
+        ensures numbers { (left right : ℤ) → compared result right left ≡ compared self left right }
+        ensures cells { (left right : Option ℤ) → comparison result right left ≡ comparison self left right }
+    {
+        match self {
+            Op::Equal => Op::Equal,
+            Op::NotEqual => Op::NotEqual,
+            Op::Less => Op::Greater,
+            Op::LessOrEqual => Op::GreaterOrEqual,
+            Op::Greater => Op::Less,
+            Op::GreaterOrEqual => Op::LessOrEqual,
         }
     }
 

@@ -548,6 +548,11 @@ fn comparisons_are_known_unless_a_side_is_null(rt: HostRuntime) {
             (op.compare(None, Some(2)), op.compare(Some(1), None)),
             (Truth::Unknown, Truth::Unknown)
         );
+        let turned = op.turned();
+        assert_eq!(rt;
+            (turned.holds(2, 1), turned.holds(2, 2), turned.holds(1, 2)),
+            (below, same, above)
+        );
     }
 }
 

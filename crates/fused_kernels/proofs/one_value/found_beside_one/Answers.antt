@@ -10,4 +10,4 @@ returns-in-None-clause-rows c =
     let l : ℕ → ℤ = value_in c.args.left.now in
     let r : ℕ → ℤ = value_in c.args.right.now in
     found_alike c.found_beside_right-in-None.result (λ n. compared c.turned.result (r n) (l n)) (λ n. compared c.args.op (l n) (r n)) c.found_beside_right-in-None.ensures.rows
-    (λ n h. c.turned.ensures (l n) (r n))
+    (λ n h. c.turned.ensures.numbers (l n) (r n))
