@@ -10,10 +10,7 @@ use crate::ranges::Ranges;
 use std::alloc::{AllocError, Global};
 use std::marker::Model;
 use table_model::{BatchName, RowName};
-use transpose_order::Mask;
-
-/// How many rows a vector has.
-const VECTOR_ROWS: usize = 1024;
+use transpose_order::{Mask, VECTOR_ROWS};
 
 /// The names of deleted rows, held or not: a set of row names.
 #[derive(Drop)]

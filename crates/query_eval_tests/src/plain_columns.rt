@@ -18,10 +18,7 @@ ghost use Rattle.query_eval.specs.Where.{IsPair};
 use query_eval::{Columns, Decoded, Pair, greater, lesser};
 use std::marker::Model;
 use table_model::{BatchName, Number, Op, Origin, Refusal, Rows, Schema, Truth, check_rows};
-use transpose_order::Mask;
-
-/// How many rows a vector has.
-const VECTOR_ROWS: usize = 1024;
+use transpose_order::{Mask, VECTOR_ROWS};
 
 /// The rows of a table's batch 1.1, none of them deleted, and how many passes were made over the values of its vectors.
 #[derive(Drop)]

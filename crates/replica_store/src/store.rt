@@ -24,12 +24,10 @@ use segment_core::{Coding, Segment};
 use std::alloc::{AllocError, Global};
 use std::marker::Model;
 use table_model::{BatchName, Number, Origin, Refusal, Row, RowName, Schema, check_rows};
+use transpose_order::VECTOR_ROWS;
 
 /// How many batches a store may have.
 pub const MAX_BATCHES: usize = 65_536;
-
-/// How many rows a vector has.
-const VECTOR_ROWS: usize = 1024;
 
 /// The greatest number that a batch may have.
 const LAST_NUMBER: u32 = u32::MAX;

@@ -19,10 +19,7 @@ use replica_store::Store;
 use segment_core::CodedVector;
 use std::marker::Model;
 use table_model::{BatchName, Op, Schema};
-use transpose_order::Mask;
-
-/// How many rows a vector has.
-const VECTOR_ROWS: usize = 1024;
+use transpose_order::{Mask, VECTOR_ROWS};
 
 /// A store as the columns of a query, with a meter of the passes over its vectors.
 #[derive(Drop)]

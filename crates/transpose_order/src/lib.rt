@@ -9,6 +9,6 @@ mod words;
 pub use bytes::{number_at, put_number};
 pub use masks::{Mask, counts_agree, masks_and_bytes_come_back};
 pub use places::{
-    every_place_is_a_row, one_order_serves_every_width, pieces_stand_in_words, place,
+    VECTOR_ROWS, every_place_is_a_row, one_order_serves_every_width, pieces_stand_in_words, place,
     place_in_word, places_are_distinct, position, row_at,
 };

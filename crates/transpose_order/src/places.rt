@@ -3,6 +3,9 @@ ghost use Rattle.std.specs.Prelude.{◌≡◌, ◌/◌, ◌<◌, ◌≤◌};
 ghost use Rattle.transpose_order.specs.Place.{reversed, IsLaneWidth, group_bits, lane_of, step_of, row_at, position_of, place_of};
 ghost use Rattle.transpose_order.specs.Place.{PlacesAreDistinct, EveryPlaceIsARow, OneOrderServesEveryWidth, PiecesStandInWords};
 
+/// How many rows a vector has, as in FastLanes (VLDB 2023).
+pub const VECTOR_ROWS: usize = 1024;
+
 /// The number of bits of a group's number at a lane width, 3 for 8 bits down to 0 for 64.
 fn group_bits(lane_width: usize) -> usize
     ensures value { result ≡ group_bits lane_width }
