@@ -91,20 +91,37 @@ fn turned_beside(equal: bool, turned: bool, left: &Coded, right: &Coded) -> Opti
     Some(found)
 }
 
-/// The test by which a comparison holds, or where the third part is false, doesn't: whether it is for equality or else for less,
-/// and whether of the right value beside the left.
-fn test_of(op: Op) -> (bool, bool, bool)
-    ensures { (left right : ℤ) → compared op left right
-        ≡ (if result.2 then value_passes result.0 (cond result.1 right left) (cond result.1 left right)
-        else not (value_passes result.0 (cond result.1 right left) (cond result.1 left right))) }
-{
-    match op {
-        Op::Equal => (true, false, true),
-        Op::NotEqual => (true, false, false),
-        Op::Less => (false, false, true),
-        Op::LessOrEqual => (false, true, false),
-        Op::Greater => (false, true, true),
-        Op::GreaterOrEqual => (false, false, false),
+/// The one test of two values, for equality or for less, that tells whether they compare.
+#[derive(Drop)]
+struct LaneTest {
+    /// Whether the test is for equality, or else for less.
+    equal: bool,
+    /// Whether it is of the right value beside the left.
+    turned: bool,
+    /// Whether the values compare where it holds, or else where it doesn't.
+    holds: bool,
+}
+
+impl LaneTest {
+    /// The test that tells whether two values compare.
+    fn of(op: Op) -> LaneTest
+        ensures { (left right : ℤ) → compared op left right
+            ≡ (if result.holds then value_passes result.equal (cond result.turned right left) (cond result.turned left right)
+            else not (value_passes result.equal (cond result.turned right left) (cond result.turned left right))) }
+    {
+        let (equal, turned, holds) = match op {
+            Op::Equal => (true, false, true),
+            Op::NotEqual => (true, false, false),
+            Op::Less => (false, false, true),
+            Op::LessOrEqual => (false, true, false),
+            Op::Greater => (false, true, true),
+            Op::GreaterOrEqual => (false, false, false),
+        };
+        LaneTest {
+            equal,
+            turned,
+            holds,
+        }
     }
 }
 
@@ -113,9 +130,9 @@ pub(crate) fn found_beside(left: &Coded, op: Op, right: &Coded) -> Option<Mask>
     ensures rows { IfSome result (λ found. found ≡ rows_of (λ n. compared op (value_in left.now n) (value_in right.now n))) }
     ensures answers { native_width left.now ≡ native_width right.now → 8 < native_width left.now → IsSome result }
 {
-    let (equal, turned, inside) = test_of(op);
-    match turned_beside(equal, turned, left, right) {
+    let test = LaneTest::of(op);
+    match turned_beside(test.equal, test.turned, left, right) {
         None => None,
-        Some(found) => Some(held(&found, inside)),
+        Some(found) => Some(held(&found, test.holds)),
     }
 }

@@ -11,11 +11,11 @@ pub returns-in-Some-clause-rows : goal.returns-in-Some-clause-rows
 returns-in-Some-clause-rows c =
     let l : ℕ → ℤ = value_in c.args.left.now in
     let r : ℕ → ℤ = value_in c.args.right.now in
-    let test = c.test_of-equal.result in
-    let inside = test.2 in
+    let test = c.of-test.result in
+    let inside = test.holds in
     c.held.ensures
     ∙ rows_of-like (λ n. if inside then has c.in-Some.found n else not (has c.in-Some.found n)) (λ n. compared c.args.op (l n) (r n))
     (λ n h.
     ap (λ b. if inside then b else not b)
-    (ap (λ m. has m n) c.in-Some.ensures.rows ∙ has-rows_of (λ n. value_passes test.0 (cond test.1 (r n) (l n)) (cond test.1 (l n) (r n))) n h)
-    ∙ sym (c.test_of-equal.ensures (l n) (r n)))
+    (ap (λ m. has m n) c.in-Some.ensures.rows ∙ has-rows_of (λ n. value_passes test.equal (cond test.turned (r n) (l n)) (cond test.turned (l n) (r n))) n h)
+    ∙ sym (c.of-test.ensures (l n) (r n)))
