@@ -30,7 +30,7 @@ fn read_column(
     ensures form { IfOk result (λ x. IsColumn rows x.0) }
     ensures lanes { IfOk result (λ x. width_in x.0 ≡ lane_width) }
 {
-    let mut vectors = Vec::new(alloc);
+    let mut vectors = Vec::with_capacity(alloc, 1)?;
     let mut rest = bytes;
     for k in 0..(rows + 1023) / 1024 {
         let covered = (rows - 1024 * k).min(1024);
@@ -59,7 +59,7 @@ fn read_columns<'a>(
     ensures forms { IfOk result (λ x. (c : ℕ) (vectors : List VectorForm) → slice_get x.0.items c ≡ Some vectors → IsColumn rows vectors) }
     ensures lanes { IfOk result (λ x. widths_in x.0.items ≡ map (λ (shape : ColumnShape). bits_of shape.column_type) shapes.now) }
 {
-    let mut read = Vec::new(alloc);
+    let mut read = Vec::with_capacity(alloc, shapes.len())?;
     let mut rest = bytes;
     for shape in shapes {
         let lane_width = shape.column_type().bits();

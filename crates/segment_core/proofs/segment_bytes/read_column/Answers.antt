@@ -12,7 +12,7 @@ use Rattle.segment_core.proofs.segment_bytes.read_column.Goals as goal
 pub returns-in_err-vector-clause-read : goal.returns-in_err-vector-clause-read
 unfolding column
 returns-in_err-vector-clause-read c =
-    let p = err_from_is_err_and c.from_residual.result c.from_residual.ensures.1 in
+    let p = err_from_is_err_and c.from_residual-in_err-vector.result c.from_residual-in_err-vector.ensures.1 in
     let covered : c.min-covered.result ≡ rows_in c.args.rows (length c.loop-k.vectors.items) = omega (arith, c.loop-k.invariant.count, c.min-covered.ensures) in
     rw (p.1, p.2) (λ not_memory. ends (λ front. vector c.args.lane_width (rows_in c.args.rows (length front))) (vector_count c.args.rows) c.loop-k.k c.loop-k.vectors.items c.args.total c.loop-k.rest.now c.in_err-vector.field-0.0 _ c.loop-k-test.true
     (rw (← covered) (c.in_err-vector.ensures.read not_memory)) c.loop-k.invariant.read)

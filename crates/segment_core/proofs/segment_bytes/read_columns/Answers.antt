@@ -10,7 +10,7 @@ use Rattle.segment_core.proofs.segment_bytes.read_columns.Goals as goal
 pub returns-in_err-vectors-clause-read : goal.returns-in_err-vectors-clause-read
 unfolding columns
 returns-in_err-vectors-clause-read c =
-    let p = err_from_is_err_and c.from_residual.result c.from_residual.ensures.1 in
+    let p = err_from_is_err_and c.from_residual-in_err-vectors.result c.from_residual-in_err-vectors.ensures.1 in
     let widths = map (λ (shape : ColumnShape). bits_of shape.column_type) c.args.shapes.now in
     let width : c.bits-lane_width.result ≡ slice_index_or widths (length c.loop-shape.read.items) 0 =
     c.bits-lane_width.ensures ∙ ap bits_of c.column_type.ensures ∙ width_at c.args.shapes.now c.loop-shape.shape-index (length c.loop-shape.read.items) c.shape-item.result c.loop-shape-test.true c.loop-shape.invariant.count c.shape-item.is in
