@@ -109,10 +109,15 @@ def numbers(values, size):
     return b"".join(value.to_bytes(size, "little", signed=True) for value in values)
 
 
+def head_of(kind, columns, batches):
+    """What stands before the batches in a file of so many columns of a type, given by its bytes, C00 and so on."""
+    names = b"".join(bytes([kind, 3]) + f"C{column:02}".encode() for column in range(columns))
+    return b"FLCF" + bytes([1, 0, columns, 0, 1]) + b"T" + names + batches.to_bytes(4, "little")
+
+
 def made(kind, columns, batches, vector):
     """A file of so many batches of 65,536 rows of so many columns of a type, each of whose vectors `vector()` gives."""
-    names = b"".join(bytes([kind, 2]) + f"A{chr(65 + column)}".encode() for column in range(columns))
-    head = b"FLCF" + bytes([1, 0, columns, 0, 1]) + b"T" + names + batches.to_bytes(4, "little")
+    head = head_of(kind, columns, batches)
     listed = (numbers([1, number + 1], 4) + b"\xff\xff" + b"".join(vector() for _ in range(64 * columns)) for number in range(batches))
     return head + b"".join(listed) + bytes(8)
 
@@ -125,9 +130,7 @@ def ranges_of_two(count):
 
 def single_rows(columns):
     """A file of 65,536 batches of one row of so many SMALLINT columns."""
-    names = b"".join(bytes([2, 2]) + f"A{chr(65 + column)}".encode() for column in range(columns))
-    head = b"FLCF" + bytes([1, 0, columns, 0, 1]) + b"T" + names + (65_536).to_bytes(4, "little")
-    return head + b"".join(numbers([1, number + 1], 4) + bytes(2) + (bytes(5) + (number % 9).to_bytes(2, "little")) * columns for number in range(65_536)) + bytes(8)
+    return head_of(2, columns, 65_536) + b"".join(numbers([1, number + 1], 4) + bytes(2) + (bytes(5) + (number % 9).to_bytes(2, "little")) * columns for number in range(65_536)) + bytes(8)
 
 
 def in_frame_from_0(chance):
