@@ -1,29 +1,19 @@
-//! Calls of words and values, each with a growth refused. A test's own growths are counted from 1: with the Nth refused, a test fails by
-//! an `AllocError` of its set-up, or, where it was a growth of the call that it is of, with the text `REFUSED` or `CHANGED`; with
+//! Calls of words and values, each with a growth refused. A test's own growths are counted from 1: with the Nth refused, a test
+//! fails by an `AllocError` of its set-up, or, where it was a growth of the call that it is of, as `growth_refused` says; with
 //! none refused it passes. The command `tests/refused-memory` refuses each in turn and counts those texts.
 ghost use Rattle.std.specs.Prelude.{◌≤◌, ◌^◌, ◌<◌};
 ghost use Rattle.transpose_order.specs.Place.{IsLaneWidth};
 
 use bit_interleave::{Values, Words};
+use expectations::growth_refused;
 use std::alloc::{AllocError, Global};
 use std::test::Fail;
-
-/// The call answered that memory was refused; what it was given is as it was, and the same call again succeeds.
-const REFUSED: &str = "a growth was refused, and all is as it was";
-
-/// The call answered otherwise, or what it was given is not as it was.
-const CHANGED: &str = "a growth was refused, and not all is as it was";
 
 /// The numbers of these tests' words, which fit 8 bits.
 const NUMBERS: [u64; 4] = [1, 255, 0, 128];
 
 /// The numbers of these tests' values, which are in the range of 8 bits.
 const VALUES: [i64; 3] = [-128, 0, 127];
-
-/// The end of a test whose call was refused.
-fn refused(is_as_it_was: bool) -> Result<(), Fail> {
-    Err(Fail::new(if is_as_it_was { REFUSED } else { CHANGED }))
-}
 
 /// Whether words have the numbers of these tests.
 fn has_numbers(words: &Words) -> bool {
@@ -54,9 +44,11 @@ fn make(alloc: Global, lane_width: usize) -> Result<(), Fail>
         Ok(words) => if has_numbers(&words) {
             Ok(())
         } else {
-            refused(false)
+            growth_refused(false)
         },
-        Err(AllocError) => refused(is_made(&Words::from_numbers(alloc, lane_width, &NUMBERS))),
+        Err(AllocError) => growth_refused(is_made(&Words::from_numbers(
+            alloc, lane_width, &NUMBERS,
+        ))),
     }
 }
 
@@ -77,9 +69,9 @@ fn copy(alloc: Global, lane_width: usize) -> Result<(), Fail>
         Ok(copied) => if has_numbers(&copied) {
             Ok(())
         } else {
-            refused(false)
+            growth_refused(false)
         },
-        Err(AllocError) => refused(has_numbers(&words) && is_made(&words.copy(alloc))),
+        Err(AllocError) => growth_refused(has_numbers(&words) && is_made(&words.copy(alloc))),
     }
 }
 
@@ -120,9 +112,11 @@ fn make_values(alloc: Global, lane_width: usize) -> Result<(), Fail>
         Ok(values) => if has_values(&values) {
             Ok(())
         } else {
-            refused(false)
+            growth_refused(false)
         },
-        Err(AllocError) => refused(are_made(&Values::from_slice(alloc, lane_width, &VALUES))),
+        Err(AllocError) => growth_refused(are_made(&Values::from_slice(
+            alloc, lane_width, &VALUES,
+        ))),
     }
 }
 
@@ -143,9 +137,9 @@ fn copy_values(alloc: Global, lane_width: usize) -> Result<(), Fail>
         Ok(copied) => if has_values(&copied) {
             Ok(())
         } else {
-            refused(false)
+            growth_refused(false)
         },
-        Err(AllocError) => refused(has_values(&values) && are_made(&values.copy(alloc))),
+        Err(AllocError) => growth_refused(has_values(&values) && are_made(&values.copy(alloc))),
     }
 }
 

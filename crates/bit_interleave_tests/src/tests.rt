@@ -13,6 +13,7 @@ use bit_interleave::{
     words_and_bytes_come_back, wrap, wrap_lanes, wrapping_difference, wrapping_sum,
     wrapping_sum_with,
 };
+use expectations::{agree, agree_at};
 use std::alloc::Global;
 use std::fmt::Debug;
 use std::process::Abort;
@@ -61,17 +62,23 @@ fn value_at<U: LaneWord>(rt: &impl Abort, width: usize, words: &[U], row: usize)
 }
 
 /// Each row's value is the one that its bits in the words make.
-fn values_are_in_words<U: LaneWord>(rt: &impl Abort, width: usize, words: &[U], values: &[U; 1024])
+fn values_are_in_words<U: LaneWord>(
+    rt: &impl Abort,
+    width: usize,
+    words: &[U],
+    values: &[U; 1024],
+) -> Result<(), Fail>
     requires width { width ≤ U.BITS }
 {
     for row in 0..1024 {
         let expected = value_at(rt, width, words, row);
-        assert_eq!(rt;
+        agree_at(
+            format_args!("row {row} at width {width}"),
             values[row].to_u64(),
             expected,
-            "row {row} at width {width}"
-        );
+        )?;
     }
+    Ok(())
 }
 
 /// The word that the highest bits of a number are.
@@ -105,11 +112,10 @@ fn follows_the_definition<U: LaneWord + PartialEq + Debug>(
     requires words { length words.now ≡ width * (1024 / U.BITS) }
 {
     unpack_at(width, words, values);
-    values_are_in_words(rt, width, words, values);
+    values_are_in_words(rt, width, words, values)?;
     let mut again = vec![in alloc; U::from_u64(0); words.len()]?;
     pack_at(width, values, again.as_mut_slice());
-    assert_eq!(rt; again.as_slice(), words);
-    Ok(())
+    agree(again.as_slice(), words)
 }
 
 /// Words follow the definition at every width, from 0 to the lane width.
@@ -121,7 +127,9 @@ fn follows_at_every_width<U: LaneWord + PartialEq + Debug>(
     for width in 0..U::BITS + 1 {
         let count = width * (1024 / U::BITS);
         let words = scrambled::<U>(alloc, count)?;
-        assert_eq!(rt; words.len(), count);
+        if words.len() != count {
+            return agree(words.len(), count);
+        }
         follows_the_definition(rt, alloc, width, words.as_slice(), values)?;
     }
     Ok(())
@@ -178,23 +186,24 @@ fn words_of_row(rt: &impl Abort, lane_width: usize, width: usize, row: usize) ->
 }
 
 /// The words have these numbers, followed by zeros alone.
-fn have_numbers(rt: &impl Abort, words: &Words, numbers: &[u64; 1024]) {
+fn have_numbers(words: &Words, numbers: &[u64; 1024]) -> Result<(), Fail> {
     for i in 0..1024 {
         if i < words.len() {
-            assert_eq!(rt; words.word(i), numbers[i], "word {i}");
+            agree_at(format_args!("word {i}"), words.word(i), numbers[i])?;
         } else {
-            assert_eq!(rt; numbers[i], 0, "no word {i}");
+            agree_at(format_args!("no word {i}"), numbers[i], 0)?;
         }
     }
+    Ok(())
 }
 
 /// Words that pack a vector at a width give it back.
-fn gives_back(rt: &impl Abort, words: &Words, width: usize, values: &[u64; 1024])
+fn gives_back(words: &Words, width: usize, values: &[u64; 1024]) -> Result<(), Fail>
     requires { HasWidth words.now width }
 {
     let mut back = [1; 1024];
     words.unpack(width, &mut back);
-    assert_eq!(rt; back.as_slice(), values.as_slice());
+    agree(back.as_slice(), values.as_slice())
 }
 
 /// A vector with one row that isn't 0 packs to words that are 0 but for that row's bits, and comes back.
@@ -212,15 +221,16 @@ fn stands_and_comes_back(
 {
     let values = greatest_at(width, row);
     let words = Words::pack(alloc, lane_width, width, &values)?;
-    assert_eq!(rt; words.len(), width * (1024 / lane_width));
-    have_numbers(rt, &words, &words_of_row(rt, lane_width, width, row));
-    gives_back(rt, &words, width, &values);
-    Ok(())
+    let count = width * (1024 / lane_width);
+    if words.len() != count {
+        return agree(words.len(), count);
+    }
+    have_numbers(&words, &words_of_row(rt, lane_width, width, row))?;
+    gives_back(&words, width, &values)
 }
 
 /// The words of a vector with one row that isn't 0 are 0 but for those at the places `low` and `high`.
 fn stands_at(
-    rt: &impl Abort,
     alloc: Global,
     lane_width: usize,
     width: usize,
@@ -235,37 +245,36 @@ fn stands_at(
     requires high { high.0 < 1024 }
 {
     let words = Words::pack(alloc, lane_width, width, &greatest_at(width, row))?;
-    assert_eq!(rt; words.len(), width * (1024 / lane_width));
+    agree(words.len(), width * (1024 / lane_width))?;
     let mut expected = [0; 1024];
     expected[low.0] = low.1;
     expected[high.0] = high.1;
-    have_numbers(rt, &words, &expected);
-    Ok(())
+    have_numbers(&words, &expected)
 }
 
 // The row's lane and step: row 8 at 8 bits is lane 64, step 0, and row 17 at 16 bits lane 32, step 1.
 #[test]
 fn a_row_stands_in_the_words_of_its_lane(rt: HostRuntime) -> Result<(), Fail> {
     let alloc = rt.alloc();
-    stands_at(&rt, alloc, 8, 1, 8, (64, 1), (64, 1))?;
-    stands_at(&rt, alloc, 8, 7, 9, (64, 128), (192, 63))?;
-    stands_at(&rt, alloc, 8, 8, 9, (192, 255), (192, 255))?;
-    stands_at(&rt, alloc, 16, 1, 16, (32, 1), (32, 1))?;
-    stands_at(&rt, alloc, 16, 3, 5, (0, 32768), (64, 3))?;
-    stands_at(&rt, alloc, 16, 15, 17, (32, 32768), (96, 16383))?;
-    stands_at(&rt, alloc, 16, 16, 17, (96, 65535), (96, 65535))
+    stands_at(alloc, 8, 1, 8, (64, 1), (64, 1))?;
+    stands_at(alloc, 8, 7, 9, (64, 128), (192, 63))?;
+    stands_at(alloc, 8, 8, 9, (192, 255), (192, 255))?;
+    stands_at(alloc, 16, 1, 16, (32, 1), (32, 1))?;
+    stands_at(alloc, 16, 3, 5, (0, 32768), (64, 3))?;
+    stands_at(alloc, 16, 15, 17, (32, 32768), (96, 16383))?;
+    stands_at(alloc, 16, 16, 17, (96, 65535), (96, 65535))
 }
 
 // Row 33 at 32 bits is lane 16, step 1, and row 65 at 64 bits lane 1, step 1.
 #[test]
 fn a_row_stands_in_the_wide_words_of_its_lane(rt: HostRuntime) -> Result<(), Fail> {
     let alloc = rt.alloc();
-    stands_at(&rt, alloc, 32, 1, 33, (16, 2), (16, 2))?;
-    stands_at(&rt, alloc, 32, 31, 33, (16, 0x8000_0000), (48, 0x3FFF_FFFF))?;
-    stands_at(&rt, alloc, 32, 32, 33, (48, 0xFFFF_FFFF), (48, 0xFFFF_FFFF))?;
-    stands_at(&rt, alloc, 64, 1, 65, (1, 2), (1, 2))?;
-    stands_at(&rt, alloc, 64, 63, 65, (1, 1 << 63), (17, (1 << 62) - 1))?;
-    stands_at(&rt, alloc, 64, 64, 65, (17, u64::MAX), (17, u64::MAX))
+    stands_at(alloc, 32, 1, 33, (16, 2), (16, 2))?;
+    stands_at(alloc, 32, 31, 33, (16, 0x8000_0000), (48, 0x3FFF_FFFF))?;
+    stands_at(alloc, 32, 32, 33, (48, 0xFFFF_FFFF), (48, 0xFFFF_FFFF))?;
+    stands_at(alloc, 64, 1, 65, (1, 2), (1, 2))?;
+    stands_at(alloc, 64, 63, 65, (1, 1 << 63), (17, (1 << 62) - 1))?;
+    stands_at(alloc, 64, 64, 65, (17, u64::MAX), (17, u64::MAX))
 }
 
 // Every row of a vector in turn, at 16 bits and width 3.
@@ -296,27 +305,27 @@ fn counting_packed() -> [u64; 1024] {
 
 // Row n is lane n / 64, step n % 64, and each value is one word: word w of lane l has index 16 * w + l.
 #[test]
-fn a_literal_width_packs_each_value_in_its_lane(rt: HostRuntime) {
+fn a_literal_width_packs_each_value_in_its_lane() -> Result<(), Fail> {
     let words = counting_packed();
-    assert_eq!(rt; (words[1], words[16], words[17]), (64, 1, 65));
-    assert_eq!(rt;
+    agree((words[1], words[16], words[17]), (64, 1, 65))?;
+    agree(
         step::<u64, 64>(&words, 0, 63).to_array(),
         [
-            63, 127, 191, 255, 319, 383, 447, 511, 575, 639, 703, 767, 831, 895, 959, 1023
-        ]
-    );
+            63, 127, 191, 255, 319, 383, 447, 511, 575, 639, 703, 767, 831, 895, 959, 1023,
+        ],
+    )
 }
 
 #[test]
-fn a_literal_width_packs_as_a_run_time_width(rt: HostRuntime) {
+fn a_literal_width_packs_as_a_run_time_width() -> Result<(), Fail> {
     let values = counting();
     let words = counting_packed();
     let mut again = [0; 1024];
     pack_at(64, &values, &mut again);
-    assert_eq!(rt; again.as_slice(), words.as_slice());
+    agree(again.as_slice(), words.as_slice())?;
     let mut back = [1; 1024];
     unpack::<u64, 64>(&words, &mut back);
-    assert_eq!(rt; back.as_slice(), values.as_slice());
+    agree(back.as_slice(), values.as_slice())
 }
 
 /// The words of 16 bits that are 0 but for the three bits of row 5 at width 3, which are all set.
@@ -329,36 +338,36 @@ fn row_5_across_two_words() -> [u16; 192] {
 
 // Row 5 is lane 0, step 5, so its bits are 15 to 17 of the lane: the top one of word 0, the low two of word 1.
 #[test]
-fn a_step_reads_a_value_across_two_words(rt: HostRuntime) {
+fn a_step_reads_a_value_across_two_words() -> Result<(), Fail> {
     let words = row_5_across_two_words();
     let mut expected = [0; 16];
     expected[0] = 7;
-    assert_eq!(rt; step::<u16, 3>(&words, 0, 5).to_array(), expected);
-    assert_eq!(rt; step_at(3, &words, 0, 5).to_array(), expected);
+    agree(step::<u16, 3>(&words, 0, 5).to_array(), expected)?;
+    agree(step_at(3, &words, 0, 5).to_array(), expected)
 }
 
 #[test]
-fn a_value_is_unpacked_across_two_words(rt: HostRuntime) {
+fn a_value_is_unpacked_across_two_words() -> Result<(), Fail> {
     let mut values = [1u16; 1024];
     unpack_at(3, &row_5_across_two_words(), &mut values);
-    assert_eq!(rt; (values[4], values[5], values[6]), (0, 7, 0));
+    agree((values[4], values[5], values[6]), (0, 7, 0))
 }
 
 #[test]
-fn width_zero_has_no_words_and_the_value_zero(rt: HostRuntime) {
+fn width_zero_has_no_words_and_the_value_zero() -> Result<(), Fail> {
     let mut words = [0u8; 0];
     pack::<u8, 0>(&[0; 1024], &mut words);
     let mut values = [1u8; 1024];
     unpack::<u8, 0>(&words, &mut values);
-    assert_eq!(rt; values.as_slice(), [0; 1024].as_slice());
+    agree(values.as_slice(), [0; 1024].as_slice())
 }
 
 #[test]
 fn words_are_made_of_numbers_and_copied(rt: HostRuntime) -> Result<(), Fail> {
     let words = Words::from_numbers(rt.alloc(), 16, &[1, 2, 65535])?;
     let copy = words.copy(rt.alloc())?;
-    assert_eq!(rt; (copy.lane_width(), copy.len()), (16, 3));
-    assert_eq!(rt; (copy.word(0), copy.word(1), copy.word(2)), (1, 2, 65535));
+    agree((copy.lane_width(), copy.len()), (16, 3))?;
+    agree((copy.word(0), copy.word(1), copy.word(2)), (1, 2, 65535))?;
     assert!(rt; !copy.is_empty());
     Ok(())
 }
@@ -376,8 +385,7 @@ fn a_step_of_packed_words_is_read(rt: HostRuntime) -> Result<(), Fail> {
     let packed = Words::pack(rt.alloc(), 8, 8, &values)?;
     let mut expected = [0; 16];
     expected[0] = 255;
-    assert_eq!(rt; packed.step(8, 4, 1).to_array(), expected);
-    Ok(())
+    agree(packed.step(8, 4, 1).to_array(), expected)
 }
 
 #[test]
@@ -404,15 +412,14 @@ fn lane_2_across_two_words() -> [u64; 192]
 fn a_value_is_read_across_two_words(rt: HostRuntime) -> Result<(), Fail> {
     let numbers = lane_2_across_two_words();
     let words = Words::from_numbers(rt.alloc(), 16, &numbers)?;
-    assert_eq!(rt;
+    agree(
         [
             words.value(3, 2, 5),
             words.value(3, 2, 4),
-            words.value(3, 3, 5)
+            words.value(3, 3, 5),
         ],
-        [5, 0, 0]
-    );
-    Ok(())
+        [5, 0, 0],
+    )
 }
 
 // A word of 16 bits is two bytes, the low one first; 128 bytes are 64 of them.
@@ -423,59 +430,77 @@ fn words_are_read_from_bytes_and_written(rt: HostRuntime) -> Result<(), Fail> {
     bytes[1] = 1;
     bytes[127] = 128;
     let words = Words::from_le_bytes(rt.alloc(), 16, &bytes)?;
-    assert_eq!(rt; words.len(), 64);
-    assert_eq!(rt; (words.word(0), words.word(63)), (0x0102, 0x8000));
-    assert_eq!(rt; words.words_16().len(), 64);
+    agree(words.len(), 64)?;
+    agree((words.word(0), words.word(63)), (0x0102, 0x8000))?;
+    agree(words.words_16().len(), 64)?;
     let mut written = [7; 128];
     words.le_bytes_at(0, &mut written);
-    assert_eq!(rt; written.as_slice(), bytes.as_slice());
-    Ok(())
+    agree(written.as_slice(), bytes.as_slice())
 }
 
 // 256 needs nine bits.
 #[test]
-fn a_number_has_its_least_width(rt: HostRuntime) {
+fn a_number_has_its_least_width() -> Result<(), Fail> {
     for (number, width) in [(0, 0), (1, 1), (255, 8), (256, 9), (u64::MAX, 64)] {
-        assert_eq!(rt; width_of(number), width, "at {number}");
+        agree_at(format_args!("at {number}"), width_of(number), width)?;
     }
+    Ok(())
 }
 
 // Half of 2 ^ 16 is read as the least number of 16 bits.
 #[test]
-fn numbers_wrap_at_their_width(rt: HostRuntime) {
-    assert_eq!(rt;
+fn numbers_wrap_at_their_width() -> Result<(), Fail> {
+    agree(
         [
             wrap(8, 255),
             wrap(16, 32768),
             wrap(32, 1 << 32),
-            wrap(64, u64::MAX)
+            wrap(64, u64::MAX),
         ],
-        [-1, -32768, 0, -1]
-    );
+        [-1, -32768, 0, -1],
+    )
 }
 
 #[test]
-fn lanes_wrap_at_their_width(rt: HostRuntime) {
+fn lanes_wrap_at_their_width() -> Result<(), Fail> {
     let wrapped = wrap_lanes(16, Simd::splat(65535)).to_array();
-    assert_eq!(rt; (wrapped[0], wrapped[15]), (-1, -1));
+    agree((wrapped[0], wrapped[15]), (-1, -1))
 }
 
 #[test]
-fn sums_and_differences_wrap_at_their_width(rt: HostRuntime) {
-    assert_eq!(rt;
+fn sums_and_differences_wrap_at_their_width() -> Result<(), Fail> {
+    agree(
         [
             wrapping_sum(16, 32767, 1),
             wrapping_sum_with(16, 32767, 1),
             wrapping_difference(32, -2147483648, 1),
-            wrapping_difference(64, i64::MIN, 1)
+            wrapping_difference(64, i64::MIN, 1),
         ],
-        [-32768, -32768, 2147483647, i64::MAX]
-    );
+        [-32768, -32768, 2147483647, i64::MAX],
+    )
+}
+
+/// Values have a lane width and three numbers.
+fn have_values(values: &Values, lane_width: usize, numbers: &[i64; 3]) -> Result<(), Fail> {
+    agree((values.lane_width(), values.len()), (lane_width, 3))?;
+    if values.len() != 3 {
+        return agree(values.len(), 3);
+    }
+    agree([values.get(0), values.get(1), values.get(2)], *numbers)?;
+    agree(values.in_room(&mut [1; 1024]), numbers.as_slice())
+}
+
+/// Values are the same as a copy and not as other numbers.
+fn are_copied(alloc: Global, values: &Values, unlike: &Values) -> Result<(), Fail> {
+    let copied = values.copy(alloc)?;
+    agree(
+        (values.is_same(&copied), values.is_same(unlike)),
+        (true, false),
+    )
 }
 
 /// Values of a lane width are the numbers that they are made of, and are the same as a copy and not as other numbers.
 fn values_hold(
-    rt: &impl Abort,
     alloc: Global,
     lane_width: usize,
     numbers: &[i64; 3],
@@ -486,49 +511,37 @@ fn values_hold(
     requires others { AreInRange lane_width others.now }
 {
     let values = Values::from_slice(alloc, lane_width, numbers)?;
-    assert_eq!(rt; (values.lane_width(), values.len()), (lane_width, 3));
-    assert_eq!(rt; [values.get(0), values.get(1), values.get(2)], *numbers);
-    assert_eq!(rt; values.in_room(&mut [1; 1024]), numbers.as_slice());
-    let copied = values.copy(alloc)?;
-    assert_eq!(rt; copied.in_room(&mut [1; 1024]), numbers.as_slice());
+    have_values(&values, lane_width, numbers)?;
     let unlike = Values::from_slice(alloc, lane_width, others)?;
-    assert_eq!(rt;
-        (values.is_same(&copied), values.is_same(&unlike)),
-        (true, false)
-    );
-    Ok(())
+    are_copied(alloc, &values, &unlike)
 }
 
 // The least and the greatest of each width, and one number changed.
 #[test]
 fn values_are_kept_at_their_width_and_copied(rt: HostRuntime) -> Result<(), Fail> {
     let alloc = rt.alloc();
-    values_hold(&rt, alloc, 8, &[-128, 0, 127], &[-128, 0, 126])?;
-    values_hold(&rt, alloc, 16, &[-32768, 0, 32767], &[-32768, 1, 32767])?;
+    values_hold(alloc, 8, &[-128, 0, 127], &[-128, 0, 126])?;
+    values_hold(alloc, 16, &[-32768, 0, 32767], &[-32768, 1, 32767])?;
     let least = -0x8000_0000;
-    values_hold(
-        &rt,
-        alloc,
-        32,
-        &[least, 0, 0x7FFF_FFFF],
-        &[-1, 0, 0x7FFF_FFFF],
-    )?;
-    values_hold(&rt, alloc, 64, &[i64::MIN, 0, i64::MAX], &[i64::MIN, 0, -1])
+    values_hold(alloc, 32, &[least, 0, 0x7FFF_FFFF], &[-1, 0, 0x7FFF_FFFF])?;
+    values_hold(alloc, 64, &[i64::MIN, 0, i64::MAX], &[i64::MIN, 0, -1])
 }
 
 #[test]
-fn values_are_read_at_their_own_types(rt: HostRuntime) -> Result<(), Fail> {
-    let alloc = rt.alloc();
-    let of_8 = Values::from_slice(alloc, 8, &[-128, 127])?;
-    assert_eq!(rt; of_8.values_8(), [-128, 127].as_slice());
-    let of_16 = Values::from_slice(alloc, 16, &[-128, 127])?;
-    assert_eq!(rt; of_16.values_16(), [-128, 127].as_slice());
-    let of_32 = Values::from_slice(alloc, 32, &[-128, 127])?;
-    assert_eq!(rt; of_32.values_32(), [-128, 127].as_slice());
-    let of_64 = Values::from_slice(alloc, 64, &[-128, 127])?;
-    assert_eq!(rt; of_64.values_64(), [-128, 127].as_slice());
-    assert!(rt; !of_8.is_same(&of_16));
-    Ok(())
+fn values_of_8_and_16_bits_are_read_at_their_own_types(rt: HostRuntime) -> Result<(), Fail> {
+    let of_8 = Values::from_slice(rt.alloc(), 8, &[-128, 127])?;
+    agree(of_8.values_8(), [-128, 127].as_slice())?;
+    let of_16 = Values::from_slice(rt.alloc(), 16, &[-128, 127])?;
+    agree(of_16.values_16(), [-128, 127].as_slice())?;
+    agree(of_8.is_same(&of_16), false)
+}
+
+#[test]
+fn values_of_32_and_64_bits_are_read_at_their_own_types(rt: HostRuntime) -> Result<(), Fail> {
+    let of_32 = Values::from_slice(rt.alloc(), 32, &[-128, 127])?;
+    agree(of_32.values_32(), [-128, 127].as_slice())?;
+    let of_64 = Values::from_slice(rt.alloc(), 64, &[-128, 127])?;
+    agree(of_64.values_64(), [-128, 127].as_slice())
 }
 
 #[test]

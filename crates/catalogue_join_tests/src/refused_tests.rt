@@ -1,16 +1,11 @@
-//! Calls of sets, each with a growth refused. A test's own growths are counted from 1: with the Nth refused, a test fails by
-//! an `AllocError` of its set-up, or, where it was a growth of the call that it is of, with the text `REFUSED` or
-//! `CHANGED`; with none refused it passes. The command `tests/refused-memory` refuses each in turn and counts those texts.
+//! Calls of sets, each with a growth refused. A test's own growths are counted from 1: with the Nth refused, a test fails by an
+//! `AllocError` of its set-up, or, where it was a growth of the call that it is of, as `growth_refused` says; with none refused
+//! it passes. The command `tests/refused-memory` refuses each in turn and counts those texts.
 use crate::tests::{batch, held_of, row};
 use catalogue_join::{Held, Tombs};
+use expectations::growth_refused;
 use std::alloc::{AllocError, Global};
 use std::test::Fail;
-
-/// The call answered that memory was refused; what it was given is as it was, and the same call again succeeds.
-const REFUSED: &str = "a growth was refused, and all is as it was";
-
-/// The call answered otherwise, or what it was given is not as it was.
-const CHANGED: &str = "a growth was refused, and not all is as it was";
 
 /// The numbers of a set's names of origin 1, so many that one more takes memory.
 const NAMES: [u32; 4] = [1, 3, 5, 7];
@@ -30,11 +25,6 @@ const OTHER_RANGES: [(u16, u16); 2] = [(4, 4), (40, 41)];
 /// Those of both sets together.
 const RANGES_OF_BOTH: [(u16, u16); 4] = [(0, 1), (3, 9), (20, 30), (40, 41)];
 
-/// The end of a test whose call was refused.
-fn refused(is_as_it_was: bool) -> Result<(), Fail> {
-    Err(Fail::new(if is_as_it_was { REFUSED } else { CHANGED }))
-}
-
 /// Whether a set has the names of origin 1 with these numbers, and no others.
 fn has_names(held: &Held, numbers: &[u32]) -> bool {
     for number in numbers {
@@ -52,7 +42,7 @@ fn insert_name(held: &mut Held) -> Result<(), Fail> {
         Err(AllocError) => {
             let is_same = has_names(held, &NAMES);
             let again = held.insert(batch(1, 9));
-            refused(is_same && again.is_ok() && has_names(held, &[1, 3, 5, 7, 9]))
+            growth_refused(is_same && again.is_ok() && has_names(held, &[1, 3, 5, 7, 9]))
         }
     }
 }
@@ -70,7 +60,7 @@ fn join_names(held: &mut Held, other: &Held) -> Result<(), Fail> {
         Err(AllocError) => {
             let is_same = has_names(held, &NAMES) && has_names(other, &OTHER_NAMES);
             let again = held.join(other);
-            refused(is_same && again.is_ok() && has_names(held, &NAMES_OF_BOTH))
+            growth_refused(is_same && again.is_ok() && has_names(held, &NAMES_OF_BOTH))
         }
     }
 }
@@ -100,7 +90,7 @@ fn see_missing(held: &Held, other: &Held) -> Result<(), Fail> {
         Err(AllocError) => {
             let again = list_missing(held, other);
             let is_same = has_names(held, &NAMES_OF_BOTH) && has_names(other, &[4]);
-            refused(is_same && again.is_ok())
+            growth_refused(is_same && again.is_ok())
         }
     }
 }
@@ -145,7 +135,7 @@ fn insert_rows(tombs: &mut Tombs) -> Result<(), Fail> {
         Err(AllocError) => {
             let is_same = has_ranges(tombs, &RANGES);
             let again = tombs.insert(row(1, 40), 41);
-            refused(is_same && again.is_ok() && tombs.ranges().len() == 5)
+            growth_refused(is_same && again.is_ok() && tombs.ranges().len() == 5)
         }
     }
 }
@@ -163,7 +153,7 @@ fn join_rows(tombs: &mut Tombs, other: &Tombs) -> Result<(), Fail> {
         Err(AllocError) => {
             let is_same = has_ranges(tombs, &RANGES) && has_ranges(other, &OTHER_RANGES);
             let again = tombs.join(other);
-            refused(is_same && again.is_ok() && has_ranges(tombs, &RANGES_OF_BOTH))
+            growth_refused(is_same && again.is_ok() && has_ranges(tombs, &RANGES_OF_BOTH))
         }
     }
 }
@@ -194,7 +184,7 @@ fn copy_names(alloc: Global, held: &Held) -> Result<(), Fail> {
     if is_copied(&copied) {
         return Ok(());
     }
-    refused(copied.is_err() && has_names(held, &NAMES) && is_copied(&held.copy(alloc)))
+    growth_refused(copied.is_err() && has_names(held, &NAMES) && is_copied(&held.copy(alloc)))
 }
 
 #[test]
@@ -217,7 +207,7 @@ fn copy_rows(alloc: Global, tombs: &Tombs) -> Result<(), Fail> {
     if are_copied(&copied) {
         return Ok(());
     }
-    refused(copied.is_err() && has_ranges(tombs, &RANGES) && are_copied(&tombs.copy(alloc)))
+    growth_refused(copied.is_err() && has_ranges(tombs, &RANGES) && are_copied(&tombs.copy(alloc)))
 }
 
 #[test]

@@ -1,21 +1,16 @@
-//! Calls of a cluster, each with a growth refused, in the manner of replica_store's tests: a test's own growths are counted from 1,
-//! and with the Nth refused a test fails by an `AllocError` or `Memory` of its set-up, or, where it was a growth of the call that it
-//! is of, with the text `REFUSED` or `CHANGED`; with none refused it passes. The command `tests/refused-memory` refuses each in turn
+//! Calls of a cluster, each with a growth refused, in the manner of replica_store's tests: a test's own growths are counted from
+//! 1, and with the Nth refused a test fails by an `AllocError` or `Memory` of its set-up, or, where it was a growth of the call
+//! that it is of, as `growth_refused` says; with none refused it passes. The command `tests/refused-memory` refuses each in turn
 //! and counts those texts.
 use crate::tests::{Want, is_wanted, name};
 use cluster_history::{Cluster, Message, Reply, run};
+use expectations::growth_refused;
 use replica_store::Store;
 use script_lines::Step;
 use segment_core::{Coding, Segment};
 use std::alloc::Global;
 use std::test::Fail;
 use table_model::{ColType, Refusal, Row, Rows, Schema};
-
-/// The call answered that memory was refused; what it was given is as it was, and the same call again succeeds.
-const REFUSED: &str = "a growth was refused, and all is as it was";
-
-/// The call answered otherwise, or what it was given is not as it was.
-const CHANGED: &str = "a growth was refused, and not all is as it was";
 
 /// What came of a call.
 #[derive(Clone, Copy)]
@@ -41,8 +36,8 @@ fn refused(is_as_it_was: bool) -> Came {
 fn end(came: Came) -> Result<(), Fail> {
     match came {
         Came::Done => Ok(()),
-        Came::Refused => Err(Fail::new(REFUSED)),
-        Came::Changed => Err(Fail::new(CHANGED)),
+        Came::Refused => growth_refused(true),
+        Came::Changed => growth_refused(false),
     }
 }
 

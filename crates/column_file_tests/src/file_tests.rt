@@ -1,5 +1,6 @@
 //! Files and offers in bytes, at bytes and places worked out by hand from the formats.
 use column_file::{Checked, check, export, open, read_offer, write_offer};
+use expectations::agree;
 use replica_store::{Offer, Store, Summary};
 use segment_core::Coding;
 use std::alloc::{AllocError, Global};
@@ -703,6 +704,5 @@ fn an_own_origin_of_0_is_refused_before_anything_is_read(rt: HostRuntime) -> Res
         left: 0,
     });
     let fault = open(rt.alloc(), &mut reader, Origin(0)).err();
-    assert_eq!(rt; (fault, reader.failures()), (Some(Refusal::BadName), 0));
-    Ok(())
+    agree((fault, reader.failures()), (Some(Refusal::BadName), 0))
 }

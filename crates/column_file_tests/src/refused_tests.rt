@@ -1,10 +1,11 @@
-//! Calls that read and write files and messages, each with a growth refused. A test's own growths are counted from 1: with the Nth
-//! refused, a test fails by an `AllocError` or `Memory` of its set-up, or, where it was a growth of the call that it is of, with the
-//! text `REFUSED` or `CHANGED`; with none refused it passes. The command `tests/refused-memory` refuses each in turn and counts those
-//! texts. A call whose test's name ends in `grows_nowhere` has none to refuse.
+//! Calls that read and write files and messages, each with a growth refused. A test's own growths are counted from 1: with the
+//! Nth refused, a test fails by an `AllocError` or `Memory` of its set-up, or, where it was a growth of the call that it is of,
+//! with the text `REFUSED` or `CHANGED`; with none refused it passes. The command `tests/refused-memory` refuses each in turn and
+//! counts those texts. A call whose test's name ends in `grows_nowhere` has none to refuse.
 use crate::file_tests::{THREE_ROWS, ZEROS, changed, offer_from, opened};
 use crate::tests::TWO_NAMES;
 use column_file::{check, export, open, read_offer, read_summary, write_offer, write_summary};
+use expectations::growth_refused;
 use replica_store::{Offer, Store};
 use segment_core::Coding;
 use std::alloc::Global;
@@ -12,19 +13,13 @@ use std::process::Abort;
 use std::test::Fail;
 use table_model::{BatchName, Counted, Number, Origin, Refusal};
 
-/// The call answered that memory was refused; what it was given is as it was, and the same call again succeeds.
-const REFUSED: &str = "a growth was refused, and all is as it was";
-
-/// The call answered otherwise, or what it was given is not as it was.
-const CHANGED: &str = "a growth was refused, and not all is as it was";
-
 /// The most bytes that a call of these tests writes.
 const ROOM: usize = 256;
 
 /// The end of a test whose call was refused so: what it was given counts so many failures, and all else is as it was.
 fn refused(fault: Refusal, failures: u64, is_as_it_was: bool) -> Result<(), Fail> {
     let is_kept = fault == Refusal::Memory && failures == 0 && is_as_it_was;
-    Err(Fail::new(if is_kept { REFUSED } else { CHANGED }))
+    growth_refused(is_kept)
 }
 
 /// Whether these bytes are a text and then bytes that are 0.
@@ -95,7 +90,7 @@ fn is_checked(alloc: Global, bytes: &[u8], wanted: Option<Refusal>) -> Result<()
         return Ok(());
     }
     let Some(fault) = found else {
-        return Err(Fail::new(CHANGED));
+        return growth_refused(false);
     };
     let again = check(alloc, &mut Counted::new(bytes)).err();
     refused(fault, reader.failures(), again == wanted)

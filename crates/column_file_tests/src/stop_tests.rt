@@ -2,8 +2,8 @@
 use crate::file_tests::{ONE_ROW, offer_from, opened};
 use crate::tests::TWO_NAMES;
 use column_file::{check, export, open, read_offer, read_summary, write_offer, write_summary};
+use expectations::{agree, agree_at};
 use std::alloc::Global;
-use std::process::Abort;
 use std::test::Fail;
 use table_model::{Counted, Origin, Refusal, Stop};
 
@@ -61,19 +61,23 @@ const READINGS: [(Reading, &[u8]); 4] = [
 ];
 
 /// Sees that a reader of these bytes has failed where it stops at any of them, and has not where it does not stop.
-fn see_reader_stop(rt: &impl Abort, alloc: Global, call: Reading, bytes: &[u8]) {
+fn see_reader_stop(alloc: Global, call: Reading, bytes: &[u8]) -> Result<(), Fail> {
     for left in 0..=bytes.len() {
         let found = read_until(alloc, call, bytes, left);
-        assert_eq!(rt; found, (Some(Refusal::ReadFault), 1), "at {left}");
+        agree_at(
+            format_args!("at {left}"),
+            found,
+            (Some(Refusal::ReadFault), 1),
+        )?;
     }
-    assert_eq!(rt; read_until(alloc, call, bytes, 1000), (None, 0));
+    agree(read_until(alloc, call, bytes, 1000), (None, 0))
 }
 
 // The end is seen by a read that answers no byte, so that a reader which stops right after the last byte failed as well.
 #[test]
 fn a_reader_that_stops_at_a_byte_has_failed(rt: HostRuntime) -> Result<(), Fail> {
     for &(call, bytes) in &READINGS {
-        see_reader_stop(&rt, rt.alloc(), call, bytes);
+        see_reader_stop(rt.alloc(), call, bytes)?;
     }
     Ok(())
 }
@@ -160,19 +164,23 @@ const WRITINGS: [(Writing, &[u8]); 3] = [
 ];
 
 /// Sees that a writer that stops at any of these bytes has those before it, and that one that does not stop has them all.
-fn see_writer_stop(rt: &impl Abort, alloc: Global, call: Writing, bytes: &[u8]) {
+fn see_writer_stop(alloc: Global, call: Writing, bytes: &[u8]) -> Result<(), Fail> {
     for left in 0..bytes.len() {
         let (front, _) = bytes.split_at(left);
         let found = written_until(alloc, call, bytes, front);
-        assert_eq!(rt; found, (Err(Refusal::WriteFault), 1, true), "at {left}");
+        agree_at(
+            format_args!("at {left}"),
+            found,
+            (Err(Refusal::WriteFault), 1, true),
+        )?;
     }
-    assert_eq!(rt; written_until(alloc, call, bytes, bytes), (Ok(()), 0, true));
+    agree(written_until(alloc, call, bytes, bytes), (Ok(()), 0, true))
 }
 
 #[test]
 fn a_writer_that_stops_at_a_byte_has_the_bytes_before_it(rt: HostRuntime) -> Result<(), Fail> {
     for &(call, bytes) in &WRITINGS {
-        see_writer_stop(&rt, rt.alloc(), call, bytes);
+        see_writer_stop(rt.alloc(), call, bytes)?;
     }
     Ok(())
 }

@@ -1,6 +1,7 @@
 //! Summaries in bytes, at bytes and places worked out by hand from the format.
 use crate::filling_tests::{new_store, row_of};
 use column_file::{read_summary, read_summary_bytes, write_summary};
+use expectations::{agree, agree_at};
 use replica_store::{Store, Summary};
 use std::alloc::{AllocError, Global};
 use std::test::Fail;
@@ -26,10 +27,9 @@ fn summary_fault(alloc: Global, bytes: &[u8]) -> Option<Refusal> {
 #[test]
 fn a_summary_of_two_names_is_read(rt: HostRuntime) -> Result<(), Fail> {
     let (schema, names) = read_summary_bytes(rt.alloc(), TWO_NAMES)?;
-    assert_eq!(rt; schema.table(), "T");
-    assert_eq!(rt; schema.columns(), 1);
-    assert_eq!(rt; names.len(), 2);
-    Ok(())
+    agree(schema.table(), "T")?;
+    agree(schema.columns(), 1)?;
+    agree(names.len(), 2)
 }
 
 #[test]
@@ -69,12 +69,16 @@ fn the_first_fault_of_a_summary_is_answered_at_its_place(rt: HostRuntime) -> Res
         ),
     ];
     for (bytes, want) in cases {
-        assert_eq!(rt; bytes_fault(rt.alloc(), bytes), Some(*want), "at {bytes:?}");
-        assert_eq!(rt;
+        agree_at(
+            format_args!("at {bytes:?}"),
+            bytes_fault(rt.alloc(), bytes),
+            Some(*want),
+        )?;
+        agree_at(
+            format_args!("at {bytes:?}"),
             summary_fault(rt.alloc(), bytes),
             Some(*want),
-            "at {bytes:?}"
-        );
+        )?;
     }
     Ok(())
 }
@@ -143,7 +147,7 @@ fn is_written_again(alloc: Global, bytes: &[u8]) -> Result<bool, Refusal> {
 #[test]
 fn a_summary_of_65536_names_with_gaps_is_written_again(rt: HostRuntime) -> Result<(), Fail> {
     let bytes = names_with_gaps(rt.alloc())?;
-    assert_eq!(rt; bytes.len(), 524_305);
+    agree(bytes.len(), 524_305)?;
     assert!(rt; is_written_again(rt.alloc(), &bytes)?);
     Ok(())
 }

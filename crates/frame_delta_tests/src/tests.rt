@@ -6,9 +6,9 @@ ghost use Rattle.bit_interleave.specs.Range.{AreInRange};
 
 use bit_interleave::{Values, Words};
 use column_patterns::{Pattern, column};
+use expectations::agree;
 use frame_delta::{Delta, For};
 use std::alloc::Global;
-use std::process::Abort;
 use std::simd::prelude::*;
 use std::test::Fail;
 
@@ -23,19 +23,19 @@ fn first_then_zeros(first: u64) -> [u64; 64]
 }
 
 /// A frame has `bytes` bytes and is the least, and decodes to the vector, at once and row by row.
-fn frame_holds(rt: &impl Abort, coded: &For, values: &[i64; 1024], bytes: u16) {
-    assert_eq!(rt; (coded.bytes_len(), coded.is_least()), (bytes, true));
+fn frame_holds(coded: &For, values: &[i64; 1024], bytes: u16) -> Result<(), Fail> {
+    agree((coded.bytes_len(), coded.is_least()), (bytes, true))?;
     let mut back = [1; 1024];
     coded.decode(&mut back);
-    assert_eq!(rt; back.as_slice(), values.as_slice());
+    agree(back.as_slice(), values.as_slice())?;
     for row in 0..1024 {
-        assert_eq!(rt; coded.value(row), values[row]);
+        agree(coded.value(row), values[row])?;
     }
+    Ok(())
 }
 
 /// A vector's least frame has `bytes` bytes and is the least, and its copy decodes to the vector, at once and row by row.
 fn frame_comes_back(
-    rt: &impl Abort,
     alloc: Global,
     lane_width: usize,
     values: &[i64; 1024],
@@ -44,26 +44,25 @@ fn frame_comes_back(
     requires lane_width { IsLaneWidth lane_width }
     requires range { AreInRange lane_width values.now }
 {
-    assert_eq!(rt; For::size(values, lane_width), bytes);
+    agree(For::size(values, lane_width), bytes)?;
     let coded = For::encode(alloc, values, lane_width)?.copy(alloc)?;
-    frame_holds(rt, &coded, values, bytes);
-    Ok(())
+    frame_holds(&coded, values, bytes)
 }
 
 /// Deltas have `bytes` bytes and are the least, and decode to the vector, at once and row by row.
-fn delta_holds(rt: &impl Abort, coded: &Delta, values: &[i64; 1024], bytes: u16) {
-    assert_eq!(rt; (coded.bytes_len(), coded.is_least()), (bytes, true));
+fn delta_holds(coded: &Delta, values: &[i64; 1024], bytes: u16) -> Result<(), Fail> {
+    agree((coded.bytes_len(), coded.is_least()), (bytes, true))?;
     let mut back = [1; 1024];
     coded.decode(&mut back);
-    assert_eq!(rt; back.as_slice(), values.as_slice());
+    agree(back.as_slice(), values.as_slice())?;
     for row in 0..1024 {
-        assert_eq!(rt; coded.value(row), values[row]);
+        agree(coded.value(row), values[row])?;
     }
+    Ok(())
 }
 
 /// A vector's least deltas have `bytes` bytes and are the least, and their copy decodes to the vector, at once and row by row.
 fn delta_comes_back(
-    rt: &impl Abort,
     alloc: Global,
     lane_width: usize,
     values: &[i64; 1024],
@@ -72,15 +71,13 @@ fn delta_comes_back(
     requires lane_width { IsLaneWidth lane_width }
     requires range { AreInRange lane_width values.now }
 {
-    assert_eq!(rt; Delta::size(values, lane_width), bytes);
+    agree(Delta::size(values, lane_width), bytes)?;
     let coded = Delta::encode(alloc, values, lane_width)?.copy(alloc)?;
-    delta_holds(rt, &coded, values, bytes);
-    Ok(())
+    delta_holds(&coded, values, bytes)
 }
 
 /// A vector comes back from both codings, of which the first has `bytes[0]` bytes and the second `bytes[1]`.
 fn comes_back(
-    rt: &impl Abort,
     alloc: Global,
     lane_width: usize,
     pattern: Pattern,
@@ -89,8 +86,8 @@ fn comes_back(
     requires { IsLaneWidth lane_width }
 {
     let values = column(lane_width, pattern);
-    frame_comes_back(rt, alloc, lane_width, &values, bytes[0])?;
-    delta_comes_back(rt, alloc, lane_width, &values, bytes[1])
+    frame_comes_back(alloc, lane_width, &values, bytes[0])?;
+    delta_comes_back(alloc, lane_width, &values, bytes[1])
 }
 
 // The bytes are T / 8 + 128 * width, and 128 more for the bases. A range of 255 has eight bits, of 256 nine; 32767 has fifteen,
@@ -106,14 +103,14 @@ fn vectors_have_their_bytes(rt: HostRuntime) -> Result<(), Fail> {
         (Pattern::Alternating(0, 255), [1026, 1282]),
         (Pattern::Alternating(0, 256), [1154, 1410]),
     ] {
-        comes_back(&rt, alloc, 16, pattern, bytes)?;
+        comes_back(alloc, 16, pattern, bytes)?;
     }
-    comes_back(&rt, alloc, 32, Pattern::Ramp(3), [1540, 132])
+    comes_back(alloc, 32, Pattern::Ramp(3), [1540, 132])
 }
 
 /// The least value alone, the greatest alone, the two in turn, and 1024 neighbours. The range of the two is as wide as a lane,
 /// and their differences are -1 and 1 modulo a power of two, whose distance has two bits. The range of 1024 neighbours has ten.
-fn extremes_come_back(rt: &impl Abort, alloc: Global, lane_width: usize) -> Result<(), Fail>
+fn extremes_come_back(alloc: Global, lane_width: usize) -> Result<(), Fail>
     requires { IsLaneWidth lane_width }
 {
     let least = 1 << (lane_width - 1);
@@ -126,28 +123,34 @@ fn extremes_come_back(rt: &impl Abort, alloc: Global, lane_width: usize) -> Resu
         (Pattern::Ramp(1), 10, 0),
     ] {
         let bytes = [one + 128 * frame_width, one + 128 + 128 * delta_width];
-        comes_back(rt, alloc, lane_width, pattern, bytes)?;
+        comes_back(alloc, lane_width, pattern, bytes)?;
     }
     Ok(())
 }
 
 #[test]
 fn extreme_values_come_back(rt: HostRuntime) -> Result<(), Fail> {
-    extremes_come_back(&rt, rt.alloc(), 16)?;
-    extremes_come_back(&rt, rt.alloc(), 32)?;
-    extremes_come_back(&rt, rt.alloc(), 64)
+    extremes_come_back(rt.alloc(), 16)?;
+    extremes_come_back(rt.alloc(), 32)?;
+    extremes_come_back(rt.alloc(), 64)
 }
 
-// Lane 0 begins at row 0, lane 1 at row 64, lane 16 at row 32: 0, 192 and 96, less the least delta 3.
+/// The deltas of a ramp by 3 at 32 bits. Lane 0 begins at row 0, lane 1 at row 64, lane 16 at row 32: 0, 192 and 96, less the
+/// least delta 3.
+fn has_bases_of_a_ramp(coded: &Delta) -> Result<(), Fail> {
+    agree((coded.least(), coded.width()), (3, 0))?;
+    let bases = coded.bases();
+    agree(bases.lane_width(), 32)?;
+    if bases.len() != 32 {
+        return agree(bases.len(), 32);
+    }
+    agree((bases.get(0), bases.get(1), bases.get(16)), (-3, 189, 93))
+}
+
 #[test]
 fn bases_stand_in_lane_order(rt: HostRuntime) -> Result<(), Fail> {
     let coded = Delta::encode(rt.alloc(), &column(32, Pattern::Ramp(3)), 32)?;
-    assert_eq!(rt; (coded.least(), coded.width()), (3, 0));
-    let bases = coded.bases();
-    assert_eq!(rt; bases.lane_width(), 32);
-    assert!(rt; bases.len() == 32);
-    assert_eq!(rt; (bases.get(0), bases.get(1), bases.get(16)), (-3, 189, 93));
-    Ok(())
+    has_bases_of_a_ramp(&coded)
 }
 
 // At 16 bits piece 17 is step 1 of the second sixteen lanes, whose rows begin at 32 of each 64: rows 33, 97 and so on.
@@ -155,8 +158,7 @@ fn bases_stand_in_lane_order(rt: HostRuntime) -> Result<(), Fail> {
 fn a_piece_has_one_row_of_each_64(rt: HostRuntime) -> Result<(), Fail> {
     let values = column(16, Pattern::Ramp(1));
     let piece = For::encode(rt.alloc(), &values, 16)?.piece(17).to_array();
-    assert_eq!(rt; (piece[0], piece[1], piece[15]), (33, 97, 993));
-    Ok(())
+    agree((piece[0], piece[1], piece[15]), (33, 97, 993))
 }
 
 // The sums of piece 16, the first of those lanes, are rows 32, 96 and so on, so those of piece 17 are as above.
@@ -166,20 +168,21 @@ fn sums_have_one_row_of_each_64(rt: HostRuntime) -> Result<(), Fail> {
     let deltas = Delta::encode(rt.alloc(), &values, 16)?;
     let before = deltas.sums(16, Simd::splat(0));
     let sums = deltas.sums(17, before).to_array();
-    assert_eq!(rt; (sums[0], sums[1], sums[15]), (33, 97, 993));
-    Ok(())
+    agree((sums[0], sums[1], sums[15]), (33, 97, 993))
 }
 
-// Row 0 is lane 0, step 0: bit 0 of word 0. 32767 and 1 wrap to -32768.
+/// Row 0 is lane 0, step 0: bit 0 of word 0. 32767 and 1 wrap to -32768.
+fn wraps_at_row_0(coded: &For) -> Result<(), Fail> {
+    let mut values = [0; 1024];
+    coded.decode(&mut values);
+    agree((values[0], values[1]), (-32768, 32767))?;
+    agree(coded.is_least(), false)
+}
+
 #[test]
 fn a_reference_and_a_packed_number_wrap(rt: HostRuntime) -> Result<(), Fail> {
     let words = Words::from_numbers(rt.alloc(), 16, &first_then_zeros(1))?;
-    let coded = For::from_parts(16, 1, 32767, words);
-    let mut values = [0; 1024];
-    coded.decode(&mut values);
-    assert_eq!(rt; (values[0], values[1]), (-32768, 32767));
-    assert!(rt; !coded.is_least());
-    Ok(())
+    wraps_at_row_0(&For::from_parts(16, 1, 32767, words))
 }
 
 /// Deltas of 2 from bases of 5 at 16 bits, with packed numbers of one bit, all in the first word.
@@ -191,26 +194,32 @@ fn delta_of_one_bit(alloc: Global, first: u64) -> Result<Delta, Fail>
     Ok(Delta::from_parts(1, 2, bases, words))
 }
 
-// Each lane is 7, 9 and so on up to 37, whose least form needs no bit.
+/// Each lane is 7, 9 and so on up to 37, whose least form needs no bit.
+fn has_lanes_from_7(coded: &Delta) -> Result<(), Fail> {
+    let mut values = [0; 1024];
+    coded.decode(&mut values);
+    agree((values[0], values[1], values[15]), (7, 9, 37))?;
+    agree((values[16], values[1023]), (7, 37))?;
+    agree((coded.is_least(), coded.bytes_len()), (false, 258))
+}
+
 #[test]
 fn a_delta_wider_than_the_least_decodes(rt: HostRuntime) -> Result<(), Fail> {
     let coded = delta_of_one_bit(rt.alloc(), 0)?;
-    let mut values = [0; 1024];
-    coded.decode(&mut values);
-    assert_eq!(rt; (values[0], values[1], values[15]), (7, 9, 37));
-    assert_eq!(rt; (values[16], values[1023]), (7, 37));
-    assert_eq!(rt; (coded.is_least(), coded.bytes_len()), (false, 258));
-    Ok(())
+    has_lanes_from_7(&coded)
 }
 
-// The first bit is of row 0, step 0 of its lane, and raises that lane alone.
+/// The first bit is of row 0, step 0 of its lane, and raises that lane alone.
+fn has_first_lane_from_8(coded: &Delta) -> Result<(), Fail> {
+    let mut values = [0; 1024];
+    coded.decode(&mut values);
+    agree((values[0], values[1], values[15]), (8, 10, 38))?;
+    agree((values[16], values[64]), (7, 7))?;
+    agree(coded.is_least(), false)
+}
+
 #[test]
 fn a_delta_with_a_packed_number_at_step_0_decodes(rt: HostRuntime) -> Result<(), Fail> {
     let coded = delta_of_one_bit(rt.alloc(), 1)?;
-    let mut values = [0; 1024];
-    coded.decode(&mut values);
-    assert_eq!(rt; (values[0], values[1], values[15]), (8, 10, 38));
-    assert_eq!(rt; (values[16], values[64]), (7, 7));
-    assert!(rt; !coded.is_least());
-    Ok(())
+    has_first_lane_from_8(&coded)
 }

@@ -3,6 +3,7 @@ ghost use Rattle.std.specs.Prelude.{◌<◌, ◌^◌};
 ghost use Rattle.std.specs.List.{All};
 
 use bit_interleave::Words;
+use expectations::agree;
 use frame_delta::For;
 use fused_kernels::{
     Meter, VectorLanes, compare, compare_columns, compare_range, compare_vector, max, min,
@@ -10,7 +11,6 @@ use fused_kernels::{
 };
 use segment_core::{Boxed, Coded, CodedVector};
 use std::alloc::Global;
-use std::process::Abort;
 use std::test::Fail;
 use table_model::Op;
 use transpose_order::Mask;
@@ -58,59 +58,58 @@ fn below_zero(vector: &CodedVector) -> [(Mask, Mask); 2] {
 }
 
 /// The first row alone is below 0.
-fn check_below_zero(rt: &impl Abort, vector: &CodedVector) {
+fn check_below_zero(vector: &CodedVector) -> Result<(), Fail> {
     let mut first = Mask::none();
     first.set_range(0, 1, true);
     for (yes, no) in &below_zero(vector) {
-        assert_eq!(rt; (*yes == first, *no == first.not()), (true, true));
+        agree((*yes == first, *no == first.not()), (true, true))?;
     }
+    Ok(())
 }
 
 /// The least and the greatest value, by the vector's native lanes and by its lanes of 64 bits.
-fn check_extremes(rt: &impl Abort, vector: &CodedVector, least: i64, greatest: i64) {
+fn check_extremes(vector: &CodedVector, least: i64, greatest: i64) -> Result<(), Fail> {
     let mut meter = Meter::new();
     let all = Mask::all();
-    assert_eq!(rt;
+    agree(
         (
             vector_min(vector, &all, &mut meter),
-            vector_max(vector, &all, &mut meter)
+            vector_max(vector, &all, &mut meter),
         ),
-        (Some(least), Some(greatest))
-    );
-    assert_eq!(rt;
+        (Some(least), Some(greatest)),
+    )?;
+    agree(
         min(&mut VectorLanes::new(vector, &mut meter), &all),
-        Some(least)
-    );
-    assert_eq!(rt;
+        Some(least),
+    )?;
+    agree(
         max(&mut VectorLanes::new(vector, &mut meter), &all),
-        Some(greatest)
-    );
+        Some(greatest),
+    )
 }
 
 // 32767 and 1 wrap to -32768 at 16 bits; the sum is 1023 times 32767 less 32768.
 #[test]
 fn a_frame_wraps_at_16_bits(rt: HostRuntime) -> Result<(), Fail> {
     let vector = wrapping_16(rt.alloc())?;
-    check_below_zero(&rt, &vector);
-    check_extremes(&rt, &vector, -32768, 32767);
-    assert_eq!(rt;
+    check_below_zero(&vector)?;
+    check_extremes(&vector, -32768, 32767)?;
+    agree(
         vector_sum(&vector, &Mask::all(), &mut Meter::new()),
-        33487873
-    );
-    Ok(())
+        33487873,
+    )
 }
 
 // 2147483647 and 1 wrap to -2147483648 at 32 bits; the sum is 1023 times 2147483647 less 2147483648.
 #[test]
 fn a_frame_wraps_at_32_bits(rt: HostRuntime) -> Result<(), Fail> {
     let vector = wrapping_32(rt.alloc())?;
-    check_below_zero(&rt, &vector);
-    check_extremes(&rt, &vector, -2147483648, 2147483647);
-    assert_eq!(rt;
+    check_below_zero(&vector)?;
+    check_extremes(&vector, -2147483648, 2147483647)?;
+    agree(
         vector_sum(&vector, &Mask::all(), &mut Meter::new()),
-        2194728287233
-    );
-    Ok(())
+        2194728287233,
+    )
 }
 
 /// The lanes of two vectors compared over an empty mask.
@@ -131,12 +130,17 @@ fn compared_columns(left: &CodedVector, right: &CodedVector, mask: &Mask) -> (Ma
     compare_columns(&mut lefts, Op::Less, &mut rights, mask)
 }
 
+/// No row of an empty mask is in a part of the lanes compared.
+fn check_nowhere(left: &CodedVector, right: &CodedVector) -> Result<(), Fail> {
+    for (yes, no) in &compared_nowhere(left, right) {
+        agree((yes.count(), no.count()), (0, 0))?;
+    }
+    Ok(())
+}
+
 #[test]
 fn lanes_are_compared_at_no_row_of_an_empty_mask(rt: HostRuntime) -> Result<(), Fail> {
     let left = wrapping_16(rt.alloc())?;
     let right = wrapping_32(rt.alloc())?;
-    for (yes, no) in &compared_nowhere(&left, &right) {
-        assert_eq!(rt; (yes.count(), no.count()), (0, 0));
-    }
-    Ok(())
+    check_nowhere(&left, &right)
 }

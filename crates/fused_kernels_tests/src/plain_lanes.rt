@@ -8,6 +8,7 @@ ghost use Rattle.bit_interleave.specs.Packing.{sixteen_of};
 ghost use Rattle.bit_interleave.specs.Range.{value_at};
 ghost use Rattle.fused_kernels.specs.Seen.{LanesSeen};
 
+use expectations::agree;
 use fused_kernels::{Lanes, compare, compare_range, decode_into, max, min, sum};
 use std::marker::Model;
 use std::simd::prelude::*;
@@ -164,24 +165,22 @@ fn folded(lane_width: usize) -> Folds
 
 // Over all rows the sum is 3 * 1023 * 1024 / 2, and rows 30 to 33 have 90, 93, 96 and 99.
 #[test]
-fn any_lanes_are_folded(rt: HostRuntime) -> Result<(), Fail> {
+fn any_lanes_are_folded() -> Result<(), Fail> {
     let expected = (1571328, 378, Some(90), Some(99));
-    assert_eq!(rt;
+    agree(
         [folded(8), folded(16), folded(32), folded(64)],
-        [expected; 4]
-    );
-    Ok(())
+        [expected; 4],
+    )
 }
 
 // 1024 times, and 4 times, minus two to the power of 63.
 #[test]
-fn a_sum_of_any_lanes_does_not_wrap(rt: HostRuntime) -> Result<(), Fail> {
+fn a_sum_of_any_lanes_does_not_wrap() -> Result<(), Fail> {
     let least = Some(i64::MIN);
-    assert_eq!(rt;
+    agree(
         folds(64, &leasts()),
-        (-9444732965739290427392, -36893488147419103232, least, least)
-    );
-    Ok(())
+        (-9444732965739290427392, -36893488147419103232, least, least),
+    )
 }
 
 /// The rows of the multiples of three that are below a literal, and the others.
@@ -211,15 +210,14 @@ fn decoded(lane_width: usize) -> [i64; 1024]
 
 // 96 is the value of row 32.
 #[test]
-fn any_lanes_are_compared_and_decoded(rt: HostRuntime) -> Result<(), Fail> {
+fn any_lanes_are_compared_and_decoded() -> Result<(), Fail> {
     let (yes, no) = compared(32, 96);
-    assert_eq!(rt; (yes == rows(0, 32), no == rows(32, 1024)), (true, true));
-    assert_eq!(rt;
+    agree((yes == rows(0, 32), no == rows(32, 1024)), (true, true))?;
+    agree(
         (
             in_range(16, 90, 99) == rows(30, 34),
-            decoded(64) == threes()
+            decoded(64) == threes(),
         ),
-        (true, true)
-    );
-    Ok(())
+        (true, true),
+    )
 }

@@ -2,12 +2,12 @@
 //! 3 * 1023 * 1024 / 2, and rows 30 to 33 have 90, 93, 96 and 99.
 ghost use Rattle.std.specs.Prelude.{◌≤◌};
 
+use expectations::agree;
 use fused_kernels::{
     Meter, VectorLanes, compare, compare_columns, compare_range, count, max, min, sum,
 };
 use segment_core::{Coded, CodedVector, Coding};
 use std::alloc::Global;
-use std::process::Abort;
 use std::test::Fail;
 use table_model::Op;
 use transpose_order::Mask;
@@ -56,26 +56,26 @@ fn folds(vector: &CodedVector, mask: &Mask, meter: &mut Meter) -> Folds {
 }
 
 /// What the kernels answer of the multiples of three, in whatever coding.
-fn check_folds(rt: &impl Abort, vector: &CodedVector) {
+fn check_folds(vector: &CodedVector) -> Result<(), Fail> {
     let mut meter = Meter::new();
-    assert_eq!(rt;
+    agree(
         folds(vector, &rows(30, 34), &mut meter),
-        (378, Some(90), Some(99), 4)
-    );
-    assert_eq!(rt;
+        (378, Some(90), Some(99), 4),
+    )?;
+    agree(
         (
             sum_of(vector, &Mask::all(), &mut meter),
-            greatest_of(vector, &Mask::none(), &mut meter)
+            greatest_of(vector, &Mask::none(), &mut meter),
         ),
-        (1571328, None)
-    );
-    assert_eq!(rt; meter.count(), 5);
+        (1571328, None),
+    )?;
+    agree(meter.count(), 5)
 }
 
 #[test]
 fn sums_and_extremes_are_those_of_the_rows_looked_at(rt: HostRuntime) -> Result<(), Fail> {
     for &coding in &[Coding::For, Coding::Delta, Coding::Runs, Coding::Dict] {
-        check_folds(&rt, &threes(rt.alloc(), coding)?);
+        check_folds(&threes(rt.alloc(), coding)?)?;
     }
     Ok(())
 }
@@ -100,24 +100,23 @@ fn in_range(vector: &CodedVector, low: i128, high: i128, meter: &mut Meter) -> M
 }
 
 /// The rows below `end` have values below a literal, and the others don't.
-fn check_below(rt: &impl Abort, vector: &CodedVector, literal: i128, end: usize)
+fn check_below(vector: &CodedVector, literal: i128, end: usize) -> Result<(), Fail>
     requires { end ≤ 1024 }
 {
     let mut meter = Meter::new();
     let (yes, no) = compared(vector, Op::Less, literal, &mut meter);
-    assert_eq!(rt; (yes == rows(0, end), no == rows(end, 1024)), (true, true));
-    assert_eq!(rt; (yes.count(), no.count()), (end, 1024 - end));
+    agree((yes == rows(0, end), no == rows(end, 1024)), (true, true))?;
+    agree((yes.count(), no.count()), (end, 1024 - end))
 }
 
 // 96 is the value of row 32; 10 to the power of 29 is above every number of 64 bits.
 #[test]
 fn a_comparison_parts_the_rows_looked_at(rt: HostRuntime) -> Result<(), Fail> {
     let vector = threes(rt.alloc(), Coding::Delta)?;
-    check_below(&rt, &vector, 96, 32);
-    check_below(&rt, &vector, 100_000_000_000_000_000_000_000_000_000, 1024);
+    check_below(&vector, 96, 32)?;
+    check_below(&vector, 100_000_000_000_000_000_000_000_000_000, 1024)?;
     let mut meter = Meter::new();
-    assert_eq!(rt; in_range(&vector, 90, 99, &mut meter) == rows(30, 34), true);
-    Ok(())
+    agree(in_range(&vector, 90, 99, &mut meter) == rows(30, 34), true)
 }
 
 /// Rows 5 to 8 of two vectors, at which the left value is at most the right one, and the others.
@@ -128,19 +127,15 @@ fn compared_columns(left: &CodedVector, right: &CodedVector, meter: &mut Meter) 
 }
 
 /// The comparison of rows 5 to 8 holds at each of them, and counts a pass for each vector.
-fn check_columns(rt: &impl Abort, left: &CodedVector, right: &CodedVector) {
+fn check_columns(left: &CodedVector, right: &CodedVector) -> Result<(), Fail> {
     let mut meter = Meter::new();
     let (yes, no) = compared_columns(left, right, &mut meter);
-    assert_eq!(rt;
-        (yes == rows(5, 9), no.count(), meter.count()),
-        (true, 0, 2)
-    );
+    agree((yes == rows(5, 9), no.count(), meter.count()), (true, 0, 2))
 }
 
 #[test]
 fn two_columns_are_compared_row_by_row(rt: HostRuntime) -> Result<(), Fail> {
     let left = threes(rt.alloc(), Coding::For)?;
     let right = threes(rt.alloc(), Coding::Dict)?;
-    check_columns(&rt, &left, &right);
-    Ok(())
+    check_columns(&left, &right)
 }

@@ -1,4 +1,5 @@
 //! The calls on coded vectors in each coding, at values worked out by hand.
+use expectations::agree;
 use fused_kernels::{
     Meter, VectorLanes, compare_columns, compare_vector, compare_vector_range, compare_vectors,
     count, decode_vector, vector_max, vector_min, vector_sum,
@@ -118,7 +119,7 @@ fn rows(rt: &impl Abort, first: usize, end: usize) -> Mask {
 type Folds = (i128, Option<i64>, Option<i64>, u32);
 
 /// What the calls answer of one vector, each counting one pass.
-fn folds(rt: &impl Abort, vector: &CodedVector, mask: &Mask) -> Folds {
+fn folds(vector: &CodedVector, mask: &Mask) -> Result<Folds, Fail> {
     let mut meter = Meter::new();
     let folds = (
         vector_sum(vector, mask, &mut meter),
@@ -126,26 +127,31 @@ fn folds(rt: &impl Abort, vector: &CodedVector, mask: &Mask) -> Folds {
         vector_max(vector, mask, &mut meter),
         count(vector, mask),
     );
-    assert_eq!(rt; meter.count(), 3);
-    folds
+    agree(meter.count(), 3)?;
+    Ok(folds)
 }
 
-fn check_equal(rt: &impl Abort, vector: &CodedVector, value: i64) {
-    assert_eq!(rt;
-        folds(rt, vector, &Mask::all()),
-        (i128::from(value) * 1024, Some(value), Some(value), 1024)
-    );
+fn check_equal(vector: &CodedVector, value: i64) -> Result<(), Fail> {
+    agree(
+        folds(vector, &Mask::all())?,
+        (i128::from(value) * 1024, Some(value), Some(value), 1024),
+    )
 }
 
-fn check_ends(rt: &impl Abort, vector: &CodedVector, least: i64, greatest: i64) {
-    assert_eq!(rt;
-        folds(rt, vector, &Mask::all()),
-        (-512, Some(least), Some(greatest), 1024)
-    );
-    assert_eq!(rt;
-        folds(rt, vector, &rows(rt, 7, 8)),
-        (i128::from(greatest), Some(greatest), Some(greatest), 1)
-    );
+fn check_ends(
+    rt: &impl Abort,
+    vector: &CodedVector,
+    least: i64,
+    greatest: i64,
+) -> Result<(), Fail> {
+    agree(
+        folds(vector, &Mask::all())?,
+        (-512, Some(least), Some(greatest), 1024),
+    )?;
+    agree(
+        folds(vector, &rows(rt, 7, 8))?,
+        (i128::from(greatest), Some(greatest), Some(greatest), 1),
+    )
 }
 
 /// The column of one value alone, in each coding.
@@ -158,7 +164,7 @@ fn check_equal_of(
     let all = Pattern::All(i128::from(value));
     for &coding in &CODINGS {
         let vector = coded(rt, alloc, column_type, 1024, all, coding)?;
-        check_equal(rt, &vector, value);
+        check_equal(&vector, value)?;
     }
     Ok(())
 }
@@ -175,7 +181,7 @@ fn check_ends_of(
     let ends = Pattern::Alternating(i128::from(least), i128::from(greatest));
     for &coding in &CODINGS {
         let vector = coded(rt, alloc, column_type, 1024, ends, coding)?;
-        check_ends(rt, &vector, least, greatest);
+        check_ends(rt, &vector, least, greatest)?;
     }
     Ok(())
 }
@@ -206,10 +212,11 @@ const THIRDS: [(usize, usize, Folds); 6] = [
     (0, 0, (0, None, None, 0)),
 ];
 
-fn check_thirds(rt: &impl Abort, vector: &CodedVector) {
+fn check_thirds(rt: &impl Abort, vector: &CodedVector) -> Result<(), Fail> {
     for &(first, end, expected) in &THIRDS {
-        assert_eq!(rt; folds(rt, vector, &rows(rt, first, end)), expected);
+        agree(folds(vector, &rows(rt, first, end))?, expected)?;
     }
+    Ok(())
 }
 
 // Rows 10 to 19 without the multiples of three are 10, 11, 13, 14, 16, 17 and 19. Rows 0 to 1022 add up to 522753, of which the
@@ -222,7 +229,7 @@ fn rows_past_the_end_null_or_out_of_the_mask_are_not_looked_at(
         for &coding in &CODINGS {
             let pattern = Pattern::ThirdsNull;
             let vector = coded(&rt, rt.alloc(), column_type, 1023, pattern, coding)?;
-            check_thirds(&rt, &vector);
+            check_thirds(&rt, &vector)?;
         }
     }
     Ok(())
@@ -240,42 +247,40 @@ fn lists(mask: &Mask, listed: &[usize]) -> bool {
 
 /// A comparison counts one pass, and parts the rows looked at into those listed.
 fn check_parts(
-    rt: &impl Abort,
     vector: &CodedVector,
     mask: &Mask,
     (op, literal): (Op, i128),
     yes: &[usize],
     no: &[usize],
-) {
+) -> Result<(), Fail> {
     let mut meter = Meter::new();
     let (holds, fails) = compare_vector(vector, op, literal, mask, &mut meter);
-    assert_eq!(rt;
+    agree(
         (lists(&holds, yes), lists(&fails, no), meter.count()),
-        (true, true, 1)
-    );
+        (true, true, 1),
+    )
 }
 
 /// A range counts one pass, and parts the rows looked at into those listed.
 fn check_range(
-    rt: &impl Abort,
     vector: &CodedVector,
     mask: &Mask,
     (low, high): (i128, i128),
     yes: &[usize],
     no: &[usize],
-) {
+) -> Result<(), Fail> {
     let mut meter = Meter::new();
     let (holds, fails) = compare_vector_range(vector, low, high, mask, &mut meter);
-    assert_eq!(rt;
+    agree(
         (lists(&holds, yes), lists(&fails, no), meter.count()),
-        (true, true, 1)
-    );
+        (true, true, 1),
+    )
 }
 
-fn check_one_row(rt: &impl Abort, vector: &CodedVector) {
+fn check_one_row(vector: &CodedVector) -> Result<(), Fail> {
     let all = Mask::all();
-    assert_eq!(rt; folds(rt, vector, &all), (-7, Some(-7), Some(-7), 1));
-    check_parts(rt, vector, &all, (Op::Equal, -7), &[0], &[]);
+    agree(folds(vector, &all)?, (-7, Some(-7), Some(-7), 1))?;
+    check_parts(vector, &all, (Op::Equal, -7), &[0], &[])
 }
 
 #[test]
@@ -283,7 +288,7 @@ fn a_vector_may_have_one_row(rt: HostRuntime) -> Result<(), Fail> {
     for &column_type in &TYPES {
         for &coding in &CODINGS {
             let vector = coded(&rt, rt.alloc(), column_type, 1, Pattern::All(-7), coding)?;
-            check_one_row(&rt, &vector);
+            check_one_row(&vector)?;
         }
     }
     Ok(())
@@ -296,13 +301,13 @@ const COMPARED: [((Op, i128), &[usize], &[usize]); 3] = [
     ((Op::Greater, i128::MIN), &[10, 11, 13, 14, 16, 17, 19], &[]),
 ];
 
-fn check_thirds_compared(rt: &impl Abort, vector: &CodedVector) {
+fn check_thirds_compared(rt: &impl Abort, vector: &CodedVector) -> Result<(), Fail> {
     let some = rows(rt, 10, 20);
     for &(comparison, yes, no) in &COMPARED {
-        check_parts(rt, vector, &some, comparison, yes, no);
+        check_parts(vector, &some, comparison, yes, no)?;
     }
     let (yes, no) = (&[11, 13, 14, 16], &[10, 17, 19]);
-    check_range(rt, vector, &some, (11, 16), yes, no);
+    check_range(vector, &some, (11, 16), yes, no)
 }
 
 // Of 10, 11, 13, 14, 16, 17 and 19, and at the ends of what numbers there are.
@@ -312,7 +317,7 @@ fn a_comparison_parts_the_rows_looked_at_in_each_coding(rt: HostRuntime) -> Resu
         for &coding in &CODINGS {
             let pattern = Pattern::ThirdsNull;
             let vector = coded(&rt, rt.alloc(), column_type, 1023, pattern, coding)?;
-            check_thirds_compared(&rt, &vector);
+            check_thirds_compared(&rt, &vector)?;
         }
     }
     Ok(())
@@ -326,13 +331,18 @@ const AT_ENDS: [(Op, bool, &[usize], &[usize]); 3] = [
     (Op::Greater, true, &[], &[6, 7]),
 ];
 
-fn check_ends_compared(rt: &impl Abort, vector: &CodedVector, low: i128, high: i128) {
+fn check_ends_compared(
+    rt: &impl Abort,
+    vector: &CodedVector,
+    low: i128,
+    high: i128,
+) -> Result<(), Fail> {
     let pair = rows(rt, 6, 8);
     for &(op, with_high, yes, no) in &AT_ENDS {
         let literal = if with_high { high } else { low };
-        check_parts(rt, vector, &pair, (op, literal), yes, no);
+        check_parts(vector, &pair, (op, literal), yes, no)?;
     }
-    check_range(rt, vector, &pair, (-1, 1), &[], &[6, 7]);
+    check_range(vector, &pair, (-1, 1), &[], &[6, 7])
 }
 
 /// The ends of a type's numbers by turns, compared in each coding.
@@ -347,7 +357,7 @@ fn check_ends_of_compared(
     for &coding in &CODINGS {
         let pattern = Pattern::Alternating(low, high);
         let vector = coded(rt, alloc, column_type, 1024, pattern, coding)?;
-        check_ends_compared(rt, &vector, low, high);
+        check_ends_compared(rt, &vector, low, high)?;
     }
     Ok(())
 }
@@ -362,26 +372,25 @@ fn the_ends_of_each_lane_width_are_compared(rt: HostRuntime) -> Result<(), Fail>
 
 /// A comparison of two vectors, which counts two passes.
 fn parted_by(
-    rt: &impl Abort,
     left: &CodedVector,
     op: Op,
     right: &CodedVector,
     mask: &Mask,
-) -> (Mask, Mask) {
+) -> Result<(Mask, Mask), Fail> {
     let mut meter = Meter::new();
     let parts = compare_vectors(left, op, right, mask, &mut meter);
-    assert_eq!(rt; meter.count(), 2);
-    parts
+    agree(meter.count(), 2)?;
+    Ok(parts)
 }
 
-fn check_two(rt: &impl Abort, left: &CodedVector, right: &CodedVector) {
-    let (yes, no) = parted_by(rt, left, Op::LessOrEqual, right, &Mask::all());
-    assert_eq!(rt; (yes.count(), no.count()), (501, 523));
-    let (yes, no) = parted_by(rt, left, Op::Less, right, &rows(rt, 998, 1002));
-    assert_eq!(rt;
+fn check_two(rt: &impl Abort, left: &CodedVector, right: &CodedVector) -> Result<(), Fail> {
+    let (yes, no) = parted_by(left, Op::LessOrEqual, right, &Mask::all())?;
+    agree((yes.count(), no.count()), (501, 523))?;
+    let (yes, no) = parted_by(left, Op::Less, right, &rows(rt, 998, 1002))?;
+    agree(
         (lists(&yes, &[999]), lists(&no, &[998, 1000, 1001])),
-        (true, true)
-    );
+        (true, true),
+    )
 }
 
 /// The rows' numbers against 0 and 1000 by turns, in each coding.
@@ -389,7 +398,7 @@ fn check_left(rt: &impl Abort, alloc: Global, left: &CodedVector) -> Result<(), 
     let ends = Pattern::Alternating(0, 1000);
     for &coding in &CODINGS {
         let right = coded(rt, alloc, ColType::BigInt, 1024, ends, coding)?;
-        check_two(rt, left, &right);
+        check_two(rt, left, &right)?;
     }
     Ok(())
 }
@@ -415,12 +424,12 @@ fn are_counting(values: &[i64; 1024]) -> bool {
 }
 
 /// The values of a vector, which counts one pass to decode.
-fn decoded(rt: &impl Abort, vector: &CodedVector) -> [i64; 1024] {
+fn decoded(vector: &CodedVector) -> Result<[i64; 1024], Fail> {
     let mut values = [-1; 1024];
     let mut meter = Meter::new();
     decode_vector(vector, &mut values, &mut meter);
-    assert_eq!(rt; meter.count(), 1);
-    values
+    agree(meter.count(), 1)?;
+    Ok(values)
 }
 
 #[test]
@@ -428,7 +437,7 @@ fn a_vector_is_decoded_in_row_order(rt: HostRuntime) -> Result<(), Fail> {
     let pattern = Pattern::Counting;
     for &coding in &CODINGS {
         let vector = coded(&rt, rt.alloc(), ColType::Integer, 1024, pattern, coding)?;
-        assert!(rt; are_counting(&decoded(&rt, &vector)));
+        assert!(rt; are_counting(&decoded(&vector)?));
     }
     Ok(())
 }
@@ -486,18 +495,18 @@ fn parts_of(looked_at: bool, op: Op, left: Option<i128>, right: Option<i128>) ->
 }
 
 fn check_beside(
-    rt: &impl Abort,
     (left, left_cells): (&CodedVector, Pattern),
     op: Op,
     (right, right_cells): (&CodedVector, Pattern),
     mask: &Mask,
-) {
-    let (yes, no) = parted_by(rt, left, op, right, mask);
+) -> Result<(), Fail> {
+    let (yes, no) = parted_by(left, op, right, mask)?;
     for row in 0..1024 {
         let (left, right) = (cell_of(left_cells, row), cell_of(right_cells, row));
         let expected = parts_of(mask.get(row), op, left, right);
-        assert_eq!(rt; (yes.get(row), no.get(row)), expected);
+        agree((yes.get(row), no.get(row)), expected)?;
     }
+    Ok(())
 }
 
 /// Two columns compared over all rows and over some.
@@ -506,9 +515,9 @@ fn check_beside_masks(
     left: (&CodedVector, Pattern),
     op: Op,
     right: (&CodedVector, Pattern),
-) {
-    check_beside(rt, left, op, right, &Mask::all());
-    check_beside(rt, left, op, right, &rows(rt, 100, 701));
+) -> Result<(), Fail> {
+    check_beside(left, op, right, &Mask::all())?;
+    check_beside(left, op, right, &rows(rt, 100, 701))
 }
 
 /// Two columns of a type that are equal at odd rows, compared in a pair of codings.
@@ -521,8 +530,7 @@ fn check_beside_in(
 ) -> Result<(), Fail> {
     let left = coded(rt, alloc, column_type, 1024, left_cells, left_coding)?;
     let right = coded(rt, alloc, column_type, 1024, right_cells, right_coding)?;
-    check_beside_masks(rt, (&left, left_cells), op, (&right, right_cells));
-    Ok(())
+    check_beside_masks(rt, (&left, left_cells), op, (&right, right_cells))
 }
 
 /// Those columns in each pair of codings.
@@ -549,13 +557,14 @@ fn two_vectors_of_one_lane_width_are_compared_at_each_width(rt: HostRuntime) -> 
     Ok(())
 }
 
-fn check_decoded(rt: &impl Abort, vector: &CodedVector, cells: Pattern) {
-    let values = decoded(rt, vector);
+fn check_decoded(vector: &CodedVector, cells: Pattern) -> Result<(), Fail> {
+    let values = decoded(vector)?;
     for row in 0..1024 {
         if let Some(cell) = cell_of(cells, row) {
-            assert_eq!(rt; i128::from(values[row]), cell);
+            agree(i128::from(values[row]), cell)?;
         }
     }
+    Ok(())
 }
 
 // What is expected is the cells.
@@ -565,7 +574,7 @@ fn vectors_of_each_width_are_decoded(rt: HostRuntime) -> Result<(), Fail> {
         let cells = Pattern::Mixed(without, less, 0);
         for &coding in &CODINGS {
             let vector = coded(&rt, rt.alloc(), column_type, 1024, cells, coding)?;
-            check_decoded(&rt, &vector, cells);
+            check_decoded(&vector, cells)?;
         }
     }
     Ok(())
@@ -580,70 +589,69 @@ fn parted_by_lanes(left: &CodedVector, op: Op, right: &CodedVector, mask: &Mask)
 }
 
 /// Of rows 3 to 6, 3 and 6 are null on one side alone, and both sides have the row's number.
-fn check_one_null(rt: &impl Abort, left: &CodedVector, right: &CodedVector) {
+fn check_one_null(rt: &impl Abort, left: &CodedVector, right: &CodedVector) -> Result<(), Fail> {
     let some = rows(rt, 3, 7);
-    let (yes, no) = parted_by(rt, left, Op::LessOrEqual, right, &some);
-    assert_eq!(rt; (lists(&yes, &[4, 5]), lists(&no, &[])), (true, true));
+    let (yes, no) = parted_by(left, Op::LessOrEqual, right, &some)?;
+    agree((lists(&yes, &[4, 5]), lists(&no, &[])), (true, true))?;
     let (yes, no) = parted_by_lanes(left, Op::Less, right, &some);
-    assert_eq!(rt; (lists(&yes, &[]), lists(&no, &[4, 5])), (true, true));
+    agree((lists(&yes, &[]), lists(&no, &[4, 5])), (true, true))
+}
+
+/// Two columns of which one has nulls, on either side.
+fn check_nulls(rt: &impl Abort, some: &CodedVector, all: &CodedVector) -> Result<(), Fail> {
+    check_one_null(rt, some, all)?;
+    check_one_null(rt, all, some)
+}
+
+/// Those columns in a coding.
+fn check_nulls_in(rt: &impl Abort, alloc: Global, coding: Coding) -> Result<(), Fail> {
+    let of_type = ColType::Integer;
+    let some = coded(rt, alloc, of_type, 1024, Pattern::ThirdsNull, coding)?;
+    let all = coded(rt, alloc, of_type, 1024, Pattern::Counting, coding)?;
+    check_nulls(rt, &some, &all)
 }
 
 #[test]
 fn a_row_that_is_null_on_one_side_alone_is_not_looked_at(rt: HostRuntime) -> Result<(), Fail> {
-    let alloc = rt.alloc();
     for &coding in &CODINGS {
-        let some = coded(
-            &rt,
-            alloc,
-            ColType::Integer,
-            1024,
-            Pattern::ThirdsNull,
-            coding,
-        )?;
-        let all = coded(
-            &rt,
-            alloc,
-            ColType::Integer,
-            1024,
-            Pattern::Counting,
-            coding,
-        )?;
-        check_one_null(&rt, &some, &all);
-        check_one_null(&rt, &all, &some);
+        check_nulls_in(&rt, rt.alloc(), coding)?;
     }
     Ok(())
 }
 
 /// No row of an empty mask is looked at, by any comparison.
-fn check_no_row(rt: &impl Abort, left: &CodedVector, right: &CodedVector) {
+fn check_no_row(left: &CodedVector, right: &CodedVector) -> Result<(), Fail> {
     let none = Mask::none();
-    check_parts(rt, left, &none, (Op::Less, 5), &[], &[]);
-    check_range(rt, left, &none, (2, 5), &[], &[]);
-    let (yes, no) = parted_by(rt, left, Op::Less, right, &none);
-    assert_eq!(rt; (yes.count(), no.count()), (0, 0));
+    check_parts(left, &none, (Op::Less, 5), &[], &[])?;
+    check_range(left, &none, (2, 5), &[], &[])?;
+    let (yes, no) = parted_by(left, Op::Less, right, &none)?;
+    agree((yes.count(), no.count()), (0, 0))
+}
+
+/// The rows' numbers in a coding, and beside them another vector.
+fn check_no_row_in(
+    rt: &impl Abort,
+    alloc: Global,
+    coding: Coding,
+    right: &CodedVector,
+) -> Result<(), Fail> {
+    let left = coded(rt, alloc, ColType::Integer, 1024, Pattern::Counting, coding)?;
+    check_no_row(&left, right)
 }
 
 #[test]
 fn no_row_of_an_empty_mask_is_compared(rt: HostRuntime) -> Result<(), Fail> {
-    let alloc = rt.alloc();
+    let pattern = Pattern::Counting;
     let right = coded(
         &rt,
-        alloc,
+        rt.alloc(),
         ColType::Integer,
         1024,
-        Pattern::Counting,
+        pattern,
         Coding::For,
     )?;
     for &coding in &CODINGS {
-        let left = coded(
-            &rt,
-            alloc,
-            ColType::Integer,
-            1024,
-            Pattern::Counting,
-            coding,
-        )?;
-        check_no_row(&rt, &left, &right);
+        check_no_row_in(&rt, rt.alloc(), coding, &right)?;
     }
     Ok(())
 }
@@ -652,41 +660,62 @@ fn no_row_of_an_empty_mask_is_compared(rt: HostRuntime) -> Result<(), Fail> {
 const ONE_VALUE: Pattern = Pattern::All(500);
 
 /// One value beside the rows' numbers, on either side, by the comparisons that tell a row from the others.
-fn check_one_value(rt: &impl Abort, one: &CodedVector, others: &CodedVector) {
+fn check_one_value(one: &CodedVector, others: &CodedVector) -> Result<(), Fail> {
     let mask = Mask::all();
     for &op in &[Op::Equal, Op::Less] {
-        check_beside(rt, (one, ONE_VALUE), op, (others, Pattern::Counting), &mask);
-        check_beside(rt, (others, Pattern::Counting), op, (one, ONE_VALUE), &mask);
+        check_beside((one, ONE_VALUE), op, (others, Pattern::Counting), &mask)?;
+        check_beside((others, Pattern::Counting), op, (one, ONE_VALUE), &mask)?;
     }
+    Ok(())
+}
+
+/// One value beside the rows' numbers in a coding.
+fn check_one_value_in(
+    rt: &impl Abort,
+    alloc: Global,
+    coding: Coding,
+    one: &CodedVector,
+) -> Result<(), Fail> {
+    let others = coded(
+        rt,
+        alloc,
+        ColType::SmallInt,
+        1024,
+        Pattern::Counting,
+        coding,
+    )?;
+    check_one_value(one, &others)
 }
 
 // What is expected is worked out of the cells: 500 is the number of one row, and 500 rows have less.
 #[test]
 fn a_vector_of_one_value_is_compared_with_each_coding(rt: HostRuntime) -> Result<(), Fail> {
-    let alloc = rt.alloc();
-    let one = coded(&rt, alloc, ColType::BigInt, 1024, ONE_VALUE, Coding::For)?;
+    let one = coded(
+        &rt,
+        rt.alloc(),
+        ColType::BigInt,
+        1024,
+        ONE_VALUE,
+        Coding::For,
+    )?;
     for &coding in &CODINGS {
-        let others = coded(
-            &rt,
-            alloc,
-            ColType::SmallInt,
-            1024,
-            Pattern::Counting,
-            coding,
-        )?;
-        check_one_value(&rt, &one, &others);
+        check_one_value_in(&rt, rt.alloc(), coding, &one)?;
     }
     Ok(())
+}
+
+/// Two vectors of one value are equal at each row.
+fn check_equal_values(one: &CodedVector, other: &CodedVector) -> Result<(), Fail> {
+    let (yes, no) = parted_by(one, Op::Equal, other, &Mask::all())?;
+    agree((yes.count(), no.count()), (1024, 0))?;
+    let (yes, no) = parted_by(one, Op::Less, other, &Mask::all())?;
+    agree((yes.count(), no.count()), (0, 1024))
 }
 
 #[test]
 fn two_vectors_of_one_value_are_compared(rt: HostRuntime) -> Result<(), Fail> {
     let alloc = rt.alloc();
     let one = coded(&rt, alloc, ColType::BigInt, 1024, ONE_VALUE, Coding::For)?;
-    let same = coded(&rt, alloc, ColType::SmallInt, 1024, ONE_VALUE, Coding::For)?;
-    let (yes, no) = parted_by(&rt, &one, Op::Equal, &same, &Mask::all());
-    assert_eq!(rt; (yes.count(), no.count()), (1024, 0));
-    let (yes, no) = parted_by(&rt, &one, Op::Less, &same, &Mask::all());
-    assert_eq!(rt; (yes.count(), no.count()), (0, 1024));
-    Ok(())
+    let other = coded(&rt, alloc, ColType::SmallInt, 1024, ONE_VALUE, Coding::For)?;
+    check_equal_values(&one, &other)
 }

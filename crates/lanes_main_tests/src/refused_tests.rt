@@ -1,29 +1,19 @@
-//! Checks, queries, scripts and texts of replies, each with a growth refused. A test's own growths are counted from 1: with the Nth
-//! refused, a test fails by an `AllocError` or `Memory` of its set-up, or, where it was a growth of the call that it is of, with the
-//! text `REFUSED` or `CHANGED`; with none refused it passes. The command `tests/refused-memory` refuses each in turn and counts those
-//! texts.
+//! Checks, queries, scripts and texts of replies, each with a growth refused. A test's own growths are counted from 1: with the
+//! Nth refused, a test fails by an `AllocError` or `Memory` of its set-up, or, where it was a growth of the call that it is of,
+//! with the text `REFUSED` or `CHANGED`; with none refused it passes. The command `tests/refused-memory` refuses each in turn and
+//! counts those texts.
 use crate::tests::ONE_ROW;
+use expectations::growth_refused;
 use lanes_main::{FileBytes, Reply, check_file, query_file, reply_text, script};
 use std::alloc::{AllocError, Global};
 use std::process::Abort;
 use std::test::Fail;
 use table_model::{Answer, AnswerRow, BatchName, Counted, Field, Number, Origin, Refusal};
 
-/// The call answered that memory was refused; what it was given is as it was, and the same call again succeeds.
-const REFUSED: &str = "a growth was refused, and all is as it was";
-
-/// The call answered otherwise, or what it was given is not as it was.
-const CHANGED: &str = "a growth was refused, and not all is as it was";
-
 /// The most bytes that a call of these tests writes.
 const ROOM: usize = 256;
 
 const ZEROS: &[u8] = &[0; ROOM];
-
-/// The end of a test whose call was refused.
-fn refused(is_as_it_was: bool) -> Result<(), Fail> {
-    Err(Fail::new(if is_as_it_was { REFUSED } else { CHANGED }))
-}
 
 /// Whether these bytes are a text and then bytes that are 0.
 fn begins_with(room: &[u8], text: &str) -> bool {
@@ -109,7 +99,7 @@ impl Told {
         let ended = called(alloc, self.call, bytes, &mut room);
         if ended.0.is_err() {
             let is_refused = ended == (Err(Refusal::Memory), 0, 0) && self.is_front(&room);
-            return refused(is_refused && self.is_whole(alloc, bytes));
+            return growth_refused(is_refused && self.is_whole(alloc, bytes));
         }
         assert!(rt; begins_with(&room, self.whole));
         Ok(())
@@ -143,7 +133,7 @@ fn is_text(found: Result<Vec<u8>, AllocError>, want: &str) -> bool {
 fn is_reply(rt: &impl Abort, alloc: Global, reply: &Reply, want: &str) -> Result<(), Fail> {
     match reply_text(alloc, reply) {
         Ok(text) => assert!(rt; text.as_slice() == want.as_bytes()),
-        Err(_) => return refused(is_text(reply_text(alloc, reply), want)),
+        Err(_) => return growth_refused(is_text(reply_text(alloc, reply), want)),
     }
     Ok(())
 }

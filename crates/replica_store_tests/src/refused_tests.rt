@@ -1,23 +1,18 @@
-//! Calls of a store, each with a growth refused. A test's own growths are counted from 1: with the Nth refused, a test fails by an
-//! `AllocError` or `Memory` of its set-up, or, where it was a growth of the call that it is of, with the text `REFUSED` or
-//! `CHANGED`; with none refused it passes. The command `tests/refused-memory` refuses each in turn and counts those texts. A call
-//! whose test's name ends in `grows_nowhere` has none to refuse.
+//! Calls of a store, each with a growth refused. A test's own growths are counted from 1: with the Nth refused, a test fails by
+//! an `AllocError` or `Memory` of its set-up, or, where it was a growth of the call that it is of, as `growth_refused` says; with
+//! none refused it passes. The command `tests/refused-memory` refuses each in turn and counts those texts. A call whose test's
+//! name ends in `grows_nowhere` has none to refuse.
 //!
 //! A function that makes a store, or drops one, is dear to prove on each of its ways out. So each call is made where the store is
 //! only lent, and what the call needs is made by one function for all calls that need the same.
 use crate::exchange_tests::{offer_after, summary_after};
 use crate::tests::{Deleted, OneColumn, Told, is_state, name, row_name, rows_of, told_store};
+use expectations::growth_refused;
 use replica_store::{Offer, Store, Summary};
 use segment_core::Coding;
 use std::alloc::Global;
 use std::test::Fail;
 use table_model::{ColType, Origin, Refusal, Row, Schema};
-
-/// The call answered that memory was refused; what it was given is as it was, and the same call again succeeds.
-const REFUSED: &str = "a growth was refused, and all is as it was";
-
-/// The call answered otherwise, or what it was given is not as it was.
-const CHANGED: &str = "a growth was refused, and not all is as it was";
 
 /// What the store of these tests holds.
 const HELD: &[Told] = &[Told::Batch(1, 1, &[10, 11]), Told::Deletion(1, 1, 0, 0)];
@@ -52,8 +47,8 @@ fn refused(fault: Refusal, is_as_it_was: bool) -> Came {
 fn end(came: Came) -> Result<(), Fail> {
     match came {
         Came::Done => Ok(()),
-        Came::Refused => Err(Fail::new(REFUSED)),
-        Came::Changed => Err(Fail::new(CHANGED)),
+        Came::Refused => growth_refused(true),
+        Came::Changed => growth_refused(false),
     }
 }
 

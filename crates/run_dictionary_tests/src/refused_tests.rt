@@ -1,21 +1,11 @@
-//! Calls that grow, each with a growth refused. A test's own growths are counted from 1: with the Nth refused, a test fails by
-//! an `AllocError` of its set-up, or, where it was a growth of the call that it is of, with the text `REFUSED` or `CHANGED`; with
-//! none refused it passes. The command `tests/refused-memory` refuses each in turn and counts those texts.
+//! Calls that grow, each with a growth refused. A test's own growths are counted from 1: with the Nth refused, a test fails by an
+//! `AllocError` of its set-up, or, where it was a growth of the call that it is of, as `growth_refused` says; with none refused
+//! it passes. The command `tests/refused-memory` refuses each in turn and counts those texts.
 use column_patterns::{Pattern, column};
+use expectations::{agree, growth_refused};
 use run_dictionary::{Dict, Runs};
-use std::alloc::AllocError;
+use std::alloc::{AllocError, Global};
 use std::test::Fail;
-
-/// The call answered that memory was refused; what it was given is as it was, and the same call again succeeds.
-const REFUSED: &str = "a growth was refused, and all is as it was";
-
-/// The call answered otherwise, or what it was given is not as it was.
-const CHANGED: &str = "a growth was refused, and not all is as it was";
-
-/// The end of a test whose call was refused.
-fn refused(is_as_it_was: bool) -> Result<(), Fail> {
-    Err(Fail::new(if is_as_it_was { REFUSED } else { CHANGED }))
-}
 
 /// A vector of two values, so that a dictionary has packed codes of it.
 const TWO_PARTS: Pattern = Pattern::ChangedAt(500, 0, 9);
@@ -37,32 +27,31 @@ fn are_made_runs(made: &Result<Runs, AllocError>, values: &[i64; 1024]) -> bool 
 
 #[test]
 fn a_refused_encoding_gives_no_runs(rt: HostRuntime) -> Result<(), Fail> {
-    let alloc = rt.alloc();
     let values = column(16, TWO_PARTS);
-    match Runs::encode(alloc, &values, 16) {
-        Ok(runs) => assert!(rt; are_runs_of(&runs, &values)),
+    match Runs::encode(rt.alloc(), &values, 16) {
+        Ok(runs) => agree(are_runs_of(&runs, &values), true),
         Err(AllocError) => {
-            let again = Runs::encode(alloc, &values, 16);
-            return refused(are_made_runs(&again, &values));
+            let again = Runs::encode(rt.alloc(), &values, 16);
+            growth_refused(are_made_runs(&again, &values))
         }
     }
-    Ok(())
+}
+
+/// A copy of runs decodes to the vector, or is refused and leaves them.
+fn runs_are_copied(alloc: Global, runs: &Runs, values: &[i64; 1024]) -> Result<(), Fail> {
+    match runs.copy(alloc) {
+        Ok(copy) => agree(are_runs_of(&copy, values), true),
+        Err(AllocError) => {
+            growth_refused(are_runs_of(runs, values) && are_made_runs(&runs.copy(alloc), values))
+        }
+    }
 }
 
 #[test]
 fn a_refused_copy_leaves_its_runs(rt: HostRuntime) -> Result<(), Fail> {
-    let alloc = rt.alloc();
     let values = column(16, TWO_PARTS);
-    let runs = Runs::encode(alloc, &values, 16)?;
-    match runs.copy(alloc) {
-        Ok(copy) => assert!(rt; are_runs_of(&copy, &values)),
-        Err(AllocError) => {
-            let is_same = are_runs_of(&runs, &values);
-            let again = runs.copy(alloc);
-            return refused(is_same && are_made_runs(&again, &values));
-        }
-    }
-    Ok(())
+    let runs = Runs::encode(rt.alloc(), &values, 16)?;
+    runs_are_copied(rt.alloc(), &runs, &values)
 }
 
 /// Whether a dictionary's codes decode to a vector.
@@ -82,30 +71,29 @@ fn is_made_dict(made: &Result<Dict, AllocError>, values: &[i64; 1024]) -> bool {
 
 #[test]
 fn a_refused_encoding_gives_no_dictionary(rt: HostRuntime) -> Result<(), Fail> {
-    let alloc = rt.alloc();
     let values = column(16, TWO_PARTS);
-    match Dict::encode(alloc, &values, 16) {
-        Ok(dict) => assert!(rt; is_dict_of(&dict, &values)),
+    match Dict::encode(rt.alloc(), &values, 16) {
+        Ok(dict) => agree(is_dict_of(&dict, &values), true),
         Err(AllocError) => {
-            let again = Dict::encode(alloc, &values, 16);
-            return refused(is_made_dict(&again, &values));
+            let again = Dict::encode(rt.alloc(), &values, 16);
+            growth_refused(is_made_dict(&again, &values))
         }
     }
-    Ok(())
+}
+
+/// A copy of a dictionary decodes to the vector, or is refused and leaves it.
+fn dict_is_copied(alloc: Global, dict: &Dict, values: &[i64; 1024]) -> Result<(), Fail> {
+    match dict.copy(alloc) {
+        Ok(copy) => agree(is_dict_of(&copy, values), true),
+        Err(AllocError) => {
+            growth_refused(is_dict_of(dict, values) && is_made_dict(&dict.copy(alloc), values))
+        }
+    }
 }
 
 #[test]
 fn a_refused_copy_leaves_its_dictionary(rt: HostRuntime) -> Result<(), Fail> {
-    let alloc = rt.alloc();
     let values = column(16, TWO_PARTS);
-    let dict = Dict::encode(alloc, &values, 16)?;
-    match dict.copy(alloc) {
-        Ok(copy) => assert!(rt; is_dict_of(&copy, &values)),
-        Err(AllocError) => {
-            let is_same = is_dict_of(&dict, &values);
-            let again = dict.copy(alloc);
-            return refused(is_same && is_made_dict(&again, &values));
-        }
-    }
-    Ok(())
+    let dict = Dict::encode(rt.alloc(), &values, 16)?;
+    dict_is_copied(rt.alloc(), &dict, &values)
 }

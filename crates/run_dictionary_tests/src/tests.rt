@@ -5,86 +5,91 @@ ghost use Rattle.bit_interleave.specs.Range.{AreInRange};
 
 use bit_interleave::{Values, Words};
 use column_patterns::{Pattern, column};
+use expectations::agree;
 use run_dictionary::{Dict, Runs};
 use std::alloc::Global;
-use std::process::Abort;
 use std::test::Fail;
 use transpose_order::Mask;
 
-/// The runs at 16 bits have 0 up to row 499, and 32767 from row 500 on.
-fn two_runs_part_at_500(rt: &impl Abort, runs: &Runs) {
-    assert_eq!(rt;
+/// The runs at 16 bits have 0 up to row 499, and 32767 from row 500 on, which is bit 4 of byte 62, so bit 52 of word 7.
+fn two_runs_part_at_500(runs: &Runs) -> Result<(), Fail> {
+    let mut words = [0; 16];
+    words[7] = 1 << 52;
+    agree(runs.starts().words(), &words)?;
+    agree(runs.values().in_room(&mut [0; 1024]), [0, 32767].as_slice())?;
+    agree(
         (runs.lane_width(), runs.value(499), runs.value(500)),
-        (16, 0, 32767)
-    );
-    assert_eq!(rt; (runs.run_at(499), runs.run_at(500)), (0, 1));
+        (16, 0, 32767),
+    )?;
+    agree((runs.run_at(499), runs.run_at(500)), (0, 1))
 }
 
-// Row 500 is bit 4 of byte 62, so bit 52 of word 7.
 #[test]
 fn two_runs_take_a_mask_with_one_start(rt: HostRuntime) -> Result<(), Fail> {
     let values = column(16, Pattern::ChangedAt(500, 0, 32767));
     let runs = Runs::encode(rt.alloc(), &values, 16)?;
-    let mut words = [0; 16];
-    words[7] = 1 << 52;
-    assert_eq!(rt; runs.starts().words(), &words);
-    assert_eq!(rt;
-        runs.values().in_room(&mut [0; 1024]),
-        [0, 32767].as_slice()
-    );
-    two_runs_part_at_500(&rt, &runs);
-    Ok(())
+    two_runs_part_at_500(&runs)
 }
 
 /// The dictionary has 0 at even rows and 32767 at odd ones.
-fn has_alternating_values(rt: &impl Abort, dict: &Dict) {
-    assert_eq!(rt;
-        dict.values().in_room(&mut [0; 1024]),
-        [0, 32767].as_slice()
-    );
-    assert_eq!(rt; (dict.value(0), dict.value(1023)), (0, 32767));
-    assert_eq!(rt; dict.piece(1).to_array(), [32767; 16]);
-    assert_eq!(rt; dict.places_between(1, 32767), (1, 2));
+fn has_alternating_values(dict: &Dict) -> Result<(), Fail> {
+    agree(dict.values().in_room(&mut [0; 1024]), [0, 32767].as_slice())?;
+    agree((dict.value(0), dict.value(1023)), (0, 32767))?;
+    agree(dict.piece(1).to_array(), [32767; 16])?;
+    agree(dict.places_between(1, 32767), (1, 2))
 }
 
-// A lane has sixteen neighbouring rows, so each word of codes has its odd bits set.
+/// The dictionary's codes have one bit, and each word of codes has its odd bits set, as a lane has sixteen neighbouring rows.
+fn has_alternating_codes(dict: &Dict) -> Result<(), Fail> {
+    let width = dict.width();
+    agree((dict.lane_width(), width), (16, 1))?;
+    agree(dict.codes().words_16(), [0xAAAA; 64].as_slice())?;
+    agree(
+        (
+            Dict::codes_fit(width, dict.codes(), 2),
+            Dict::codes_fit(width, dict.codes(), 1),
+        ),
+        (true, false),
+    )
+}
+
+/// Both of the above.
+fn alternates(dict: &Dict) -> Result<(), Fail> {
+    has_alternating_values(dict)?;
+    has_alternating_codes(dict)
+}
+
 #[test]
 fn alternating_values_take_codes_of_one_bit(rt: HostRuntime) -> Result<(), Fail> {
     let values = column(16, Pattern::Alternating(0, 32767));
     let dict = Dict::encode(rt.alloc(), &values, 16)?;
-    assert_eq!(rt; (dict.lane_width(), dict.width()), (16, 1));
-    has_alternating_values(&rt, &dict);
-    assert_eq!(rt; dict.codes().words_16(), [0xAAAA; 64].as_slice());
-    assert_eq!(rt;
-        (
-            Dict::codes_fit(1, dict.codes(), 2),
-            Dict::codes_fit(1, dict.codes(), 1)
-        ),
-        (true, false)
-    );
-    Ok(())
+    alternates(&dict)
 }
 
-/// A copy of runs has their parts and decodes to the vector.
-fn runs_copy_decodes(
-    rt: &impl Abort,
+/// Runs have another's parts and decode to the vector.
+fn are_alike(found: &Runs, runs: &Runs, values: &[i64; 1024]) -> Result<(), Fail> {
+    agree(found.lane_width(), runs.lane_width())?;
+    agree(found.starts().words(), runs.starts().words())?;
+    agree(found.values().is_same(runs.values()), true)?;
+    let mut back = [1; 1024];
+    found.decode(&mut back);
+    agree(back.as_slice(), values.as_slice())
+}
+
+/// Runs have `bytes` bytes and are the least, and their copy is like them.
+fn are_least_runs(
     alloc: Global,
     runs: &Runs,
     values: &[i64; 1024],
+    bytes: u16,
 ) -> Result<(), Fail> {
+    agree((runs.bytes_len(), runs.is_least()), (bytes, true))?;
     let copy = runs.copy(alloc)?;
-    assert_eq!(rt; copy.lane_width(), runs.lane_width());
-    assert_eq!(rt; copy.starts().words(), runs.starts().words());
-    assert!(rt; copy.values().is_same(runs.values()));
-    let mut back = [1; 1024];
-    copy.decode(&mut back);
-    assert_eq!(rt; back.as_slice(), values.as_slice());
-    Ok(())
+    are_alike(&copy, runs, values)
 }
 
 /// A vector's least runs have `bytes` bytes and are the least, and their copy has their parts and decodes to the vector.
 fn runs_come_back(
-    rt: &impl Abort,
     alloc: Global,
     lane_width: usize,
     values: &[i64; 1024],
@@ -93,42 +98,34 @@ fn runs_come_back(
     requires lane_width { IsLaneWidth lane_width }
     requires range { AreInRange lane_width values.now }
 {
+    agree(Runs::size(values, lane_width), bytes)?;
     let runs = Runs::encode(alloc, values, lane_width)?;
-    assert_eq!(rt;
-        (
-            Runs::size(values, lane_width),
-            runs.bytes_len(),
-            runs.is_least()
-        ),
-        (bytes, bytes, true)
-    );
-    assert_eq!(rt; runs.lane_width(), lane_width);
-    runs_copy_decodes(rt, alloc, &runs, values)
+    agree(runs.lane_width(), lane_width)?;
+    are_least_runs(alloc, &runs, values, bytes)
 }
 
-/// A copy of a dictionary has its parts and decodes to the vector.
-fn dict_copy_decodes(
-    rt: &impl Abort,
-    alloc: Global,
-    dict: &Dict,
-    values: &[i64; 1024],
-) -> Result<(), Fail> {
-    let copy = dict.copy(alloc)?;
-    assert_eq!(rt;
-        (copy.lane_width(), copy.width()),
-        (dict.lane_width(), dict.width())
-    );
-    assert!(rt; copy.values().is_same(dict.values()));
-    assert_eq!(rt; copy.codes().words_16(), dict.codes().words_16());
+/// A dictionary has another's parts and decodes to the vector.
+fn is_alike(found: &Dict, dict: &Dict, values: &[i64; 1024]) -> Result<(), Fail> {
+    agree(
+        (found.lane_width(), found.width()),
+        (dict.lane_width(), dict.width()),
+    )?;
+    agree(found.values().is_same(dict.values()), true)?;
+    agree(found.codes().words_16(), dict.codes().words_16())?;
     let mut back = [1; 1024];
-    copy.decode(&mut back);
-    assert_eq!(rt; back.as_slice(), values.as_slice());
-    Ok(())
+    found.decode(&mut back);
+    agree(back.as_slice(), values.as_slice())
+}
+
+/// A dictionary has `bytes` bytes and is the least, and its copy is like it.
+fn is_least_dict(alloc: Global, dict: &Dict, values: &[i64; 1024], bytes: u16) -> Result<(), Fail> {
+    agree((dict.bytes_len(), dict.is_least()), (bytes, true))?;
+    let copy = dict.copy(alloc)?;
+    is_alike(&copy, dict, values)
 }
 
 /// A vector's least dictionary has `bytes` bytes and is the least, and its copy has its parts and decodes to the vector.
 fn dict_comes_back(
-    rt: &impl Abort,
     alloc: Global,
     lane_width: usize,
     values: &[i64; 1024],
@@ -137,22 +134,14 @@ fn dict_comes_back(
     requires lane_width { IsLaneWidth lane_width }
     requires range { AreInRange lane_width values.now }
 {
+    agree(Dict::size(values, lane_width), bytes)?;
     let dict = Dict::encode(alloc, values, lane_width)?;
-    assert_eq!(rt;
-        (
-            Dict::size(values, lane_width),
-            dict.bytes_len(),
-            dict.is_least()
-        ),
-        (bytes, bytes, true)
-    );
-    assert_eq!(rt; dict.lane_width(), lane_width);
-    dict_copy_decodes(rt, alloc, &dict, values)
+    agree(dict.lane_width(), lane_width)?;
+    is_least_dict(alloc, &dict, values, bytes)
 }
 
 /// A vector comes back from both codings, of which the first has `bytes[0]` bytes and the second `bytes[1]`.
 fn comes_back(
-    rt: &impl Abort,
     alloc: Global,
     lane_width: usize,
     pattern: Pattern,
@@ -161,17 +150,12 @@ fn comes_back(
     requires { IsLaneWidth lane_width }
 {
     let values = column(lane_width, pattern);
-    runs_come_back(rt, alloc, lane_width, &values, bytes[0])?;
-    dict_comes_back(rt, alloc, lane_width, &values, bytes[1])
+    runs_come_back(alloc, lane_width, &values, bytes[0])?;
+    dict_comes_back(alloc, lane_width, &values, bytes[1])
 }
 
 /// The least value alone, the greatest alone, the two in turn, and 1024 values, each with its bytes.
-fn extremes_come_back(
-    rt: &impl Abort,
-    alloc: Global,
-    lane_width: usize,
-    bytes: [[u16; 2]; 4],
-) -> Result<(), Fail>
+fn extremes_come_back(alloc: Global, lane_width: usize, bytes: [[u16; 2]; 4]) -> Result<(), Fail>
     requires { IsLaneWidth lane_width }
 {
     let least = 1 << (lane_width - 1);
@@ -182,7 +166,7 @@ fn extremes_come_back(
         (Pattern::Alternating(least, greatest), bytes[2]),
         (Pattern::Ramp(1), bytes[3]),
     ] {
-        comes_back(rt, alloc, lane_width, pattern, bytes)?;
+        comes_back(alloc, lane_width, pattern, bytes)?;
     }
     Ok(())
 }
@@ -198,7 +182,7 @@ fn vectors_have_their_bytes(rt: HostRuntime) -> Result<(), Fail> {
         (Pattern::ChangedAt(500, 0, 32767), [132, 132]),
         (Pattern::Alternating(0, 32767), [2176, 132]),
     ] {
-        comes_back(&rt, alloc, 16, pattern, bytes)?;
+        comes_back(alloc, 16, pattern, bytes)?;
     }
     Ok(())
 }
@@ -208,11 +192,11 @@ fn vectors_have_their_bytes(rt: HostRuntime) -> Result<(), Fail> {
 fn extreme_values_come_back(rt: HostRuntime) -> Result<(), Fail> {
     let alloc = rt.alloc();
     let bytes = [[130, 2], [130, 2], [2176, 132], [2176, 3328]];
-    extremes_come_back(&rt, alloc, 16, bytes)?;
+    extremes_come_back(alloc, 16, bytes)?;
     let bytes = [[132, 4], [132, 4], [4224, 136], [4224, 5376]];
-    extremes_come_back(&rt, alloc, 32, bytes)?;
+    extremes_come_back(alloc, 32, bytes)?;
     let bytes = [[136, 8], [136, 8], [8320, 144], [8320, 9472]];
-    extremes_come_back(&rt, alloc, 64, bytes)
+    extremes_come_back(alloc, 64, bytes)
 }
 
 /// The runs of parts that stood in bytes, where they agree.
@@ -223,20 +207,32 @@ fn read_runs(starts: Mask, values: Values) -> Option<Runs> {
     Some(Runs::from_parts(starts, values))
 }
 
+/// Runs of two runs with one value.
+fn has_equal_runs(runs: &Runs) -> Result<(), Fail> {
+    let mut values = [0; 1024];
+    runs.decode(&mut values);
+    agree(values, [7; 1024])?;
+    agree(
+        (runs.is_least(), runs.bytes_len(), runs.value(5)),
+        (false, 144, 7),
+    )
+}
+
 #[test]
 fn neighbouring_runs_may_be_equal(rt: HostRuntime) -> Result<(), Fail> {
     let mut starts = Mask::none();
     starts.set_range(5, 6, true);
     let sevens = Values::from_slice(rt.alloc(), 64, &[7, 7])?;
     let runs = read_runs(starts, sevens).ok_or("parts agree")?;
+    has_equal_runs(&runs)
+}
+
+/// A dictionary of which no row has the second value.
+fn has_spare_value(dict: &Dict) -> Result<(), Fail> {
     let mut values = [0; 1024];
-    runs.decode(&mut values);
-    assert_eq!(rt; values, [7; 1024]);
-    assert_eq!(rt;
-        (runs.is_least(), runs.bytes_len(), runs.value(5)),
-        (false, 144, 7)
-    );
-    Ok(())
+    dict.decode(&mut values);
+    agree(values, [-4; 1024])?;
+    agree((dict.is_least(), dict.bytes_len()), (false, 144))
 }
 
 // A code of one bit is below 2 whatever the words, so no row need use the second value.
@@ -245,31 +241,27 @@ fn a_dictionary_may_have_a_value_without_a_row(rt: HostRuntime) -> Result<(), Fa
     let codes = Words::pack(rt.alloc(), 16, 1, &[0; 1024])?;
     let dictionary = Values::from_slice(rt.alloc(), 64, &[-4, 9])?;
     let dict = Dict::from_parts(1, dictionary, codes);
-    let mut values = [0; 1024];
-    dict.decode(&mut values);
-    assert_eq!(rt; values, [-4; 1024]);
-    assert_eq!(rt; (dict.is_least(), dict.bytes_len()), (false, 144));
-    Ok(())
+    has_spare_value(&dict)
 }
 
 // Values that span fewer than 65,536 numbers, and more; the bytes as in the tables above.
 #[test]
-fn a_size_is_known_only_below_the_bound(rt: HostRuntime) {
-    sizes_end_at(&rt, 16, Pattern::Alternating(0, 32767), 132);
-    sizes_end_at(&rt, 16, Pattern::Ramp(1), 3328);
-    sizes_end_at(&rt, 64, Pattern::Alternating(1 << 63, (1 << 63) - 1), 144);
-    sizes_end_at(&rt, 64, Pattern::Ramp(1 << 53), 9472);
+fn a_size_is_known_only_below_the_bound() -> Result<(), Fail> {
+    sizes_end_at(16, Pattern::Alternating(0, 32767), 132)?;
+    sizes_end_at(16, Pattern::Ramp(1), 3328)?;
+    sizes_end_at(64, Pattern::Alternating(1 << 63, (1 << 63) - 1), 144)?;
+    sizes_end_at(64, Pattern::Ramp(1 << 53), 9472)
 }
 
 /// The least dictionary of a vector has `bytes` bytes, which are not below `bytes`.
-fn sizes_end_at(rt: &impl Abort, lane_width: usize, pattern: Pattern, bytes: u16)
+fn sizes_end_at(lane_width: usize, pattern: Pattern, bytes: u16) -> Result<(), Fail>
     requires width { IsLaneWidth lane_width }
     requires bytes { bytes < 65535 }
 {
     let values = column(lane_width, pattern);
-    assert_eq!(rt; Dict::size_below(&values, lane_width, bytes), None);
-    assert_eq!(rt;
+    agree(Dict::size_below(&values, lane_width, bytes), None)?;
+    agree(
         Dict::size_below(&values, lane_width, bytes + 1),
-        Some(bytes)
-    );
+        Some(bytes),
+    )
 }

@@ -2,6 +2,7 @@
 ghost use Rattle.std.specs.Prelude.{◌≤◌, length};
 
 use crate::tests::{Pattern, first, rows_of, segment_of};
+use expectations::{agree, agree_at};
 use segment_core::{Coded, Segment};
 use std::alloc::{AllocError, Global};
 use std::process::Abort;
@@ -61,13 +62,14 @@ fn one_row(alloc: Global, bytes: &[u8], at: usize) -> Result<(Segment, usize), R
 }
 
 /// A row of 7 in FOR.
-fn check_seven(rt: &impl Abort, segment: &Segment) {
+fn check_seven(rt: &impl Abort, segment: &Segment) -> Result<(), Fail> {
     let vector = first(rt, segment);
-    assert_eq!(rt; (vector.rows(), vector.nulls().is_none()), (1, true));
+    agree((vector.rows(), vector.nulls().is_none()), (1, true))?;
     match vector.coded() {
-        Coded::For(form) => assert_eq!(rt; form.get().value(0), 7),
+        Coded::For(form) => agree(form.get().value(0), 7)?,
         _ => assert!(rt; false, "the tag is FOR's"),
     }
+    Ok(())
 }
 
 // Flag 0, tag 0, width 0, count 0, reference 7.
@@ -75,8 +77,8 @@ fn check_seven(rt: &impl Abort, segment: &Segment) {
 fn one_row_of_seven_takes_seven_bytes(rt: HostRuntime) -> Result<(), Fail> {
     let bytes = [9, 9, 0, 0, 0, 0, 0, 7, 0, 5];
     let (segment, next) = one_row(rt.alloc(), &bytes, 2)?;
-    assert_eq!(rt; (segment.rows(), segment.columns(), next), (1, 1, 9));
-    check_seven(&rt, &segment);
+    agree((segment.rows(), segment.columns(), next), (1, 1, 9))?;
+    check_seven(&rt, &segment)?;
     let copy = segment.copy(rt.alloc())?;
     let rows = rows_of(rt.alloc(), 1, Pattern::All(7))?;
     assert!(rt; copy.same_rows(&segment) && copy.has_rows(&rows));
@@ -121,10 +123,10 @@ const CANONICAL: [(Pattern, &[(usize, u8)]); 3] = [
 fn canonical_vectors_have_these_bytes(rt: HostRuntime) -> Result<(), Fail> {
     let alloc = rt.alloc();
     for &(pattern, parts) in &CANONICAL {
-        assert_eq!(rt; bytes_of(alloc, pattern)?, repeated(alloc, parts)?);
+        agree(bytes_of(alloc, pattern)?, repeated(alloc, parts)?)?;
     }
     let deltas = bytes_of(alloc, Pattern::Counting)?;
-    assert_eq!(rt; deltas.len(), 135);
+    agree(deltas.len(), 135)?;
     assert!(rt; deltas.starts_with(&[0, 1, 0, 0, 0, 1, 0, 255, 255, 63, 0]));
     Ok(())
 }
@@ -149,7 +151,7 @@ fn widths_have_their_limits_at_each_type(rt: HostRuntime) -> Result<(), Fail> {
     for &(column_type, bytes, fault) in &WIDTHS {
         let schema = Schema::new(alloc, "T", &[("A", column_type)])?;
         let read = Segment::read_bytes(alloc, &schema, 1, &bytes, 0);
-        assert_eq!(rt; read.err(), Some(fault));
+        agree(read.err(), Some(fault))?;
     }
     Ok(())
 }
@@ -194,11 +196,11 @@ fn each_field_has_its_fault_at_its_place(rt: HostRuntime) -> Result<(), Fail> {
     for &(front, zeros, fault) in &FAULTS {
         let mut bytes = Vec::new(rt.alloc());
         add(&mut bytes, front, zeros, &[])?;
-        assert_eq!(rt;
+        agree_at(
+            format_args!("after {front:?}"),
             fault_of(rt.alloc(), &bytes)?,
             Some(fault),
-            "after {front:?}"
-        );
+        )?;
     }
     Ok(())
 }
@@ -250,7 +252,7 @@ const CODES: [(&[(usize, u8)], Option<Refusal>); 4] = [
 fn codes_are_judged_where_a_row_is_null_or_absent(rt: HostRuntime) -> Result<(), Fail> {
     for &(parts, fault) in &CODES {
         let bytes = repeated(rt.alloc(), parts)?;
-        assert_eq!(rt; fault_of(rt.alloc(), &bytes)?, fault);
+        agree(fault_of(rt.alloc(), &bytes)?, fault)?;
     }
     Ok(())
 }
@@ -307,7 +309,7 @@ fn every_proper_front_is_truncated_with_its_length(rt: HostRuntime) -> Result<()
     let bytes = three_columns(alloc)?;
     for end in 0..bytes.len() {
         let front = Segment::read_bytes(alloc, &schema, 1025, &bytes[..end], 0);
-        assert_eq!(rt; front.err(), Some(Refusal::Truncated(end as u64)));
+        agree(front.err(), Some(Refusal::Truncated(end as u64)))?;
     }
     Ok(())
 }
@@ -349,10 +351,10 @@ fn check_stops(rt: &impl Abort, alloc: Global, segment: &Segment, bytes: &[u8]) 
 fn a_writer_that_stops_at_a_byte_has_the_bytes_before_it(rt: HostRuntime) -> Result<(), Fail> {
     let bytes = three_columns(rt.alloc())?;
     let (segment, next) = three_read(rt.alloc(), &bytes)?;
-    assert_eq!(rt;
+    agree(
         (segment.rows(), segment.columns(), next),
-        (1025, 3, bytes.len())
-    );
+        (1025, 3, bytes.len()),
+    )?;
     check_stops(&rt, rt.alloc(), &segment, &bytes);
     Ok(())
 }
@@ -370,7 +372,6 @@ fn a_full_writer_has_a_front_and_a_fault(rt: HostRuntime) -> Result<(), Fail> {
     let (segment, _) = one_row(rt.alloc(), &[0, 0, 0, 0, 0, 7, 0], 0)?;
     let mut room = [1; 6];
     let ends = written_into(&segment, &mut room);
-    assert_eq!(rt; ends, (Err(Refusal::WriteFault), 1));
-    assert_eq!(rt; room, [0, 0, 0, 0, 0, 7]);
-    Ok(())
+    agree(ends, (Err(Refusal::WriteFault), 1))?;
+    agree(room, [0, 0, 0, 0, 0, 7])
 }

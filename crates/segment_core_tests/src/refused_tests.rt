@@ -1,27 +1,17 @@
-//! Calls that grow, each with a growth refused. A test's own growths are counted from 1: with the Nth refused, a test fails by
-//! an `AllocError` or `Memory` of its set-up, or, where it was a growth of the call that it is of, with the text `REFUSED` or
-//! `CHANGED`; with none refused it passes. The command `tests/refused-memory` refuses each in turn and counts those texts.
+//! Calls that grow, each with a growth refused. A test's own growths are counted from 1: with the Nth refused, a test fails by an
+//! `AllocError` or `Memory` of its set-up, or, where it was a growth of the call that it is of, as `growth_refused` says; with
+//! none refused it passes. The command `tests/refused-memory` refuses each in turn and counts those texts.
 use crate::bytes_tests::one_column;
 use crate::tests::{Pattern, first, rows_of, rows_with};
+use expectations::{agree, growth_refused};
 use segment_core::{CodedVector, Coding, Segment};
 use std::alloc::{AllocError, Global};
 use std::process::Abort;
 use std::test::Fail;
 use table_model::{Counted, Refusal, Row, check_rows};
 
-/// The call answered that memory was refused; what it was given is as it was, and the same call again succeeds.
-const REFUSED: &str = "a growth was refused, and all is as it was";
-
-/// The call answered otherwise, or what it was given is not as it was.
-const CHANGED: &str = "a growth was refused, and not all is as it was";
-
 /// The most bytes that a segment of these tests has.
 const ROOM: usize = 512;
-
-/// The end of a test whose call was refused.
-fn refused(is_as_it_was: bool) -> Result<(), Fail> {
-    Err(Fail::new(if is_as_it_was { REFUSED } else { CHANGED }))
-}
 
 /// The bytes of two rows, 7 and null: the null mask, FOR of reference 7 with packed values of one bit, all 0.
 fn frame_bytes() -> [u8; 263] {
@@ -86,13 +76,13 @@ fn two_rows(alloc: Global, bytes: &[u8]) -> Result<(Segment, usize), Refusal> {
 }
 
 /// Two rows are read from their bytes, to the end, and where that is refused there is no segment.
-fn is_read(rt: &impl Abort, alloc: Global, bytes: &[u8]) -> Result<(), Fail> {
+fn is_read(alloc: Global, bytes: &[u8]) -> Result<(), Fail> {
     let schema = one_column(alloc)?;
     match Segment::read_bytes(alloc, &schema, 2, bytes, 0) {
-        Ok((segment, next)) => assert_eq!(rt; (segment.rows(), next), (2, bytes.len())),
+        Ok((segment, next)) => agree((segment.rows(), next), (2, bytes.len()))?,
         Err(fault) => {
             let again = Segment::read_bytes(alloc, &schema, 2, bytes, 0);
-            return refused(fault == Refusal::Memory && again.is_ok());
+            return growth_refused(fault == Refusal::Memory && again.is_ok());
         }
     }
     Ok(())
@@ -100,22 +90,22 @@ fn is_read(rt: &impl Abort, alloc: Global, bytes: &[u8]) -> Result<(), Fail> {
 
 #[test]
 fn a_refused_read_of_a_frame_gives_no_segment(rt: HostRuntime) -> Result<(), Fail> {
-    is_read(&rt, rt.alloc(), &frame_bytes())
+    is_read(rt.alloc(), &frame_bytes())
 }
 
 #[test]
 fn a_refused_read_of_deltas_gives_no_segment(rt: HostRuntime) -> Result<(), Fail> {
-    is_read(&rt, rt.alloc(), &delta_bytes())
+    is_read(rt.alloc(), &delta_bytes())
 }
 
 #[test]
 fn a_refused_read_of_runs_gives_no_segment(rt: HostRuntime) -> Result<(), Fail> {
-    is_read(&rt, rt.alloc(), &run_bytes())
+    is_read(rt.alloc(), &run_bytes())
 }
 
 #[test]
 fn a_refused_read_of_a_dictionary_gives_no_segment(rt: HostRuntime) -> Result<(), Fail> {
-    is_read(&rt, rt.alloc(), &dictionary_bytes())
+    is_read(rt.alloc(), &dictionary_bytes())
 }
 
 /// Two rows that stood in bytes are copied, and left as they were where that is refused.
@@ -126,7 +116,7 @@ fn is_copied(rt: &impl Abort, alloc: Global, bytes: &[u8]) -> Result<(), Fail> {
         Ok(copy) => assert!(rt; bytes_of(&copy)? == before),
         Err(AllocError) => {
             let is_same = bytes_of(&segment)? == before;
-            return refused(is_same && segment.copy(alloc).is_ok());
+            return growth_refused(is_same && segment.copy(alloc).is_ok());
         }
     }
     Ok(())
@@ -160,7 +150,7 @@ fn is_copied_canonically(rt: &impl Abort, alloc: Global, bytes: &[u8]) -> Result
         Ok(copy) => assert!(rt; copy.canonical() && copy.same_rows(&segment)),
         Err(AllocError) => {
             let is_same = bytes_of(&segment)? == before;
-            return refused(is_same && segment.canonical_copy(alloc).is_ok());
+            return growth_refused(is_same && segment.canonical_copy(alloc).is_ok());
         }
     }
     Ok(())
@@ -195,7 +185,7 @@ fn is_recoded(rt: &impl Abort, alloc: Global, coding: Coding) -> Result<(), Fail
         Err(fault) => {
             let is_same = bytes_of(&segment)? == before;
             let again = segment.recode(alloc, 0, 0, coding);
-            return refused(fault == Refusal::Memory && is_same && again.is_ok());
+            return growth_refused(fault == Refusal::Memory && is_same && again.is_ok());
         }
     }
     Ok(())
@@ -236,12 +226,12 @@ fn is_built(rt: &impl Abort, alloc: Global, rows: &[Row], form: (Coding, u16)) -
     match Segment::build(alloc, &schema, rows) {
         Ok(segment) => {
             let vector = first(rt, &segment);
-            assert_eq!(rt; (vector.coding(), vector.coded().bytes_len()), form);
+            agree((vector.coding(), vector.coded().bytes_len()), form)?;
             assert!(rt; segment.has_rows(rows));
         }
         Err(AllocError) => {
             let again = Segment::build(alloc, &schema, rows);
-            return refused(has_built(&again, rows));
+            return growth_refused(has_built(&again, rows));
         }
     }
     Ok(())
@@ -312,7 +302,7 @@ fn is_vector_copied(
         return Ok(());
     }
     let again = vector.copy(alloc);
-    refused(copied.is_err() && is_two_rows(vector, coding) && has_copied(&again, coding))
+    growth_refused(copied.is_err() && is_two_rows(vector, coding) && has_copied(&again, coding))
 }
 
 #[test]

@@ -1,4 +1,5 @@
 //! Segments at values worked out by hand from the definitions of the codings and of the fill.
+use expectations::agree;
 use segment_core::{Coded, CodedVector, Coding, Segment};
 use std::alloc::{AllocError, Global};
 use std::process::Abort;
@@ -104,7 +105,7 @@ fn each_vector_takes_the_coding_of_fewest_bytes(rt: HostRuntime) -> Result<(), F
     for &(count, pattern, expected) in &LEAST {
         let rows = rows_of(rt.alloc(), count, pattern)?;
         let segment = segment_of(rt.alloc(), ColType::SmallInt, &rows)?;
-        assert_eq!(rt; seen(&rt, &segment), expected);
+        agree(seen(&rt, &segment), expected)?;
         assert!(rt; segment.canonical());
         assert!(rt; segment.has_rows(&rows));
     }
@@ -147,12 +148,11 @@ fn three_values(rt: &impl Abort, segment: &Segment) -> [Option<i64>; 3] {
 fn a_null_takes_the_value_before_it(rt: HostRuntime) -> Result<(), Fail> {
     let rows = rows_with(rt.alloc(), &[Some(1), None, Some(3)])?;
     let segment = segment_of(rt.alloc(), ColType::SmallInt, &rows)?;
-    assert_eq!(rt; seen(&rt, &segment), (1, 1, Coding::Runs, 132));
+    agree(seen(&rt, &segment), (1, 1, Coding::Runs, 132))?;
     let vector = first(&rt, &segment);
     assert!(rt; vector.null_rows().get(1));
     assert!(rt; runs_of(vector) == Some((1, 3, 4)));
-    assert_eq!(rt; three_values(&rt, &segment), [Some(1), None, Some(3)]);
-    Ok(())
+    agree(three_values(&rt, &segment), [Some(1), None, Some(3)])
 }
 
 /// Whether a segment answers, before and after it is judged and as a copy, that it is canonical, or each time that it isn't.
@@ -181,7 +181,7 @@ fn check_recoded(
     bytes: u16,
 ) -> Result<(), Fail> {
     segment.recode(alloc, 0, 0, coding)?;
-    assert_eq!(rt; seen(rt, segment), (1, 0, coding, bytes));
+    agree(seen(rt, segment), (1, 0, coding, bytes))?;
     assert!(rt; is_judged(alloc, segment, coding == Coding::Delta)?);
     Ok(())
 }
@@ -206,7 +206,7 @@ fn check_canonical_copy(
     rows: &[Row],
 ) -> Result<(), Fail> {
     let copy = segment.canonical_copy(alloc)?;
-    assert_eq!(rt; seen(rt, &copy), (2, 1, Coding::For, 4));
+    agree(seen(rt, &copy), (2, 1, Coding::For, 4))?;
     assert!(rt; copy.canonical() && copy.same_rows(segment) && copy.has_rows(rows));
     Ok(())
 }
@@ -220,7 +220,7 @@ fn a_canonical_copy_is_what_was_built(rt: HostRuntime) -> Result<(), Fail> {
         segment.recode(rt.alloc(), 0, 0, coding)?;
         segment.recode(rt.alloc(), 0, 1, coding)?;
         check_canonical_copy(&rt, rt.alloc(), &segment, &rows)?;
-        assert_eq!(rt; seen(&rt, &segment).2, coding);
+        agree(seen(&rt, &segment).2, coding)?;
     }
     Ok(())
 }
@@ -237,10 +237,10 @@ fn there_is_no_vector_past_the_last(rt: HostRuntime) -> Result<(), Fail> {
     let rows = rows_of(rt.alloc(), 1025, Pattern::All(0))?;
     let mut segment = segment_of(rt.alloc(), ColType::BigInt, &rows)?;
     for &(column, vector, expected) in &PAST {
-        assert_eq!(rt;
+        agree(
             segment.recode(rt.alloc(), column, vector, Coding::Dict),
-            expected
-        );
+            expected,
+        )?;
     }
     Ok(())
 }
@@ -265,7 +265,7 @@ fn segments_are_told_apart_by_their_rows(rt: HostRuntime) -> Result<(), Fail> {
     let segment = segment_of(rt.alloc(), ColType::Integer, &sevens)?;
     for &(count, pattern, same) in &COMPARED {
         let rows = rows_of(rt.alloc(), count, pattern)?;
-        assert_eq!(rt; compared(rt.alloc(), &segment, &rows)?, (same, same));
+        agree(compared(rt.alloc(), &segment, &rows)?, (same, same))?;
     }
     Ok(())
 }

@@ -1,21 +1,23 @@
 //! Queries over a store: their answers, worked out by hand, and the passes that their mentions of columns allow: each at most one
 //! for each vector that has a live row.
+use expectations::agree_at;
 use query_eval::{Columns, answer, text};
 use query_parser::{parse, resolve};
 use replica_store::Store;
 use std::alloc::{AllocError, Global};
-use std::process::Abort;
 use std::test::Fail;
 use store_view::StoreView;
-use table_model::{BatchName, ColType, Number, Origin, Refusal, Row, RowName, Schema};
+use table_model::{BatchName, ColType, Number, Origin, Query, Refusal, Row, RowName, Schema};
 
 /// A query, its answer's lines, and how many passes it takes at most.
 type Asked = (&'static str, &'static str, u128);
 
-/// A store without rows.
-fn empty_store(alloc: Global, columns: &[(&str, ColType)]) -> Result<Store, Refusal> {
+/// A store of one batch of rows.
+fn store_of(alloc: Global, columns: &[(&str, ColType)], rows: &[Row]) -> Result<Store, Refusal> {
     let schema = Schema::new(alloc, "T", columns)?;
-    Store::new(alloc, &schema, Origin(1))
+    let mut store = Store::new(alloc, &schema, Origin(1))?;
+    let _ = store.append(alloc, rows)?;
+    Ok(store)
 }
 
 /// A row with these cells.
@@ -23,34 +25,43 @@ fn row_of(alloc: Global, cells: &[Option<i128>]) -> Result<Row, AllocError> {
     Ok(Row::from_cells(Vec::from_slice(alloc, cells)?))
 }
 
-/// A store whose one batch has so many rows of one column: 0 each, or from 1 on where they differ.
-fn filled_store(alloc: Global, count: usize, differ: bool) -> Result<Store, Refusal> {
-    let mut store = empty_store(alloc, &[("A", ColType::SmallInt)])?;
+/// So many rows of one column: 0 each, or from 1 on where they differ.
+fn numbered_rows(alloc: Global, count: usize, differ: bool) -> Result<Vec<Row>, AllocError> {
     let mut rows = Vec::new(alloc);
     for n in 0..count {
         let value = if differ { n as i128 + 1 } else { 0 };
         rows.push(row_of(alloc, &[Some(value)])?)?;
     }
-    let _ = store.append(alloc, rows.as_slice())?;
-    Ok(store)
+    Ok(rows)
+}
+
+/// A store whose one batch has those rows.
+fn filled_store(alloc: Global, count: usize, differ: bool) -> Result<Store, Refusal> {
+    let rows = numbered_rows(alloc, count, differ)?;
+    store_of(alloc, &[("A", ColType::SmallInt)], rows.as_slice())
 }
 
 /// The lines of a query's answer over a store, and how many passes a view of the store made for it.
-fn answered(alloc: Global, store: &Store, query: &str) -> Result<(String, u128), Fail> {
-    let query = parse(alloc, query)?;
-    resolve(&query, store.schema())?;
+fn lines_of(alloc: Global, store: &Store, query: &Query) -> Result<(String, u128), Fail> {
     let mut view = StoreView::new(store);
-    let found = answer(alloc, &mut view, &query)?;
+    let found = answer(alloc, &mut view, query)?;
     let lines = String::from_utf8(text(alloc, &found)?)?;
     Ok((lines, view.passes()))
 }
 
+/// The same of a query's text.
+fn answered(alloc: Global, store: &Store, query: &str) -> Result<(String, u128), Fail> {
+    let query = parse(alloc, query)?;
+    resolve(&query, store.schema())?;
+    lines_of(alloc, store, &query)
+}
+
 /// Each query has its answer over a store, and takes at most its passes.
-fn has_answers(rt: &impl Abort, alloc: Global, store: &Store, asked: &[Asked]) -> Result<(), Fail> {
+fn has_answers(alloc: Global, store: &Store, asked: &[Asked]) -> Result<(), Fail> {
     for &(query, wanted, most) in asked {
         let (lines, passes) = answered(alloc, store, query)?;
-        assert_eq!(rt; lines.as_str(), wanted, "{query}");
-        assert!(rt; passes <= most, "{query}: {passes} passes");
+        agree_at(query, lines.as_str(), wanted)?;
+        agree_at(query, passes <= most, true)?;
     }
     Ok(())
 }
@@ -77,7 +88,7 @@ const OF_TWO_VECTORS: [Asked; 4] = [
 #[test]
 fn a_mention_takes_at_most_a_pass_a_vector(rt: HostRuntime) -> Result<(), Fail> {
     let store = filled_store(rt.alloc(), TWO_VECTORS, false)?;
-    has_answers(&rt, rt.alloc(), &store, &OF_TWO_VECTORS)
+    has_answers(rt.alloc(), &store, &OF_TWO_VECTORS)
 }
 
 /// Deletes the rows of the batch's first vector.
@@ -107,7 +118,7 @@ const OF_ONE_LEFT: [Asked; 3] = [
 fn a_vector_without_a_live_row_takes_no_pass(rt: HostRuntime) -> Result<(), Fail> {
     let mut store = filled_store(rt.alloc(), TWO_VECTORS, false)?;
     delete_first_vector(rt.alloc(), &mut store)?;
-    has_answers(&rt, rt.alloc(), &store, &OF_ONE_LEFT)
+    has_answers(rt.alloc(), &store, &OF_ONE_LEFT)
 }
 
 /// A query with ten groups: it mentions the column three times.
@@ -120,7 +131,7 @@ const OF_TEN_GROUPS: [Asked; 1] = [(
 #[test]
 fn ten_groups_take_no_pass_each(rt: HostRuntime) -> Result<(), Fail> {
     let store = filled_store(rt.alloc(), 10, true)?;
-    has_answers(&rt, rt.alloc(), &store, &OF_TEN_GROUPS)
+    has_answers(rt.alloc(), &store, &OF_TEN_GROUPS)
 }
 
 /// Rows of three columns: the first is from the second to the third at the first and the last row, and isn't at the second and,
@@ -133,6 +144,15 @@ const THREE_COLUMNS: [[Option<i128>; 3]; 5] = [
     [Some(3), Some(3), Some(3)],
 ];
 
+/// Those rows.
+fn rows_of_three_columns(alloc: Global) -> Result<Vec<Row>, AllocError> {
+    let mut rows = Vec::new(alloc);
+    for cells in &THREE_COLUMNS {
+        rows.push(row_of(alloc, cells.as_slice())?)?;
+    }
+    Ok(rows)
+}
+
 /// A store with the rows of three columns.
 fn store_of_three_columns(alloc: Global) -> Result<Store, Refusal> {
     let columns = [
@@ -140,13 +160,8 @@ fn store_of_three_columns(alloc: Global) -> Result<Store, Refusal> {
         ("B", ColType::Integer),
         ("C", ColType::BigInt),
     ];
-    let mut store = empty_store(alloc, &columns)?;
-    let mut rows = Vec::new(alloc);
-    for cells in &THREE_COLUMNS {
-        rows.push(row_of(alloc, cells.as_slice())?)?;
-    }
-    let _ = store.append(alloc, rows.as_slice())?;
-    Ok(store)
+    let rows = rows_of_three_columns(alloc)?;
+    store_of(alloc, &columns, rows.as_slice())
 }
 
 /// Queries that mention three columns, over one vector.
@@ -166,5 +181,5 @@ const OF_THREE_COLUMNS: [Asked; 2] = [
 #[test]
 fn three_columns_take_at_most_a_pass_each(rt: HostRuntime) -> Result<(), Fail> {
     let store = store_of_three_columns(rt.alloc())?;
-    has_answers(&rt, rt.alloc(), &store, &OF_THREE_COLUMNS)
+    has_answers(rt.alloc(), &store, &OF_THREE_COLUMNS)
 }

@@ -1,23 +1,13 @@
-//! Calls of schemas and rows, each with a growth refused. A test's own growths are counted from 1: with the Nth refused, a test fails by
-//! an `AllocError` or `Memory` of its set-up, or, where it was a growth of the call that it is of, with the text `REFUSED` or
-//! `CHANGED`; with none refused it passes. The command `tests/refused-memory` refuses each in turn and counts those texts.
+//! Calls of schemas and rows, each with a growth refused. A test's own growths are counted from 1: with the Nth refused, a test
+//! fails by an `AllocError` or `Memory` of its set-up, or, where it was a growth of the call that it is of, as `growth_refused`
+//! says; with none refused it passes. The command `tests/refused-memory` refuses each in turn and counts those texts.
+use expectations::growth_refused;
 use std::alloc::{AllocError, Global};
 use std::test::Fail;
 use table_model::{ColType, Refusal, Row, Rows, Schema, same_rows};
 
-/// The call answered that memory was refused; what it was given is as it was, and the same call again succeeds.
-const REFUSED: &str = "a growth was refused, and all is as it was";
-
-/// The call answered otherwise, or what it was given is not as it was.
-const CHANGED: &str = "a growth was refused, and not all is as it was";
-
 /// The columns of these tests.
 const COLUMNS: [(&str, ColType); 2] = [("A", ColType::SmallInt), ("B", ColType::BigInt)];
-
-/// The end of a test whose call was refused.
-fn refused(is_as_it_was: bool) -> Result<(), Fail> {
-    Err(Fail::new(if is_as_it_was { REFUSED } else { CHANGED }))
-}
 
 /// Makes the schema of these tests.
 fn make(alloc: Global) -> Result<(), Refusal> {
@@ -31,7 +21,7 @@ fn a_refused_schema_can_be_made_again(rt: HostRuntime) -> Result<(), Fail> {
         Ok(()) => Ok(()),
         Err(fault) => {
             let again = make(rt.alloc());
-            refused(fault == Refusal::Memory && again.is_ok())
+            growth_refused(fault == Refusal::Memory && again.is_ok())
         }
     }
 }
@@ -53,7 +43,7 @@ fn see_copy(alloc: Global, schema: &Schema) -> Result<(), Fail> {
         Ok(()) => Ok(()),
         Err(AllocError) => {
             let again = copy(alloc, schema);
-            refused(is_table(schema) && again.is_ok())
+            growth_refused(is_table(schema) && again.is_ok())
         }
     }
 }
@@ -73,9 +63,11 @@ fn copy_row(alloc: Global, row: &Row) -> Result<(), Fail> {
         Ok(copied) => if copied.cells() == CELLS.as_slice() {
             Ok(())
         } else {
-            refused(false)
+            growth_refused(false)
         },
-        Err(AllocError) => refused(row.cells() == CELLS.as_slice() && row.copy(alloc).is_ok()),
+        Err(AllocError) => growth_refused(
+            row.cells() == CELLS.as_slice() && row.copy(alloc).is_ok(),
+        ),
     }
 }
 
@@ -91,9 +83,9 @@ fn copy_rows(alloc: Global, rows: &[Row]) -> Result<(), Fail> {
         Ok(copied) => if same_rows(copied.as_slice(), rows) {
             Ok(())
         } else {
-            refused(false)
+            growth_refused(false)
         },
-        Err(AllocError) => refused(rows.len() == 2 && Rows::copy_of(alloc, rows).is_ok()),
+        Err(AllocError) => growth_refused(rows.len() == 2 && Rows::copy_of(alloc, rows).is_ok()),
     }
 }
 

@@ -1,4 +1,5 @@
 //! The model at values worked out by hand from the rules of names, schemas, batches, refusals and failures.
+use expectations::agree;
 use std::alloc::{AllocError, Global};
 use std::io;
 use std::io::{Read, Write};
@@ -116,7 +117,7 @@ fn the_first_fault_of_a_batch_is_named(rt: HostRuntime) -> Result<(), Fail> {
     let schema = Schema::new(rt.alloc(), "T", &COLUMNS[..3])?;
     for &(rows, want) in &FAULTS {
         let rows = rows_of(rt.alloc(), rows)?;
-        assert_eq!(rt; check_rows(&schema, rows.as_slice()), want);
+        agree(check_rows(&schema, rows.as_slice()), want)?;
     }
     Ok(())
 }
@@ -132,8 +133,7 @@ fn a_batch_has_at_most_65536_rows(rt: HostRuntime) -> Result<(), Fail> {
     let fits = check_rows(&schema, rows.as_slice());
     rows.push(Row::from_cells(Vec::new(rt.alloc())))?;
     let too_long = check_rows(&schema, rows.as_slice());
-    assert_eq!(rt; (fits, too_long), (Ok(()), Err(Refusal::BatchTooLong)));
-    Ok(())
+    agree((fits, too_long), (Ok(()), Err(Refusal::BatchTooLong)))
 }
 
 /// The refusals of a table of this name, and of a column of this name.
@@ -451,11 +451,10 @@ fn a_reader_and_a_writer_stop_after_their_bytes(rt: HostRuntime) -> Result<(), F
         inner: Vec::new(rt.alloc()),
         left: 3,
     });
-    assert_eq!(rt; writer.write_whole(b"ab"), Ok(()));
-    assert_eq!(rt; writer.write_whole(b"cde"), Err(Refusal::WriteFault));
-    assert_eq!(rt; writer.failures(), 1);
-    assert_eq!(rt; writer.into_inner().inner.as_slice(), b"abc".as_slice());
-    Ok(())
+    agree(writer.write_whole(b"ab"), Ok(()))?;
+    agree(writer.write_whole(b"cde"), Err(Refusal::WriteFault))?;
+    agree(writer.failures(), 1)?;
+    agree(writer.into_inner().inner.as_slice(), b"abc".as_slice())
 }
 
 // No length of a piece is refused: what memory holds comes and goes whole.
@@ -463,11 +462,11 @@ fn a_reader_and_a_writer_stop_after_their_bytes(rt: HostRuntime) -> Result<(), F
 fn a_long_piece_is_passed_on_whole(rt: HostRuntime) -> Result<(), Fail> {
     let piece = Vec::from_elem(rt.alloc(), b'x', 1_000_000)?;
     let mut writer = Counted::new(Vec::new(rt.alloc()));
-    assert_eq!(rt; writer.write(piece.as_slice()).ok(), Some(1_000_000));
+    agree(writer.write(piece.as_slice()).ok(), Some(1_000_000))?;
     assert!(rt; writer.failures() == 0 && writer.into_inner().as_slice() == piece.as_slice());
     let mut buffer = Vec::from_elem(rt.alloc(), b'.', 1_000_000)?;
     let mut reader = Counted::new(piece.as_slice());
-    assert_eq!(rt; reader.read(buffer.as_mut_slice()).ok(), Some(1_000_000));
+    agree(reader.read(buffer.as_mut_slice()).ok(), Some(1_000_000))?;
     assert!(rt; reader.failures() == 0 && buffer.as_slice() == piece.as_slice());
     Ok(())
 }
@@ -517,13 +516,14 @@ const CONNECTIVES: [(Truth, Truth, Truth, Truth); 9] = [
 ];
 
 #[test]
-fn truth_values_are_joined_by_the_standards_tables(rt: HostRuntime) {
+fn truth_values_are_joined_by_the_standards_tables(rt: HostRuntime) -> Result<(), Fail> {
     for &(left, right, and, or) in &CONNECTIVES {
-        assert_eq!(rt; (left.and(right), left.or(right)), (and, or));
+        agree((left.and(right), left.or(right)), (and, or))?;
     }
     let negated = [Truth::True, Truth::False, Truth::Unknown].map(|truth| truth.not());
     assert!(rt; negated == [Truth::False, Truth::True, Truth::Unknown]);
     assert!(rt; Truth::Unknown.is(Truth::Unknown) && !Truth::Unknown.is(Truth::False));
+    Ok(())
 }
 
 // An operator, whether it holds of 1 and 2, of 2 and 2, and of 2 and 1: ISO/IEC 9075:1992, clause 8.2.
@@ -537,47 +537,48 @@ const COMPARISONS: [(Op, bool, bool, bool); 6] = [
 ];
 
 #[test]
-fn comparisons_are_known_unless_a_side_is_null(rt: HostRuntime) {
+fn comparisons_are_known_unless_a_side_is_null() -> Result<(), Fail> {
     for &(op, below, same, above) in &COMPARISONS {
-        assert_eq!(rt;
+        agree(
             (op.holds(1, 2), op.holds(2, 2), op.holds(2, 1)),
-            (below, same, above)
-        );
-        assert_eq!(rt; op.compare(Some(1), Some(2)), Truth::from_bool(below));
-        assert_eq!(rt;
+            (below, same, above),
+        )?;
+        agree(op.compare(Some(1), Some(2)), Truth::from_bool(below))?;
+        agree(
             (op.compare(None, Some(2)), op.compare(Some(1), None)),
-            (Truth::Unknown, Truth::Unknown)
-        );
+            (Truth::Unknown, Truth::Unknown),
+        )?;
         let turned = op.turned();
-        assert_eq!(rt;
+        agree(
             (turned.holds(2, 1), turned.holds(2, 2), turned.holds(1, 2)),
-            (below, same, above)
-        );
+            (below, same, above),
+        )?;
     }
+    Ok(())
 }
 
 // A mean of 7.25 is above 7 and not 7; nothing is known of a null.
 #[test]
-fn fields_are_compared_in_millionths_where_one_is_a_mean(rt: HostRuntime) {
+fn fields_are_compared_in_millionths_where_one_is_a_mean() -> Result<(), Fail> {
     let mean = Field::Millionths(7_250_000);
-    assert_eq!(rt;
+    agree(
         Op::Greater.compare_fields(mean, Field::Whole(7)),
-        Truth::True
-    );
-    assert_eq!(rt;
+        Truth::True,
+    )?;
+    agree(
         Op::Equal.compare_fields(Field::Whole(7), mean),
-        Truth::False
-    );
-    assert_eq!(rt; Op::Equal.compare_fields(mean, mean), Truth::True);
-    assert_eq!(rt;
+        Truth::False,
+    )?;
+    agree(Op::Equal.compare_fields(mean, mean), Truth::True)?;
+    agree(
         Op::Less.compare_fields(Field::Whole(7), Field::Whole(8)),
-        Truth::True
-    );
-    assert_eq!(rt; Op::Equal.compare_fields(mean, Field::Null), Truth::Unknown);
+        Truth::True,
+    )?;
+    agree(Op::Equal.compare_fields(mean, Field::Null), Truth::Unknown)
 }
 
 #[test]
-fn a_condition_is_asked_for_a_truth_value_or_for_its_absence(rt: HostRuntime) {
+fn a_condition_is_asked_for_a_truth_value_or_for_its_absence() -> Result<(), Fail> {
     let unknown = IsTruth {
         negated: false,
         truth: Truth::Unknown,
@@ -586,12 +587,12 @@ fn a_condition_is_asked_for_a_truth_value_or_for_its_absence(rt: HostRuntime) {
         negated: true,
         truth: Truth::True,
     };
-    assert_eq!(rt;
+    agree(
         (unknown.asked(Truth::Unknown), unknown.asked(Truth::False)),
-        (Truth::True, Truth::False)
-    );
-    assert_eq!(rt;
+        (Truth::True, Truth::False),
+    )?;
+    agree(
         (not_true.asked(Truth::Unknown), not_true.asked(Truth::True)),
-        (Truth::True, Truth::False)
-    );
+        (Truth::True, Truth::False),
+    )
 }

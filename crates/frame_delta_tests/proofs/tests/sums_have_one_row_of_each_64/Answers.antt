@@ -5,4 +5,4 @@ use Rattle.frame_delta_tests.proofs.tests.sums_have_one_row_of_each_64.Goals as 
 
 pub sums-before-requires-clause-before : goal.sums-before-requires-clause-before
 unfolding least_delta
-sums-before-requires-clause-before g c = λ later. absurd (later (ap (λ (d : DeltaForm). 16 % d.lane_width) c.in_ok-deltas.ensures))
+sums-before-requires-clause-before c = λ later. absurd (later (ap (λ (d : DeltaForm). 16 % d.lane_width) c.in_ok-deltas.ensures))

@@ -9,10 +9,10 @@ use Rattle.run_dictionary.specs.Dict.{packed_code}
 use Rattle.run_dictionary_tests.proofs.tests.a_dictionary_may_have_a_value_without_a_row.Goals as goal
 
 pub from_parts-dict-requires-clause-packed : goal.from_parts-dict-requires-clause-packed
-from_parts-dict-requires-clause-packed g c =
+from_parts-dict-requires-clause-packed c =
     subst (λ (words : PackedWords). HasWidth words 1) (sym c.in_ok-codes.ensures) (HasWidth-words_packing 16 1 _ (omega arith))
 
 pub from_parts-dict-requires-clause-codes : goal.from_parts-dict-requires-clause-codes
 unfolding packed_code
-from_parts-dict-requires-clause-codes g c = λ n h.
+from_parts-dict-requires-clause-codes c = λ n h.
     omega (arith, packed_value-below 16 1 c.in_ok-codes.codes.numbers (lane_of 16 n) (step_of 16 n), ap (λ (v : LaneValues). length v.values) c.in_ok-dictionary.ensures)
