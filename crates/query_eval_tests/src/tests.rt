@@ -1,234 +1,291 @@
 //! Queries over plain rows: answers worked out by hand, and the passes that their mentions of columns allow.
 use crate::plain_columns::PlainColumns;
+use expectations::agree_at;
 use query_eval::{Columns, Decoded, Pair, among_rows, answer, between_rows, text};
+use query_parser::parse;
 use std::alloc::{AllocError, Global};
-use std::process::Abort;
 use std::test::Fail;
-use table_model::{
-    ColType, ColumnMention, Condition, Factor, Fold, Item, ItemValue, Literals, Name, Op, Operand,
-    Predicate, Primary, Query, Row, Rows, Schema, SetFunction, Term, Test,
-};
+use table_model::{ColType, Query, Row, Rows, Schema};
 use transpose_order::Mask;
 
-type Columns2 = [Option<i128>; 2];
+/// A row of table T: its cells in columns A and B.
+type Cells = [Option<i128>; 2];
 
-fn name(alloc: Global, text: &str) -> Result<Name, AllocError> {
-    Ok(Name::from_string(String::from_str(alloc, text)?))
-}
+/// A query, the text of its answer, and the greatest number of passes that it may take.
+type Case = (&'static str, &'static str, u128);
 
-fn column(alloc: Global, text: &str) -> Result<ColumnMention, AllocError> {
-    Ok(ColumnMention {
-        name: name(alloc, text)?,
-        at: 0,
-    })
-}
-
-/// What a test asks for.
-#[derive(Clone, Copy)]
-enum Asked<'a> {
-    /// A grouping column.
-    Key(&'a str),
-    /// COUNT(*).
-    Rows,
-    /// A set function of a column.
-    Of(Fold, &'a str),
-}
-
-/// The value of a select item.
-fn value_of(alloc: Global, asked: Asked) -> Result<ItemValue, AllocError> {
-    match asked {
-        Asked::Key(text) => Ok(ItemValue::Grouped(column(alloc, text)?)),
-        Asked::Rows => Ok(ItemValue::Computed(SetFunction::CountRows)),
-        Asked::Of(fold, text) => Ok(ItemValue::Computed(SetFunction::Of {
-            fold,
-            distinct: false,
-            column: column(alloc, text)?,
-        })),
+/// Rows with these cells.
+fn rows_of(alloc: Global, cells: &[Cells]) -> Result<Rows, AllocError> {
+    let mut rows = Vec::with_capacity(alloc, cells.len())?;
+    for row in cells {
+        rows.push(Row::from_cells(Vec::from_slice(alloc, row.as_slice())?))?;
     }
-}
-
-/// The select items of what is asked for.
-fn items_of(alloc: Global, asked: &[Asked]) -> Result<Vec<Item>, AllocError> {
-    let mut items = Vec::new(alloc);
-    for one in asked {
-        items.push(Item {
-            value: value_of(alloc, *one)?,
-            alias: None,
-        })?;
-    }
-    Ok(items)
-}
-
-/// The columns of these names.
-fn columns_named(alloc: Global, names: &[&str]) -> Result<Vec<ColumnMention>, AllocError> {
-    let mut columns = Vec::new(alloc);
-    for text in names {
-        columns.push(column(alloc, *text)?)?;
-    }
-    Ok(columns)
-}
-
-/// A query of table T for what is asked, with this condition or none, grouped by the columns of these names.
-fn query(
-    alloc: Global,
-    asked: &[Asked],
-    filter: Option<Condition>,
-    grouping: &[&str],
-) -> Result<Query, AllocError> {
-    Ok(Query {
-        items: items_of(alloc, asked)?,
-        table: name(alloc, "T")?,
-        filter,
-        grouping: columns_named(alloc, grouping)?,
-        having: None,
-    })
-}
-
-/// The predicate that a column is at least a number.
-fn at_least(alloc: Global, text: &str, least: i128) -> Result<Predicate, AllocError> {
-    Ok(Predicate::Compare {
-        left: Operand::Column(column(alloc, text)?),
-        op: Op::GreaterOrEqual,
-        right: Operand::Literal(least),
-    })
-}
-
-/// The predicate that a column is one of some numbers.
-fn one_of(alloc: Global, text: &str, numbers: &[i128]) -> Result<Predicate, AllocError> {
-    Ok(Predicate::In {
-        operand: Operand::Column(column(alloc, text)?),
-        negated: false,
-        literals: Literals::from_vec(Vec::from_slice(alloc, numbers)?),
-    })
-}
-
-/// The term of a predicate, under NOT or not.
-fn term_of(alloc: Global, negated: bool, predicate: Predicate) -> Result<Term, AllocError> {
-    let mut factors = Vec::new(alloc);
-    factors.push(Factor {
-        negated,
-        test: Test {
-            primary: Primary::Predicate(predicate),
-            is: None,
-        },
-    })?;
-    Ok(Term { factors })
-}
-
-/// The condition that column A is at least 0.
-fn at_least_zero(alloc: Global) -> Result<Condition, AllocError> {
-    let mut terms = Vec::new(alloc);
-    terms.push(term_of(alloc, false, at_least(alloc, "A", 0)?)?)?;
-    Ok(Condition { terms })
-}
-
-/// The condition that column A is 2 or 21, or isn't at least 1.
-fn two_or_last_or_below_one(alloc: Global) -> Result<Condition, AllocError> {
-    let mut terms = Vec::new(alloc);
-    terms.push(term_of(alloc, false, one_of(alloc, "A", &[2, 21])?)?)?;
-    terms.push(term_of(alloc, true, at_least(alloc, "A", 1)?)?)?;
-    Ok(Condition { terms })
+    Ok(Rows::from_vec(rows))
 }
 
 /// Plain columns A and B of 64 bits with these rows.
-fn columns_of(alloc: Global, rows: &[Columns2]) -> Result<PlainColumns, Fail> {
-    let schema = Schema::new(
-        alloc,
-        "T",
-        &[("A", ColType::BigInt), ("B", ColType::BigInt)],
-    )?;
-    let mut made = Vec::with_capacity(alloc, rows.len())?;
-    for row in rows {
-        made.push(Row::from_cells(Vec::from_slice(alloc, row.as_slice())?))?;
-    }
-    Ok(PlainColumns::new(schema, Rows::from_vec(made))?)
+fn columns_of(alloc: Global, cells: &[Cells]) -> Result<PlainColumns, Fail> {
+    let rows = rows_of(alloc, cells)?;
+    let columns = [("A", ColType::BigInt), ("B", ColType::BigInt)];
+    Ok(PlainColumns::new(Schema::new(alloc, "T", &columns)?, rows)?)
 }
 
-/// The text of the answer of a query, and how many passes it took.
-fn answered(
-    alloc: Global,
-    columns: &mut PlainColumns,
-    query: &Query,
-) -> Result<(String, u128), Fail> {
-    let before = columns.passes();
+/// The text of a query's answer.
+fn answered(alloc: Global, columns: &mut PlainColumns, query: &Query) -> Result<String, Fail> {
     let answer = answer(alloc, columns, query)?;
-    let written = String::from_utf8(text(alloc, &answer)?)?;
-    Ok((written, columns.passes().saturating_sub(before)))
+    Ok(String::from_utf8(text(alloc, &answer)?)?)
 }
 
-/// A query over the columns with these rows has this answer, and takes at most so many passes.
-fn has_answer(
-    rt: &impl Abort,
-    alloc: Global,
-    rows: &[Columns2],
-    query: &Query,
-    (wanted, most): (&str, u128),
-) -> Result<(), Fail> {
-    let mut columns = columns_of(alloc, rows)?;
-    let (written, passes) = answered(alloc, &mut columns, query)?;
-    assert_eq!(rt; written.as_str(), wanted);
-    assert!(rt; passes <= most);
+/// The text of the answer of the query that a text is.
+fn asked(alloc: Global, columns: &mut PlainColumns, sql: &str) -> Result<String, Fail> {
+    let query = parse(alloc, sql)?;
+    answered(alloc, columns, &query)
+}
+
+/// Each query has its answer, and takes at most so many passes.
+fn have_answers(alloc: Global, columns: &mut PlainColumns, cases: &[Case]) -> Result<(), Fail> {
+    for &(sql, wanted, most) in cases {
+        let before = columns.passes();
+        let written = asked(alloc, columns, sql)?;
+        agree_at(sql, written.as_str(), wanted)?;
+        let passes = columns.passes().saturating_sub(before);
+        agree_at(sql, passes <= most, true)?;
+    }
     Ok(())
 }
 
-// Three columns are mentioned beside the grouping column, and there is one vector.
+// One vector: as many passes as columns are mentioned.
+const OF_FIVE_ROWS: [Case; 23] = [
+    (
+        "SELECT COUNT(*), COUNT(B), SUM(B) FROM T",
+        "COUNT(*),COUNT(B),SUM(B)\n5,4,29\n",
+        2,
+    ),
+    ("SELECT COUNT(*) FROM T WHERE NOT A = 1", "COUNT(*)\n2\n", 1),
+    (
+        "SELECT A, COUNT(*), SUM(DISTINCT B) FROM T GROUP BY A",
+        "A,COUNT(*),SUM(DISTINCT B)\nNULL,1,5\n1,2,10\n2,2,7\n",
+        3,
+    ),
+    (
+        "SELECT A, COUNT(*), COUNT(B), SUM(B) FROM T GROUP BY A",
+        "A,COUNT(*),COUNT(B),SUM(B)\nNULL,1,1,5\n1,2,1,10\n2,2,2,14\n",
+        4,
+    ),
+    (
+        "SELECT A, AVG(B) FROM T GROUP BY A HAVING AVG(B) > 6",
+        "A,AVG(B)\n1,10.000000\n2,7.000000\n",
+        4,
+    ),
+    ("SELECT SUM(A) FROM T WHERE A > 9", "SUM(A)\nNULL\n", 2),
+    ("SELECT SUM(A) FROM T WHERE A > 9 GROUP BY B", "SUM(A)\n", 3),
+    (
+        "SELECT AVG(A), AVG(DISTINCT B) FROM T",
+        "AVG(A),AVG(DISTINCT B)\n1.500000,7.333333\n",
+        2,
+    ),
+    (
+        "SELECT COUNT(DISTINCT B) kinds, MIN(B), MAX(B) FROM T",
+        "KINDS,MIN(B),MAX(B)\n3,5,10\n",
+        3,
+    ),
+    ("SELECT COUNT(*) FROM T WHERE A < B", "COUNT(*)\n3\n", 2),
+    (
+        "SELECT COUNT(*) FROM T WHERE A IS NULL OR B IS NULL",
+        "COUNT(*)\n2\n",
+        2,
+    ),
+    (
+        "SELECT COUNT(*) FROM T WHERE (A = 1 AND B = 10) IS NOT TRUE",
+        "COUNT(*)\n4\n",
+        2,
+    ),
+    (
+        "SELECT COUNT(*) FROM T WHERE B BETWEEN A AND 9",
+        "COUNT(*)\n2\n",
+        2,
+    ),
+    (
+        "SELECT COUNT(*) FROM T WHERE B NOT IN (5, 7)",
+        "COUNT(*)\n1\n",
+        1,
+    ),
+    ("SELECT COUNT(*) n FROM T HAVING COUNT(*) > 5", "N\n", 0),
+    ("SELECT COUNT(*) FROM T WHERE 1 = 2", "COUNT(*)\n0\n", 0),
+    (
+        "SELECT COUNT(A), SUM(A), AVG(A), MIN(A), MAX(A) FROM T WHERE 1 = 2",
+        "COUNT(A),SUM(A),AVG(A),MIN(A),MAX(A)\n0,NULL,NULL,NULL,NULL\n",
+        5,
+    ),
+    (
+        "SELECT COUNT(*) FROM T WHERE 1 = 2 GROUP BY A",
+        "COUNT(*)\n",
+        1,
+    ),
+    ("SELECT B FROM T GROUP BY B", "B\nNULL\n5\n7\n10\n", 2),
+    (
+        "SELECT A, B, COUNT(*) FROM T GROUP BY B, A",
+        "A,B,COUNT(*)\n1,NULL,1\nNULL,5,1\n2,7,2\n1,10,1\n",
+        4,
+    ),
+    (
+        "SELECT A FROM T GROUP BY A HAVING SUM(B) IN (5, 14)",
+        "A\nNULL\n2\n",
+        3,
+    ),
+    ("SELECT A FROM T GROUP BY A HAVING NOT A = 1", "A\n2\n", 3),
+    (
+        "SELECT MAX(A) FROM T WHERE B IS NOT NULL AND A IS NOT NULL",
+        "MAX(A)\n2\n",
+        3,
+    ),
+];
+
 #[test]
-fn null_keys_are_a_group_and_null_cells_are_left_out(rt: HostRuntime) -> Result<(), Fail> {
+fn five_rows_with_nulls_and_twins(rt: HostRuntime) -> Result<(), Fail> {
     let rows = [
+        [Some(1), Some(10)],
         [Some(1), None],
-        [Some(1), Some(3)],
-        [None, Some(4)],
-        [None, None],
+        [None, Some(5)],
+        [Some(2), Some(7)],
+        [Some(2), Some(7)],
     ];
-    let asked = [
-        Asked::Key("A"),
-        Asked::Rows,
-        Asked::Of(Fold::Count, "B"),
-        Asked::Of(Fold::Sum, "B"),
+    let mut columns = columns_of(rt.alloc(), &rows)?;
+    have_answers(rt.alloc(), &mut columns, &OF_FIVE_ROWS)
+}
+
+// A null is neither equal to itself nor different from it, and at the end of a range it leaves what the other end says.
+const OF_NULLS: [Case; 9] = [
+    (
+        "SELECT COUNT(*), COUNT(A), SUM(A), AVG(A), MIN(A), MAX(A) FROM T",
+        "COUNT(*),COUNT(A),SUM(A),AVG(A),MIN(A),MAX(A)\n2,0,NULL,NULL,NULL,NULL\n",
+        5,
+    ),
+    (
+        "SELECT COUNT(DISTINCT A), SUM(DISTINCT A) FROM T",
+        "COUNT(DISTINCT A),SUM(DISTINCT A)\n0,NULL\n",
+        2,
+    ),
+    (
+        "SELECT A, COUNT(*) FROM T GROUP BY A",
+        "A,COUNT(*)\nNULL,2\n",
+        2,
+    ),
+    ("SELECT COUNT(*) FROM T WHERE A = B", "COUNT(*)\n0\n", 2),
+    ("SELECT COUNT(*) FROM T WHERE NOT A = B", "COUNT(*)\n0\n", 2),
+    (
+        "SELECT COUNT(*) FROM T WHERE (A = B) IS UNKNOWN",
+        "COUNT(*)\n2\n",
+        2,
+    ),
+    (
+        "SELECT COUNT(*) FROM T WHERE A IN (1) OR A NOT IN (1)",
+        "COUNT(*)\n0\n",
+        2,
+    ),
+    (
+        "SELECT COUNT(*) FROM T WHERE NOT 5 BETWEEN B AND 3",
+        "COUNT(*)\n2\n",
+        1,
+    ),
+    (
+        "SELECT COUNT(*) FROM T HAVING SUM(A) = 0 OR NOT SUM(A) = 0",
+        "COUNT(*)\n",
+        2,
+    ),
+];
+
+#[test]
+fn nulls_alone(rt: HostRuntime) -> Result<(), Fail> {
+    let mut columns = columns_of(rt.alloc(), &[[None, None]; 2])?;
+    have_answers(rt.alloc(), &mut columns, &OF_NULLS)
+}
+
+// No sum wraps, a literal may lie past the type, and a mean is cut toward zero before it is compared.
+const OF_EXTREMES: [Case; 8] = [
+    (
+        "SELECT SUM(A), MIN(A), MAX(A), AVG(A) FROM T",
+        "SUM(A),MIN(A),MAX(A),AVG(A)\n9223372036854775806,-9223372036854775808,9223372036854775807,3074457345618258602.000000\n",
+        4,
+    ),
+    (
+        "SELECT SUM(A) FROM T WHERE A > 0",
+        "SUM(A)\n18446744073709551614\n",
+        2,
+    ),
+    (
+        "SELECT AVG(B), SUM(DISTINCT B), COUNT(DISTINCT A) FROM T",
+        "AVG(B),SUM(DISTINCT B),COUNT(DISTINCT A)\n-0.333333,-1,2\n",
+        3,
+    ),
+    (
+        "SELECT COUNT(*) FROM T WHERE A > 9223372036854775806",
+        "COUNT(*)\n2\n",
+        1,
+    ),
+    (
+        "SELECT COUNT(*) FROM T WHERE A > -9223372036854775809",
+        "COUNT(*)\n3\n",
+        1,
+    ),
+    (
+        "SELECT COUNT(*) FROM T WHERE A = 9223372036854775808",
+        "COUNT(*)\n0\n",
+        1,
+    ),
+    ("SELECT COUNT(*) FROM T HAVING AVG(B) = 0", "COUNT(*)\n", 1),
+    (
+        "SELECT COUNT(*) FROM T HAVING AVG(B) BETWEEN -1 AND 0",
+        "COUNT(*)\n3\n",
+        1,
+    ),
+];
+
+#[test]
+fn the_ends_of_a_type(rt: HostRuntime) -> Result<(), Fail> {
+    let rows = [
+        [Some(i128::from(i64::MIN)), Some(-1)],
+        [Some(i128::from(i64::MAX)), Some(0)],
+        [Some(i128::from(i64::MAX)), Some(0)],
     ];
-    let wanted = "A,COUNT(*),COUNT(B),SUM(B)\nNULL,2,1,4\n1,2,1,3\n";
-    let query = query(rt.alloc(), &asked, None, &["A"])?;
-    has_answer(&rt, rt.alloc(), &rows, &query, (wanted, 4))
+    let mut columns = columns_of(rt.alloc(), &rows)?;
+    have_answers(rt.alloc(), &mut columns, &OF_EXTREMES)
 }
 
 /// 1,025 rows of 0, which are two vectors.
-const TWO_VECTORS: [Columns2; 1025] = [[Some(0), None]; 1025];
+const TWO_VECTORS: [Cells; 1025] = [[Some(0), None]; 1025];
 
-// COUNT(*) without WHERE mentions no column.
-#[test]
-fn a_count_of_rows_takes_no_pass(rt: HostRuntime) -> Result<(), Fail> {
-    let query = query(rt.alloc(), &[Asked::Rows], None, &[])?;
-    has_answer(
-        &rt,
-        rt.alloc(),
-        &TWO_VECTORS,
-        &query,
-        ("COUNT(*)\n1025\n", 0),
-    )
-}
+// COUNT(*) without WHERE mentions no column; a column that is mentioned takes a pass over each of the two vectors.
+const OF_TWO_VECTORS: [Case; 2] = [
+    ("SELECT COUNT(*) FROM T", "COUNT(*)\n1025\n", 0),
+    ("SELECT SUM(A) FROM T WHERE A >= 0", "SUM(A)\n0\n", 4),
+];
 
 #[test]
 fn a_mention_takes_at_most_one_pass_a_vector(rt: HostRuntime) -> Result<(), Fail> {
-    let filter = at_least_zero(rt.alloc())?;
-    let query = query(rt.alloc(), &[Asked::Of(Fold::Sum, "A")], Some(filter), &[])?;
-    has_answer(&rt, rt.alloc(), &TWO_VECTORS, &query, ("SUM(A)\n0\n", 4))
+    let mut columns = columns_of(rt.alloc(), &TWO_VECTORS)?;
+    have_answers(rt.alloc(), &mut columns, &OF_TWO_VECTORS)
 }
 
 // The column is mentioned three times, whatever the number of groups.
+const OF_TEN_KEYS: [Case; 1] = [(
+    "SELECT A, SUM(A) FROM T GROUP BY A",
+    "A,SUM(A)\n1,1\n2,2\n3,3\n4,4\n5,5\n6,6\n7,7\n8,8\n9,9\n10,10\n",
+    3,
+)];
+
 #[test]
 fn ten_groups_take_no_pass_each(rt: HostRuntime) -> Result<(), Fail> {
     let mut rows = [[None, None]; 10];
     for n in 0..10 {
         rows[n][0] = Some(n as i128 + 1);
     }
-    let asked = [Asked::Key("A"), Asked::Of(Fold::Sum, "A")];
-    let wanted = "A,SUM(A)\n1,1\n2,2\n3,3\n4,4\n5,5\n6,6\n7,7\n8,8\n9,9\n10,10\n";
-    let query = query(rt.alloc(), &asked, None, &["A"])?;
-    has_answer(&rt, rt.alloc(), &rows, &query, (wanted, 3))
+    let mut columns = columns_of(rt.alloc(), &rows)?;
+    have_answers(rt.alloc(), &mut columns, &OF_TEN_KEYS)
 }
 
 /// The cells of six groups of two columns.
-const SIX_GROUPS: [Columns2; 6] = [
+const SIX_GROUPS: [Cells; 6] = [
     [Some(0), None],
     [None, Some(0)],
     [Some(1), None],
@@ -238,7 +295,7 @@ const SIX_GROUPS: [Columns2; 6] = [
 ];
 
 /// Six groups that take turns in a vector, and twenty more with a row each in the next.
-fn rows_of_many_groups() -> [Columns2; 1044] {
+fn rows_of_many_groups() -> [Cells; 1044] {
     let mut rows = [[None, None]; 1044];
     for n in 0..1044 {
         rows[n] = if n < 1024 {
@@ -250,47 +307,30 @@ fn rows_of_many_groups() -> [Columns2; 1044] {
     rows
 }
 
-/// The answer over the rows of many groups.
-const MANY_GROUPS: &str =
-    "A,B,COUNT(*),SUM(A)\nNULL,NULL,170,NULL\nNULL,0,171,NULL\n0,NULL,171,0\n0,0,171,0\n1,NULL,171,171\n1,0,170,170\n2,NULL,1,2\n3,NULL,1,3\n4,NULL,1,4\n5,NULL,1,5\n6,NULL,1,6\n7,NULL,1,7\n8,NULL,1,8\n9,NULL,1,9\n10,NULL,1,10\n11,NULL,1,11\n12,NULL,1,12\n13,NULL,1,13\n14,NULL,1,14\n15,NULL,1,15\n16,NULL,1,16\n17,NULL,1,17\n18,NULL,1,18\n19,NULL,1,19\n20,NULL,1,20\n21,NULL,1,21\n";
+// In the first vector each group is a slice; in the second the rows have their places one by one. A is 0 at 342 rows of the first
+// vector, and 2 and 21 at a row each of the second. NOT is unknown of a null, so that no null row is counted.
+const OF_MANY_GROUPS: [Case; 2] = [
+    (
+        "SELECT A, B, COUNT(*), SUM(A) FROM T GROUP BY A, B",
+        "A,B,COUNT(*),SUM(A)\nNULL,NULL,170,NULL\nNULL,0,171,NULL\n0,NULL,171,0\n0,0,171,0\n1,NULL,171,171\n1,0,170,170\n2,NULL,1,2\n3,NULL,1,3\n4,NULL,1,4\n5,NULL,1,5\n6,NULL,1,6\n7,NULL,1,7\n8,NULL,1,8\n9,NULL,1,9\n10,NULL,1,10\n11,NULL,1,11\n12,NULL,1,12\n13,NULL,1,13\n14,NULL,1,14\n15,NULL,1,15\n16,NULL,1,16\n17,NULL,1,17\n18,NULL,1,18\n19,NULL,1,19\n20,NULL,1,20\n21,NULL,1,21\n",
+        10,
+    ),
+    (
+        "SELECT COUNT(*) FROM T WHERE A IN (2, 21) OR NOT A >= 1",
+        "COUNT(*)\n344\n",
+        4,
+    ),
+];
 
-// In the first vector each group is a slice; in the second the rows have their places one by one.
 #[test]
 fn groups_of_two_columns_in_slices_and_one_by_one(rt: HostRuntime) -> Result<(), Fail> {
-    let asked = [
-        Asked::Key("A"),
-        Asked::Key("B"),
-        Asked::Rows,
-        Asked::Of(Fold::Sum, "A"),
-    ];
-    let query = query(rt.alloc(), &asked, None, &["A", "B"])?;
-    has_answer(
-        &rt,
-        rt.alloc(),
-        &rows_of_many_groups(),
-        &query,
-        (MANY_GROUPS, 10),
-    )
-}
-
-// A is 0 at 342 rows of the first vector, and 2 and 21 at a row each of the second. NOT is unknown of a null, so that no null row
-// is counted. WHERE mentions the column twice, and a count needs no pass.
-#[test]
-fn in_or_not_over_two_vectors(rt: HostRuntime) -> Result<(), Fail> {
-    let filter = two_or_last_or_below_one(rt.alloc())?;
-    let query = query(rt.alloc(), &[Asked::Rows], Some(filter), &[])?;
-    has_answer(
-        &rt,
-        rt.alloc(),
-        &rows_of_many_groups(),
-        &query,
-        ("COUNT(*)\n344\n", 4),
-    )
+    let mut columns = columns_of(rt.alloc(), &rows_of_many_groups())?;
+    have_answers(rt.alloc(), &mut columns, &OF_MANY_GROUPS)
 }
 
 /// Eleven runs of up to 100 rows with three keys in turn, and beside them values of which the last 76, in the second vector, are
 /// long.
-fn rows_of_runs() -> [Columns2; 1100] {
+fn rows_of_runs() -> [Cells; 1100] {
     let mut rows = [[None, None]; 1100];
     for n in 0..1100 {
         let row = n as i128;
@@ -306,18 +346,16 @@ fn rows_of_runs() -> [Columns2; 1100] {
 }
 
 // Each run is a slice. The sums of the second vector's values are of long ones.
+const OF_RUNS: [Case; 1] = [(
+    "SELECT A, COUNT(*), SUM(B), MAX(B) FROM T GROUP BY A",
+    "A,COUNT(*),SUM(B),MAX(B)\n0,400,471,499\n1,400,1152921504606912863,1152921504606848073\n2,300,12771,399\n",
+    8,
+)];
+
 #[test]
 fn groups_in_runs_of_rows(rt: HostRuntime) -> Result<(), Fail> {
-    let asked = [
-        Asked::Key("A"),
-        Asked::Rows,
-        Asked::Of(Fold::Sum, "B"),
-        Asked::Of(Fold::Max, "B"),
-    ];
-    let wanted =
-        "A,COUNT(*),SUM(B),MAX(B)\n0,400,471,499\n1,400,1152921504606912863,1152921504606848073\n2,300,12771,399\n";
-    let query = query(rt.alloc(), &asked, None, &["A"])?;
-    has_answer(&rt, rt.alloc(), &rows_of_runs(), &query, (wanted, 8))
+    let mut columns = columns_of(rt.alloc(), &rows_of_runs())?;
+    have_answers(rt.alloc(), &mut columns, &OF_RUNS)
 }
 
 /// Whether a pair says true at all rows of a mask, false at all of them, or neither at any row.

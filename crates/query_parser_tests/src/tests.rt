@@ -1,8 +1,9 @@
 //! Queries and their faults, worked out by hand from the grammar.
+use expectations::{agree, agree_at};
 use query_parser::{parse, resolve};
 use std::alloc::{AllocError, Global};
 use std::test::Fail;
-use table_model::{ColType, ColumnMention, Item, ItemValue, Refusal, Schema};
+use table_model::{ColType, ColumnMention, Item, ItemValue, Query, Refusal, Schema};
 
 // Each production of the grammar, and each choice of it.
 const LONG: &str =
@@ -179,7 +180,7 @@ const CONDITIONS: [(&str, Option<Refusal>); 63] = [
 #[test]
 fn the_first_token_that_no_query_has_is_named(rt: HostRuntime) -> Result<(), Fail> {
     for &(text, want) in &FAULTS {
-        assert_eq!(rt; fault(rt.alloc(), text), want, "{text}");
+        agree_at(text, fault(rt.alloc(), text), want)?;
     }
     Ok(())
 }
@@ -187,7 +188,7 @@ fn the_first_token_that_no_query_has_is_named(rt: HostRuntime) -> Result<(), Fai
 #[test]
 fn the_first_token_that_no_condition_has_is_named(rt: HostRuntime) -> Result<(), Fail> {
     for &(text, want) in &CONDITIONS {
-        assert_eq!(rt; fault(rt.alloc(), text), want, "{text}");
+        agree_at(text, fault(rt.alloc(), text), want)?;
     }
     Ok(())
 }
@@ -280,7 +281,7 @@ const LIMITS: [(&str, &str, usize, &str, Option<Refusal>); 19] = [
 fn limits_are_kept_to_the_last(rt: HostRuntime) -> Result<(), Fail> {
     for &(front, piece, count, back, want) in &LIMITS {
         let text = repeated(rt.alloc(), front, piece, count, back)?;
-        assert_eq!(rt; fault(rt.alloc(), text.as_str()), want, "{text}");
+        agree_at(text.as_str(), fault(rt.alloc(), text.as_str()), want)?;
     }
     Ok(())
 }
@@ -314,8 +315,7 @@ fn long_refused_texts_are_read_in_time_linear_in_their_length(rt: HostRuntime) -
             Some(Refusal::Syntax(7)),
         ),
     ];
-    assert!(rt; have_faults(rt.alloc(), &cases)?);
-    Ok(())
+    agree(have_faults(rt.alloc(), &cases)?, true)
 }
 
 #[test]
@@ -331,8 +331,7 @@ fn long_lists_are_read_in_time_linear_in_their_length(rt: HostRuntime) -> Result
         ("SELECT A", ",A", 250_000, " FROM T", None),
         ("SELECT A FROM T GROUP BY A", ",A", 250_000, "", None),
     ];
-    assert!(rt; have_faults(rt.alloc(), &cases)?);
-    Ok(())
+    agree(have_faults(rt.alloc(), &cases)?, true)
 }
 
 #[test]
@@ -341,8 +340,7 @@ fn long_conditions_are_read_in_time_linear_in_their_length(rt: HostRuntime) -> R
         (FROM_T, "A=1 OR ", 150_000, "A=1", None),
         (FROM_T, "A=1 AND ", 125_000, "A=1", None),
     ];
-    assert!(rt; have_faults(rt.alloc(), &cases)?);
-    Ok(())
+    agree(have_faults(rt.alloc(), &cases)?, true)
 }
 
 /// Where a prefix of a text has its fault: at its end, at a token, or nowhere.
@@ -464,11 +462,10 @@ fn each_prefix_of_a_long_query_has_its_fault(rt: HostRuntime) -> Result<(), Fail
     let mut text = String::new(rt.alloc());
     for letter in LONG.chars() {
         let want = prefix_fault(text.len() as u64);
-        assert!(rt; fault(rt.alloc(), text.as_str()) == want, "{text}");
+        agree_at(text.as_str(), fault(rt.alloc(), text.as_str()), want)?;
         text.push(letter)?;
     }
-    assert!(rt; fault(rt.alloc(), text.as_str()).is_none(), "{text}");
-    Ok(())
+    agree(fault(rt.alloc(), text.as_str()), None)
 }
 
 /// The text in lower case, or with each second letter in lower case.
@@ -511,10 +508,14 @@ fn is_keyword(alloc: Global, word: &str) -> Result<bool, AllocError> {
 #[test]
 fn keywords_are_read_in_any_case(rt: HostRuntime) -> Result<(), Fail> {
     for &word in &KEYWORDS {
-        assert!(rt; is_keyword(rt.alloc(), word)?, "{word}");
+        agree_at(word, is_keyword(rt.alloc(), word)?, true)?;
         for every in [true, false] {
             let other = in_case(rt.alloc(), word, every)?;
-            assert!(rt; is_keyword(rt.alloc(), other.as_str())?, "{other}");
+            agree_at(
+                other.as_str(),
+                is_keyword(rt.alloc(), other.as_str())?,
+                true,
+            )?;
         }
     }
     Ok(())
@@ -524,7 +525,7 @@ fn keywords_are_read_in_any_case(rt: HostRuntime) -> Result<(), Fail> {
 fn each_production_is_read_in_any_case(rt: HostRuntime) -> Result<(), Fail> {
     for every in [true, false] {
         let text = in_case(rt.alloc(), LONG, every)?;
-        assert_eq!(rt; fault(rt.alloc(), text.as_str()), None, "{text}");
+        agree_at(text.as_str(), fault(rt.alloc(), text.as_str()), None)?;
     }
     Ok(())
 }
@@ -558,7 +559,7 @@ fn where_and_having_each_open_64_parentheses(rt: HostRuntime) -> Result<(), Fail
     ];
     for (where_depth, having_depth, want) in cases {
         let text = nested(rt.alloc(), where_depth, having_depth)?;
-        assert_eq!(rt; fault(rt.alloc(), text.as_str()), want, "{text}");
+        agree_at(text.as_str(), fault(rt.alloc(), text.as_str()), want)?;
     }
     Ok(())
 }
@@ -582,19 +583,28 @@ fn add_item(alloc: Global, text: &mut String, item: &Item) -> Result<(), AllocEr
     text.push(' ')
 }
 
-#[test]
-fn names_and_aliases_are_folded_and_places_kept(rt: HostRuntime) -> Result<(), Fail> {
-    let query = parse(rt.alloc(), "sElEcT a_1 aS b2,Max(c) fRoM tab_9 group by c")?;
-    assert!(rt; query.table.as_str() == "TAB_9");
-    let mut names = String::new(rt.alloc());
+/// The names in a query: its table, its select items, and its grouping columns.
+fn names(alloc: Global, query: &Query) -> Result<String, AllocError> {
+    let mut text = format!(in alloc; "{}: ", query.table.as_str())?;
     for item in &query.items {
-        add_item(rt.alloc(), &mut names, item)?;
+        add_item(alloc, &mut text, item)?;
     }
     for column in &query.grouping {
-        add_column(rt.alloc(), &mut names, column)?;
+        add_column(alloc, &mut text, column)?;
     }
-    assert_eq!(rt; names.as_str(), "A_1@7=B2 f C@44");
-    Ok(())
+    Ok(text)
+}
+
+/// The names in the query that a text is.
+fn names_in(alloc: Global, text: &str) -> Result<String, Refusal> {
+    let query = parse(alloc, text)?;
+    Ok(names(alloc, &query)?)
+}
+
+#[test]
+fn names_and_aliases_are_folded_and_places_kept(rt: HostRuntime) -> Result<(), Fail> {
+    let names = names_in(rt.alloc(), "sElEcT a_1 aS b2,Max(c) fRoM tab_9 group by c")?;
+    agree(names.as_str(), "TAB_9: A_1@7=B2 f C@44")
 }
 
 /// How resolving a text over the table ends.
@@ -611,8 +621,7 @@ fn long_lists_are_resolved_in_time_linear_in_their_length(rt: HostRuntime) -> Re
     for _ in 0..250_000 {
         text.push_str(",A")?;
     }
-    assert!(rt; resolved(rt.alloc(), text.as_str(), &schema) == Ok(()));
-    Ok(())
+    agree(resolved(rt.alloc(), text.as_str(), &schema), Ok(()))
 }
 
 #[test]
@@ -626,7 +635,7 @@ fn long_conditions_are_resolved_in_time_linear_in_their_length(
     ] {
         let text = repeated(rt.alloc(), FROM_T, piece, count, "B=1")?;
         let outcome = resolved(rt.alloc(), text.as_str(), &schema);
-        assert!(rt; outcome == Err(Refusal::NoSuchColumn(place)), "{piece}");
+        agree_at(piece, outcome, Err(Refusal::NoSuchColumn(place)))?;
     }
     Ok(())
 }
@@ -683,7 +692,7 @@ fn names_are_those_of_the_table_and_of_group_by(rt: HostRuntime) -> Result<(), F
     ];
     let schema = Schema::new(rt.alloc(), "T", &columns)?;
     for &(text, want) in &NAMES {
-        assert!(rt; resolved(rt.alloc(), text, &schema) == want, "{text}");
+        agree_at(text, resolved(rt.alloc(), text, &schema), want)?;
     }
     Ok(())
 }
