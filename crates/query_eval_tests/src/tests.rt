@@ -154,6 +154,25 @@ fn five_rows_with_nulls_and_twins(rt: HostRuntime) -> Result<(), Fail> {
     have_answers(rt.alloc(), &mut columns, &OF_FIVE_ROWS)
 }
 
+// Nulls in the key are a group of their own, and null cells are left out. Three columns are mentioned beside the grouping column.
+const OF_NULL_KEYS: [Case; 1] = [(
+    "SELECT A, COUNT(*), COUNT(B), SUM(B) FROM T GROUP BY A",
+    "A,COUNT(*),COUNT(B),SUM(B)\nNULL,2,1,4\n1,2,1,3\n",
+    4,
+)];
+
+#[test]
+fn null_keys_are_a_group_and_null_cells_are_left_out(rt: HostRuntime) -> Result<(), Fail> {
+    let rows = [
+        [Some(1), None],
+        [Some(1), Some(3)],
+        [None, Some(4)],
+        [None, None],
+    ];
+    let mut columns = columns_of(rt.alloc(), &rows)?;
+    have_answers(rt.alloc(), &mut columns, &OF_NULL_KEYS)
+}
+
 // A null is neither equal to itself nor different from it, and at the end of a range it leaves what the other end says.
 const OF_NULLS: [Case; 9] = [
     (
