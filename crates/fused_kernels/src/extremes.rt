@@ -7,27 +7,7 @@ ghost use Rattle.fused_kernels.specs.Seen.{LanesSeen, AreOnlyRead, values_looked
 ghost use Rattle.native_lanes.specs.Folds.{fold_to};
 
 use crate::lanes::{Lanes, next_values, rows_to_look_at};
-use transpose_order::{Mask, place_in_word};
-
-/// The lesser of two numbers where the second is taken, else the first.
-#[inline(always)]
-pub(crate) fn lesser_if(taken: bool, least: i64, number: i64) -> i64
-    ensures { result ≡ cond taken (int_min least number) least }
-{
-    if taken { least.min(number) } else { least }
-}
-
-/// The greater of two numbers where the second is taken, else the first.
-#[inline(always)]
-pub(crate) fn greater_if(taken: bool, greatest: i64, number: i64) -> i64
-    ensures { result ≡ cond taken (int_max greatest number) greatest }
-{
-    if taken {
-        greatest.max(number)
-    } else {
-        greatest
-    }
-}
+use transpose_order::{Mask, greater_if, lesser_if, place_in_word};
 
 /// Lowers each of sixteen numbers to its lane's, where the row's bit is set.
 #[inline(always)]

@@ -1,5 +1,5 @@
 //! Set functions of runs of equal values, run by run.
-ghost use Rattle.std.specs.Prelude.{◌≡◌, ◌-◌, ◌^◌, cond, pos, negsuc, ◌+ℤ◌, Some, None, length, IsTrue, ℕ, ◌<◌, true};
+ghost use Rattle.std.specs.Prelude.{◌≡◌, ◌-◌, ◌^◌, cond, pos, negsuc, ◌+ℤ◌, Some, None, length, ◌<◌};
 ghost use Rattle.std.specs.Int.{int_min, int_max};
 ghost use Rattle.transpose_order.specs.Mask.{has};
 ghost use Rattle.bit_interleave.specs.Range.{value_at};
@@ -7,12 +7,11 @@ ghost use Rattle.run_dictionary.specs.Runs.{run_value};
 ghost use Rattle.table_model.specs.Values.{lesser, greater};
 ghost use Rattle.native_lanes.specs.Folds.{fold_to};
 
-use crate::extremes::{greater_if, lesser_if};
 use crate::row_counts::{rows_before_words, rows_below};
 use bit_interleave::Values;
 use native_lanes::times;
 use run_dictionary::Runs;
-use transpose_order::Mask;
+use transpose_order::{Mask, greater_if, lesser_if};
 
 /// The sum of the values of a mask's rows.
 pub(crate) fn sum_of_runs(form: &Runs, rows: &Mask) -> i128
@@ -55,13 +54,6 @@ fn greatest_of_all(values: &Values) -> i64
         greatest = greatest.max(values.get(i));
     }
     greatest
-}
-
-/// Whether a mask has all 1024 rows.
-fn has_all_rows(rows: &Mask) -> bool
-    ensures { IsTrue result → (n : ℕ) → n < 1024 → has rows.now n ≡ true }
-{
-    *rows == Mask::all()
 }
 
 /// The least value of a mask's rows, none over none.
@@ -117,7 +109,7 @@ pub(crate) fn least_of_runs(form: &Runs, rows: &Mask) -> Option<i64>
     ensures { result ≡ fold_to lesser None 1024 (λ n. cond (has rows.now n) (Some (run_value form.now n)) None) }
 {
     let _ = form.lane_width();
-    if has_all_rows(rows) {
+    if rows.is_all() {
         return Some(least_of_all(form.values()));
     }
     least_of_rows(form, rows)
@@ -128,7 +120,7 @@ pub(crate) fn greatest_of_runs(form: &Runs, rows: &Mask) -> Option<i64>
     ensures { result ≡ fold_to greater None 1024 (λ n. cond (has rows.now n) (Some (run_value form.now n)) None) }
 {
     let _ = form.lane_width();
-    if has_all_rows(rows) {
+    if rows.is_all() {
         return Some(greatest_of_all(form.values()));
     }
     greatest_of_rows(form, rows)

@@ -6,7 +6,6 @@ ghost use Rattle.transpose_order.specs.Place.{lane_of, step_of};
 ghost use Rattle.bit_interleave.specs.Packing.{packed_value};
 ghost use Rattle.native_lanes.specs.Folds.{fold_to};
 
-use crate::full::has_all_rows;
 use crate::native_32::numbers_32;
 use crate::walk_32::{chosen, lanes_of_mask_32, sum_of_lanes};
 use transpose_order::Mask;
@@ -60,7 +59,7 @@ pub(crate) fn sum_of_numbers_32(width: usize, words: &[u32], rows: &Mask) -> u64
     ensures bound { result ≤ 2 ^ 37 }
 {
     let lanes = lanes_of_mask_32(rows);
-    let are_all = has_all_rows(rows);
+    let are_all = rows.is_all();
     let mut sums = [0; 32];
     for step in 0..32 {
         let numbers = numbers_32(width, words, step);

@@ -6,7 +6,6 @@ ghost use Rattle.transpose_order.specs.Place.{lane_of, step_of};
 ghost use Rattle.bit_interleave.specs.Packing.{packed_value};
 ghost use Rattle.native_lanes.specs.Folds.{fold_to};
 
-use crate::full::has_all_rows;
 use crate::native_64::numbers_64;
 use crate::walk_64::{chosen, lanes_of_mask_64};
 use transpose_order::Mask;
@@ -72,7 +71,7 @@ pub(crate) fn sum_of_numbers_64(width: usize, words: &[u64], rows: &Mask) -> u12
     ensures bound { result ≤ 2 ^ 68 }
 {
     let lanes = lanes_of_mask_64(rows);
-    let are_all = has_all_rows(rows);
+    let are_all = rows.is_all();
     let mut sums = [0; 16];
     for step in 0..64 {
         let numbers = numbers_64(width, words, step);

@@ -1,14 +1,14 @@
 //! Set functions over the decoded values at the rows of a mask, and the rows with a value: a word of 64 rows at a time, without a
 //! branch a row.
 ghost use Rattle.std.specs.Prelude.{◌≡◌, ◌==◌, ◌+◌, ◌*◌, ◌^◌, ◌<◌, ◌≤◌, ◌+ℤ◌, ◌/◌, ℕ, Bool, true, false, Some, List, ℤ, cond, length, not, pos, slice_index_or};
-ghost use Rattle.std.specs.Int.{bit_at, int_max, int_min};
+ghost use Rattle.std.specs.Int.{bit_at};
 ghost use Rattle.std.specs.Ordering.{int_eq};
 ghost use Rattle.table_model.specs.Values.{greatest, least, total};
 ghost use Rattle.transpose_order.specs.Mask.{has, number_of_bits, rows_of};
 ghost use Rattle.query_eval.specs.Slices.{AreHalves, AreShort, IsRaised, IsShort, differs_at, values_at, values_below};
 
 use crate::bits::is_set;
-use transpose_order::Mask;
+use transpose_order::{Mask, greater_if, lesser_if};
 
 /// Whether two numbers are the same.
 #[inline(always)]
@@ -200,26 +200,6 @@ pub fn sum_at(values: &[i64; 1024], short: bool, rows: &Mask) -> i128
     }
     let (low, high) = sum_halves(values, rows);
     i128::from(low) + i128::from(high) * (1 << 32) - count * (1 << 63)
-}
-
-/// The lesser of two numbers where the second is taken, else the first.
-#[inline(always)]
-fn lesser_if(taken: bool, least: i64, number: i64) -> i64
-    ensures { result ≡ cond taken (int_min least number) least }
-{
-    if taken { least.min(number) } else { least }
-}
-
-/// The greater of two numbers where the second is taken, else the first.
-#[inline(always)]
-fn greater_if(taken: bool, greatest: i64, number: i64) -> i64
-    ensures { result ≡ cond taken (int_max greatest number) greatest }
-{
-    if taken {
-        greatest.max(number)
-    } else {
-        greatest
-    }
 }
 
 /// The least of the values at the rows of a mask up to the end of the 64 rows in which its first one is.

@@ -5,7 +5,7 @@ use Rattle.std.specs.List.{range_with_len}
 use Rattle.std.proofs.lemmas.Bool.Decides.{nat_tests}
 use Rattle.std.proofs.lemmas.List.FromFn.{sum_by-map-range_with_len_more}
 use Rattle.std.proofs.lemmas.Nat.{and_mask, ones_cat, ones_le_self, zero_from_ones, div_below, mod_below, pow_pos, shr_split}
-use Rattle.std.proofs.lemmas.Nat.Bits.{bit_at_cat_low, ones_shr}
+use Rattle.std.proofs.lemmas.Nat.Bits.{bit_at_cat_low, bit_at_ones, ones_shr}
 use Rattle.std.proofs.lemmas.Bool.{lt-ltb}
 use Rattle.std.proofs.lemmas.List.{get_or-replicate}
 use Rattle.transpose_order.specs.Place.{IsLaneWidth, row_at}
@@ -148,6 +148,9 @@ count_below-part_of_word words j n h =
 pub rows_of-replicate : (word : ℕ) (b : Bool) → ((p : ℕ) → p < 64 → (bit_at word p == 1) ≡ b) → rows_of (truth_at (replicate 16 word)) ≡ rows_of (λ _. b)
 rows_of-replicate word b h =
     rows_of-words (replicate 16 word) (λ _. b) (λ j p l m. ap (λ w. bit_at w p == 1) (get_or-replicate 16 j word 0 l) ∙ h p m)
+
+pub rows_of_ones : rows_of (truth_at (replicate 16 (2 ^ 64 - 1))) ≡ rows_of (λ _. true)
+rows_of_ones = rows_of-replicate (2 ^ 64 - 1) true (λ p h. ap (λ b. b == 1) (bit_at_ones 64 p h))
 
 -- ---- the rows of a lane
 lane_in_word : (t : ℕ) → IsLaneWidth t → (lane step : ℕ) → lane < 1024 / t → step < t → (row_at t lane 0 < 1024) × (row_at t lane 0 % 64 + step < 64) × (row_at t lane step ≡ row_at t lane 0 + step) × (t ≤ 64)

@@ -139,6 +139,14 @@ impl Mask {
         Mask::all().and_not(self)
     }
 
+    /// Whether every row is true.
+    pub fn is_all(&self) -> bool
+        ensures all { IsTrue result → (n : ℕ) → n < 1024 → has self.now n ≡ true }
+        ensures answers { ((n : ℕ) → n < 1024 → has self.now n ≡ true) → IsTrue result }
+    {
+        self.words == [u64::MAX; 16]
+    }
+
     /// How many rows are true.
     pub fn count(&self) -> usize
         ensures { result ≡ count_by (λ row. row) self.now }

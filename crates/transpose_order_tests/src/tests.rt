@@ -155,6 +155,14 @@ fn masks_are_equal_where_their_rows_are() -> Result<(), Fail> {
 }
 
 #[test]
+fn a_mask_without_its_last_row_has_not_all() -> Result<(), Fail> {
+    let mut mask = Mask::all();
+    agree(mask.is_all(), true)?;
+    mask.set_range(1023, 1024, false);
+    agree((mask.is_all(), Mask::none().is_all()), (false, false))
+}
+
+#[test]
 fn the_laws_may_be_called() {
     masks_and_bytes_come_back();
     counts_agree();
