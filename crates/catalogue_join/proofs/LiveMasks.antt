@@ -2,6 +2,7 @@
 use Rattle.std.proofs.Common.{◌≡◌, ℕ, ◌+◌, ◌*◌, ◌<◌, ◌≤◌, Bool, true, false, ◌&&◌, ◌||◌, not, ltb, leb, List, [], ◌∷◌, length, take, get_or, refl, sym, ap, ◌∙◌, cond, ◌-◌, min, max, arith}
 use Rattle.std.proofs.lemmas.Bool.Decides.{nat_tests}
 use Rattle.std.proofs.lemmas.List.{take_more}
+use Rattle.table_model.specs.Table.{row_limit}
 use Rattle.transpose_order.specs.Mask.{rows_of, has}
 use Rattle.transpose_order.specs.MaskWords.{rows_of-like, has-rows_of}
 use Rattle.table_model.specs.declared.names.BatchName.{BatchName}
@@ -18,9 +19,9 @@ pub record MeetsVector (x : RowRange) (batch : BatchName) (start : ℕ) : Type 0
   pub not_empty : x.0.ordinal ≤ x.1
   pub begun : x.0.ordinal ≤ start + 1023
   pub reached : start ≤ x.1
-  pub covered : (m : ℕ) → m < 65536 → covers row_range_shape x (row_place batch m) ≡ (leb x.0.ordinal m && leb m x.1)
+  pub covered : (m : ℕ) → m < row_limit → covers row_range_shape x (row_place batch m) ≡ (leb x.0.ordinal m && leb m x.1)
 
-pub meets_vector : (x : RowRange) (batch : BatchName) (start : ℕ) → is_named_range x ≡ true → row_range_shape.low x ≤ row_range_shape.high x → batch.number.0 < 4294967296 → start + 1023 < 65536
+pub meets_vector : (x : RowRange) (batch : BatchName) (start : ℕ) → is_named_range x ≡ true → row_range_shape.low x ≤ row_range_shape.high x → batch.number.0 < 4294967296 → start + 1023 < row_limit
     → row_range_shape.low x ≤ row_place batch (start + 1023) → row_place batch start ≤ row_range_shape.high x → MeetsVector x batch start
 meets_vector x batch start named range number within begun reached =
     let b = bounds_of x named in
@@ -38,7 +39,7 @@ meets_vector x batch start named range number within begun reached =
     go o n o' n' f l m e j = grind (arith, nat_tests)
 
 -- one more range cleared
-pub cleared_more : (items : List RowRange) (i : ℕ) (d : RowRange) (batch : BatchName) (start rows : ℕ) (old new : List Bool) → i < length items → start + 1023 < 65536
+pub cleared_more : (items : List RowRange) (i : ℕ) (d : RowRange) (batch : BatchName) (start rows : ℕ) (old new : List Bool) → i < length items → start + 1023 < row_limit
     → MeetsVector (get_or items i d) batch start
     → old ≡ rows_of (λ n. ltb n rows && not (among row_range_shape (take i items) (row_place batch (start + n))))
     → new ≡ rows_of (λ n. has old n && not (leb (get_or items i d).0.ordinal (start + n) && leb (start + n) (get_or items i d).1))
@@ -82,7 +83,7 @@ abbrev pub no_range : RowRange
 no_range = (record { batch = record { origin = record { 0 = 0 }; number = record { 0 = 0 } }; ordinal = 0 }, 0)
 
 -- each of the ranges that overlap a vector has a row of it
-pub overlap_meets : (rs shared : List RowRange) (batch : BatchName) (start i : ℕ) → IsOverlap row_range_shape rs (record { batch = batch; ordinal = start }, start + 1023) shared → i < length shared → batch.number.0 < 4294967296 → start + 1023 < 65536 → MeetsVector (get_or shared i no_range) batch start
+pub overlap_meets : (rs shared : List RowRange) (batch : BatchName) (start i : ℕ) → IsOverlap row_range_shape rs (record { batch = batch; ordinal = start }, start + 1023) shared → i < length shared → batch.number.0 < 4294967296 → start + 1023 < row_limit → MeetsVector (get_or shared i no_range) batch start
 overlap_meets rs shared batch start i overlap bound number within =
     let at = rises_at row_range_shape shared 0 i no_range overlap.rising bound in
     meets_vector (get_or shared i no_range) batch start at.named at.is_range number within (overlap.reached i no_range bound) (overlap.reaches i no_range bound)

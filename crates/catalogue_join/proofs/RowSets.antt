@@ -7,6 +7,7 @@ use Rattle.std.proofs.lemmas.List.Folds.{list_any-append}
 use Rattle.std.specs.List.{list_any}
 use Rattle.std.specs.Ordering.{eq_by_cmp, is_lt, is_eq, nat_cmp, ordering_then}
 use Rattle.std.specs.FinSet as set
+use Rattle.table_model.specs.Table.{row_limit}
 use Rattle.table_model.specs.Name.{row_name_cmp}
 use Rattle.table_model.specs.declared.names.BatchName.{BatchName}
 use Rattle.table_model.specs.declared.names.RowName.{RowName}
@@ -49,12 +50,12 @@ rows_between_any r q =
 
 -- a row's numbers are within their bounds
 abbrev pub is_bounded : RowName → Bool
-is_bounded q = ltb q.batch.origin.0 4294967296 && (ltb q.batch.number.0 4294967296 && ltb q.ordinal 65536)
+is_bounded q = ltb q.batch.origin.0 4294967296 && (ltb q.batch.number.0 4294967296 && ltb q.ordinal row_limit)
 
 pub record RowBounds (q : RowName) : Type 0 where
   pub origin : q.batch.origin.0 < 4294967296
   pub number : q.batch.number.0 < 4294967296
-  pub ordinal : q.ordinal < 65536
+  pub ordinal : q.ordinal < row_limit
 
 -- the row's place on the line
 abbrev pub spot : RowName → ℕ
@@ -65,7 +66,7 @@ in_range_covers r q named =
     let b = bounds_of r named in
     go r.0.batch.origin.0 r.0.batch.number.0 r.0.ordinal r.1 q.batch.origin.0 q.batch.number.0 q.ordinal b.origin b.number b.first b.last
   where
-    go : (o n f l o' n' x : ℕ) → o < 4294967296 → n < 4294967296 → f < 65536 → l < 65536 → (eqb o o' && (eqb n n' && (leb f x && leb x l))) ≡ ((ltb o' 4294967296 && (ltb n' 4294967296 && ltb x 65536)) && (leb ((o * 4294967296 + n) * 131072 + f) ((o' * 4294967296 + n') * 131072 + x) && leb ((o' * 4294967296 + n') * 131072 + x) ((o * 4294967296 + n) * 131072 + l)))
+    go : (o n f l o' n' x : ℕ) → o < 4294967296 → n < 4294967296 → f < row_limit → l < row_limit → (eqb o o' && (eqb n n' && (leb f x && leb x l))) ≡ ((ltb o' 4294967296 && (ltb n' 4294967296 && ltb x row_limit)) && (leb ((o * 4294967296 + n) * 131072 + f) ((o' * 4294967296 + n') * 131072 + x) && leb ((o' * 4294967296 + n') * 131072 + x) ((o * 4294967296 + n) * 131072 + l)))
     go o n f l o' n' x ho hn hf hl = grind (arith, nat_tests)
 
 pub and_over_or : (a b c : Bool) → ((a && b) || (a && c)) ≡ (a && (b || c))
@@ -130,9 +131,9 @@ covered_bounded r p named c =
     let whole : p / 131072 ≡ r.0.batch.origin.0 * 4294967296 + r.0.batch.number.0 = omega arith in
     let origin : p / 131072 / 4294967296 < 4294967296 = omega arith in
     let number : p / 131072 % 4294967296 < 4294967296 = omega arith in
-    let ordinal : p % 131072 < 65536 = omega arith in
-    and_from (ltb (p / 131072 / 4294967296) 4294967296) (ltb (p / 131072 % 4294967296) 4294967296 && ltb (p % 131072) 65536) (lt-ltb (p / 131072 / 4294967296) 4294967296 origin)
-    (and_from (ltb (p / 131072 % 4294967296) 4294967296) (ltb (p % 131072) 65536) (lt-ltb (p / 131072 % 4294967296) 4294967296 number) (lt-ltb (p % 131072) 65536 ordinal))
+    let ordinal : p % 131072 < row_limit = omega arith in
+    and_from (ltb (p / 131072 / 4294967296) 4294967296) (ltb (p / 131072 % 4294967296) 4294967296 && ltb (p % 131072) row_limit) (lt-ltb (p / 131072 / 4294967296) 4294967296 origin)
+    (and_from (ltb (p / 131072 % 4294967296) 4294967296) (ltb (p % 131072) row_limit) (lt-ltb (p / 131072 % 4294967296) 4294967296 number) (lt-ltb (p % 131072) row_limit ordinal))
 
 among_unbounded : (rs : List RowRange) (n p : ℕ) → Rises row_range_shape n rs → is_bounded (row_at p) ≡ false → among row_range_shape rs p ≡ false
 among_unbounded [] n p r h = refl
@@ -185,7 +186,7 @@ stands_apart_is r q n m =
     let b = bounds_of q m in
     go r.0.batch.origin.0 r.0.batch.number.0 r.1 q.0.batch.origin.0 q.0.batch.number.0 q.0.ordinal a.number a.last b.number b.first
   where
-    go : (o n l o' n' f : ℕ) → n < 4294967296 → l < 65536 → n' < 4294967296 → f < 65536 → (is_lt (ordering_then (nat_cmp o o') (nat_cmp n n')) || (is_eq (ordering_then (nat_cmp o o') (nat_cmp n n')) && ltb (l + 1) f)) ≡ ltb ((o * 4294967296 + n) * 131072 + l + 1) ((o' * 4294967296 + n') * 131072 + f)
+    go : (o n l o' n' f : ℕ) → n < 4294967296 → l < row_limit → n' < 4294967296 → f < row_limit → (is_lt (ordering_then (nat_cmp o o') (nat_cmp n n')) || (is_eq (ordering_then (nat_cmp o o') (nat_cmp n n')) && ltb (l + 1) f)) ≡ ltb ((o * 4294967296 + n) * 131072 + l + 1) ((o' * 4294967296 + n') * 131072 + f)
     go o n l o' n' f hn hl hn' hf = grind (arith, nat_tests)
 
 named_range_of : (r : RowRange) → IsRowRange r → is_named_range r ≡ true
@@ -219,7 +220,7 @@ pub found_is : (rs : List RowRange) (q : RowName) (found : Option RowRange) → 
 found_is rs q None r bounded lacks = sym (contains-rows_in rs q r ∙ ap (λ b. b && among row_range_shape rs (spot q)) bounded ∙ lacks)
 found_is rs q (Some s) r bounded h = sym (contains-rows_in rs q r ∙ ap (λ b. b && among row_range_shape rs (spot q)) bounded ∙ h.inside (spot q) h.has)
 
-pub bounded_from : (q : RowName) → q.batch.origin.0 < 4294967296 → q.batch.number.0 < 4294967296 → q.ordinal < 65536 → is_bounded q ≡ true
+pub bounded_from : (q : RowName) → q.batch.origin.0 < 4294967296 → q.batch.number.0 < 4294967296 → q.ordinal < row_limit → is_bounded q ≡ true
 bounded_from q o n x =
-    and_from (ltb q.batch.origin.0 4294967296) (ltb q.batch.number.0 4294967296 && ltb q.ordinal 65536) (lt-ltb q.batch.origin.0 4294967296 o)
-    (and_from (ltb q.batch.number.0 4294967296) (ltb q.ordinal 65536) (lt-ltb q.batch.number.0 4294967296 n) (lt-ltb q.ordinal 65536 x))
+    and_from (ltb q.batch.origin.0 4294967296) (ltb q.batch.number.0 4294967296 && ltb q.ordinal row_limit) (lt-ltb q.batch.origin.0 4294967296 o)
+    (and_from (ltb q.batch.number.0 4294967296) (ltb q.ordinal row_limit) (lt-ltb q.batch.number.0 4294967296 n) (lt-ltb q.ordinal row_limit x))

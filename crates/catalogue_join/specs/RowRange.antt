@@ -2,6 +2,7 @@
 use Rattle.std.specs.Prelude.{ℕ, zero, suc, ◌+◌, ◌-◌, ◌*◌, ◌<◌, ◌≤◌, Bool, ◌&&◌, ◌||◌, nat_lt, List, [], ◌∷◌, ◌++◌, min, max, IsTrue}
 use Rattle.std.specs.Ordering.{is_lt, is_eq}
 use Rattle.std.specs.FinSet as set
+use Rattle.table_model.specs.Table.{row_limit}
 use Rattle.table_model.specs.Name.{name_cmp, row_name_cmp, is_proper_name}
 use Rattle.table_model.specs.declared.names.BatchName.{BatchName}
 use Rattle.table_model.specs.declared.names.RowName.{RowName}
@@ -34,7 +35,7 @@ pub record IsRowRange (r : RowRange) : Type 0 where
   pub proper : IsTrue (is_proper_name r.0.batch)
   pub origin : r.0.batch.origin.0 < 4294967296
   pub number : r.0.batch.number.0 < 4294967296
-  pub last : r.1 < 65536
+  pub last : r.1 < row_limit
   pub not_empty : r.0.ordinal ≤ r.1
 
 -- q is of a later batch than r, or begins in the same batch after r's last row and at least one row more
@@ -57,7 +58,7 @@ row_place batch ordinal = (batch.origin.0 * 4294967296 + batch.number.0) * 13107
 
 -- a proper name, and numbers within their bounds
 abbrev pub is_named_range : RowRange → Bool
-is_named_range r = is_proper_name r.0.batch && (nat_lt r.0.batch.origin.0 4294967296 && (nat_lt r.0.batch.number.0 4294967296 && (nat_lt r.0.ordinal 65536 && nat_lt r.1 65536)))
+is_named_range r = is_proper_name r.0.batch && (nat_lt r.0.batch.origin.0 4294967296 && (nat_lt r.0.batch.number.0 4294967296 && (nat_lt r.0.ordinal row_limit && nat_lt r.1 row_limit)))
 
 -- a range of rows on the line
 abbrev pub row_range_shape : Shape RowRange

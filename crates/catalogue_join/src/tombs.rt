@@ -1,6 +1,7 @@
 //! Deleted rows: a set of row names, kept as its maximal ranges.
 ghost use Rattle.std.specs.Prelude.{◌≡◌, ◌≤◌, ◌<◌, ◌+◌, ◌&&◌, not, nat_le, nat_lt, OnOk, OnErr, IfOk, IsTrue, List};
 ghost use Rattle.std.specs.FinSet as set;
+ghost use Rattle.table_model.specs.Table.{row_limit};
 ghost use Rattle.table_model.specs.Name.{is_proper_name};
 ghost use Rattle.transpose_order.specs.Mask.{rows_of, has};
 ghost use Rattle.catalogue_join.specs.LiveMask.{is_live};
@@ -144,7 +145,7 @@ fn clear(live: &mut Mask, deleted: (RowName, u16), start: usize)
     requires begun { deleted.0.ordinal ≤ start + 1023 }
     requires reached { start ≤ deleted.1 }
     requires not_empty { deleted.0.ordinal ≤ deleted.1 }
-    requires within { start < 65536 }
+    requires within { start < row_limit }
     ensures { live.new ≡ rows_of (λ n. has live.old n
         && not (nat_le deleted.0.ordinal (start + n) && nat_le (start + n) deleted.1)) }
 {

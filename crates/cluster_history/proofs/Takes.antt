@@ -20,7 +20,7 @@ use Rattle.table_model.proofs.Operations.{Among-find, found-Among, same_name, st
 use Rattle.table_model.proofs.SameRows.{one_batch}
 use Rattle.replica_store.specs.declared.inserted.Inserted.{Inserted}
 use Rattle.replica_store.specs.declared.inserted.Inserted.TheVariants.{New, Already}
-use Rattle.replica_store.specs.Replica.{Replica, appended, then_added, next_name, inserted, then_placed, place_for, place_beside, unless_fault, with_batch, with_deleted, with_join, deleted_rows, delete_fault, rows_between, differs, conflict_with, conflict_or_full, merge_fault, merged, entries_of}
+use Rattle.replica_store.specs.Replica.{Replica, appended, then_added, next_name, inserted, then_placed, place_for, place_beside, unless_fault, with_batch, with_deleted, with_join, deleted_rows, delete_fault, rows_between, differs, conflict_with, conflict_or_full, merge_fault, merged, entries_of, batch_limit}
 use Rattle.replica_store.proofs.Limits.{IsFree-next_name, IsFree-place_for}
 use Rattle.cluster_history.specs.History.{replica_of}
 
@@ -101,7 +101,7 @@ same_held false name e = cc
 
 -- a batch that is there already has the same rows
 held_is : (r : Replica) (name : BatchName) (rows : Batch) (held : Option Batch) → place_beside r name rows held ≡ Ok Already → held ≡ Some rows
-held_is r name rows None e = absurd (room_new (nat_lt (map.len r.state.batches) 65536) e)
+held_is r name rows None e = absurd (room_new (nat_lt (map.len r.state.batches) batch_limit) e)
 held_is r name rows (Some held) e = ap Some (one_batch held rows (same_held (same_rows held rows) name e))
 
 after_checks : (o : Option Refusal) (b : Bool) (next : Result Inserted Refusal) → unless_fault o (cond b next (Err BadName)) ≡ Ok Already → next ≡ Ok Already

@@ -1,8 +1,8 @@
 //! Clusters: a table at replicas and the messages between them, both numbered from 1.
 ghost use Rattle.std.specs.Prelude.{◌≡◌, ◌≢◌, ◌<◌, ◌≤◌, ◌++◌, codes, length, IfSome, IfOk, IsOk, Ok};
-ghost use Rattle.query_parser.specs.Descent.{Reads};
+ghost use Rattle.table_model.specs.Reading.{Reads};
 ghost use Rattle.table_model.specs.Outcome.{Acts, Gives};
-ghost use Rattle.cluster_history.specs.Cluster.{new_cluster, new_replicas, replicas_in, empty_replica, place_of, with_message, append_step, delete_step, ask_step, serve_step, recode_step, open_step, export_step, merged_in, query_step};
+ghost use Rattle.cluster_history.specs.Cluster.{new_cluster, new_replicas, replicas_in, empty_replica, place_of, with_message, append_step, delete_step, ask_step, serve_step, recode_step, open_step, export_step, merged_in, query_step, message_limit};
 ghost use Rattle.cluster_history.specs.Message.{carried, messages_in};
 ghost use Rattle.cluster_history.specs.Recoded.{RecodesAt};
 ghost use Rattle.cluster_history.specs.Run.{ActsOn, StepTo};
@@ -184,7 +184,7 @@ impl Cluster {
 
     /// Keeps one more message; the reply is its number.
     fn send(&mut self, message: Message) -> Result<Reply, Refusal>
-        requires room { length self.old.messages < 65536 }
+        requires room { length self.old.messages < message_limit }
         ensures { Acts (λ reply. reply) self.old result self.new (Ok (with_message self.old (carried message))) }
     {
         let number = self.messages.len() as u32 + 1;

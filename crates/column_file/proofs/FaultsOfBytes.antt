@@ -1,5 +1,5 @@
 -- What reading bytes is refused as is a fault of bytes, format by format.
-use Rattle.std.proofs.Common.{◌≡◌, ℕ, zero, suc, ◌-◌, ◌/◌, ◌*◌, ◌+◌, ◌&&◌, ◌||◌, not, Bool, true, false, cond, ltb, leb, eqb, ℤ, List, [], ◌∷◌, ◌++◌, length, map, take, drop, codes, slice_index_or, Option, Some, Result, Ok, Err, IfErr, IsTrue, refl, subst}
+use Rattle.std.proofs.Common.{◌≡◌, ℕ, zero, suc, ◌-◌, ◌/◌, ◌*◌, ◌+◌, ◌&&◌, ◌||◌, not, Bool, true, false, cond, ltb, leb, eqb, ℤ, List, [], ◌∷◌, ◌++◌, length, map, take, drop, codes, slice_index_or, Option, Some, Result, Ok, Err, IfErr, IsTrue, inl, inr, refl, subst}
 use Rattle.transpose_order.specs.Mask.{has}
 use Rattle.bit_interleave.specs.PackedWords.{PackedWords}
 use Rattle.run_dictionary.specs.Runs.{run_of}
@@ -13,11 +13,13 @@ use Rattle.segment_core.specs.declared.coding.Coding.{Coding}
 use Rattle.segment_core.specs.declared.coding.Coding.TheVariants.{For as ByFrame, Delta as ByDeltas, Runs as ByRuns, Dict as ByDictionary}
 use Rattle.segment_core.specs.declared.coded.Coded.{Coded}
 use Rattle.segment_core.specs.CodedVector.{VectorForm}
-use Rattle.segment_core.specs.Format.{Format, ◌>>=◌, raw, number, signed, seen, checked, before, optional, read_all, all, constant, read_whole, Reads}
+use Rattle.table_model.specs.Reading.{◌>>=◌, Reads}
+use Rattle.segment_core.specs.Format.{Format, raw, number, signed, seen, checked, before, optional, read_all, all, constant, read_whole}
 use Rattle.table_model.specs.Identifier.{same_text}
 use Rattle.segment_core.specs.Segment.{vector_count, rows_in, widths_of}
 use Rattle.segment_core.specs.VectorBytes.{mask, words, is_null_mask, nulls, coding, is_width, is_count, header, frame, deltas, starts, runs, is_above, dictionary, are_codes_below, codes as packed_codes, dict, payload_of, payload, coded, vector}
 use Rattle.segment_core.specs.SegmentBytes.{column as segment_column, columns as segment_columns, batch_columns}
+use Rattle.replica_store.specs.Replica.{batch_limit}
 use Rattle.column_file.specs.Input.{is_fault_of_bytes, is_refusal_of_reading, CountsFailure}
 use Rattle.column_file.specs.SchemaBytes.{text, is_name, name, column_type, is_new, column, column_count, schema}
 use Rattle.column_file.specs.SummaryBytes.{version, head, any_name, proper_name, is_after, batch_name, name_count, names, summary, summary_read}
@@ -258,7 +260,7 @@ batch_name_judges front =
 
 name_count_judges : Judges name_count
 unfolding name_count
-name_count_judges = checked_judges (number 4) (λ (n : ℕ). leb n 65536) BadCount (λ n. refl) (number_judges 4)
+name_count_judges = checked_judges (number 4) (λ (n : ℕ). leb n batch_limit) BadCount (λ n. refl) (number_judges 4)
 
 names_judges : Judges names
 unfolding names
@@ -340,7 +342,8 @@ abbrev pub IsFault : Refusal → Type 0
 IsFault e = ((e ≡ Memory) → ⊥) → is_fault_of_bytes e ≡ true
 
 fault_of : {X Y : Type 0} (view : X → Y) (e : Refusal) (meaning : Result Y Refusal) → Reads {X = X} view (Err e) meaning → Judged meaning → IsFault e
-fault_of {Y = Y} view e meaning reads judged not_memory = let P : Result Y Refusal → Type 0 = λ r. Judged r in subst P (reads not_memory) judged
+fault_of {Y = Y} view e meaning (inl same) judged not_memory = let P : Result Y Refusal → Type 0 = λ r. Judged r in subst P same judged
+fault_of view e meaning (inr memory) judged not_memory = absurd (not_memory memory)
 
 counts : (many : Type 0) (e : Refusal) (before after : ℕ) → IsFault e → after ≡ before → CountsFailure many e before after
 counts many ReadFault before after h same = let wrong : false ≡ true = h (λ is. cc) in absurd cc

@@ -11,12 +11,13 @@ use Rattle.std.proofs.lemmas.Bool.Decides.{nat_tests}
 use Rattle.std.proofs.lemmas.List.{map-append, length-append, length-map, append-nil}
 use Rattle.table_model.specs.Name.{name_cmp, is_proper_name}
 use Rattle.table_model.specs.State.{State, Batch}
-use Rattle.table_model.specs.Table.{Table, IsTable}
+use Rattle.table_model.specs.Table.{Table, IsTable, row_limit}
 use Rattle.table_model.specs.declared.names.BatchName.{BatchName}
 use Rattle.table_model.specs.declared.refusal.Refusal.{Refusal}
 use Rattle.table_model.specs.declared.refusal.Refusal.TheVariants.{BadMagic}
 use Rattle.catalogue_join.specs.RowRange.{RowRange, IsRowRange, IsBefore, AreMaximal, rows_in as rows_deleted}
-use Rattle.segment_core.specs.Format.{Format, IsLawful, constant, number, valid_all, read_whole, ◌>>=◌}
+use Rattle.table_model.specs.Reading.{◌>>=◌}
+use Rattle.segment_core.specs.Format.{Format, IsLawful, constant, number, valid_all, read_whole}
 use Rattle.table_model.specs.Identifier.{same_text}
 use Rattle.segment_core.specs.Segment.{widths_of, canonical_segment}
 use Rattle.segment_core.specs.SegmentBytes.{batch_columns, HasBytesIn}
@@ -24,7 +25,7 @@ use Rattle.segment_core.proofs.BuildLemmas.{canonical_is_segment, canonical_rows
 use Rattle.segment_core.proofs.NumberLaws.{number_is_valid}
 use Rattle.segment_core.proofs.ValidLemmas.{has_bytes}
 use Rattle.segment_core.proofs.WidthLemmas.{widths_in-canonical}
-use Rattle.replica_store.specs.Replica.{AllFit, IsEntry}
+use Rattle.replica_store.specs.Replica.{AllFit, IsEntry, batch_limit}
 use Rattle.replica_store.specs.Segments.{Entry as Held, IsStored, rows_in, rows_entries}
 use Rattle.replica_store.specs.Exchange.{OfferForm}
 use Rattle.replica_store.proofs.RowsIn.{entries-rows_in}
@@ -40,7 +41,7 @@ use Rattle.column_file.proofs.SchemaWriting.{table_is_valid}
 
 -- ---- batches
 
-count_valid : (n : ℕ) → 1 ≤ n → n ≤ 65536 → row_count.valid n ≡ true
+count_valid : (n : ℕ) → 1 ≤ n → n ≤ row_limit → row_count.valid n ≡ true
 unfolding row_count
 count_valid zero some limit = absurd (omega arith)
 count_valid (suc n) some limit = number_is_valid 2 n (omega arith)
@@ -162,7 +163,7 @@ first_range : (rs : List RowRange) → StartsRanges [] rs
 first_range [] = tt
 first_range (r ∷ rs) = refl
 
-container_valid : (t : Table) (es : List Held) (rs : List RowRange) → IsTable t → AllByRecursion (HasBatchBytes t) es → length es ≤ 65536 → is_sorted name_cmp es ≡ true → AreMaximal rs → length rs < 18446744073709551616
+container_valid : (t : Table) (es : List Held) (rs : List RowRange) → IsTable t → AllByRecursion (HasBatchBytes t) es → length es ≤ batch_limit → is_sorted name_cmp es ≡ true → AreMaximal rs → length rs < 18446744073709551616
     → container.valid (t, (map entry_of es, map deleted_of rs)) ≡ true
 unfolding container batches name_count ranges
 container_valid t es rs table bytes limit sorted maximal few =
@@ -170,13 +171,13 @@ container_valid t es rs table bytes limit sorted maximal few =
     let ds = map deleted_of rs in
     let long : length items ≡ length es = length-map es entry_of in
     let many : length ds ≡ length rs = length-map rs deleted_of in
-    let count = and_from ((number 4).valid (length items)) (leb (length items) 65536) (number_is_valid 4 (length items) (omega arith)) (le-leb _ _ (omega arith)) in
+    let count = and_from ((number 4).valid (length items)) (leb (length items) batch_limit) (number_is_valid 4 (length items) (omega arith)) (le-leb _ _ (omega arith)) in
     let listed = and_from (eqb (length items) (length items)) (valid_all (batch t) [] items) (eq-eqb _ _ refl) (batches_valid t [] es bytes sorted (first_start es)) in
     let ranged = and_from (eqb (length ds) (length ds)) (valid_all range [] ds) (eq-eqb _ _ refl) (ranges_valid [] rs maximal (first_range rs)) in
     let deletions = and_from ((number 8).valid (length ds)) (eqb (length ds) (length ds) && valid_all range [] ds) (number_is_valid 8 (length ds) (omega arith)) ranged in
-    let held = and_from ((number 4).valid (length items) && leb (length items) 65536) (eqb (length items) (length items) && valid_all (batch t) [] items) count listed in
-    and_from ((head (codes "FLCF")).valid t) ((((number 4).valid (length items) && leb (length items) 65536) && (eqb (length items) (length items) && valid_all (batch t) [] items)) && ((number 8).valid (length ds) && (eqb (length ds) (length ds) && valid_all range [] ds))) (head_valid (codes "FLCF") t refl table)
-    (and_from (((number 4).valid (length items) && leb (length items) 65536) && (eqb (length items) (length items) && valid_all (batch t) [] items)) ((number 8).valid (length ds) && (eqb (length ds) (length ds) && valid_all range [] ds)) held deletions)
+    let held = and_from ((number 4).valid (length items) && leb (length items) batch_limit) (eqb (length items) (length items) && valid_all (batch t) [] items) count listed in
+    and_from ((head (codes "FLCF")).valid t) ((((number 4).valid (length items) && leb (length items) batch_limit) && (eqb (length items) (length items) && valid_all (batch t) [] items)) && ((number 8).valid (length ds) && (eqb (length ds) (length ds) && valid_all range [] ds))) (head_valid (codes "FLCF") t refl table)
+    (and_from (((number 4).valid (length items) && leb (length items) batch_limit) && (eqb (length items) (length items) && valid_all (batch t) [] items)) ((number 8).valid (length ds) && (eqb (length ds) (length ds) && valid_all range [] ds)) held deletions)
 
 -- what is valid is read whole from its own bytes
 pub whole_again : {A : Type 0} (f : Format A) → IsLawful f → (x : A) → f.valid x ≡ true → read_whole f (f.spell x) ≡ Ok x
@@ -213,7 +214,7 @@ file_valid : (t : Table) (state : State) (h : HasFile t state) → container.val
 file_valid t state h =
     let es = finite.entries state.batches in
     let within = h.within in
-    let limit : length (map (canonical_entry t) es) ≤ 65536 = (let l = within.limit in omega (arith, finite.len-entries state.batches, length-map es (canonical_entry t))) in
+    let limit : length (map (canonical_entry t) es) ≤ batch_limit = (let l = within.limit in omega (arith, finite.len-entries state.batches, length-map es (canonical_entry t))) in
     container_valid t (map (canonical_entry t) es) h.ranges h.schema (canonical_bytes t es h.schema within.fits h.names) limit
     (sorted_kept t es ∙ T_true (is_sorted name_cmp es) (finite.entries_sorted state.batches)) h.maximal h.count
 

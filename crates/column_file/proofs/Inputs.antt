@@ -4,7 +4,7 @@ use Rattle.std.specs.Io.KnownBytes.{Consumes, IsAtEnd}
 use Rattle.std.proofs.lemmas.List.{length-append, append-nil}
 use Rattle.table_model.specs.Faults.{IsWithin, GaveMore}
 use Rattle.table_model.specs.declared.refusal.Refusal.{Refusal}
-use Rattle.segment_core.specs.Format.{Reads}
+use Rattle.table_model.specs.Reading.{Reads}
 use Rattle.column_file.specs.Input.{Judges, IsUnread, ComesOfWhole, is_refusal_of_reading}
 use Rattle.table_model.specs.declared.counted.TheConstants.{READ_LIMIT}
 
@@ -56,7 +56,8 @@ consumes_chunk old mid new xs buffer chunk items n h k e f =
 pub judged : {X Y : Type 0} (view : X → Y) (result : Result X Refusal) (old new : Option (List ℕ)) (input : List ℕ) (meaning : List ℕ → Result Y Refusal) → Consumes old new input → IsAtEnd new → Reads view result (meaning input) → Judges view result old meaning
 judged view result None new input meaning h end reads = tt
 judged {X = X} {Y = Y} view (Ok x) (Some a) new input meaning h end reads = ap meaning (whole_input a new input h end) ∙ reads
-judged {X = X} {Y = Y} view (Err e) (Some a) new input meaning h end reads = λ not_memory _. ap meaning (whole_input a new input h end) ∙ reads not_memory
+judged view (Err e) (Some a) new input meaning h end (inl same) = λ _ _. ap meaning (whole_input a new input h end) ∙ same
+judged view (Err e) (Some a) new input meaning h end (inr memory) = λ not_memory _. absurd (not_memory memory)
 
 -- nothing is said of an input that wasn't read
 pub unread : {X Y : Type 0} (view : X → Y) (e : Refusal) (old : Option (List ℕ)) (meaning : List ℕ → Result Y Refusal) → IsUnread e → Judges {X = X} view (Err e) old meaning

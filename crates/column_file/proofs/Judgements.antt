@@ -7,7 +7,8 @@ use Rattle.table_model.specs.Table.{Table}
 use Rattle.table_model.specs.declared.refusal.Refusal.{Refusal}
 use Rattle.table_model.specs.declared.refusal.Refusal.TheVariants.{NotCanonical}
 use Rattle.catalogue_join.specs.RowRange.{RowRange, AreMaximal, rows_in as rows_deleted}
-use Rattle.segment_core.specs.Format.{AreBytes, read_whole, ◌>>=◌}
+use Rattle.table_model.specs.Reading.{◌>>=◌}
+use Rattle.segment_core.specs.Format.{AreBytes, read_whole}
 use Rattle.replica_store.specs.Segments.{Entry as Held}
 use Rattle.replica_store.specs.Exchange.{OfferForm, AreOffered}
 use Rattle.column_file.specs.SummaryBytes.{head}

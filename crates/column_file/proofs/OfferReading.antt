@@ -21,6 +21,7 @@ use Rattle.segment_core.specs.Format.{AreBytes, number, valid_all, read_whole}
 use Rattle.segment_core.specs.SegmentBytes.{batch_columns}
 use Rattle.replica_store.specs.Segments.{Entry as Held, IsStored, rows_in}
 use Rattle.replica_store.specs.Exchange.{OfferForm, AreOffered}
+use Rattle.replica_store.specs.Replica.{batch_limit}
 use Rattle.column_file.specs.SummaryBytes.{head, proper_name, precedes, is_after, batch_name, name_count}
 use Rattle.column_file.specs.ContainerBytes.{row_count, Entry, entry_of, name_of, batch, batches, Deleted, deleted_of, is_named, is_range, begins_after, range_parts, range, ranges, container, IsFound}
 use Rattle.column_file.specs.Files.{held_of, range_of, segments_of, offer_held, offer_read, IsRangeGiven}
@@ -31,7 +32,7 @@ use Rattle.column_file.proofs.SummaryWriting.{whole_read}
 
 -- the parts of a valid container
 pub record ContainerParts (t : Table) (es : List Entry) (ds : List Deleted) : Type 0 where
-  pub count : length es ≤ 65536
+  pub count : length es ≤ batch_limit
   pub batches : valid_all (batch t) [] es ≡ true
   pub ranges : valid_all range [] ds ≡ true
 
@@ -41,10 +42,10 @@ container_parts bytes t es ds fit is =
     let n = length es in
     let m = length ds in
     let valid = (container_is_lawful.takes (length bytes) bytes (t, (es, ds)) [] fit (whole_read container bytes (t, (es, ds)) is)).1 in
-    let a = and_parts ((head (codes "FLCF")).valid t) ((((number 4).valid n && leb n 65536) && (eqb n n && valid_all (batch t) [] es)) && ((number 8).valid m && (eqb m m && valid_all range [] ds))) valid in
-    let b = and_parts (((number 4).valid n && leb n 65536) && (eqb n n && valid_all (batch t) [] es)) ((number 8).valid m && (eqb m m && valid_all range [] ds)) a.1 in
-    let c = and_parts ((number 4).valid n && leb n 65536) (eqb n n && valid_all (batch t) [] es) b.0 in
-    let d = and_parts ((number 4).valid n) (leb n 65536) c.0 in
+    let a = and_parts ((head (codes "FLCF")).valid t) ((((number 4).valid n && leb n batch_limit) && (eqb n n && valid_all (batch t) [] es)) && ((number 8).valid m && (eqb m m && valid_all range [] ds))) valid in
+    let b = and_parts (((number 4).valid n && leb n batch_limit) && (eqb n n && valid_all (batch t) [] es)) ((number 8).valid m && (eqb m m && valid_all range [] ds)) a.1 in
+    let c = and_parts ((number 4).valid n && leb n batch_limit) (eqb n n && valid_all (batch t) [] es) b.0 in
+    let d = and_parts ((number 4).valid n) (leb n batch_limit) c.0 in
     let e = and_parts (eqb n n) (valid_all (batch t) [] es) c.1 in
     let f = and_parts ((number 8).valid m) (eqb m m && valid_all range [] ds) b.1 in
     let g = and_parts (eqb m m) (valid_all range [] ds) f.1 in

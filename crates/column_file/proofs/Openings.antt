@@ -8,7 +8,8 @@ use Rattle.table_model.specs.Table.{Table}
 use Rattle.table_model.specs.declared.refusal.Refusal.{Refusal}
 use Rattle.table_model.specs.declared.refusal.Refusal.TheVariants.{Memory, NotCanonical, WriteFault}
 use Rattle.catalogue_join.specs.RowRange.{RowRange}
-use Rattle.segment_core.specs.Format.{AreBytes, Reads, Writes, read_whole, ◌>>=◌}
+use Rattle.table_model.specs.Reading.{Reads, ◌>>=◌}
+use Rattle.segment_core.specs.Format.{AreBytes, Writes, read_whole}
 use Rattle.table_model.specs.Faults.{AppendsFront}
 use Rattle.table_model.specs.Identifier.{same_text}
 use Rattle.segment_core.specs.Segment.{widths_in, widths_of, canonical_forms}
@@ -235,7 +236,7 @@ verdict_matched bytes text start c (Ok done) before after from written = go (is_
 
     go : (b : Bool) → is_whole c ≡ b → Reads (λ (done : Unit {0}). done) (cond b (Ok done) (Err (NotCanonical n))) (matched bytes text)
     go true test = whole_matched bytes text c (is_whole c) came refl test
-    go false test = λ not_memory. other_matched bytes text c (is_whole c) n came refl test refl
+    go false test = inl (other_matched bytes text c (is_whole c) n came refl test refl)
 verdict_matched bytes text start c (Err WriteFault) before after from written = go (has_differed c) refl
   where
     n : ℕ
@@ -248,9 +249,9 @@ verdict_matched bytes text start c (Err WriteFault) before after from written = 
     came = front.3 ∙ ap (λ (w : List ℕ × List ℕ). told w ++ front.0) from
 
     go : (b : Bool) → has_differed c ≡ b → Reads (λ (done : Unit {0}). done) (cond b (Err (NotCanonical n)) (Err Memory)) (matched bytes text)
-    go true test = λ not_memory. front_matched bytes text c n front.0 front.1 front.2 came (ltb-true n (length c.1) test) refl
-    go false test = λ not_memory. absurd (not_memory refl)
-verdict_matched bytes text start c (Err other) before after from written = λ not_memory. absurd (not_memory refl)
+    go true test = inl (front_matched bytes text c n front.0 front.1 front.2 came (ltb-true n (length c.1) test) refl)
+    go false test = inr refl
+verdict_matched bytes text start c (Err other) before after from written = inr refl
 
 -- ---- texts that differ inside
 

@@ -6,6 +6,7 @@ use Rattle.std.specs.List.Sorted.{IsStrictlySortedBy}
 use Rattle.std.specs.Ordering.{nat_cmp, ordering_then, is_lt, is_eq}
 use Rattle.std.specs.declared.cmp.Ordering.TheVariants.{Less}
 use Rattle.std.specs.FinSet as set
+use Rattle.table_model.specs.Table.{row_limit}
 use Rattle.table_model.specs.Name.{row_name_cmp}
 use Rattle.table_model.specs.declared.names.BatchName.{BatchName}
 use Rattle.table_model.specs.declared.names.RowName.{RowName}
@@ -78,17 +79,17 @@ place q = row_place q.batch q.ordinal
 -- rows in ascending order of their places, from n on
 abbrev climbs : ℕ → List RowName → Type 0
 climbs n [] = Unit {0}
-climbs n (q ∷ qs) = (n ≤ place q) × (q.batch.origin.0 < 4294967296) × (q.batch.number.0 < 4294967296) × (q.ordinal < 65536) × climbs (place q + 1) qs
+climbs n (q ∷ qs) = (n ≤ place q) × (q.batch.origin.0 < 4294967296) × (q.batch.number.0 < 4294967296) × (q.ordinal < row_limit) × climbs (place q + 1) qs
 
 climbs_lower : (qs : List RowName) (n m : ℕ) → climbs n qs → m ≤ n → climbs m qs
 climbs_lower [] n m c h = tt
 climbs_lower (q ∷ qs) n m c h = (omega (arith, c.0), c.1, c.2, c.3, c.4)
 
-less_numbers : (o n x o' n' x' : ℕ) → n < 4294967296 → n' < 4294967296 → x < 65536 → x' < 65536 → (o * 4294967296 + n) * 131072 + x < (o' * 4294967296 + n') * 131072 + x'
+less_numbers : (o n x o' n' x' : ℕ) → n < 4294967296 → n' < 4294967296 → x < row_limit → x' < row_limit → (o * 4294967296 + n) * 131072 + x < (o' * 4294967296 + n') * 131072 + x'
     → ordering_then (ordering_then (nat_cmp o o') (nat_cmp n n')) (nat_cmp x x') ≡ Less
 less_numbers o n x o' n' x' hn hn' hx hx' h = grind (arith, nat_tests)
 
-all_above : (q : RowName) (qs : List RowName) (n : ℕ) → q.batch.number.0 < 4294967296 → q.ordinal < 65536 → place q < n → climbs n qs → AllByRecursion (λ p. row_name_cmp q p ≡ Less) qs
+all_above : (q : RowName) (qs : List RowName) (n : ℕ) → q.batch.number.0 < 4294967296 → q.ordinal < row_limit → place q < n → climbs n qs → AllByRecursion (λ p. row_name_cmp q p ≡ Less) qs
 all_above q [] n b x h c = tt
 all_above q (p ∷ qs) n b x h c =
     (less_numbers q.batch.origin.0 q.batch.number.0 q.ordinal p.batch.origin.0 p.batch.number.0 p.ordinal b c.2 x c.3 (omega (arith, c.0)), all_above q qs (place p + 1) b x (omega (arith, c.0)) c.4)
@@ -98,12 +99,12 @@ unfolding IsStrictlySortedBy
 ascending [] n c = tt
 ascending (q ∷ qs) n c = (all_above q qs (place q + 1) c.2 c.3 (omega arith) c.4, ascending qs (place q + 1) c.4)
 
-rows_climb : (batch : BatchName) (count k n : ℕ) (rest : List RowName) → batch.origin.0 < 4294967296 → batch.number.0 < 4294967296 → k + count ≤ 65536 → n ≤ row_place batch k → climbs (row_place batch (k + count)) rest → climbs n (row_names batch k count ++ rest)
+rows_climb : (batch : BatchName) (count k n : ℕ) (rest : List RowName) → batch.origin.0 < 4294967296 → batch.number.0 < 4294967296 → k + count ≤ row_limit → n ≤ row_place batch k → climbs (row_place batch (k + count)) rest → climbs n (row_names batch k count ++ rest)
 rows_climb batch zero k n rest o m b h c = climbs_lower rest (row_place batch (k + 0)) n c (omega arith)
 rows_climb batch (suc count) k n rest o m b h c =
     (h, o, m, omega arith, rows_climb batch count (k + 1) (row_place batch k + 1) rest o m (omega arith) (omega arith) (climbs_lower rest (row_place batch (k + suc count)) (row_place batch (k + 1 + count)) c (omega arith)))
 
-after_numbers : (o n m o' n' x : ℕ) → n < 4294967296 → n' < 4294967296 → m < 65536 → x < 65536 → (is_lt (ordering_then (nat_cmp o o') (nat_cmp n n')) || (is_eq (ordering_then (nat_cmp o o') (nat_cmp n n')) && ltb (m + 1) x)) ≡ true
+after_numbers : (o n m o' n' x : ℕ) → n < 4294967296 → n' < 4294967296 → m < row_limit → x < row_limit → (is_lt (ordering_then (nat_cmp o o') (nat_cmp n n')) || (is_eq (ordering_then (nat_cmp o o') (nat_cmp n n')) && ltb (m + 1) x)) ≡ true
     → (o * 4294967296 + n) * 131072 + (m + 1) ≤ (o' * 4294967296 + n') * 131072 + x
 after_numbers o n m o' n' x hn hn' hm hx h = grind (arith, nat_tests)
 
@@ -117,7 +118,7 @@ listed_climb [] n h begins = tt
 listed_climb (r ∷ rs) n h begins =
     let one = h.0 in
     let within : r.0.ordinal ≤ r.1 = one.not_empty in
-    let last : r.1 < 65536 = one.last in
+    let last : r.1 < row_limit = one.last in
     let far : r.0.ordinal + (r.1 + 1 - r.0.ordinal) ≡ r.1 + 1 = omega arith in
     let rest = listed_climb rs (row_place r.0.batch (r.1 + 1)) h.2 (next r rs one h.1 h.2) in
     rows_climb r.0.batch (r.1 + 1 - r.0.ordinal) r.0.ordinal n (rows_listed rs) one.origin one.number (omega arith) begins (subst (λ (k : ℕ). climbs (row_place r.0.batch k) (rows_listed rs)) (sym far) rest)
@@ -126,7 +127,7 @@ listed_climb (r ∷ rs) n h begins =
     next r [] one before h = tt
     next r (q ∷ rs) one before h =
         let other = h.0 in
-        let short : q.0.ordinal < 65536 = (let a = other.not_empty in let b = other.last in omega arith) in
+        let short : q.0.ordinal < row_limit = (let a = other.not_empty in let b = other.last in omega arith) in
         after_numbers r.0.batch.origin.0 r.0.batch.number.0 r.1 q.0.batch.origin.0 q.0.batch.number.0 q.0.ordinal one.number other.number one.last short before
 
 -- ---- the one list

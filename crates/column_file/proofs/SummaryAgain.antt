@@ -17,6 +17,7 @@ use Rattle.catalogue_join.specs.Run.{names_listed, names_in, run_shape}
 use Rattle.catalogue_join.proofs.NameSets.{contains-names_in, is_bounded, same_name, same_name_parts, spot}
 use Rattle.segment_core.specs.Format.{number, valid_all, read_whole}
 use Rattle.segment_core.proofs.NumberLaws.{number_is_valid}
+use Rattle.replica_store.specs.Replica.{batch_limit}
 use Rattle.column_file.specs.Ordered.{in_order}
 use Rattle.column_file.specs.SummaryBytes.{head, is_after, batch_name, name_count, names, summary, summary_bytes, summary_read}
 use Rattle.column_file.specs.Files.{IsNumbered, SummariesAreReadAgain}
@@ -63,21 +64,21 @@ first_start : (xs : List BatchName) → Starts [] xs
 first_start [] = tt
 first_start (x ∷ xs) = refl
 
-summary_valid : (t : Table) (xs : List BatchName) → IsTable t → length xs ≤ 65536 → IsStrictlySortedBy name_cmp xs → AllByRecursion IsWritten xs → summary.valid (t, xs) ≡ true
+summary_valid : (t : Table) (xs : List BatchName) → IsTable t → length xs ≤ batch_limit → IsStrictlySortedBy name_cmp xs → AllByRecursion IsWritten xs → summary.valid (t, xs) ≡ true
 unfolding summary names name_count
 summary_valid t xs table limit sorted written =
     let n = length xs in
-    let count = and_from ((number 4).valid n) (leb n 65536) (number_is_valid 4 n (omega arith)) (le-leb _ _ limit) in
+    let count = and_from ((number 4).valid n) (leb n batch_limit) (number_is_valid 4 n (omega arith)) (le-leb _ _ limit) in
     let listed = and_from (eqb n n) (valid_all batch_name [] xs) (eq-eqb _ _ refl) (names_valid [] xs sorted written (first_start xs)) in
-    and_from ((head (codes "FLSM")).valid t) (((number 4).valid n && leb n 65536) && (eqb n n && valid_all batch_name [] xs)) (head_valid (codes "FLSM") t refl table)
-    (and_from ((number 4).valid n && leb n 65536) (eqb n n && valid_all batch_name [] xs) count listed)
+    and_from ((head (codes "FLSM")).valid t) (((number 4).valid n && leb n batch_limit) && (eqb n n && valid_all batch_name [] xs)) (head_valid (codes "FLSM") t refl table)
+    (and_from ((number 4).valid n && leb n batch_limit) (eqb n n && valid_all batch_name [] xs) count listed)
 
 pub summaries_are_read_again : SummariesAreReadAgain
 summaries_are_read_again s h =
     let xs = in_order name_cmp s.names in
     let listable = h.listable in
     let listed = listed_names s.names in
-    let limit : length xs ≤ 65536 = (let l = listable.limit in omega (arith, length-in_order s.names)) in
+    let limit : length xs ≤ batch_limit = (let l = listable.limit in omega (arith, length-in_order s.names)) in
     let has : (q : BatchName) → list_any (same_name q) xs ≡ true → set.contains s.names q ≡ true = λ q e. sym (members-in_order name_cmp names_total s.names q) ∙ e in
     let written = each_among IsWritten xs (λ q e. (h.numbered q (has q e), listable.proper q (has q e))) in
     let read : read_whole summary (summary_bytes s) ≡ Ok (s.schema, xs) = whole_again summary summary_is_lawful (s.schema, xs) (summary_valid s.schema xs h.schema limit listed.ascending written) in

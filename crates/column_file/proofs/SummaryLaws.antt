@@ -10,6 +10,7 @@ use Rattle.segment_core.specs.Format.{Format, IsLawful, raw, number, before, all
 use Rattle.table_model.specs.Identifier.{same_text}
 use Rattle.segment_core.proofs.FormatLaws.{raw_is_lawful, seen_is_lawful, checked_is_lawful, before_is_lawful, all_is_lawful}
 use Rattle.segment_core.proofs.NumberLaws.{number_is_lawful}
+use Rattle.replica_store.specs.Replica.{batch_limit}
 use Rattle.column_file.specs.SchemaBytes.{schema}
 use Rattle.column_file.specs.SummaryBytes.{version, head, any_name, proper_name, is_after, batch_name, name_count, names, summary}
 use Rattle.column_file.proofs.SchemaLaws.{schema_is_lawful}
@@ -69,7 +70,7 @@ batch_name_is_lawful front = checked_is_lawful proper_name (is_after front) BadO
 
 pub name_count_is_lawful : IsLawful name_count
 unfolding name_count
-name_count_is_lawful = checked_is_lawful (number 4) (λ n. leb n 65536) BadCount (number_is_lawful 4)
+name_count_is_lawful = checked_is_lawful (number 4) (λ n. leb n batch_limit) BadCount (number_is_lawful 4)
 
 pub names_is_lawful : IsLawful names
 unfolding names

@@ -11,6 +11,7 @@ use Rattle.table_model.specs.declared.refusal.Refusal.TheVariants.{TrailingBytes
 use Rattle.segment_core.specs.Format.{Format, AreBytes, number, all, valid_all, read_whole}
 use Rattle.segment_core.proofs.FormatLaws.{bind_ok, guard_ok}
 use Rattle.replica_store.specs.Exchange.{AreListable}
+use Rattle.replica_store.specs.Replica.{batch_limit}
 use Rattle.column_file.specs.SchemaBytes.{schema}
 use Rattle.column_file.specs.SummaryBytes.{version, head, any_name, proper_name, is_after, batch_name, name_count, names, summary}
 use Rattle.column_file.proofs.SummaryLaws.{summary_is_lawful}
@@ -57,14 +58,14 @@ each_proper front (x ∷ xs) valid =
     ((and_parts (any_name.valid x) (is_proper_name x) w.0).1, each_proper (front ++ x ∷ []) xs v.1)
 
 -- the names of a summary that was read are not too many, and each is proper
-pub names_read : (bytes : List ℕ) (t : Table) (xs : List BatchName) → AreBytes bytes → read_whole summary bytes ≡ Ok (t, xs) → (length xs ≤ 65536) × All (λ name. IsTrue (is_proper_name name)) xs
+pub names_read : (bytes : List ℕ) (t : Table) (xs : List BatchName) → AreBytes bytes → read_whole summary bytes ≡ Ok (t, xs) → (length xs ≤ batch_limit) × All (λ name. IsTrue (is_proper_name name)) xs
 unfolding summary names name_count
 names_read bytes t xs fit is =
     let n = length xs in
     let valid = (summary_is_lawful.takes (length bytes) bytes (t, xs) [] fit (whole_read summary bytes (t, xs) is)).1 in
-    let a = and_parts ((head (codes "FLSM")).valid t) (((number 4).valid n && leb n 65536) && (eqb n n && valid_all batch_name [] xs)) valid in
-    let b = and_parts ((number 4).valid n && leb n 65536) (eqb n n && valid_all batch_name [] xs) a.1 in
-    let c = and_parts ((number 4).valid n) (leb n 65536) b.0 in
+    let a = and_parts ((head (codes "FLSM")).valid t) (((number 4).valid n && leb n batch_limit) && (eqb n n && valid_all batch_name [] xs)) valid in
+    let b = and_parts ((number 4).valid n && leb n batch_limit) (eqb n n && valid_all batch_name [] xs) a.1 in
+    let c = and_parts ((number 4).valid n) (leb n batch_limit) b.0 in
     let d = and_parts (eqb n n) (valid_all batch_name [] xs) b.1 in
     (leb-true _ _ c.1, All-from_recursion (λ name. IsTrue (is_proper_name name)) xs (each_proper [] xs d.1))
 

@@ -12,7 +12,8 @@ use Rattle.table_model.specs.declared.names.Origin.{Origin}
 use Rattle.table_model.specs.declared.refusal.Refusal.{Refusal}
 use Rattle.table_model.specs.declared.refusal.Refusal.TheVariants.{Memory, BadName, NotCanonical}
 use Rattle.catalogue_join.specs.RowRange.{RowRange, AreMaximal, rows_in as rows_deleted}
-use Rattle.segment_core.specs.Format.{read_whole, Writes, ◌>>=◌}
+use Rattle.table_model.specs.Reading.{◌>>=◌}
+use Rattle.segment_core.specs.Format.{read_whole, Writes}
 use Rattle.table_model.specs.Identifier.{same_text}
 use Rattle.segment_core.specs.Segment.{SegmentForm, batch_of, widths_in, canonical_forms, canonical_segment, canonical_again}
 use Rattle.segment_core.specs.SegmentBytes.{HasBytesIn}

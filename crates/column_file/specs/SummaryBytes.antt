@@ -1,13 +1,15 @@
 -- A summary in bytes: what a replica holds, as its table's schema and the names of its batches.
 use Rattle.std.specs.Prelude.{ℕ, ◌-◌, nat_le, nat_lt, Bool, ◌&&◌, ◌||◌, ◌==◌, List, length, slice_index_or, codes, Some, Result, Ok}
 use Rattle.std.specs.FinSet as set
+use Rattle.replica_store.specs.Replica.{batch_limit}
 use Rattle.column_file.specs.Ordered.{in_order}
 use Rattle.table_model.specs.Name.{name_cmp, is_proper_name}
 use Rattle.table_model.specs.Table.{Table}
 use Rattle.table_model.specs.declared.names.BatchName.{BatchName}
 use Rattle.table_model.specs.declared.refusal.Refusal.{Refusal}
 use Rattle.table_model.specs.declared.refusal.Refusal.TheVariants.{BadMagic, BadVersion, BadName, BadOrder, BadCount}
-use Rattle.segment_core.specs.Format.{Format, IsLawful, seen, checked, before, all, number, constant, read_whole, ◌>>=◌}
+use Rattle.table_model.specs.Reading.{◌>>=◌}
+use Rattle.segment_core.specs.Format.{Format, IsLawful, seen, checked, before, all, number, constant, read_whole}
 use Rattle.replica_store.specs.Exchange.{SummaryForm}
 use Rattle.column_file.specs.SchemaBytes.{schema}
 
@@ -41,7 +43,7 @@ batch_name front = checked proper_name (is_after front) BadOrder
 
 -- how many names there are: at most 65,536
 unfoldable pub name_count : Format ℕ
-name_count = checked (number 4) (λ n. nat_le n 65536) BadCount
+name_count = checked (number 4) (λ n. nat_le n batch_limit) BadCount
 
 -- names in strictly ascending order
 unfoldable pub names : Format (List BatchName)

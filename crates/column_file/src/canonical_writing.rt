@@ -4,6 +4,7 @@ ghost use Rattle.std.specs.List.{All};
 ghost use Rattle.segment_core.specs.Format.{Format, Writes, all};
 ghost use Rattle.segment_core.specs.Segment.{canonical_again};
 ghost use Rattle.replica_store.specs.Segments.{IsStored};
+ghost use Rattle.replica_store.specs.Replica.{batch_limit};
 ghost use Rattle.column_file.specs.ContainerBytes.{batch, batches, deleted_of, container};
 ghost use Rattle.column_file.specs.Files.{chosen, AreChosen, AreNumbered, canonical_as_read, canonical_file, Exports, HasFile, OpensTo};
 
@@ -84,7 +85,7 @@ fn write_canonical_batches<W: Write>(
     second: &[(BatchName, Segment)],
     second_made: &[Option<Segment>],
 ) -> Result<(), Refusal>
-    requires limit { length first.now + length second.now ≤ 65536 }
+    requires limit { length first.now + length second.now ≤ batch_limit }
     requires first { All (IsStored schema.now) first.now }
     requires first_made { AreChosen first.now first_made.now }
     requires second { All (IsStored schema.now) second.now }
@@ -108,7 +109,7 @@ fn write_canonical<W: Write>(
     second_made: &[Option<Segment>],
     deleted: &[(RowName, u16)],
 ) -> Result<(), Refusal>
-    requires limit { length first.now + length second.now ≤ 65536 }
+    requires limit { length first.now + length second.now ≤ batch_limit }
     requires first { All (IsStored schema.now) first.now }
     requires first_made { AreChosen first.now first_made.now }
     requires second { All (IsStored schema.now) second.now }

@@ -2,8 +2,9 @@
 //! ranges of deleted rows.
 ghost use Rattle.std.specs.Prelude.{◌≡◌, ◌-◌, ◌^◌, ◌<◌, ◌≤◌, length, map, codes, IsTrue, IfOk, IfErr};
 ghost use Rattle.std.specs.List.{All};
-ghost use Rattle.table_model.specs.Table.{IsBatch};
-ghost use Rattle.segment_core.specs.Format.{Format, Reads, number, before, all, read_whole};
+ghost use Rattle.table_model.specs.Table.{IsBatch, row_limit};
+ghost use Rattle.table_model.specs.Reading.{Reads};
+ghost use Rattle.segment_core.specs.Format.{Format, number, before, all, read_whole};
 ghost use Rattle.segment_core.specs.Segment.{batch_of, widths_in, widths_of};
 ghost use Rattle.segment_core.specs.SegmentBytes.{batch_columns};
 ghost use Rattle.column_file.specs.SummaryBytes.{head, any_name, is_after, batch_name, name_count, precedes};
@@ -23,7 +24,7 @@ pub(crate) const CONTAINER: [u8; 4] = *b"FLCF";
 fn read_row_count(total: usize, bytes: &[u8]) -> Result<(usize, &[u8]), Refusal>
     ensures read { Reads (λ x. (x.0, x.1.now)) result (row_count.read total bytes.now) }
     ensures some { IfOk result (λ x. 1 ≤ x.0) }
-    ensures limit { IfOk result (λ x. x.0 ≤ 65536) }
+    ensures limit { IfOk result (λ x. x.0 ≤ row_limit) }
     ensures fault { IfErr result (λ e. IsTrue (is_fault_of_bytes e)) }
 {
     let (less, rest) = read_number(total, bytes, 2)?;
@@ -63,7 +64,7 @@ fn read_segment<'a>(
     rows: usize,
 ) -> Result<(Segment, &'a [u8]), Refusal>
     requires some { 1 ≤ rows }
-    requires limit { rows ≤ 65536 }
+    requires limit { rows ≤ row_limit }
     requires rest { IsRest bytes.now rest.now }
     ensures read { Reads (λ x. (x.0.forms, x.1.now)) result ((batch_columns schema.now rows).read (length bytes.now) rest.now) }
     ensures rest { IfOk result (λ x. IsRest bytes.now x.1.now) }

@@ -7,6 +7,7 @@ ghost use Rattle.segment_core.specs.Format.{Format, Writes, all};
 ghost use Rattle.segment_core.specs.Segment.{batch_of, widths_in, widths_of};
 ghost use Rattle.segment_core.specs.SegmentBytes.{HasBytesIn};
 ghost use Rattle.replica_store.specs.Segments.{IsStored};
+ghost use Rattle.replica_store.specs.Replica.{batch_limit};
 ghost use Rattle.column_file.specs.ContainerBytes.{Entry, entry_of, batch, batches, Deleted, deleted_of, range, ranges, container};
 ghost use Rattle.column_file.specs.Files.{HasBatchBytes, IsNumbered};
 
@@ -59,7 +60,7 @@ fn write_batches<W: Write>(
     schema: &Schema,
     entries: &[(BatchName, Segment)],
 ) -> Result<(), Refusal>
-    requires limit { length entries.now ≤ 65536 }
+    requires limit { length entries.now ≤ batch_limit }
     requires stored { All (IsStored schema.now) entries.now }
     ensures again { OnOk result (All (HasBatchBytes schema.now) entries.now) }
     ensures bytes { Writes result (W.contents writer.old.0) (W.contents writer.new.0) writer.old.1 writer.new.1 ((batches schema.now).spell (map entry_of entries.now)) }
@@ -109,7 +110,7 @@ pub(crate) fn write_container<W: Write>(
     entries: &[(BatchName, Segment)],
     deleted: &[(RowName, u16)],
 ) -> Result<(), Refusal>
-    requires limit { length entries.now ≤ 65536 }
+    requires limit { length entries.now ≤ batch_limit }
     requires stored { All (IsStored schema.now) entries.now }
     ensures again { OnOk result (All (HasBatchBytes schema.now) entries.now) }
     ensures bytes { Writes result (W.contents writer.old.0) (W.contents writer.new.0) writer.old.1 writer.new.1

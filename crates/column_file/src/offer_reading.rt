@@ -5,7 +5,7 @@ ghost use Rattle.std.specs.List.{All};
 ghost use Rattle.table_model.specs.Faults.{IsWithin, GaveMore};
 ghost use Rattle.table_model.specs.Name.{is_proper_name};
 ghost use Rattle.catalogue_join.specs.RowRange.{RowRange, rows_in};
-ghost use Rattle.segment_core.specs.Format.{Reads};
+ghost use Rattle.table_model.specs.Reading.{Reads};
 ghost use Rattle.column_file.specs.Files.{IsRangeGiven, offer_read};
 ghost use Rattle.column_file.specs.Input.{Judges, CountsFailure, ComesOfWhole, is_refusal_of_reading};
 

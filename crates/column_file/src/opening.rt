@@ -3,8 +3,9 @@ ghost use Rattle.std.specs.Prelude.{◌≡◌, ◌≤◌, ◌==◌, ◌&&◌, le
 ghost use Rattle.std.specs.Io.KnownBytes.{IsAtEnd};
 ghost use Rattle.std.specs.List.{All};
 ghost use Rattle.table_model.specs.Faults.{IsWithin, GaveMore};
-ghost use Rattle.segment_core.specs.Format.{Reads};
+ghost use Rattle.table_model.specs.Reading.{Reads};
 ghost use Rattle.replica_store.specs.Segments.{IsStored};
+ghost use Rattle.replica_store.specs.Replica.{batch_limit};
 ghost use Rattle.column_file.specs.ContainerBytes.{entry_of, deleted_of, container};
 ghost use Rattle.column_file.specs.Differing.{matched};
 ghost use Rattle.column_file.specs.Files.{AreCanonicalOf, is_same_range, canonical_read, opened_from, checked_from};
@@ -64,7 +65,7 @@ fn compared(
     entries: &[(BatchName, Segment)],
     deleted: &[(RowName, u16)],
 ) -> Result<(), Refusal>
-    requires limit { length entries.now ≤ 65536 }
+    requires limit { length entries.now ≤ batch_limit }
     requires stored { All (IsStored schema.now) entries.now }
     ensures { Reads (λ x. x) result (matched bytes.now (container.spell (schema.now, (map entry_of entries.now, map deleted_of deleted.now)))) }
 {

@@ -2,7 +2,8 @@
 ghost use Rattle.std.specs.Prelude.{◌≡◌, ◌≤◌, length, map, IsTrue, IfErr};
 ghost use Rattle.std.specs.List.{list_all, list_any};
 ghost use Rattle.table_model.specs.Table.{has_name, ColumnShape};
-ghost use Rattle.segment_core.specs.Format.{Format, Reads, all};
+ghost use Rattle.table_model.specs.Reading.{Reads};
+ghost use Rattle.segment_core.specs.Format.{Format, all};
 ghost use Rattle.column_file.specs.Input.{is_fault_of_bytes};
 ghost use Rattle.column_file.specs.SchemaBytes.{text, is_upper, is_name, name, column_type, shape_of, column, column_count, schema};
 

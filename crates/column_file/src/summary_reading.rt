@@ -5,14 +5,15 @@ ghost use Rattle.std.specs.FinSet as set;
 ghost use Rattle.std.specs.Io.KnownBytes.{IsAtEnd};
 ghost use Rattle.table_model.specs.Faults.{IsWithin, GaveMore};
 ghost use Rattle.table_model.specs.Name.{is_proper_name};
-ghost use Rattle.segment_core.specs.Format.{Format, Reads, number, all, constant, read_whole};
+ghost use Rattle.table_model.specs.Reading.{Reads};
+ghost use Rattle.segment_core.specs.Format.{Format, number, all, constant, read_whole};
 ghost use Rattle.column_file.specs.SummaryBytes.{version, head, proper_name, precedes, is_after, batch_name, name_count, names, summary, summary_read};
 ghost use Rattle.column_file.specs.Input.{Judges, CountsFailure, ComesOfWhole, is_fault_of_bytes, is_refusal_of_reading};
 
 use crate::input::read_input;
 use crate::schema_reading::read_schema;
 use catalogue_join::Held;
-use replica_store::Summary;
+use replica_store::{MAX_BATCHES, Summary};
 use segment_core::{place_of, read_number};
 use std::alloc::{AllocError, Global};
 use std::io::Read;
@@ -139,7 +140,7 @@ pub(crate) fn read_name_count(total: usize, bytes: &[u8]) -> Result<(usize, &[u8
     ensures fault { IfErr result (λ e. IsTrue (is_fault_of_bytes e)) }
 {
     let (count, rest) = read_number(total, bytes, 4)?;
-    if 65_536 < count {
+    if count > MAX_BATCHES as u64 {
         return Err(Refusal::BadCount(place_of(total, bytes)));
     }
     Ok((count as usize, rest))

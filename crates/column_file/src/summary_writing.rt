@@ -5,6 +5,7 @@ ghost use Rattle.table_model.specs.declared.names.BatchName.{BatchName};
 ghost use Rattle.catalogue_join.specs.Run.{names_of};
 ghost use Rattle.segment_core.specs.Format.{Format, Writes, all, spell_all};
 ghost use Rattle.table_model.specs.Name.{name_cmp};
+ghost use Rattle.replica_store.specs.Replica.{batch_limit};
 ghost use Rattle.column_file.specs.Ordered.{in_order};
 ghost use Rattle.column_file.specs.SummaryBytes.{head, batch_name, names, summary_bytes, summary_read};
 ghost use Rattle.column_file.specs.Files.{HasSummaryBytes};
@@ -71,7 +72,7 @@ fn write_name_list<W: Write>(writer: &mut Counted<W>, held: &Held) -> Result<(),
 
 /// Writes how many names a set has, at most 65,536, and these in ascending order.
 fn write_names<W: Write>(writer: &mut Counted<W>, held: &Held) -> Result<(), Refusal>
-    requires { set.len held.now ≤ 65536 }
+    requires { set.len held.now ≤ batch_limit }
     ensures { Writes result (W.contents writer.old.0) (W.contents writer.new.0) writer.old.1 writer.new.1 (names.spell (in_order name_cmp held.now)) }
 {
     write_number(writer, held.len() as u64, 4)?;

@@ -1,5 +1,5 @@
 -- The groups that a map has are the groups of the rows, in the order of the map's keys.
-use Rattle.std.proofs.Common.{◌≡◌, ℕ, zero, suc, ◌+◌, ◌^◌, ◌≤◌, ◌<◌, Bool, true, false, cond, ◌||◌, List, [], ◌∷◌, ◌++◌, map, filter, length, get_or, take, Option, Some, None, ℤ, pos, All, AllPairs, refl, sym, ap, ◌∙◌, arith, append_assoc}
+use Rattle.std.proofs.Common.{◌≡◌, ℕ, zero, suc, ◌+◌, ◌≤◌, ◌<◌, Bool, true, false, cond, ◌||◌, List, [], ◌∷◌, ◌++◌, map, filter, length, get_or, take, Option, Some, None, ℤ, pos, All, AllPairs, refl, sym, ap, ◌∙◌, arith, append_assoc}
 use Rattle.std.specs.BTreeMap.{BTreeMap, IsOrdered, is_at, keys}
 use Rattle.std.specs.FinMap as finite
 use Rattle.std.specs.Map.{keys_of, lookup}
@@ -13,7 +13,7 @@ use Rattle.std.specs.Ordering.{eq_by_cmp}
 use Rattle.std.specs.declared.cmp.Ordering.TheVariants.{Less}
 use Rattle.std.proofs.lemmas.Int.{ints}
 use Rattle.std.proofs.lemmas.List.{map-append, take_more}
-use Rattle.table_model.specs.Group.{key_cmp, key_of, group_at, groups_of, keys_in, rows_with, values_in}
+use Rattle.table_model.specs.Group.{key_cmp, key_of, group_at, groups_of, keys_in, rows_with, values_in, state_row_limit}
 use Rattle.table_model.specs.Meaning.{fold_value, once_if}
 use Rattle.table_model.specs.State.{Cells, same_cells}
 use Rattle.table_model.specs.Table.{Table, ColumnShape, IsRow, AreRows}
@@ -47,18 +47,18 @@ values_small : (a : Aggregate) (table : Table) (rows : List Cells) → AreFew ta
 values_small Rows table rows few = zeros_small rows
 values_small (Folded fold distinct place) table rows few = small_values table.columns rows place few.fit
 
-values_few : (a : Aggregate) (table : Table) (rows : List Cells) → AreFew table rows → length (aggregate_values a rows) ≤ 2 ^ 32
+values_few : (a : Aggregate) (table : Table) (rows : List Cells) → AreFew table rows → length (aggregate_values a rows) ≤ state_row_limit
 values_few Rows table rows few = omega (arith, zeros_length rows, few.few)
 values_few (Folded fold distinct place) table rows few = omega (arith, length-values_in rows place, few.few)
 
 -- COUNT(*) counts the rows
-pub rows_value : (table : Table) (rows : List Cells) (t : Tally) (field : Field) → ((distinct : Bool) (values : List ℤ) → length values ≤ 2 ^ 32 → AreSmall values → IsTally values t → kind_of t ≡ fold_kind distinct Count → field ≡ fold_value Count (once_if distinct values)) → AreFew table rows → IsHeld rows Rows t → field ≡ aggregate_value Rows rows
+pub rows_value : (table : Table) (rows : List Cells) (t : Tally) (field : Field) → ((distinct : Bool) (values : List ℤ) → length values ≤ state_row_limit → AreSmall values → IsTally values t → kind_of t ≡ fold_kind distinct Count → field ≡ fold_value Count (once_if distinct values)) → AreFew table rows → IsHeld rows Rows t → field ≡ aggregate_value Rows rows
 rows_value table rows t field is few h =
     is false (aggregate_values Rows rows) (values_few Rows table rows few) (values_small Rows table rows few) h.values h.kind
     ∙ ap (λ n. Whole (pos n)) (zeros_length rows)
 
 -- a set function of a column
-pub folded_value : (fold : Fold) (distinct : Bool) (place : ℕ) (table : Table) (rows : List Cells) (t : Tally) (field : Field) → ((each : Bool) (values : List ℤ) → length values ≤ 2 ^ 32 → AreSmall values → IsTally values t → kind_of t ≡ fold_kind each fold → field ≡ fold_value fold (once_if each values)) → AreFew table rows → IsHeld rows (Folded fold distinct place) t → field ≡ aggregate_value (Folded fold distinct place) rows
+pub folded_value : (fold : Fold) (distinct : Bool) (place : ℕ) (table : Table) (rows : List Cells) (t : Tally) (field : Field) → ((each : Bool) (values : List ℤ) → length values ≤ state_row_limit → AreSmall values → IsTally values t → kind_of t ≡ fold_kind each fold → field ≡ fold_value fold (once_if each values)) → AreFew table rows → IsHeld rows (Folded fold distinct place) t → field ≡ aggregate_value (Folded fold distinct place) rows
 folded_value fold distinct place table rows t field is few h =
     is distinct (values_in place rows) (values_few (Folded fold distinct place) table rows few) (values_small (Folded fold distinct place) table rows few) h.values h.kind
 

@@ -6,7 +6,7 @@ use Rattle.std.specs.List.{list_any}
 use Rattle.std.specs.Ordering.{int_eq}
 use Rattle.std.proofs.lemmas.Cmp.{int_eq_equiv}
 use Rattle.std.proofs.lemmas.Int.{ints}
-use Rattle.table_model.specs.Group.{IsWithin}
+use Rattle.table_model.specs.Group.{IsWithin, state_row_limit}
 use Rattle.table_model.specs.Values.{total, lesser, greater, least, greatest}
 use Rattle.table_model.proofs.Appended.{total-append, least-append, greatest-append}
 use Rattle.table_model.proofs.Bounds.{AreSmall, total-small}
@@ -22,20 +22,20 @@ within_fits : (n : ℕ) (z : ℤ) → n ≤ 2 ^ 33 → IsWithin (n * 2 ^ 63) z �
 within_fits n z le h = omega (arith, ints, h.0, h.1)
 
 -- a sum of at most 2^33 values fits, and in millionths too
-total-fits : (zs : List ℤ) → length zs ≤ 2 ^ 32 → AreSmall zs → FitsSigned w128 (total zs)
+total-fits : (zs : List ℤ) → length zs ≤ state_row_limit → AreSmall zs → FitsSigned w128 (total zs)
 total-fits zs le small = within_fits (length zs) (total zs) (omega (arith, le)) (total-small zs small)
 
-millionths_fit : (n : ℕ) (z : ℤ) → n ≤ 2 ^ 32 → IsWithin (n * 2 ^ 63) z → FitsSigned w128 (z *ℤ pos 1000000)
+millionths_fit : (n : ℕ) (z : ℤ) → n ≤ state_row_limit → IsWithin (n * 2 ^ 63) z → FitsSigned w128 (z *ℤ pos 1000000)
 millionths_fit n z le h = omega (arith, ints, h.0, h.1)
 
-pub mean-fits : (zs : List ℤ) → length zs ≤ 2 ^ 32 → AreSmall zs → FitsSigned w128 (total zs *ℤ pos 1000000)
+pub mean-fits : (zs : List ℤ) → length zs ≤ state_row_limit → AreSmall zs → FitsSigned w128 (total zs *ℤ pos 1000000)
 mean-fits zs le small = millionths_fit (length zs) (total zs) le (total-small zs small)
 
 -- ---- one value more
 one_total : (z : ℤ) → total (z ∷ []) ≡ z
 one_total z = omega (arith, ints)
 
-pub count_more : (count next : ℕ) (z : ℤ) → next ≡ min (count + 1) (2 ^ 64 - 1) → (values : List ℤ) → (length values ≤ 2 ^ 32 → count ≡ length values) → length (values ++ z ∷ []) ≤ 2 ^ 32 → next ≡ length (values ++ z ∷ [])
+pub count_more : (count next : ℕ) (z : ℤ) → next ≡ min (count + 1) (2 ^ 64 - 1) → (values : List ℤ) → (length values ≤ state_row_limit → count ≡ length values) → length (values ++ z ∷ []) ≤ state_row_limit → next ≡ length (values ++ z ∷ [])
 count_more count next z is values told few =
     let longer : length (values ++ z ∷ []) ≡ length values + 1 = length-append values (z ∷ []) in
     omega (arith, is, told (omega (arith, few, longer)), longer, few)
@@ -52,13 +52,13 @@ told_more s t z count sum values told few small =
       sum = sum fits ∙ ap (λ x. x +ℤ z) now.sum ∙ sym whole_sum;
     }
 
-pub told_where : (s t : Sums) (z more : ℤ) (by : ℕ) (comes : Bool) → by ≡ from_bool comes → more ≡ cond comes z (pos 0) → t.count ≡ min (s.count + by) (2 ^ 64 - 1) → (FitsSigned w128 (s.sum +ℤ more) → t.sum ≡ s.sum +ℤ more) → FitsSigned w128 s.sum → (values : List ℤ) → AreTold values s → length (values ++ cond comes (z ∷ []) []) ≤ 2 ^ 32 → AreSmall (values ++ cond comes (z ∷ []) []) → AreSums (values ++ cond comes (z ∷ []) []) t
+pub told_where : (s t : Sums) (z more : ℤ) (by : ℕ) (comes : Bool) → by ≡ from_bool comes → more ≡ cond comes z (pos 0) → t.count ≡ min (s.count + by) (2 ^ 64 - 1) → (FitsSigned w128 (s.sum +ℤ more) → t.sum ≡ s.sum +ℤ more) → FitsSigned w128 s.sum → (values : List ℤ) → AreTold values s → length (values ++ cond comes (z ∷ []) []) ≤ state_row_limit → AreSmall (values ++ cond comes (z ∷ []) []) → AreSums (values ++ cond comes (z ∷ []) []) t
 told_where s t z more by true one is count sum held values told few small =
     told_more s t z (count ∙ ap (λ n. min (s.count + n) (2 ^ 64 - 1)) one) (subst (λ (x : ℤ). FitsSigned w128 (s.sum +ℤ x) → t.sum ≡ s.sum +ℤ x) is sum) values told few small
 told_where s t z more by false one is count sum held values told few small =
     let e : values ++ [] ≡ values = append-nil values in
     let none : by ≡ 0 = one in
-    let now = told (subst (λ (l : List ℤ). length l ≤ 2 ^ 32) e few) (subst AreSmall e small) in
+    let now = told (subst (λ (l : List ℤ). length l ≤ state_row_limit) e few) (subst AreSmall e small) in
     let same : s.sum +ℤ more ≡ s.sum = omega (arith, ints, is) in
     record {
       count = omega (arith, count, none, now.count, ap length e, few);

@@ -1,6 +1,7 @@
 -- The rows that a query keeps: those that aren't deleted and at which WHERE is true.
-use Rattle.std.specs.Prelude.{ℕ, zero, suc, ◌+◌, ◌==◌, ◌≤◌, ◌^◌, Bool, ◌&&◌, not, cond, List, map, filter, length, count_by, Option, Some, None}
+use Rattle.std.specs.Prelude.{ℕ, zero, suc, ◌+◌, ◌==◌, ◌≤◌, Bool, ◌&&◌, not, cond, List, map, filter, length, count_by, Option, Some, None}
 use Rattle.std.specs.FinSet as set
+use Rattle.table_model.specs.Group.{state_row_limit}
 use Rattle.table_model.specs.Formula.{Formula}
 use Rattle.table_model.specs.Meaning.{at_row, is_kept}
 use Rattle.table_model.specs.State.{Cells, State, named_from, live_rows}
@@ -53,7 +54,7 @@ rows_kept table condition rows = filter (λ row. is_kept condition (at_row table
 unfoldable pub rows_at : Vector → List Bool → List Cells
 rows_at v mask = present (rows_of (λ n. cond (has mask n) (Some (row_at v n)) None))
 
--- at most 2^32 rows, each a row of the table
+-- no more rows than a state may have, each a row of the table
 pub record AreFew (table : Table) (rows : List Cells) : Type 0 where
   pub fit : AreRows table.columns rows
-  pub few : length rows ≤ 2 ^ 32
+  pub few : length rows ≤ state_row_limit

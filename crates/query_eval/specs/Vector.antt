@@ -1,8 +1,8 @@
 -- A state as vectors of up to 1024 rows, batch by batch in ascending order of name.
-use Rattle.std.specs.Prelude.{ℕ, ◌+◌, ◌*◌, ◌/◌, ◌^◌, ◌<◌, ◌≤◌, Bool, ◌&&◌, not, nat_lt, cond, List, [], length, take, drop, slice_index_or, Option, None, ℤ}
+use Rattle.std.specs.Prelude.{ℕ, ◌+◌, ◌*◌, ◌/◌, ◌<◌, ◌≤◌, Bool, ◌&&◌, not, nat_lt, cond, List, [], length, take, drop, slice_index_or, Option, None, ℤ}
 use Rattle.std.specs.FinMap as finite
 use Rattle.std.specs.FinSet as set
-use Rattle.table_model.specs.Group.{cell}
+use Rattle.table_model.specs.Group.{cell, state_row_limit}
 use Rattle.table_model.specs.State.{Cells, Batch, State, named_rows}
 use Rattle.table_model.specs.Table.{Table, IsBatch}
 use Rattle.table_model.specs.Values.{present}
@@ -54,7 +54,7 @@ pub record IsThere (s : State) (batch vector : ℕ) : Type 0 where
   pub batches : batch < batch_count s
   pub vectors : vector < vector_count s batch
 
--- a state within the limits of a table: each batch is one of the table's, and there are at most 2^32 rows
+-- a state within the limits of a table: each batch is one of the table's, and there are no more rows than a state may have
 pub record IsWithin (table : Table) (s : State) : Type 0 where
   pub batches : (i : ℕ) → i < batch_count s → IsBatch table (batch_at s i).1
-  pub rows : length (named_rows s) ≤ 2 ^ 32
+  pub rows : length (named_rows s) ≤ state_row_limit

@@ -1,7 +1,7 @@
 //! Fields of set functions, from counts, sums and lists of values.
 ghost use Rattle.std.specs.Prelude.{◌≡◌, ◌≤◌, ◌*◌, ◌^◌, List, ℤ, length};
 ghost use Rattle.table_model.specs.Answer.{whole, millionths};
-ghost use Rattle.table_model.specs.Group.{IsWithin};
+ghost use Rattle.table_model.specs.Group.{IsWithin, state_row_limit};
 ghost use Rattle.table_model.specs.Meaning.{fold_value};
 ghost use Rattle.table_model.specs.Values.{total, total_or_null, mean, least, greatest};
 
@@ -44,7 +44,7 @@ pub fn mean_field(count: u128, sum: i128) -> Field
 
 /// The sum of some values.
 pub(crate) fn sum_of(values: &[i64]) -> i128
-    requires { length values.now ≤ 2 ^ 32 }
+    requires { length values.now ≤ state_row_limit }
     ensures value { result ≡ total values.now }
     ensures within { IsWithin (2 ^ 95) result }
 {
@@ -79,7 +79,7 @@ pub(crate) fn greatest_of(values: &[i64]) -> Option<i64>
 
 /// A set function of some values.
 pub fn values_field(fold: Fold, values: &[i64]) -> Field
-    requires { length values.now ≤ 2 ^ 32 }
+    requires { length values.now ≤ state_row_limit }
     ensures { result ≡ fold_value fold values.now }
 {
     match fold {

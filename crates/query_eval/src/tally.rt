@@ -3,6 +3,7 @@ ghost use Rattle.std.specs.Prelude.{◌≡◌, ◌≤◌, ◌^◌, ◌++◌, ◌
 ghost use Rattle.std.specs.List.{list_any};
 ghost use Rattle.std.specs.Ordering.{int_eq};
 ghost use Rattle.std.specs.Int.{w128};
+ghost use Rattle.table_model.specs.Group.{state_row_limit};
 ghost use Rattle.table_model.specs.Meaning.{fold_value, once_if};
 ghost use Rattle.table_model.specs.Values.{distinct, total, least as least_of, greatest as greatest_of};
 ghost use Rattle.table_model.proofs.Bounds.{AreSmall};
@@ -122,7 +123,7 @@ impl Sums {
 
     /// AVG of the values, where the fold is that, and else SUM.
     fn field(self, fold: Fold) -> Field
-        ensures { (values : List ℤ) → length values ≤ 2 ^ 32 → AreSmall values → AreTold values self → kinds.Sum ≡ fold_kind false fold → result ≡ fold_value fold values }
+        ensures { (values : List ℤ) → length values ≤ state_row_limit → AreSmall values → AreTold values self → kinds.Sum ≡ fold_kind false fold → result ≡ fold_value fold values }
     {
         match fold {
             Fold::Avg => self.mean(),
@@ -134,7 +135,7 @@ impl Sums {
 
     /// The mean in millionths, truncated toward zero; null of no values.
     fn mean(self) -> Field
-        ensures { (values : List ℤ) → length values ≤ 2 ^ 32 → AreSmall values → AreTold values self → result ≡ fold_value Fold.Avg values }
+        ensures { (values : List ℤ) → length values ≤ state_row_limit → AreSmall values → AreTold values self → result ≡ fold_value Fold.Avg values }
     {
         if self.count == 0 {
             return Field::Null;
@@ -148,7 +149,7 @@ impl Sums {
 
 /// A set function of a set's values, which are at most 2^32.
 fn set_field(alloc: Global, fold: Fold, seen: &HashSet<i64>) -> Result<Field, AllocError>
-    ensures { IfOk result (λ field. (values : List ℤ) → length values ≤ 2 ^ 32 → ((z : ℤ) → list_any (int_eq z) seen.now.keys ≡ list_any (int_eq z) values) → field ≡ fold_value fold (distinct values)) }
+    ensures { IfOk result (λ field. (values : List ℤ) → length values ≤ state_row_limit → ((z : ℤ) → list_any (int_eq z) seen.now.keys ≡ list_any (int_eq z) values) → field ≡ fold_value fold (distinct values)) }
 {
     let values = set_values(alloc, seen)?;
     if values.len() > MOST {
@@ -286,7 +287,7 @@ impl Tally {
 
     /// The set function's value. DISTINCT takes memory for the values.
     pub fn field(&self, alloc: Global, fold: Fold) -> Result<Field, AllocError>
-        ensures { IfOk result (λ field. (distinct : Bool) (values : List ℤ) → length values ≤ 2 ^ 32 → AreSmall values → IsTally values self.now → kind_of self.now ≡ fold_kind distinct fold → field ≡ fold_value fold (once_if distinct values)) }
+        ensures { IfOk result (λ field. (distinct : Bool) (values : List ℤ) → length values ≤ state_row_limit → AreSmall values → IsTally values self.now → kind_of self.now ≡ fold_kind distinct fold → field ≡ fold_value fold (once_if distinct values)) }
     {
         match self {
             Tally::Count(count) => Ok(Field::Whole(i128::from(*count))),

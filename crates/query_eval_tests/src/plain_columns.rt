@@ -2,7 +2,7 @@
 ghost use Rattle.std.specs.Prelude.{◌≡◌, ◌<◌, ◌≤◌, ◌+◌, ◌*◌, ◌^◌, ℕ, List, Bool, true, length, take, ℤ, pos, Some, slice_index_or, IfOk};
 ghost use Rattle.table_model.specs.Answer.{whole};
 ghost use Rattle.table_model.specs.Condition.{is_null};
-ghost use Rattle.table_model.specs.Group.{IsWithin};
+ghost use Rattle.table_model.specs.Group.{IsWithin, state_row_limit};
 ghost use Rattle.table_model.specs.Passes.{raised};
 ghost use Rattle.table_model.specs.Truth.{and_of, comparison};
 ghost use Rattle.table_model.specs.Values.{total, least, greatest};
@@ -55,7 +55,7 @@ fn put(pair: &mut Pair, row: usize, truth: Truth)
 
 /// The sum of some values.
 fn sum_of(values: &[i64]) -> i128
-    requires { length values.now ≤ 2 ^ 32 }
+    requires { length values.now ≤ state_row_limit }
     ensures value { result ≡ total values.now }
     ensures within { IsWithin (2 ^ 95) result }
 {

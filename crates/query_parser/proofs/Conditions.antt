@@ -11,7 +11,8 @@ use Rattle.query_parser.proofs.Lengths.{AtMost, Shrinks, name_short, literal_sho
 use Rattle.query_parser.proofs.Many.{length-taken}
 use Rattle.query_parser.proofs.Simulation.{then_fault, choose_law, word_law, bind_law, stops, skips, expands, begins_alike, passes, opens, too_deep, sign_law, open_law}
 use Rattle.query_parser.proofs.Productions.{IsShallow, Takes, name_law, literal_law, function_law, function_word_law, named_law, item_law}
-use Rattle.query_parser.specs.Descent.{Reader, read_name, read_literal, read_more, read_many, one_more, read_function, read_item, read_items, read_operand, comparison_word, read_literals, read_list, read_range, read_range_or_list, read_is_null, read_after_operand, read_predicate, read_truth_word, read_asked, read_primary, read_test, read_factor, read_term, read_terms, nested, read_condition, read_filter, read_having, read_columns, read_grouping, read_query, read_whole, whole, Reads, ◌>>=◌}
+use Rattle.table_model.specs.Reading.{Reads, ◌>>=◌}
+use Rattle.query_parser.specs.Descent.{Reader, read_name, read_literal, read_more, read_many, one_more, read_function, read_item, read_items, read_operand, comparison_word, read_literals, read_list, read_range, read_range_or_list, read_is_null, read_after_operand, read_predicate, read_truth_word, read_asked, read_primary, read_test, read_factor, read_term, read_terms, nested, read_condition, read_filter, read_having, read_columns, read_grouping, read_query, read_whole, whole}
 use Rattle.query_parser.specs.Stack.{Symbol, a_sign, a_name, a_query, some_items, more_items, an_item, a_filter, a_grouping, a_having, some_columns, more_columns, a_condition, or_terms, a_term, and_factors, a_factor, a_test, an_is_truth, an_asked, a_truth_word, a_primary, a_closing, a_predicate, an_after_operand, a_range_or_list, an_is_null, an_operand, a_literal, some_literals, more_literals, begin, may_be_empty, open_count, after, first_fault, and_then, on, Finds}
 use Rattle.query_parser.specs.declared.predicate.Clause.{Clause}
 use Rattle.query_parser.specs.declared.predicate.Clause.TheVariants.{Where, Having}

@@ -13,7 +13,8 @@ use Rattle.table_model.specs.declared.query.SetFunction.TheVariants.{CountRows, 
 use Rattle.table_model.specs.declared.refusal.Refusal.TheVariants.{NumberTooLarge}
 use Rattle.query_parser.proofs.Beginnings.{apart, name_apart, digits_apart, sign_no_name, digits_no_name, function_reads, no_function}
 use Rattle.query_parser.proofs.Taking.{Fits, Agrees, reads, stops, then_agrees, chosen, passed_over, sign_agrees, fits-taken, fits-mentioned, fits-digits}
-use Rattle.query_parser.specs.Descent.{read_name, read_digits, read_literal, function_word, read_column_argument, read_quantified, read_argument, read_function, read_item_value, read_alias, read_item, allowed_function, read_operand, ◌>>=◌}
+use Rattle.table_model.specs.Reading.{◌>>=◌}
+use Rattle.query_parser.specs.Descent.{read_name, read_digits, read_literal, function_word, read_column_argument, read_quantified, read_argument, read_function, read_item_value, read_alias, read_item, allowed_function, read_operand}
 use Rattle.query_parser.specs.Grammar.{IsSign, IsName, IsLiteral, word_of, IsQuantifier, IsArgument, fold_of, takes_functions, IsOperand, IsItemValue, IsAlias, IsItem}
 use Rattle.query_parser.specs.Token.{same_sign, choose, taken, mentioned, spelled_digits, is_large, signed, value_of, significant, place_of}
 use Rattle.query_parser.specs.declared.predicate.Clause.{Clause}

@@ -12,7 +12,8 @@ use Rattle.query_parser.proofs.Converse.{operand_apart}
 use Rattle.query_parser.proofs.ConversePredicates.{predicate_agrees, asked_agrees}
 use Rattle.query_parser.proofs.Lengths.{factor_short, term_short, nested_short}
 use Rattle.query_parser.proofs.Taking.{Fits, Agrees, reads, stops, then_agrees, chosen, passed_over, sign_agrees, fits-taken, Gone, first_part, next_part, last_part}
-use Rattle.query_parser.specs.Descent.{read_predicate, read_asked, read_primary, read_test, read_factor, read_term, read_terms, nested, read_condition, read_many, read_sign, ◌>>=◌}
+use Rattle.table_model.specs.Reading.{◌>>=◌}
+use Rattle.query_parser.specs.Descent.{read_predicate, read_asked, read_primary, read_test, read_factor, read_term, read_terms, nested, read_condition, read_many, read_sign}
 use Rattle.query_parser.specs.Grammar.{IsSign, word_of, IsPredicate, rank, IsFormula, IsCondition}
 use Rattle.query_parser.specs.Limits.{depth}
 use Rattle.query_parser.specs.Token.{same_sign, taken}

@@ -7,7 +7,8 @@ use Rattle.table_model.specs.declared.query.Fold.TheVariants as folds
 use Rattle.table_model.specs.declared.query.Operand.{Operand}
 use Rattle.table_model.specs.declared.refusal.Refusal.{Refusal}
 use Rattle.query_parser.proofs.Many.{length-taken}
-use Rattle.query_parser.specs.Descent.{Reader, read_sign, read_name, read_digits, read_literal, read_more, read_many, one_more, function_word, read_column_argument, read_quantified, read_argument, read_function, read_item_value, read_alias, read_item, read_operand, allowed_function, begins_with_name, comparison_word, read_literals, read_list, read_range, read_range_or_list, read_is_null, read_after_operand, read_predicate, read_truth_word, read_asked, read_primary, read_test, read_factor, read_term, read_terms, nested, ◌>>=◌, syntax}
+use Rattle.table_model.specs.Reading.{◌>>=◌}
+use Rattle.query_parser.specs.Descent.{Reader, read_sign, read_name, read_digits, read_literal, read_more, read_many, one_more, function_word, read_column_argument, read_quantified, read_argument, read_function, read_item_value, read_alias, read_item, read_operand, allowed_function, begins_with_name, comparison_word, read_literals, read_list, read_range, read_range_or_list, read_is_null, read_after_operand, read_predicate, read_truth_word, read_asked, read_primary, read_test, read_factor, read_term, read_terms, nested, syntax}
 use Rattle.query_parser.specs.Grammar.{takes_functions}
 use Rattle.query_parser.specs.Token.{choose, taken, mentioned, mention_of, spelled_digits, digits_of, is_large}
 use Rattle.query_parser.specs.declared.predicate.Clause.{Clause}

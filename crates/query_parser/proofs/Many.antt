@@ -2,7 +2,8 @@
 use Rattle.std.proofs.Common.{◌≡◌, ℕ, zero, suc, ◌+◌, ◌<◌, ◌≤◌, cond, Bool, true, false, Some, None, Result, Ok, Err, List, [], ◌∷◌, length, refl, sym, ◌∙◌, ap, inl, inr, ◌⊎◌, arith}
 use Rattle.table_model.specs.declared.refusal.Refusal.{Refusal}
 use Rattle.table_model.specs.declared.refusal.Refusal.TheVariants.{Memory}
-use Rattle.query_parser.specs.Descent.{Reader, read_more, ◌>>=◌}
+use Rattle.table_model.specs.Reading.{◌>>=◌}
+use Rattle.query_parser.specs.Descent.{Reader, read_more}
 use Rattle.query_parser.specs.Token.{taken, is_sign}
 use Rattle.query_parser.specs.declared.token.Sign.{Sign}
 use Rattle.query_parser.specs.declared.token.Token.{Token}

@@ -6,7 +6,8 @@ use Rattle.table_model.specs.declared.query.Fold.TheVariants as folds
 use Rattle.table_model.specs.declared.refusal.Refusal.{Refusal}
 use Rattle.table_model.specs.declared.refusal.Refusal.TheVariants.{NumberTooLarge}
 use Rattle.query_parser.proofs.Simulation.{then_fault, choose_law, word_law, bind_law, stops, skips, expands, begins_alike, passes, sign_law, open_law, name_passes, digits_pass}
-use Rattle.query_parser.specs.Descent.{Reader, read_name, read_digits, read_literal, function_word, read_column_argument, read_quantified, read_argument, read_function, read_item_value, read_alias, read_item, begins_with_name, ◌>>=◌, syntax}
+use Rattle.table_model.specs.Reading.{◌>>=◌}
+use Rattle.query_parser.specs.Descent.{Reader, read_name, read_digits, read_literal, function_word, read_column_argument, read_quantified, read_argument, read_function, read_item_value, read_alias, read_item, begins_with_name, syntax}
 use Rattle.query_parser.specs.Token.{choose, taken, mentioned, spelled_digits, is_large, signed, value_of, significant, place_of}
 use Rattle.query_parser.specs.Stack.{Symbol, a_sign, a_name, some_digits, an_item, an_item_value, an_alias, an_argument, a_quantified, a_literal, begin, open_count, first_fault, on_name, on_function, an_argument_of}
 use Rattle.query_parser.specs.declared.token.Sign.TheVariants as sign

@@ -4,7 +4,8 @@ use Rattle.std.proofs.lemmas.Bool.Decides.{nat_tests}
 use Rattle.table_model.specs.declared.refusal.Refusal.{Refusal}
 use Rattle.table_model.specs.declared.refusal.Refusal.TheVariants.{Syntax, NumberTooLarge, TooDeep}
 use Rattle.query_parser.specs.Token.{same_sign, sign_number, choose, taken, mentioned, mention_of, spelled_digits, digits_of, is_sign, is_large, place_of}
-use Rattle.query_parser.specs.Descent.{syntax, read_sign, ◌>>=◌}
+use Rattle.table_model.specs.Reading.{◌>>=◌}
+use Rattle.query_parser.specs.Descent.{syntax, read_sign}
 use Rattle.query_parser.specs.Stack.{Symbol, a_sign, begin, may_be_empty, open_count, after, fault_of, first_fault, and_then}
 use Rattle.query_parser.specs.declared.token.Kind.{Kind}
 use Rattle.query_parser.specs.declared.token.Kind.TheVariants.{Identifier, Digits, Bad}

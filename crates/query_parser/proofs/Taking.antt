@@ -6,7 +6,8 @@ use Rattle.table_model.specs.declared.refusal.Refusal.TheVariants.{NumberTooLarg
 use Rattle.query_parser.proofs.Lengths.{AtMost, Shrinks}
 use Rattle.query_parser.proofs.Many.{IsLeft, goes_on_within, fails, ends}
 use Rattle.query_parser.proofs.Simulation.{taken_is}
-use Rattle.query_parser.specs.Descent.{Reader, read_sign, read_more, read_many, one_more, ◌>>=◌}
+use Rattle.table_model.specs.Reading.{◌>>=◌}
+use Rattle.query_parser.specs.Descent.{Reader, read_sign, read_more, read_many, one_more}
 use Rattle.query_parser.specs.Grammar.{Listed, only, more}
 use Rattle.query_parser.specs.Limits.{is_large_number}
 use Rattle.query_parser.specs.Token.{choose, is_large, taken, mention_of, mentioned, digits_of, spelled_digits}

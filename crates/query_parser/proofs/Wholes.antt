@@ -7,7 +7,8 @@ use Rattle.table_model.specs.declared.refusal.Refusal.TheVariants.{Syntax}
 use Rattle.query_parser.proofs.ConverseQueries.{query_agrees}
 use Rattle.query_parser.proofs.Plain.{plain, plain_fits, plain_query}
 use Rattle.query_parser.proofs.Taking.{Fits, IsLimit, Agrees, reads, stops}
-use Rattle.query_parser.specs.Descent.{Reads, read_query, read_whole, whole, ◌>>=◌}
+use Rattle.table_model.specs.Reading.{Reads, ◌>>=◌}
+use Rattle.query_parser.specs.Descent.{read_query, read_whole, whole}
 use Rattle.query_parser.specs.Grammar.{IsQuery}
 use Rattle.query_parser.specs.Limits.{depth_of, is_large_number, IsWithinLimits, TakesQueries, IsUnambiguous}
 use Rattle.query_parser.specs.declared.token.Token.{Token}

@@ -1,8 +1,9 @@
 -- The grammar read by descent: what each function of the parser answers. That this is the grammar's query, and the first fault
 -- by the stack of symbols, is proved of it.
-use Rattle.std.specs.Prelude.{◌≡◌, ℕ, zero, suc, ℤ, ◌⊎◌, Bool, true, false, ◌==◌, if◌then◌else◌, Option, Some, None, is_some, Result, Ok, Err, List, [], ◌∷◌, ◌++◌, length}
+use Rattle.std.specs.Prelude.{◌≡◌, ℕ, zero, suc, ℤ, Bool, true, false, ◌==◌, if◌then◌else◌, Option, Some, None, is_some, Result, Ok, Err, List, [], ◌∷◌, ◌++◌, length}
 use Rattle.table_model.specs.Formula.{Formula, says, in_parentheses, is_truth, negation, no_factor, both, no_term, either}
 use Rattle.table_model.specs.Query.{QueryShape}
+use Rattle.table_model.specs.Reading.{◌>>=◌}
 use Rattle.table_model.specs.declared.op.Op.{Op}
 use Rattle.table_model.specs.declared.op.Op.TheVariants as op
 use Rattle.table_model.specs.declared.truth.Truth.TheVariants as truth
@@ -20,7 +21,7 @@ use Rattle.table_model.specs.declared.query.Predicate.TheVariants as predicates
 use Rattle.table_model.specs.declared.query.SetFunction.{SetFunction}
 use Rattle.table_model.specs.declared.query.SetFunction.TheVariants.{CountRows, Of}
 use Rattle.table_model.specs.declared.refusal.Refusal.{Refusal}
-use Rattle.table_model.specs.declared.refusal.Refusal.TheVariants.{Memory, Syntax, NumberTooLarge, TooDeep}
+use Rattle.table_model.specs.declared.refusal.Refusal.TheVariants.{Syntax, NumberTooLarge, TooDeep}
 use Rattle.query_parser.specs.Grammar.{takes_functions}
 use Rattle.query_parser.specs.Token.{choose, taken, mentioned, spelled_digits, significant, is_large, value_of, signed, place_of, tokens_of}
 use Rattle.query_parser.specs.declared.predicate.Clause.{Clause}
@@ -28,17 +29,6 @@ use Rattle.query_parser.specs.declared.predicate.Clause.TheVariants.{Where, Havi
 use Rattle.query_parser.specs.declared.token.Sign.{Sign}
 use Rattle.query_parser.specs.declared.token.Sign.TheVariants as sign
 use Rattle.query_parser.specs.declared.token.Token.{Token}
-
--- What was returned, seen by view, is what is given, or Memory stands in its place: reading grows as it goes.
-abbrev pub Reads : {X Y : Type 0} → (X → Y) → Result X Refusal → Result Y Refusal → Type 0
-Reads view (Ok x) given = given ≡ Ok (view x)
-Reads view (Err e) given = (given ≡ Err e) ⊎ (e ≡ Memory)
-
-infixl 10 ◌>>=◌
--- what is read next, after what was read
-abbrev pub ◌>>=◌ : {X Y : Type 0} → Result X Refusal → (X → Result Y Refusal) → Result Y Refusal
-Ok x >>= next = next x
-Err e >>= next = Err e
 
 -- whether the first token is an identifier
 abbrev pub begins_with_name : List Token → Bool

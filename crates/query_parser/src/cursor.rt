@@ -1,7 +1,8 @@
 //! What the tokens that are left begin with.
 ghost use Rattle.std.specs.Prelude.{◌≡◌, MatchOption, IfOk, Some, None, ◌<◌, ◌≤◌, length, IfSome};
 ghost use Rattle.table_model.specs.Identifier.{folded};
-ghost use Rattle.query_parser.specs.Descent.{Reads, read_sign, read_name, begins_with_name};
+ghost use Rattle.table_model.specs.Reading.{Reads};
+ghost use Rattle.query_parser.specs.Descent.{read_sign, read_name, begins_with_name};
 ghost use Rattle.query_parser.specs.Token.{taken, place_of};
 
 use crate::token::{Kind, Sign, Token, Word};

@@ -1,6 +1,7 @@
 //! Literals: digits with or without a sign.
 ghost use Rattle.std.specs.Prelude.{◌≡◌, IsTrue, pos, option_map, length, ◌≤◌, ◌<◌, IfOk, IfSome, MatchOption, Some, None};
-ghost use Rattle.query_parser.specs.Descent.{Reads, read_literal, read_digits};
+ghost use Rattle.table_model.specs.Reading.{Reads};
+ghost use Rattle.query_parser.specs.Descent.{read_literal, read_digits};
 ghost use Rattle.query_parser.specs.Token.{significant, is_large, value_of};
 
 use crate::cursor::{Read, after, syntax};

@@ -1,6 +1,7 @@
 //! Whole queries.
 ghost use Rattle.std.specs.Prelude.{◌≡◌, ℕ, IfOk, Err, []};
-ghost use Rattle.query_parser.specs.Descent.{Reads, read_query, read_table, read_clauses, read_filter, read_having, read_grouping, read_columns, read_whole, query_of};
+ghost use Rattle.table_model.specs.Reading.{Reads};
+ghost use Rattle.query_parser.specs.Descent.{read_query, read_table, read_clauses, read_filter, read_having, read_grouping, read_columns, read_whole, query_of};
 ghost use Rattle.query_parser.specs.Grammar.{IsQuery};
 ghost use Rattle.query_parser.specs.Limits.{TakesQueries, IsNoQuery};
 ghost use Rattle.query_parser.specs.Stack.{Finds, text_fault};

@@ -1,6 +1,7 @@
 //! The select list: columns and set functions, with aliases or without.
 ghost use Rattle.std.specs.Prelude.{◌≡◌, MatchOption, Some, None, ◌<◌, ◌≤◌, length, IfOk, IfSome};
-ghost use Rattle.query_parser.specs.Descent.{Reads, read_items, read_item, read_item_value, read_alias, read_function, read_argument, read_quantified, read_column_argument, function_word};
+ghost use Rattle.table_model.specs.Reading.{Reads};
+ghost use Rattle.query_parser.specs.Descent.{read_items, read_item, read_item_value, read_alias, read_function, read_argument, read_quantified, read_column_argument, function_word};
 
 use crate::cursor::{Read, after, begins_with_name, expect, identifier, syntax};
 use crate::token::{Sign, Token};

@@ -10,7 +10,7 @@ use Rattle.std.proofs.lemmas.Bool.Decides.{nat_tests, Decides-eqb}
 use Rattle.table_model.specs.Outcome.{unless}
 use Rattle.table_model.specs.Name.{name_cmp, is_proper_name}
 use Rattle.table_model.specs.State.{Batch, union_of, same_rows}
-use Rattle.table_model.specs.Table.{Table, rows_fault, first_fault, same_table, IsBatch}
+use Rattle.table_model.specs.Table.{Table, rows_fault, first_fault, same_table, IsBatch, row_limit}
 use Rattle.table_model.specs.declared.names.Origin.{Origin}
 use Rattle.table_model.specs.declared.names.BatchName.{BatchName}
 use Rattle.table_model.specs.declared.names.RowName.{RowName}
@@ -23,7 +23,7 @@ use Rattle.table_model.proofs.SameTable.{one_table}
 use Rattle.replica_store.specs.declared.inserted.Inserted.{Inserted}
 use Rattle.replica_store.specs.declared.inserted.Inserted.TheVariants.{New, Already}
 use Rattle.replica_store.specs.Entries.{merge}
-use Rattle.replica_store.specs.Replica.{Replica, IsEntry, AllFit, IsWithinLimits, entries_of, greatest_number, unless_fault, where_room, number_after, next_name, own_name, place_beside, place_for, lacked_by, names_of, merge_fault, conflict_or_full, conflict_with, delete_fault}
+use Rattle.replica_store.specs.Replica.{Replica, IsEntry, AllFit, IsWithinLimits, entries_of, greatest_number, unless_fault, where_room, number_after, next_name, own_name, place_beside, place_for, lacked_by, names_of, merge_fault, conflict_or_full, conflict_with, delete_fault, batch_limit}
 use Rattle.replica_store.proofs.Maps.{Entry, as_map, entries-as_map}
 use Rattle.replica_store.proofs.Merges.{as_map-merge, Sorted-union}
 use Rattle.replica_store.proofs.Unions.{union_of-is}
@@ -75,13 +75,13 @@ same_length : (m : map.FinMap name_cmp Batch) (q : BatchName) (v : Batch) → ma
 same_length m q v none = map.len-insert names_total m q v ∙ ap (λ (o : Option Batch). cond (is_some o) (map.len m) (map.len m + 1)) none
 
 -- a batch that goes in keeps the limits
-pub IsWithinLimits-insert : (t : Table) (m : map.FinMap name_cmp Batch) (q : BatchName) (v : Batch) → IsWithinLimits t m → map.get m q ≡ None → map.len m < 65536 → IsEntry t (q, v) → IsWithinLimits t (map.insert m q v)
+pub IsWithinLimits-insert : (t : Table) (m : map.FinMap name_cmp Batch) (q : BatchName) (v : Batch) → IsWithinLimits t m → map.get m q ≡ None → map.len m < batch_limit → IsEntry t (q, v) → IsWithinLimits t (map.insert m q v)
 IsWithinLimits-insert t m q v h none room fit =
     let more = same_length m q v none in
     record { limit = omega (arith, more); fits = subst (AllFit t) (sym (map.entries-insert names_total m q v)) (AllFit-put t q v (map.entries m) h.fits fit) }
 
 -- a union that isn't too long keeps them
-pub IsWithinLimits-union : (t : Table) (m n : map.FinMap name_cmp Batch) → IsWithinLimits t m → AllFit t (map.entries n) → map.len (union_of m n) ≤ 65536 → IsWithinLimits t (union_of m n)
+pub IsWithinLimits-union : (t : Table) (m n : map.FinMap name_cmp Batch) → IsWithinLimits t m → AllFit t (map.entries n) → map.len (union_of m n) ≤ batch_limit → IsWithinLimits t (union_of m n)
 IsWithinLimits-union t m n g h limit =
     let es = map.entries m in
     let sorted = map.entries_sorted m in
@@ -96,9 +96,9 @@ IsWithinLimits-union t m n g h limit =
 pub IsBatch-none : (t : Table) (rows : Batch) → rows_fault t rows ≡ None → IsBatch t rows
 unfolding rows_fault
 IsBatch-none t rows e =
-    elim (length rows == 0) as (λ b. (length rows == 0) ≡ b → cond b (Some EmptyBatch) (cond (nat_lt 65536 (length rows)) (Some BatchTooLong) (first_fault t.columns 0 rows)) ≡ None → IsBatch t rows) [
+    elim (length rows == 0) as (λ b. (length rows == 0) ≡ b → cond b (Some EmptyBatch) (cond (nat_lt row_limit (length rows)) (Some BatchTooLong) (first_fault t.columns 0 rows)) ≡ None → IsBatch t rows) [
       | true ↦ λ empty is. cc
-      | false ↦ λ some is. elim (nat_lt 65536 (length rows)) as (λ b. nat_lt 65536 (length rows) ≡ b → cond b (Some BatchTooLong) (first_fault t.columns 0 rows) ≡ None → IsBatch t rows) [
+      | false ↦ λ some is. elim (nat_lt row_limit (length rows)) as (λ b. nat_lt row_limit (length rows) ≡ b → cond b (Some BatchTooLong) (first_fault t.columns 0 rows) ≡ None → IsBatch t rows) [
         | true ↦ λ long is. cc
         | false ↦ λ short is. IsBatch-fault t rows (grind (arith, nat_tests)) (grind (arith, nat_tests)) is
       ] refl is
@@ -123,7 +123,7 @@ past_greatest own k (e ∷ es) less =
 -- what holds where a name was decided on
 pub record IsFree (r : Replica) (name : BatchName) (rows : Batch) : Type 0 where
   pub new : map.get r.state.batches name ≡ None
-  pub room : map.len r.state.batches < 65536
+  pub room : map.len r.state.batches < batch_limit
   pub fit : IsBatch r.schema rows
 
 pub ok_unless : {X : Type 0} (o : Option Refusal) (next : Result X Refusal) (x : X) → unless_fault o next ≡ Ok x → (o ≡ None) × (next ≡ Ok x)
@@ -148,7 +148,7 @@ IsFree-next_name r rows name e =
     let n = greatest_number r.own (entries_of r) in
     let checked = ok_unless (rows_fault r.schema rows) (number_after r n) name e in
     let number = ok_if (n == 4294967295) NumbersSpent (where_room r (own_name r (n + 1))) name checked.1 in
-    let space = ok_only (nat_lt (map.len r.state.batches) 65536) Full (Ok (own_name r (n + 1))) name number.1 in
+    let space = ok_only (nat_lt (map.len r.state.batches) batch_limit) Full (Ok (own_name r (n + 1))) name number.1 in
     let same = same_Ok (own_name r (n + 1)) name space.1 in
     record {
       new = subst (λ (x : BatchName). map.get r.state.batches x ≡ None) same (map.get-entries r.state.batches (own_name r (n + 1)) ∙ past_greatest r.own (n + 1) (entries_of r) (omega arith));
@@ -169,21 +169,21 @@ IsFree-place_for r name rows e =
     let checked = ok_unless (rows_fault r.schema rows) (cond (is_proper_name name) (place_beside r name rows (map.get r.state.batches name)) (Err BadName)) New e in
     let proper = ok_only (is_proper_name name) BadName (place_beside r name rows (map.get r.state.batches name)) New checked.1 in
     let beside = beside_new r name rows (map.get r.state.batches name) proper.1 in
-    let space = ok_only (nat_lt (map.len r.state.batches) 65536) Full (Ok New) New beside.1 in
+    let space = ok_only (nat_lt (map.len r.state.batches) batch_limit) Full (Ok New) New beside.1 in
     record { new = beside.0; room = grind (arith, nat_tests, space.0); fit = IsBatch-none r.schema rows checked.0 }
 
 -- what holds where a merge isn't refused
 pub record IsMergeable (r other : Replica) : Type 0 where
   pub schema : r.schema ≡ other.schema
-  pub limit : map.len (union_of r.state.batches other.state.batches) ≤ 65536
+  pub limit : map.len (union_of r.state.batches other.state.batches) ≤ batch_limit
 
 pub none_only : (b : Bool) (bad : Refusal) (o : Option Refusal) → cond b o (Some bad) ≡ None → (b ≡ true) × (o ≡ None)
 none_only true bad o e = (refl, e)
 none_only false bad o e = cc
 
-pub not_full : (r other : Replica) (o : Option BatchName) → conflict_or_full r other o ≡ None → map.len (union_of r.state.batches other.state.batches) ≤ 65536
+pub not_full : (r other : Replica) (o : Option BatchName) → conflict_or_full r other o ≡ None → map.len (union_of r.state.batches other.state.batches) ≤ batch_limit
 not_full r other None e =
-    elim (nat_lt 65536 (map.len (union_of r.state.batches other.state.batches))) as (λ b. nat_lt 65536 (map.len (union_of r.state.batches other.state.batches)) ≡ b → cond b (Some Full) None ≡ None → map.len (union_of r.state.batches other.state.batches) ≤ 65536) [
+    elim (nat_lt batch_limit (map.len (union_of r.state.batches other.state.batches))) as (λ b. nat_lt batch_limit (map.len (union_of r.state.batches other.state.batches)) ≡ b → cond b (Some Full) None ≡ None → map.len (union_of r.state.batches other.state.batches) ≤ batch_limit) [
       | true ↦ λ t is. cc
       | false ↦ λ t is. grind (arith, nat_tests)
     ] refl e

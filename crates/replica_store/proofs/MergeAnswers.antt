@@ -13,7 +13,7 @@ use Rattle.table_model.proofs.Joins.{join-commutative, join-associative, join-ag
 use Rattle.table_model.proofs.SameTable.{one_table, itself_table}
 use Rattle.replica_store.specs.declared.inserted.Inserted.{Inserted}
 use Rattle.replica_store.specs.declared.inserted.Inserted.TheVariants.{New, Already}
-use Rattle.replica_store.specs.Replica.{Replica, with_batch, with_join, with_deleted, rows_between, unless_fault, next_name, place_for, then_added, then_placed, deleted_rows, delete_fault, merge_fault, conflict_or_full}
+use Rattle.replica_store.specs.Replica.{Replica, with_batch, with_join, with_deleted, rows_between, unless_fault, next_name, place_for, then_added, then_placed, deleted_rows, delete_fault, merge_fault, conflict_or_full, batch_limit}
 use Rattle.replica_store.specs.MergeLaws.{Merges, Keeps, with_state, conflict_of, MergeLaws, KeepingLaws}
 use Rattle.replica_store.proofs.Conflicts.{agree_without, none_agreeing, conflicts}
 use Rattle.replica_store.proofs.RecodeAnswers.{recode_laws_hold}
@@ -24,7 +24,7 @@ pub record IsMerge (r other new : Replica) : Type 0 where
   pub made : with_join r other ≡ new
   pub schema : r.schema ≡ other.schema
   pub agree : Agree r.state other.state
-  pub limit : map.len (union_of r.state.batches other.state.batches) ≤ 65536
+  pub limit : map.len (union_of r.state.batches other.state.batches) ≤ batch_limit
 
 no_conflict : (r other : Replica) (o : Option BatchName) → conflict_or_full r other o ≡ None → o ≡ None
 no_conflict r other None e = refl
@@ -45,11 +45,11 @@ is_merge r other new e =
       limit = not_full r other (conflict_of r other) same.1;
     }
 
-not_over : (n : ℕ) → n ≤ 65536 → nat_lt 65536 n ≡ false
+not_over : (n : ℕ) → n ≤ batch_limit → nat_lt batch_limit n ≡ false
 not_over n le = grind (arith, nat_tests)
 
 -- a merge answers Ok where the schemas are one, the states agree and the union is short enough
-pub merges : (r other : Replica) → r.schema ≡ other.schema → Agree r.state other.state → map.len (union_of r.state.batches other.state.batches) ≤ 65536 → Merges r other (with_join r other)
+pub merges : (r other : Replica) → r.schema ≡ other.schema → Agree r.state other.state → map.len (union_of r.state.batches other.state.batches) ≤ batch_limit → Merges r other (with_join r other)
 unfolding merge_fault
 merges r other schema agree limit =
     let same : same_table r.schema other.schema ≡ true = subst (λ (t : Table). same_table r.schema t ≡ true) schema (itself_table r.schema) in
@@ -66,7 +66,7 @@ commutative : (r s new : Replica) → Merges r s new → Merges s r (with_state 
 commutative r s new e =
     let done = is_merge r s new e in
     let turned : join r.state s.state ≡ join s.state r.state = join-commutative r.state s.state done.agree in
-    let limit : map.len (union_of s.state.batches r.state.batches) ≤ 65536 = subst (λ (t : State). map.len t.batches ≤ 65536) turned done.limit in
+    let limit : map.len (union_of s.state.batches r.state.batches) ≤ batch_limit = subst (λ (t : State). map.len t.batches ≤ batch_limit) turned done.limit in
     let made : with_join s r ≡ with_state s new = λ i. record { schema = s.schema; own = s.own; state = (sym turned ∙ ap (λ (x : Replica). x.state) done.made) i } in
     subst (λ (x : Replica). Merges s r x) made (merges s r (sym done.schema) (agree_back r.state s.state done.agree) limit)
 
@@ -84,7 +84,7 @@ again r s new e =
     let done = is_merge r s new e in
     let joined = with_join r s in
     let same : join (join r.state s.state) s.state ≡ join r.state s.state = join-again r.state s.state in
-    let limit : map.len (union_of joined.state.batches s.state.batches) ≤ 65536 = subst (λ (t : State). map.len t.batches ≤ 65536) (sym same) done.limit in
+    let limit : map.len (union_of joined.state.batches s.state.batches) ≤ batch_limit = subst (λ (t : State). map.len t.batches ≤ batch_limit) (sym same) done.limit in
     let made : with_join joined s ≡ joined = λ i. record { schema = r.schema; own = r.own; state = same i } in
     let once : Merges joined s joined = subst (λ (x : Replica). Merges joined s x) made (merges joined s done.schema (join-agree r.state s.state done.agree) limit) in
     subst (λ (x : Replica). Merges x s x) done.made once

@@ -14,7 +14,7 @@ use Rattle.table_model.specs.declared.names.BatchName.{BatchName}
 use Rattle.table_model.proofs.NameOrder.{names_total, exact_names}
 use Rattle.catalogue_join.specs.Held.{lacks}
 use Rattle.segment_core.specs.Segment.{SegmentForm}
-use Rattle.replica_store.specs.Replica.{lacked_by, names_of}
+use Rattle.replica_store.specs.Replica.{lacked_by, names_of, batch_limit}
 use Rattle.replica_store.specs.Segments.{Entry, IsStored, AreStored, rows_in}
 use Rattle.replica_store.specs.Exchange.{AreOffered, unlisted}
 use Rattle.replica_store.proofs.Maps.{Sorted, as_map, get-as_map}
@@ -83,7 +83,7 @@ All-lacked t names (e ∷ es) all =
     ]
 
 -- what a store holds beside the names may be offered
-pub AreOffered-lacked : (t : Table) (names : set.FinSet name_cmp) (m : map.FinMap name_cmp SegmentForm) → AreStored t m → map.len m ≤ 65536 → AreOffered t (lacked_by names (map.entries m))
+pub AreOffered-lacked : (t : Table) (names : set.FinSet name_cmp) (m : map.FinMap name_cmp SegmentForm) → AreStored t m → map.len m ≤ batch_limit → AreOffered t (lacked_by names (map.entries m))
 AreOffered-lacked t names m stored limit = record {
   sorted = Sorted-lacked names (map.entries m) (map.entries_sorted m);
   limit = omega (arith, limit, map.len-entries m, length-lacked names (map.entries m));

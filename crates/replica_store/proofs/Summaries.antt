@@ -9,7 +9,7 @@ use Rattle.table_model.specs.Table.{Table}
 use Rattle.table_model.specs.declared.names.BatchName.{BatchName}
 use Rattle.table_model.proofs.NameOrder.{names_total, exact_names}
 use Rattle.segment_core.specs.Segment.{SegmentForm}
-use Rattle.replica_store.specs.Replica.{names_of}
+use Rattle.replica_store.specs.Replica.{names_of, batch_limit}
 use Rattle.replica_store.specs.Segments.{AreStored, rows_in}
 use Rattle.replica_store.specs.Exchange.{AreListable}
 use Rattle.replica_store.proofs.Names.{contains-names_of}
@@ -44,7 +44,7 @@ there : (o : Option SegmentForm) → is_some o ≡ true → (s : SegmentForm) ×
 there None e = cc
 there (Some s) e = (s, refl)
 
-pub AreListable-names : (t : Table) (m : map.FinMap name_cmp SegmentForm) → AreStored t m → map.len m ≤ 65536 → AreListable (names_of m)
+pub AreListable-names : (t : Table) (m : map.FinMap name_cmp SegmentForm) → AreStored t m → map.len m ≤ batch_limit → AreListable (names_of m)
 AreListable-names t m stored limit = record {
   limit = omega (arith, limit, len-names_of m);
   proper = λ name has. let held = there (map.get m name) (sym (contains-names_of m name) ∙ has) in let here = stored name held.0 held.1 in here.proper;

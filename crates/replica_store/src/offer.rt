@@ -6,7 +6,7 @@ ghost use Rattle.table_model.specs.Outcome.{Gives};
 ghost use Rattle.table_model.specs.Table.{IsBatch};
 ghost use Rattle.segment_core.specs.Segment.{widths_in, widths_of};
 ghost use Rattle.segment_core.specs.SegmentBytes.{HasBytesIn};
-ghost use Rattle.replica_store.specs.Replica.{IsWithinLimits};
+ghost use Rattle.replica_store.specs.Replica.{IsWithinLimits, batch_limit};
 ghost use Rattle.replica_store.specs.Segments.{rows_in};
 ghost use Rattle.replica_store.specs.Exchange.{AreOffered, opened};
 
@@ -86,7 +86,7 @@ impl Offer {
     /// How many batches there are.
     pub fn batches(&self) -> usize
         ensures value { result ≡ map.len self.now.state.batches }
-        ensures limit { result ≤ 65536 }
+        ensures limit { result ≤ batch_limit }
         ensures within { IsWithinLimits self.now.schema self.now.state.batches }
     {
         self.entries.len()

@@ -10,7 +10,7 @@ ghost use Rattle.segment_core.specs.Segment.{canonical_segment, widths_in, width
 ghost use Rattle.segment_core.specs.SegmentBytes.{HasBytesIn};
 ghost use Rattle.replica_store.specs.Exchange.{summary_of, offered, unlisted, applied, opened};
 ghost use Rattle.replica_store.specs.Parted.{AreParted};
-ghost use Rattle.replica_store.specs.Replica.{Replica, IsWithinLimits, new_replica, entries_of, names_of, appended, inserted, merged, merge_fault, next_name, place_for, replica_with, with_batch, joined_with, deleted_rows, delete_fault, recoded_rows, recode_fault};
+ghost use Rattle.replica_store.specs.Replica.{Replica, IsWithinLimits, new_replica, entries_of, names_of, appended, inserted, merged, merge_fault, next_name, place_for, replica_with, with_batch, joined_with, deleted_rows, delete_fault, recoded_rows, recode_fault, batch_limit};
 ghost use Rattle.replica_store.specs.Segments.{rows_in, union_in, recoded_in, AreStored, IsStored, IsSoundStore, HasVector};
 ghost use Rattle.segment_core.specs.declared.coding.Coding.{Coding};
 ghost use Rattle.replica_store.specs.declared.inserted.Inserted.TheVariants.{New, Already};
@@ -108,7 +108,7 @@ impl Store {
     /// How many batches there are.
     pub fn batches(&self) -> usize
         ensures value { result ≡ map.len self.now.replica.state.batches }
-        ensures limit { result ≤ 65536 }
+        ensures limit { result ≤ batch_limit }
         ensures within { IsWithinLimits self.now.replica.schema self.now.replica.state.batches }
     {
         self.batches.len()
@@ -349,7 +349,7 @@ impl Store {
     fn add(&mut self, alloc: Global, name: BatchName, rows: &[Row]) -> Result<(), AllocError>
         requires proper { IsTrue (is_proper_name name) }
         requires new { map.get self.old.replica.state.batches name ≡ None }
-        requires room { map.len self.old.replica.state.batches < 65536 }
+        requires room { map.len self.old.replica.state.batches < batch_limit }
         requires fit { IsBatch self.old.replica.schema rows.now }
         ensures ok { OnOk result (self.new.replica ≡ with_batch self.old.replica name rows.now) }
         ensures segments { OnOk result (self.new.segments ≡ map.insert self.old.segments name (canonical_segment self.old.replica.schema rows.now)) }
@@ -414,7 +414,7 @@ impl Store {
         requires sorted { T (map.is_sorted name_cmp (first.now ++ second.now)) }
         requires names { names.now ≡ names_of (map.from_sorted (first.now ++ second.now)) }
         requires stored { AreStored self.old.replica.schema (map.from_sorted (first.now ++ second.now)) }
-        requires limit { map.len (union_of self.old.replica.state.batches (rows_in (map.from_sorted (first.now ++ second.now)))) ≤ 65536 }
+        requires limit { map.len (union_of self.old.replica.state.batches (rows_in (map.from_sorted (first.now ++ second.now)))) ≤ batch_limit }
         ensures ok { OnOk result (self.new.replica ≡ joined_with self.old.replica (record { batches = rows_in (map.from_sorted (first.now ++ second.now)); deleted = tombs.now })) }
         ensures segments { OnOk result (self.new.segments ≡ union_in self.old.segments (map.from_sorted (first.now ++ second.now))) }
         ensures err { OnErr result (self.new ≡ self.old) }

@@ -4,6 +4,6 @@ use Rattle.table_model.specs.declared.refusal.Refusal.{Refusal}
 use Rattle.table_model.specs.declared.refusal.Refusal.TheVariants.{Memory, BadLine}
 
 -- what was read, seen by view, is what is given; it is refused as BadLine where nothing is given, or for want of memory
-abbrev pub Reads : {X Y : Type 0} → (X → Y) → Result X Refusal → Option Y → Type 0
-Reads view (Ok x) given = given ≡ Some (view x)
-Reads view (Err e) given = ((given ≡ None) × (e ≡ BadLine)) ⊎ (e ≡ Memory)
+abbrev pub ReadsPart : {X Y : Type 0} → (X → Y) → Result X Refusal → Option Y → Type 0
+ReadsPart view (Ok x) given = given ≡ Some (view x)
+ReadsPart view (Err e) given = ((given ≡ None) × (e ≡ BadLine)) ⊎ (e ≡ Memory)

@@ -1,6 +1,6 @@
 //! The columns of a line that makes a table.
 ghost use Rattle.std.specs.Prelude.{◌≡◌, ◌∷◌, ◌<◌, ◌≤◌, map, length, option_map, option_and_then, IfSome};
-ghost use Rattle.script_lines.specs.Reading.{Reads};
+ghost use Rattle.script_lines.specs.Reading.{ReadsPart};
 ghost use Rattle.script_lines.specs.Word.{pieces};
 ghost use Rattle.script_lines.specs.Line.{columns_of, words_left, left_len};
 
@@ -10,7 +10,7 @@ use table_model::{ColType, Refusal};
 
 /// The columns that the words of a text name: a name and a type for each.
 pub fn columns<'a>(alloc: Global, text: &'a str) -> Result<Vec<(&'a str, ColType)>, Refusal>
-    ensures { Reads (λ columns. map (λ column. (column.0.now, column.1)) columns.items) result (columns_of (pieces 32 text.now)) }
+    ensures { ReadsPart (λ columns. map (λ column. (column.0.now, column.1)) columns.items) result (columns_of (pieces 32 text.now)) }
 {
     let mut columns = Vec::new(alloc);
     let mut rest = Some(text);

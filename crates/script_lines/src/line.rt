@@ -1,7 +1,7 @@
 //! Lines of a script, and which commands they are.
 ghost use Rattle.std.specs.Prelude.{◌≡◌, ◌<◌, ◌≤◌, option_map, IfSome};
 ghost use Rattle.std.specs.List.{list_all};
-ghost use Rattle.script_lines.specs.Reading.{Reads};
+ghost use Rattle.script_lines.specs.Reading.{ReadsPart};
 ghost use Rattle.script_lines.specs.Line.{addressed, append_words, insert_words, delete_words, merge_words, ask_words, serve_words, take_words, recode_words, open_words, export_words, query_words, step_words, longer_step, step_line, replicas_of, table_words, table_line, words_of, is_printable, command_of};
 
 use crate::columns::columns;
@@ -17,7 +17,7 @@ use table_model::{Refusal, RowName};
 /// Where memory lacks, `Memory` may come in place of either.
 #[tactic(auto, unfolding(crate::specs::Line::command_of))]
 pub fn parse_line<'a>(alloc: Global, line: &'a [u8]) -> Result<Command<'a>, Refusal>
-    ensures { Reads (λ command. command) result (command_of line.now) }
+    ensures { ReadsPart (λ command. command) result (command_of line.now) }
 {
     if !is_printable(line) {
         return Err(Refusal::BadLine);
@@ -41,7 +41,7 @@ pub(crate) fn is_printable(line: &[u8]) -> bool
 /// What the first word asks for, with the words that follow it.
 #[tactic(auto, unfolding(crate::specs::Line::words_of))]
 fn words<'a>(alloc: Global, word: &str, rest: &'a str) -> Result<Command<'a>, Refusal>
-    ensures { Reads (λ command. command) result (words_of word.now rest.now) }
+    ensures { ReadsPart (λ command. command) result (words_of word.now rest.now) }
 {
     if word == "table" {
         let table = table_line(alloc, rest)?;
@@ -54,7 +54,7 @@ fn words<'a>(alloc: Global, word: &str, rest: &'a str) -> Result<Command<'a>, Re
 /// The line that makes a table: how many replicas, its name, and its columns.
 #[tactic(auto, unfolding(crate::specs::Line::table_line))]
 fn table_line<'a>(alloc: Global, text: &'a str) -> Result<TableCommand<'a>, Refusal>
-    ensures { Reads (λ table. table) result (table_line text.now) }
+    ensures { ReadsPart (λ table. table) result (table_line text.now) }
 {
     let Some((replicas, table, rest)) = table_words(text) else {
         return Err(Refusal::BadLine);
@@ -93,7 +93,7 @@ pub(crate) fn replicas(text: &str) -> Option<usize>
 /// The step of a line's first word and the words that follow it.
 #[tactic(auto, unfolding(crate::specs::Line::step_line))]
 fn step_line(alloc: Global, word: &str, text: &str) -> Result<Step, Refusal>
-    ensures { Reads (λ step. step) result (step_line word.now text.now) }
+    ensures { ReadsPart (λ step. step) result (step_line word.now text.now) }
 {
     if word == "ask" {
         return required(ask_words(text));
@@ -107,7 +107,7 @@ fn step_line(alloc: Global, word: &str, text: &str) -> Result<Step, Refusal>
 /// The step of a line's first word, a replica and further words.
 #[tactic(auto, unfolding(crate::specs::Line::longer_step))]
 fn longer_step(alloc: Global, word: &str, text: &str) -> Result<Step, Refusal>
-    ensures { Reads (λ step. step) result (longer_step word.now text.now) }
+    ensures { ReadsPart (λ step. step) result (longer_step word.now text.now) }
 {
     let Some((replica, rest)) = addressed(text) else {
         return Err(Refusal::BadLine);
@@ -128,7 +128,7 @@ fn addressed(text: &str) -> Option<(u32, &str)>
 /// The step of a line's first word and a replica, with the words that follow them.
 #[tactic(auto, unfolding(crate::specs::Line::step_words))]
 fn step_words(alloc: Global, word: &str, replica: u32, text: &str) -> Result<Step, Refusal>
-    ensures { Reads (λ step. step) result (step_words word.now replica text.now) }
+    ensures { ReadsPart (λ step. step) result (step_words word.now replica text.now) }
 {
     if word == "append" {
         return append_words(alloc, replica, text);
@@ -162,7 +162,7 @@ fn step_words(alloc: Global, word: &str, replica: u32, text: &str) -> Result<Ste
 
 /// The step, which is missing only where the words are wrong.
 fn required(step: Option<Step>) -> Result<Step, Refusal>
-    ensures { Reads (λ step. step) result step }
+    ensures { ReadsPart (λ step. step) result step }
 {
     match step {
         None => Err(Refusal::BadLine),
@@ -173,7 +173,7 @@ fn required(step: Option<Step>) -> Result<Step, Refusal>
 /// `append R ROWS`
 #[tactic(auto, unfolding(crate::specs::Line::append_words))]
 fn append_words(alloc: Global, replica: u32, text: &str) -> Result<Step, Refusal>
-    ensures { Reads (λ step. step) result (append_words replica text.now) }
+    ensures { ReadsPart (λ step. step) result (append_words replica text.now) }
 {
     let rows = rows(alloc, text)?;
     Ok(Step::Append { replica, rows })
@@ -182,7 +182,7 @@ fn append_words(alloc: Global, replica: u32, text: &str) -> Result<Step, Refusal
 /// `insert R O.N ROWS`
 #[tactic(auto, unfolding(crate::specs::Line::insert_words))]
 fn insert_words(alloc: Global, replica: u32, text: &str) -> Result<Step, Refusal>
-    ensures { Reads (λ step. step) result (insert_words replica text.now) }
+    ensures { ReadsPart (λ step. step) result (insert_words replica text.now) }
 {
     let Some((name, rest)) = cut(text, ' ') else {
         return Err(Refusal::BadLine);
@@ -278,7 +278,7 @@ fn recode_words(replica: u32, text: &str) -> Option<Step>
 /// `open R HEX`
 #[tactic(auto, unfolding(crate::specs::Line::open_words))]
 fn open_words(alloc: Global, replica: u32, text: &str) -> Result<Step, Refusal>
-    ensures { Reads (λ step. step) result (open_words replica text.now) }
+    ensures { ReadsPart (λ step. step) result (open_words replica text.now) }
 {
     let file = file(alloc, text)?;
     Ok(Step::Open { replica, file })
@@ -296,7 +296,7 @@ fn export_words(text: &str) -> Option<Step>
 /// `query R SQL`
 #[tactic(auto, unfolding(crate::specs::Line::query_words))]
 fn query_words(alloc: Global, replica: u32, text: &str) -> Result<Step, Refusal>
-    ensures { Reads (λ step. step) result (query_words replica text.now) }
+    ensures { ReadsPart (λ step. step) result (query_words replica text.now) }
 {
     let Some(text) = some_text(text) else {
         return Err(Refusal::BadLine);

@@ -1,5 +1,5 @@
 //! Rows of a line: values in parentheses, joined by commas.
-ghost use Rattle.script_lines.specs.Reading.{Reads};
+ghost use Rattle.script_lines.specs.Reading.{ReadsPart};
 ghost use Rattle.script_lines.specs.Word.{cells_of, opened_cells, rows_of};
 
 use crate::words::{cell, cut, without};
@@ -8,7 +8,7 @@ use table_model::{Refusal, Row, Rows};
 
 /// The rows that the text writes: at least one.
 pub fn rows(alloc: Global, text: &str) -> Result<Rows, Refusal>
-    ensures { Reads (λ rows. rows) result (rows_of text.now) }
+    ensures { ReadsPart (λ rows. rows) result (rows_of text.now) }
 {
     let mut rows = Vec::new(alloc);
     let mut rest = text;
@@ -27,7 +27,7 @@ pub fn rows(alloc: Global, text: &str) -> Result<Rows, Refusal>
 
 /// The row of values that follow a parenthesis.
 fn opened_cells(alloc: Global, text: &str) -> Result<Row, Refusal>
-    ensures { Reads (λ row. row) result (opened_cells text.now) }
+    ensures { ReadsPart (λ row. row) result (opened_cells text.now) }
 {
     match without(text, '(') {
         None => Err(Refusal::BadLine),
@@ -37,7 +37,7 @@ fn opened_cells(alloc: Global, text: &str) -> Result<Row, Refusal>
 
 /// The row of values that are joined by commas.
 fn cells(alloc: Global, text: &str) -> Result<Row, Refusal>
-    ensures { Reads (λ row. row) result (cells_of text.now) }
+    ensures { ReadsPart (λ row. row) result (cells_of text.now) }
 {
     let mut cells = Vec::new(alloc);
     let mut rest = text;

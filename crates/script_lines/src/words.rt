@@ -3,7 +3,7 @@ ghost use Rattle.std.specs.Prelude.{◌≡◌, ◌<◌, ◌≤◌, ◌^◌, leng
 ghost use Rattle.std.specs.List.{list_all};
 ghost use Rattle.std.specs.Char.{is_ascii_digit};
 ghost use Rattle.std.specs.Str.Parse.{digits_value};
-ghost use Rattle.script_lines.specs.Reading.{Reads};
+ghost use Rattle.script_lines.specs.Reading.{ReadsPart};
 ghost use Rattle.script_lines.specs.Word.{cut, without, is_numeral, number_of, small_number, ordinal_of, name_of, magnitude_of, integer_of, cell_of, cells_of, opened_cells, rows_of, type_of, coding_of, some_text, file_of};
 
 use crate::file_bytes::FileBytes;
@@ -185,7 +185,7 @@ pub fn some_text(text: &str) -> Option<&str>
 
 /// The bytes that hexadecimal digits write, in either case: at least one.
 pub fn file(alloc: Global, text: &str) -> Result<FileBytes, Refusal>
-    ensures { Reads (λ file. file) result (file_of text.now) }
+    ensures { ReadsPart (λ file. file) result (file_of text.now) }
 {
     let Some(digits) = some_text(text) else {
         return Err(Refusal::BadLine);

@@ -6,7 +6,8 @@ use Rattle.std.proofs.lemmas.List.{take_at, drop_at, take-append-drop, length-ap
 use Rattle.std.proofs.lemmas.List.Folds.{list_all-append}
 use Rattle.table_model.specs.declared.refusal.Refusal.{Refusal}
 use Rattle.table_model.specs.declared.refusal.Refusal.TheVariants.{Truncated}
-use Rattle.segment_core.specs.Format.{Format, IsLawful, AreBytes, is_byte, ◌>>=◌, raw, seen, spell_some, valid_some, checked, before, optional, read_all, spell_all, valid_all, all}
+use Rattle.table_model.specs.Reading.{◌>>=◌}
+use Rattle.segment_core.specs.Format.{Format, IsLawful, AreBytes, is_byte, raw, seen, spell_some, valid_some, checked, before, optional, read_all, spell_all, valid_all, all}
 
 -- the value of a step that did not fail
 pub bind_ok : {A B : Type 0} (r : Result A Refusal) (f : A → Result B Refusal) (y : B) → (r >>= f) ≡ Ok y → (x : A) × (r ≡ Ok x) × (f x ≡ Ok y)

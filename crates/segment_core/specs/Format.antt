@@ -7,8 +7,9 @@ use Rattle.byteorder.specs.Endian.{little_number, little_bytes}
 use Rattle.table_model.specs.Counted.{one_more}
 use Rattle.table_model.specs.Faults.{AppendsFront}
 use Rattle.table_model.specs.Identifier.{same_text}
+use Rattle.table_model.specs.Reading.{◌>>=◌}
 use Rattle.table_model.specs.declared.refusal.Refusal.{Refusal}
-use Rattle.table_model.specs.declared.refusal.Refusal.TheVariants.{Memory, Truncated, TrailingBytes, WriteFault}
+use Rattle.table_model.specs.declared.refusal.Refusal.TheVariants.{Truncated, TrailingBytes, WriteFault}
 use Rattle.bit_interleave.specs.Arithmetic.{integer_width}
 
 -- A format of values: the bytes of a value, whether a value has bytes, and, given how many bytes the whole input has, the value
@@ -31,17 +32,6 @@ pub record IsLawful {A : Type 0} (f : Format A) : Type 0 where
   pub takes : (total : ℕ) (bytes : List ℕ) (x : A) (rest : List ℕ) → AreBytes bytes → f.read total bytes ≡ Ok (x, rest)
       → (bytes ≡ f.spell x ++ rest) × (f.valid x ≡ true)
   pub again : (total : ℕ) (x : A) (rest : List ℕ) → f.valid x ≡ true → f.read total (f.spell x ++ rest) ≡ Ok (x, rest)
-
--- what a call that grows as it reads returned, seen by view, is what is read; Memory may come in the place of anything
-abbrev pub Reads : {X Y : Type 0} → (X → Y) → Result X Refusal → Result Y Refusal → Type 0
-Reads view (Ok x) read = read ≡ Ok (view x)
-Reads view (Err e) read = ((e ≡ Memory) → ⊥) → read ≡ Err e
-
-infixl 10 ◌>>=◌
--- reading goes on from what was read
-abbrev pub ◌>>=◌ : {X Y : Type 0} → Result X Refusal → (X → Result Y Refusal) → Result Y Refusal
-(Ok x) >>= f = f x
-(Err e) >>= f = Err e
 
 -- so many bytes as they stand
 abbrev pub raw : ℕ → Format (List ℕ)

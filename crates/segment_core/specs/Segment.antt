@@ -2,7 +2,7 @@
 use Rattle.std.specs.Prelude.{◌≡◌, ℕ, ◌<◌, ◌+◌, ◌-◌, ◌*◌, ◌/◌, ◌%◌, ◌≤◌, min, Bool, IsTrue, ℤ, List, [], ◌∷◌, map, take, drop, length, slice_get, slice_index_or, slice_set, Option, Some, None, Result, Ok, Err}
 use Rattle.std.specs.List.{range_with_len}
 use Rattle.table_model.specs.State.{Cells, Batch}
-use Rattle.table_model.specs.Table.{Table, ColumnShape, bits_of}
+use Rattle.table_model.specs.Table.{Table, ColumnShape, bits_of, row_limit}
 use Rattle.table_model.specs.declared.refusal.Refusal.{Refusal}
 use Rattle.table_model.specs.declared.refusal.Refusal.TheVariants.{NoSuchVector}
 use Rattle.segment_core.specs.Fill.{AreCellsInRange}
@@ -50,7 +50,7 @@ pub record IsColumn (rows : ℕ) (vectors : List VectorForm) : Type 0 where
 -- the vectors of a segment: 1 to 65,536 rows in 1 to 32 columns
 pub record IsSegment (rows : ℕ) (forms : List (List VectorForm)) : Type 0 where
   pub some : 1 ≤ rows
-  pub limit : rows ≤ 65536
+  pub limit : rows ≤ row_limit
   pub some_columns : 1 ≤ length forms
   pub columns_limit : length forms ≤ 32
   pub columns : (c : ℕ) (vectors : List VectorForm) → slice_get forms c ≡ Some vectors → IsColumn rows vectors

@@ -1,6 +1,7 @@
 //! Canonical vectors of the rows of a batch.
 ghost use Rattle.std.specs.Prelude.{◌≡◌, ◌≢◌, ℕ, ◌*◌, ◌<◌, ◌≤◌, false, ℤ, FitsSigned, None, [], length, take, drop, slice_index_or, IfSome, IsSome, IfOk};
 ghost use Rattle.std.specs.Int.{w64};
+ghost use Rattle.table_model.specs.Table.{row_limit};
 ghost use Rattle.transpose_order.specs.Place.{IsLaneWidth};
 ghost use Rattle.transpose_order.specs.Mask.{has};
 ghost use Rattle.bit_interleave.specs.Range.{value_at};
@@ -23,7 +24,7 @@ pub(crate) fn canonical_column(
     column: usize,
 ) -> Result<Vectors, AllocError>
     requires lane_width { IsLaneWidth lane_width }
-    requires limit { length rows.now ≤ 65536 }
+    requires limit { length rows.now ≤ row_limit }
     requires column { HasColumn lane_width rows.now column }
     ensures { IfOk result (λ vectors. vectors ≡ canonical_column lane_width (column_cells rows.now column)) }
 {
@@ -38,7 +39,7 @@ pub(crate) fn canonical_column(
 
 /// The rows that vector `k` covers.
 pub(crate) fn rows_in(rows: &[Row], k: usize) -> &[Row]
-    requires limit { length rows.now ≤ 65536 }
+    requires limit { length rows.now ≤ row_limit }
     requires within { 1024 * k < length rows.now }
     ensures { result.now ≡ take 1024 (drop (1024 * k) rows.now) }
 {

@@ -4,7 +4,8 @@ ghost use Rattle.std.specs.List.{All};
 ghost use Rattle.transpose_order.specs.Place.{IsLaneWidth};
 ghost use Rattle.bit_interleave.specs.Arithmetic.{integer_width};
 ghost use Rattle.bit_interleave.specs.PackedWords.{HasWidth};
-ghost use Rattle.segment_core.specs.Format.{Format, Reads, number, signed, all};
+ghost use Rattle.table_model.specs.Reading.{Reads};
+ghost use Rattle.segment_core.specs.Format.{Format, number, signed, all};
 ghost use Rattle.segment_core.specs.VectorBytes.{words};
 
 use bit_interleave::{Values, Words, wrap};

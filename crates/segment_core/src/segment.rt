@@ -3,7 +3,7 @@ ghost use Rattle.std.specs.Prelude.{◌≡◌, ◌<◌, ◌≤◌, Some, length,
 ghost use Rattle.std.specs.Option.{option_map, option_copied};
 ghost use Rattle.table_model.specs.Outcome.{Acts, Gives};
 ghost use Rattle.table_model.specs.State.{same_rows};
-ghost use Rattle.table_model.specs.Table.{Table, IsBatch, IsTable};
+ghost use Rattle.table_model.specs.Table.{Table, IsBatch, IsTable, row_limit};
 ghost use Rattle.segment_core.specs.Segment.{batch_of, vector_at, vector_count, canonical_forms, canonical_segment, canonical_again, canonical_vectors, widths_of, widths_in, cell_at, column_cells, AreCanonical, HaveSameCells, HasCellsOf, recoded, recoded_found, with_vector, IsSegment, FormsTellRows};
 ghost use Rattle.segment_core.specs.SegmentBytes.{HasBytesIn};
 ghost use Rattle.segment_core.specs.Coded.{coding_of};
@@ -334,7 +334,7 @@ fn have_length(rows: &[Row], columns: usize) -> bool
 
 /// Whether columns of as many rows have the cells of some rows, each of which has a cell for each column.
 fn have_cells(columns: &[Vectors], rows: &[Row]) -> bool
-    requires limit { length rows.now ≤ 65536 }
+    requires limit { length rows.now ≤ row_limit }
     requires long { (c : ℕ) (vectors : List VectorForm) → slice_get columns.now c ≡ Some vectors → length vectors ≡ vector_count (length rows.now) }
     requires there { (n : ℕ) → n < length rows.now → length (slice_index_or rows.now n []) ≡ length columns.now }
     ensures { IsTrue result ↔ ((c : ℕ) (vectors : List VectorForm) → slice_get columns.now c ≡ Some vectors → HasCellsOf vectors (column_cells rows.now c)) }

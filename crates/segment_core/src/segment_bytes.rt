@@ -1,10 +1,11 @@
 //! Segments in bytes: for each column, each of its vectors.
 ghost use Rattle.std.specs.Prelude.{◌≡◌, ℕ, ◌≤◌, ◌++◌, Some, List, drop, length, map, slice_get, slice_range, IfOk, IsTrue};
 ghost use Rattle.transpose_order.specs.Place.{IsLaneWidth};
-ghost use Rattle.table_model.specs.Table.{bits_of, ColumnShape};
+ghost use Rattle.table_model.specs.Table.{bits_of, ColumnShape, row_limit};
 ghost use Rattle.segment_core.specs.Segment.{IsColumn, batch_of, width_in, widths_in, widths_of};
 ghost use Rattle.segment_core.specs.CodedVector.{VectorForm};
-ghost use Rattle.segment_core.specs.Format.{Format, Reads};
+ghost use Rattle.table_model.specs.Reading.{Reads};
+ghost use Rattle.segment_core.specs.Format.{Format};
 ghost use Rattle.segment_core.specs.SegmentBytes.{column, columns, batch_columns, columns_then, segment_bytes, HasBytesIn};
 
 use crate::segment::Segment;
@@ -25,7 +26,7 @@ fn read_column(
 ) -> Result<(Vectors, &[u8]), Refusal>
     requires lane_width { IsLaneWidth lane_width }
     requires some { 1 ≤ rows }
-    requires limit { rows ≤ 65536 }
+    requires limit { rows ≤ row_limit }
     ensures read { Reads (λ x. (x.0, x.1.now)) result ((column lane_width rows).read total bytes.now) }
     ensures form { IfOk result (λ x. IsColumn rows x.0) }
     ensures lanes { IfOk result (λ x. width_in x.0 ≡ lane_width) }
@@ -52,7 +53,7 @@ fn read_columns<'a>(
     rows: usize,
 ) -> Result<(Vec<Vectors>, &'a [u8]), Refusal>
     requires some { 1 ≤ rows }
-    requires limit { rows ≤ 65536 }
+    requires limit { rows ≤ row_limit }
     ensures read { Reads (λ x. (x.0.items, x.1.now)) result
         ((columns (map (λ (shape : ColumnShape). bits_of shape.column_type) shapes.now) rows).read total bytes.now) }
     ensures count { IfOk result (λ x. length x.0.items ≡ length shapes.now) }
@@ -83,7 +84,7 @@ impl Segment {
         at: usize,
     ) -> Result<(Segment, usize), Refusal>
         requires some { 1 ≤ rows }
-        requires limit { rows ≤ 65536 }
+        requires limit { rows ≤ row_limit }
         requires at { at ≤ length bytes.now }
 
         // What is read is spelled so, and its rows are so many.

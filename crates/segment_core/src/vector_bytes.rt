@@ -7,7 +7,8 @@ ghost use Rattle.run_dictionary.specs.Runs.{run_of};
 ghost use Rattle.run_dictionary.specs.Dict.{AreCodesBelow, IsAscending};
 ghost use Rattle.segment_core.specs.Coded.{lane_width_of};
 ghost use Rattle.segment_core.specs.CodedVector.{AreNulls, IsNullMask, IsVector};
-ghost use Rattle.segment_core.specs.Format.{Format, Reads, checked};
+ghost use Rattle.table_model.specs.Reading.{Reads};
+ghost use Rattle.segment_core.specs.Format.{Format, checked};
 ghost use Rattle.segment_core.specs.VectorBytes.{mask, nulls, is_null_mask, tag_of, coding_tagged, coding, is_width, is_count, header, frame, deltas, starts, runs, is_above, dictionary, are_codes_below, codes, dict, payload, coded, vector};
 
 use crate::boxed::Boxed;

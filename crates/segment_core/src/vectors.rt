@@ -1,5 +1,6 @@
 //! The vectors of a column, from the first rows on.
 ghost use Rattle.std.specs.Prelude.{◌≡◌, ◌<◌, ◌≤◌, ◌↔◌, ℕ, [], length, slice_set, slice_index_or, IsTrue, IfOk};
+ghost use Rattle.table_model.specs.Table.{row_limit};
 ghost use Rattle.segment_core.specs.Segment.{column_cells, vector_count, canonical_vectors, AreCanonical, HaveSameCells, HasCellsOf};
 
 use crate::build::rows_in;
@@ -63,7 +64,7 @@ impl Vectors {
 
     /// Whether the column has the cells of a column of some rows, vector by vector. It takes no memory.
     pub fn has_cells(&self, rows: &[Row], column: usize) -> bool
-        requires limit { length rows.now ≤ 65536 }
+        requires limit { length rows.now ≤ row_limit }
         requires count { length self.now ≡ vector_count (length rows.now) }
         requires there { (n : ℕ) → n < length rows.now → column < length (slice_index_or rows.now n []) }
         ensures { IsTrue result ↔ HasCellsOf self.now (column_cells rows.now column) }
@@ -137,7 +138,7 @@ fn same_cells(vectors: &[CodedVector], others: &[CodedVector]) -> bool
 
 /// Whether the vectors have the cells of a column of some rows, vector by vector.
 fn has_cells(vectors: &[CodedVector], rows: &[Row], column: usize) -> bool
-    requires limit { length rows.now ≤ 65536 }
+    requires limit { length rows.now ≤ row_limit }
     requires count { length vectors.now ≡ vector_count (length rows.now) }
     requires there { (n : ℕ) → n < length rows.now → column < length (slice_index_or rows.now n []) }
     ensures { IsTrue result ↔ HasCellsOf vectors.now (column_cells rows.now column) }

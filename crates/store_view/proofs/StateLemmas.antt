@@ -1,10 +1,10 @@
--- A store's state is one that a query may be asked of: each batch is one of the table's, and there are at most 2^32 rows.
+-- A store's state is one that a query may be asked of: each batch is one of the table's, and there are no more rows than a state may have.
 use Rattle.std.proofs.Common.{◌≡◌, ℕ, zero, suc, ◌*◌, ◌<◌, ◌≤◌, ◌&&◌, not, nat_lt, List, [], ◌∷◌, length, flat_map, get_or, slice_get, Some, refl, sym, ◌∙◌, ap, arith}
 use Rattle.std.proofs.lemmas.List.{length-append}
 use Rattle.std.specs.FinMap as finite
 use Rattle.std.specs.FinSet as set
 use Rattle.table_model.specs.State.{Batch, State, named_from}
-use Rattle.table_model.specs.Table.{Table, IsBatch}
+use Rattle.table_model.specs.Table.{Table, IsBatch, row_limit}
 use Rattle.table_model.specs.declared.names.BatchName.{BatchName}
 use Rattle.catalogue_join.specs.LiveMask as catalogue
 use Rattle.replica_store.specs.Replica.{AllFit, IsWithinLimits}
@@ -23,12 +23,12 @@ entry_fits table [] i d fit h = absurd (omega arith)
 entry_fits table (e ∷ es) zero d fit h = fit.0.fits
 entry_fits table (e ∷ es) (suc i) d fit h = entry_fits table es i d fit.1 (omega arith)
 
-few_rows : (table : Table) (es : List Entry) → AllFit table es → length (flat_map (λ (e : Entry). named_from e.0 0 e.1) es) ≤ 65536 * length es
+few_rows : (table : Table) (es : List Entry) → AllFit table es → length (flat_map (λ (e : Entry). named_from e.0 0 e.1) es) ≤ row_limit * length es
 few_rows table [] fit = omega arith
 few_rows table (e ∷ es) fit =
     let first : length (named_from e.0 0 e.1) ≡ length e.1 = length-named_from e.0 0 e.1 in
-    let limit : length e.1 ≤ 65536 = fit.0.fits.limit in
-    let rest : length (flat_map (λ (e : Entry). named_from e.0 0 e.1) es) ≤ 65536 * length es = few_rows table es fit.1 in
+    let limit : length e.1 ≤ row_limit = fit.0.fits.limit in
+    let rest : length (flat_map (λ (e : Entry). named_from e.0 0 e.1) es) ≤ row_limit * length es = few_rows table es fit.1 in
     let both = length-append (named_from e.0 0 e.1) (flat_map (λ (e : Entry). named_from e.0 0 e.1) es) in
     omega arith
 

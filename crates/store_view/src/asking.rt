@@ -1,6 +1,6 @@
 //! Asking a store a query.
 ghost use Rattle.std.specs.Prelude.{◌≡◌, IsTrue, IfErr};
-ghost use Rattle.query_parser.specs.Descent.{Reads};
+ghost use Rattle.table_model.specs.Reading.{Reads};
 ghost use Rattle.store_view.specs.Asked.{query_answer, is_refusal_of_query};
 
 use crate::view::StoreView;

@@ -5,7 +5,7 @@ use Rattle.std.specs.Int.Signed.{le_z_yes}
 use Rattle.std.proofs.lemmas.Bool.{and_parts}
 use Rattle.std.proofs.lemmas.Bool.Decides.{nat_tests}
 use Rattle.table_model.specs.State.{Cells, Batch}
-use Rattle.table_model.specs.Table.{Table, ColumnShape, least_of, greatest_of, fits, cells_fault, row_fault, first_fault, or_else, Fits, IsRow, AreRows, IsBatch}
+use Rattle.table_model.specs.Table.{Table, ColumnShape, least_of, greatest_of, fits, cells_fault, row_fault, first_fault, or_else, Fits, IsRow, AreRows, IsBatch, row_limit}
 use Rattle.table_model.specs.declared.refusal.Refusal.TheVariants.{WrongArity, OutOfType}
 
 holds_true : {b : Bool} → b ≡ true → T b
@@ -76,7 +76,7 @@ fault-AreRows : (columns : List ColumnShape) (row : ℕ) (rows : Batch) → AreR
 fault-AreRows columns row [] h = refl
 fault-AreRows columns row (cells ∷ rows) h = ap (λ o. or_else o (first_fault columns (suc row) rows)) (fault-IsRow columns row cells h.0) ∙ fault-AreRows columns (suc row) rows h.1
 
-pub IsBatch-fault : (table : Table) (rows : Batch) → 1 ≤ length rows → length rows ≤ 65536 → first_fault table.columns 0 rows ≡ None → IsBatch table rows
+pub IsBatch-fault : (table : Table) (rows : Batch) → 1 ≤ length rows → length rows ≤ row_limit → first_fault table.columns 0 rows ≡ None → IsBatch table rows
 IsBatch-fault table rows some limit e = record { some = some; limit = limit; rows_fit = AreRows-fault table.columns 0 rows e }
 
 pub fault-IsBatch : (table : Table) (rows : Batch) → IsBatch table rows → first_fault table.columns 0 rows ≡ None

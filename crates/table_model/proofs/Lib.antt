@@ -9,6 +9,7 @@ pub mod KeyLists
 pub mod Keys
 pub mod NameOrder
 pub mod Operations
+pub mod OrMemory
 pub mod OwnTable
 pub mod Parts
 pub mod Predicates

@@ -13,6 +13,7 @@ pub mod Passes
 pub mod Query
 pub mod QueryCode
 pub mod QueryFalls
+pub mod Reading
 pub mod RefusalText
 pub mod Sameness
 pub mod State

@@ -119,10 +119,14 @@ abbrev pub first_fault : List ColumnShape → ℕ → Batch → Option Refusal
 first_fault columns row [] = None
 first_fault columns row (cells ∷ rows) = or_else (row_fault columns row cells) (first_fault columns (suc row) rows)
 
+-- how many rows a batch may have
+abbrev pub row_limit : ℕ
+row_limit = 65536
+
 -- the first fault of a batch's rows, if there is one
 unfoldable pub rows_fault : Table → Batch → Option Refusal
 rows_fault table rows =
-    cond (length rows == 0) (Some EmptyBatch) (cond (nat_lt 65536 (length rows)) (Some BatchTooLong) (first_fault table.columns 0 rows))
+    cond (length rows == 0) (Some EmptyBatch) (cond (nat_lt row_limit (length rows)) (Some BatchTooLong) (first_fault table.columns 0 rows))
 
 -- a cell is null, or its type has the value
 abbrev pub Fits : ColumnShape → Option ℤ → Type 0
@@ -144,7 +148,7 @@ AreRows columns (cells ∷ rows) = IsRow columns cells × AreRows columns rows
 -- a batch of a table: from 1 to 65,536 rows
 pub record IsBatch (table : Table) (rows : Batch) : Type 0 where
   pub some : 1 ≤ length rows
-  pub limit : length rows ≤ 65536
+  pub limit : length rows ≤ row_limit
   pub rows_fit : AreRows table.columns rows
 
 -- the type of so many bits

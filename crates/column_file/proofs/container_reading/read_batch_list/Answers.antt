@@ -2,6 +2,7 @@ use Rattle.std.proofs.Common.{◌≡◌, ◌++◌, ◌∷◌, [], map, length, L
 use Rattle.std.specs.List.{All}
 use Rattle.std.proofs.lemmas.List.{map-append}
 use Rattle.std.proofs.lemmas.Result.{err_from_is_err_and}
+use Rattle.table_model.proofs.OrMemory.{or_memory}
 use Rattle.segment_core.proofs.ReadAll.{goes_on, ends, is_done}
 use Rattle.replica_store.specs.Segments.{Entry as Held}
 use Rattle.column_file.specs.ContainerBytes.{IsFound, entry_of, batch}
@@ -11,7 +12,7 @@ use Rattle.column_file.proofs.container_reading.read_batch_list.Goals as goal
 pub returns-in_err-name-clause-read : goal.returns-in_err-name-clause-read
 returns-in_err-name-clause-read c =
     let p = err_from_is_err_and c.from_residual.result c.from_residual.ensures.1 in
-    rw (p.1, p.2) (λ not_memory. ends (batch c.args.schema.now) c.args.count c.loop.counter (map entry_of c.loop.found.items) (length c.args.bytes.now) c.loop.rest.now c.in_err-name.field-0.0 _ c.loop-test.true (rw c.as_slice.ensures.value at c.in_err-name.ensures.read not_memory) c.loop.invariant.read)
+    rw (p.1, p.2) (or_memory c.in_err-name.ensures.read (λ fault. ends (batch c.args.schema.now) c.args.count c.loop.counter (map entry_of c.loop.found.items) (length c.args.bytes.now) c.loop.rest.now c.in_err-name.field-0.0 _ c.loop-test.true (rw c.as_slice.ensures.value at fault) c.loop.invariant.read))
 
 pub loop-preserved : goal.loop-preserved
 loop-preserved c =

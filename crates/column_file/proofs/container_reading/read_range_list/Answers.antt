@@ -1,6 +1,7 @@
 use Rattle.std.proofs.Common.{◌≡◌, ◌++◌, ◌∷◌, [], map, List, ◌∙◌, ap, rules}
 use Rattle.std.proofs.lemmas.List.{map-append}
 use Rattle.std.proofs.lemmas.Result.{err_from_is_err_and}
+use Rattle.table_model.proofs.OrMemory.{or_memory}
 use Rattle.catalogue_join.specs.RowRange.{RowRange}
 use Rattle.segment_core.proofs.ReadAll.{goes_on, ends, is_done}
 use Rattle.column_file.specs.ContainerBytes.{deleted_of, range}
@@ -9,7 +10,7 @@ use Rattle.column_file.proofs.container_reading.read_range_list.Goals as goal
 pub returns-in_err-range : goal.returns-in_err-range
 returns-in_err-range c =
     let p = err_from_is_err_and c.from_residual.result c.from_residual.ensures.1 in
-    rw (p.1, p.2) (λ not_memory. ends range c.args.count c.loop.counter (map deleted_of c.loop.found.items) c.args.total c.loop.rest.now c.in_err-range.field-0.0 _ c.loop-test.true (rw c.as_slice.ensures.value at c.in_err-range.ensures.read not_memory) c.loop.invariant)
+    rw (p.1, p.2) (or_memory c.in_err-range.ensures.read (λ fault. ends range c.args.count c.loop.counter (map deleted_of c.loop.found.items) c.args.total c.loop.rest.now c.in_err-range.field-0.0 _ c.loop-test.true (rw c.as_slice.ensures.value at fault) c.loop.invariant))
 
 pub loop-preserved : goal.loop-preserved
 loop-preserved c =

@@ -1,5 +1,5 @@
 use Rattle.std.proofs.Common.{List, ℕ, subst}
-use Rattle.segment_core.specs.Format.{Reads}
+use Rattle.table_model.specs.Reading.{Reads}
 use Rattle.replica_store.specs.Exchange.{OfferForm}
 use Rattle.column_file.specs.Files.{offer_read}
 use Rattle.std.proofs.lemmas.Result.{err_from_is_err_and}

@@ -1,8 +1,10 @@
 use Rattle.std.proofs.Common.{◌≡◌, ◌∙◌, List, ℕ, Ok, length, map, All, sym, ap, subst, arith}
 use Rattle.std.proofs.lemmas.Result.{err_from_is_err_and}
+use Rattle.table_model.proofs.OrMemory.{or_memory}
 use Rattle.table_model.specs.Table.{Table}
 use Rattle.catalogue_join.specs.RowRange.{RowRange, rows_in}
-use Rattle.segment_core.specs.Format.{read_whole, ◌>>=◌}
+use Rattle.table_model.specs.Reading.{◌>>=◌}
+use Rattle.segment_core.specs.Format.{read_whole}
 use Rattle.segment_core.proofs.FormatLaws.{bytes_at}
 use Rattle.replica_store.specs.Segments.{Entry as Held, IsStored}
 use Rattle.replica_store.specs.Exchange.{OfferForm, AreOffered}
@@ -99,7 +101,7 @@ returns-in_err-compared-clause-read c =
     let rows = c.ranges-3.ensures.rows ∙ c.in_ok-tombs.ensures ∙ ap rows_in c.as_slice.ensures.value in
     let read : canonical_read c.args.bytes.now ≡ (matched c.args.bytes.now text >>= λ (done : Unit {0}). Ok held) = canonical_by c.args.bytes.now t items es rs ms c.in_ok-canonical.canonical fit c.in_ok-schema.ensures.read c.in_ok-schema.ensures.found offered judged c.ranges-3.ensures.maximal rows in
     let p = err_from_is_err_and c.from_residual-in_err-compared.result c.from_residual-in_err-compared.ensures.1 in
-    rw (p.1, p.2) (λ not_memory. refused_by c.args.bytes.now text held c.in_err-compared.field-0.0 read (c.in_err-compared.ensures not_memory))
+    rw (p.1, p.2) (or_memory c.in_err-compared.ensures (λ fault. refused_by c.args.bytes.now text held c.in_err-compared.field-0.0 read fault))
 
 pub from_parts-requires-2 : goal.from_parts-requires-2
 from_parts-requires-2 c =

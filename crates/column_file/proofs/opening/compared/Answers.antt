@@ -1,6 +1,7 @@
 use Rattle.std.proofs.Common.{◌≡◌, ◌∙◌, [], List, ℕ, Some, Result, map, sym, ap, subst}
 use Rattle.table_model.specs.declared.refusal.Refusal.{Refusal}
-use Rattle.segment_core.specs.Format.{Reads, Writes}
+use Rattle.table_model.specs.Reading.{Reads}
+use Rattle.segment_core.specs.Format.{Writes}
 use Rattle.column_file.specs.Comparing.{told}
 use Rattle.column_file.specs.ContainerBytes.{entry_of, deleted_of, container}
 use Rattle.column_file.specs.Differing.{matched}

@@ -1,6 +1,7 @@
 use Rattle.std.proofs.Common.{◌≡◌, ◌++◌, ◌∷◌, [], map, List, ◌∙◌, ap, rules}
 use Rattle.std.proofs.lemmas.List.{map-append}
 use Rattle.std.proofs.lemmas.Result.{err_from_is_err_and}
+use Rattle.table_model.proofs.OrMemory.{or_memory}
 use Rattle.segment_core.proofs.ReadAll.{goes_on, ends, is_done}
 use Rattle.column_file.specs.SchemaBytes.{column}
 use Rattle.column_file.proofs.SchemaReading.{Asked, shape}
@@ -9,7 +10,7 @@ use Rattle.column_file.proofs.schema_reading.read_columns.Goals as goal
 pub returns-in_err-name : goal.returns-in_err-name
 returns-in_err-name c =
     let p = err_from_is_err_and c.from_residual.result c.from_residual.ensures.1 in
-    rw (p.1, p.2) (λ not_memory. ends column c.args.count c.loop.counter (map shape c.loop.columns.items) c.args.total c.loop.rest.now c.in_err-name.field-0.0 _ c.loop-test.true (rw c.as_slice.ensures.value at c.in_err-name.ensures.read not_memory) c.loop.invariant)
+    rw (p.1, p.2) (or_memory c.in_err-name.ensures.read (λ fault. ends column c.args.count c.loop.counter (map shape c.loop.columns.items) c.args.total c.loop.rest.now c.in_err-name.field-0.0 _ c.loop-test.true (rw c.as_slice.ensures.value at fault) c.loop.invariant))
 
 pub loop-preserved : goal.loop-preserved
 loop-preserved c =

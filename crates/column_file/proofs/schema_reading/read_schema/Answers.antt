@@ -1,4 +1,4 @@
-use Rattle.std.proofs.Common.{map, List, ℕ, arith}
+use Rattle.std.proofs.Common.{map, List, ℕ, inr, arith}
 use Rattle.std.proofs.lemmas.Result.{err_from_is_err_and}
 use Rattle.table_model.specs.Table.{schema_of}
 use Rattle.segment_core.proofs.FormatLaws.{bytes_at}
@@ -13,7 +13,7 @@ returns-in_err-schema c =
     let whole = schema_read c.args.total c.args.bytes.now c.in_ok-count.count c.in_ok-count.after_count.now n c.in_ok-table.after_table.now (map shape items) c.in_ok-columns.rest.now c.in_ok-count.ensures.read c.in_ok-table.ensures.read c.in_ok-columns.ensures in
     let given = asked_is c.args.total c.args.bytes.now n items c.in_ok-columns.rest.now (bytes_at c.args.bytes.now (λ i. omega (arith, c.type_inv.bytes i))) whole in
     let lacks = only_memory (schema_of n (map asked items)) (table_of n (map shape items)) c.in_err-schema.field-0.0 given (rw c.as_slice.ensures.value at c.in_err-schema.ensures) in
-    rw (p.1, p.2) (λ not_memory. absurd (not_memory lacks))
+    rw (p.1, p.2) (inr lacks)
 
 pub returns : goal.returns
 returns c =

@@ -4,6 +4,7 @@ use Rattle.std.proofs.lemmas.Int.{to_z-of_z}
 use Rattle.std.proofs.lemmas.List.{take_more_set}
 use Rattle.std.proofs.lemmas.List.Elements.{All-push}
 use Rattle.std.proofs.lemmas.Result.{err_from_is_err_and}
+use Rattle.table_model.proofs.OrMemory.{or_memory}
 use Rattle.bit_interleave.specs.Arithmetic.{integer_width}
 use Rattle.table_model.specs.declared.refusal.Refusal.{Refusal}
 use Rattle.segment_core.specs.Format.{signed}
@@ -13,7 +14,7 @@ use Rattle.segment_core.proofs.formats.read_values.Goals as goal
 pub returns-in_err-value-clause-read : goal.returns-in_err-value-clause-read
 returns-in_err-value-clause-read c =
     let p = err_from_is_err_and c.from_residual.result c.from_residual.ensures.1 in
-    rw (p.1, p.2) (λ not_memory. ends (λ _. signed c.args.lane_width) c.args.count c.loop-i.i (take c.loop-i.i c.loop-i.room) c.args.total c.loop-i.rest.now c.in_err-value.field-0.0 _ c.loop-i-test.true (c.in_err-value.ensures.read not_memory) c.loop-i.invariant.read)
+    rw (p.1, p.2) (or_memory c.in_err-value.ensures.read (λ fault. ends (λ _. signed c.args.lane_width) c.args.count c.loop-i.i (take c.loop-i.i c.loop-i.room) c.args.total c.loop-i.rest.now c.in_err-value.field-0.0 _ c.loop-i-test.true fault c.loop-i.invariant.read))
 
 pub loop-i-preserved : goal.loop-i-preserved
 loop-i-preserved c =

@@ -1,6 +1,7 @@
 use Rattle.std.proofs.Common.{◌≡◌, ◌++◌, ◌∷◌, [], List, length, Ok, ap, sym, ◌∙◌, arith}
 use Rattle.std.proofs.lemmas.List.{length-append}
 use Rattle.std.proofs.lemmas.Result.{err_from_is_err_and}
+use Rattle.table_model.proofs.OrMemory.{or_memory}
 use Rattle.segment_core.specs.CodedVector.{VectorForm}
 use Rattle.segment_core.specs.Segment.{rows_in, vector_count}
 use Rattle.segment_core.specs.VectorBytes.{vector}
@@ -14,8 +15,8 @@ unfolding column
 returns-in_err-vector-clause-read c =
     let p = err_from_is_err_and c.from_residual-in_err-vector.result c.from_residual-in_err-vector.ensures.1 in
     let covered : c.min-covered.result ≡ rows_in c.args.rows (length c.loop-k.vectors.items) = omega (arith, c.loop-k.invariant.count, c.min-covered.ensures) in
-    rw (p.1, p.2) (λ not_memory. ends (λ front. vector c.args.lane_width (rows_in c.args.rows (length front))) (vector_count c.args.rows) c.loop-k.k c.loop-k.vectors.items c.args.total c.loop-k.rest.now c.in_err-vector.field-0.0 _ c.loop-k-test.true
-    (rw (← covered) (c.in_err-vector.ensures.read not_memory)) c.loop-k.invariant.read)
+    rw (p.1, p.2) (or_memory c.in_err-vector.ensures.read (λ fault. ends (λ front. vector c.args.lane_width (rows_in c.args.rows (length front))) (vector_count c.args.rows) c.loop-k.k c.loop-k.vectors.items c.args.total c.loop-k.rest.now c.in_err-vector.field-0.0 _ c.loop-k-test.true
+    (rw (← covered) fault) c.loop-k.invariant.read))
 
 pub loop-k-preserved : goal.loop-k-preserved
 loop-k-preserved c =

@@ -1,6 +1,7 @@
 use Rattle.std.proofs.Common.{◌≡◌, ◌++◌, ◌∷◌, [], ℕ, length, map, slice_index_or, ap, ◌∙◌, arith}
 use Rattle.std.proofs.lemmas.List.{length-append, length-map, take_all}
 use Rattle.std.proofs.lemmas.Result.{err_from_is_err_and}
+use Rattle.table_model.proofs.OrMemory.{or_memory}
 use Rattle.table_model.specs.Table.{bits_of, ColumnShape}
 use Rattle.segment_core.specs.SegmentBytes.{column, columns}
 use Rattle.segment_core.proofs.ReadAll.{goes_on, ends, is_done}
@@ -15,8 +16,8 @@ returns-in_err-vectors-clause-read c =
     let width : c.bits-lane_width.result ≡ slice_index_or widths (length c.loop-shape.read.items) 0 =
     c.bits-lane_width.ensures ∙ ap bits_of c.column_type.ensures ∙ width_at c.args.shapes.now c.loop-shape.shape-index (length c.loop-shape.read.items) c.shape-item.result c.loop-shape-test.true c.loop-shape.invariant.count c.shape-item.is in
     let below = c.loop-shape-test.true in
-    rw (p.1, p.2) (λ not_memory. ends (λ front. column (slice_index_or widths (length front) 0) c.args.rows) (length widths) c.loop-shape.shape-index c.loop-shape.read.items c.args.total c.loop-shape.rest.now c.in_err-vectors.field-0.0 _ (omega (arith, below, length-map c.args.shapes.now (λ (shape : ColumnShape). bits_of shape.column_type)))
-    (rw (← width) (c.in_err-vectors.ensures.read not_memory)) c.loop-shape.invariant.read)
+    rw (p.1, p.2) (or_memory c.in_err-vectors.ensures.read (λ fault. ends (λ front. column (slice_index_or widths (length front) 0) c.args.rows) (length widths) c.loop-shape.shape-index c.loop-shape.read.items c.args.total c.loop-shape.rest.now c.in_err-vectors.field-0.0 _ (omega (arith, below, length-map c.args.shapes.now (λ (shape : ColumnShape). bits_of shape.column_type)))
+    (rw (← width) fault) c.loop-shape.invariant.read))
 
 pub loop-shape-preserved : goal.loop-shape-preserved
 loop-shape-preserved c =

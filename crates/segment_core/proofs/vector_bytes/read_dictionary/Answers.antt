@@ -1,9 +1,10 @@
-use Rattle.std.proofs.Common.{◌≡◌, ℕ, ◌+◌, ◌++◌, ◌∷◌, [], ◌∙◌, ap, sym, refl, take, set, List, ℤ, Result, Ok, true, false, FitsSigned, rules, arith}
+use Rattle.std.proofs.Common.{◌≡◌, ℕ, ◌+◌, ◌++◌, ◌∷◌, [], ◌∙◌, ap, sym, inl, refl, take, set, List, ℤ, Result, Ok, true, false, FitsSigned, rules, arith}
 use Rattle.std.specs.Int.{w64}
 use Rattle.std.proofs.lemmas.Int.{to_z-of_z}
 use Rattle.std.proofs.lemmas.List.{take_more_set}
 use Rattle.std.proofs.lemmas.List.Elements.{All-push}
 use Rattle.std.proofs.lemmas.Result.{err_from_is_err_and}
+use Rattle.table_model.proofs.OrMemory.{or_memory}
 use Rattle.table_model.specs.declared.refusal.Refusal.{Refusal}
 use Rattle.table_model.specs.declared.refusal.Refusal.TheVariants.{BadDictionary}
 use Rattle.bit_interleave.specs.Arithmetic.{integer_width}
@@ -17,16 +18,16 @@ pub returns-in_err-value-clause-read : goal.returns-in_err-value-clause-read
 unfolding dictionary
 returns-in_err-value-clause-read c =
     let p = err_from_is_err_and c.from_residual.result c.from_residual.ensures.1 in
-    rw (p.1, p.2) (λ not_memory. ends (λ front. checked (signed c.args.lane_width) (is_above front) BadDictionary) c.args.count c.loop-i.i (take c.loop-i.i c.loop-i.room) c.args.total c.loop-i.rest.now c.in_err-value.field-0.0 _ c.loop-i-test.true (rw (c.in_err-value.ensures.read not_memory) refl) c.loop-i.invariant.read)
+    rw (p.1, p.2) (or_memory c.in_err-value.ensures.read (λ fault. ends (λ front. checked (signed c.args.lane_width) (is_above front) BadDictionary) c.args.count c.loop-i.i (take c.loop-i.i c.loop-i.room) c.args.total c.loop-i.rest.now c.in_err-value.field-0.0 _ c.loop-i-test.true (rw fault refl) c.loop-i.invariant.read))
 
 pub returns-then-not-rises_after-clause-read : goal.returns-then-not-rises_after-clause-read
 unfolding dictionary
-returns-then-not-rises_after-clause-read c = λ not_memory.
+returns-then-not-rises_after-clause-read c =
     let front = take c.loop-i.i c.loop-i.room in
     let made : FitsSigned w64 c.in_ok-value.value = search rules in
     let below : is_above front c.in_ok-value.value ≡ false =
     sym (c.rises_after.ensures ∙ ap (is_above front) (to_z-of_z w64 c.in_ok-value.value made)) ∙ c.if-not-rises_after.true in
-    ends (λ front. checked (signed c.args.lane_width) (is_above front) BadDictionary) c.args.count c.loop-i.i front c.args.total c.loop-i.rest.now _ _ c.loop-i-test.true (rw c.place_of.ensures (checked_fails (signed c.args.lane_width) (is_above front) BadDictionary c.args.total c.loop-i.rest.now c.in_ok-value.value c.in_ok-value.after.now c.in_ok-value.ensures.read below)) c.loop-i.invariant.read
+    inl (ends (λ front. checked (signed c.args.lane_width) (is_above front) BadDictionary) c.args.count c.loop-i.i front c.args.total c.loop-i.rest.now _ _ c.loop-i-test.true (rw c.place_of.ensures (checked_fails (signed c.args.lane_width) (is_above front) BadDictionary c.args.total c.loop-i.rest.now c.in_ok-value.value c.in_ok-value.after.now c.in_ok-value.ensures.read below)) c.loop-i.invariant.read)
 
 pub loop-i-preserved : goal.loop-i-preserved
 loop-i-preserved c =

@@ -1,5 +1,6 @@
 use Rattle.std.proofs.Common.{refl}
 use Rattle.std.proofs.lemmas.Result.{err_from_is_err_and}
+use Rattle.table_model.proofs.OrMemory.{or_memory}
 use Rattle.segment_core.specs.VectorBytes.{runs}
 use Rattle.segment_core.proofs.vector_bytes.read_runs.Goals as goal
 
@@ -7,7 +8,7 @@ pub returns-in_err-values-clause-read : goal.returns-in_err-values-clause-read
 unfolding runs
 returns-in_err-values-clause-read c =
     let p = err_from_is_err_and c.from_residual-in_err-values.result c.from_residual-in_err-values.ensures.1 in
-    rw (p.1, p.2) (λ not_memory. rw (c.in_ok-starts.ensures.read, c.after_mask.ensures, c.in_err-values.ensures.read not_memory) refl)
+    rw (p.1, p.2) (or_memory c.in_err-values.ensures.read (λ fault. rw (c.in_ok-starts.ensures.read, c.after_mask.ensures, fault) refl))
 
 pub returns-clause-read : goal.returns-clause-read
 unfolding runs

@@ -1,12 +1,12 @@
 use Rattle.std.proofs.Common.{◌≡◌, ◌<◌, refl, length, arith, Some, List}
-use Rattle.cluster_history.specs.Cluster.{numbered, serve_step}
+use Rattle.cluster_history.specs.Cluster.{numbered, serve_step, message_limit}
 use Rattle.cluster_history.specs.Message.{Carried, Offering, listing_in, messages_in}
 use Rattle.cluster_history.proofs.Sent.{acts_as, numbered_store, said_of, has_room, serve_sends}
 use Rattle.cluster_history.proofs.cluster.Cluster.serve.Goals as goal
 
 pub returns : goal.returns
 returns c =
-    let room : length c.self.inside.messages.items < 65536 = omega arith in
+    let room : length c.self.inside.messages.items < message_limit = omega arith in
     let below = has_room c.args.self.now c.self.inside.schema c.self.inside.stores.items c.self.inside.messages.items c.self.view_is room in
     let is : Some c.in-Some-summary_at.summary.now ≡ listing_in (numbered c.args.self.now.messages c.args.message) =
     said_of (λ (messages : List Carried). listing_in (numbered messages c.args.message)) c.args.self.now c.self.inside.schema c.self.inside.stores.items c.self.inside.messages.items c.as_slice.result.now (Some c.in-Some-summary_at.summary.now)

@@ -5,7 +5,7 @@ use Rattle.table_model.specs.Name.{name_cmp}
 use Rattle.table_model.specs.State.{Batch}
 use Rattle.table_model.specs.Table.{IsBatch}
 use Rattle.segment_core.specs.Segment.{SegmentForm, canonical_segment}
-use Rattle.replica_store.specs.Replica.{IsWithinLimits, with_batch}
+use Rattle.replica_store.specs.Replica.{IsWithinLimits, with_batch, batch_limit}
 use Rattle.replica_store.specs.Segments.{BatchesForm, StoreForm, IsSoundStore, IsStored, AreStored, rows_in}
 use Rattle.replica_store.proofs.Limits.{IsWithinLimits-insert}
 use Rattle.replica_store.proofs.RowsIn.{rows_in-insert, unheld}
@@ -24,7 +24,7 @@ invariant_of-self c = subst (λ (b : BatchesForm). IsSoundStore c.self.inside.sc
 pub invariant_of-self-2 : goal.invariant_of-self-2
 invariant_of-self-2 c =
     let none = ap (λ (s : StoreForm). map.get s.replica.state.batches c.args.name) c.self.view_is ∙ c.requires.new in
-    let room : map.len (rows_in c.self.inside.batches.segments) < 65536 = subst (λ (s : StoreForm). map.len s.replica.state.batches < 65536) (sym c.self.view_is) c.requires.room in
+    let room : map.len (rows_in c.self.inside.batches.segments) < batch_limit = subst (λ (s : StoreForm). map.len s.replica.state.batches < batch_limit) (sym c.self.view_is) c.requires.room in
     let fit : IsBatch c.self.inside.schema c.args.rows.now = subst (λ (s : StoreForm). IsBatch s.replica.schema c.args.rows.now) (sym c.self.view_is) c.requires.fit in
     let all = ap rows_in c.in_ok-insert.ensures.ok ∙ rows_in-insert c.self.inside.batches.segments c.args.name c.in_ok-segment.segment ∙ ap (λ (s : SegmentForm). map.insert (rows_in c.self.inside.batches.segments) c.args.name s.rows) c.in_ok-segment.ensures.value in
     let rows : c.in_ok-segment.segment.rows ≡ c.args.rows.now = ap (λ (s : SegmentForm). s.rows) c.in_ok-segment.ensures.value in

@@ -5,7 +5,7 @@ use Rattle.std.specs.FinMap as map
 use Rattle.table_model.specs.Name.{name_cmp}
 use Rattle.table_model.specs.State.{State, Batch, union_of}
 use Rattle.segment_core.specs.Segment.{SegmentForm}
-use Rattle.replica_store.specs.Replica.{IsWithinLimits, joined_with}
+use Rattle.replica_store.specs.Replica.{IsWithinLimits, joined_with, batch_limit}
 use Rattle.replica_store.specs.Segments.{BatchesForm, StoreForm, IsSoundStore, AreStored, rows_in, union_in}
 use Rattle.replica_store.proofs.Limits.{IsWithinLimits-union}
 use Rattle.replica_store.proofs.Maps.{as_map}
@@ -21,7 +21,7 @@ invariant_of-self-2 c =
     let ours = c.self.inside.batches.segments in
     let come : map.FinMap name_cmp SegmentForm = as_map (c.args.first.now ++ c.args.second.now) in
     let stored : AreStored c.self.inside.schema come = subst (λ (s : StoreForm). AreStored s.replica.schema come) (sym c.self.view_is) c.requires.stored in
-    let limit : map.len (union_of (rows_in ours) (rows_in come)) ≤ 65536 = subst (λ (s : StoreForm). map.len (union_of s.replica.state.batches (rows_in come)) ≤ 65536) (sym c.self.view_is) c.requires.limit in
+    let limit : map.len (union_of (rows_in ours) (rows_in come)) ≤ batch_limit = subst (λ (s : StoreForm). map.len (union_of s.replica.state.batches (rows_in come)) ≤ batch_limit) (sym c.self.view_is) c.requires.limit in
     let all : rows_in c.join.new.self.segments ≡ union_of (rows_in ours) (rows_in come) = ap rows_in c.in_ok-join.ensures.ok ∙ rows_in-union ours come in
     record {
       sound = record {

@@ -1,5 +1,6 @@
 use Rattle.std.proofs.Common.{◌≡◌, ◌∙◌, ℕ, List, length, map, drop, slice_range, sym, ap, arith}
 use Rattle.std.proofs.lemmas.Result.{err_from_is_err_and}
+use Rattle.table_model.proofs.OrMemory.{or_memory}
 use Rattle.table_model.specs.Table.{ColumnShape, bits_of}
 use Rattle.segment_core.specs.CodedVector.{VectorForm}
 use Rattle.segment_core.specs.Segment.{batch_of, widths_in}
@@ -12,11 +13,11 @@ pub returns-in_err-read-clause-only : goal.returns-in_err-read-clause-only
 returns-in_err-read-clause-only c = λ forms rest valid parts.
     let width : ColumnShape → ℕ = λ s. bits_of s.column_type in
     let p = err_from_is_err_and c.from_residual.result c.from_residual.ensures.1 in
-    rw (p.1, p.2) (λ not_memory.
+    rw (p.1, p.2) (or_memory c.in_err-read.ensures.read (λ fault.
     sym (spelled_at c.args.schema.now c.args.rows c.args.bytes.now c.args.at forms rest valid parts)
     ∙ ap (λ (shapes : List ColumnShape). (columns (map width shapes) c.args.rows).read (length c.args.bytes.now) (drop c.args.at c.args.bytes.now)) (sym c.column_list.ensures.list)
     ∙ ap ((columns (map width c.column_list.result.now) c.args.rows).read (length c.args.bytes.now)) (sym c.split_at.ensures.back)
-    ∙ c.in_err-read.ensures.read not_memory)
+    ∙ fault))
 
 pub returns-clause-exact : goal.returns-clause-exact
 returns-clause-exact c =
