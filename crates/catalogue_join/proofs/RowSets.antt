@@ -1,7 +1,7 @@
 -- A row is in the set of a list of ranges exactly where its place is among theirs.
 use Rattle.std.proofs.Common.{◌≡◌, ℕ, zero, suc, ◌+◌, ◌-◌, ◌*◌, ◌/◌, ◌%◌, ◌<◌, ◌≤◌, inl, inr, Bool, true, false, Option, None, Some, is_some, MatchOption, ◌&&◌, ◌||◌, eqb, ltb, leb, List, [], ◌∷◌, refl, sym, ap, ◌∙◌, arith}
 use Rattle.std.proofs.Math.Bool.{and-false}
-use Rattle.std.proofs.lemmas.Bool.{and_parts, and_from, or_from, cases_Bool, false≢true, leb-true, lt-ltb, ltb-true}
+use Rattle.std.proofs.lemmas.Bool.{and_parts, and_from, or_from, or_right, cases_Bool, false≢true, leb-true, lt-ltb, ltb-true}
 use Rattle.std.proofs.lemmas.Bool.Decides.{nat_tests}
 use Rattle.std.proofs.lemmas.List.Folds.{list_any-append}
 use Rattle.std.specs.List.{list_any}
@@ -97,6 +97,18 @@ rows_in-put rs new r rising risen named places =
     ∙ ap (λ b. b || (is_bounded q && covers row_range_shape r (spot q))) (sym (contains-rows_in rs q rising))
     ∙ ap (λ b. set.contains (rows_in rs) q || b) (sym (set.contains-from_list row_names_total (rows_between r.0 r.1) q ∙ rows_between_any r q ∙ in_range_covers r q named))
     ∙ sym (set.contains-union row_names_total (rows_in rs) (set.from_list (rows_between r.0 r.1)) q))
+
+-- a range that is not empty has its first row
+first_in : (o n f l : ℕ) → f ≤ l → (eqb o o && (eqb n n && (leb f f && leb f l))) ≡ true
+first_in o n f l h = grind (arith, nat_tests)
+
+-- where the rows of a range bring nothing to the set, the place of the first of them is there already
+pub first_there : (rs : List RowRange) (r : RowRange) → Rises row_range_shape 0 rs → r.0.ordinal ≤ r.1 → set.union (rows_in rs) (set.from_list (rows_between r.0 r.1)) ≡ rows_in rs → among row_range_shape rs (row_range_shape.low r) ≡ true
+first_there rs r rising range same =
+    let coming : set.FinSet row_name_cmp = set.from_list (rows_between r.0 r.1) in
+    let comes : set.contains coming r.0 ≡ true = set.contains-from_list row_names_total (rows_between r.0 r.1) r.0 ∙ rows_between_any r r.0 ∙ first_in r.0.batch.origin.0 r.0.batch.number.0 r.0.ordinal r.1 range in
+    let there : set.contains (rows_in rs) r.0 ≡ true = ap (λ (s : set.FinSet row_name_cmp). set.contains s r.0) (sym same) ∙ set.contains-union row_names_total (rows_in rs) coming r.0 ∙ or_right (set.contains (rows_in rs) r.0) (set.contains coming r.0) comes in
+    let parts = and_parts (is_bounded r.0) (among row_range_shape rs (spot r.0)) (sym (contains-rows_in rs r.0 rising) ∙ there) in parts.1
 
 -- the set of two lists of ranges that were joined
 pub rows_in-joined : (rs ts new : List RowRange) → Rises row_range_shape 0 rs → Rises row_range_shape 0 ts → Rises row_range_shape 0 new → ((p : ℕ) → among row_range_shape new p ≡ (among row_range_shape rs p || among row_range_shape ts p)) → rows_in new ≡ set.union (rows_in rs) (rows_in ts)

@@ -299,6 +299,14 @@ module _ {S : Type 0} (shape : Shape S) where
       swap_last true c b = refl
       swap_last false c b = or_comm c b
 
+  -- where a range goes apart from all others, none of them has its first place
+  pub apart_lacks : (ss : List S) (s : S) (i j : ℕ) → Rises shape 0 ss → IsPlace shape ss s i j → i ≡ j → shape.low s ≤ shape.high s → among shape ss (shape.low s) ≡ false
+  apart_lacks ss s i j r place same range =
+      let p = shape.low s in
+      let front : among shape (take i ss) p ≡ false = among_past (take i ss) 0 p (rises_take ss 0 i r) (omega (arith, after_place ss s i j s (omega (arith, place.ordered, place.in_list)) place)) in
+      let back : among shape (drop i ss) p ≡ false = among_before (drop i ss) (p + 1) p (rises_from ss 0 i (p + 1) s r (λ k. omega (arith, range, place.behind i s (omega (arith, same)) k))) (omega arith) in
+      among-split ss i p ∙ or_from (among shape (take i ss) p) (among shape (drop i ss) p) front back
+
   -- the hull of a range and of those that it touches, from i to k, put in their place
   pub put_hull : IsShape shape → (ss : List S) (s d : S) (i k : ℕ) → Rises shape 0 ss → IsPlace shape ss s i (k + 1) → i ≤ k → shape.low s ≤ shape.high s → shape.named s ≡ true
       → let h = shape.hull (shape.hull s (get_or ss i d)) (get_or ss k d) in

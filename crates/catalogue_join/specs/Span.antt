@@ -77,7 +77,7 @@ module _ {S : Type 0} (shape : Shape S) where
     pub reaches : (k : ℕ) (d : S) → k < length shared → shape.low s ≤ shape.high (slice_index_or shared k d)
     pub places : (p : ℕ) → shape.low s ≤ p → p ≤ shape.high s → among ss p ≡ among shared p
 
--- the hull of two ranges that touch reaches from where the first begins to where the last ends
+-- the hull of two ranges that touch reaches from where the first begins to where the last ends; the hull of named ranges is named, and named ranges that begin and end at the same places are the same
 pub record IsShape {S : Type 0} (shape : Shape S) : Type 0 where
   pub low_hull : (s t : S) → shape.named s ≡ true → shape.named t ≡ true → apart shape s t ≡ false → apart shape t s ≡ false → shape.low (shape.hull s t) ≡ min (shape.low s) (shape.low t)
   pub high_hull : (s t : S) → shape.named s ≡ true → shape.named t ≡ true → apart shape s t ≡ false → apart shape t s ≡ false → shape.high (shape.hull s t) ≡ max (shape.high s) (shape.high t)

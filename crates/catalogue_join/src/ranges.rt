@@ -1,5 +1,5 @@
 //! A set of names as the ascending list of its maximal ranges.
-ghost use Rattle.std.specs.Prelude.{◌≡◌, List, [], OnOk, OnErr, IfOk, ℕ, ◌≤◌, ◌<◌, ◌+◌, false, true, ◌||◌, MatchOption, length, slice_index_or, take, drop, ◌++◌, ◌∷◌};
+ghost use Rattle.std.specs.Prelude.{◌≡◌, List, [], OnOk, OnErr, IfOk, IsOk, ℕ, ◌≤◌, ◌<◌, ◌+◌, false, true, ◌||◌, MatchOption, length, slice_index_or, take, drop, ◌++◌, ◌∷◌};
 ghost use Rattle.catalogue_join.specs.Span.{among, covers, Rises, IsRangeAt, IsOverlap, Lacks};
 
 use crate::join::joined;
@@ -110,20 +110,22 @@ impl<S: Span> Ranges<S> {
         })
     }
 
-    /// Adds the names of a range. Where memory is refused the set is as before.
+    /// Adds the names of a range. Where memory is refused the set is as before. Where it has the range's first name it takes no
+    /// memory.
     pub fn insert(&mut self, range: S) -> Result<(), AllocError>
         requires not_empty { S.shape.low range ≤ S.shape.high range }
         requires named { S.shape.named range ≡ true }
         ensures places { OnOk result ((p : ℕ) → among S.shape self.new p
             ≡ (among S.shape self.old p || covers S.shape range p)) }
         ensures err { OnErr result (self.new ≡ self.old) }
+        ensures idle { among S.shape self.old (S.shape.low range) ≡ true → IsOk result }
         ensures maximal { Rises S.shape 0 self.new }
     {
         put(&mut self.ranges, range)
     }
 }
 
-// Puts a range in its place, in one with those that it touches.
+// Puts a range in its place, in one with those that it touches. Where its first name is in one of them it takes no memory.
 fn put<S: Span>(ranges: &mut Vec<S>, range: S) -> Result<(), AllocError>
     requires rising { Rises S.shape 0 ranges.old.items }
     requires not_empty { S.shape.low range ≤ S.shape.high range }
@@ -131,6 +133,7 @@ fn put<S: Span>(ranges: &mut Vec<S>, range: S) -> Result<(), AllocError>
     ensures places { OnOk result ((p : ℕ) → among S.shape ranges.new.items p
         ≡ (among S.shape ranges.old.items p || covers S.shape range p)) }
     ensures err { OnErr result (ranges.new.items ≡ ranges.old.items) }
+    ensures idle { among S.shape ranges.old.items (S.shape.low range) ≡ true → IsOk result }
     ensures maximal { Rises S.shape 0 ranges.new.items }
 {
     let (first, end) = place_of(ranges, range);

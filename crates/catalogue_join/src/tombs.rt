@@ -1,5 +1,5 @@
 //! Deleted rows: a set of row names, kept as its maximal ranges.
-ghost use Rattle.std.specs.Prelude.{◌≡◌, ◌≤◌, ◌<◌, ◌+◌, ◌&&◌, not, nat_le, nat_lt, OnOk, OnErr, IfOk, IsTrue, List};
+ghost use Rattle.std.specs.Prelude.{◌≡◌, ◌≤◌, ◌<◌, ◌+◌, ◌&&◌, not, nat_le, nat_lt, OnOk, OnErr, IfOk, IsOk, IsTrue, List};
 ghost use Rattle.std.specs.FinSet as set;
 ghost use Rattle.table_model.specs.Table.{row_limit};
 ghost use Rattle.table_model.specs.Name.{is_proper_name};
@@ -51,11 +51,13 @@ impl Tombs {
         self.ranges.find((row, row.ordinal)).is_some()
     }
 
-    /// Adds the rows of a batch from `first` to the ordinal `last`. Where memory is refused the set is as before.
+    /// Adds the rows of a batch from `first` to the ordinal `last`. Where memory is refused the set is as before. Where the rows
+    /// are deleted already it takes no memory.
     pub fn insert(&mut self, first: RowName, last: u16) -> Result<(), AllocError>
         requires proper { IsTrue (is_proper_name first.batch) }
         requires not_empty { first.ordinal ≤ last }
         ensures ok { OnOk result (self.new ≡ set.union self.old (set.from_list (rows_between first last))) }
+        ensures idle { set.union self.old (set.from_list (rows_between first last)) ≡ self.old → IsOk result }
         ensures err { OnErr result (self.new ≡ self.old) }
     {
         self.ranges.insert((first, last))

@@ -1,4 +1,4 @@
--- What makes nothing takes no memory: an insert of a batch that is held already, a merge and a take that change nothing.
+-- What makes nothing takes no memory: an insert of a batch that is held already, a delete, a merge and a take that change nothing.
 use Rattle.std.specs.Prelude.{◌≡◌, ◌≢◌, ◌⊎◌, ◌<◌, ◌++◌, ℕ, List, length, slice_get, slice_set, Some, Result, Ok, Err}
 use Rattle.std.proofs.Common.{refl, sym, ap, ◌∙◌, arith, inl, inr, get_or, subst}
 use Rattle.std.proofs.lemmas.List.{get_or-set_same}

@@ -1,4 +1,5 @@
 pub mod Apart
+pub mod Asked
 pub mod Histories
 pub mod Idle
 pub mod Messages

@@ -223,7 +223,7 @@ reply_to c step = (answered (step_of c step) c).0
 abbrev pub replica_numbered : ClusterParts → ℕ → Option Replica
 replica_numbered c replica = numbered c.stores replica
 
--- there are replicas with these numbers in two clusters; their states are equal, and each step that only reads is answered alike by both
+-- the replicas with these numbers in two clusters have equal states, or neither is there, and each step that only reads is answered alike by both
 abbrev pub AreAlike : ClusterParts → ℕ → ClusterParts → ℕ → Type 0
 AreAlike c replica d other =
     (option_map (λ r. r.state) (replica_numbered c replica) ≡ option_map (λ r. r.state) (replica_numbered d other)) ×

@@ -1,8 +1,7 @@
 //! Clusters: a table at replicas and the messages between them, both numbered from 1.
 ghost use Rattle.std.specs.Prelude.{◌≡◌, ◌≢◌, ◌<◌, ◌≤◌, ◌++◌, codes, length, IfSome, IfOk, IsOk, Ok};
-ghost use Rattle.table_model.specs.Reading.{Reads};
 ghost use Rattle.table_model.specs.Outcome.{Acts, Gives};
-ghost use Rattle.cluster_history.specs.Cluster.{new_cluster, new_replicas, replicas_in, empty_replica, place_of, with_message, append_step, delete_step, ask_step, serve_step, recode_step, open_step, export_step, merged_in, query_step, message_limit};
+ghost use Rattle.cluster_history.specs.Cluster.{new_cluster, new_replicas, replicas_in, empty_replica, place_of, with_message, append_step, ask_step, serve_step, recode_step, open_step, export_step, merged_in, message_limit};
 ghost use Rattle.cluster_history.specs.Message.{carried, messages_in};
 ghost use Rattle.cluster_history.specs.Recoded.{RecodesAt};
 ghost use Rattle.cluster_history.specs.Run.{ActsOn, StepTo};
@@ -115,7 +114,7 @@ impl Cluster {
         Ok(Reply::Put(inserted))
     }
 
-    /// Deletes rows of a batch at a replica.
+    /// Deletes rows of a batch at a replica; where all of them are deleted already it takes no memory.
     fn delete(
         &mut self,
         alloc: Global,
@@ -123,7 +122,7 @@ impl Cluster {
         first: RowName,
         last: u16,
     ) -> Result<Reply, Refusal>
-        ensures { Acts (λ reply. reply) self.old result self.new (delete_step self.old replica first last) }
+        ensures { ActsOn self.old (Step.Delete replica first last) result self.new }
     {
         let Some(place) = self.place_of(replica) else {
             return Err(Refusal::NoSuchReplica);
@@ -233,7 +232,7 @@ impl Cluster {
         Ok(Reply::Done)
     }
 
-    /// Merges what a canonical file holds into a replica.
+    /// Merges what a canonical file holds into a replica; that there is no such replica is told before the file is read.
     fn open(&mut self, alloc: Global, replica: u32, file: &[u8]) -> Result<Reply, Refusal>
         ensures { ActsOn self.old (Step.Open replica file.now) result self.new }
     {
@@ -257,10 +256,9 @@ impl Cluster {
         Ok(Reply::File(file))
     }
 
-    /// The answer of a query at a replica.
-    #[tactic(auto, unfolding(crate::specs::Cluster::query_step))]
+    /// The answer of a query at a replica; that there is no such replica is told before the text is read.
     fn query(&self, alloc: Global, replica: u32, sql: &str) -> Result<Reply, Refusal>
-        ensures { Reads (λ reply. (reply, self.now)) result (query_step self.now replica sql.now) }
+        ensures { ActsOn self.now (Step.Query replica sql.now) result self.now }
     {
         let Some(place) = self.place_of(replica) else {
             return Err(Refusal::NoSuchReplica);
@@ -269,7 +267,8 @@ impl Cluster {
         Ok(Reply::Answered(answer))
     }
 
-    /// The reply to a step, or its refusal; a refused step leaves the cluster as it was.
+    /// The reply to a step, or its refusal; a refused step leaves the cluster as it was. `Memory` may come in the place of a
+    /// refusal of an open or a query, but never of `NoSuchReplica`.
     pub fn act(&mut self, alloc: Global, step: &Step) -> Result<Reply, Refusal>
         ensures { ActsOn self.old step.now result self.new }
     {

@@ -1,5 +1,5 @@
--- Where nothing is lacked, a join changes nothing, and where it changes nothing, nothing is lacked.
-use Rattle.std.specs.Prelude.{◌≡◌, ◌||◌, Bool, true, false, nat_lt, Result, Ok, Err}
+-- Where nothing is lacked, a join changes nothing, and where it changes nothing, nothing is lacked. A delete that changes nothing brings no row.
+use Rattle.std.specs.Prelude.{◌≡◌, ◌||◌, ℕ, Bool, true, false, nat_lt, Option, None, Some, Result, Ok, Err}
 use Rattle.std.proofs.Common.{refl, sym, ap, ◌∙◌, arith}
 use Rattle.std.proofs.lemmas.Bool.{or_right, ltb-false}
 use Rattle.std.proofs.lemmas.Bool.Decides.{nat_tests}
@@ -10,7 +10,8 @@ use Rattle.table_model.specs.State.{State, union_of}
 use Rattle.table_model.proofs.NameOrder.{row_names_total, exact_row_names}
 use Rattle.table_model.specs.declared.refusal.Refusal.{Refusal}
 use Rattle.segment_core.specs.Segment.{SegmentForm}
-use Rattle.replica_store.specs.Replica.{Replica, joined_with}
+use Rattle.table_model.specs.declared.names.RowName.{RowName}
+use Rattle.replica_store.specs.Replica.{Replica, joined_with, rows_between, unless_fault, delete_fault, deleted_rows, with_deleted}
 use Rattle.replica_store.specs.Segments.{rows_in, union_in}
 use Rattle.replica_store.proofs.Merges.{union-same}
 use Rattle.replica_store.proofs.RowsIn.{rows_in-union, len-rows_in}
@@ -73,3 +74,14 @@ pub answer_same : (made : Result (Unit {0} × Replica) Refusal) (new old : Repli
 answer_same made new old is same = ap (λ (p : Unit {0} × Replica). p.1) (ok_same (tt, new) (tt, old) (sym is ∙ same)) where
   ok_same : {X : Type 0} (x y : X) → ◌≡◌ {A = Result X Refusal} (Ok x) (Ok y) → x ≡ y
   ok_same x y is = cc
+
+-- a call that leaves the replica has no fault, and makes what it was
+no_fault : (o : Option Refusal) (new old : Replica) → unless_fault {X = Unit {0} × Replica} o (Ok (tt, new)) ≡ Ok (tt, old) → (o ≡ None) × (new ≡ old)
+no_fault None new old is = (refl, answer_same (Ok (tt, new)) new old refl is)
+no_fault (Some fault) new old is = absurd (no_answer {X = Unit {0} × Replica} (Err fault) fault (tt, old) refl is)
+
+-- a delete that leaves the replica has no fault, and its rows were deleted already
+pub idle_delete : (r : Replica) (first : RowName) (last : ℕ) → deleted_rows r first last ≡ Ok (tt, r) → (delete_fault first last ≡ None) × (set.union r.state.deleted (set.from_list (rows_between first last)) ≡ r.state.deleted)
+idle_delete r first last same =
+    let idle = no_fault (delete_fault first last) (with_deleted r (rows_between first last)) r same in
+    (idle.0, ap (λ (x : Replica). x.state.deleted) idle.1)

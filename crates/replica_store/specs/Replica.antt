@@ -21,7 +21,7 @@ pub record Replica : Type 0 where
   pub own : Origin
   pub state : State
 
--- a replica by its parts
+-- an origin by its number
 abbrev pub coded_origin : Coded Origin
 coded_origin = code_by ℕ coded_ℕ (λ o. o.0) (λ n. record { 0 = n }) (λ _. refl)
 

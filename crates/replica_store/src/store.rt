@@ -1,4 +1,5 @@
-//! A replica's store: a table's schema, an own origin, and a state that appends, inserts and merges change.
+//! A replica's store: a table's schema, an own origin, and a state that appends, inserts, deletes, merges and applied messages
+//! change.
 ghost use Rattle.std.specs.Prelude.{◌++◌, ◌≡◌, ◌<◌, ◌≤◌, slice_get, Some, None, Ok, Err, true, IsOk, IfOk, IfErr, OnOk, OnErr, IsTrue, T};
 ghost use Rattle.std.specs.FinMap as map;
 ghost use Rattle.std.specs.List.{All};
@@ -191,10 +192,11 @@ impl Store {
     /// Deletes the rows of a batch from the first to the ordinal `last`, both included, held here or not.
     ///
     /// Refused are, in this order: `BadName` where the batch's origin or number is 0, `BadRange` where `last` is less than
-    /// the first ordinal, `Memory`.
+    /// the first ordinal, `Memory`. Where the rows are deleted already it takes no memory.
     pub fn delete(&mut self, _alloc: Global, first: RowName, last: u16) -> Result<(), Refusal>
         ensures acts { Acts (λ done. done) self.old.replica result self.new.replica (deleted_rows self.old.replica first last) }
         ensures segments { self.new.segments ≡ self.old.segments }
+        ensures idle { deleted_rows self.old.replica first last ≡ Ok (tt, self.old.replica) → IsOk result }
         ensures refused { OnErr result (self.new ≡ self.old) }
     {
         delete_fault(first, last)?;

@@ -20,6 +20,18 @@ const HELD: &[Told] = &[Told::Batch(1, 1, &[10, 11]), Told::Deletion(1, 1, 0, 0)
 /// A store's batch alone: a set of deletions grows with its first range, and then has room for some.
 const UNDELETED: &[Told] = &[Told::Batch(1, 1, &[10, 11])];
 
+/// The same batch, and so many ranges of deleted rows that one more takes memory.
+const DELETED: &[Told] = &[
+    Told::Batch(1, 1, &[10, 11]),
+    Told::Deletion(1, 1, 0, 0),
+    Told::Deletion(4, 4, 3, 9),
+    Told::Deletion(5, 1, 0, 0),
+    Told::Deletion(6, 1, 0, 0),
+];
+
+/// Those ranges.
+const DELETED_RANGES: &[Deleted] = &[(1, 1, 0, 0), (4, 4, 3, 9), (5, 1, 0, 0), (6, 1, 0, 0)];
+
 /// What another store holds, beside which the first lacks a batch and a deletion.
 const BESIDE: &[Told] = &[Told::Batch(2, 1, &[20]), Told::Deletion(2, 1, 5, 9)];
 
@@ -141,15 +153,20 @@ fn a_refused_recode_leaves_the_store(rt: HostRuntime) -> Result<(), Fail> {
     end(called(rt.alloc(), Call::Recode, &[])?)
 }
 
-/// What came of a delete of a store with the batch alone.
-fn deleted(alloc: Global) -> Result<Came, Refusal> {
-    let mut store = told_store(alloc, 1, UNDELETED)?;
-    Ok(came_of(alloc, &mut store, Call::Delete, &[], &[], 2))
+/// What came of a delete of a store that was told the batch and these deletions.
+fn deleted(alloc: Global, told: &[Told], ranges: &[Deleted], live: usize) -> Result<Came, Refusal> {
+    let mut store = told_store(alloc, 1, told)?;
+    Ok(came_of(alloc, &mut store, Call::Delete, &[], ranges, live))
 }
 
 #[test]
 fn a_refused_delete_leaves_the_store(rt: HostRuntime) -> Result<(), Fail> {
-    end(deleted(rt.alloc())?)
+    end(deleted(rt.alloc(), UNDELETED, &[], 2)?)
+}
+
+#[test]
+fn a_delete_of_deleted_rows_grows_nowhere(rt: HostRuntime) -> Result<(), Fail> {
+    end(deleted(rt.alloc(), DELETED, DELETED_RANGES, 1)?)
 }
 
 /// Whether a store is as it was before the call.

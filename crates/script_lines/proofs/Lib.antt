@@ -1,5 +1,6 @@
 pub mod ColumnLaws
 pub mod Cuts
+pub mod Growing
 pub mod Numerals
 pub mod Printable
 pub mod RowLaws

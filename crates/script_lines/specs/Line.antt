@@ -1,7 +1,7 @@
 -- The lines of a script: which are commands, and which steps they ask for.
-use Rattle.std.specs.Prelude.{ℕ, suc, length, Bool, cond, ◌&&◌, nat_le, List, [], ◌∷◌, codes, Option, Some, None, option_map, Result}
+use Rattle.std.specs.Prelude.{ℕ, suc, length, Bool, IsTrue, cond, ◌&&◌, ◌||◌, nat_le, List, [], ◌∷◌, codes, Option, Some, None, option_map, Result}
 use Rattle.std.specs.List.{list_all}
-use Rattle.std.specs.Option.{ok_or}
+use Rattle.std.specs.Option.{ok_or, IsSomeAnd}
 use Rattle.std.specs.Str.{bytes_eq}
 use Rattle.table_model.specs.declared.schema.ColType.{ColType}
 use Rattle.table_model.specs.declared.refusal.Refusal.{Refusal}
@@ -182,3 +182,13 @@ command_of line = cond (list_all is_printable line) (cut 32 line >>= (λ parts. 
 -- a line is a command or BadLine
 abbrev pub line_of : List ℕ → Result Command Refusal
 line_of line = ok_or (command_of line) BadLine
+
+-- whether a word is one of which further words are kept as they are read: table, append, insert, open or query
+unfoldable pub grows : List ℕ → Bool
+grows word =
+    bytes_eq word (codes "table")
+    || (bytes_eq word (codes "append") || (bytes_eq word (codes "insert") || (bytes_eq word (codes "open") || bytes_eq word (codes "query"))))
+
+-- a line of which memory may be taken to read it: it is printable, and its first word, which a space ends, is table, append, insert, open or query
+abbrev pub MayGrow : List ℕ → Type 0
+MayGrow line = IsTrue (list_all is_printable line) × IsSomeAnd (cut 32 line) (λ parts. IsTrue (grows parts.0))

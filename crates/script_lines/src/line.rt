@@ -1,8 +1,8 @@
 //! Lines of a script, and which commands they are.
-ghost use Rattle.std.specs.Prelude.{◌≡◌, ◌<◌, ◌≤◌, option_map, IfSome};
+ghost use Rattle.std.specs.Prelude.{◌≡◌, ◌<◌, ◌≤◌, option_map, IfSome, IfErr, IsTrue};
 ghost use Rattle.std.specs.List.{list_all};
 ghost use Rattle.script_lines.specs.Reading.{ReadsPart};
-ghost use Rattle.script_lines.specs.Line.{addressed, append_words, insert_words, delete_words, merge_words, ask_words, serve_words, take_words, recode_words, open_words, export_words, query_words, step_words, longer_step, step_line, replicas_of, table_words, table_line, words_of, is_printable, command_of};
+ghost use Rattle.script_lines.specs.Line.{addressed, append_words, insert_words, delete_words, merge_words, ask_words, serve_words, take_words, recode_words, open_words, export_words, query_words, step_words, longer_step, step_line, replicas_of, table_words, table_line, words_of, is_printable, command_of, grows, MayGrow};
 
 use crate::columns::columns;
 use crate::command::{Command, TableCommand};
@@ -14,10 +14,12 @@ use table_model::{Refusal, RowName};
 
 /// The command that a line is, without its line feed; `BadLine` where it is none.
 ///
-/// Where memory lacks, `Memory` may come in place of either.
+/// Where memory lacks, `Memory` may come in place of either, but only for a line of printable bytes that begins with `table `,
+/// `append `, `insert `, `open ` or `query `: to read any other line no memory is taken.
 #[tactic(auto, unfolding(crate::specs::Line::command_of))]
 pub fn parse_line<'a>(alloc: Global, line: &'a [u8]) -> Result<Command<'a>, Refusal>
-    ensures { ReadsPart (λ command. command) result (command_of line.now) }
+    ensures command { ReadsPart (λ command. command) result (command_of line.now) }
+    ensures memory { IfErr result (λ e. e ≡ Refusal.Memory → MayGrow line.now) }
 {
     if !is_printable(line) {
         return Err(Refusal::BadLine);
@@ -41,7 +43,8 @@ pub(crate) fn is_printable(line: &[u8]) -> bool
 /// What the first word asks for, with the words that follow it.
 #[tactic(auto, unfolding(crate::specs::Line::words_of))]
 fn words<'a>(alloc: Global, word: &str, rest: &'a str) -> Result<Command<'a>, Refusal>
-    ensures { ReadsPart (λ command. command) result (words_of word.now rest.now) }
+    ensures command { ReadsPart (λ command. command) result (words_of word.now rest.now) }
+    ensures memory { IfErr result (λ e. e ≡ Refusal.Memory → IsTrue (grows word.now)) }
 {
     if word == "table" {
         let table = table_line(alloc, rest)?;
@@ -93,7 +96,8 @@ pub(crate) fn replicas(text: &str) -> Option<usize>
 /// The step of a line's first word and the words that follow it.
 #[tactic(auto, unfolding(crate::specs::Line::step_line))]
 fn step_line(alloc: Global, word: &str, text: &str) -> Result<Step, Refusal>
-    ensures { ReadsPart (λ step. step) result (step_line word.now text.now) }
+    ensures step { ReadsPart (λ step. step) result (step_line word.now text.now) }
+    ensures memory { IfErr result (λ e. e ≡ Refusal.Memory → IsTrue (grows word.now)) }
 {
     if word == "ask" {
         return required(ask_words(text));
@@ -107,7 +111,8 @@ fn step_line(alloc: Global, word: &str, text: &str) -> Result<Step, Refusal>
 /// The step of a line's first word, a replica and further words.
 #[tactic(auto, unfolding(crate::specs::Line::longer_step))]
 fn longer_step(alloc: Global, word: &str, text: &str) -> Result<Step, Refusal>
-    ensures { ReadsPart (λ step. step) result (longer_step word.now text.now) }
+    ensures step { ReadsPart (λ step. step) result (longer_step word.now text.now) }
+    ensures memory { IfErr result (λ e. e ≡ Refusal.Memory → IsTrue (grows word.now)) }
 {
     let Some((replica, rest)) = addressed(text) else {
         return Err(Refusal::BadLine);
@@ -128,7 +133,8 @@ fn addressed(text: &str) -> Option<(u32, &str)>
 /// The step of a line's first word and a replica, with the words that follow them.
 #[tactic(auto, unfolding(crate::specs::Line::step_words))]
 fn step_words(alloc: Global, word: &str, replica: u32, text: &str) -> Result<Step, Refusal>
-    ensures { ReadsPart (λ step. step) result (step_words word.now replica text.now) }
+    ensures step { ReadsPart (λ step. step) result (step_words word.now replica text.now) }
+    ensures memory { IfErr result (λ e. e ≡ Refusal.Memory → IsTrue (grows word.now)) }
 {
     if word == "append" {
         return append_words(alloc, replica, text);
@@ -162,7 +168,8 @@ fn step_words(alloc: Global, word: &str, replica: u32, text: &str) -> Result<Ste
 
 /// The step, which is missing only where the words are wrong.
 fn required(step: Option<Step>) -> Result<Step, Refusal>
-    ensures { ReadsPart (λ step. step) result step }
+    ensures step { ReadsPart (λ step. step) result step }
+    ensures refused { IfErr result (λ e. e ≡ Refusal.BadLine) }
 {
     match step {
         None => Err(Refusal::BadLine),

@@ -1,8 +1,11 @@
-use Rattle.std.proofs.Common.{refl, inl}
+use Rattle.std.proofs.Common.{◌≢◌, Ok, refl, inl}
+use Rattle.std.proofs.lemmas.Bool.{false≢true}
 use Rattle.std.proofs.lemmas.Result.{err_from_is_err_and}
 use Rattle.replica_store.specs.Replica.{deleted_rows}
 use Rattle.cluster_history.specs.Cluster.{delete_step, done_reply}
 use Rattle.cluster_history.specs.Message.{messages_in}
+use Rattle.cluster_history.specs.declared.reply.Reply.TheVariants.{Done}
+use Rattle.cluster_history.proofs.Idle.{refused_where, call_same}
 use Rattle.cluster_history.proofs.Placed.{no_place, call_done, call_refused}
 use Rattle.cluster_history.proofs.cluster.Cluster.delete.Goals as goal
 
@@ -14,8 +17,12 @@ pub returns-in_err-delete : goal.returns-in_err-delete
 unfolding delete_step
 returns-in_err-delete c =
     let p = err_from_is_err_and c.from_residual.result c.from_residual.ensures.1 in
-    rw (p.1, p.2) (call_refused done_reply c.args.self.now c.self.inside.schema c.self.inside.stores.items (messages_in c.self.inside.messages.items) c.args.replica c.in-Some.place (λ r. deleted_rows r c.args.first c.args.last) c.index_mut.result.now c.delete.new.self c.in_err-delete.field-0.0
-    c.self.view_is c.in-Some.ensures.place c.in-Some.ensures.bound c.index_mut.ensures.value c.in_err-delete.ensures.refused c.in_err-delete.ensures.acts)
+    let lacks : delete_step c.args.self.now c.args.replica c.args.first c.args.last ≢ Ok (Done, c.args.self.now) = λ same.
+    false≢true (c.in_err-delete.ensures.idle
+    (call_same c.args.self.now c.self.inside.schema c.self.inside.stores.items (messages_in c.self.inside.messages.items) c.args.replica c.in-Some.place (λ r. deleted_rows r c.args.first c.args.last) c.index_mut.result.now
+    c.self.view_is c.in-Some.ensures.place c.in-Some.ensures.bound c.index_mut.ensures.value same)) in
+    rw (p.1, p.2) (refused_where lacks (call_refused done_reply c.args.self.now c.self.inside.schema c.self.inside.stores.items (messages_in c.self.inside.messages.items) c.args.replica c.in-Some.place (λ r. deleted_rows r c.args.first c.args.last) c.index_mut.result.now c.delete.new.self c.in_err-delete.field-0.0
+    c.self.view_is c.in-Some.ensures.place c.in-Some.ensures.bound c.index_mut.ensures.value c.in_err-delete.ensures.refused c.in_err-delete.ensures.acts))
 
 pub returns : goal.returns
 unfolding delete_step

@@ -4,6 +4,7 @@ use Rattle.column_file.specs.Files.{canonical_read}
 use Rattle.replica_store.specs.Segments.{StoreForm}
 use Rattle.cluster_history.specs.Cluster.{open_step, opening, done_reply}
 use Rattle.cluster_history.specs.Message.{messages_in}
+use Rattle.cluster_history.proofs.Asked.{is_there}
 use Rattle.cluster_history.proofs.Placed.{no_place, call_done, call_refused}
 use Rattle.cluster_history.proofs.Opened.{opening_ok, opening_acts, one_store, within, open_refused}
 use Rattle.cluster_history.proofs.cluster.Cluster.open.Goals as goal
@@ -16,12 +17,14 @@ pub returns-in_err-opened : goal.returns-in_err-opened
 unfolding open_step
 returns-in_err-opened c =
     let p = err_from_is_err_and c.from_residual.result c.from_residual.ensures.1 in
+    let there = is_there c.args.self.now c.self.inside.schema c.self.inside.stores.items (messages_in c.self.inside.messages.items) c.args.replica c.in-Some.place c.index.result.now
+    c.self.view_is c.in-Some.ensures.place c.in-Some.ensures.bound c.index.ensures in
     rw (p.1, p.2) (
       refl,
       elim c.in_err-opened.ensures.refused [
         | inl refused ↦ inl (open_refused c.args.self.now c.self.inside.schema c.self.inside.stores.items (messages_in c.self.inside.messages.items) c.args.replica c.in-Some.place c.index.result.now c.own.result c.args.file.now c.in_err-opened.field-0.0
             c.self.view_is c.in-Some.ensures.place c.in-Some.ensures.bound c.index.ensures c.own.ensures.proper refused)
-        | inr lack ↦ inr (lack, tt)
+        | inr lack ↦ inr (lack, there)
       ],
     )
 
@@ -35,7 +38,9 @@ returns-in_err-merge c =
     let q = call_refused done_reply c.args.self.now c.self.inside.schema c.self.inside.stores.items (messages_in c.self.inside.messages.items) c.args.replica c.in-Some.place (opening (canonical_read c.args.file.now)) c.index_mut.result.now c.merge.new.self c.in_err-merge.field-0.0
     c.self.view_is c.in-Some.ensures.place c.in-Some.ensures.bound c.index_mut.ensures.value c.in_err-merge.ensures.refused
     (opening_acts c.own.result c.args.file.now c.index_mut.result.now.replica c.in_ok-opened.opened.replica c.merge.new.self.replica c.in_err-merge.field-0.0 c.own.ensures.proper own c.in_ok-opened.ensures.made c.in_err-merge.ensures.acts) in
-    rw (p.1, p.2) (q.0, elim q.1 [ inl refused ↦ inl refused | inr lack ↦ inr (lack.0, tt) ])
+    let there = is_there c.args.self.now c.self.inside.schema c.self.inside.stores.items (messages_in c.self.inside.messages.items) c.args.replica c.in-Some.place c.index_mut.result.now
+    c.self.view_is c.in-Some.ensures.place c.in-Some.ensures.bound c.index_mut.ensures.value in
+    rw (p.1, p.2) (q.0, elim q.1 [ inl refused ↦ inl refused | inr lack ↦ inr (lack.0, there) ])
 
 pub returns : goal.returns
 unfolding open_step
