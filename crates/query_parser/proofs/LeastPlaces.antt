@@ -3,8 +3,9 @@ use Rattle.std.proofs.Common.{◌≡◌, ◌≤◌, ℕ, zero, suc, nat_le, Bool
 use Rattle.std.proofs.Math.Nat.{min-le_left, min-le_right, min-eq_left, min-eq_right}
 use Rattle.std.proofs.lemmas.Bool.Decides.{nat_tests}
 use Rattle.std.proofs.lemmas.List.Elements.{All-cons, All-nil}
+use Rattle.table_model.specs.Identifier.{same_text}
 use Rattle.table_model.specs.Query.{QueryShape}
-use Rattle.table_model.specs.Table.{Table, ColumnShape, has_name}
+use Rattle.table_model.specs.Table.{Table, ColumnShape}
 use Rattle.table_model.specs.declared.query.ColumnMention.{ColumnMention}
 use Rattle.table_model.specs.declared.refusal.Refusal.TheVariants.{NoSuchTable}
 use Rattle.query_parser.specs.Resolve.{Named, Places, in_query, column_at, is_grouped, sooner, with_column, visited, places, verdict, resolved, is_missing, lacks_group, is_ungrouped, IsLeastPlace, IsJudged}
@@ -103,15 +104,15 @@ least_from test found (n ∷ ns) = by_test (test n) refl (least_from test (cond 
 
 -- what is resolved is the first refusal, each at its least place
 pub judged : (table : Table) (q : QueryShape) → IsJudged table q (resolved table q)
-judged table q = by_name (has_name q.table table.name) refl
+judged table q = by_name (same_text q.table table.name) refl
   where
-    by_places : (missing ungrouped : Option ℕ) → has_name q.table table.name ≡ true → IsLeastPlace (is_missing table.columns) (in_query q) missing → IsLeastPlace (is_ungrouped table.columns q.grouping) (in_query q) ungrouped
+    by_places : (missing ungrouped : Option ℕ) → same_text q.table table.name ≡ true → IsLeastPlace (is_missing table.columns) (in_query q) missing → IsLeastPlace (is_ungrouped table.columns q.grouping) (in_query q) ungrouped
         → IsJudged table q (verdict (missing, ungrouped))
     by_places None None e m u = (e, (m, u))
     by_places None (Some at) e m u = (e, (m, u))
     by_places (Some at) u e m h = (e, m)
 
-    by_name : (b : Bool) → has_name q.table table.name ≡ b → IsJudged table q (cond b (verdict (places table.columns q.grouping (None, None) (in_query q))) (Err NoSuchTable))
+    by_name : (b : Bool) → same_text q.table table.name ≡ b → IsJudged table q (cond b (verdict (places table.columns q.grouping (None, None) (in_query q))) (Err NoSuchTable))
     by_name false e = e
     by_name true e =
         rw (places_least table.columns q.grouping (None, None) (in_query q))

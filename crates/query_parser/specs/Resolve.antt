@@ -2,8 +2,9 @@
 use Rattle.std.specs.Prelude.{◌≡◌, ◌≤◌, ℕ, Bool, true, false, not, ◌&&◌, ◌==◌, min, if◌then◌else◌, Option, Some, None, is_none, All, Any, Result, Ok, Err, List, [], ◌∷◌, ◌++◌, fold, position}
 use Rattle.std.specs.List.{list_any}
 use Rattle.table_model.specs.Formula.{Formula, says, in_parentheses, is_truth, negation, no_factor, both, no_term, either}
+use Rattle.table_model.specs.Identifier.{same_text}
 use Rattle.table_model.specs.Query.{QueryShape}
-use Rattle.table_model.specs.Table.{Table, ColumnShape, has_name}
+use Rattle.table_model.specs.Table.{Table, ColumnShape}
 use Rattle.table_model.specs.declared.query.ColumnMention.{ColumnMention}
 use Rattle.table_model.specs.declared.query.Item.{Item}
 use Rattle.table_model.specs.declared.query.ItemValue.{ItemValue}
@@ -72,9 +73,9 @@ in_grouping columns = fold (λ named column. named ++ (column, false) ∷ []) []
 abbrev pub in_query : QueryShape → List Named
 in_query q = ((in_items q.items ++ in_clause false q.filter) ++ in_grouping q.grouping) ++ in_clause true q.having
 
--- which of a table's columns has a name
+-- which of a table's columns has exactly this name
 abbrev pub column_at : List ColumnShape → List ℕ → Option ℕ
-column_at columns name = position (λ column. has_name name column.name) columns
+column_at columns name = position (λ column. same_text column.name name) columns
 
 -- whether a place is this one
 abbrev pub is_at : Option ℕ → ℕ → Bool
@@ -116,7 +117,7 @@ verdict (None, None) = Ok tt
 -- the first refusal of a query's names: the table's, then a column's that the table has not, then one's that GROUP BY doesn't name
 abbrev pub resolved : Table → QueryShape → Result (Unit {0}) Refusal
 resolved table q =
-    if has_name q.table table.name then verdict (places table.columns q.grouping (None, None) (in_query q)) else Err NoSuchTable
+    if same_text q.table table.name then verdict (places table.columns q.grouping (None, None) (in_query q)) else Err NoSuchTable
 
 -- whether a table has no column of this name
 abbrev pub is_missing : List ColumnShape → Named → Bool
@@ -140,9 +141,9 @@ IsLeastPlace test all (Some at) = Any (λ named. (test named ≡ true) × (named
 -- wherever it stands, then the least place of one that GROUP BY has to name and doesn't; and nothing else.
 abbrev pub IsJudged : Table → QueryShape → Result (Unit {0}) Refusal → Type 0
 IsJudged table q (Ok _) =
-    (has_name q.table table.name ≡ true) × (IsLeastPlace (is_missing table.columns) (in_query q) None × IsLeastPlace (is_ungrouped table.columns q.grouping) (in_query q) None)
-IsJudged table q (Err NoSuchTable) = has_name q.table table.name ≡ false
-IsJudged table q (Err (NoSuchColumn at)) = (has_name q.table table.name ≡ true) × IsLeastPlace (is_missing table.columns) (in_query q) (Some at)
+    (same_text q.table table.name ≡ true) × (IsLeastPlace (is_missing table.columns) (in_query q) None × IsLeastPlace (is_ungrouped table.columns q.grouping) (in_query q) None)
+IsJudged table q (Err NoSuchTable) = same_text q.table table.name ≡ false
+IsJudged table q (Err (NoSuchColumn at)) = (same_text q.table table.name ≡ true) × IsLeastPlace (is_missing table.columns) (in_query q) (Some at)
 IsJudged table q (Err (NotGrouped at)) =
-    (has_name q.table table.name ≡ true) × (IsLeastPlace (is_missing table.columns) (in_query q) None × IsLeastPlace (is_ungrouped table.columns q.grouping) (in_query q) (Some at))
+    (same_text q.table table.name ≡ true) × (IsLeastPlace (is_missing table.columns) (in_query q) None × IsLeastPlace (is_ungrouped table.columns q.grouping) (in_query q) (Some at))
 IsJudged table q (Err other) = ⊥

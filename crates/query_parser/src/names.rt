@@ -5,7 +5,7 @@ ghost use Rattle.query_parser.specs.Resolve.{places, sooner, visited, verdict, r
 
 use table_model::{
     Column, ColumnMention, Condition, Factor, Item, ItemValue, Operand, Predicate, Primary, Query,
-    Refusal, Schema, SetFunction, Term, same_word,
+    Refusal, Schema, SetFunction, Term, same_text,
 };
 
 /// The most columns that a table has.
@@ -67,11 +67,11 @@ fn sooner(first: Option<u64>, at: u64) -> Option<u64>
     }
 }
 
-/// Which column has the name.
+/// Which column has exactly this name.
 fn column_at(columns: &[Column], name: &str) -> Option<usize>
     ensures { result ≡ column_at columns.now name.now }
 {
-    columns.iter().position(|column| same_word(name.as_bytes(), column.name().as_bytes()))
+    columns.iter().position(|column| same_text(column.name().as_bytes(), name.as_bytes()))
 }
 
 /// The places after a set function's columns.
@@ -228,7 +228,8 @@ fn verdict(found: Places) -> Result<(), Refusal>
 ///
 /// Refused are, in this order: another table (`NoSuchTable`), the least place of a column that the table has not
 /// (`NoSuchColumn`), and the least place of a column in the select list or in HAVING, outside a set function, that GROUP BY
-/// doesn't name (`NotGrouped`). It takes no memory.
+/// doesn't name (`NotGrouped`). Names are compared as they stand, byte for byte: `parse` folds those of a text to upper case, as
+/// a schema's are, so a query built by hand needs its names in upper case too. It takes no memory.
 pub fn resolve(query: &Query, schema: &Schema) -> Result<(), Refusal>
     ensures resolved { result ≡ resolved schema.now query.now }
     ensures judged { IsJudged schema.now query.now result }
@@ -240,7 +241,7 @@ pub fn resolve(query: &Query, schema: &Schema) -> Result<(), Refusal>
 fn judge(query: &Query, schema: &Schema) -> Result<(), Refusal>
     ensures { result ≡ resolved schema.now query.now }
 {
-    if !same_word(query.table.as_str().as_bytes(), schema.table().as_bytes()) {
+    if !same_text(query.table.as_str().as_bytes(), schema.table().as_bytes()) {
         return Err(Refusal::NoSuchTable);
     }
     verdict(in_query(query, schema.column_list()))

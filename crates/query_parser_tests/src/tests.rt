@@ -3,7 +3,7 @@ use expectations::{agree, agree_at};
 use query_parser::{parse, resolve};
 use std::alloc::{AllocError, Global};
 use std::test::Fail;
-use table_model::{ColType, ColumnMention, Item, ItemValue, Query, Refusal, Schema};
+use table_model::{ColType, ColumnMention, Item, ItemValue, Name, Query, Refusal, Schema};
 
 // Each production of the grammar, and each choice of it.
 const LONG: &str =
@@ -693,6 +693,46 @@ fn names_are_those_of_the_table_and_of_group_by(rt: HostRuntime) -> Result<(), F
     let schema = Schema::new(rt.alloc(), "T", &columns)?;
     for &(text, want) in &NAMES {
         agree_at(text, resolved(rt.alloc(), text, &schema), want)?;
+    }
+    Ok(())
+}
+
+/// A column named by hand, at a place.
+fn mention(alloc: Global, name: &str, at: u64) -> Result<ColumnMention, AllocError> {
+    let name = Name::from_string(String::from_str(alloc, name)?);
+    Ok(ColumnMention { name, at })
+}
+
+/// The query that `SELECT a FROM t GROUP BY a` is, built by hand with these names for `t` and `a`.
+fn by_hand(alloc: Global, table: &str, column: &str) -> Result<Query, AllocError> {
+    let value = ItemValue::Grouped(mention(alloc, column, 7)?);
+    let mut items = Vec::new(alloc);
+    items.push(Item { value, alias: None })?;
+    let mut grouping = Vec::new(alloc);
+    grouping.push(mention(alloc, column, 25)?)?;
+    Ok(Query {
+        items,
+        table: Name::from_string(String::from_str(alloc, table)?),
+        filter: None,
+        grouping,
+        having: None,
+    })
+}
+
+// The table is T with the column A. Names that no parser folded are compared as they stand.
+const BY_HAND: [(&str, &str, Result<(), Refusal>); 4] = [
+    ("T", "A", Ok(())),
+    ("T", "a", Err(Refusal::NoSuchColumn(7))),
+    ("t", "A", Err(Refusal::NoSuchTable)),
+    ("t", "a", Err(Refusal::NoSuchTable)),
+];
+
+#[test]
+fn names_of_a_query_built_by_hand_are_compared_as_they_stand(rt: HostRuntime) -> Result<(), Fail> {
+    let schema = Schema::new(rt.alloc(), "t", &[("a", ColType::SmallInt)])?;
+    for &(table, column, want) in &BY_HAND {
+        let query = by_hand(rt.alloc(), table, column)?;
+        agree_at(column, resolve(&query, &schema), want)?;
     }
     Ok(())
 }

@@ -1,8 +1,9 @@
 -- What a query is refused as: a fault of its text, or one of its names.
 use Rattle.std.proofs.Common.{◌≡◌, ◌⊎◌, inl, inr, ℕ, ◌&&◌, Bool, true, false, cond, ltb, IsTrue, List, [], ◌∷◌, length, Option, Some, None, Result, Ok, Err, refl, sym, ap, ◌∙◌, subst}
 use Rattle.std.specs.List.{list_all}
+use Rattle.table_model.specs.Identifier.{same_text}
 use Rattle.table_model.specs.Query.{QueryShape}
-use Rattle.table_model.specs.Table.{Table, has_name}
+use Rattle.table_model.specs.Table.{Table}
 use Rattle.table_model.specs.declared.refusal.Refusal.{Refusal}
 use Rattle.table_model.specs.declared.refusal.Refusal.TheVariants.{Memory, Syntax, NumberTooLarge, TooDeep, NoSuchTable}
 use Rattle.query_parser.specs.Resolve.{Places, places, verdict, in_query, resolved}
@@ -78,4 +79,4 @@ table_listed false r h = refl
 
 -- so is what its names are refused as
 pub resolved_listed : (t : Table) (q : QueryShape) → IsRefusedAsQuery (resolved t q)
-resolved_listed t q = table_listed (has_name q.table t.name) (verdict (places t.columns q.grouping (None, None) (in_query q))) (verdict_listed (places t.columns q.grouping (None, None) (in_query q)))
+resolved_listed t q = table_listed (same_text q.table t.name) (verdict (places t.columns q.grouping (None, None) (in_query q))) (verdict_listed (places t.columns q.grouping (None, None) (in_query q)))
