@@ -38,6 +38,11 @@ place_after bytes text rest at within parts =
       ap (λ (n : ℕ). take n (drop at bytes)) size ∙ ap (take (length text)) parts ∙ take_at text rest (length text) refl,
     )
 
+pub place_onward : (bytes text rest : List ℕ) (at : ℕ) → at ≤ length bytes → drop at bytes ≡ text ++ rest → at ≤ length bytes - length rest
+place_onward bytes text rest at within parts =
+    let long : length bytes - at ≡ length text + length rest = sym (length-drop at bytes) ∙ ap length parts ∙ length-append text rest in
+    omega arith
+
 -- ---- the columns of a table
 
 type_lanes : (t : ColType) → IsLaneWidth (bits_of t)
@@ -63,14 +68,15 @@ unfolding segment_bytes
 segment_bytes_are s table rows same widths =
     ap (λ (ws : List ℕ). (columns ws (length s.rows)).spell s.forms) widths ∙ ap (λ (n : ℕ). (columns (widths_of table) n).spell s.forms) (ap length same ∙ length-batch_of rows s.forms)
 
--- what is read at a place in bytes ends before the rest
+-- what is read at a place in bytes ends before the rest, at that place or after it
 pub read_at : (table : Table) (rows : ℕ) (bytes : List ℕ) (at : ℕ) (forms : List (List VectorForm)) (rest : List ℕ) → at ≤ length bytes → AreBytes bytes
     → (batch_columns table rows).read (length bytes) (drop at bytes) ≡ Ok (forms, rest)
-    → (drop (length bytes - length rest) bytes ≡ rest) × (slice_range bytes at (length bytes - length rest) ≡ (batch_columns table rows).spell forms)
+    → (drop (length bytes - length rest) bytes ≡ rest) × (slice_range bytes at (length bytes - length rest) ≡ (batch_columns table rows).spell forms) × (at ≤ length bytes - length rest)
 read_at table rows bytes at forms rest within fit read =
     let fit_rest = rest_are_bytes bytes (take at bytes) (drop at bytes) (sym (take-append-drop at bytes)) fit in
     let taken = (batch_columns_are_lawful table rows).takes (length bytes) (drop at bytes) forms rest fit_rest read in
-    place_after bytes ((batch_columns table rows).spell forms) rest at within taken.0
+    let text = (batch_columns table rows).spell forms in
+    let placed = place_after bytes text rest at within taken.0 in (placed.0, placed.1, place_onward bytes text rest at within taken.0)
 
 -- what is spelled at a place in bytes is read there
 pub spelled_at : (table : Table) (rows : ℕ) (bytes : List ℕ) (at : ℕ) (forms : List (List VectorForm)) (rest : List ℕ)

@@ -27,7 +27,7 @@ vector_cell v n = cond (is_null v.nulls n) None (Some (value_in v.coded n))
 unfoldable pub cells_of : VectorForm → List (Option ℤ)
 cells_of v = map (vector_cell v) (range_with_len 0 v.rows)
 
--- a null mask has one of the rows that are covered, and no other row
+-- a null mask is of 1024 rows, and has at least one of the rows that are covered, and no row past them
 pub record IsNullMask (rows : ℕ) (mask : List Bool) : Type 0 where
   pub long : length mask ≡ 1024
   pub one : (n : ℕ) × (n < rows) × (has mask n ≡ true)
@@ -38,7 +38,8 @@ abbrev pub AreNulls : ℕ → Option (List Bool) → Type 0
 AreNulls rows None = Unit {0}
 AreNulls rows (Some mask) = IsNullMask rows mask
 
--- a coded vector covers 1 to 1024 rows, and has a null mask exactly where one of them is null
+-- a coded vector covers 1 to 1024 rows, its values are a form of their coding, and it has a null mask exactly where one of those
+-- rows is null, with no row past them
 pub record IsVector (v : VectorForm) : Type 0 where
   pub form : IsCodedForm v.coded
   pub some : 1 ≤ v.rows

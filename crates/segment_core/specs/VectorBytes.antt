@@ -33,7 +33,7 @@ words t w = seen (raw (128 * w)) (words_of_bytes t) (λ packed. cond (are_words 
 
 -- ---- null masks
 
--- whether a null mask has one of the vector's rows and no row past them
+-- whether a null mask has at least one of the rows that are covered, and no row past them
 abbrev pub is_null_mask : ℕ → List Bool → Bool
 is_null_mask rows nulls = nat_lt 0 (count_below (has nulls) rows) && (count_below (has nulls) rows == count_below (has nulls) 1024)
 
@@ -64,7 +64,7 @@ coding_tagged tag = cond (tag == 0) ByFrame (cond (tag == 1) ByDeltas (cond (tag
 unfoldable pub coding : Format Coding
 coding = seen (checked (number 1) (λ tag. nat_le tag 3) BadTag) coding_tagged (λ c. Some (tag_of c))
 
--- the least and the greatest width that a coding may have at lanes of t bits
+-- whether a coding may have a width at lanes of t bits
 abbrev pub is_width : ℕ → Coding → ℕ → Bool
 is_width t ByFrame width = nat_le width t
 is_width t ByDeltas width = nat_le width t

@@ -87,8 +87,10 @@ impl Segment {
         requires limit { rows ≤ row_limit }
         requires at { at ≤ length bytes.now }
 
-        // What is read is spelled so, and its rows are so many.
+        // What is read is spelled so between the two places, of which the second is not past the end, and its rows are so many.
         ensures found { IfOk result (λ x. slice_range bytes.now at x.1 ≡ segment_bytes x.0) }
+        ensures next { IfOk result (λ x. x.1 ≤ length bytes.now) }
+        ensures onward { IfOk result (λ x. at ≤ x.1) }
         ensures rows { IfOk result (λ x. x.0.rows ≡ batch_of rows x.0.forms) }
         ensures widths { IfOk result (λ x. widths_in x.0.forms ≡ widths_of schema.now) }
         ensures valid { IfOk result (λ x. HasBytesIn schema.now x.0) }

@@ -1,4 +1,4 @@
-use Rattle.std.proofs.Common.{◌≡◌, ◌∙◌, ℕ, List, length, map, drop, slice_range, sym, ap, arith}
+use Rattle.std.proofs.Common.{◌≡◌, ◌∙◌, ℕ, ◌-◌, ◌≤◌, List, length, map, drop, slice_range, sym, ap, arith}
 use Rattle.std.proofs.lemmas.Result.{err_from_is_err_and}
 use Rattle.table_model.proofs.OrMemory.{or_memory}
 use Rattle.table_model.specs.Table.{ColumnShape, bits_of}
@@ -8,6 +8,9 @@ use Rattle.segment_core.specs.SegmentBytes.{columns, batch_columns, columns_then
 use Rattle.segment_core.proofs.FormatLaws.{bytes_at}
 use Rattle.segment_core.proofs.SegmentLaws.{read_at, spelled_at, segment_bytes_are}
 use Rattle.segment_core.proofs.segment.Segment.read_bytes.Goals as goal
+
+pub returns-clause-next : goal.returns-clause-next
+returns-clause-next c = omega (arith, c.saturating_sub-next.ensures)
 
 pub returns-in_err-read-clause-only : goal.returns-in_err-read-clause-only
 returns-in_err-read-clause-only c = λ forms rest valid parts.
@@ -46,6 +49,17 @@ returns-clause-found c =
     ∙ sym (segment_bytes_are c.from_columns.result c.args.schema.now c.args.rows
     (c.from_columns.ensures.rows ∙ ap (batch_of c.args.rows) (sym c.from_columns.ensures.forms))
     (ap widths_in c.from_columns.ensures.forms ∙ c.in_ok-read.ensures.lanes ∙ ap (map width) c.column_list.ensures.list))
+
+pub returns-clause-onward : goal.returns-clause-onward
+returns-clause-onward c =
+    let width : ColumnShape → ℕ = λ s. bits_of s.column_type in
+    let whole : (batch_columns c.args.schema.now c.args.rows).read (length c.args.bytes.now) (drop c.args.at c.args.bytes.now) ≡ columns_then c.in_ok-read.read.items c.in_ok-read.rest.now =
+    ap (λ (shapes : List ColumnShape). (columns (map width shapes) c.args.rows).read (length c.args.bytes.now) (drop c.args.at c.args.bytes.now)) (sym c.column_list.ensures.list)
+    ∙ ap ((columns (map width c.column_list.result.now) c.args.rows).read (length c.args.bytes.now)) (sym c.split_at.ensures.back)
+    ∙ c.in_ok-read.ensures.read in
+    let placed = read_at c.args.schema.now c.args.rows c.args.bytes.now c.args.at c.in_ok-read.read.items c.in_ok-read.rest.now c.requires.at (bytes_at c.args.bytes.now (λ i. omega (arith, c.type_inv.bytes i))) whole in
+    let onward : c.args.at ≤ length c.args.bytes.now - length c.in_ok-read.rest.now = placed.2 in
+    omega (arith, onward, c.saturating_sub-next.ensures)
 
 pub returns-clause-widths : goal.returns-clause-widths
 returns-clause-widths c =
