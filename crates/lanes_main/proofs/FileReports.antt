@@ -1,5 +1,5 @@
 -- What is written for a file, step by step: the file is read, and the line of a check or one answer after another is written.
-use Rattle.std.proofs.Common.{◌≡◌, ◌⊎◌, inl, inr, ℕ, suc, ◌++◌, ◌+◌, ◌<◌, ◌≤◌, Bool, true, false, IsTrue, List, [], ◌∷◌, length, map, drop, get_or, Option, Some, None, Result, Ok, Err, OnOk, OnErr, IfErr, refl, sym, ap, ◌∙◌, subst, append_assoc}
+use Rattle.std.proofs.Common.{◌≡◌, ◌⊎◌, inl, inr, ℕ, suc, ◌++◌, ◌+◌, ◌<◌, ◌≤◌, Bool, true, false, ◌||◌, IsTrue, List, [], ◌∷◌, length, map, drop, get_or, Option, Some, None, Result, Ok, Err, OnOk, OnErr, IfErr, refl, sym, ap, ◌∙◌, subst, append_assoc}
 use Rattle.std.proofs.lemmas.List.{append-nil, drop_more, drop_all}
 use Rattle.std.specs.Io.KnownBytes.{Appends}
 use Rattle.table_model.proofs.Written.{appends_both}
@@ -14,7 +14,7 @@ use Rattle.replica_store.specs.Replica.{Replica}
 use Rattle.column_file.specs.Files.{checked_from}
 use Rattle.column_file.specs.Input.{Judges, CountsFailure, is_refusal_of_reading}
 use Rattle.store_view.specs.Asked.{query_answer, is_refusal_of_query}
-use Rattle.lanes_main.specs.FileReport.{Report, no_report, refused, after_text, checked_text, checked_report, check_report, answer_report, answers_report, opened_report, is_refusal_of_answering, Tells, Reports, CountsWrites, CountsBoth}
+use Rattle.lanes_main.specs.FileReport.{Report, no_report, refused, after_text, checked_text, checked_report, check_report, answer_report, answers_report, opened_report, is_refusal_of_answering, is_refusal_of_checking, is_refusal_of_querying, Tells, Reports, CountsWrites, CountsBoth}
 use Rattle.lanes_main.proofs.Tellings.{appends_none}
 
 -- nothing is a front of each text
@@ -57,6 +57,23 @@ asking_counted other w listed = refl
 pub asking_listed : (e : Refusal) → IsTrue (is_refusal_of_query e) → IsTrue (is_refusal_of_answering e)
 asking_listed WriteFault listed = refl
 asking_listed other listed = listed
+
+-- a refusal of reading a file is one of its check
+pub reading_checks : (e : Refusal) → IsTrue (is_refusal_of_reading e) → IsTrue (is_refusal_of_checking e)
+reading_checks WriteFault listed = refl
+reading_checks other listed = listed
+
+-- and one of its queries
+pub reading_queries : (e : Refusal) → IsTrue (is_refusal_of_reading e) → IsTrue (is_refusal_of_querying e)
+reading_queries e listed = ap (λ (b : Bool). b || is_refusal_of_answering e) listed
+
+-- a refusal of writing answers is one of the queries
+pub answering_queries : (e : Refusal) → IsTrue (is_refusal_of_answering e) → IsTrue (is_refusal_of_querying e)
+answering_queries e listed =
+    elim (is_refusal_of_reading e) as (λ b. IsTrue (b || is_refusal_of_answering e)) [
+      | true ↦ refl
+      | false ↦ listed
+    ]
 
 -- a whole text was written, or a front of it
 pub text_told : (result : Result (Unit {0}) Refusal) (before now : Option (List ℕ)) (text : List ℕ) (w w' : ℕ)

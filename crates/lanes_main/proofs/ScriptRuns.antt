@@ -12,14 +12,14 @@ use Rattle.script_lines.specs.Line.{command_of}
 use Rattle.lanes_main.specs.ReplyText.{reply_text_of}
 use Rattle.cluster_history.specs.Run.{Run, answered}
 use Rattle.lanes_main.specs.Script.{line_limit, founded, first_answer, later_answer, goes_on, line_answer, line_text, after_line, lines_text, after_lines}
-use Rattle.lanes_main.specs.ScriptRun.{replies_of, cluster_after, step_in, asked_by, steps_of, unasked_text, next_text, replies_text, MakesTable, MakesOneOrNone, StepsRun, WritesReplies, EndsAsRun, SameInScripts, ScriptLaws}
+use Rattle.lanes_main.specs.ScriptRun.{replies_of, cluster_after, step_in, asked_by, steps_of, unasked_text, next_text, replies_text, MakesTable, MakesOneOrNone, StepsRun, WritesReplies, EndsAsRun, SameInScripts, SameInScriptsExport, ScriptLaws}
 use Rattle.script_lines.specs.TableWords.{TableWords}
 use Rattle.script_lines.specs.declared.command.Command.{Command}
 use Rattle.script_lines.specs.declared.command.Command.TheVariants as commands
 use Rattle.cluster_history.specs.declared.reply.Reply.{Reply}
 use Rattle.cluster_history.specs.declared.reply.Reply.TheVariants.{Done, Refused}
 use Rattle.script_lines.specs.declared.step.Step.{Step}
-use Rattle.cluster_history.proofs.Histories.{in_histories}
+use Rattle.cluster_history.proofs.Histories.{in_histories, histories}
 
 steps_run : StepsRun
 steps_run c [] = refl
@@ -151,18 +151,25 @@ ends lines later table count m =
 some_cluster : (c d : ClusterParts) → Some c ≡ Some d → c ≡ d
 some_cluster c d e = cc
 
+-- the cluster of a script is that of the run of its steps
+script_run : (lines later : List (List ℕ)) (table : Table) (count : ℕ) (c : ClusterParts) → MakesTable lines table count later → after_lines None lines ≡ Some c →
+    Run (new_cluster table count) (steps_of later) (replies_of (new_cluster table count) (steps_of later)) c
+script_run lines later table count c m ended =
+    let steps = steps_of later in
+    let start = new_cluster table count in
+    let is : cluster_after start steps ≡ c = some_cluster (cluster_after start steps) c (sym (ends lines later table count m) ∙ ended) in
+    let P : ClusterParts → Type 0 = λ x. Run start steps (replies_of start steps) x in
+    subst P is (steps_run start steps)
+
 in_scripts : SameInScripts
 in_scripts lines other_lines later other_later table count other_count c d replica other m n ended other_ended here there same =
-    let steps = steps_of later in
-    let other_steps = steps_of other_later in
-    let start = new_cluster table count in
-    let other_start = new_cluster table other_count in
-    let is : cluster_after start steps ≡ c = some_cluster (cluster_after start steps) c (sym (ends lines later table count m) ∙ ended) in
-    let other_is : cluster_after other_start other_steps ≡ d = some_cluster (cluster_after other_start other_steps) d (sym (ends other_lines other_later table other_count n) ∙ other_ended) in
-    let P : ClusterParts → Type 0 = λ x. Run start steps (replies_of start steps) x in
-    let Q : ClusterParts → Type 0 = λ x. Run other_start other_steps (replies_of other_start other_steps) x in
-    in_histories table count other_count steps other_steps (replies_of start steps) (replies_of other_start other_steps) c d replica other
-    (subst P is (steps_run start steps)) (subst Q other_is (steps_run other_start other_steps)) here there same
+    in_histories table count other_count (steps_of later) (steps_of other_later) (replies_of (new_cluster table count) (steps_of later)) (replies_of (new_cluster table other_count) (steps_of other_later)) c d replica other
+    (script_run lines later table count c m ended) (script_run other_lines other_later table other_count d n other_ended) here there same
+
+in_scripts_export : SameInScriptsExport
+in_scripts_export lines other_lines later other_later table count other_count c d replica other m n ended other_ended here there same =
+    histories.exports table count other_count (steps_of later) (steps_of other_later) (replies_of (new_cluster table count) (steps_of later)) (replies_of (new_cluster table other_count) (steps_of other_later)) c d replica other
+    (script_run lines later table count c m ended) (script_run other_lines other_later table other_count d n other_ended) here there same
 
 pub scripts : ScriptLaws
-scripts = record { table = one_or_none; run = steps_run; text = writes; cluster = ends; alike = in_scripts }
+scripts = record { table = one_or_none; run = steps_run; text = writes; cluster = ends; alike = in_scripts; exports = in_scripts_export }

@@ -1,5 +1,5 @@
 -- What is written for a file: the line of a check or the answers of queries, and the refusal that ends it, if one does.
-use Rattle.std.specs.Prelude.{◌≡◌, ◌⊎◌, ℕ, Bool, true, List, [], ◌∷◌, ◌++◌, codes, Option, Some, None, Result, Ok, Err}
+use Rattle.std.specs.Prelude.{◌≡◌, ◌⊎◌, ℕ, Bool, true, ◌||◌, List, [], ◌∷◌, ◌++◌, codes, Option, Some, None, Result, Ok, Err}
 use Rattle.std.specs.Fmt.{decimal}
 use Rattle.std.specs.Io.KnownBytes.{Appends}
 use Rattle.table_model.specs.Answer.{AnswerParts, answer_text}
@@ -12,6 +12,7 @@ use Rattle.table_model.specs.declared.refusal.Refusal.{Refusal}
 use Rattle.table_model.specs.declared.refusal.Refusal.TheVariants.{Memory, ReadFault, WriteFault}
 use Rattle.replica_store.specs.Replica.{Replica}
 use Rattle.column_file.specs.Files.{checked_from, opened_from}
+use Rattle.column_file.specs.Input.{is_refusal_of_reading}
 use Rattle.store_view.specs.Asked.{query_answer, is_refusal_of_query}
 
 -- a text that is written, and the refusal that ends it, if one does
@@ -70,6 +71,15 @@ IsFromOutside e = (e ≡ Memory) ⊎ ((e ≡ ReadFault) ⊎ (e ≡ WriteFault))
 abbrev pub is_refusal_of_answering : Refusal → Bool
 is_refusal_of_answering WriteFault = true
 is_refusal_of_answering other = is_refusal_of_query other
+
+-- whether a refusal is one that a check of a file may have: one of reading it, or that a write fails
+abbrev pub is_refusal_of_checking : Refusal → Bool
+is_refusal_of_checking WriteFault = true
+is_refusal_of_checking other = is_refusal_of_reading other
+
+-- whether a refusal is one that queries over a file may have: one of reading it, or one of writing an answer
+abbrev pub is_refusal_of_querying : Refusal → Bool
+is_refusal_of_querying e = is_refusal_of_reading e || is_refusal_of_answering e
 
 -- What was written is the report's text, and the call ended as the report does; or one of those refusals ended it, after a front
 -- of the text.

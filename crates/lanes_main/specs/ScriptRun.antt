@@ -1,11 +1,12 @@
 -- Scripts as histories: once a line has made the table, the lines that ask for steps are a run from its new cluster.
 use Rattle.std.specs.Prelude.{◌≡◌, ◌⊎◌, ℕ, cond, nat_lt, List, [], ◌∷◌, ◌++◌, length, codes, Option, Some, None, IsSome}
 use Rattle.std.specs.List.{filter_map}
-use Rattle.table_model.specs.Operation.{SameOperations}
+use Rattle.column_file.specs.Files.{canonical_file}
+use Rattle.table_model.specs.Operation.{SameOperations, state_of}
 use Rattle.table_model.specs.Table.{Table}
 use Rattle.table_model.specs.declared.refusal.Refusal.TheVariants.{BadLine, LineTooLong}
 use Rattle.cluster_history.specs.Cluster.{ClusterParts, new_cluster, step_of}
-use Rattle.cluster_history.specs.History.{new_taken, taken_of, taken_by, replica_numbered, AreAlike}
+use Rattle.cluster_history.specs.History.{Taken, new_taken, taken_of, taken_by, reply_to, replica_numbered, AreAlike}
 use Rattle.script_lines.specs.Line.{command_of}
 use Rattle.lanes_main.specs.ReplyText.{reply_text_of}
 use Rattle.cluster_history.specs.Run.{Run, answered}
@@ -13,8 +14,9 @@ use Rattle.lanes_main.specs.Script.{line_limit, line_answer, lines_text, after_l
 use Rattle.script_lines.specs.declared.command.Command.{Command}
 use Rattle.script_lines.specs.declared.command.Command.TheVariants as commands
 use Rattle.cluster_history.specs.declared.reply.Reply.{Reply}
-use Rattle.cluster_history.specs.declared.reply.Reply.TheVariants.{Done, Refused}
+use Rattle.cluster_history.specs.declared.reply.Reply.TheVariants.{Done, File, Refused}
 use Rattle.script_lines.specs.declared.step.Step.{Step}
+use Rattle.script_lines.specs.declared.step.Step.TheVariants.{Export}
 
 -- the replies to steps, one after another, where memory never lacks
 abbrev pub replies_of : ClusterParts → List Step → List Reply
@@ -82,15 +84,28 @@ abbrev pub EndsAsRun : Type 0
 EndsAsRun = (lines later : List (List ℕ)) (table : Table) (count : ℕ) → MakesTable lines table count later →
     after_lines None lines ≡ Some (cluster_after (new_cluster table count) (steps_of later))
 
+-- what each replica took and each message brings once these lines came after the one that made the table
+abbrev pub taken_in : Table → ℕ → List (List ℕ) → Taken
+taken_in table count later = taken_by (new_taken count) (steps_of later) (replies_of (new_cluster table count) (steps_of later))
+
 -- in any two scripts of one table, replicas that took the same are alike
 abbrev pub SameInScripts : Type 0
 SameInScripts = (lines other_lines later other_later : List (List ℕ)) (table : Table) (count other_count : ℕ) (c d : ClusterParts) (replica other : ℕ) →
     MakesTable lines table count later → MakesTable other_lines table other_count other_later →
     after_lines None lines ≡ Some c → after_lines None other_lines ≡ Some d →
     IsSome (replica_numbered c replica) → IsSome (replica_numbered d other) →
-    SameOperations (taken_of (taken_by (new_taken count) (steps_of later) (replies_of (new_cluster table count) (steps_of later))) replica)
-    (taken_of (taken_by (new_taken other_count) (steps_of other_later) (replies_of (new_cluster table other_count) (steps_of other_later))) other) →
+    SameOperations (taken_of (taken_in table count later) replica) (taken_of (taken_in table other_count other_later) other) →
     AreAlike c replica d other
+
+-- in any two scripts of one table, replicas that took the same export the same bytes, the canonical file of the table and the state of what was taken
+abbrev pub SameInScriptsExport : Type 0
+SameInScriptsExport = (lines other_lines later other_later : List (List ℕ)) (table : Table) (count other_count : ℕ) (c d : ClusterParts) (replica other : ℕ) →
+    MakesTable lines table count later → MakesTable other_lines table other_count other_later →
+    after_lines None lines ≡ Some c → after_lines None other_lines ≡ Some d →
+    IsSome (replica_numbered c replica) → IsSome (replica_numbered d other) →
+    SameOperations (taken_of (taken_in table count later) replica) (taken_of (taken_in table other_count other_later) other) →
+    (bytes : List ℕ) × (bytes ≡ canonical_file table (state_of (taken_of (taken_in table count later) replica))) ×
+    (reply_to c (Export replica) ≡ File bytes) × (reply_to d (Export other) ≡ File bytes)
 
 -- what scripts keep
 pub record ScriptLaws : Type 0 where
@@ -99,3 +114,4 @@ pub record ScriptLaws : Type 0 where
   pub text : WritesReplies
   pub cluster : EndsAsRun
   pub alike : SameInScripts
+  pub exports : SameInScriptsExport

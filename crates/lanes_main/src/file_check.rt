@@ -1,9 +1,9 @@
 //! Checks of canonical files.
-ghost use Rattle.std.specs.Prelude.{◌≡◌, ◌≢◌, ◌++◌, OnOk, IfOk, IfErr};
+ghost use Rattle.std.specs.Prelude.{◌≡◌, ◌≢◌, ◌++◌, IsTrue, OnOk, IfOk, IfErr};
 ghost use Rattle.std.specs.Io.KnownBytes.{IsAtEnd};
 ghost use Rattle.table_model.specs.Faults.{IsWithin, GaveMore};
 ghost use Rattle.table_model.specs.declared.refusal.Refusal.TheVariants.{WriteFault};
-ghost use Rattle.lanes_main.specs.FileReport.{checked_text, check_report, Reports, CountsBoth};
+ghost use Rattle.lanes_main.specs.FileReport.{checked_text, check_report, is_refusal_of_checking, Reports, CountsBoth};
 
 use crate::reply_format::write_number;
 use column_file::{Checked, check};
@@ -35,6 +35,7 @@ pub fn check_file<R: Read, W: Write>(
     writer: &mut Counted<W>,
 ) -> Result<(), Refusal>
     ensures told { Reports result (R.remaining reader.old.0) (W.contents writer.old.0) (W.contents writer.new.0) check_report }
+    ensures refused { IfErr result (λ e. IsTrue (is_refusal_of_checking e)) }
     ensures unwritten { IfErr result (λ e. e ≢ WriteFault → writer.new ≡ writer.old) }
     ensures end { OnOk result (IsAtEnd (R.remaining reader.new.0)) }
     ensures within { OnOk result (IsWithin (R.remaining reader.old.0)) }

@@ -4,7 +4,7 @@ ghost use Rattle.std.specs.Io.KnownBytes.{IsAtEnd};
 ghost use Rattle.table_model.specs.Faults.{IsWithin, GaveMore};
 ghost use Rattle.store_view.specs.Asked.{query_answer};
 ghost use Rattle.table_model.specs.declared.refusal.Refusal.TheVariants.{ReadFault};
-ghost use Rattle.lanes_main.specs.FileReport.{answer_report, answers_report, queries_report, no_report, is_refusal_of_answering, Tells, Reports, CountsWrites, CountsBoth};
+ghost use Rattle.lanes_main.specs.FileReport.{answer_report, answers_report, queries_report, no_report, is_refusal_of_answering, is_refusal_of_querying, Tells, Reports, CountsWrites, CountsBoth};
 
 use crate::notes::point_at;
 use column_file::open;
@@ -69,6 +69,7 @@ pub fn query_file<R: Read, W: Write>(
     writer: &mut Counted<W>,
 ) -> Result<(), Refusal>
     ensures told { Reports result (R.remaining reader.old.0) (W.contents writer.old.0) (W.contents writer.new.0) (queries_report (map (λ query. query.now) queries.now)) }
+    ensures refused { IfErr result (λ e. IsTrue (is_refusal_of_querying e)) }
     ensures unread { result ≡ Err ReadFault → writer.new ≡ writer.old }
     ensures end { OnOk result (IsAtEnd (R.remaining reader.new.0)) }
     ensures within { OnOk result (IsWithin (R.remaining reader.old.0)) }
@@ -88,6 +89,7 @@ pub fn query_file_with_notes<R: Read, W: Write, N: Write>(
     notes: &mut N,
 ) -> Result<(), Refusal>
     ensures told { Reports result (R.remaining reader.old.0) (W.contents writer.old.0) (W.contents writer.new.0) (queries_report (map (λ query. query.now) queries.now)) }
+    ensures refused { IfErr result (λ e. IsTrue (is_refusal_of_querying e)) }
     ensures unread { result ≡ Err ReadFault → writer.new ≡ writer.old }
     ensures end { OnOk result (IsAtEnd (R.remaining reader.new.0)) }
     ensures within { OnOk result (IsWithin (R.remaining reader.old.0)) }

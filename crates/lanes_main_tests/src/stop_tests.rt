@@ -15,9 +15,9 @@ struct Stopped {
 /// Scripts that stop: of one row, of files, of messages about a gap with a deletion, and of vectors that are recoded.
 const STOPPED: [Stopped; 4] = [
     Stopped {
-        lines: "table 2 T A SMALLINT\nappend 1 (7)\nmerge 2 1\nquery 2 SELECT COUNT(*) FROM T\n",
-        replies: "ok\nok 1.1\nok\nok 1\nCOUNT(*)\n1\n",
-        ends: &[(21, 3), (34, 10), (44, 13), (75, 29)],
+        lines: "table 2 T A SMALLINT\nappend 1 (7)\nmerge 2 1\nquery 2 SELECT COUNT(*) FROM T\nexport 2\n",
+        replies: "ok\nok 1.1\nok\nok 1\nCOUNT(*)\n1\nok 464c43460100010001540201410100000001000000010000000000000000000007000000000000000000\n",
+        ends: &[(21, 3), (34, 10), (44, 13), (75, 29), (84, 117)],
     },
     Stopped {
         lines: "table 2 T A SMALLINT\nappend 1 (7)\nexport 1\nopen 2 464c43460100010001540201410100000001000000010000000000000000000007000000000000000000\nexport 2\n",
