@@ -37,7 +37,7 @@ entry_of e = (e.0, (length e.1.rows, e.1.forms))
 unfoldable pub batch : Table → List Entry → Format Entry
 batch table front = before (batch_name (map name_of front)) (λ _. before row_count (batch_columns table))
 
--- batches in strictly ascending order of name; at most as many as a summary has names
+-- batches in strictly ascending order of name, at most batch_limit of them
 unfoldable pub batches : Table → Format (List Entry)
 batches table = seen (before name_count (λ n. all n (batch table))) (λ p. p.1) (λ found. Some (length found, found))
 

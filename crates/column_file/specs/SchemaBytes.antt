@@ -43,7 +43,7 @@ column_type = seen (checked (number 1) (λ tag. tag == 2 || (tag == 4 || tag == 
 abbrev pub shape_of : List ℕ × ColType → ColumnShape
 shape_of c = record { name = c.0; column_type = c.1 }
 
--- whether none of the columns has the name of another one
+-- whether no column before has this column's name
 abbrev pub is_new : List ColumnShape → ColumnShape → Bool
 is_new front c = not (list_any (λ (d : ColumnShape). has_name d.name c.name) front)
 

@@ -12,12 +12,9 @@ use crate::aggregate::{Aggregate, place_or_end};
 use crate::finished::FinishedGroup;
 use crate::plan::Plan;
 use table_model::{
-    Condition, Factor, Field, ItemValue, Literals, Op, Operand, Predicate, Primary, Schema, Term,
-    Test, Truth,
+    Condition, Factor, Field, ItemValue, Literals, MILLION, Op, Operand, Predicate, Primary,
+    Schema, Term, Test, Truth,
 };
-
-/// How many millionths a whole is.
-const MILLION: i128 = 1_000_000;
 
 /// The comparison of a whole number, on the left, with a number of millionths.
 fn holds_of_whole(op: Op, whole: i128, millionths: i128) -> bool

@@ -18,11 +18,8 @@ use crate::field_values::{sum_field, values_field, whole_field};
 use crate::masked_folds::{count_at, greatest_at, least_at, sum_at};
 use std::alloc::{AllocError, Global};
 use std::collections::HashSet;
-use table_model::{Field, Fold};
+use table_model::{Field, Fold, MILLION};
 use transpose_order::Mask;
-
-/// How many millionths a whole is.
-const MILLION: i128 = 1_000_000;
 
 /// How many values of a column a set function is exact of.
 const MOST: usize = 1 << 32;

@@ -145,7 +145,7 @@ abbrev pub AreRows : List ColumnShape → Batch → Type 0
 AreRows columns [] = Unit {0}
 AreRows columns (cells ∷ rows) = IsRow columns cells × AreRows columns rows
 
--- a batch of a table: from 1 to 65,536 rows
+-- a batch of a table: from 1 to 65,536 rows, each a row of the table
 pub record IsBatch (table : Table) (rows : Batch) : Type 0 where
   pub some : 1 ≤ length rows
   pub limit : length rows ≤ row_limit

@@ -24,7 +24,7 @@ pub use laws::{
     truth_laws, value_laws, worked_answers,
 };
 pub use names::{BatchName, Number, Origin, RowName};
-pub use op::Op;
+pub use op::{MILLION, Op};
 pub use query::{
     ColumnMention, Condition, Factor, Fold, IsTruth, Item, ItemValue, Literals, Name, Operand,
     Predicate, Primary, Query, SetFunction, Term, Test,

@@ -7,7 +7,7 @@ use crate::answer::Field;
 use crate::truth::Truth;
 
 /// How many millionths a whole is.
-const MILLION: i128 = 1_000_000;
+pub const MILLION: i128 = 1_000_000;
 
 /// A comparison (ISO/IEC 9075:1992, clause 8.2).
 #[derive(Clone, Copy, Debug, PartialEq, Eq)]

@@ -352,20 +352,27 @@ fn refusals_have_their_numbers_and_texts(rt: HostRuntime) -> Result<(), Fail> {
     Ok(())
 }
 
-/// A reader and a writer that answers each call in turn by its script, an error where that has no count.
+const INTERRUPTED: io::ErrorKind = io::ErrorKind::Interrupted;
+
+const BROKEN: io::ErrorKind = io::ErrorKind::BrokenPipe;
+
+/// A count of bytes, or the kind of an error, for each of five calls.
+type Script = [Result<usize, io::ErrorKind>; 5];
+
+/// A reader and a writer that answers each call in turn by its script, and a broken pipe after that.
 #[derive(Drop)]
 struct Scripted {
-    outcomes: [Option<usize>; 4],
+    outcomes: Script,
     calls: usize,
 }
 
 impl Scripted {
     fn answer(&mut self, room: usize) -> io::Result<usize> {
-        let outcome = self.outcomes.get(self.calls).copied().flatten();
+        let outcome = self.outcomes.get(self.calls).copied();
         self.calls = self.calls.saturating_add(1);
-        match outcome {
-            Some(count) => Ok(count.min(room)),
-            None => Err(io::Error::from(io::ErrorKind::BrokenPipe)),
+        match outcome.unwrap_or(Err(BROKEN)) {
+            Ok(count) => Ok(count.min(room)),
+            Err(kind) => Err(io::Error::from(kind)),
         }
     }
 }
@@ -388,51 +395,91 @@ impl Write for Scripted {
     }
 }
 
-// A read fails by an error alone: one of no bytes is the end. The error comes as it is.
+// A read fails by an error alone: one of no bytes is the end. The error comes as it is, and no read is tried again.
 #[test]
 fn failed_reads_are_counted_and_each_read_is_passed_on(rt: HostRuntime) -> Result<(), Fail> {
     let mut reader = Counted::new(Scripted {
-        outcomes: [Some(2), None, Some(0), None],
+        outcomes: [Ok(2), Err(INTERRUPTED), Ok(0), Err(BROKEN), Ok(1)],
         calls: 0,
     });
-    for (count, bytes, failures) in [
-        (Some(2), *b"xx.", 0),
-        (None, *b"...", 1),
-        (Some(0), *b"...", 1),
-        (None, *b"...", 2),
+    for (outcome, bytes, failures) in [
+        (Ok(2), *b"xx.", 0),
+        (Err(INTERRUPTED), *b"...", 1),
+        (Ok(0), *b"...", 1),
+        (Err(BROKEN), *b"...", 2),
+        (Ok(1), *b"x..", 2),
     ] {
         let mut buffer = *b"...";
         match reader.read(&mut buffer) {
-            Ok(read) => assert!(rt; count == Some(read)),
-            Err(e) => assert!(rt; count.is_none() && e.kind() == io::ErrorKind::BrokenPipe),
+            Ok(read) => assert!(rt; outcome == Ok(read)),
+            Err(e) => assert!(rt; outcome == Err(e.kind())),
         }
         assert!(rt; buffer == bytes && reader.failures() == failures);
     }
-    assert!(rt; reader.into_inner().calls == 4);
+    assert!(rt; reader.into_inner().calls == 5);
     Ok(())
 }
 
-// A write fails by an error, and where it takes none of a piece that isn't empty. The error comes as it is.
+// A write fails by an error, and where it takes none of a piece that isn't empty. The error comes as it is, and no write is
+// tried again.
 #[test]
 fn failed_writes_are_counted_and_each_write_is_passed_on(rt: HostRuntime) -> Result<(), Fail> {
     let mut writer = Counted::new(Scripted {
-        outcomes: [Some(2), Some(0), None, Some(0)],
+        outcomes: [Ok(2), Ok(0), Err(INTERRUPTED), Err(BROKEN), Ok(0)],
         calls: 0,
     });
-    let steps: [(&[u8], Option<usize>, u64); 4] = [
-        (b"abc", Some(2), 0),
-        (b"c", Some(0), 1),
-        (b"c", None, 2),
-        (b"", Some(0), 2),
+    let steps: [(&[u8], Result<usize, io::ErrorKind>, u64); 5] = [
+        (b"abc", Ok(2), 0),
+        (b"c", Ok(0), 1),
+        (b"c", Err(INTERRUPTED), 2),
+        (b"c", Err(BROKEN), 3),
+        (b"", Ok(0), 3),
     ];
-    for (piece, count, failures) in steps {
+    for (piece, outcome, failures) in steps {
         match writer.write(piece) {
-            Ok(taken) => assert!(rt; count == Some(taken)),
-            Err(e) => assert!(rt; count.is_none() && e.kind() == io::ErrorKind::BrokenPipe),
+            Ok(taken) => assert!(rt; outcome == Ok(taken)),
+            Err(e) => assert!(rt; outcome == Err(e.kind())),
         }
         assert!(rt; writer.failures() == failures);
     }
-    assert!(rt; writer.into_inner().calls == 4);
+    assert!(rt; writer.into_inner().calls == 5);
+    Ok(())
+}
+
+// Three bytes by a script, and then the result, the failures and the calls. A short write isn't a failure; after one that
+// fails none is tried, though the script has more that would be taken.
+const WHOLE_WRITES: [(Script, (Result<(), Refusal>, u64, usize)); 6] = [
+    ([Ok(1), Ok(2), Ok(3), Ok(3), Ok(3)], (Ok(()), 0, 2)),
+    (
+        [Err(INTERRUPTED), Ok(3), Ok(3), Ok(3), Ok(3)],
+        (Err(Refusal::WriteFault), 1, 1),
+    ),
+    (
+        [Err(BROKEN), Ok(3), Ok(3), Ok(3), Ok(3)],
+        (Err(Refusal::WriteFault), 1, 1),
+    ),
+    (
+        [Ok(0), Ok(3), Ok(3), Ok(3), Ok(3)],
+        (Err(Refusal::WriteFault), 1, 1),
+    ),
+    (
+        [Ok(1), Err(INTERRUPTED), Ok(3), Ok(3), Ok(3)],
+        (Err(Refusal::WriteFault), 1, 2),
+    ),
+    (
+        [Ok(1), Ok(0), Ok(3), Ok(3), Ok(3)],
+        (Err(Refusal::WriteFault), 1, 2),
+    ),
+];
+
+#[test]
+fn bytes_are_written_whole_until_a_write_fails() -> Result<(), Fail> {
+    for &(outcomes, wanted) in &WHOLE_WRITES {
+        let mut writer = Counted::new(Scripted { outcomes, calls: 0 });
+        let result = writer.write_whole(b"abc");
+        let failures = writer.failures();
+        agree((result, failures, writer.into_inner().calls), wanted)?;
+    }
     Ok(())
 }
 
@@ -447,10 +494,12 @@ fn a_reader_and_a_writer_stop_after_their_bytes(rt: HostRuntime) -> Result<(), F
         let mut buffer = *b"..";
         assert!(rt; reader.read(&mut buffer).ok() == count && reader.failures() == failures);
     }
-    let mut writer = Counted::new(Stop {
+    let mut device = Stop {
         inner: Vec::new(rt.alloc()),
         left: 3,
-    });
+    };
+    agree(device.flush().is_ok(), true)?;
+    let mut writer = Counted::new(device);
     agree(writer.write_whole(b"ab"), Ok(()))?;
     agree(writer.write_whole(b"cde"), Err(Refusal::WriteFault))?;
     agree(writer.failures(), 1)?;
@@ -468,6 +517,9 @@ fn a_long_piece_is_passed_on_whole(rt: HostRuntime) -> Result<(), Fail> {
     let mut reader = Counted::new(piece.as_slice());
     agree(reader.read(buffer.as_mut_slice()).ok(), Some(1_000_000))?;
     assert!(rt; reader.failures() == 0 && buffer.as_slice() == piece.as_slice());
+    let mut whole = Counted::new(Vec::new(rt.alloc()));
+    agree(whole.write_whole(piece.as_slice()), Ok(()))?;
+    assert!(rt; whole.failures() == 0 && whole.into_inner().as_slice() == piece.as_slice());
     Ok(())
 }
 
