@@ -1,4 +1,4 @@
-"""What each script of examples/ is answered, worked out by hand from docs/FORMATS.md and docs/SQL.md.
+"""What each script of examples/ is answered, worked out by hand from docs/FORMATS.md and docs/SQL.md, and the tour of README.md as it is shown there.
 
 A script has a list here, with the reply to each of its lines, in order; an answer's heading and rows are part of its reply. An
 example without a list fails, and so does a list without an example.
@@ -8,7 +8,8 @@ import os
 
 from cases import Case
 
-EXAMPLES = os.path.join(os.path.dirname(os.path.dirname(os.path.dirname(os.path.abspath(__file__)))), "examples")
+TOP = os.path.dirname(os.path.dirname(os.path.dirname(os.path.abspath(__file__))))
+EXAMPLES = os.path.join(TOP, "examples")
 
 # The canonical file of T(A SMALLINT) with the batch 1.1 of one row, 7, as the table of docs/FORMATS.md has its fields.
 SEVEN = "464c4346" "0100" "0100" "0154" "020141" "01000000" "01000000" "01000000" "0000" "00" "00000000" "0700" "0000000000000000"
@@ -108,4 +109,13 @@ def example(name):
     return Case(f"the example {name} has the replies that were worked out for it", ["run", name], 0, out, files=files)
 
 
-EXAMPLE_CASES = [example(name) for name in sorted({*os.listdir(EXAMPLES), *REPLIES})]
+def tour():
+    """The run that README.md shows: lines that are typed stand behind `> `, and the others are what is printed."""
+    with open(os.path.join(TOP, "README.md"), encoding="utf-8") as readme:
+        shown = readme.read().split("$ ./lanes run\n", 1)[1].split("```", 1)[0].splitlines()
+    typed = [line[2:] for line in shown if line.startswith("> ")]
+    printed = [line for line in shown if not line.startswith("> ")]
+    return Case("the tour of README.md is answered as it shows", ["run"], 0, "".join(f"{line}\n" for line in printed).encode(), input="".join(f"{line}\n" for line in typed).encode())
+
+
+EXAMPLE_CASES = [*(example(name) for name in sorted({*os.listdir(EXAMPLES), *REPLIES})), tour()]

@@ -14,9 +14,13 @@ use table_model::Refusal;
 /// The program's version.
 const VERSION: &str = "0.1.0";
 
-/// What stands below the help of `lanes run`.
+/// What stands below the help of the program and that of `lanes run`.
 const SCRIPT_HELP: &str =
     "A script is lines such as these, each of which has a reply:\n  table 2 T A SMALLINT\n  append 1 (7),(NULL)\n  query 1 SELECT COUNT(*) FROM T\nAll lines and replies are in docs/FORMATS.md, and examples/ has scripts to run.";
+
+/// What stands below the help of `lanes merge`.
+const MERGE_HELP: &str =
+    "OUT is opened after the last merge, and what is refused before that leaves it as it was.\nWhere a write to it fails, or memory lacks then, it holds a front of the canonical file.";
 
 /// Where a script is read from.
 #[derive(Clone, Copy, Debug, PartialEq, Eq)]
@@ -180,9 +184,8 @@ fn check_command<'a>(alloc: Global) -> Result<Command<'a>, AllocError> {
 /// `lanes merge`.
 fn merge_command<'a>(alloc: Global) -> Result<Command<'a>, AllocError> {
     Command::new(alloc, "merge")
-        .about(
-            "Writes the canonical file of what all of some files hold; where a merge is refused, OUT stays as it was",
-        )
+        .about("Writes the canonical file of what all of some files hold")
+        .after_help(MERGE_HELP)
         .arg(word(alloc, "OUT", "The file that is written"))?
         .arg(word(alloc, "IN", "The files that are merged, in this order").num_args(1..))
 }
@@ -202,6 +205,7 @@ pub(crate) fn commands<'a>(alloc: Global) -> Result<Command<'a>, AllocError> {
     let command = Command::new(alloc, "lanes")
         .about("A replicated column store for one table of nullable integer columns")
         .version(VERSION)
+        .after_help(SCRIPT_HELP)
         .subcommand_required(true)
         .subcommand(run_command(alloc)?)?;
     with_file_commands(alloc, command)

@@ -34,7 +34,8 @@ pub fn query<R: Print + Files + AllocGlobal, H: Write>(
 }
 
 /// Writes the canonical file of what all of some files hold, of which there is at least one, and then `ok`. The files are judged
-/// in order, and the one that is written is opened after the last merge.
+/// in order, and the one that is written is opened after the last merge: what is refused before that leaves it as it was, and
+/// where a write to it fails, or memory lacks then, it holds a front of the canonical file.
 pub fn merge<R: Print + Files + AllocGlobal>(
     rt: &R,
     out: &str,

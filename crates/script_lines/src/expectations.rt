@@ -50,13 +50,14 @@ const ROWS: &str = "rows are written (V,..),(V,..)";
 
 const ORDINALS: &str = "an ordinal is a number of 1 to 5 digits, at most 65535";
 
-const PLACE: &str = "a column and a vector are numbers of 1 to 10 digits, counted from 0";
+const PLACE: &str =
+    "a column and a vector are numbers of 1 to 10 digits, at most 4294967295, counted from 0";
 
 const CODING: &str = "a coding is FOR, DELTA, RLE or DICT";
 
 const HEX: &str = "a file is an even number of hexadecimal digits, not zero of them";
 
-const TAKEN: &str = "such a line is taken";
+const SQL: &str = "the SQL of a query is not empty";
 
 /// What was expected of a line that is no command, once there is a table or before.
 pub fn expected(line: &[u8], has_table: bool) -> &'static str {
@@ -94,8 +95,8 @@ fn of_table(text: &str) -> &'static str {
         return REPLICAS;
     }
     match cut(rest, ' ') {
-        None => TABLE,
-        Some(_) => COLUMNS,
+        Some((name, _)) if !name.is_empty() => COLUMNS,
+        _ => TABLE,
     }
 }
 
@@ -211,7 +212,7 @@ fn of_open(text: &str) -> &'static str {
 fn of_query(text: &str) -> &'static str {
     match after_replica(text, QUERY) {
         Err(wanted) => wanted,
-        Ok(_) => TAKEN,
+        Ok(_) => SQL,
     }
 }
 

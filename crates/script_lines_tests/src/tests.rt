@@ -28,5 +28,7 @@ fn what_was_expected_of_a_line_is_told(rt: HostRuntime) -> Result<(), Fail> {
             == "a replica is a number of 1 to 10 digits, at most 4294967295"
     );
     assert!(rt; expected(b"append 1 7", true) == "rows are written (V,..),(V,..)");
+    assert!(rt; expected(b"query 1", true) == "a query is written query R SQL");
+    assert!(rt; expected(b"query 1 ", true) == "the SQL of a query is not empty");
     Ok(())
 }
