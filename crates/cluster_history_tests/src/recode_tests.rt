@@ -1,9 +1,11 @@
 //! Recode steps, each of which puts the vector that it names into the coding that it names, and no other. What a contract sees of a
-//! cluster is its replicas, which have rows and no codings; so which coding a step hands on is seen here.
+//! cluster is its replicas, which have rows and no codings; so which coding a step hands on is seen here, and that no other step
+//! changes the codings of what is held.
 use crate::tests::{Want, is_wanted, name};
-use cluster_history::Cluster;
+use cluster_history::{Cluster, Reply};
+use expectations::agree;
 use replica_store::Store;
-use script_lines::Step;
+use script_lines::{Command, Step, parse_line};
 use segment_core::{Coding, Segment};
 use std::alloc::Global;
 use std::test::Fail;
@@ -164,12 +166,12 @@ fn are_codings(segment: &Segment, codings: &[Coding]) -> bool {
     segment.columns() == codings.len()
 }
 
-/// Whether these are the codings of the columns of the one batch of a replica.
+/// Whether these are the codings of the columns of the first batch of a replica.
 fn has_codings(store: Option<&Store>, codings: &[Coding]) -> bool {
     let Some(store) = store else {
         return false;
     };
-    if store.batches() != 1 {
+    if store.batches() == 0 {
         return false;
     }
     let (_, segment) = store.batch(0);
@@ -226,6 +228,72 @@ fn a_recode_puts_its_vector_into_its_coding_and_no_other(rt: HostRuntime) -> Res
     let mut cluster = wide_cluster(rt.alloc())?;
     for recode in &RECODES {
         assert!(rt; recodes(rt.alloc(), &mut cluster, recode));
+    }
+    Ok(())
+}
+
+/// Steps at a cluster of three columns, in order, and whether each is refused. Messages 1 and 2 are summaries, 3 and 4 offers.
+const OTHERS: [(&str, bool); 28] = [
+    ("insert 1 1.1 (1,2,3)", false),
+    ("insert 1 1.1 (1,2,4)", true),
+    ("insert 1 3.0 (1,2,3)", true),
+    ("insert 2 3.1 (7,8,9),(NULL,NULL,NULL)", false),
+    ("append 1 (4,5,6)", false),
+    ("append 2 (32768,0,0)", true),
+    ("append 1 (1,2)", true),
+    ("delete 1 1.1 0 0", false),
+    ("delete 1 1.1 0 0", false),
+    ("delete 2 1.1 1 0", true),
+    ("ask 1", false),
+    ("ask 2", false),
+    ("ask 3", true),
+    ("serve 1 2", false),
+    ("serve 2 1", false),
+    ("serve 2 3", true),
+    ("take 2 3", false),
+    ("take 2 3", false),
+    ("take 1 4", false),
+    ("take 1 1", true),
+    ("merge 1 2", false),
+    ("merge 2 1", false),
+    ("merge 1 1", false),
+    ("merge 3 1", true),
+    ("open 1 00", true),
+    ("export 1", false),
+    ("query 2 SELECT A,COUNT(*) FROM T GROUP BY A", false),
+    ("query 2 SELECT A FROM T", true),
+];
+
+/// Whether the step that a line asks for is refused.
+fn is_refused(alloc: Global, cluster: &mut Cluster, line: &str) -> Result<bool, Refusal> {
+    let Command::Act(step) = parse_line(alloc, line.as_bytes())? else {
+        return Err(Refusal::BadLine);
+    };
+    let reply = cluster.step(alloc, &step);
+    Ok(matches!(reply, Reply::Refused(_)))
+}
+
+/// Puts the columns of batch 1.1 at replica 1 into other codings.
+fn recode_all(alloc: Global, cluster: &mut Cluster) -> Result<bool, Refusal> {
+    let first = is_refused(alloc, cluster, "recode 1 1.1 0 0 DICT")?;
+    let second = is_refused(alloc, cluster, "recode 1 1.1 1 0 RLE")?;
+    let third = is_refused(alloc, cluster, "recode 1 1.1 2 0 DELTA")?;
+    Ok(first || second || third)
+}
+
+/// Whether batch 1.1 is coded as it was left, at both replicas.
+fn codings_stay(cluster: &Cluster) -> bool {
+    has_codings(cluster.stores().get(0), &[DICT, RLE, DELTA])
+        && has_codings(cluster.stores().get(1), &[FOR, FOR, FOR])
+}
+
+#[test]
+fn other_steps_leave_the_codings_of_what_is_held(rt: HostRuntime) -> Result<(), Fail> {
+    let mut cluster = wide_cluster(rt.alloc())?;
+    agree(recode_all(rt.alloc(), &mut cluster)?, false)?;
+    for &(line, refused) in &OTHERS {
+        agree(is_refused(rt.alloc(), &mut cluster, line)?, refused)?;
+        agree(codings_stay(&cluster), true)?;
     }
     Ok(())
 }
