@@ -8,27 +8,31 @@ HEAD = """# Definitions
 Each definition that contracts cite, with its plain meaning, by crate and file. A definition lives once, in the lowest crate that needs it. `python3 docs/definitions.py` writes this page.
 """
 DEFINED = re.compile(r"\s*(?:abbrev |unfoldable )?pub (?:record |data )?(?!mod |use |module )(\S+)")
+EQUATION = re.compile(r"\s*(?:abbrev |unfoldable )?pub \S+ :.* ≡ ")
+SYNTAX = re.compile(r"[a-z]+ (=|[A-Z]\b|SQL|HEX)|cond$|identifier \\\|")
 FIELD = re.compile(r"\s+pub \S+ :")
 
 
 def meaning(comment):
-    """The comment as a sentence's beginning, but for a variable's name at its head."""
+    """The comment as a sentence's beginning, but for a variable's name or a rule of a grammar at its head."""
     text = " ".join(comment).rstrip(".").replace("|", "\\|")
-    if re.match(r"[a-z]{2}|a [a-z]{2}", text):
+    if re.match(r"[a-z]{2}|a [a-z]{2}", text) and not SYNTAX.match(text):
         text = text[0].upper() + text[1:]
     return text
 
 
 def definitions(lines):
-    """Each name that is defined, with the comment right above it. A name with a hyphen is a lemma's, and left out."""
+    """Each name that is defined, with the comment right above it; not a lemma, whose name has a hyphen or whose type ends in an equation, nor a heading."""
     found, comment, inside = [], [], False
     for line in lines:
         words = line.strip()
         defined = DEFINED.match(line)
-        if words.startswith("-- "):
+        if words.startswith("-- --"):
+            comment = []
+        elif words.startswith("-- "):
             comment = comment + [words[3:]]
         elif defined and not (inside and FIELD.match(line)):
-            if "-" not in defined[1]:
+            if "-" not in defined[1] and not EQUATION.match(line):
                 found.append((defined[1], comment))
             comment, inside = [], "record " in line
         elif words or not inside:
