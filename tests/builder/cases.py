@@ -1,0 +1,291 @@
+"""Trials of the script `lanes`: what it has the toolchain prove and build, when, and what it says and does with the program.
+
+The made-up crates are few: `left` and `right` stand on `ground`, `roof` on all three, and the program on `roof`; `shed` and
+the tests stand beside them. Each good run ends with the status of the program that the stub makes, 7.
+"""
+
+import os
+import signal
+import time
+
+from trial import SECONDS, STATUS, TOP, Differs, agree, has, libraries
+
+HOUSE = """# Each line names a crate and the libraries that it stands on, lowest first.
+ground:
+ground_tests: ground
+left: ground
+right: ground ported
+shed: ground
+roof: ground left right ported
+roof_tests: ground shed roof
+lanes: ground roof
+"""
+BELOW = ["ground", "left", "right", "roof"]
+FOUR = "one:\ntwo:\nthree:\nfour:\nlanes: one two three four\n"
+
+with open(os.path.join(TOP, "crates.txt")) as file:
+    REPOSITORY = file.read()
+
+LINKED = "run --cpu x86-64-v3 -- --help"
+
+
+def wrote(trial, *arguments, source="first source", given=""):
+    """What the program writes that was made of a source."""
+    return "".join([f"made of {source}, run in {trial.elsewhere}\n", *(f"<{argument}>\n" for argument in arguments), given])
+
+
+def built(trial, run, source="first source"):
+    """That a run proved all libraries and built and ran the program."""
+    agree("status", run.status, STATUS)
+    agree("standard output", run.out, wrote(trial, source=source))
+    agree("crates that were proved", run.checked(), BELOW)
+    agree("the last call", run.last(), [("lanes", LINKED)])
+
+
+def ran_only(trial, run, source="first source"):
+    """That a run called rt not at all, and ran the program."""
+    agree("calls", run.calls, [])
+    agree("status", run.status, STATUS)
+    agree("standard output", run.out, wrote(trial, source=source))
+    agree("standard error", run.err, "said by the program\n")
+
+
+def first_run(trial):
+    uses = libraries(REPOSITORY)
+    below, rest = set(), {"lanes"}
+    while rest:
+        rest = {library for name in rest for library in uses[name] if library in uses} - below
+        below |= rest
+    run = trial.run("query", "a file", given=b"given")
+    agree("status", run.status, STATUS)
+    agree("standard output", run.out, wrote(trial, "query", "a file", given="given"))
+    agree("crates that were proved", run.checked(), sorted(below))
+    has("crates that were proved", run.checked(), "table_model", "column_file", "lanes_main", "command_line")
+    agree("crates of tests that were proved", [name for name in run.checked() if name.endswith("_tests") or name in ("expectations", "column_patterns")], [])
+    ends = {call.crate: call.end for call in run.calls}
+    for call in run.calls:
+        for library in below if call.crate == "lanes" else below & set(uses[call.crate]):
+            if ends[library] > call.begin:
+                raise Differs(f"{call.crate} was begun before {library} had ended")
+    agree("the last call", run.last(), [("lanes", LINKED)])
+    has("standard error", run.err, "lanes: building the program", f"lanes: proved {len(below)} of {len(below)}: ", "lanes: built\nsaid by the program\n")
+    agree("whether standard error has what rt prints", "rt prints" in run.err or "rt complains" in run.err, False)
+
+
+def older_processor(trial):
+    trial.machine(instructions="sse2 avx avx20")
+    run = trial.run()
+    agree("status", run.status, STATUS)
+    agree("the last call", run.last(), [("lanes", "run -- --help")])
+
+
+def second_run(trial):
+    built(trial, trial.run())
+    ran_only(trial, trial.run())
+    os.utime(os.path.join(trial.top, "crates/ground/src/lib.rt"))
+    ran_only(trial, trial.run())
+    # Names are sorted otherwise in other languages, here all the other way round.
+    trial.does("sort", '[ "$LC_ALL" = C ] || set -- -r "$@"')
+    ran_only(trial, trial.run(language="POSIX"))
+
+
+def changes_of_sources(trial):
+    built(trial, trial.run())
+    for name, text in [
+        ("ground/src/lib.rt", "other source"),
+        ("ground/src/deep/part.rt", "new source"),
+        ("left/specs/Lib.antt", "definitions"),
+        ("right/proofs/roof/Invariants.antt", "a proof"),
+        ("lanes/proofs/main.antt", "a proof"),
+    ]:
+        trial.write(f"crates/{name}", text)
+        built(trial, trial.run())
+        ran_only(trial, trial.run())
+    trial.remove("crates/left/specs/Lib.antt")
+    built(trial, trial.run())
+    trial.write("crates.txt", HOUSE.replace("left: ground", "left: ground ported"))
+    built(trial, trial.run())
+    trial.write("crates/lanes/src/main.rt", "second source")
+    built(trial, trial.run(), source="second source")
+    ran_only(trial, trial.run(), source="second source")
+
+
+def other_changes(trial):
+    built(trial, trial.run())
+    for name in [
+        "shed/src/lib.rt",
+        "roof_tests/src/lib.rt",
+        "ground_tests/specs/Lib.antt",
+        "left/out/src/made.rt",
+        "lanes/out/stdout",
+        "right/must-fail/other.edit",
+        "ground/README.md",
+        "lanes/stdin",
+    ]:
+        trial.write(f"crates/{name}", "other text")
+        ran_only(trial, trial.run())
+
+
+def crate_that_fails(trial):
+    built(trial, trial.run())
+    trial.write("crates/lanes/src/main.rt", "second source")
+    # The other one ends later, and the script waits for it.
+    trial.does("left", "await 'right check'; echo 'the fault of left'; exit 1")
+    trial.does("right", "await 'left check'; sleep 0.3")
+    run = trial.run()
+    agree("status", run.status, 2)
+    agree("standard output", run.out, "")
+    has("standard error", run.err, "rt complains of left", "the fault of left", "lanes: left is not proved\n")
+    agree("crates that standard error says are not proved", run.err.count("not proved"), 1)
+    agree("whether a check ran on when the script had ended", run.runs_on, False)
+    agree("calls and how they ended", sorted((call.crate, call.arguments, call.status) for call in run.calls), [("ground", "check", 0), ("left", "check", 1), ("right", "check", 0)])
+    trial.does("left")
+    built(trial, trial.run(), source="second source")
+    ran_only(trial, trial.run(), source="second source")
+
+
+def first_crate_that_fails(trial):
+    trial.does("ground", "exit 3")
+    run = trial.run()
+    agree("status", run.status, 2)
+    agree("standard output", run.out, "")
+    has("standard error", run.err, "lanes: ground is not proved\n")
+    agree("crates that were proved", run.checked(), ["ground"])
+    trial.does("ground")
+    built(trial, trial.run())
+
+
+def program_that_fails(trial):
+    built(trial, trial.run())
+    trial.write("crates/lanes/src/main.rt", "second source")
+    trial.does("lanes", "echo 'the fault of lanes'; exit 1")
+    run = trial.run()
+    agree("status", run.status, 2)
+    agree("standard output", run.out, "")
+    has("standard error", run.err, "the fault of lanes", "lanes: the program is not built\n")
+    # What was linked before it failed must not pass for what the first source gives.
+    trial.does("lanes")
+    trial.write("crates/lanes/src/main.rt", "first source")
+    built(trial, trial.run())
+    ran_only(trial, trial.run())
+
+
+def check_whose_shell_is_killed(trial):
+    """It is killed once while the script waits for it, and once while the script looks for the next check to begin: then bash forgets it."""
+    trial.does("left", "kill_shell")
+    for slow in ("", 'case "$*" in *crate=right*) sleep 0.4 ;; esac'):
+        trial.does("awk", slow)
+        run = trial.run()
+        agree("status", run.status, 2)
+        agree("standard output", run.out, "")
+        has("standard error", run.err, "lanes: left is not proved\n")
+        agree("crates that were proved", run.checked(), ["ground", "left", "right"])
+    trial.does("awk")
+    trial.does("left")
+    built(trial, trial.run())
+
+
+def interrupt(trial, crate, which):
+    """Signals a run to end while the stub is called in a crate, as Ctrl-C does: all that the run has started gets the signal."""
+    # The stub waits in its own shell: a process that it starts just then might be missed by the signal.
+    trial.does(crate, ': > "$TRIAL/there"; read -r -t 60 <> "$TRIAL/silence"')
+    process = trial.start()
+    latest = time.monotonic() + SECONDS
+    while not os.path.exists(trial.at("there")):
+        if process.poll() is not None or time.monotonic() > latest:
+            raise Differs(f"rt was not called in {crate}")
+        time.sleep(0.01)
+    os.killpg(process.pid, which)
+    run = trial.finish(process)
+    # Where the script waits just then for a command that ends well, bash goes on, and finds that the check has failed.
+    if run.status not in (-which, 2):
+        raise Differs(f"status {run.status}, neither {-which} nor 2")
+    agree("standard output", run.out, "")
+    os.remove(trial.at("there"))
+    trial.does(crate)
+
+
+def interrupts(crate, which):
+    """An interrupt in the first run, one after a source was changed, and one after which that source is as it was before."""
+
+    def case(trial):
+        interrupt(trial, crate, which)
+        built(trial, trial.run())
+        trial.write("crates/lanes/src/main.rt", "second source")
+        interrupt(trial, crate, which)
+        built(trial, trial.run(), source="second source")
+        trial.write("crates/lanes/src/main.rt", "third source")
+        interrupt(trial, crate, which)
+        trial.write("crates/lanes/src/main.rt", "second source")
+        run = trial.run()
+        agree("status", run.status, STATUS)
+        agree("standard output", run.out, wrote(trial, source="second source"))
+        ran_only(trial, trial.run(), source="second source")
+
+    return case
+
+
+def no_toolchain(trial):
+    run = trial.run(has_rt=False)
+    agree("status", run.status, 2)
+    agree("standard output", run.out, "")
+    agree("standard error", run.err, "lanes: the toolchain's command rt is not on the PATH\n")
+    built(trial, trial.run())
+    ran_only(trial, trial.run(has_rt=False))
+
+
+def arguments_and_input(trial):
+    arguments = ["run", "", "two words", " ", "*", "--", "-n", "$HOME", "'", '"', "\\", "a\nb", "", "--help", ""]
+    for _ in range(2):
+        run = trial.run(*arguments, given=b"table 2 T A SMALLINT\nappend 1 (7)\n")
+        agree("status", run.status, STATUS)
+        agree("standard output", run.out, wrote(trial, *arguments, given="table 2 T A SMALLINT\nappend 1 (7)\n"))
+    agree("calls", run.calls, [])
+
+
+def side_by_side(trial):
+    """Each of the two waits for the other to begin."""
+    trial.does("left", "await 'right check'")
+    trial.does("right", "await 'left check'")
+    run = trial.run()
+    built(trial, run)
+    agree("checks at once", run.most_at_once(), 2)
+
+
+def at_once(wanted, **machine):
+    """Of four checks, each of which waits until so many have begun, as many are begun at once as the machine may do, and no more."""
+
+    def case(trial):
+        trial.machine(**machine)
+        for name in ("one", "two", "three", "four"):
+            trial.does(name, f"await check {wanted}; sleep 0.1")
+        run = trial.run()
+        agree("status", run.status, STATUS)
+        agree("crates that were proved", run.checked(), ["four", "one", "three", "two"])
+        agree("checks at once", run.most_at_once(), wanted)
+
+    return case
+
+
+CASES = [
+    ("the first run proves what the program stands on and nothing else, from below, and builds and runs the program", REPOSITORY, first_run),
+    ("for a processor without AVX2 the toolchain chooses", HOUSE, older_processor),
+    ("a second run calls the toolchain not at all", HOUSE, second_run),
+    ("a change of a source builds again", HOUSE, changes_of_sources),
+    ("a change of anything else does not", HOUSE, other_changes),
+    ("a crate that is not proved is named, and no old program is run", HOUSE, crate_that_fails),
+    ("so it is where it is the first", HOUSE, first_crate_that_fails),
+    ("a program that is not built is not run", HOUSE, program_that_fails),
+    ("a crate is not proved where the shell of its check is killed", HOUSE, check_whose_shell_is_killed),
+    ("an interrupt in a check leaves nothing that runs on or passes for built", HOUSE, interrupts("left", signal.SIGINT)),
+    ("nor does an interrupt in linking", HOUSE, interrupts("lanes", signal.SIGINT)),
+    ("nor does a request to end in a check", HOUSE, interrupts("left", signal.SIGTERM)),
+    ("nor does a request to end in linking", HOUSE, interrupts("lanes", signal.SIGTERM)),
+    ("without the toolchain nothing is built, and what is built is run", HOUSE, no_toolchain),
+    ("arguments and standard input reach the program as they are", HOUSE, arguments_and_input),
+    ("crates of which neither stands on the other are begun side by side", HOUSE, side_by_side),
+    ("there are never more checks at once than processors", FOUR, at_once(2, processors=2)),
+    ("with one processor there is one", FOUR, at_once(1, processors=1)),
+    ("there are never more at once than the memory has 2 GiB for", FOUR, at_once(3, memory=7)),
+    ("with little memory there is one", FOUR, at_once(1, memory=1.5)),
+]
