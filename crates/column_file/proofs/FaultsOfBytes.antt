@@ -3,6 +3,7 @@ use Rattle.std.proofs.Common.{◌≡◌, ℕ, zero, suc, ◌-◌, ◌/◌, ◌*�
 use Rattle.transpose_order.specs.Mask.{has}
 use Rattle.bit_interleave.specs.PackedWords.{PackedWords}
 use Rattle.run_dictionary.specs.Runs.{run_of}
+use Rattle.table_model.specs.Faults.{CountsReads}
 use Rattle.table_model.specs.Name.{is_proper_name}
 use Rattle.table_model.specs.Table.{Table, ColumnShape}
 use Rattle.table_model.specs.declared.schema.ColType.{ColType}
@@ -20,7 +21,7 @@ use Rattle.segment_core.specs.Segment.{vector_count, rows_in, widths_of}
 use Rattle.segment_core.specs.VectorBytes.{mask, words, is_null_mask, nulls, coding, is_width, is_count, header, frame, deltas, starts, runs, is_above, dictionary, are_codes_below, codes as packed_codes, dict, payload_of, payload, coded, vector}
 use Rattle.segment_core.specs.SegmentBytes.{column as segment_column, columns as segment_columns, batch_columns}
 use Rattle.replica_store.specs.Replica.{batch_limit}
-use Rattle.column_file.specs.Input.{is_fault_of_bytes, is_refusal_of_reading, CountsFailure}
+use Rattle.column_file.specs.Input.{is_fault_of_bytes, is_refusal_of_reading}
 use Rattle.column_file.specs.SchemaBytes.{text, is_name, name, column_type, is_new, column, column_count, schema}
 use Rattle.column_file.specs.SummaryBytes.{version, head, any_name, proper_name, is_after, batch_name, name_count, names, summary, summary_read}
 use Rattle.column_file.specs.Files.{offer_read}
@@ -345,7 +346,7 @@ fault_of : {X Y : Type 0} (view : X → Y) (e : Refusal) (meaning : Result Y Ref
 fault_of {Y = Y} view e meaning (inl same) judged not_memory = let P : Result Y Refusal → Type 0 = λ r. Judged r in subst P same judged
 fault_of view e meaning (inr memory) judged not_memory = absurd (not_memory memory)
 
-counts : (many : Type 0) (e : Refusal) (before after : ℕ) → IsFault e → after ≡ before → CountsFailure many e before after
+counts : (many : Type 0) (e : Refusal) (before after : ℕ) → IsFault e → after ≡ before → CountsReads many e before after
 counts many ReadFault before after h same = let wrong : false ≡ true = h (λ is. cc) in absurd cc
 counts many other before after h same = same
 
@@ -355,7 +356,7 @@ listed ReadFault h = refl
 listed other h = h (λ is. cc)
 
 -- a call that read its input whole counted no failure
-pub counts_none : {X Y : Type 0} (view : X → Y) (result : Result X Refusal) (meaning : Result Y Refusal) (many : Type 0) (before after : ℕ) → Reads view result meaning → Judged meaning → after ≡ before → IfErr result (λ e. CountsFailure many e before after)
+pub counts_none : {X Y : Type 0} (view : X → Y) (result : Result X Refusal) (meaning : Result Y Refusal) (many : Type 0) (before after : ℕ) → Reads view result meaning → Judged meaning → after ≡ before → IfErr result (λ e. CountsReads many e before after)
 counts_none view (Ok x) meaning many before after reads judged same = tt
 counts_none view (Err e) meaning many before after reads judged same = counts many e before after (fault_of view e meaning reads judged) same
 

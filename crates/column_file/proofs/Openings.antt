@@ -1,6 +1,7 @@
 -- Whether bytes are the canonical file of what they hold, and what an open makes of them.
 use Rattle.std.proofs.Common.{◌≡◌, ◌≢◌, ℕ, suc, ◌+◌, ◌<◌, ◌≤◌, Bool, true, false, cond, ◌&&◌, eqb, All, List, [], ◌∷◌, ◌++◌, map, length, get_or, take, drop, min, Some, Result, Ok, Err, ◌⊎◌, inl, inr, refl, sym, ap, ◌∙◌, arith}
 use Rattle.std.specs.FinMap as finite
+use Rattle.std.specs.List.{list_all, zip}
 use Rattle.std.proofs.lemmas.Bool.{and_parts, and_from, eqb-true, eq-eqb, ltb-true}
 use Rattle.std.proofs.lemmas.Bool.Decides.{nat_tests}
 use Rattle.std.proofs.lemmas.List.{drop_more, drop_all, append-nil, length-append, take_more, take_all}
@@ -127,12 +128,15 @@ same_range_is a b e =
     let last = eqb-true _ _ x.1 in
     λ i. (record { batch = record { origin = record { 0 = origin i }; number = record { 0 = number i } }; ordinal = ordinal i }, last i)
 
-pub front_more : (a b : List RowRange) (i : ℕ) (d : RowRange) → i < length a → i < length b → take i a ≡ take i b → get_or a i d ≡ get_or b i d → take (i + 1) a ≡ take (i + 1) b
-front_more a b i d in_a in_b so_far here =
-    take_more a i d in_a ∙ (λ k. so_far k ++ here k ∷ []) ∙ sym (take_more b i d in_b)
-
-pub front_whole : (a b : List RowRange) (i : ℕ) → length a ≤ i → length b ≤ i → take i a ≡ take i b → a ≡ b
-front_whole a b i in_a in_b same = sym (take_all i a in_a) ∙ same ∙ take_all i b in_b
+-- lists of one length are one where their ranges are the same pair by pair
+pub same_ranges : (a b : List RowRange) → length a ≡ length b → list_all (λ pair. is_same_range pair.0 pair.1) (zip a b) ≡ true → a ≡ b
+same_ranges [] [] same e = refl
+same_ranges [] (y ∷ ys) same e = absurd (omega (arith, same))
+same_ranges (x ∷ xs) [] same e = absurd (omega (arith, same))
+same_ranges (x ∷ xs) (y ∷ ys) same e =
+    let both = and_parts (is_same_range x y) (list_all (λ pair. is_same_range pair.0 pair.1) (zip xs ys)) e in
+    let here = same_range_is x y both.0 in
+    let rest = same_ranges xs ys (omega (arith, same)) both.1 in λ i. here i ∷ rest i
 
 pub canonical_items : (t : Table) (items : List Held) → All (IsStored t) items → All IsCanonicalHeld items → map entry_of items ≡ map (canonical_as_read t) items
 canonical_items t [] stored canonical = refl

@@ -2,7 +2,6 @@
 use Rattle.std.specs.Prelude.{◌≡◌, ◌⊎◌, ℕ, Bool, true, false, List, Option, Some, None, Result, Ok, Err}
 use Rattle.std.specs.Io.KnownBytes.{IsAtEnd}
 use Rattle.table_model.specs.Faults.{IsWithin}
-use Rattle.table_model.specs.Counted.{one_more}
 use Rattle.table_model.specs.declared.refusal.Refusal.{Refusal}
 use Rattle.table_model.specs.declared.refusal.Refusal.TheVariants.{Memory, ReadFault, BadName, BadSchema, Truncated, BadMagic, BadVersion, BadOrder, BadCount, BadWidth, BadTag, BadMask, BadDictionary, BadCode, BadRange, TrailingBytes, NotCanonical}
 
@@ -12,11 +11,6 @@ abbrev pub Judges : {X Y : Type 0} → (X → Y) → Result X Refusal → Option
 Judges view result None meaning = Unit {0}
 Judges view (Ok x) (Some input) meaning = meaning input ≡ Ok (view x)
 Judges view (Err e) (Some input) meaning = (e ≡ Memory → ⊥) → (e ≡ ReadFault → ⊥) → meaning input ≡ Err e
-
--- The reader's count of failures before and after a call: it rose with a ReadFault, unless many is what made that, and else it stayed.
-abbrev pub CountsFailure : Type 0 → Refusal → ℕ → ℕ → Type 0
-CountsFailure many ReadFault before after = (after ≡ one_more before) ⊎ (many × (after ≡ before))
-CountsFailure many other before after = after ≡ before
 
 -- a want of memory or a failed read
 abbrev pub IsUnread : Refusal → Type 0

@@ -12,6 +12,7 @@ ghost use Rattle.column_file.specs.Differing.{IsFirstOther, IsFirstOtherIn, Colu
 use segment_core::{CodedVector, Coding, Segment};
 use std::alloc::{AllocError, Global};
 use table_model::{BatchName, Refusal};
+use transpose_order::VECTOR_ROWS;
 
 /// The place of the first vector of a column that isn't canonical, or how many vectors there are.
 fn first_other_vector(segment: &Segment, column: usize, vectors: usize) -> usize
@@ -32,7 +33,7 @@ fn first_other_vector(segment: &Segment, column: usize, vectors: usize) -> usize
 fn first_other(segment: &Segment) -> Option<(usize, usize)>
     ensures { MatchOption result (segment.now.forms ≡ canonical_forms (widths_in segment.now.forms) segment.now.rows) (λ found. IsFirstOtherIn segment.now.forms found.0 found.1) }
 {
-    let vectors = segment.rows().div_ceil(1024);
+    let vectors = segment.rows().div_ceil(VECTOR_ROWS);
     for column in 0..segment.columns() {
         let vector = first_other_vector(segment, column, vectors);
         if vector < vectors {

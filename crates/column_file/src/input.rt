@@ -1,8 +1,8 @@
 //! Reading a reader to its end.
 ghost use Rattle.std.specs.Prelude.{◌≡◌, ◌<◌, ◌≤◌, length, IfOk, IfErr, OnOk};
 ghost use Rattle.std.specs.Io.KnownBytes.{Consumes, IsAtEnd};
-ghost use Rattle.table_model.specs.Faults.{IsWithin, GaveMore};
-ghost use Rattle.column_file.specs.Input.{CountsFailure, IsUnread};
+ghost use Rattle.table_model.specs.Faults.{IsWithin, GaveMore, CountsReads};
+ghost use Rattle.column_file.specs.Input.{IsUnread};
 
 use std::alloc::Global;
 use std::io::Read;
@@ -28,7 +28,7 @@ fn read_through<R: Read>(
     ensures within { OnOk result (IsWithin (R.remaining reader.old.0)) }
     ensures kept { OnOk result (reader.new.1 ≡ reader.old.1) }
     ensures refused { IfErr result IsUnread }
-    ensures fault { IfErr result (λ e. CountsFailure (GaveMore (R.remaining reader.old.0) (R.remaining reader.new.0)) e reader.old.1 reader.new.1) }
+    ensures fault { IfErr result (λ e. CountsReads (GaveMore (R.remaining reader.old.0) (R.remaining reader.new.0)) e reader.old.1 reader.new.1) }
 {
     let mut input = Vec::new(alloc);
     for _turn in 0..ROUNDS {
@@ -58,7 +58,7 @@ pub(crate) fn read_input<R: Read>(
     ensures within { OnOk result (IsWithin (R.remaining reader.old.0)) }
     ensures kept { OnOk result (reader.new.1 ≡ reader.old.1) }
     ensures refused { IfErr result IsUnread }
-    ensures fault { IfErr result (λ e. CountsFailure (GaveMore (R.remaining reader.old.0) (R.remaining reader.new.0)) e reader.old.1 reader.new.1) }
+    ensures fault { IfErr result (λ e. CountsReads (GaveMore (R.remaining reader.old.0) (R.remaining reader.new.0)) e reader.old.1 reader.new.1) }
 {
     let mut buffer = vec![in alloc; 0u8; CHUNK]?;
     read_through(alloc, reader, buffer.as_mut_slice())

@@ -2,12 +2,12 @@
 ghost use Rattle.std.specs.Prelude.{◌≡◌, ◌≤◌, IsTrue, IfOk, IfErr, OnOk};
 ghost use Rattle.std.specs.Io.KnownBytes.{IsAtEnd};
 ghost use Rattle.std.specs.List.{All};
-ghost use Rattle.table_model.specs.Faults.{IsWithin, GaveMore};
+ghost use Rattle.table_model.specs.Faults.{IsWithin, GaveMore, CountsReads};
 ghost use Rattle.table_model.specs.Name.{is_proper_name};
 ghost use Rattle.catalogue_join.specs.RowRange.{RowRange, rows_in};
 ghost use Rattle.table_model.specs.Reading.{Reads};
 ghost use Rattle.column_file.specs.Files.{IsRangeGiven, offer_read};
-ghost use Rattle.column_file.specs.Input.{Judges, CountsFailure, ComesOfWhole, is_refusal_of_reading};
+ghost use Rattle.column_file.specs.Input.{Judges, ComesOfWhole, is_refusal_of_reading};
 
 use crate::container_reading::read_container;
 use crate::input::read_input;
@@ -51,7 +51,7 @@ pub fn read_offer<R: Read>(alloc: Global, reader: &mut Counted<R>) -> Result<Off
     ensures within { OnOk result (IsWithin (R.remaining reader.old.0)) }
     ensures kept { OnOk result (reader.new.1 ≡ reader.old.1) }
     ensures whole { IfErr result (λ e. ComesOfWhole e (R.remaining reader.old.0) (R.remaining reader.new.0)) }
-    ensures fault { IfErr result (λ e. CountsFailure (GaveMore (R.remaining reader.old.0) (R.remaining reader.new.0)) e reader.old.1 reader.new.1) }
+    ensures fault { IfErr result (λ e. CountsReads (GaveMore (R.remaining reader.old.0) (R.remaining reader.new.0)) e reader.old.1 reader.new.1) }
 {
     let input = read_input(alloc, reader)?;
     offer_in(alloc, input.as_slice())

@@ -1,15 +1,15 @@
 //! Opening and checking canonical files.
 ghost use Rattle.std.specs.Prelude.{◌≡◌, ◌≤◌, ◌==◌, ◌&&◌, length, map, Err, Ok, IsTrue, IfOk, IfErr, OnOk};
 ghost use Rattle.std.specs.Io.KnownBytes.{IsAtEnd};
-ghost use Rattle.std.specs.List.{All};
-ghost use Rattle.table_model.specs.Faults.{IsWithin, GaveMore};
+ghost use Rattle.std.specs.List.{All, list_all, zip};
+ghost use Rattle.table_model.specs.Faults.{IsWithin, GaveMore, CountsReads};
 ghost use Rattle.table_model.specs.Reading.{Reads};
 ghost use Rattle.replica_store.specs.Segments.{IsStored};
 ghost use Rattle.replica_store.specs.Replica.{batch_limit};
 ghost use Rattle.column_file.specs.ContainerBytes.{entry_of, deleted_of, container};
 ghost use Rattle.column_file.specs.Differing.{matched};
 ghost use Rattle.column_file.specs.Files.{AreCanonicalOf, is_same_range, canonical_read, opened_from, checked_from};
-ghost use Rattle.column_file.specs.Input.{Judges, CountsFailure, ComesOfWhole, is_refusal_of_reading};
+ghost use Rattle.column_file.specs.Input.{Judges, ComesOfWhole, is_refusal_of_reading};
 
 use crate::comparing::Comparison;
 use crate::container_reading::read_container;
@@ -46,15 +46,16 @@ fn same_range(a: (RowName, u16), b: (RowName, u16)) -> bool
 fn are_same_ranges(a: &[(RowName, u16)], b: &[(RowName, u16)]) -> bool
     ensures { IsTrue result → a.now ≡ b.now }
 {
-    if a.len() != b.len() {
-        return false;
-    }
-    for index in 0..a.len() {
-        if !same_range(a[index], b[index]) {
-            return false;
-        }
-    }
-    true
+    a.len() == b.len() && are_same_pairs(a, b)
+}
+
+/// Whether the ranges at each place of two lists are the same, as far as both lists go.
+fn are_same_pairs(a: &[(RowName, u16)], b: &[(RowName, u16)]) -> bool
+    ensures { result ≡ list_all (λ pair. is_same_range pair.0 pair.1) (zip a.now b.now) }
+{
+    a.iter()
+        .zip(b)
+        .all(|(range, other)| same_range(*range, *other))
 }
 
 /// Refuses bytes that aren't a container of a table's batches, at most 65,536, in their present codings, and of ranges of deleted
@@ -108,7 +109,7 @@ pub fn open<R: Read>(alloc: Global, reader: &mut Counted<R>, own: Origin) -> Res
     ensures within { OnOk result (IsWithin (R.remaining reader.old.0)) }
     ensures kept { OnOk result (reader.new.1 ≡ reader.old.1) }
     ensures whole { 1 ≤ own.0 → IfErr result (λ e. ComesOfWhole e (R.remaining reader.old.0) (R.remaining reader.new.0)) }
-    ensures fault { IfErr result (λ e. CountsFailure (GaveMore (R.remaining reader.old.0) (R.remaining reader.new.0)) e reader.old.1 reader.new.1) }
+    ensures fault { IfErr result (λ e. CountsReads (GaveMore (R.remaining reader.old.0) (R.remaining reader.new.0)) e reader.old.1 reader.new.1) }
 {
     if own.0 == 0 {
         return Err(Refusal::BadName);
@@ -126,7 +127,7 @@ pub fn check<R: Read>(alloc: Global, reader: &mut Counted<R>) -> Result<Checked,
     ensures within { OnOk result (IsWithin (R.remaining reader.old.0)) }
     ensures kept { OnOk result (reader.new.1 ≡ reader.old.1) }
     ensures whole { IfErr result (λ e. ComesOfWhole e (R.remaining reader.old.0) (R.remaining reader.new.0)) }
-    ensures fault { IfErr result (λ e. CountsFailure (GaveMore (R.remaining reader.old.0) (R.remaining reader.new.0)) e reader.old.1 reader.new.1) }
+    ensures fault { IfErr result (λ e. CountsReads (GaveMore (R.remaining reader.old.0) (R.remaining reader.new.0)) e reader.old.1 reader.new.1) }
 {
     let input = read_input(alloc, reader)?;
     let offer = canonical_in(alloc, input.as_slice())?;

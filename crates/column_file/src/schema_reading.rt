@@ -9,7 +9,7 @@ ghost use Rattle.column_file.specs.SchemaBytes.{text, is_upper, is_name, name, c
 
 use segment_core::{place_of, read_number};
 use std::alloc::Global;
-use table_model::{ColType, Refusal, Schema, is_identifier, same_word};
+use table_model::{ColType, MAX_COLUMNS, MAX_WORD, Refusal, Schema, is_identifier, same_word};
 
 /// The text of 1 to 64 bytes at the front, and what stands after it.
 #[tactic(auto, unfolding(crate::specs::SchemaBytes::text))]
@@ -18,7 +18,7 @@ fn read_text(total: usize, bytes: &[u8]) -> Result<(&[u8], &[u8]), Refusal>
     ensures fault { IfErr result (λ e. IsTrue (is_fault_of_bytes e)) }
 {
     let (size, rest) = read_number(total, bytes, 1)?;
-    if size < 1 || 64 < size {
+    if size < 1 || (MAX_WORD as u64) < size {
         return Err(Refusal::BadSchema);
     }
     let size = size as usize;
@@ -130,7 +130,7 @@ fn read_column_count(total: usize, bytes: &[u8]) -> Result<(usize, &[u8]), Refus
     ensures fault { IfErr result (λ e. IsTrue (is_fault_of_bytes e)) }
 {
     let (count, rest) = read_number(total, bytes, 2)?;
-    if count < 1 || 32 < count {
+    if count < 1 || (MAX_COLUMNS as u64) < count {
         return Err(Refusal::BadCount(place_of(total, bytes)));
     }
     Ok((count as usize, rest))

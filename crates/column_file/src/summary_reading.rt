@@ -3,12 +3,12 @@ ghost use Rattle.std.specs.Prelude.{◌≡◌, ◌-◌, ◌^◌, ◌<◌, ◌≤
 ghost use Rattle.std.specs.List.{All};
 ghost use Rattle.std.specs.FinSet as set;
 ghost use Rattle.std.specs.Io.KnownBytes.{IsAtEnd};
-ghost use Rattle.table_model.specs.Faults.{IsWithin, GaveMore};
+ghost use Rattle.table_model.specs.Faults.{IsWithin, GaveMore, CountsReads};
 ghost use Rattle.table_model.specs.Name.{is_proper_name};
 ghost use Rattle.table_model.specs.Reading.{Reads};
 ghost use Rattle.segment_core.specs.Format.{Format, number, all, constant, read_whole};
 ghost use Rattle.column_file.specs.SummaryBytes.{version, head, proper_name, precedes, is_after, batch_name, name_count, names, summary, summary_read};
-ghost use Rattle.column_file.specs.Input.{Judges, CountsFailure, ComesOfWhole, is_fault_of_bytes, is_refusal_of_reading};
+ghost use Rattle.column_file.specs.Input.{Judges, ComesOfWhole, is_fault_of_bytes, is_refusal_of_reading};
 
 use crate::input::read_input;
 use crate::schema_reading::read_schema;
@@ -204,7 +204,7 @@ pub fn read_summary<R: Read>(alloc: Global, reader: &mut Counted<R>) -> Result<S
     ensures within { OnOk result (IsWithin (R.remaining reader.old.0)) }
     ensures kept { OnOk result (reader.new.1 ≡ reader.old.1) }
     ensures whole { IfErr result (λ e. ComesOfWhole e (R.remaining reader.old.0) (R.remaining reader.new.0)) }
-    ensures fault { IfErr result (λ e. CountsFailure (GaveMore (R.remaining reader.old.0) (R.remaining reader.new.0)) e reader.old.1 reader.new.1) }
+    ensures fault { IfErr result (λ e. CountsReads (GaveMore (R.remaining reader.old.0) (R.remaining reader.new.0)) e reader.old.1 reader.new.1) }
 {
     let input = read_input(alloc, reader)?;
     summary_in(alloc, input.as_slice())

@@ -18,6 +18,7 @@ use transpose_order::Mask;
 fn walk_of_codes(form: &Dict) -> Walk16<'_>
     ensures { (n : ℕ) → n < 1024 → number_of_row result n ≡ code_at form.now n }
 {
+    // `lane_width` ensures that the form keeps its rule.
     let _ = form.lane_width();
     Walk16::new(form.width(), form.codes().words_16(), false, [0; 64], 0)
 }
@@ -26,6 +27,7 @@ fn walk_of_codes(form: &Dict) -> Walk16<'_>
 pub(crate) fn greatest_of_codes(form: &Dict, rows: &Mask) -> Option<i64>
     ensures { result ≡ fold_to greater None 1024 (λ n. cond (has rows.now n) (Some (dict_value form.now n)) None) }
 {
+    // `lane_width` ensures that the form keeps its rule.
     let _ = form.lane_width();
     if rows.count_below(1024) == 0 {
         return None;
@@ -38,6 +40,7 @@ pub(crate) fn greatest_of_codes(form: &Dict, rows: &Mask) -> Option<i64>
 pub(crate) fn least_of_codes(form: &Dict, rows: &Mask) -> Option<i64>
     ensures { result ≡ fold_to lesser None 1024 (λ n. cond (has rows.now n) (Some (dict_value form.now n)) None) }
 {
+    // `lane_width` ensures that the form keeps its rule.
     let _ = form.lane_width();
     if rows.count_below(1024) == 0 {
         return None;
@@ -68,6 +71,7 @@ fn raised_sum_of_codes(form: &Dict, rows: &Mask) -> u128
     ensures sum { pos result ≡ fold_to ◌+ℤ◌ (pos 0) 1024 (λ n. cond (has rows.now n) (dict_value form.now n +ℤ pos (2 ^ 63)) (pos 0)) }
     ensures bound { result ≤ 2 ^ 64 * 1024 }
 {
+    // `lane_width` ensures that the form keeps its rule.
     let _ = form.lane_width();
     let width = form.width();
     let words = form.codes().words_16();
@@ -92,6 +96,7 @@ const GREATEST_NARROW: i64 = 0x7FFF_FFFF;
 fn are_narrow(form: &Dict) -> bool
     ensures { IsTrue result ↔ AreInRange 32 form.now.values }
 {
+    // `lane_width` ensures that the form keeps its rule.
     let _ = form.lane_width();
     let values = form.values();
     LEAST_NARROW <= values.get(0) && values.get(values.len() - 1) <= GREATEST_NARROW
@@ -129,6 +134,7 @@ fn narrow_sum_of_codes(form: &Dict, rows: &Mask) -> i64
     requires { AreInRange 32 form.now.values }
     ensures { result ≡ fold_to ◌+ℤ◌ (pos 0) 1024 (λ n. cond (has rows.now n) (dict_value form.now n) (pos 0)) }
 {
+    // `lane_width` ensures that the form keeps its rule.
     let _ = form.lane_width();
     let width = form.width();
     let words = form.codes().words_16();
@@ -157,6 +163,7 @@ pub(crate) fn sum_of_codes(form: &Dict, rows: &Mask) -> i128
 pub(crate) fn dict_between(form: &Dict, low: i64, high: i64) -> Mask
     ensures { result ≡ rows_of (λ n. between low high (dict_value form.now n)) }
 {
+    // `lane_width` ensures that the form keeps its rule.
     let _ = form.lane_width();
     let (first, end) = form.places_between(low, high);
     if end <= first {

@@ -72,6 +72,7 @@ pub(crate) fn found_between(coded: &Coded, low: i128, high: i128) -> Option<Mask
     ensures runs { (form : RunForm) → coded.now ≡ InRuns form → IsSome result }
     ensures dict { (form : DictForm) → coded.now ≡ InDict form → IsSome result }
 {
+    // `lane_width` ensures that the form keeps its rule.
     let _ = coded.lane_width();
     if i128::from(i64::MAX) < low || high < i128::from(i64::MIN) {
         return Some(Mask::none());
@@ -98,6 +99,7 @@ pub(crate) fn found_by_literal(coded: &Coded, op: Op, literal: i128) -> Option<M
     ensures runs { (form : RunForm) → coded.now ≡ InRuns form → IsSome result }
     ensures dict { (form : DictForm) → coded.now ≡ InDict form → IsSome result }
 {
+    // `lane_width` ensures that the form keeps its rule.
     let _ = coded.lane_width();
     let (low, high, inside) = range_of(op, literal);
     match found_between(coded, low, high) {

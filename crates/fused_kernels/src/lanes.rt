@@ -63,6 +63,7 @@ pub(crate) fn rows_among(rows: usize, nulls: &Mask, mask: &Mask) -> Mask
 pub(crate) fn rows_to_look_at<L: Lanes>(lanes: &L, mask: &Mask) -> Mask
     ensures { result ≡ rows_of (looked_at (L.seen lanes.now) mask.now) }
 {
+    // `lane_width` ensures what holds of all lanes.
     let _ = lanes.lane_width();
     rows_among(lanes.rows(), &lanes.nulls(), mask)
 }

@@ -17,6 +17,7 @@ use transpose_order::{Mask, greater_if, lesser_if};
 pub(crate) fn sum_of_runs(form: &Runs, rows: &Mask) -> i128
     ensures { result ≡ fold_to ◌+ℤ◌ (pos 0) 1024 (λ n. cond (has rows.now n) (run_value form.now n) (pos 0)) }
 {
+    // `lane_width` ensures that the form keeps its rule.
     let _ = form.lane_width();
     let words = rows.words();
     let before_words = rows_before_words(words);
@@ -60,6 +61,7 @@ fn greatest_of_all(values: &Values) -> i64
 fn least_of_rows(form: &Runs, rows: &Mask) -> Option<i64>
     ensures { result ≡ fold_to lesser None 1024 (λ n. cond (has rows.now n) (Some (run_value form.now n)) None) }
 {
+    // `lane_width` ensures that the form keeps its rule.
     let _ = form.lane_width();
     let words = rows.words();
     let before_words = rows_before_words(words);
@@ -84,6 +86,7 @@ fn least_of_rows(form: &Runs, rows: &Mask) -> Option<i64>
 fn greatest_of_rows(form: &Runs, rows: &Mask) -> Option<i64>
     ensures { result ≡ fold_to greater None 1024 (λ n. cond (has rows.now n) (Some (run_value form.now n)) None) }
 {
+    // `lane_width` ensures that the form keeps its rule.
     let _ = form.lane_width();
     let words = rows.words();
     let before_words = rows_before_words(words);
@@ -108,6 +111,7 @@ fn greatest_of_rows(form: &Runs, rows: &Mask) -> Option<i64>
 pub(crate) fn least_of_runs(form: &Runs, rows: &Mask) -> Option<i64>
     ensures { result ≡ fold_to lesser None 1024 (λ n. cond (has rows.now n) (Some (run_value form.now n)) None) }
 {
+    // `lane_width` ensures that the form keeps its rule.
     let _ = form.lane_width();
     if rows.is_all() {
         return Some(least_of_all(form.values()));
@@ -119,6 +123,7 @@ pub(crate) fn least_of_runs(form: &Runs, rows: &Mask) -> Option<i64>
 pub(crate) fn greatest_of_runs(form: &Runs, rows: &Mask) -> Option<i64>
     ensures { result ≡ fold_to greater None 1024 (λ n. cond (has rows.now n) (Some (run_value form.now n)) None) }
 {
+    // `lane_width` ensures that the form keeps its rule.
     let _ = form.lane_width();
     if rows.is_all() {
         return Some(greatest_of_all(form.values()));

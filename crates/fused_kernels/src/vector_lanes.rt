@@ -44,6 +44,7 @@ impl<'a> VectorLanes<'a> {
         ensures lanes { result ≡ vector_seen vector.now 0 }
         ensures pass { meter.new ≡ raised 1 meter.old }
     {
+        // `rows` ensures that the vector keeps its rule.
         let _ = vector.rows();
         meter.add_pass();
         VectorLanes {
@@ -74,6 +75,7 @@ fn run_after(form: &Runs, row: usize, known: bool, before: u64) -> usize
     ensures run { result ≡ run_of form.now.starts row }
     ensures within { result < length form.now.values }
 {
+    // `lane_width` ensures that the form keeps its rule.
     let _ = form.lane_width();
     if known {
         before as usize + usize::from(form.starts().get(row))
@@ -118,6 +120,7 @@ fn coded_piece(coded: &Coded, piece: usize, sums: &mut [u64; 16]) -> Simd<i64, 1
     ensures values { result ≡ sixteen_of (λ i. value_in coded.now (64 * i + place_of (piece_width coded.now) piece)) }
     ensures carried { AreCarried coded.now (piece + 1) sums.new }
 {
+    // `lane_width` ensures that the form keeps its rule.
     let _ = coded.lane_width();
     match coded {
         Coded::For(form) => form.get().piece(piece),

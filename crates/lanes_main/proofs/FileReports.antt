@@ -5,16 +5,16 @@ use Rattle.std.specs.Io.KnownBytes.{Appends}
 use Rattle.table_model.proofs.Written.{appends_both}
 use Rattle.table_model.specs.Answer.{AnswerParts, answer_text}
 use Rattle.table_model.specs.Counted.{one_more}
-use Rattle.table_model.specs.Faults.{AppendsFront}
+use Rattle.table_model.specs.Faults.{AppendsFront, CountsBoth, CountsReads, CountsWrites}
 use Rattle.table_model.specs.State.{State}
 use Rattle.table_model.specs.Table.{Table}
 use Rattle.table_model.specs.declared.refusal.Refusal.{Refusal}
 use Rattle.table_model.specs.declared.refusal.Refusal.TheVariants.{Memory, ReadFault, WriteFault}
 use Rattle.replica_store.specs.Replica.{Replica}
 use Rattle.column_file.specs.Files.{checked_from}
-use Rattle.column_file.specs.Input.{Judges, CountsFailure, is_refusal_of_reading}
+use Rattle.column_file.specs.Input.{Judges, is_refusal_of_reading}
 use Rattle.store_view.specs.Asked.{query_answer, is_refusal_of_query}
-use Rattle.lanes_main.specs.FileReport.{Report, no_report, refused, after_text, checked_text, checked_report, check_report, answer_report, answers_report, opened_report, is_refusal_of_answering, is_refusal_of_checking, is_refusal_of_querying, Tells, Reports, CountsWrites, CountsBoth}
+use Rattle.lanes_main.specs.FileReport.{Report, no_report, refused, after_text, checked_text, checked_report, check_report, answer_report, answers_report, opened_report, is_refusal_of_answering, is_refusal_of_checking, is_refusal_of_querying, Tells, Reports}
 use Rattle.lanes_main.proofs.Tellings.{appends_none}
 
 -- nothing is a front of each text
@@ -38,7 +38,7 @@ reading_refused view other (Some bytes) known meaning report to h =
     subst P (sym is) (inl (refl, appends_none known))
 
 -- the counts after that
-pub reading_counted : (many : Type 0) (e : Refusal) (r r' w : ℕ) → IsTrue (is_refusal_of_reading e) → CountsFailure many e r r' → CountsBoth many e r r' w w
+pub reading_counted : (many : Type 0) (e : Refusal) (r r' w : ℕ) → IsTrue (is_refusal_of_reading e) → CountsReads many e r r' → CountsBoth many e r r' w w
 reading_counted many ReadFault r r' w listed h = (h, refl)
 reading_counted many WriteFault r r' w listed h = let wrong : false ≡ true = listed in absurd cc
 reading_counted many other r r' w listed h = (h, refl)

@@ -3,7 +3,6 @@ use Rattle.std.specs.Prelude.{◌≡◌, ◌⊎◌, ℕ, Bool, true, ◌||◌, L
 use Rattle.std.specs.Fmt.{decimal}
 use Rattle.std.specs.Io.KnownBytes.{Appends}
 use Rattle.table_model.specs.Answer.{AnswerParts, answer_text}
-use Rattle.table_model.specs.Counted.{one_more}
 use Rattle.table_model.specs.Faults.{AppendsFront}
 use Rattle.table_model.specs.State.{State}
 use Rattle.table_model.specs.Table.{Table}
@@ -91,14 +90,3 @@ Tells (Err e) before now report = ((report.1 ≡ Some e) × Appends before now r
 abbrev pub Reports : Result (Unit {0}) Refusal → Option (List ℕ) → Option (List ℕ) → Option (List ℕ) → (List ℕ → Report) → Type 0
 Reports result None before now report = Unit {0}
 Reports result (Some input) before now report = Tells result before now (report input)
-
--- a writer's count of failures before and after a call: it rose with a WriteFault, and else it stayed
-abbrev pub CountsWrites : Refusal → ℕ → ℕ → Type 0
-CountsWrites WriteFault before after = after ≡ one_more before
-CountsWrites other before after = after ≡ before
-
--- both counts: the reader's rose with a ReadFault, unless many is what made that, the writer's with a WriteFault, and else they stayed
-abbrev pub CountsBoth : Type 0 → Refusal → ℕ → ℕ → ℕ → ℕ → Type 0
-CountsBoth many ReadFault r r' w w' = ((r' ≡ one_more r) ⊎ (many × (r' ≡ r))) × (w' ≡ w)
-CountsBoth many WriteFault r r' w w' = (r' ≡ r) × (w' ≡ one_more w)
-CountsBoth many other r r' w w' = (r' ≡ r) × (w' ≡ w)

@@ -1,9 +1,9 @@
 //! Checks of canonical files.
 ghost use Rattle.std.specs.Prelude.{◌≡◌, ◌≢◌, ◌++◌, IsTrue, OnOk, IfOk, IfErr};
 ghost use Rattle.std.specs.Io.KnownBytes.{IsAtEnd};
-ghost use Rattle.table_model.specs.Faults.{IsWithin, GaveMore};
+ghost use Rattle.table_model.specs.Faults.{IsWithin, GaveMore, CountsBoth};
 ghost use Rattle.table_model.specs.declared.refusal.Refusal.TheVariants.{WriteFault};
-ghost use Rattle.lanes_main.specs.FileReport.{checked_text, check_report, is_refusal_of_checking, Reports, CountsBoth};
+ghost use Rattle.lanes_main.specs.FileReport.{checked_text, check_report, is_refusal_of_checking, Reports};
 
 use crate::reply_format::write_number;
 use column_file::{Checked, check};

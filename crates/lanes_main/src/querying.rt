@@ -1,10 +1,10 @@
 //! Queries over a file.
 ghost use Rattle.std.specs.Prelude.{◌≡◌, map, IsTrue, OnOk, IfErr, Err};
 ghost use Rattle.std.specs.Io.KnownBytes.{IsAtEnd};
-ghost use Rattle.table_model.specs.Faults.{IsWithin, GaveMore};
+ghost use Rattle.table_model.specs.Faults.{IsWithin, GaveMore, CountsBoth, CountsWrites};
 ghost use Rattle.store_view.specs.Asked.{query_answer};
 ghost use Rattle.table_model.specs.declared.refusal.Refusal.TheVariants.{ReadFault};
-ghost use Rattle.lanes_main.specs.FileReport.{answer_report, answers_report, queries_report, no_report, is_refusal_of_answering, is_refusal_of_querying, Tells, Reports, CountsWrites, CountsBoth};
+ghost use Rattle.lanes_main.specs.FileReport.{answer_report, answers_report, queries_report, no_report, is_refusal_of_answering, is_refusal_of_querying, Tells, Reports};
 
 use crate::notes::point_at;
 use column_file::open;

@@ -304,6 +304,7 @@ impl<'a> Walk16<'a> {
         ensures rows { result ≡ rows_of (λ n. nat_le first (number_of_row self.now n) && nat_le (number_of_row self.now n) last) }
         ensures below { (n : ℕ) → number_of_row self.now n ≤ 2 ^ 16 - 1 }
     {
+        // A walk whose field is read keeps its invariant.
         let _width = self.width;
         if last < first {
             return Mask::none();
@@ -349,6 +350,7 @@ impl<'a> Walk16<'a> {
             → ((n : ℕ) → n < 1024 → pos (number_of_row other.now n) ≡ right n +ℤ pos (2 ^ 15))
             → result ≡ rows_of (λ n. value_passes equal (left n) (right n)) }
     {
+        // A walk whose field is read keeps its invariant.
         let _width = self.width;
         let _other_width = other.width;
         mask_of_lanes(&self.marks_beside(equal, other))
@@ -390,6 +392,7 @@ pub(crate) fn walk_of_frame_16(form: &For) -> Walk16<'_>
     requires { form.now.lane_width ≡ 16 }
     ensures { (n : ℕ) → n < 1024 → pos (number_of_row result n) ≡ frame_value form.now n +ℤ pos (2 ^ 15) }
 {
+    // `lane_width` ensures that the form keeps its rule.
     let _ = form.lane_width();
     let added = raised(form.reference());
     Walk16::new(form.width(), form.words().words_16(), false, [0; 64], added)
@@ -401,6 +404,7 @@ pub(crate) fn walk_of_deltas_16(form: &Delta) -> Walk16<'_>
     requires { form.now.lane_width ≡ 16 }
     ensures { (n : ℕ) → n < 1024 → pos (number_of_row result n) ≡ delta_value form.now n +ℤ pos (2 ^ 15) }
 {
+    // `lane_width` ensures that the form keeps its rule.
     let _ = form.lane_width();
     let starts = all_raised(form.bases().values_16());
     let added = bits(form.least());

@@ -297,6 +297,7 @@ impl<'a> Walk32<'a> {
         ensures rows { result ≡ rows_of (λ n. nat_le first (number_of_row self.now n) && nat_le (number_of_row self.now n) last) }
         ensures below { (n : ℕ) → number_of_row self.now n ≤ 2 ^ 32 - 1 }
     {
+        // A walk whose field is read keeps its invariant.
         let _width = self.width;
         if last < first {
             return Mask::none();
@@ -342,6 +343,7 @@ impl<'a> Walk32<'a> {
             → ((n : ℕ) → n < 1024 → pos (number_of_row other.now n) ≡ right n +ℤ pos (2 ^ 31))
             → result ≡ rows_of (λ n. value_passes equal (left n) (right n)) }
     {
+        // A walk whose field is read keeps its invariant.
         let _width = self.width;
         let _other_width = other.width;
         mask_of_lanes(&self.marks_beside(equal, other))
@@ -383,6 +385,7 @@ pub(crate) fn walk_of_frame_32(form: &For) -> Walk32<'_>
     requires { form.now.lane_width ≡ 32 }
     ensures { (n : ℕ) → n < 1024 → pos (number_of_row result n) ≡ frame_value form.now n +ℤ pos (2 ^ 31) }
 {
+    // `lane_width` ensures that the form keeps its rule.
     let _ = form.lane_width();
     let added = raised(form.reference());
     Walk32::new(form.width(), form.words().words_32(), false, [0; 32], added)
@@ -394,6 +397,7 @@ pub(crate) fn walk_of_deltas_32(form: &Delta) -> Walk32<'_>
     requires { form.now.lane_width ≡ 32 }
     ensures { (n : ℕ) → n < 1024 → pos (number_of_row result n) ≡ delta_value form.now n +ℤ pos (2 ^ 31) }
 {
+    // `lane_width` ensures that the form keeps its rule.
     let _ = form.lane_width();
     let starts = all_raised(form.bases().values_32());
     let added = bits(form.least());

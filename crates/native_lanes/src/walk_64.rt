@@ -418,6 +418,7 @@ impl<'a> Walk64<'a> {
         requires all { (lane step : ℕ) → lane < 16 → step < 64 → has rows.now (row_at 64 lane step) ≡ true }
         ensures { result ≡ fold_to max 0 1024 (λ n. cond (has rows.now n) (turned 64 flipped (number_of_row self.now n)) 0) }
     {
+        // A walk whose field is read keeps its invariant.
         let _width = self.width;
         let numbers = if flipped { *first } else { self.last_numbers() };
         greatest_of_turned(flipped, &numbers)
@@ -526,6 +527,7 @@ impl<'a> Walk64<'a> {
         ensures rows { result ≡ rows_of (λ n. nat_le first (number_of_row self.now n) && nat_le (number_of_row self.now n) last) }
         ensures below { (n : ℕ) → number_of_row self.now n ≤ 2 ^ 64 - 1 }
     {
+        // A walk whose field is read keeps its invariant.
         let _width = self.width;
         if last < first {
             return Mask::none();
@@ -606,6 +608,7 @@ impl<'a> Walk64<'a> {
             → ((n : ℕ) → n < 1024 → pos (number_of_row other.now n) ≡ right n +ℤ pos (2 ^ 63))
             → result ≡ rows_of (λ n. value_passes equal (left n) (right n)) }
     {
+        // A walk whose field is read keeps its invariant.
         let _width = self.width;
         let _other_width = other.width;
         mask_of_lanes(&self.marks_beside(equal, other))
@@ -647,6 +650,7 @@ pub(crate) fn walk_of_frame_64(form: &For) -> Walk64<'_>
     requires { form.now.lane_width ≡ 64 }
     ensures { (n : ℕ) → n < 1024 → pos (number_of_row result n) ≡ frame_value form.now n +ℤ pos (2 ^ 63) }
 {
+    // `lane_width` ensures that the form keeps its rule.
     let _ = form.lane_width();
     let added = raised(form.reference());
     Walk64::new(form.width(), form.words().words_64(), false, [0; 16], added)
@@ -658,6 +662,7 @@ pub(crate) fn walk_of_deltas_64(form: &Delta) -> Walk64<'_>
     requires { form.now.lane_width ≡ 64 }
     ensures { (n : ℕ) → n < 1024 → pos (number_of_row result n) ≡ delta_value form.now n +ℤ pos (2 ^ 63) }
 {
+    // `lane_width` ensures that the form keeps its rule.
     let _ = form.lane_width();
     let starts = all_raised(form.bases().values_64());
     let added = bits(form.least());

@@ -7,7 +7,7 @@ ghost use Rattle.query_parser.specs.Token.{first_spelling, keyword_of, symbol_of
 
 use crate::token::{Kind, Sign, Token, Word};
 use std::alloc::{AllocError, AllocFailed, Global};
-use table_model::same_word;
+use table_model::{MAX_WORD, same_word};
 
 /// The keywords, in upper case.
 const KEYWORDS: [(&[u8], Sign); 24] = [
@@ -52,9 +52,6 @@ const SYMBOLS: [(&[u8], Sign); 12] = [
     (b"<", Sign::Less),
     (b">", Sign::Greater),
 ];
-
-/// The most bytes that a word may have.
-const MAX_WORD: usize = 64;
 
 /// The keyword that the word is, in either case.
 #[tactic(auto, unfolding(crate::specs::Token::keywords))]

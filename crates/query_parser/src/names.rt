@@ -4,12 +4,9 @@ ghost use Rattle.table_model.specs.Query.{formula_of_term, formula_of_factor};
 ghost use Rattle.query_parser.specs.Resolve.{places, sooner, visited, verdict, resolved, column_at, is_grouped, in_function, in_operand, in_predicate, in_formula, in_clause, in_items, in_value, in_grouping, in_query, IsJudged};
 
 use table_model::{
-    Column, ColumnMention, Condition, Factor, Item, ItemValue, Operand, Predicate, Primary, Query,
-    Refusal, Schema, SetFunction, Term, same_text,
+    Column, ColumnMention, Condition, Factor, Item, ItemValue, MAX_COLUMNS, Operand, Predicate,
+    Primary, Query, Refusal, Schema, SetFunction, Term, same_text,
 };
-
-/// The most columns that a table has.
-const MAX_COLUMNS: usize = 32;
 
 /// The least place so far of a column that the table has not, and of one that GROUP BY has to name and doesn't.
 type Places = (Option<u64>, Option<u64>);

@@ -8,9 +8,14 @@ use crate::columns::columns;
 use crate::command::{Command, TableCommand};
 use crate::rows::rows;
 use crate::step::{Sql, Step};
-use crate::words::{batch_name, coding, cut, file, number, ordinal, small_number, some_text};
+use crate::words::{
+    NUMBER_DIGITS, batch_name, coding, cut, file, number, ordinal, small_number, some_text,
+};
 use std::alloc::Global;
 use table_model::{Refusal, RowName};
+
+/// How many replicas a table has at most.
+const MAX_REPLICAS: u128 = 64;
 
 /// The command that a line is, without its line feed; `BadLine` where it is none.
 ///
@@ -85,7 +90,7 @@ pub(crate) fn replicas(text: &str) -> Option<usize>
     ensures value { result ≡ replicas_of text.now }
     ensures bound { IfSome result (λ n. (1 ≤ n) × (n ≤ 64)) }
 {
-    let count = number(text, 10, 64)?;
+    let count = number(text, NUMBER_DIGITS, MAX_REPLICAS)?;
     if 1 <= count {
         Some(count as usize)
     } else {

@@ -12,6 +12,15 @@ use segment_core::Coding;
 use std::alloc::Global;
 use table_model::{BatchName, ColType, Number, Origin, Refusal, Row, Rows};
 
+/// How many digits a number of 32 bits is written with at most.
+pub const NUMBER_DIGITS: usize = 10;
+
+/// How many digits an ordinal is written with at most.
+const ORDINAL_DIGITS: usize = 5;
+
+/// How many digits a value is written with at most, its sign apart.
+const VALUE_DIGITS: usize = 30;
+
 /// What stands before the first such character and what stands after it, where there is one.
 pub fn cut(text: &str, separator: char) -> Option<(&str, &str)>
     requires { separator < 128 }
@@ -78,7 +87,7 @@ pub fn number(text: &str, digits: usize, limit: u128) -> Option<u128>
 pub fn small_number(text: &str) -> Option<u32>
     ensures { result ≡ small_number text.now }
 {
-    let value = number(text, 10, u128::from(u32::MAX))?;
+    let value = number(text, NUMBER_DIGITS, u128::from(u32::MAX))?;
     Some(value as u32)
 }
 
@@ -86,7 +95,7 @@ pub fn small_number(text: &str) -> Option<u32>
 pub fn ordinal(text: &str) -> Option<u16>
     ensures { result ≡ ordinal_of text.now }
 {
-    let value = number(text, 5, u128::from(u16::MAX))?;
+    let value = number(text, ORDINAL_DIGITS, u128::from(u16::MAX))?;
     Some(value as u16)
 }
 
@@ -123,7 +132,7 @@ fn magnitude(text: &str) -> Option<i128>
     ensures bound { IfSome result (λ z. z ≤ℤ pos (10 ^ 30)) }
 {
     let text = text.as_bytes();
-    if !is_numeral(text, 30) {
+    if !is_numeral(text, VALUE_DIGITS) {
         return None;
     }
     let value = digits_value(text);

@@ -115,8 +115,8 @@ fn canonical_copies(alloc: Global, vectors: &[CodedVector]) -> Result<Vec<CodedV
 fn are_canonical(vectors: &[CodedVector]) -> bool
     ensures { IsTrue result ↔ AreCanonical vectors.now }
 {
-    for k in 0..vectors.len() {
-        if !vectors[k].is_canonical() {
+    for vector in vectors {
+        if !vector.is_canonical() {
             return false;
         }
     }

@@ -1,22 +1,27 @@
 -- The test of equality of schemas tells it.
 use Rattle.std.specs.Prelude.{◌≡◌, ◌≢◌, ℕ, suc, Bool, true, false, ◌&&◌, ◌==◌, List, [], ◌∷◌, length}
-use Rattle.std.proofs.Common.{refl, ap, ◌∙◌}
+use Rattle.std.proofs.Common.{refl, ap, ◌∙◌, arith}
+use Rattle.std.specs.List.{list_all, zip}
 use Rattle.std.proofs.Math.Bool.{and-false}
 use Rattle.std.proofs.lemmas.Bool.{and_parts}
 use Rattle.std.proofs.lemmas.Bool.Decides.{Decides-eqb}
 use Rattle.table_model.specs.Identifier.{same_text}
-use Rattle.table_model.specs.Table.{Table, ColumnShape, same_type, same_columns, same_table}
+use Rattle.table_model.specs.Table.{Table, ColumnShape, same_type, same_column, same_columns, same_table}
 use Rattle.table_model.specs.declared.schema.ColType.{ColType}
 use Rattle.table_model.specs.declared.schema.ColType.TheVariants.{SmallInt, Integer, BigInt}
-
-abbrev same_column : ColumnShape → ColumnShape → Bool
-same_column c d = same_text c.name d.name && same_type c.column_type d.column_type
 
 pub same_columns-lengths : (xs ys : List ColumnShape) → length xs ≢ length ys → same_columns xs ys ≡ false
 same_columns-lengths [] [] apart = absurd (apart refl)
 same_columns-lengths [] (y ∷ ys) apart = refl
 same_columns-lengths (x ∷ xs) [] apart = refl
 same_columns-lengths (x ∷ xs) (y ∷ ys) apart = ap (λ b. same_column x y && b) (same_columns-lengths xs ys (λ e. apart (ap suc e))) ∙ and-false _
+
+-- columns are the same pair by pair
+pub same_columns-zip : (xs ys : List ColumnShape) → length xs ≡ length ys → list_all (λ pair. same_column pair.0 pair.1) (zip xs ys) ≡ same_columns xs ys
+same_columns-zip [] [] same = refl
+same_columns-zip [] (y ∷ ys) same = absurd (omega (arith, same))
+same_columns-zip (x ∷ xs) [] same = absurd (omega (arith, same))
+same_columns-zip (x ∷ xs) (y ∷ ys) same = ap (λ b. same_column x y && b) (same_columns-zip xs ys (omega (arith, same)))
 
 pub one_text : (xs ys : List ℕ) → same_text xs ys ≡ true → xs ≡ ys
 one_text [] [] e = refl

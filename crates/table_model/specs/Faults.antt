@@ -24,9 +24,23 @@ GaveMore None rest = Unit {0}
 GaveMore (Some input) None = ⊥
 GaveMore (Some input) (Some rest) = read_limit + length rest < length input
 
--- Which count of failures rose with a refusal, the reader's or the writer's; many is what else makes a ReadFault.
+-- a reader's count of failures before and after a refused call: it rose with a ReadFault, unless many is what made that, and else it stayed
+abbrev pub CountsReads : Type 0 → Refusal → ℕ → ℕ → Type 0
+CountsReads many ReadFault before after = (after ≡ one_more before) ⊎ (many × (after ≡ before))
+CountsReads many other before after = after ≡ before
+
+-- a writer's count of failures before and after a refused call: it rose with a WriteFault, and else it stayed
+abbrev pub CountsWrites : Refusal → ℕ → ℕ → Type 0
+CountsWrites WriteFault before after = after ≡ one_more before
+CountsWrites other before after = after ≡ before
+
+-- both counts before and after a refused call
+abbrev pub CountsBoth : Type 0 → Refusal → ℕ → ℕ → ℕ → ℕ → Type 0
+CountsBoth many e r r' w w' = CountsReads many e r r' × CountsWrites e w w'
+
+-- the same of a call that nothing refuses but a want of memory and a failed read or write
 abbrev pub Failed : Type 0 → Refusal → ℕ → ℕ → ℕ → ℕ → Type 0
-Failed many Memory r r' w w' = (r' ≡ r) × (w' ≡ w)
-Failed many ReadFault r r' w w' = ((r' ≡ one_more r) ⊎ (many × (r' ≡ r))) × (w' ≡ w)
-Failed many WriteFault r r' w w' = (r' ≡ r) × (w' ≡ one_more w)
+Failed many Memory r r' w w' = CountsBoth many Memory r r' w w'
+Failed many ReadFault r r' w w' = CountsBoth many ReadFault r r' w w'
+Failed many WriteFault r r' w w' = CountsBoth many WriteFault r r' w w'
 Failed many other r r' w w' = ⊥

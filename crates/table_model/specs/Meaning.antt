@@ -25,7 +25,7 @@ use Rattle.table_model.specs.declared.query.Operand.TheVariants.{Column, Literal
 use Rattle.table_model.specs.declared.query.SetFunction.{SetFunction}
 use Rattle.table_model.specs.declared.query.SetFunction.TheVariants.{CountRows, Of}
 
--- a column's place in the schema, from 0 on; for a name that isn't there, of which no query asks, the number of columns
+-- a column's place in the schema, from 0 on; for a name that isn't there, of which no resolved query asks, the number of columns
 abbrev pub place_of : List ColumnShape → List ℕ → ℕ
 place_of columns name = position_or_len (λ column. same_text column.name name) columns
 

@@ -177,12 +177,16 @@ coded_table = code_by (List ℕ × List ColumnShape) (coded× (coded_list coded_
 abbrev pub same_type : ColType → ColType → Bool
 same_type a b = bits_of a == bits_of b
 
--- whether two lists of columns are the same: their names and their types
+-- whether two columns are the same: their names and their types
+abbrev pub same_column : ColumnShape → ColumnShape → Bool
+same_column c d = same_text c.name d.name && same_type c.column_type d.column_type
+
+-- whether two lists of columns are the same, column for column
 abbrev pub same_columns : List ColumnShape → List ColumnShape → Bool
 same_columns [] [] = true
 same_columns [] (d ∷ ds) = false
 same_columns (c ∷ cs) [] = false
-same_columns (c ∷ cs) (d ∷ ds) = (same_text c.name d.name && same_type c.column_type d.column_type) && same_columns cs ds
+same_columns (c ∷ cs) (d ∷ ds) = same_column c d && same_columns cs ds
 
 -- whether two schemas are the same
 unfoldable pub same_table : Table → Table → Bool

@@ -6,6 +6,9 @@ ghost use Rattle.table_model.specs.Identifier.{folded, same_text, is_word, is_wo
 
 use std::alloc::{AllocError, Global};
 
+/// How many bytes a word has at most, and so the name of a table or a column.
+pub const MAX_WORD: usize = 64;
+
 /// The words of the query language, which name no table and no column.
 const KEYWORDS: [&[u8]; 24] = [
     b"ALL",
@@ -56,7 +59,7 @@ pub fn is_word(text: &[u8]) -> bool
         None => false,
         Some((first, rest)) => first.is_ascii_alphabetic()
             && are_word_bytes(rest)
-            && rest.len() <= 63,
+            && rest.len() < MAX_WORD,
     }
 }
 

@@ -1,15 +1,17 @@
 //! Schemas: a table's name, and its columns with their types.
-ghost use Rattle.std.specs.Prelude.{◌≡◌, ◌<◌, ◌≤◌, ◌&&◌, map, length, slice_get, Some, IfOk, IsTrue};
-ghost use Rattle.std.specs.List.{list_all, list_any};
-ghost use Rattle.table_model.specs.Identifier.{same_text};
+ghost use Rattle.std.specs.Prelude.{◌≡◌, ◌<◌, ◌≤◌, map, length, slice_get, Some, IfOk, IsTrue};
+ghost use Rattle.std.specs.List.{list_all, list_any, zip};
 ghost use Rattle.table_model.specs.Outcome.{Gives};
-ghost use Rattle.table_model.specs.Table.{bits_of, is_in_range, schema_of, folded_table, column_of, name_of, is_named, has_name, is_schema, are_distinct, same_type, same_columns, same_table, IsTable};
+ghost use Rattle.table_model.specs.Table.{bits_of, is_in_range, schema_of, folded_table, column_of, name_of, is_named, has_name, is_schema, are_distinct, same_column, same_columns, same_table, IsTable};
 
 use crate::identifier::{folded_copy, is_identifier, same_text, same_word};
 use crate::refusal::Refusal;
 use std::alloc::{AllocError, Global};
 use std::fmt;
 use std::marker::Model;
+
+/// How many columns a table has at most.
+pub const MAX_COLUMNS: usize = 32;
 
 /// A column's type: signed, two's complement.
 #[derive(Clone, Copy, Debug, PartialEq, Eq)]
@@ -103,7 +105,7 @@ impl Column {
 
     /// Whether two columns have the same name and type.
     fn same(&self, other: &Column) -> bool
-        ensures { result ≡ (same_text self.now.name other.now.name && same_type self.now.column_type other.now.column_type) }
+        ensures { result ≡ same_column self.now other.now }
     {
         same_text(self.name.as_bytes(), other.name.as_bytes())
             && self.column_type.bits() == other.column_type.bits()
@@ -218,15 +220,14 @@ impl Schema {
 fn same_columns(a: &[Column], b: &[Column]) -> bool
     ensures { result ≡ same_columns a.now b.now }
 {
-    if a.len() != b.len() {
-        return false;
-    }
-    for i in 0..a.len() {
-        if !a[i].same(&b[i]) {
-            return false;
-        }
-    }
-    true
+    a.len() == b.len() && same_pairs(a, b)
+}
+
+/// Whether the columns at each place of two lists are the same, as far as both lists go.
+fn same_pairs(a: &[Column], b: &[Column]) -> bool
+    ensures { result ≡ list_all (λ pair. same_column pair.0 pair.1) (zip a.now b.now) }
+{
+    a.iter().zip(b).all(|(column, other)| column.same(other))
 }
 
 /// Columns with the same names and types.
@@ -258,7 +259,7 @@ fn is_schema(table: &str, columns: &[(&str, ColType)]) -> bool
 {
     is_identifier(table.as_bytes())
         && 1 <= columns.len()
-        && columns.len() <= 32
+        && columns.len() <= MAX_COLUMNS
         && are_identifiers(columns)
         && are_distinct(columns)
 }
