@@ -1,5 +1,5 @@
 -- Two places of a list that is split between them: a write at the one leaves the other.
-use Rattle.std.specs.Prelude.{◌≡◌, ◌≢◌, ◌⊎◌, ℕ, ◌+◌, ◌-◌, ◌<◌, Bool, true, false, cond, ◌==◌, List, [], ◌∷◌, ◌++◌, length, take, drop, slice_get, slice_set, Option, Some, None, Result, Ok, Err, IsOk}
+use Rattle.std.specs.Prelude.{◌≡◌, ◌≢◌, ◌⊎◌, ℕ, ◌+◌, ◌-◌, ◌<◌, Bool, true, false, cond, ◌==◌, List, [], ◌∷◌, ◌++◌, length, take, drop, slice_get, slice_set, Option, Some, None, Result, Ok, Err, IsOk, OnErr}
 use Rattle.std.proofs.Common.{refl, sym, ap, subst, ◌∙◌, arith, inl, inr, get_or}
 use Rattle.std.proofs.Math.Seq.{take-append_seam}
 use Rattle.std.proofs.lemmas.Bool.Decides.{nat_tests}
@@ -15,7 +15,7 @@ use Rattle.cluster_history.specs.Cluster.{ClusterParts, replicas_in, place_of, s
 use Rattle.cluster_history.specs.Message.{Carried}
 use Rattle.cluster_history.specs.declared.reply.Reply.{Reply}
 use Rattle.cluster_history.specs.declared.reply.Reply.TheVariants.{Done}
-use Rattle.cluster_history.proofs.Placed.{cluster_with, length-replicas_in}
+use Rattle.cluster_history.proofs.Placed.{cluster_with, same_store, length-replicas_in}
 
 abbrev unit : Unit {0} → Unit {0}
 unit u = u
@@ -46,11 +46,11 @@ merged_at stores after place from r other new (Err e) at at_from is acts = (
   ],
 )
 
-at_left : (front back : List Replica) (i : ℕ) (r : Replica) → i < length front → r ≡ get_or front i r → slice_get (front ++ back) i ≡ Some r
+pub at_left : {X : Type 0} (front back : List X) (i : ℕ) (r : X) → i < length front → r ≡ get_or front i r → slice_get (front ++ back) i ≡ Some r
 at_left front back i r below is =
     slice_get_read (front ++ back) (length (front ++ back)) i r refl (omega (arith, length-append front back)) (is ∙ sym (get_or_append_left front back r i below))
 
-at_seam : (front back : List Replica) (i : ℕ) (r : Replica) → length front ≡ i → 0 < length back → r ≡ get_or back 0 r → slice_get (front ++ back) i ≡ Some r
+pub at_seam : {X : Type 0} (front back : List X) (i : ℕ) (r : X) → length front ≡ i → 0 < length back → r ≡ get_or back 0 r → slice_get (front ++ back) i ≡ Some r
 at_seam front back i r is_len some is =
     let none : i - i ≡ 0 = omega arith in
     slice_get_read (front ++ back) (length (front ++ back)) i r refl (omega (arith, length-append front back)) (is ∙ ap (λ k. get_or back k r) (sym none) ∙ sym (get_or-append_right front back i i r is_len (omega arith)))
@@ -125,6 +125,16 @@ stored_back stores front back place from s other new result parts is_len before 
     (merged_back (replicas_in stores) (replicas_in front) (replicas_in back) place from s.replica other.replica new.replica result
     (ap replicas_in parts ∙ map-append front back) (length-replicas_in front ∙ is_len) before (omega (arith, within, length-replicas_in stores))
     (replica_at back 0 s (omega arith) held) (replica_at front from other (omega arith) lent) acts)
+
+-- a merge into the front that is refused leaves the stores
+pub front_left : (stores front back : List StoreForm) (place : ℕ) (s new : StoreForm) (result : Result (Unit {0}) Refusal) → stores ≡ front ++ back → s ≡ get_or front place s → OnErr result (new ≡ s) → OnErr result (slice_set front place new ++ back ≡ stores)
+front_left stores front back place s new (Ok u) parts held left = tt
+front_left stores front back place s new (Err e) parts held left = ap (λ (ss : List StoreForm). ss ++ back) (same_store front place s new held left) ∙ sym parts
+
+-- and so does one into the back
+pub back_left : (stores front back : List StoreForm) (place : ℕ) (s new : StoreForm) (result : Result (Unit {0}) Refusal) → stores ≡ front ++ back → s ≡ get_or back place s → OnErr result (new ≡ s) → OnErr result (front ++ slice_set back place new ≡ stores)
+back_left stores front back place s new (Ok u) parts held left = tt
+back_left stores front back place s new (Err e) parts held left = ap (λ (ss : List StoreForm). front ++ ss) (same_store back place s new held left) ∙ sym parts
 
 -- a list that is written over one of the same length
 pub refill : (n : ℕ) (xs ws : List StoreForm) → n ≡ length xs → length ws ≡ length xs → take n (ws ++ drop (length ws) xs) ≡ ws

@@ -1,5 +1,8 @@
 pub mod Apart
 pub mod Asked
+pub mod CodingLaws
+pub mod Codings
+pub mod Forms
 pub mod Histories
 pub mod Idle
 pub mod Messages

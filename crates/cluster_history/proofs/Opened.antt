@@ -10,7 +10,7 @@ use Rattle.table_model.specs.declared.refusal.Refusal.{Refusal}
 use Rattle.table_model.specs.declared.refusal.Refusal.TheVariants.{Memory, BadName}
 use Rattle.replica_store.specs.Replica.{Replica, merged}
 use Rattle.replica_store.specs.Segments.{StoreForm}
-use Rattle.replica_store.specs.Exchange.{offering}
+use Rattle.replica_store.specs.Exchange.{OfferForm, offering}
 use Rattle.column_file.specs.Files.{canonical_read, opened_from}
 use Rattle.cluster_history.specs.Cluster.{ClusterParts, place_of, placed, at_replica, done_reply, opening}
 use Rattle.cluster_history.specs.Message.{Carried}
@@ -26,6 +26,14 @@ same_ok r other e = cc
 
 same_err : (a b : Refusal) → ◌≡◌ {A = Result Replica Refusal} (Err a) (Err b) → a ≡ b
 same_err a b e = cc
+
+-- a file that was opened is read, and what it holds is the replica
+pub opened_held : (own : Origin) (file : List ℕ) (other : Replica) → 1 ≤ own.0 → opened_from own file ≡ Ok other → (held : OfferForm) × (canonical_read file ≡ Ok held) × (offering own held ≡ other)
+opened_held own file other some e =
+    elim (canonical_read file) as (λ read. canonical_read file ≡ read → (read >>= λ held. Ok (offering own held)) ≡ Ok other → (held : OfferForm) × (canonical_read file ≡ Ok held) × (offering own held ≡ other)) [
+      | Err fault ↦ λ is f. let bad : ◌≡◌ {A = Result Replica Refusal} (Err fault) (Ok other) = f in cc
+      | Ok held ↦ λ is f. (held, is, same_ok (offering own held) other f)
+    ] refl (sym (proper own file some) ∙ e)
 
 -- a file that was opened is merged
 pub opening_ok : (own : Origin) (file : List ℕ) (r other : Replica) → 1 ≤ own.0 → own ≡ r.own → opened_from own file ≡ Ok other → opening (canonical_read file) r ≡ merged r other

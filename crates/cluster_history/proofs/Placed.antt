@@ -68,8 +68,14 @@ call_done {X = X} reply c schema stores messages replica at call s new x view is
     subst Q view (λ is below. acts_done reply (cluster_with schema stores messages) replica at call s.replica new.replica x is (found stores at s (omega (arith, below, length-replicas_in stores)) held) done
     ∙ ap (λ (rs : List Replica). let made : Result (Reply × ClusterParts) Refusal = Ok (reply x, record { schema = schema; stores = rs; messages = messages }) in made) (sym (map-set (λ (y : StoreForm). y.replica) stores at new))) is below
 
-same_store : (stores : List StoreForm) (at : ℕ) (s new : StoreForm) → s ≡ get_or stores at s → new ≡ s → slice_set stores at new ≡ stores
+pub same_store : (stores : List StoreForm) (at : ℕ) (s new : StoreForm) → s ≡ get_or stores at s → new ≡ s → slice_set stores at new ≡ stores
 same_store stores at s new held same = ap (slice_set stores at) (same ∙ held) ∙ set-get_or stores at s
+
+-- a place within has a store
+pub store_there : (stores : List StoreForm) (at : ℕ) → at < length stores → (s : StoreForm) × (s ≡ get_or stores at s)
+store_there [] at below = absurd (omega arith)
+store_there (s ∷ stores) zero below = (s, refl)
+store_there (s ∷ stores) (suc at) below = store_there stores at (omega arith)
 
 -- a refused call leaves the cluster
 pub call_refused : {X : Type 0} (reply : X → Reply) (c : ClusterParts) (schema : Table) (stores : List StoreForm) (messages : List Carried) (replica at : ℕ) (call : Replica → Result (X × Replica) Refusal) (s new : StoreForm) (e : Refusal)

@@ -17,7 +17,7 @@ use Rattle.cluster_history.specs.Recoded.{RecodesAt}
 use Rattle.cluster_history.specs.declared.reply.Reply.{Reply}
 use Rattle.cluster_history.specs.declared.reply.Reply.TheVariants.{Done}
 use Rattle.cluster_history.proofs.Apart.{refill}
-use Rattle.cluster_history.proofs.Placed.{cluster_with, call_done, call_refused}
+use Rattle.cluster_history.proofs.Placed.{cluster_with, same_store, call_done, call_refused}
 
 abbrev unit : Unit {0} → Unit {0}
 unit u = u
@@ -38,6 +38,14 @@ refilled stores lent new n place made is is_len set =
 
 there_is : (stores lent : List StoreForm) (place : ℕ) (s : StoreForm) → lent ≡ stores → slice_get lent place ≡ Some s → s ≡ get_or stores place s
 there_is stores lent place s is held = sym (get_or_from_slice_get stores place s s (ap (λ (ss : List StoreForm). slice_get ss place) (sym is) ∙ held))
+
+-- a recode that is refused leaves the stores
+pub recode_left : (stores new : List StoreForm) (place : ℕ) (name : BatchName) (column vector : ℕ) (coding : Coding) (e : Refusal) → RecodesAt stores (Err e) new place name column vector coding → new ≡ stores
+recode_left stores new place name column vector coding e recodes =
+    let s : StoreForm = recodes.0 in
+    let made : StoreForm = recodes.1 in
+    let same : made ≡ s = λ i. record { replica = recodes.4.0 i; segments = recodes.5.0 i } in
+    recodes.3 ∙ same_store stores place s made (there_is stores stores place s refl recodes.2) same
 
 pub recode_done : (c : ClusterParts) (schema : Table) (stores lent new : List StoreForm) (messages : List Carried) (n replica place : ℕ) (name : BatchName) (column vector : ℕ) (coding : Coding) (u : Unit {0})
     → cluster_with schema stores messages ≡ c → lent ≡ stores → n ≡ length stores → Some place ≡ place_of (length c.stores) replica → place < length c.stores

@@ -29,7 +29,7 @@ pub record Takes (table : Table) (own : ℕ) (ops more : List Operation) (new : 
   pub same : new ≡ replica_of table own (more ++ ops)
   pub agree : AreAgreeing (more ++ ops)
 
-ok_parts : {X Y : Type 0} (a c : X) (b d : Y) → ◌≡◌ {A = Result (X × Y) Refusal} (Ok (a, b)) (Ok (c, d)) → (a ≡ c) × (b ≡ d)
+pub ok_parts : {X Y : Type 0} (a c : X) (b d : Y) → ◌≡◌ {A = Result (X × Y) Refusal} (Ok (a, b)) (Ok (c, d)) → (a ≡ c) × (b ≡ d)
 ok_parts {X = X} {Y = Y} a c b d e =
     let pairs : ◌≡◌ {A = X × Y} (a, b) (c, d) = cc in
     (ap (λ (p : X × Y). p.0) pairs, ap (λ (p : X × Y). p.1) pairs)

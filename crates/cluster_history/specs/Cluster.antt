@@ -25,9 +25,9 @@ pub record ClusterParts : Type 0 where
   pub stores : List Replica
   pub messages : List Carried
 
--- a cluster by its parts
-abbrev pub coded_cluster : Coded ClusterParts
-coded_cluster =
+-- a cluster's parts as a tuple
+abbrev pub coded_parts : Coded ClusterParts
+coded_parts =
     code_by (Table × (List Replica × List Carried)) (coded× coded_table (coded× (coded_list coded_replica) (coded_list coded_message))) (λ c. (c.schema, (c.stores, c.messages)))
     (λ p. record { schema = p.0; stores = p.1.0; messages = p.1.1 }) (λ _. refl)
 

@@ -6,6 +6,8 @@ use Rattle.replica_store.specs.declared.inserted.Inserted.TheVariants.{Already}
 use Rattle.cluster_history.specs.Cluster.{ClusterParts, numbered, step_of}
 use Rattle.cluster_history.specs.declared.reply.Reply.{Reply}
 use Rattle.cluster_history.specs.declared.reply.Reply.TheVariants.{Done, Refused, Put}
+use Rattle.cluster_history.specs.Codings.{SegmentsAfter}
+use Rattle.cluster_history.specs.Segments.{ClusterForm}
 use Rattle.script_lines.specs.declared.step.Step.{Step}
 use Rattle.script_lines.specs.declared.step.Step.TheVariants.{Insert, Delete, Merge, Take, Open, Query}
 
@@ -24,19 +26,31 @@ MayLack old (Merge replica other) made = IsOk made × (made ≢ Ok (Done, old))
 MayLack old (Take replica message) made = IsOk made × (made ≢ Ok (Done, old))
 MayLack old step made = IsOk made
 
--- a step is done, and that is what it makes; or it is refused, as it has to be or because memory lacked, and nothing changed
-abbrev pub ActsOn : ClusterParts → Step → Result Reply Refusal → ClusterParts → Type 0
-ActsOn old step (Ok reply) new = step_of old step ≡ Ok (reply, new)
-ActsOn old step (Err e) new = (new ≡ old) × ((step_of old step ≡ Err e) ⊎ ((e ≡ Memory) × MayLack old step (step_of old step)))
+-- a step is done, and that is what it makes, of the codings too; or it is refused, as it has to be or because memory lacked, and nothing changed, no coding either
+abbrev pub ActsOn : ClusterForm → Step → Result Reply Refusal → ClusterForm → Type 0
+ActsOn old step (Ok reply) new = (step_of old.parts step ≡ Ok (reply, new.parts)) × SegmentsAfter old step reply new.segments
+ActsOn old step (Err e) new = (new ≡ old) × ((step_of old.parts step ≡ Err e) ⊎ ((e ≡ Memory) × MayLack old.parts step (step_of old.parts step)))
+
+-- a step is done, and this is its reply; or the reply is its refusal, as it has to be or because memory lacked, and nothing changed, no coding either
+abbrev pub StepsTo : ClusterForm → Step → Reply → ClusterForm → Type 0
+StepsTo old step reply new = ActsOn old step (Ok reply) new ⊎ ((e : Refusal) × (reply ≡ Refused e) × ActsOn old step (Err e) new)
 
 -- the reply and the cluster after a step are what the step makes; or memory lacked, and nothing changed
 abbrev pub StepTo : ClusterParts → Step → Reply → ClusterParts → Type 0
 StepTo old step reply new =
     (answered (step_of old step) old ≡ (reply, new)) ⊎ ((reply ≡ Refused Memory) × (new ≡ old) × MayLack old step (step_of old step))
 
--- each step has its reply, and they lead from one cluster to another
+-- each step has its reply, and they lead from one cluster to another, where To tells what a step and its reply lead to
+abbrev pub Leads : {C : Type 0} → (C → Step → Reply → C → Type 0) → C → List Step → List Reply → C → Type 0
+Leads To old [] [] new = new ≡ old
+Leads To old [] (reply ∷ replies) new = ⊥
+Leads To old (step ∷ steps) [] new = ⊥
+Leads {C = C} To old (step ∷ steps) (reply ∷ replies) new = (mid : C) × To old step reply mid × Leads To mid steps replies new
+
+-- a run: steps and their replies, codings apart
 abbrev pub Run : ClusterParts → List Step → List Reply → ClusterParts → Type 0
-Run old [] [] new = new ≡ old
-Run old [] (reply ∷ replies) new = ⊥
-Run old (step ∷ steps) [] new = ⊥
-Run old (step ∷ steps) (reply ∷ replies) new = (mid : ClusterParts) × StepTo old step reply mid × Run mid steps replies new
+Run = Leads StepTo
+
+-- a run with the codings of what is held and sent
+abbrev pub CodedRun : ClusterForm → List Step → List Reply → ClusterForm → Type 0
+CodedRun = Leads StepsTo

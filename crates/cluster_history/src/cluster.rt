@@ -1,10 +1,12 @@
 //! Clusters: a table at replicas and the messages between them, both numbered from 1.
-ghost use Rattle.std.specs.Prelude.{◌≡◌, ◌≢◌, ◌<◌, ◌≤◌, ◌++◌, codes, length, IfSome, IfOk, IsOk, Ok};
+ghost use Rattle.std.specs.Prelude.{◌≡◌, ◌≢◌, ◌<◌, ◌≤◌, ◌++◌, codes, length, IfSome, IfOk, IfErr, IsOk, OnOk, OnErr, Some, None, Ok};
 ghost use Rattle.table_model.specs.Outcome.{Acts, Gives};
-ghost use Rattle.cluster_history.specs.Cluster.{new_cluster, new_replicas, replicas_in, empty_replica, place_of, with_message, append_step, ask_step, serve_step, recode_step, open_step, export_step, merged_in, message_limit};
+ghost use Rattle.cluster_history.specs.Cluster.{new_cluster, new_replicas, replicas_in, empty_replica, place_of, with_message, merged_in, message_limit};
 ghost use Rattle.cluster_history.specs.Message.{carried, messages_in};
 ghost use Rattle.cluster_history.specs.Recoded.{RecodesAt};
-ghost use Rattle.cluster_history.specs.Run.{ActsOn, StepTo};
+ghost use Rattle.cluster_history.specs.Run.{ActsOn, StepsTo};
+ghost use Rattle.cluster_history.specs.Segments.{brought_by, segments_in, segments_brought};
+ghost use Rattle.cluster_history.specs.Codings.{IsSent, MergesAt};
 
 use crate::files::{exported, opened};
 use crate::message::{Message, offer_at, summary_at};
@@ -21,7 +23,9 @@ use table_model::{BatchName, Origin, Refusal, Row, RowName, Schema};
 const MESSAGE_LIMIT: usize = 65_536;
 
 /// A table at replicas and the messages between them, both numbered from 1. Contracts see it as the schema, the list of replicas
-/// and the list of what the messages bring.
+/// and the list of what the messages bring, and beside that the segments in which the batches of both lie, with their codings.
+///
+/// A step that is refused leaves the cluster as it was, codings included.
 #[derive(Drop)]
 pub struct Cluster {
     schema: Schema,
@@ -30,14 +34,13 @@ pub struct Cluster {
 }
 
 impl Model for Cluster {
-    ghost use Rattle.cluster_history.specs.Cluster.{ClusterParts, coded_cluster, replicas_in};
-    ghost use Rattle.cluster_history.specs.Message.{messages_in};
+    ghost use Rattle.cluster_history.specs.Segments.{ClusterForm, coded_cluster, cluster_form};
 
-    ghost Value = { ClusterParts };
+    ghost Value = { ClusterForm };
 
     ghost coded = { coded_cluster };
 
-    ghost view = { λ c. record { schema = c.schema; stores = replicas_in c.stores.items; messages = messages_in c.messages.items } };
+    ghost view = { λ c. cluster_form c.schema c.stores.items c.messages.items };
 }
 
 impl Cluster {
@@ -46,7 +49,7 @@ impl Cluster {
     pub fn new(alloc: Global, schema: &Schema, replicas: usize) -> Result<Cluster, Refusal>
         requires some { 1 ≤ replicas }
         requires limit { replicas ≤ 64 }
-        ensures { Gives (λ cluster. cluster) result (Ok (new_cluster schema.now replicas)) }
+        ensures { Gives (λ cluster. cluster.parts) result (Ok (new_cluster schema.now replicas)) }
     {
         let stores = new_stores(alloc, schema, replicas)?;
         let schema = schema.copy(alloc)?;
@@ -59,40 +62,46 @@ impl Cluster {
 
     /// The table's schema.
     pub fn schema(&self) -> &Schema
-        ensures { result.now ≡ self.now.schema }
+        ensures { result.now ≡ self.now.parts.schema }
     {
         &self.schema
     }
 
     /// The replicas; number 1 stands first.
     pub fn stores(&self) -> &[Store]
-        ensures { replicas_in result.now ≡ self.now.stores }
+        ensures replicas { replicas_in result.now ≡ self.now.parts.stores }
+        ensures segments { segments_in result.now ≡ self.now.segments.stores }
     {
         self.stores.as_slice()
     }
 
     /// The messages; number 1 stands first.
     pub fn messages(&self) -> &[Message]
-        ensures { messages_in result.now ≡ self.now.messages }
+        ensures messages { messages_in result.now ≡ self.now.parts.messages }
+        ensures segments { segments_brought result.now ≡ self.now.segments.messages }
     {
         self.messages.as_slice()
     }
 
-    /// The place of the replica with this number.
-    fn place_of(&self, replica: u32) -> Option<usize>
-        ensures place { result ≡ place_of (length self.now.stores) replica }
-        ensures bound { IfSome result (λ place. place < length self.now.stores) }
+    /// The place of the replica with this number, or `NoSuchReplica`.
+    fn place(&self, replica: u32) -> Result<usize, Refusal>
+        ensures place { IfOk result (λ place. Some place ≡ place_of (length self.now.parts.stores) replica) }
+        ensures bound { IfOk result (λ place. place < length self.now.parts.stores) }
+        ensures missing { IfErr result (λ e. (e ≡ Refusal.NoSuchReplica) × (None ≡ place_of (length self.now.parts.stores) replica)) }
     {
-        place_of(self.stores.len(), replica)
+        match place_of(self.stores.len(), replica) {
+            Some(place) => Ok(place),
+            None => Err(Refusal::NoSuchReplica),
+        }
     }
 
     /// Appends the rows at a replica.
     fn append(&mut self, alloc: Global, replica: u32, rows: &[Row]) -> Result<Reply, Refusal>
-        ensures { Acts (λ reply. reply) self.old result self.new (append_step self.old replica rows.now) }
+        ensures { ActsOn self.old (Step.Append replica rows.now) result self.new }
     {
-        let Some(place) = self.place_of(replica) else {
-            return Err(Refusal::NoSuchReplica);
-        };
+        let place = self.place(replica)?;
+        // `parts` ensures that the batches are the rows of the segments, so that a new name is new to both.
+        let _parts = self.stores[place].parts();
         let name = self.stores[place].append(alloc, rows)?;
         Ok(Reply::Named(name))
     }
@@ -107,9 +116,9 @@ impl Cluster {
     ) -> Result<Reply, Refusal>
         ensures { ActsOn self.old (Step.Insert replica name rows.now) result self.new }
     {
-        let Some(place) = self.place_of(replica) else {
-            return Err(Refusal::NoSuchReplica);
-        };
+        let place = self.place(replica)?;
+        // `parts` ensures that the batches are the rows of the segments, so that a new name is new to both.
+        let _parts = self.stores[place].parts();
         let inserted = self.stores[place].insert(alloc, name, rows)?;
         Ok(Reply::Put(inserted))
     }
@@ -124,9 +133,7 @@ impl Cluster {
     ) -> Result<Reply, Refusal>
         ensures { ActsOn self.old (Step.Delete replica first last) result self.new }
     {
-        let Some(place) = self.place_of(replica) else {
-            return Err(Refusal::NoSuchReplica);
-        };
+        let place = self.place(replica)?;
         self.stores[place].delete(alloc, first, last)?;
         Ok(Reply::Done)
     }
@@ -135,12 +142,8 @@ impl Cluster {
     fn merge(&mut self, alloc: Global, replica: u32, other: u32) -> Result<Reply, Refusal>
         ensures { ActsOn self.old (Step.Merge replica other) result self.new }
     {
-        let Some(place) = self.place_of(replica) else {
-            return Err(Refusal::NoSuchReplica);
-        };
-        let Some(from) = self.place_of(other) else {
-            return Err(Refusal::NoSuchReplica);
-        };
+        let place = self.place(replica)?;
+        let from = self.place(other)?;
         if place == from {
             return Ok(Reply::Done);
         }
@@ -149,13 +152,10 @@ impl Cluster {
     }
 
     /// Makes a message of a replica's summary.
-    #[tactic(auto, unfolding(crate::specs::Cluster::ask_step))]
     fn ask(&mut self, alloc: Global, replica: u32) -> Result<Reply, Refusal>
-        ensures { Acts (λ reply. reply) self.old result self.new (ask_step self.old replica) }
+        ensures { ActsOn self.old (Step.Ask replica) result self.new }
     {
-        let Some(place) = self.place_of(replica) else {
-            return Err(Refusal::NoSuchReplica);
-        };
+        let place = self.place(replica)?;
         if self.messages.len() >= MESSAGE_LIMIT {
             return Err(Refusal::Full);
         }
@@ -164,13 +164,10 @@ impl Cluster {
     }
 
     /// Makes a message of a replica's offer to the summary that a message is.
-    #[tactic(auto, unfolding(crate::specs::Cluster::serve_step))]
     fn serve(&mut self, alloc: Global, replica: u32, message: u32) -> Result<Reply, Refusal>
-        ensures { Acts (λ reply. reply) self.old result self.new (serve_step self.old replica message) }
+        ensures { ActsOn self.old (Step.Serve replica message) result self.new }
     {
-        let Some(place) = self.place_of(replica) else {
-            return Err(Refusal::NoSuchReplica);
-        };
+        let place = self.place(replica)?;
         let Some(summary) = summary_at(self.messages.as_slice(), message) else {
             return Err(Refusal::NoSuchMessage);
         };
@@ -183,8 +180,10 @@ impl Cluster {
 
     /// Keeps one more message; the reply is its number.
     fn send(&mut self, message: Message) -> Result<Reply, Refusal>
-        requires room { length self.old.messages < message_limit }
-        ensures { Acts (λ reply. reply) self.old result self.new (Ok (with_message self.old (carried message))) }
+        requires room { length self.old.parts.messages < message_limit }
+        ensures acts { Acts (λ reply. reply) self.old.parts result self.new.parts (Ok (with_message self.old.parts (carried message))) }
+        ensures segments { OnOk result (IsSent self.old.segments (brought_by message) self.new.segments) }
+        ensures refused { OnErr result (self.new ≡ self.old) }
     {
         let number = self.messages.len() as u32 + 1;
         self.messages.push(message)?;
@@ -195,9 +194,7 @@ impl Cluster {
     fn take(&mut self, alloc: Global, replica: u32, message: u32) -> Result<Reply, Refusal>
         ensures { ActsOn self.old (Step.Take replica message) result self.new }
     {
-        let Some(place) = self.place_of(replica) else {
-            return Err(Refusal::NoSuchReplica);
-        };
+        let place = self.place(replica)?;
         let Some(offer) = offer_at(self.messages.as_slice(), message) else {
             return Err(Refusal::NoSuchMessage);
         };
@@ -215,11 +212,9 @@ impl Cluster {
         vector: u32,
         coding: Coding,
     ) -> Result<Reply, Refusal>
-        ensures { Acts (λ reply. reply) self.old result self.new (recode_step self.old replica name column vector) }
+        ensures { ActsOn self.old (Step.Recode replica name column vector coding) result self.new }
     {
-        let Some(place) = self.place_of(replica) else {
-            return Err(Refusal::NoSuchReplica);
-        };
+        let place = self.place(replica)?;
         recode_at(
             alloc,
             self.stores.as_mut_slice(),
@@ -236,22 +231,17 @@ impl Cluster {
     fn open(&mut self, alloc: Global, replica: u32, file: &[u8]) -> Result<Reply, Refusal>
         ensures { ActsOn self.old (Step.Open replica file.now) result self.new }
     {
-        let Some(place) = self.place_of(replica) else {
-            return Err(Refusal::NoSuchReplica);
-        };
+        let place = self.place(replica)?;
         let opened = opened(alloc, file, self.stores[place].own())?;
         self.stores[place].merge(alloc, &opened)?;
         Ok(Reply::Done)
     }
 
     /// The canonical file of a replica.
-    #[tactic(auto, unfolding(crate::specs::Cluster::export_step))]
     fn export(&self, alloc: Global, replica: u32) -> Result<Reply, Refusal>
-        ensures { Gives (λ reply. (reply, self.now)) result (export_step self.now replica) }
+        ensures { ActsOn self.now (Step.Export replica) result self.now }
     {
-        let Some(place) = self.place_of(replica) else {
-            return Err(Refusal::NoSuchReplica);
-        };
+        let place = self.place(replica)?;
         let file = exported(alloc, &self.stores[place])?;
         Ok(Reply::File(file))
     }
@@ -260,9 +250,7 @@ impl Cluster {
     fn query(&self, alloc: Global, replica: u32, sql: &str) -> Result<Reply, Refusal>
         ensures { ActsOn self.now (Step.Query replica sql.now) result self.now }
     {
-        let Some(place) = self.place_of(replica) else {
-            return Err(Refusal::NoSuchReplica);
-        };
+        let place = self.place(replica)?;
         let answer = ask(alloc, &self.stores[place], sql)?;
         Ok(Reply::Answered(answer))
     }
@@ -303,7 +291,7 @@ impl Cluster {
 
     /// The reply to a step; a refusal is a reply too.
     pub fn step(&mut self, alloc: Global, step: &Step) -> Reply
-        ensures { StepTo self.old step.now result self.new }
+        ensures { StepsTo self.old step.now result self.new }
     {
         match self.act(alloc, step) {
             Ok(reply) => reply,
@@ -357,6 +345,8 @@ fn merge_apart(
     requires apart { place ≢ from }
     ensures acts { Acts (λ done. done) (replicas_in stores.old) result (replicas_in stores.new) (merged_in (replicas_in stores.old) place from) }
     ensures idle { merged_in (replicas_in stores.old) place from ≡ Ok (tt, replicas_in stores.old) → IsOk result }
+    ensures segments { OnOk result (MergesAt stores.old place from stores.new) }
+    ensures refused { OnErr result (stores.new ≡ stores.old) }
     ensures count { length stores.new ≡ length stores.old }
 {
     if place < from {

@@ -1,7 +1,7 @@
 //! Canonical files of replicas, in memory.
 ghost use Rattle.std.specs.Prelude.{◌≡◌, ◌≤◌, ◌⊎◌, Ok, Err, IfOk, IfErr};
 ghost use Rattle.table_model.specs.Outcome.{Gives};
-ghost use Rattle.column_file.specs.Files.{canonical_file, opened_from};
+ghost use Rattle.column_file.specs.Files.{AreCanonicalOf, canonical_file, opened_from};
 
 use column_file::{export, open};
 use replica_store::Store;
@@ -24,6 +24,7 @@ pub fn exported(alloc: Global, store: &Store) -> Result<FileBytes, Refusal>
 /// fails is a want of memory too.
 pub fn opened(alloc: Global, file: &[u8], own: Origin) -> Result<Store, Refusal>
     ensures made { IfOk result (λ store. opened_from own file.now ≡ Ok store.replica) }
+    ensures segments { IfOk result (λ store. AreCanonicalOf store.replica.schema store.replica.state.batches store.segments) }
     ensures refused { IfErr result (λ e. (opened_from own file.now ≡ Err e) ⊎ (e ≡ Refusal.Memory)) }
 {
     let mut reader = Counted::new(file);

@@ -1,4 +1,5 @@
 //! Laws of histories, each the contract of a function that does nothing.
+ghost use Rattle.cluster_history.specs.Codings.{CodingsStay};
 ghost use Rattle.cluster_history.specs.History.{HistoryLaws};
 
 /// What replicas take decides what they are, in whatever order and however often it came.
@@ -11,4 +12,10 @@ ghost use Rattle.cluster_history.specs.History.{HistoryLaws};
 /// reads alike: so in any two histories.
 pub fn history_laws()
     ensures { HistoryLaws }
+{}
+
+/// No step but a recode changes a coding: after any other that is answered, each batch that a replica held and that a message
+/// brought lies in the segment that it lay in. A step that is refused changes nothing at all.
+pub fn codings_stay()
+    ensures { CodingsStay }
 {}

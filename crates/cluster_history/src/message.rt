@@ -1,7 +1,8 @@
 //! Messages between the replicas of a cluster.
-ghost use Rattle.std.specs.Prelude.{◌≡◌, option_map};
+ghost use Rattle.std.specs.Prelude.{◌≡◌, IfSome, Some, option_map};
 ghost use Rattle.cluster_history.specs.Cluster.{numbered};
 ghost use Rattle.cluster_history.specs.Message.{messages_in, listing_in, offering_in};
+ghost use Rattle.cluster_history.specs.Segments.{segments_brought};
 
 use crate::cluster::place_of;
 use replica_store::{Offer, Summary};
@@ -29,7 +30,8 @@ pub fn summary_at(messages: &[Message], number: u32) -> Option<&Summary>
 
 /// The offer that the message with this number is, if it is one.
 pub fn offer_at(messages: &[Message], number: u32) -> Option<&Offer>
-    ensures { option_map (λ offer. (offer.now.schema, offer.now.state)) result ≡ offering_in (numbered (messages_in messages.now) number) }
+    ensures offer { option_map (λ offer. (offer.now.schema, offer.now.state)) result ≡ offering_in (numbered (messages_in messages.now) number) }
+    ensures segments { IfSome result (λ offer. numbered (segments_brought messages.now) number ≡ Some offer.now.segments) }
 {
     let place = place_of(messages.len(), number)?;
     match &messages[place] {

@@ -1,6 +1,6 @@
 //! Runs: the steps of a history, one after another.
 ghost use Rattle.std.specs.Prelude.{◌≡◌, IfOk, OnErr};
-ghost use Rattle.cluster_history.specs.Run.{Run};
+ghost use Rattle.cluster_history.specs.Run.{Run, CodedRun};
 
 use crate::cluster::Cluster;
 use crate::reply::Reply;
@@ -12,7 +12,8 @@ use std::alloc::{AllocError, Global};
 /// A refusal is a reply too, want of memory among them, and its step changes nothing. An error is answered only where the
 /// list of replies couldn't be made, and then no step is done.
 pub fn run(alloc: Global, cluster: &mut Cluster, steps: &[Step]) -> Result<Vec<Reply>, AllocError>
-    ensures run { IfOk result (λ replies. Run cluster.old steps.now replies.items cluster.new) }
+    ensures run { IfOk result (λ replies. Run cluster.old.parts steps.now replies.items cluster.new.parts) }
+    ensures coded { IfOk result (λ replies. CodedRun cluster.old steps.now replies.items cluster.new) }
     ensures err { OnErr result (cluster.new ≡ cluster.old) }
 {
     let mut replies = Vec::with_capacity(alloc, steps.len())?;

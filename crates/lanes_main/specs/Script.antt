@@ -1,9 +1,10 @@
 -- The text of a script: the reply to each line that isn't empty, in order.
-use Rattle.std.specs.Prelude.{ℕ, ◌+◌, ◌-◌, cond, nat_lt, List, [], ◌∷◌, ◌++◌, length, take, Option, Some, None, Result, Ok, Err}
+use Rattle.std.specs.Prelude.{ℕ, ◌+◌, ◌-◌, cond, nat_lt, List, [], ◌∷◌, ◌++◌, length, take, Option, Some, None, option_map, Result, Ok, Err}
 use Rattle.table_model.specs.Table.{Table, schema_of}
 use Rattle.table_model.specs.declared.refusal.Refusal.{Refusal}
 use Rattle.table_model.specs.declared.refusal.Refusal.TheVariants.{BadLine, LineTooLong}
 use Rattle.cluster_history.specs.Cluster.{ClusterParts, new_cluster, step_of}
+use Rattle.cluster_history.specs.Segments.{ClusterForm}
 use Rattle.script_lines.specs.Line.{command_of}
 use Rattle.lanes_main.specs.ReplyText.{reply_text_of}
 use Rattle.cluster_history.specs.Run.{answered}
@@ -17,6 +18,10 @@ use Rattle.cluster_history.specs.declared.reply.Reply.TheVariants.{Done, Refused
 -- how many bytes a line may have, without its line feed
 abbrev pub line_limit : ℕ
 line_limit = 1048576
+
+-- the parts of the cluster, if there is one: no reply tells a coding
+abbrev pub parts_in : Option ClusterForm → Option ClusterParts
+parts_in cluster = option_map (λ c. c.parts) cluster
 
 -- a table's line makes the cluster, or is refused as BadSchema
 abbrev pub founded : TableWords → Result Table Refusal → Reply × Option ClusterParts

@@ -2,6 +2,7 @@
 ghost use Rattle.std.specs.Prelude.{◌≡◌, ◌⊎◌, ◌<◌, ◌≤◌, [], length, Option, List, ℕ, MatchResult, IfOk, IfErr, OnOk, OnErr};
 ghost use Rattle.std.specs.Io.KnownBytes.{Appends, Consumes, IsAtEnd, Keeps};
 ghost use Rattle.table_model.specs.Faults.{AppendsFront, IsWithin, GaveMore, Failed};
+ghost use Rattle.lanes_main.specs.Script.{parts_in};
 ghost use Rattle.lanes_main.specs.Told.{Sofar, ToldFront, ToldAll, Reached, GoesOn, EndsEarly, StaysTold};
 
 use crate::session::Session;
@@ -26,12 +27,12 @@ fn round<R: Read, W: Write, N: Write>(
 ) -> Result<usize, Refusal>
     requires { 0 < length buffer.old }
     ensures told { IfOk result (λ n. GoesOn (R.remaining reader.old.0) (R.remaining reader.new.0) (W.contents writer.old.0) (W.contents writer.new.0)
-        session.old.cluster session.old.line session.new.cluster session.new.line n) }
+        (parts_in session.old.cluster) session.old.line (parts_in session.new.cluster) session.new.line n) }
     ensures bound { IfOk result (λ n. n ≤ length buffer.old) }
     ensures end { IfOk result (λ n. n ≡ 0 → IsAtEnd (R.remaining reader.new.0)) }
-    ensures early { OnErr result (EndsEarly (R.remaining reader.old.0) (W.contents writer.old.0) (W.contents writer.new.0) session.old.cluster session.old.line) }
+    ensures early { OnErr result (EndsEarly (R.remaining reader.old.0) (W.contents writer.old.0) (W.contents writer.new.0) (parts_in session.old.cluster) session.old.line) }
     ensures reached { IfErr result (λ e. e ≡ Refusal.ReadFault → StaysTold (R.remaining reader.old.0) (R.remaining reader.new.0) (W.contents writer.old.0) (W.contents writer.new.0)
-        session.old.cluster session.old.line) }
+        (parts_in session.old.cluster) session.old.line) }
     ensures kept { OnOk result ((reader.new.1 ≡ reader.old.1) × (writer.new.1 ≡ writer.old.1)) }
     ensures fault { IfErr result (λ e. Failed ⊥ e reader.old.1 reader.new.1 writer.old.1 writer.new.1) }
 {
@@ -59,7 +60,7 @@ fn rounds<R: Read, W: Write, N: Write>(
     ensures end { OnOk result (IsAtEnd (R.remaining reader.new.0)) }
     ensures within { OnOk result (IsWithin (R.remaining reader.old.0)) }
     ensures told { IfOk result (λ session. (total : ℕ) × Sofar (R.remaining reader.old.0) (R.remaining reader.new.0) (W.contents writer.old.0) (W.contents writer.new.0)
-        session.cluster session.line total) }
+        (parts_in session.cluster) session.line total) }
     ensures early { OnErr result (ToldFront (R.remaining reader.old.0) (W.contents writer.old.0) (W.contents writer.new.0)) }
     ensures reached { IfErr result (λ e. e ≡ Refusal.ReadFault → Reached (R.remaining reader.old.0) (R.remaining reader.new.0) (W.contents writer.old.0) (W.contents writer.new.0)) }
     ensures kept { OnOk result ((reader.new.1 ≡ reader.old.1) × (writer.new.1 ≡ writer.old.1)) }

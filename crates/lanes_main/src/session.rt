@@ -5,7 +5,7 @@ ghost use Rattle.script_lines.specs.Line.{command_of};
 ghost use Rattle.cluster_history.specs.Run.{answered};
 ghost use Rattle.cluster_history.specs.Cluster.{step_of};
 ghost use Rattle.script_lines.specs.Word.{cut};
-ghost use Rattle.lanes_main.specs.Script.{founded, first_answer, later_answer, line_answer, line_text, after_line, text_from, grown};
+ghost use Rattle.lanes_main.specs.Script.{parts_in, founded, first_answer, later_answer, line_answer, line_text, after_line, text_from, grown};
 
 use crate::line_part::{LINE_LIMIT, LinePart};
 use crate::notes::Notes;
@@ -40,8 +40,8 @@ impl Session {
 
     /// Answers each line that the chunk ends, and keeps what follows the last of them.
     pub fn feed(&mut self, alloc: Global, out: &mut Vec<u8>, chunk: &[u8]) -> Result<(), Refusal>
-        ensures ok { OnOk result ((more : List ℕ) → out.old.items ++ text_from self.old.cluster self.old.line (chunk.now ++ more)
-            ≡ out.new.items ++ text_from self.new.cluster self.new.line more) }
+        ensures ok { OnOk result ((more : List ℕ) → out.old.items ++ text_from (parts_in self.old.cluster) self.old.line (chunk.now ++ more)
+            ≡ out.new.items ++ text_from (parts_in self.new.cluster) self.new.line more) }
         ensures memory { IfErr result (λ e. e ≡ Refusal.Memory) }
     {
         let mut left = chunk;
@@ -55,8 +55,8 @@ impl Session {
 
     /// Answers the line that the part that was read last and the piece make together.
     fn end_line(&mut self, alloc: Global, out: &mut Vec<u8>, piece: &[u8]) -> Result<(), Refusal>
-        ensures text { OnOk result (out.new.items ≡ out.old.items ++ line_text self.old.cluster (grown self.old.line piece.now)) }
-        ensures after { OnOk result (self.new.cluster ≡ after_line self.old.cluster (grown self.old.line piece.now)) }
+        ensures text { OnOk result (out.new.items ≡ out.old.items ++ line_text (parts_in self.old.cluster) (grown self.old.line piece.now)) }
+        ensures after { OnOk result (parts_in self.new.cluster ≡ after_line (parts_in self.old.cluster) (grown self.old.line piece.now)) }
         ensures line { OnOk result (self.new.line ≡ []) }
         ensures memory { IfErr result (λ e. e ≡ Refusal.Memory) }
     {
@@ -69,7 +69,7 @@ impl Session {
 
     /// Answers the last line, which no line feed ends.
     pub fn finish(&mut self, alloc: Global, out: &mut Vec<u8>) -> Result<(), Refusal>
-        ensures ok { OnOk result (out.new.items ≡ out.old.items ++ text_from self.old.cluster self.old.line []) }
+        ensures ok { OnOk result (out.new.items ≡ out.old.items ++ text_from (parts_in self.old.cluster) self.old.line []) }
         ensures memory { IfErr result (λ e. e ≡ Refusal.Memory) }
     {
         let line = self.line.as_slice();
@@ -111,7 +111,7 @@ fn command<'a>(alloc: Global, line: &'a [u8]) -> Result<Option<Command<'a>>, Ref
 
 /// The reply to a line that makes a table, and the cluster that it made.
 fn found(alloc: Global, table: &TableCommand<'_>) -> Result<(Reply, Option<Cluster>), Refusal>
-    ensures ok { IfOk result (λ made. founded table.now (schema_of table.now.table table.now.columns) ≡ (made.0, made.1)) }
+    ensures ok { IfOk result (λ made. founded table.now (schema_of table.now.table table.now.columns) ≡ (made.0, parts_in made.1)) }
     ensures memory { IfErr result (λ e. e ≡ Refusal.Memory) }
 {
     match Schema::new(alloc, table.table(), table.columns()) {
@@ -128,7 +128,7 @@ fn found(alloc: Global, table: &TableCommand<'_>) -> Result<(Reply, Option<Clust
 
 /// The reply to a line while there is no table, and the cluster that it made.
 fn first_reply(alloc: Global, line: &[u8]) -> Result<(Reply, Option<Cluster>), Refusal>
-    ensures ok { IfOk result (λ made. first_answer (command_of line.now) ≡ (made.0, made.1)) }
+    ensures ok { IfOk result (λ made. first_answer (command_of line.now) ≡ (made.0, parts_in made.1)) }
     ensures memory { IfErr result (λ e. e ≡ Refusal.Memory) }
 {
     match command(alloc, line)? {
@@ -140,7 +140,7 @@ fn first_reply(alloc: Global, line: &[u8]) -> Result<(Reply, Option<Cluster>), R
 
 /// The reply to a step, unless memory lacked.
 fn act(alloc: Global, cluster: &mut Cluster, step: &Step) -> Result<Reply, Refusal>
-    ensures ok { IfOk result (λ reply. answered (step_of cluster.old step.now) cluster.old ≡ (reply, cluster.new)) }
+    ensures ok { IfOk result (λ reply. answered (step_of cluster.old.parts step.now) cluster.old.parts ≡ (reply, cluster.new.parts)) }
     ensures memory { IfErr result (λ e. e ≡ Refusal.Memory) }
 {
     match cluster.act(alloc, step) {
@@ -151,7 +151,7 @@ fn act(alloc: Global, cluster: &mut Cluster, step: &Step) -> Result<Reply, Refus
 
 /// The reply to a line once there is a table.
 fn later_reply(alloc: Global, cluster: &mut Cluster, line: &[u8]) -> Result<Reply, Refusal>
-    ensures ok { IfOk result (λ reply. later_answer cluster.old (command_of line.now) ≡ (reply, Some cluster.new)) }
+    ensures ok { IfOk result (λ reply. later_answer cluster.old.parts (command_of line.now) ≡ (reply, Some cluster.new.parts)) }
     ensures memory { IfErr result (λ e. e ≡ Refusal.Memory) }
 {
     match command(alloc, line)? {
@@ -164,7 +164,7 @@ fn later_reply(alloc: Global, cluster: &mut Cluster, line: &[u8]) -> Result<Repl
 /// The reply to a line that isn't empty.
 #[tactic(auto, unfolding(crate::specs::Script::line_answer))]
 fn line_reply(alloc: Global, cluster: &mut Option<Cluster>, line: &[u8]) -> Result<Reply, Refusal>
-    ensures ok { IfOk result (λ reply. line_answer cluster.old line.now ≡ (reply, cluster.new)) }
+    ensures ok { IfOk result (λ reply. line_answer (parts_in cluster.old) line.now ≡ (reply, parts_in cluster.new)) }
     ensures memory { IfErr result (λ e. e ≡ Refusal.Memory) }
 {
     if line.len() > LINE_LIMIT {
@@ -189,8 +189,8 @@ fn answer_line(
     out: &mut Vec<u8>,
     line: &[u8],
 ) -> Result<(), Refusal>
-    ensures text { OnOk result (out.new.items ≡ out.old.items ++ line_text cluster.old line.now) }
-    ensures after { OnOk result (cluster.new ≡ after_line cluster.old line.now) }
+    ensures text { OnOk result (out.new.items ≡ out.old.items ++ line_text (parts_in cluster.old) line.now) }
+    ensures after { OnOk result (parts_in cluster.new ≡ after_line (parts_in cluster.old) line.now) }
     ensures memory { IfErr result (λ e. e ≡ Refusal.Memory) }
 {
     notes.next_line();

@@ -1,6 +1,7 @@
 use Rattle.std.proofs.Common.{◌∙◌, ◌+◌, arith, inr, refl, sym, subst, List, ℕ, None}
 use Rattle.std.proofs.lemmas.Result.{err_from_is_err_and}
 use Rattle.table_model.specs.Faults.{GaveMore}
+use Rattle.lanes_main.specs.Script.{parts_in}
 use Rattle.lanes_main.specs.Told.{Sofar}
 use Rattle.lanes_main.proofs.Tellings.{told_start, told_front, told_reached, gave_within, gave_more, failed_since}
 use Rattle.lanes_main.proofs.interpreter.rounds.Goals as goal
@@ -14,7 +15,7 @@ pub returns-in_err-count-clause-reached : goal.returns-in_err-count-clause-reach
 returns-in_err-count-clause-reached g c =
     let p = err_from_is_err_and c.from_residual.result c.from_residual.ensures.1 in
     rw (p.1, p.2) (λ is.
-    told_reached (g.R.Read.remaining c.args.reader.now.0) (g.R.Read.remaining c.round.new.reader.0) (g.W.Write.contents c.args.writer.now.0) (g.W.Write.contents c.round.new.writer.0) c.loop-turn.session.cluster c.loop-turn.session.line c.loop-turn.total
+    told_reached (g.R.Read.remaining c.args.reader.now.0) (g.R.Read.remaining c.round.new.reader.0) (g.W.Write.contents c.args.writer.now.0) (g.W.Write.contents c.round.new.writer.0) (parts_in c.loop-turn.session.cluster) c.loop-turn.session.line c.loop-turn.total
     (c.in_err-count.ensures.reached is (g.R.Read.remaining c.args.reader.now.0) (g.W.Write.contents c.args.writer.now.0) c.loop-turn.total c.loop-turn.invariant.told))
 
 pub returns-in_err-count-clause-fault : goal.returns-in_err-count-clause-fault
@@ -29,7 +30,7 @@ returns-then-count-eq0-clause-told g c =
 
 pub returns-then-count-eq0-clause-within : goal.returns-then-count-eq0-clause-within
 returns-then-count-eq0-clause-within g c =
-    gave_within (g.R.Read.remaining c.args.reader.now.0) (g.R.Read.remaining c.round.new.reader.0) (g.W.Write.contents c.args.writer.now.0) (g.W.Write.contents c.round.new.writer.0) c.round.new.session.cluster c.round.new.session.line (c.loop-turn.total + c.in_ok-count.count)
+    gave_within (g.R.Read.remaining c.args.reader.now.0) (g.R.Read.remaining c.round.new.reader.0) (g.W.Write.contents c.args.writer.now.0) (g.W.Write.contents c.round.new.writer.0) (parts_in c.round.new.session.cluster) c.round.new.session.line (c.loop-turn.total + c.in_ok-count.count)
     (c.in_ok-count.ensures.told (g.R.Read.remaining c.args.reader.now.0) (g.W.Write.contents c.args.writer.now.0) c.loop-turn.total c.loop-turn.invariant.told)
     (c.in_ok-count.ensures.end (omega arith)) (omega (arith, c.loop-turn.invariant.limit))
 
@@ -50,18 +51,18 @@ loop-turn-preserved g c = record {
 
 pub returns-then-total-gt-READ_LIMIT-clause-early : goal.returns-then-total-gt-READ_LIMIT-clause-early
 returns-then-total-gt-READ_LIMIT-clause-early g c =
-    told_front (g.R.Read.remaining c.args.reader.now.0) (g.R.Read.remaining c.round.new.reader.0) (g.W.Write.contents c.args.writer.now.0) (g.W.Write.contents c.round.new.writer.0) c.round.new.session.cluster c.round.new.session.line (c.loop-turn.total + c.in_ok-count.count)
+    told_front (g.R.Read.remaining c.args.reader.now.0) (g.R.Read.remaining c.round.new.reader.0) (g.W.Write.contents c.args.writer.now.0) (g.W.Write.contents c.round.new.writer.0) (parts_in c.round.new.session.cluster) c.round.new.session.line (c.loop-turn.total + c.in_ok-count.count)
     (c.in_ok-count.ensures.told (g.R.Read.remaining c.args.reader.now.0) (g.W.Write.contents c.args.writer.now.0) c.loop-turn.total c.loop-turn.invariant.told)
 
 pub returns-then-total-gt-READ_LIMIT-clause-reached : goal.returns-then-total-gt-READ_LIMIT-clause-reached
 returns-then-total-gt-READ_LIMIT-clause-reached g c = λ is.
-    told_reached (g.R.Read.remaining c.args.reader.now.0) (g.R.Read.remaining c.round.new.reader.0) (g.W.Write.contents c.args.writer.now.0) (g.W.Write.contents c.round.new.writer.0) c.round.new.session.cluster c.round.new.session.line (c.loop-turn.total + c.in_ok-count.count)
+    told_reached (g.R.Read.remaining c.args.reader.now.0) (g.R.Read.remaining c.round.new.reader.0) (g.W.Write.contents c.args.writer.now.0) (g.W.Write.contents c.round.new.writer.0) (parts_in c.round.new.session.cluster) c.round.new.session.line (c.loop-turn.total + c.in_ok-count.count)
     (c.in_ok-count.ensures.told (g.R.Read.remaining c.args.reader.now.0) (g.W.Write.contents c.args.writer.now.0) c.loop-turn.total c.loop-turn.invariant.told)
 
 pub returns-then-total-gt-READ_LIMIT-clause-fault : goal.returns-then-total-gt-READ_LIMIT-clause-fault
 returns-then-total-gt-READ_LIMIT-clause-fault g c = (
   inr (
-    gave_more (g.R.Read.remaining c.args.reader.now.0) (g.R.Read.remaining c.round.new.reader.0) (g.W.Write.contents c.args.writer.now.0) (g.W.Write.contents c.round.new.writer.0) c.round.new.session.cluster c.round.new.session.line (c.loop-turn.total + c.in_ok-count.count)
+    gave_more (g.R.Read.remaining c.args.reader.now.0) (g.R.Read.remaining c.round.new.reader.0) (g.W.Write.contents c.args.writer.now.0) (g.W.Write.contents c.round.new.writer.0) (parts_in c.round.new.session.cluster) c.round.new.session.line (c.loop-turn.total + c.in_ok-count.count)
         (c.in_ok-count.ensures.told (g.R.Read.remaining c.args.reader.now.0) (g.W.Write.contents c.args.writer.now.0) c.loop-turn.total c.loop-turn.invariant.told) (omega arith),
     c.in_ok-count.ensures.kept.0 ∙ c.loop-turn.invariant.reader,
   ),
