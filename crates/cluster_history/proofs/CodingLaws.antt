@@ -6,16 +6,15 @@ use Rattle.std.proofs.Common.{refl, sym, ap, subst, ◌∙◌, inl, inr, get_or,
 use Rattle.std.proofs.lemmas.Bool.{cases_eq}
 use Rattle.std.proofs.lemmas.Option.{slice_get_within, slice_get_read, get_or_from_slice_get}
 use Rattle.std.proofs.lemmas.List.{get_or_append_left, length-append}
+use Rattle.table_model.specs.State.{union_of}
 use Rattle.table_model.specs.Name.{name_cmp}
 use Rattle.table_model.specs.declared.names.BatchName.{BatchName}
-use Rattle.table_model.proofs.Joins.{or_else}
+use Rattle.table_model.proofs.Joins.{or_else, get-union}
 use Rattle.table_model.proofs.NameOrder.{names_total}
 use Rattle.table_model.proofs.Operations.{same_name}
 use Rattle.segment_core.proofs.PutLemmas.{slice_get-set_same, slice_get-set_other}
 use Rattle.segment_core.specs.Segment.{SegmentForm}
 use Rattle.segment_core.specs.declared.coding.Coding.{Coding}
-use Rattle.replica_store.specs.Segments.{union_in}
-use Rattle.replica_store.proofs.Unions.{get-union_in}
 use Rattle.cluster_history.specs.Cluster.{place_of, numbered}
 use Rattle.cluster_history.specs.Codings.{Become, IsPut, AreJoined, IsSent, SegmentsAfter, StayIn, CodingsStay}
 use Rattle.cluster_history.specs.Segments.{Segments, ClusterSegments, ClusterForm}
@@ -37,12 +36,12 @@ stay_more xs x at held has =
 
 stay_set : (xs : List Segments) (at : ℕ) (held made : Segments) → slice_get xs at ≡ Some held → Keeps held made → StayIn xs (slice_set xs at made)
 stay_set xs at held made here keeps k kept has = elim (cases_eq k at) [
-      | inl same ↦
-          (let one : Some kept ≡ Some held = sym has ∙ ap (slice_get xs) same ∙ here in
-          let is : kept ≡ held = cc in
-          (made, ap (slice_get (slice_set xs at made)) same ∙ slice_get-set_same xs at made (slice_get_within xs at held here), λ name s e. keeps name s (ap (λ (m : Segments). finite.get m name) (sym is) ∙ e)))
-      | inr other ↦ (kept, slice_get-set_other xs at k made other ∙ has, λ name s e. e)
-    ]
+  | inl same ↦
+      (let one : Some kept ≡ Some held = sym has ∙ ap (slice_get xs) same ∙ here in
+      let is : kept ≡ held = cc in
+      (made, ap (slice_get (slice_set xs at made)) same ∙ slice_get-set_same xs at made (slice_get_within xs at held here), λ name s e. keeps name s (ap (λ (m : Segments). finite.get m name) (sym is) ∙ e)))
+  | inr other ↦ (kept, slice_get-set_other xs at k made other ∙ has, λ name s e. e)
+]
 
 -- a replica's segments became others that have all of theirs
 stay_become : (old : ClusterSegments) (replica : ℕ) (held made : Segments) (new : ClusterSegments) → numbered old.stores replica ≡ Some held → Keeps held made → Become old replica made new
@@ -61,8 +60,8 @@ keeps_put held name x free q s e =
       | false ↦ λ t. e
     ] refl
 
-keeps_union : (held came : Segments) → Keeps held (union_in held came)
-keeps_union held came q s e = get-union_in held came q ∙ ap (λ (o : Option SegmentForm). or_else o (finite.get came q)) e
+keeps_union : (held came : Segments) → Keeps held (union_of held came)
+keeps_union held came q s e = get-union held came q ∙ ap (λ (o : Option SegmentForm). or_else o (finite.get came q)) e
 
 put_stays : (old : ClusterForm) (replica : ℕ) (name : BatchName) (rows : _) (new : ClusterSegments) → IsPut old replica name rows new → StayIn old.segments.stores new.stores × StayIn old.segments.messages new.messages
 put_stays old replica name rows new put =
@@ -70,7 +69,7 @@ put_stays old replica name rows new put =
 
 joined_stay : (old : ClusterForm) (replica : ℕ) (came : Segments) (new : ClusterSegments) → AreJoined old replica came new → StayIn old.segments.stores new.stores × StayIn old.segments.messages new.messages
 joined_stay old replica came new joined =
-    stay_become old.segments replica joined.0 (union_in joined.0 came) new joined.1 (keeps_union joined.0 came) joined.2
+    stay_become old.segments replica joined.0 (union_of joined.0 came) new joined.1 (keeps_union joined.0 came) joined.2
 
 sent_stay : (old : ClusterSegments) (brought : Segments) (new : ClusterSegments) → IsSent old brought new → StayIn old.stores new.stores × StayIn old.messages new.messages
 sent_stay old brought new is =

@@ -4,7 +4,7 @@ use Rattle.std.specs.FinMap as finite
 use Rattle.std.proofs.Common.{refl, sym, ap, subst, ◌∙◌, arith, inl, inr, get_or}
 use Rattle.std.proofs.lemmas.List.{length-map, length-append, length-set, map-append, map-set, set-get_or, set-append_left, set-append_right}
 use Rattle.std.proofs.lemmas.Option.{slice_get_read, slice_get-map, get_or_from_slice_get}
-use Rattle.table_model.specs.State.{State, Batch}
+use Rattle.table_model.specs.State.{State, Batch, union_of}
 use Rattle.table_model.specs.Table.{Table}
 use Rattle.table_model.specs.declared.names.BatchName.{BatchName}
 use Rattle.table_model.specs.declared.names.Origin.{Origin}
@@ -13,14 +13,13 @@ use Rattle.segment_core.specs.Segment.{SegmentForm, canonical_segment}
 use Rattle.segment_core.specs.declared.coding.Coding.{Coding}
 use Rattle.table_model.specs.Name.{name_cmp}
 use Rattle.replica_store.specs.Replica.{Replica, next_name, then_added, with_batch, appended, place_for, then_placed, inserted}
-use Rattle.replica_store.specs.Segments.{StoreForm, rows_in, union_in, recoded_in}
+use Rattle.replica_store.specs.Segments.{StoreForm, rows_in, recoded_in}
 use Rattle.replica_store.specs.Exchange.{SummaryForm, unlisted}
 use Rattle.replica_store.specs.declared.inserted.Inserted.{Inserted}
 use Rattle.replica_store.specs.declared.inserted.Inserted.TheVariants.{New, Already}
-use Rattle.table_model.proofs.Joins.{or_else}
+use Rattle.table_model.proofs.Joins.{or_else-idempotent, get-union, same_maps}
 use Rattle.replica_store.proofs.Limits.{IsFree-next_name, IsFree-place_for}
 use Rattle.replica_store.proofs.RowsIn.{get-rows_in}
-use Rattle.replica_store.proofs.Unions.{get-union_in, same_maps}
 use Rattle.column_file.specs.Files.{AreCanonicalOf, opened_from}
 use Rattle.cluster_history.specs.Cluster.{replicas_in, place_of, numbered}
 use Rattle.cluster_history.specs.Codings.{Become, IsPut, AreJoined, IsSent, MergesAt, SegmentsAfter}
@@ -74,7 +73,11 @@ pub put_at : (schema : Table) (stores : List StoreForm) (sent : List Message) (r
     → At (λ d. IsPut d replica name rows (cluster_form schema (slice_set stores at new) sent).segments) schema stores sent replica at c
 put_at schema stores sent replica at s new name rows c held free made =
     said_at (λ d. IsPut d replica name rows (cluster_form schema (slice_set stores at new) sent).segments) schema stores sent replica at c (λ is below. (
-      s.replica, s.segments, numbered_in (λ x. x.replica) stores replica at s is below held, numbered_in (λ x. x.segments) stores replica at s is below held, free,
+      s.replica,
+      s.segments,
+      numbered_in (λ x. x.replica) stores replica at s is below held,
+      numbered_in (λ x. x.segments) stores replica at s is below held,
+      free,
       becomes schema stores sent replica at new (finite.insert s.segments name (canonical_segment s.replica.schema rows)) is made,
     ))
 
@@ -126,22 +129,18 @@ insert_at schema stores sent replica at s new name rows Already c held own made 
 
 -- batches were taken into the store at a replica's place
 pub joined_at : (schema : Table) (stores : List StoreForm) (sent : List Message) (replica at : ℕ) (s new : StoreForm) (came : Segments) (c : ClusterForm)
-    → s ≡ get_or stores at s → new.segments ≡ union_in s.segments came
+    → s ≡ get_or stores at s → new.segments ≡ union_of s.segments came
     → At (λ d. AreJoined d replica came (cluster_form schema (slice_set stores at new) sent).segments) schema stores sent replica at c
 joined_at schema stores sent replica at s new came c held made =
     said_at (λ d. AreJoined d replica came (cluster_form schema (slice_set stores at new) sent).segments) schema stores sent replica at c (λ is below. (
       s.segments,
       numbered_in (λ x. x.segments) stores replica at s is below held,
-      becomes schema stores sent replica at new (union_in s.segments came) is made,
+      becomes schema stores sent replica at new (union_of s.segments came) is made,
     ))
 
 -- a union with itself is itself
-union-self : (m : Segments) → union_in m m ≡ m
-union-self m = same_maps (union_in m m) m (λ q. get-union_in m m q ∙ or_self (finite.get m q))
-  where
-    or_self : (o : Option SegmentForm) → or_else o o ≡ o
-    or_self None = refl
-    or_self (Some s) = refl
+union-self : (m : Segments) → union_of m m ≡ m
+union-self m = same_maps (union_of m m) m (λ q. get-union m m q ∙ or_else-idempotent (finite.get m q))
 
 -- a merge with itself leaves all
 pub itself_at : (schema : Table) (stores : List StoreForm) (sent : List Message) (replica other at from : ℕ) (reply : Reply) (c : ClusterForm)
@@ -158,8 +157,9 @@ itself_at schema stores sent replica other at from reply c is_other one view is 
     let Q : ClusterForm → Type 0 = λ d. SegmentsAfter d (Merge replica other) reply (cluster_form schema (slice_set stores at s) sent).segments in
     subst (λ (new : ClusterSegments). SegmentsAfter c (Merge replica other) reply new) (kept_at schema stores sent at s s c held refl view)
     (subst Q view (
-      s.segments, numbered_in (λ x. x.segments) stores other at s there within held,
-      (s.segments, numbered_in (λ x. x.segments) stores replica at s here within held, becomes schema stores sent replica at s (union_in s.segments s.segments) here (sym (union-self s.segments))),
+      s.segments,
+      numbered_in (λ x. x.segments) stores other at s there within held,
+      (s.segments, numbered_in (λ x. x.segments) stores replica at s here within held, becomes schema stores sent replica at s (union_of s.segments s.segments) here (sym (union-self s.segments))),
     ))
 
 -- stores that were lent and came back, of which one place was set
@@ -233,7 +233,7 @@ brought_in c schema stores sent slice message came view same brings =
 
 -- what a file holds was taken in, in canonical segments
 pub opened_at : (schema : Table) (stores : List StoreForm) (sent : List Message) (replica at : ℕ) (s new : StoreForm) (own : Origin) (file : List ℕ) (other : StoreForm) (reply : Reply) (c : ClusterForm)
-    → s ≡ get_or stores at s → 1 ≤ own.0 → opened_from own file ≡ Ok other.replica → AreCanonicalOf other.replica.schema other.replica.state.batches other.segments → new.segments ≡ union_in s.segments other.segments
+    → s ≡ get_or stores at s → 1 ≤ own.0 → opened_from own file ≡ Ok other.replica → AreCanonicalOf other.replica.schema other.replica.state.batches other.segments → new.segments ≡ union_of s.segments other.segments
     → At (λ d. SegmentsAfter d (Open replica file) reply (cluster_form schema (slice_set stores at new) sent).segments) schema stores sent replica at c
 opened_at schema stores sent replica at s new own file other reply c held some opened canonical made view is below =
     let h = opened_held own file other.replica some opened in (
@@ -247,11 +247,13 @@ opened_at schema stores sent replica at s new own file other reply c held some o
 -- a merge into the front of stores that were parted
 pub front_merges : (stores front back : List StoreForm) (place from : ℕ) (s other new : StoreForm) (result : Result (Unit {0}) Refusal)
     → stores ≡ front ++ back → length front ≡ from → place < from → from < length stores → s ≡ get_or front place s → other ≡ get_or back 0 other
-    → OnOk result (new.segments ≡ union_in s.segments other.segments) → OnOk result (MergesAt stores place from (slice_set front place new ++ back))
+    → OnOk result (new.segments ≡ union_of s.segments other.segments) → OnOk result (MergesAt stores place from (slice_set front place new ++ back))
 front_merges stores front back place from s other new (Err e) parts is_len before within held lent made = tt
 front_merges stores front back place from s other new (Ok u) parts is_len before within held lent made =
     let lengths : length stores ≡ length front + length back = ap length parts ∙ length-append front back in (
-      s, other, new,
+      s,
+      other,
+      new,
       ap (λ (ss : List StoreForm). slice_get ss place) parts ∙ at_left front back place s (omega arith) held,
       ap (λ (ss : List StoreForm). slice_get ss from) parts ∙ at_seam front back from other is_len (omega arith) lent,
       sym (set-append_left front back place new (omega arith)) ∙ ap (λ (ss : List StoreForm). slice_set ss place new) (sym parts),
@@ -261,12 +263,14 @@ front_merges stores front back place from s other new (Ok u) parts is_len before
 -- and into their back
 pub back_merges : (stores front back : List StoreForm) (place from : ℕ) (s other new : StoreForm) (result : Result (Unit {0}) Refusal)
     → stores ≡ front ++ back → length front ≡ place → from < place → place < length stores → s ≡ get_or back 0 s → other ≡ get_or front from other
-    → OnOk result (new.segments ≡ union_in s.segments other.segments) → OnOk result (MergesAt stores place from (front ++ slice_set back 0 new))
+    → OnOk result (new.segments ≡ union_of s.segments other.segments) → OnOk result (MergesAt stores place from (front ++ slice_set back 0 new))
 back_merges stores front back place from s other new (Err e) parts is_len before within held lent made = tt
 back_merges stores front back place from s other new (Ok u) parts is_len before within held lent made =
     let lengths : length stores ≡ length front + length back = ap length parts ∙ length-append front back in
     let none : 0 ≡ place - place = omega arith in (
-      s, other, new,
+      s,
+      other,
+      new,
       ap (λ (ss : List StoreForm). slice_get ss place) parts ∙ at_seam front back place s is_len (omega arith) held,
       ap (λ (ss : List StoreForm). slice_get ss from) parts ∙ at_left front back from other (omega arith) lent,
       ap (λ k. front ++ slice_set back k new) none ∙ sym (set-append_right front back place place new is_len (omega arith)) ∙ ap (λ (ss : List StoreForm). slice_set ss place new) (sym parts),

@@ -14,7 +14,7 @@ use Rattle.table_model.specs.Table.{Table}
 use Rattle.table_model.specs.Operation.{Operation, Insert as Inserts, Delete as Deletes, Among, AreAgreeing, inserts_of, deletes_of, state_of}
 use Rattle.table_model.specs.declared.names.BatchName.{BatchName}
 use Rattle.table_model.proofs.NameOrder.{names_total, exact_names}
-use Rattle.table_model.proofs.Joins.{same_states, same_batches}
+use Rattle.table_model.proofs.Joins.{same_states, same_maps}
 use Rattle.table_model.proofs.Operations.{same_name, state_of-same}
 use Rattle.replica_store.specs.Replica.{names_of}
 use Rattle.replica_store.specs.Exchange.{SummaryForm, summary_of, unlisted, unlisted_state}
@@ -125,7 +125,7 @@ lacks_is names q o = ap (λ b. cond (not b) o None) (set.contains-from_list name
 pub unlisted-state_of : (names : List BatchName) (ops : List Operation) → unlisted_state (set.from_list names) (state_of ops) ≡ state_of (lacking names ops)
 unfolding unlisted state_of
 unlisted-state_of names ops = same_states _ _
-    (same_batches _ _ (λ q.
+    (same_maps _ _ (λ q.
     map.get-retain_keys (map.from_entries (inserts_of ops)) (lacks (set.from_list names)) q (λ x tied. ap (lacks (set.from_list names)) (sym (exact_names q x tied)))
     ∙ lacks_is names q (map.get (map.from_entries (inserts_of ops)) q)
     ∙ ap (cond (is_listed q names) None) (map.get-from_entries names_total (inserts_of ops) q)

@@ -15,7 +15,7 @@ use Rattle.table_model.specs.declared.names.RowName.{RowName}
 use Rattle.table_model.specs.declared.refusal.Refusal.{Refusal}
 use Rattle.table_model.specs.declared.refusal.Refusal.TheVariants.{Conflict, Full, BadName, SchemaDiffers}
 use Rattle.table_model.proofs.NameOrder.{names_total, row_names_total, exact_row_names}
-use Rattle.table_model.proofs.Joins.{or_else, find-append, get-union, same_states, same_batches}
+use Rattle.table_model.proofs.Joins.{or_else, or_else-commutes, find-append, get-union, same_states, same_maps}
 use Rattle.table_model.proofs.Operations.{Among-find, found-Among, same_name, state_of-same}
 use Rattle.table_model.proofs.SameRows.{one_batch}
 use Rattle.replica_store.specs.declared.inserted.Inserted.{Inserted}
@@ -84,7 +84,7 @@ append-takes table own ops rows name new agree e =
 
 -- to put in what is there changes nothing
 insert_again : (m : map.FinMap name_cmp Batch) (name : BatchName) (rows : Batch) → map.get m name ≡ Some rows → map.insert m name rows ≡ m
-insert_again m name rows has = same_batches _ _ (λ q.
+insert_again m name rows has = same_maps _ _ (λ q.
     map.get-insert names_total m name rows q
     ∙ elim (eq_by_cmp name_cmp q name) as (λ b. eq_by_cmp name_cmp q name ≡ b → cond b (Some rows) (map.get m q) ≡ map.get m q) [
       | true ↦ λ t. sym has ∙ ap (map.get m) (sym (same_name q name t))
@@ -156,12 +156,6 @@ or-commutes true false = refl
 or-commutes false true = refl
 or-commutes false false = refl
 
-or_else-commutes : {X : Type 0} (a b : Option X) → ((x y : X) → a ≡ Some x → b ≡ Some y → x ≡ y) → or_else a b ≡ or_else b a
-or_else-commutes None None same = refl
-or_else-commutes None (Some y) same = refl
-or_else-commutes (Some x) None same = refl
-or_else-commutes (Some x) (Some y) same = ap Some (same x y refl refl)
-
 -- the set of a list that is put together is the union of both lists' sets
 from_list-append : (xs ys : List RowName) → set.from_list {R = row_name_cmp} (xs ++ ys) ≡ set.union (set.from_list ys) (set.from_list xs)
 from_list-append xs ys = set.same_set row_names_total exact_row_names _ _ (λ q.
@@ -223,7 +217,7 @@ among-right op (x ∷ ops) more h = inr (among-right op ops more h)
 state_of-append : (ops more : List Operation) → Agree (state_of ops) (state_of more) → join (state_of ops) (state_of more) ≡ state_of (more ++ ops)
 unfolding state_of
 state_of-append ops more agree = same_states _ _
-    (same_batches _ _ (λ q.
+    (same_maps _ _ (λ q.
     get-union (state_of ops).batches (state_of more).batches q
     ∙ or_else-commutes (map.get (state_of ops).batches q) (map.get (state_of more).batches q) (agree q)
     ∙ (λ i. or_else (map.get-from_entries names_total (inserts_of more) q i) (map.get-from_entries names_total (inserts_of ops) q i))

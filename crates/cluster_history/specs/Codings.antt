@@ -1,12 +1,12 @@
 -- What a step that is answered makes of a cluster's segments, and so of the codings of what replicas hold and messages bring.
 use Rattle.std.specs.Prelude.{◌≡◌, ◌≢◌, ◌⊎◌, ℕ, List, [], ◌∷◌, ◌++◌, length, slice_get, slice_set, Some, None, Ok}
 use Rattle.std.specs.FinMap as finite
-use Rattle.table_model.specs.State.{Batch}
+use Rattle.table_model.specs.State.{Batch, union_of}
 use Rattle.table_model.specs.declared.names.BatchName.{BatchName}
 use Rattle.segment_core.specs.Segment.{SegmentForm, canonical_segment}
 use Rattle.segment_core.specs.declared.coding.Coding.{Coding}
 use Rattle.replica_store.specs.Replica.{Replica}
-use Rattle.replica_store.specs.Segments.{StoreForm, union_in, recoded_in}
+use Rattle.replica_store.specs.Segments.{StoreForm, recoded_in}
 use Rattle.replica_store.specs.Exchange.{SummaryForm, OfferForm, unlisted}
 use Rattle.replica_store.specs.declared.inserted.Inserted.TheVariants.{New, Already}
 use Rattle.column_file.specs.Files.{AreCanonicalOf, canonical_read}
@@ -30,7 +30,7 @@ IsPut old replica name rows new =
 
 -- batches came to a replica as they were coded: what it held keeps its codings
 abbrev pub AreJoined : ClusterForm → ℕ → Segments → ClusterSegments → Type 0
-AreJoined old replica came new = (held : Segments) × (numbered old.segments.stores replica ≡ Some held) × Become old.segments replica (union_in held came) new
+AreJoined old replica came new = (held : Segments) × (numbered old.segments.stores replica ≡ Some held) × Become old.segments replica (union_of held came) new
 
 -- one more message brings these segments; those of the other messages and of the replicas stay
 abbrev pub IsSent : ClusterSegments → Segments → ClusterSegments → Type 0
@@ -55,7 +55,7 @@ SegmentsAfter old step reply new = new ≡ old.segments
 -- the stores after the one at a place took in the batches of another: it has their segments beside its own, and the other stores stay
 abbrev pub MergesAt : List StoreForm → ℕ → ℕ → List StoreForm → Type 0
 MergesAt old place from new =
-    (s other made : StoreForm) × (slice_get old place ≡ Some s) × (slice_get old from ≡ Some other) × (new ≡ slice_set old place made) × (made.segments ≡ union_in s.segments other.segments)
+    (s other made : StoreForm) × (slice_get old place ≡ Some s) × (slice_get old from ≡ Some other) × (new ≡ slice_set old place made) × (made.segments ≡ union_of s.segments other.segments)
 
 -- what a list of segments has is there afterwards as it was, codings included
 abbrev pub StayIn : List Segments → List Segments → Type 0

@@ -9,17 +9,7 @@ ghost use Rattle.fused_kernels.specs.Seen.{between};
 use crate::ranges::is_between;
 use bit_interleave::Values;
 use run_dictionary::Runs;
-use transpose_order::Mask;
-
-/// The word whose bits from `low` up to `high`, which is not included, are set.
-#[inline(always)]
-fn ones_between(low: usize, high: usize) -> u64
-    requires order { low < high }
-    requires within { high ≤ 64 }
-    ensures { (p : ℕ) → p < 64 → (bit_at result p == 1) ≡ (nat_le low p && nat_lt p high) }
-{
-    (u64::MAX << low) & (u64::MAX >> (64 - high))
-}
+use transpose_order::{Mask, ones_between};
 
 /// Sets the rows from `first` up to `end`, which is not included, in the words of a mask.
 #[inline(always)]

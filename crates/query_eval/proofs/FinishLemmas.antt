@@ -4,6 +4,7 @@ use Rattle.std.specs.List.{flat_map, list_any, position_or_len}
 use Rattle.std.proofs.lemmas.Bool.{false≢true}
 use Rattle.std.proofs.lemmas.List.{map-append, take_more}
 use Rattle.std.proofs.lemmas.List.Elements.{filter-append}
+use Rattle.table_model.specs.QueryCode.{fold_number}
 use Rattle.table_model.specs.Condition.{predicate_truth, condition_truth, field_comparison, between, is_among, is_null, not_if, asked}
 use Rattle.table_model.specs.Formula.{Formula, says, in_parentheses, is_truth, negation, no_factor, both, no_term, either}
 use Rattle.table_model.specs.Group.{Group}
@@ -25,7 +26,7 @@ use Rattle.table_model.specs.declared.query.Predicate.{Predicate}
 use Rattle.table_model.specs.declared.query.Predicate.TheVariants.{Compare, Between, In, IsNull}
 use Rattle.table_model.specs.declared.query.SetFunction.{SetFunction}
 use Rattle.table_model.specs.declared.query.SetFunction.TheVariants.{CountRows, Of}
-use Rattle.query_eval.specs.Aggregate.{aggregate_of, aggregate_value, aggregates_of, condition_functions, fold_number, functions_of, having_functions, item_functions, operand_functions, predicate_functions, same_aggregate, same_flag}
+use Rattle.query_eval.specs.Aggregate.{aggregate_of, aggregate_value, aggregates_of, condition_functions, functions_of, having_functions, item_functions, operand_functions, predicate_functions, same_aggregate, same_flag}
 use Rattle.query_eval.specs.Finished.{PlanShape, finished_of, plan_of, seen_aggregate, seen_item, seen_operand}
 use Rattle.query_eval.specs.declared.aggregate.Aggregate.{Aggregate}
 use Rattle.query_eval.specs.declared.aggregate.Aggregate.TheVariants.{Rows, Folded}

@@ -1,6 +1,7 @@
 -- Set functions by the places of their columns, and which of them a query names.
 use Rattle.std.specs.Prelude.{ℕ, ◌==◌, Bool, true, false, not, ◌&&◌, List, [], ◌∷◌, ◌++◌, map, length, Option, Some, None, pos}
 use Rattle.std.specs.List.{flat_map}
+use Rattle.table_model.specs.QueryCode.{fold_number}
 use Rattle.table_model.specs.Formula.{Formula, says, in_parentheses, is_truth, negation, no_factor, both, no_term, either}
 use Rattle.table_model.specs.Group.{values_in}
 use Rattle.table_model.specs.Meaning.{place_of, fold_value, once_if}
@@ -10,7 +11,6 @@ use Rattle.table_model.specs.Table.{ColumnShape}
 use Rattle.table_model.specs.declared.answer.Field.{Field}
 use Rattle.table_model.specs.declared.answer.Field.TheVariants.{Whole}
 use Rattle.table_model.specs.declared.query.Fold.{Fold}
-use Rattle.table_model.specs.declared.query.Fold.TheVariants.{Count, Sum, Avg, Min, Max}
 use Rattle.table_model.specs.declared.query.ItemValue.{ItemValue}
 use Rattle.table_model.specs.declared.query.ItemValue.TheVariants.{Grouped, Computed}
 use Rattle.table_model.specs.declared.query.Operand.{Operand}
@@ -31,14 +31,6 @@ aggregate_of columns (Of fold distinct column) = Folded fold distinct (place_of 
 abbrev pub aggregate_value : Aggregate → List Cells → Field
 aggregate_value Rows rows = Whole (pos (length rows))
 aggregate_value (Folded fold distinct place) rows = fold_value fold (once_if distinct (values_in place rows))
-
--- a set function's kind as a number
-abbrev pub fold_number : Fold → ℕ
-fold_number Count = 0
-fold_number Sum = 1
-fold_number Avg = 2
-fold_number Min = 3
-fold_number Max = 4
 
 -- whether two truth values of a flag are the same
 abbrev pub same_flag : Bool → Bool → Bool

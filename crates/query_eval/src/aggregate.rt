@@ -1,7 +1,8 @@
 //! Set functions by the places of their columns.
 ghost use Rattle.std.specs.Prelude.{◌≡◌};
+ghost use Rattle.table_model.specs.QueryCode.{fold_number};
 ghost use Rattle.table_model.specs.Meaning.{place_of};
-ghost use Rattle.query_eval.specs.Aggregate.{aggregate_of, fold_number, same_aggregate};
+ghost use Rattle.query_eval.specs.Aggregate.{aggregate_of, same_aggregate};
 
 use crate::names::place_of;
 use table_model::{ColumnMention, Fold, Schema, SetFunction};

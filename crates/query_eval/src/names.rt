@@ -1,18 +1,9 @@
 //! Which column of a table a query names.
 ghost use Rattle.std.specs.Prelude.{◌≡◌, ◌<◌, ◌≤◌, length, None};
-ghost use Rattle.std.specs.List.{position};
 ghost use Rattle.std.specs.Option.{IfSome};
-ghost use Rattle.table_model.specs.Identifier.{same_text};
 ghost use Rattle.table_model.specs.Meaning.{place_of};
 
-use table_model::{Column, ColumnMention, Schema, same_text};
-
-/// Which column has the name.
-fn column_at(columns: &[Column], name: &str) -> Option<usize>
-    ensures { result ≡ position (λ column. same_text column.name name.now) columns.now }
-{
-    columns.iter().position(|column| same_text(column.name().as_bytes(), name.as_bytes()))
-}
+use table_model::{ColumnMention, Schema, column_at};
 
 /// The place of the column that a query mentions, if the table has one of the name.
 pub fn place_of(schema: &Schema, column: &ColumnMention) -> Option<usize>

@@ -3,12 +3,13 @@ use Rattle.std.proofs.Common.{◌≡◌, ◌≤◌, ℕ, zero, suc, nat_le, Bool
 use Rattle.std.proofs.Math.Nat.{min-le_left, min-le_right, min-eq_left, min-eq_right}
 use Rattle.std.proofs.lemmas.Bool.Decides.{nat_tests}
 use Rattle.std.proofs.lemmas.List.Elements.{All-cons, All-nil}
+use Rattle.table_model.specs.Meaning.{column_at}
 use Rattle.table_model.specs.Identifier.{same_text}
 use Rattle.table_model.specs.Query.{QueryShape}
 use Rattle.table_model.specs.Table.{Table, ColumnShape}
 use Rattle.table_model.specs.declared.query.ColumnMention.{ColumnMention}
 use Rattle.table_model.specs.declared.refusal.Refusal.TheVariants.{NoSuchTable}
-use Rattle.query_parser.specs.Resolve.{Named, Places, in_query, column_at, is_grouped, sooner, with_column, visited, places, verdict, resolved, is_missing, lacks_group, is_ungrouped, IsLeastPlace, IsJudged}
+use Rattle.query_parser.specs.Resolve.{Named, Places, in_query, is_grouped, sooner, with_column, visited, places, verdict, resolved, is_missing, lacks_group, is_ungrouped, IsLeastPlace, IsJudged}
 
 -- the least place so far and those of the columns that pass a test
 abbrev one_more : (Named → Bool) → Option ℕ → Named → Option ℕ

@@ -1,6 +1,7 @@
 -- Whether a query's names are those of a table.
 use Rattle.std.specs.Prelude.{◌≡◌, ◌≤◌, ℕ, Bool, true, false, not, ◌&&◌, ◌==◌, min, if◌then◌else◌, Option, Some, None, is_none, All, Any, Result, Ok, Err, List, [], ◌∷◌, ◌++◌, fold, position}
 use Rattle.std.specs.List.{list_any}
+use Rattle.table_model.specs.Meaning.{column_at}
 use Rattle.table_model.specs.Formula.{Formula, says, in_parentheses, is_truth, negation, no_factor, both, no_term, either}
 use Rattle.table_model.specs.Identifier.{same_text}
 use Rattle.table_model.specs.Query.{QueryShape}
@@ -72,10 +73,6 @@ in_grouping columns = fold (λ named column. named ++ (column, false) ∷ []) []
 -- all columns that a query names; those of HAVING outside a set function GROUP BY has to name too
 abbrev pub in_query : QueryShape → List Named
 in_query q = ((in_items q.items ++ in_clause false q.filter) ++ in_grouping q.grouping) ++ in_clause true q.having
-
--- which of a table's columns has exactly this name
-abbrev pub column_at : List ColumnShape → List ℕ → Option ℕ
-column_at columns name = position (λ column. same_text column.name name) columns
 
 -- whether a place is this one
 abbrev pub is_at : Option ℕ → ℕ → Bool

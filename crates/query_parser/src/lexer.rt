@@ -7,7 +7,7 @@ ghost use Rattle.query_parser.specs.Token.{first_spelling, keyword_of, symbol_of
 
 use crate::token::{Kind, Sign, Token, Word};
 use std::alloc::{AllocError, AllocFailed, Global};
-use table_model::{MAX_WORD, same_word};
+use table_model::{MAX_WORD, is_word_byte, same_word};
 
 /// The keywords, in upper case.
 const KEYWORDS: [(&[u8], Sign); 24] = [
@@ -98,13 +98,6 @@ fn is_white(byte: u8) -> bool
     ensures { result ≡ is_white byte }
 {
     byte == b' ' || byte == b'\t' || byte == b'\n' || byte == b'\r'
-}
-
-/// Whether the byte is a letter, a digit or `_`.
-fn is_word_byte(byte: u8) -> bool
-    ensures { result ≡ is_word_byte byte }
-{
-    byte.is_ascii_alphanumeric() || byte == b'_'
 }
 
 /// The letters, digits and `_` that the text begins with.

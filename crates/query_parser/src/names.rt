@@ -1,11 +1,12 @@
 //! Whether a query's names are those of a table.
 ghost use Rattle.std.specs.Prelude.{◌≡◌, ℕ, ◌<◌, ◌≤◌, length, None, slice_index_or, false};
+ghost use Rattle.table_model.specs.Meaning.{column_at};
 ghost use Rattle.table_model.specs.Query.{formula_of_term, formula_of_factor};
-ghost use Rattle.query_parser.specs.Resolve.{places, sooner, visited, verdict, resolved, column_at, is_grouped, in_function, in_operand, in_predicate, in_formula, in_clause, in_items, in_value, in_grouping, in_query, IsJudged};
+ghost use Rattle.query_parser.specs.Resolve.{places, sooner, visited, verdict, resolved, is_grouped, in_function, in_operand, in_predicate, in_formula, in_clause, in_items, in_value, in_grouping, in_query, IsJudged};
 
 use table_model::{
     Column, ColumnMention, Condition, Factor, Item, ItemValue, MAX_COLUMNS, Operand, Predicate,
-    Primary, Query, Refusal, Schema, SetFunction, Term, same_text,
+    Primary, Query, Refusal, Schema, SetFunction, Term, column_at, same_text,
 };
 
 /// The least place so far of a column that the table has not, and of one that GROUP BY has to name and doesn't.
@@ -62,13 +63,6 @@ fn sooner(first: Option<u64>, at: u64) -> Option<u64>
         None => Some(at),
         Some(place) => Some(place.min(at)),
     }
-}
-
-/// Which column has exactly this name.
-fn column_at(columns: &[Column], name: &str) -> Option<usize>
-    ensures { result ≡ column_at columns.now name.now }
-{
-    columns.iter().position(|column| same_text(column.name().as_bytes(), name.as_bytes()))
 }
 
 /// The places after a set function's columns.

@@ -9,7 +9,7 @@ use Rattle.table_model.specs.declared.names.BatchName.{BatchName}
 use Rattle.table_model.specs.declared.names.RowName.{RowName}
 use Rattle.table_model.specs.declared.refusal.Refusal.TheVariants.{SchemaDiffers}
 use Rattle.table_model.proofs.NameOrder.{row_names_total, exact_row_names}
-use Rattle.table_model.proofs.Joins.{or_else, get-union, same_batches, same_states, join-agree}
+use Rattle.table_model.proofs.Joins.{or_else, get-union, same_maps, same_states, join-agree}
 use Rattle.table_model.proofs.SameTable.{one_table}
 use Rattle.replica_store.specs.Replica.{Replica, batch_limit, joined_with, with_join}
 use Rattle.replica_store.specs.Exchange.{SummaryForm, OfferForm, summary_of, offering, offered, unlisted_state}
@@ -43,7 +43,7 @@ pub joins_whole : (server r : Replica) (summary : SummaryForm) (offer : OfferFor
 joins_whole server r summary offer is holds =
     let what = what_is_offered server summary offer is in
     same_states _ _
-    (same_batches _ _ (λ q.
+    (same_maps _ _ (λ q.
     get-union r.state.batches offer.state.batches q
     ∙ ap (or_else (map.get r.state.batches q)) (what.batches q)
     ∙ beside_held (set.contains summary.names q) (map.get r.state.batches q) (map.get server.state.batches q) (holds q)
@@ -119,7 +119,7 @@ module _ (r new late : Replica) (offer : OfferForm) (applies : Applies r offer n
 
   stays : join late.state offer.state ≡ late.state
   stays = same_states _ _
-      (same_batches _ _ (λ q.
+      (same_maps _ _ (λ q.
       get-union late.state.batches offer.state.batches q
       ∙ nothing_new (map.get r.state.batches q) (map.get offer.state.batches q) (map.get late.state.batches q) (has_batches q)))
       (set.same_set row_names_total exact_row_names _ _ (λ row.

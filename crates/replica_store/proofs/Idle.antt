@@ -12,7 +12,7 @@ use Rattle.table_model.specs.declared.refusal.Refusal.{Refusal}
 use Rattle.segment_core.specs.Segment.{SegmentForm}
 use Rattle.table_model.specs.declared.names.RowName.{RowName}
 use Rattle.replica_store.specs.Replica.{Replica, joined_with, rows_between, unless_fault, delete_fault, deleted_rows, with_deleted}
-use Rattle.replica_store.specs.Segments.{rows_in, union_in}
+use Rattle.replica_store.specs.Segments.{rows_in}
 use Rattle.replica_store.proofs.Merges.{union-same}
 use Rattle.replica_store.proofs.RowsIn.{rows_in-union, len-rows_in}
 
@@ -34,9 +34,9 @@ deletions_same ours theirs within =
     (λ q. set.contains-union row_names_total ours theirs q ∙ absorbs (set.contains ours q) (set.contains theirs q) (set.is_subset-contains row_names_total theirs ours within q))
 
 -- a union that has no more batches adds no segment
-pub segments_same : (m n : Segments) → nat_lt (map.len m) (map.len (union_of (rows_in m) (rows_in n))) ≡ false → union_in m n ≡ m
+pub segments_same : (m n : Segments) → nat_lt (map.len m) (map.len (union_of (rows_in m) (rows_in n))) ≡ false → union_of m n ≡ m
 segments_same m n few =
-    let count = ap map.len (sym (rows_in-union m n)) ∙ len-rows_in (union_in m n) in
+    let count = ap map.len (sym (rows_in-union m n)) ∙ len-rows_in (union_of m n) in
     let within = ltb-false (map.len m) (map.len (union_of (rows_in m) (rows_in n))) few in
     union-same m n (omega (arith, count, within))
 

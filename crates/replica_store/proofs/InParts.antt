@@ -14,7 +14,7 @@ use Rattle.table_model.specs.State.{Batch}
 use Rattle.table_model.specs.declared.names.BatchName.{BatchName}
 use Rattle.table_model.specs.declared.names.Origin.{Origin}
 use Rattle.table_model.specs.declared.refusal.Refusal.{Refusal}
-use Rattle.table_model.proofs.Joins.{or_else}
+use Rattle.table_model.proofs.Joins.{or_else, find-append}
 use Rattle.segment_core.specs.Segment.{SegmentForm}
 use Rattle.segment_core.specs.declared.coding.Coding.{Coding}
 use Rattle.replica_store.specs.Entries.{count_below, merge}
@@ -25,7 +25,6 @@ use Rattle.replica_store.proofs.Maps.{Sorted}
 use Rattle.replica_store.proofs.Merges.{merge-nil}
 use Rattle.replica_store.proofs.Numbers.{is_up_to}
 use Rattle.replica_store.proofs.Places.{first_of_both, second_of_both, both_of, count_below-le}
-use Rattle.replica_store.proofs.Unions.{find-append}
 
 -- an origin up to the own one comes before one past it
 apart : (own : Origin) (a b : BatchName) → IsUpTo own a → IsPast own b → name_cmp a b ≡ Less

@@ -13,7 +13,6 @@ pub mod Putting
 pub mod RowsIn
 pub mod Stored
 pub mod Summaries
-pub mod Unions
 pub mod Recodes
 pub mod RowValues
 pub mod VectorPlaces

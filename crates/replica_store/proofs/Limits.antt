@@ -26,7 +26,6 @@ use Rattle.replica_store.specs.Entries.{merge}
 use Rattle.replica_store.specs.Replica.{Replica, IsEntry, AllFit, IsWithinLimits, entries_of, greatest_number, unless_fault, where_room, number_after, next_name, own_name, place_beside, place_for, lacked_by, names_of, merge_fault, conflict_or_full, conflict_with, delete_fault, batch_limit}
 use Rattle.replica_store.proofs.Maps.{Entry, as_map, entries-as_map}
 use Rattle.replica_store.proofs.Merges.{as_map-merge, Sorted-union}
-use Rattle.replica_store.proofs.Unions.{union_of-is}
 
 AllFit-put : (t : Table) (q : BatchName) (v : Batch) (es : List Entry) → AllFit t es → IsEntry t (q, v) → AllFit t (map.put name_cmp q v es)
 AllFit-put t q v [] h fit = (fit, tt)
@@ -87,7 +86,7 @@ IsWithinLimits-union t m n g h limit =
     let sorted = map.entries_sorted m in
     let same : as_map es ≡ m = map.same_entries_map _ _ (entries-as_map es sorted) in
     let listed : map.entries (union_of (as_map es) n) ≡ merge name_cmp es (lacked_by (names_of (as_map es)) (map.entries n)) =
-    ap map.entries (union_of-is (as_map es) n ∙ sym (as_map-merge es n sorted)) ∙ entries-as_map _ (Sorted-union es n sorted) in
+    ap map.entries (sym (as_map-merge es n sorted)) ∙ entries-as_map _ (Sorted-union es n sorted) in
     let fits : AllFit t (map.entries (union_of (as_map es) n)) =
     subst (AllFit t) (sym listed) (AllFit-merge t es _ g.fits (AllFit-lacked t (names_of (as_map es)) (map.entries n) h)) in
     record { limit = limit; fits = subst (λ (x : map.FinMap name_cmp Batch). AllFit t (map.entries (union_of x n))) same fits }

@@ -7,18 +7,17 @@ use Rattle.std.specs.FinMap as map
 use Rattle.std.specs.FinSet as set
 use Rattle.std.specs.FinMap.Entries.{find, is_sorted, below_all}
 use Rattle.std.proofs.lemmas.List.{reverse-append, nil_from_length}
+use Rattle.table_model.specs.State.{union_of}
 use Rattle.table_model.specs.Name.{name_cmp}
 use Rattle.table_model.specs.declared.names.BatchName.{BatchName}
 use Rattle.table_model.proofs.NameOrder.{names_total}
-use Rattle.table_model.proofs.Joins.{or_else}
+use Rattle.table_model.proofs.Joins.{or_else, get-union, same_maps}
 use Rattle.table_model.proofs.Operations.{same_name}
 use Rattle.replica_store.specs.Entries.{merge, takes_first}
 use Rattle.replica_store.specs.Replica.{lacked_by, names_of}
 use Rattle.replica_store.proofs.Maps.{Sorted, as_map, entries-as_map, get-as_map, len-as_map}
 use Rattle.replica_store.proofs.Places.{first_of_both, second_of_both, both_of, less_is, is_less}
-use Rattle.replica_store.specs.Segments.{union_in}
 use Rattle.replica_store.proofs.Names.{contains-names_of}
-use Rattle.replica_store.proofs.Unions.{get-union_in, same_maps}
 
 -- of two names that differ, one is below the other
 turned_below : (x y : BatchName) → is_lt (name_cmp x y) ≡ false → is_eq (name_cmp y x) ≡ false → name_cmp y x ≡ Less
@@ -171,7 +170,7 @@ module _ {X : Type 0} where
   lacked_or m q fs (Some v) is = refl
 
   -- the entries that are there, merged with those that are lacked, are the union's
-  pub as_map-merge : (es : List (BatchName × X)) (n : map.FinMap name_cmp X) → Sorted es → as_map (merge name_cmp es (lacked_by (names_of (as_map es)) (map.entries n))) ≡ union_in (as_map es) n
+  pub as_map-merge : (es : List (BatchName × X)) (n : map.FinMap name_cmp X) → Sorted es → as_map (merge name_cmp es (lacked_by (names_of (as_map es)) (map.entries n))) ≡ union_of (as_map es) n
   as_map-merge es n g = same_maps _ _ (λ q.
       let fs = map.entries n in
       let apart = Apart-lacked es fs g in
@@ -181,7 +180,7 @@ module _ {X : Type 0} where
       ∙ ap (λ o. or_else o (map.find name_cmp q (lacked_by (names_of (as_map es)) fs))) (sym (get-as_map es q g))
       ∙ lacked_or (as_map es) q fs (map.get (as_map es) q) refl
       ∙ ap (or_else (map.get (as_map es) q)) (sym (map.get-entries n q))
-      ∙ sym (get-union_in (as_map es) n q))
+      ∙ sym (get-union (as_map es) n q))
 
   pub Sorted-union : (es : List (BatchName × X)) (n : map.FinMap name_cmp X) → Sorted es → Sorted (merge name_cmp es (lacked_by (names_of (as_map es)) (map.entries n)))
   Sorted-union es n g = Sorted-merge es _ g (Sorted-lacked (names_of (as_map es)) (map.entries n) (map.entries_sorted n)) (Apart-lacked es (map.entries n) g)
@@ -190,22 +189,22 @@ module _ {X : Type 0} where
   map_of_entries m = map.same_entries_map _ _ (entries-as_map (map.entries m) (map.entries_sorted m))
 
   -- how many batches a union has
-  pub len-union : (m n : map.FinMap name_cmp X) → map.len (union_in m n) ≡ map.len m + length (lacked_by (names_of m) (map.entries n))
+  pub len-union : (m n : map.FinMap name_cmp X) → map.len (union_of m n) ≡ map.len m + length (lacked_by (names_of m) (map.entries n))
   len-union m n =
       let es = map.entries m in
       let g = map.entries_sorted m in
       let same = map_of_entries m in
-      let by_entries : map.len (union_in (as_map es) n) ≡ map.len (as_map es) + length (lacked_by (names_of (as_map es)) (map.entries n)) =
+      let by_entries : map.len (union_of (as_map es) n) ≡ map.len (as_map es) + length (lacked_by (names_of (as_map es)) (map.entries n)) =
       ap map.len (sym (as_map-merge es n g)) ∙ len-as_map _ (Sorted-union es n g) ∙ length-merge es _ ∙ ap (λ k. k + length (lacked_by (names_of (as_map es)) (map.entries n))) (sym (len-as_map es g)) in
-      subst (λ (x : map.FinMap name_cmp X). map.len (union_in x n) ≡ map.len x + length (lacked_by (names_of x) (map.entries n))) same by_entries
+      subst (λ (x : map.FinMap name_cmp X). map.len (union_of x n) ≡ map.len x + length (lacked_by (names_of x) (map.entries n))) same by_entries
 
   -- a union that has no more batches than the one is the one
-  pub union-same : (m n : map.FinMap name_cmp X) → map.len (union_in m n) ≤ map.len m → union_in m n ≡ m
+  pub union-same : (m n : map.FinMap name_cmp X) → map.len (union_of m n) ≤ map.len m → union_of m n ≡ m
   union-same m n few =
       let fs = map.entries n in
       let none : lacked_by (names_of m) fs ≡ [] = nil_from_length (lacked_by (names_of m) fs) (omega (arith, len-union m n)) in
-      same_maps (union_in m n) m (λ q.
-      get-union_in m n q
+      same_maps (union_of m n) m (λ q.
+      get-union m n q
       ∙ ap (or_else (map.get m q)) (map.get-entries n q)
       ∙ sym (lacked_or m q fs (map.get m q) refl)
       ∙ ap (λ (xs : List (BatchName × X)). or_else (map.get m q) (map.find name_cmp q xs)) none

@@ -4,13 +4,12 @@ use Rattle.std.proofs.Common.{refl, sym, ap, ◌∙◌}
 use Rattle.std.specs.Ordering.{eq_by_cmp}
 use Rattle.std.specs.FinMap as map
 use Rattle.std.specs.FinSet as set
+use Rattle.table_model.specs.State.{union_of}
 use Rattle.table_model.specs.Name.{name_cmp}
 use Rattle.table_model.specs.declared.names.BatchName.{BatchName}
 use Rattle.table_model.proofs.NameOrder.{names_total, exact_names}
-use Rattle.table_model.proofs.Joins.{or_else}
+use Rattle.table_model.proofs.Joins.{or_else, get-union}
 use Rattle.replica_store.specs.Replica.{names_of}
-use Rattle.replica_store.specs.Segments.{union_in}
-use Rattle.replica_store.proofs.Unions.{get-union_in}
 
 module _ {X : Type 0} where
   pub contains-names_of : (m : map.FinMap name_cmp X) (q : BatchName) → set.contains (names_of m) q ≡ map.contains_key m q
@@ -32,10 +31,10 @@ module _ {X : Type 0} where
       ∙ some_cond (eq_by_cmp name_cmp q k) v (map.get m q)
       ∙ sym (set.contains-insert names_total (names_of m) k q ∙ ap (λ b. eq_by_cmp name_cmp q k || b) (contains-names_of m q)))
 
-  pub names_of-union : (m n : map.FinMap name_cmp X) → names_of (union_in m n) ≡ set.union (names_of m) (names_of n)
+  pub names_of-union : (m n : map.FinMap name_cmp X) → names_of (union_of m n) ≡ set.union (names_of m) (names_of n)
   names_of-union m n = set.same_set names_total exact_names _ _ (λ q.
-      contains-names_of (union_in m n) q
-      ∙ ap is_some (get-union_in m n q)
+      contains-names_of (union_of m n) q
+      ∙ ap is_some (get-union m n q)
       ∙ some_or (map.get m q) (map.get n q)
       ∙ sym (set.contains-union names_total (names_of m) (names_of n) q ∙ λ i. contains-names_of m q i || contains-names_of n q i))
 

@@ -7,6 +7,7 @@ use Rattle.std.specs.Option.{option_map}
 use Rattle.std.specs.Ordering.{eq_by_cmp}
 use Rattle.std.specs.FinMap as map
 use Rattle.std.specs.FinSet as set
+use Rattle.table_model.proofs.Joins.{same_maps}
 use Rattle.table_model.specs.Name.{name_cmp}
 use Rattle.table_model.specs.State.{Batch}
 use Rattle.table_model.specs.Table.{Table}
@@ -22,7 +23,6 @@ use Rattle.replica_store.proofs.Merges.{Sorted-lacked, find-lacked}
 use Rattle.replica_store.proofs.Names.{contains-names_of, some_cond}
 use Rattle.replica_store.proofs.RowsIn.{rows, get-rows_in}
 use Rattle.replica_store.proofs.Stored.{All-stored}
-use Rattle.replica_store.proofs.Unions.{same_maps}
 
 module _ {X : Type 0} where
   -- a batch is unlisted where its name isn't listed

@@ -5,6 +5,7 @@ use Rattle.std.specs.List.{insert}
 use Rattle.std.specs.declared.alloc.AllocError.{AllocError}
 use Rattle.std.specs.FinMap as map
 use Rattle.std.specs.FinSet as set
+use Rattle.table_model.specs.State.{union_of}
 use Rattle.table_model.specs.Name.{name_cmp}
 use Rattle.table_model.specs.declared.names.BatchName.{BatchName}
 use Rattle.table_model.specs.declared.names.Origin.{Origin}
@@ -14,7 +15,7 @@ use Rattle.segment_core.specs.declared.coding.Coding.{Coding}
 use Rattle.replica_store.specs.Entries.{count_below, merge}
 use Rattle.replica_store.specs.Parted.{Each, IsUpTo, IsPast, AreParted, AreKeptInParts}
 use Rattle.replica_store.specs.Replica.{AreKept, names_of, lacked_by}
-use Rattle.replica_store.specs.Segments.{Entry, RecodesEntries, union_in}
+use Rattle.replica_store.specs.Segments.{Entry, RecodesEntries}
 use Rattle.replica_store.proofs.InParts.{insert-up_to, insert-past, Each-insert, Each-merge, Each-recoded, merge-parted, recodes-up_to, recodes-past}
 use Rattle.replica_store.proofs.Maps.{Sorted, as_map, get-as_map, Sorted-insert, as_map-insert, entries-as_map}
 use Rattle.replica_store.proofs.Merges.{as_map-merge, Sorted-union}
@@ -104,7 +105,7 @@ kept_merged own es fs new_up_to new_past fresh_up_to fresh_past others held all 
 
 pub map_merged : (own : Origin) (es fs new_up_to new_past fresh_up_to fresh_past others : List Entry) (held : Names)
     → AreKeptInParts own es fs held → AreParted own fresh_up_to fresh_past → fresh_up_to ++ fresh_past ≡ lacked_by held others → Sorted others
-    → new_up_to ≡ merge name_cmp es fresh_up_to → new_past ≡ merge name_cmp fs fresh_past → as_map (new_up_to ++ new_past) ≡ union_in (as_map (es ++ fs)) (as_map others)
+    → new_up_to ≡ merge name_cmp es fresh_up_to → new_past ≡ merge name_cmp fs fresh_past → as_map (new_up_to ++ new_past) ≡ union_of (as_map (es ++ fs)) (as_map others)
 map_merged own es fs new_up_to new_past fresh_up_to fresh_past others held h parted lacked sorted up past =
     ap as_map (merged_parts own es fs new_up_to new_past fresh_up_to fresh_past others held h parted lacked sorted up past) ∙ as_map-merge (es ++ fs) (as_map others) h.kept.sorted
 

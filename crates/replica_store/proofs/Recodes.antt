@@ -19,10 +19,10 @@ use Rattle.replica_store.specs.Replica.{AreKept, names_of}
 use Rattle.replica_store.proofs.Maps.{Sorted, as_map, entries-as_map, get-as_map}
 use Rattle.replica_store.proofs.Names.{contains-names_of}
 use Rattle.replica_store.proofs.RowsIn.{rows, rows_in-insert, get-rows_in}
-use Rattle.replica_store.proofs.Unions.{same_maps}
 use Rattle.replica_store.proofs.Places.{first_of_both, second_of_both, less_is}
 use Rattle.std.proofs.lemmas.List.{drop_all, length-set}
 use Rattle.std.proofs.Math.Seq.{take-append_seam}
+use Rattle.table_model.proofs.Joins.{same_maps}
 
 pub from_place : (entries rest : List Entry) (i n : ℕ) → rest ≡ drop i entries → i ≡ n → rest ≡ drop n entries
 from_place entries rest i n is at = is ∙ ap (λ k. drop k entries) at

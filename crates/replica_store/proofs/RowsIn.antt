@@ -9,12 +9,11 @@ use Rattle.table_model.specs.State.{Batch, union_of}
 use Rattle.table_model.specs.declared.names.BatchName.{BatchName}
 use Rattle.table_model.specs.declared.names.Origin.{Origin}
 use Rattle.table_model.proofs.NameOrder.{names_total}
-use Rattle.table_model.proofs.Joins.{or_else, get-union}
+use Rattle.table_model.proofs.Joins.{or_else, get-union, same_maps}
 use Rattle.segment_core.specs.Segment.{SegmentForm}
 use Rattle.replica_store.specs.Replica.{greatest_number, conflict_with, differs}
-use Rattle.replica_store.specs.Segments.{Entry, rows_entries, rows_in, union_in, conflict_in}
+use Rattle.replica_store.specs.Segments.{Entry, rows_entries, rows_in, conflict_in}
 use Rattle.replica_store.proofs.Maps.{entries-as_map}
-use Rattle.replica_store.proofs.Unions.{get-union_in, same_maps}
 
 abbrev Segments : Type 0
 Segments = map.FinMap name_cmp SegmentForm
@@ -75,10 +74,10 @@ or_else-rows : (a b : Option SegmentForm) → option_map rows (or_else a b) ≡ 
 or_else-rows None b = refl
 or_else-rows (Some s) b = refl
 
-pub rows_in-union : (m n : Segments) → rows_in (union_in m n) ≡ union_of (rows_in m) (rows_in n)
+pub rows_in-union : (m n : Segments) → rows_in (union_of m n) ≡ union_of (rows_in m) (rows_in n)
 rows_in-union m n = same_maps _ _ (λ x.
-    get-rows_in (union_in m n) x
-    ∙ ap (option_map rows) (get-union_in m n x)
+    get-rows_in (union_of m n) x
+    ∙ ap (option_map rows) (get-union m n x)
     ∙ or_else-rows (map.get m x) (map.get n x)
     ∙ (λ i. or_else (sym (get-rows_in m x) i) (sym (get-rows_in n x) i))
     ∙ sym (get-union (rows_in m) (rows_in n) x))

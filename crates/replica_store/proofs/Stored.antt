@@ -5,22 +5,22 @@ use Rattle.std.specs.List.{All, slice_get}
 use Rattle.std.proofs.lemmas.Option.{slice_get_read}
 use Rattle.std.specs.Ordering.{eq_by_cmp}
 use Rattle.std.specs.FinMap as map
+use Rattle.table_model.specs.State.{union_of}
 use Rattle.table_model.specs.Name.{name_cmp}
 use Rattle.table_model.specs.Table.{Table, IsBatch}
 use Rattle.table_model.specs.declared.names.BatchName.{BatchName}
 use Rattle.table_model.specs.declared.refusal.Refusal.{Refusal}
 use Rattle.table_model.proofs.NameOrder.{names_total}
 use Rattle.table_model.proofs.Operations.{same_name}
-use Rattle.table_model.proofs.Joins.{or_else}
+use Rattle.table_model.proofs.Joins.{or_else, get-union}
 use Rattle.segment_core.specs.Segment.{SegmentForm}
 use Rattle.segment_core.specs.declared.coding.Coding.{Coding}
 use Rattle.replica_store.specs.Replica.{AllFit, IsWithinLimits}
-use Rattle.replica_store.specs.Segments.{Entry, IsStored, AreStored, HasProperName, RecodesEntries, rows_in, rows_entries, union_in}
+use Rattle.replica_store.specs.Segments.{Entry, IsStored, AreStored, HasProperName, RecodesEntries, rows_in, rows_entries}
 use Rattle.replica_store.specs.Exchange.{AreOffered}
 use Rattle.replica_store.proofs.Maps.{Sorted, as_map, entries-as_map, get-as_map, len-as_map}
 use Rattle.replica_store.proofs.Recodes.{get-held, as_map-set}
 use Rattle.replica_store.proofs.RowsIn.{entries-rows_in, len-rows_in}
-use Rattle.replica_store.proofs.Unions.{get-union_in}
 
 abbrev Segments : Type 0
 Segments = map.FinMap name_cmp SegmentForm
@@ -72,12 +72,12 @@ AreStored-insert t m name made stored new = λ q s has.
       | false ↦ λ tied is. stored q s is
     ] refl (sym (map.get-insert names_total m name made q) ∙ has)
 
-pub AreStored-union : (t : Table) (m n : Segments) → AreStored t m → AreStored t n → AreStored t (union_in m n)
+pub AreStored-union : (t : Table) (m n : Segments) → AreStored t m → AreStored t n → AreStored t (union_of m n)
 AreStored-union t m n g h = λ q s has.
     elim (map.get m q) as (λ o. map.get m q ≡ o → or_else o (map.get n q) ≡ Some s → IsStored t (q, s)) [
       | None ↦ λ is found. h q s found
       | Some v ↦ λ is found. g q s (is ∙ found)
-    ] refl (sym (get-union_in m n q) ∙ has)
+    ] refl (sym (get-union m n q) ∙ has)
 
 -- a vector in another coding leaves a batch one that may be held
 pub AreStored-recoded : (t : Table) (es new : List Entry) (result : Result (Unit {0}) Refusal) (n : BatchName) (column vector : ℕ) (coding : Coding)

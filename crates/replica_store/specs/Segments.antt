@@ -28,10 +28,6 @@ rows_entries (e ∷ es) = (e.0, e.1.rows) ∷ rows_entries es
 unfoldable pub rows_in : map.FinMap name_cmp SegmentForm → map.FinMap name_cmp Batch
 rows_in segments = map.from_sorted (rows_entries (map.entries segments))
 
--- what either map has; where both have a name, what the first has there
-unfoldable pub union_in : {X : Type 0} → map.FinMap name_cmp X → map.FinMap name_cmp X → map.FinMap name_cmp X
-union_in m n = map.from_entries (map.entries m ++ map.entries n)
-
 -- a store: a replica, and the segments of its batches, whose rows are the batches of its state
 pub record StoreForm : Type 0 where
   pub replica : Replica

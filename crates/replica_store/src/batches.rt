@@ -10,7 +10,7 @@ ghost use Rattle.table_model.specs.declared.names.BatchName.{BatchName};
 ghost use Rattle.replica_store.specs.Entries.{count_below, merge, takes_first};
 ghost use Rattle.replica_store.specs.Parted.{AreParted};
 ghost use Rattle.replica_store.specs.Replica.{greatest_number, differs, conflict_with, lacked_by, names_of, entries_of};
-ghost use Rattle.replica_store.specs.Segments.{rows_in, rows_entries, union_in, conflict_in, recoded_in, AreStored, Entry, HasProperName, RecodesEntries, HoldsAt};
+ghost use Rattle.replica_store.specs.Segments.{rows_in, rows_entries, conflict_in, recoded_in, AreStored, Entry, HasProperName, RecodesEntries, HoldsAt};
 ghost use Rattle.table_model.specs.State.{union_of};
 ghost use Rattle.table_model.specs.Outcome.{Acts};
 
@@ -200,7 +200,7 @@ impl Batches {
         requires sorted { T (map.is_sorted name_cmp (first.now ++ second.now)) }
         requires names { names.now ≡ names_of (map.from_sorted (first.now ++ second.now)) }
         ensures own { self.new.own ≡ self.old.own }
-        ensures ok { OnOk result (self.new.segments ≡ union_in self.old.segments (map.from_sorted (first.now ++ second.now))) }
+        ensures ok { OnOk result (self.new.segments ≡ union_of self.old.segments (map.from_sorted (first.now ++ second.now))) }
         ensures err { OnErr result (self.new ≡ self.old) }
     {
         let fresh = copies_lacked(alloc, &self.held, first, second)?;

@@ -12,7 +12,7 @@ ghost use Rattle.segment_core.specs.SegmentBytes.{HasBytesIn};
 ghost use Rattle.replica_store.specs.Exchange.{summary_of, offered, unlisted, applied, opened};
 ghost use Rattle.replica_store.specs.Parted.{AreParted};
 ghost use Rattle.replica_store.specs.Replica.{Replica, IsWithinLimits, new_replica, entries_of, names_of, appended, inserted, merged, merge_fault, next_name, place_for, replica_with, with_batch, joined_with, deleted_rows, delete_fault, recoded_rows, recode_fault, batch_limit};
-ghost use Rattle.replica_store.specs.Segments.{rows_in, union_in, recoded_in, AreStored, IsStored, IsSoundStore, HasVector};
+ghost use Rattle.replica_store.specs.Segments.{rows_in, recoded_in, AreStored, IsStored, IsSoundStore, HasVector};
 ghost use Rattle.segment_core.specs.declared.coding.Coding.{Coding};
 ghost use Rattle.replica_store.specs.declared.inserted.Inserted.TheVariants.{New, Already};
 
@@ -210,7 +210,7 @@ impl Store {
     /// the union has more than 65,536 batches, `Memory`. The own origin stays. Where nothing is lacked it takes no memory.
     pub fn merge(&mut self, alloc: Global, other: &Store) -> Result<(), Refusal>
         ensures acts { Acts (λ done. done) self.old.replica result self.new.replica (merged self.old.replica other.now.replica) }
-        ensures segments { OnOk result (self.new.segments ≡ union_in self.old.segments other.now.segments) }
+        ensures segments { OnOk result (self.new.segments ≡ union_of self.old.segments other.now.segments) }
         ensures idle { merged self.old.replica other.now.replica ≡ Ok (tt, self.old.replica) → IsOk result }
         ensures refused { OnErr result (self.new ≡ self.old) }
     {
@@ -258,7 +258,7 @@ impl Store {
     /// the union has more than 65,536 batches, `Memory`. The own origin stays. Where nothing is lacked it takes no memory.
     pub fn apply(&mut self, alloc: Global, offer: &Offer) -> Result<(), Refusal>
         ensures acts { Acts (λ done. done) self.old.replica result self.new.replica (applied self.old.replica offer.now) }
-        ensures segments { OnOk result (self.new.segments ≡ union_in self.old.segments offer.now.segments) }
+        ensures segments { OnOk result (self.new.segments ≡ union_of self.old.segments offer.now.segments) }
         ensures idle { applied self.old.replica offer.now ≡ Ok (tt, self.old.replica) → IsOk result }
         ensures refused { OnErr result (self.new ≡ self.old) }
     {
@@ -395,7 +395,7 @@ impl Store {
     ) -> bool
         requires { T (map.is_sorted name_cmp (first.now ++ second.now)) }
         ensures state { result ≡ true → joined_with self.now.replica (record { batches = rows_in (map.from_sorted (first.now ++ second.now)); deleted = tombs.now }) ≡ self.now.replica }
-        ensures segments { result ≡ true → union_in self.now.segments (map.from_sorted (first.now ++ second.now)) ≡ self.now.segments }
+        ensures segments { result ≡ true → union_of self.now.segments (map.from_sorted (first.now ++ second.now)) ≡ self.now.segments }
         ensures lacking { joined_with self.now.replica (record { batches = rows_in (map.from_sorted (first.now ++ second.now)); deleted = tombs.now }) ≡ self.now.replica → result ≡ true }
     {
         self.tombs.has_all(tombs)
@@ -418,7 +418,7 @@ impl Store {
         requires stored { AreStored self.old.replica.schema (map.from_sorted (first.now ++ second.now)) }
         requires limit { map.len (union_of self.old.replica.state.batches (rows_in (map.from_sorted (first.now ++ second.now)))) ≤ batch_limit }
         ensures ok { OnOk result (self.new.replica ≡ joined_with self.old.replica (record { batches = rows_in (map.from_sorted (first.now ++ second.now)); deleted = tombs.now })) }
-        ensures segments { OnOk result (self.new.segments ≡ union_in self.old.segments (map.from_sorted (first.now ++ second.now))) }
+        ensures segments { OnOk result (self.new.segments ≡ union_of self.old.segments (map.from_sorted (first.now ++ second.now))) }
         ensures err { OnErr result (self.new ≡ self.old) }
     {
         let tombs = self.tombs.joined(tombs)?;

@@ -11,7 +11,7 @@ pub use Rattle.table_model.specs.Table.{or_else}
 use Rattle.table_model.specs.declared.names.BatchName.{BatchName}
 use Rattle.table_model.proofs.NameOrder.{names_total, row_names_total, exact_names, exact_row_names}
 
-pub find-append : (es fs : List (BatchName × Batch)) (q : BatchName) → map.find name_cmp q (es ++ fs) ≡ or_else (map.find name_cmp q es) (map.find name_cmp q fs)
+pub find-append : {X : Type 0} (es fs : List (BatchName × X)) (q : BatchName) → map.find name_cmp q (es ++ fs) ≡ or_else (map.find name_cmp q es) (map.find name_cmp q fs)
 find-append [] fs q = refl
 find-append (e ∷ es) fs q =
     elim (eq_by_cmp name_cmp q e.0) as (λ b. cond b (Some e.1) (map.find name_cmp q (es ++ fs)) ≡ or_else (cond b (Some e.1) (map.find name_cmp q es)) (map.find name_cmp q fs)) [
@@ -19,7 +19,7 @@ find-append (e ∷ es) fs q =
       | false ↦ find-append es fs q
     ]
 
-pub get-union : (m n : map.FinMap name_cmp Batch) (q : BatchName) → map.get (union_of m n) q ≡ or_else (map.get m q) (map.get n q)
+pub get-union : {X : Type 0} (m n : map.FinMap name_cmp X) (q : BatchName) → map.get (union_of m n) q ≡ or_else (map.get m q) (map.get n q)
 unfolding union_of
 get-union m n q =
     map.get-from_entries names_total (map.entries m ++ map.entries n) q
@@ -30,11 +30,11 @@ or_else-associative : {X : Type 0} (a b c : Option X) → or_else (or_else a b) 
 or_else-associative None b c = refl
 or_else-associative (Some x) b c = refl
 
-or_else-idempotent : {X : Type 0} (a : Option X) → or_else a a ≡ a
+pub or_else-idempotent : {X : Type 0} (a : Option X) → or_else a a ≡ a
 or_else-idempotent None = refl
 or_else-idempotent (Some x) = refl
 
-or_else-commutes : {X : Type 0} (a b : Option X) → ((x y : X) → a ≡ Some x → b ≡ Some y → x ≡ y) → or_else a b ≡ or_else b a
+pub or_else-commutes : {X : Type 0} (a b : Option X) → ((x y : X) → a ≡ Some x → b ≡ Some y → x ≡ y) → or_else a b ≡ or_else b a
 or_else-commutes None None same = refl
 or_else-commutes None (Some y) same = refl
 or_else-commutes (Some x) None same = refl
@@ -50,8 +50,8 @@ pub same_states : (s t : State) → s.batches ≡ t.batches → s.deleted ≡ t.
 same_states s t e f = λ i. record { batches = e i; deleted = f i }
 
 -- two maps that answer alike are one
-pub same_batches : (m n : map.FinMap name_cmp Batch) → ((q : BatchName) → map.get m q ≡ map.get n q) → m ≡ n
-same_batches m n alike = map.same_map names_total exact_names m n alike
+pub same_maps : {X : Type 0} (m n : map.FinMap name_cmp X) → ((q : BatchName) → map.get m q ≡ map.get n q) → m ≡ n
+same_maps m n alike = map.same_map names_total exact_names m n alike
 
 or-again : (a b : Bool) → ((a || b) || b) ≡ (a || b)
 or-again true b = refl
@@ -81,12 +81,12 @@ module _ (s t u : set.FinSet row_name_cmp) where
 
 pub join-commutative : (s t : State) → Agree s t → join s t ≡ join t s
 join-commutative s t agree = same_states _ _
-    (same_batches _ _ (λ q. get-union s.batches t.batches q ∙ or_else-commutes _ _ (agree q) ∙ sym (get-union t.batches s.batches q)))
+    (same_maps _ _ (λ q. get-union s.batches t.batches q ∙ or_else-commutes _ _ (agree q) ∙ sym (get-union t.batches s.batches q)))
     (union-commutes s.deleted t.deleted t.deleted)
 
 pub join-associative : (s t u : State) → join (join s t) u ≡ join s (join t u)
 join-associative s t u = same_states _ _
-    (same_batches _ _ (λ q.
+    (same_maps _ _ (λ q.
     get-union (union_of s.batches t.batches) u.batches q
     ∙ ap (λ a. or_else a (map.get u.batches q)) (get-union s.batches t.batches q)
     ∙ or_else-associative (map.get s.batches q) (map.get t.batches q) (map.get u.batches q)
@@ -95,12 +95,12 @@ join-associative s t u = same_states _ _
 
 pub join-idempotent : (s : State) → join s s ≡ s
 join-idempotent s = same_states _ _
-    (same_batches _ _ (λ q. get-union s.batches s.batches q ∙ or_else-idempotent _))
+    (same_maps _ _ (λ q. get-union s.batches s.batches q ∙ or_else-idempotent _))
     (union-idempotent s.deleted s.deleted s.deleted)
 
 pub join-again : (s t : State) → join (join s t) t ≡ join s t
 join-again s t = same_states _ _
-    (same_batches _ _ (λ q.
+    (same_maps _ _ (λ q.
     get-union (union_of s.batches t.batches) t.batches q
     ∙ ap (λ a. or_else a (map.get t.batches q)) (get-union s.batches t.batches q)
     ∙ or_else-again (map.get s.batches q) (map.get t.batches q)

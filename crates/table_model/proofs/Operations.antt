@@ -13,7 +13,7 @@ use Rattle.table_model.specs.Operation.{Operation, Insert, Delete, Among, AreAgr
 use Rattle.table_model.specs.declared.names.BatchName.{BatchName}
 use Rattle.table_model.specs.declared.names.RowName.{RowName}
 use Rattle.table_model.proofs.NameOrder.{names_total, row_names_total, exact_names, exact_row_names}
-use Rattle.table_model.proofs.Joins.{same_states, same_batches}
+use Rattle.table_model.proofs.Joins.{same_states, same_maps}
 
 abbrev in_names : BatchName → List (BatchName × Batch) → Option Batch
 in_names = map.find name_cmp
@@ -110,7 +110,7 @@ same_bools false false to from = refl
 pub state_of-same : (ops others : List Operation) → AreAgreeing ops → SameOperations ops others → state_of ops ≡ state_of others
 unfolding state_of
 state_of-same ops others agree same = same_states _ _
-    (same_batches _ _ (λ q. map.get-from_entries names_total (inserts_of ops) q ∙ same_found ops others agree same q ∙ sym (map.get-from_entries names_total (inserts_of others) q)))
+    (same_maps _ _ (λ q. map.get-from_entries names_total (inserts_of ops) q ∙ same_found ops others agree same q ∙ sym (map.get-from_entries names_total (inserts_of others) q)))
     (set.same_set row_names_total exact_row_names _ _ (λ q.
     set.contains-from_list row_names_total (deletes_of ops) q
     ∙ same_bools (has_row q (deletes_of ops)) (has_row q (deletes_of others))
@@ -135,7 +135,7 @@ deletes-operations (e ∷ es) ds = deletes-operations es ds
 pub state_of-operations : (s : State) → state_of (operations_of s) ≡ s
 unfolding state_of operations_of
 state_of-operations s = same_states _ _
-    (same_batches _ _ (λ q.
+    (same_maps _ _ (λ q.
     map.get-from_entries names_total (inserts_of (map insert_of (map.entries s.batches) ++ map Delete (set.items s.deleted))) q
     ∙ ap (in_names q) (inserts-operations (map.entries s.batches) (set.items s.deleted))
     ∙ sym (map.get-entries s.batches q)))

@@ -1,6 +1,6 @@
 -- What a query means: its answer over some rows, and at a state.
 use Rattle.std.specs.Prelude.{◌≡◌, ℕ, Bool, true, false, cond, ◌==◌, List, [], ◌++◌, map, filter, length, slice_index_or, All, unwrap_or, codes, Option, Some, None, ℤ, pos}
-use Rattle.std.specs.List.{list_any, position_or_len}
+use Rattle.std.specs.List.{list_any, position, position_or_len}
 use Rattle.std.specs.List.Sorted.{IsPermutation}
 use Rattle.table_model.specs.Answer.{AnswerParts, whole, millionths}
 use Rattle.table_model.specs.Condition.{condition_truth}
@@ -24,6 +24,10 @@ use Rattle.table_model.specs.declared.query.Operand.{Operand}
 use Rattle.table_model.specs.declared.query.Operand.TheVariants.{Column, Literal, Function}
 use Rattle.table_model.specs.declared.query.SetFunction.{SetFunction}
 use Rattle.table_model.specs.declared.query.SetFunction.TheVariants.{CountRows, Of}
+
+-- the place of the first of the columns with this name, byte for byte, if there is one
+abbrev pub column_at : List ColumnShape → List ℕ → Option ℕ
+column_at columns name = position (λ column. same_text column.name name) columns
 
 -- a column's place in the schema, from 0 on; for a name that isn't there, of which no resolved query asks, the number of columns
 abbrev pub place_of : List ColumnShape → List ℕ → ℕ

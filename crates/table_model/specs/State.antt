@@ -60,7 +60,7 @@ abbrev pub Agree : State → State → Type 0
 Agree s t = (name : BatchName) (a b : Batch) → map.get s.batches name ≡ Some a → map.get t.batches name ≡ Some b → a ≡ b
 
 -- what either map has; where both have a name, what the first has there
-unfoldable pub union_of : map.FinMap name_cmp Batch → map.FinMap name_cmp Batch → map.FinMap name_cmp Batch
+unfoldable pub union_of : {X : Type 0} → map.FinMap name_cmp X → map.FinMap name_cmp X → map.FinMap name_cmp X
 union_of m n = map.from_entries (map.entries m ++ map.entries n)
 
 -- the join of two states that agree: all batches of both, and all deletions of both

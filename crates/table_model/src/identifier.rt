@@ -71,7 +71,7 @@ fn are_word_bytes(text: &[u8]) -> bool
 }
 
 /// Whether the byte is a letter, a digit or `_`.
-fn is_word_byte(byte: u8) -> bool
+pub fn is_word_byte(byte: u8) -> bool
     ensures { result ≡ is_word_byte byte }
 {
     byte.is_ascii_alphanumeric() || byte == b'_'

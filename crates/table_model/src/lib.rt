@@ -18,7 +18,9 @@ mod truth;
 pub use answer::{Answer, AnswerRow, Field};
 pub use check::check_rows;
 pub use counted::{Counted, READ_LIMIT};
-pub use identifier::{MAX_WORD, is_identifier, is_keyword, is_word, same_text, same_word};
+pub use identifier::{
+    MAX_WORD, is_identifier, is_keyword, is_word, is_word_byte, same_text, same_word,
+};
 pub use laws::{
     answer_laws, group_laws, join_laws, operation_laws, predicate_laws, sameness_laws, sum_bounds,
     truth_laws, value_laws, worked_answers,
@@ -31,6 +33,6 @@ pub use query::{
 };
 pub use refusal::Refusal;
 pub use row::{Row, Rows, same_rows};
-pub use schema::{ColType, Column, MAX_COLUMNS, Schema};
+pub use schema::{ColType, Column, MAX_COLUMNS, Schema, column_at};
 pub use stop::Stop;
 pub use truth::Truth;

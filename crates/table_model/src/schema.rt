@@ -1,6 +1,7 @@
 //! Schemas: a table's name, and its columns with their types.
 ghost use Rattle.std.specs.Prelude.{◌≡◌, ◌<◌, ◌≤◌, map, length, slice_get, Some, IfOk, IsTrue};
 ghost use Rattle.std.specs.List.{list_all, list_any, zip};
+ghost use Rattle.table_model.specs.Meaning.{column_at};
 ghost use Rattle.table_model.specs.Outcome.{Gives};
 ghost use Rattle.table_model.specs.Table.{bits_of, is_in_range, schema_of, folded_table, column_of, name_of, is_named, has_name, is_schema, are_distinct, same_column, same_columns, same_table, IsTable};
 
@@ -293,4 +294,11 @@ fn is_name_among(name: &str, columns: &[(&str, ColType)]) -> bool
     columns
         .iter()
         .any(|column| same_word(name.as_bytes(), column.0.as_bytes()))
+}
+
+/// The place of the first column with exactly this name, from the left and from 0.
+pub fn column_at(columns: &[Column], name: &str) -> Option<usize>
+    ensures { result ≡ column_at columns.now name.now }
+{
+    columns.iter().position(|column| same_text(column.name().as_bytes(), name.as_bytes()))
 }

@@ -6,8 +6,8 @@ use std::io::{Read, Write};
 use std::test::Fail;
 use table_model::{
     Answer, AnswerRow, BatchName, ColType, Counted, Field, IsTruth, Number, Op, Origin, Refusal,
-    Row, RowName, Rows, Schema, Stop, Truth, check_rows, is_identifier, is_keyword, is_word,
-    same_rows, same_word,
+    Row, RowName, Rows, Schema, Stop, Truth, check_rows, column_at, is_identifier, is_keyword,
+    is_word, is_word_byte, same_rows, same_word,
 };
 
 const A: &str = "A";
@@ -197,6 +197,8 @@ fn keywords_are_known_in_either_case(rt: HostRuntime) -> Result<(), Fail> {
             && is_identifier(b"ON")
             && same_word(b"aB_1", b"Ab_1")
             && !same_word(b"[", b"{")
+            && is_word_byte(b'_')
+            && !is_word_byte(b'.')
     );
     Ok(())
 }
@@ -219,6 +221,21 @@ fn names_are_folded_and_a_copy_is_the_same(rt: HostRuntime) -> Result<(), Fail> 
     )?;
     assert!(rt; schema.same(&copy) && !schema.same(&other) && copy.column_list().len() == 2);
     Ok(())
+}
+
+// A query's names are folded before they are looked for, so that a name in lower case is none of a schema's.
+#[test]
+fn a_column_is_found_by_its_folded_name(rt: HostRuntime) -> Result<(), Fail> {
+    let schema = Schema::new(
+        rt.alloc(),
+        "T",
+        &[("a", ColType::SmallInt), ("B_2", ColType::Integer)],
+    )?;
+    let columns = schema.column_list();
+    agree(column_at(columns, A), Some(0))?;
+    agree(column_at(columns, "B_2"), Some(1))?;
+    agree(column_at(columns, "b_2"), None)?;
+    agree(column_at(columns, "B"), None)
 }
 
 /// The name of these two numbers.

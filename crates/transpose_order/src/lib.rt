@@ -14,3 +14,4 @@ pub use places::{
     VECTOR_ROWS, every_place_is_a_row, one_order_serves_every_width, pieces_stand_in_words, place,
     place_in_word, places_are_distinct, position, row_at,
 };
+pub use words::ones_between;

@@ -20,16 +20,27 @@ pub(crate) fn combined<F: Fn(u64, u64) -> u64>(
     words
 }
 
-/// The word whose bits from `low` up to `high`, which is not included, are set.
-fn ones_between(low: usize, high: usize) -> u64
+/// The word whose bits from `low` up to `high`, at most 64, which is not included, are set; one at least.
+#[inline(always)]
+pub fn ones_between(low: usize, high: usize) -> u64
+    requires order { low < high }
+    requires within { high ≤ 64 }
+    ensures { (p : ℕ) → p < 64 → (bit_at result p == 1) ≡ (nat_le low p && nat_lt p high) }
+{
+    (u64::MAX << low) & (u64::MAX >> (64 - high))
+}
+
+/// The same where none may be set.
+fn ones_if_any(low: usize, high: usize) -> u64
     requires order { low ≤ high }
     requires within { high ≤ 64 }
     ensures { (p : ℕ) → p < 64 → (bit_at result p == 1) ≡ (nat_le low p && nat_lt p high) }
 {
     if low == high {
-        return 0;
+        0
+    } else {
+        ones_between(low, high)
     }
-    (u64::MAX << low) & (u64::MAX >> (64 - high))
 }
 
 /// A word with its bits from `low` up to `high`, which is not included, set to `value`.
@@ -39,7 +50,7 @@ fn with_bits(word: u64, low: usize, high: usize, value: bool) -> u64
     ensures { (p : ℕ) → p < 64
         → (bit_at result p == 1) ≡ (if nat_le low p && nat_lt p high then value else (bit_at word p == 1)) }
 {
-    let ones = ones_between(low, high);
+    let ones = ones_if_any(low, high);
     if value { word | ones } else { word & !ones }
 }
 

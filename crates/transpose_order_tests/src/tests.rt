@@ -3,8 +3,8 @@ use expectations::agree;
 use std::test::Fail;
 use transpose_order::{
     Mask, counts_agree, every_place_is_a_row, masks_and_bytes_come_back,
-    one_order_serves_every_width, pieces_stand_in_words, place, place_in_word, places_are_distinct,
-    position, row_at,
+    one_order_serves_every_width, ones_between, pieces_stand_in_words, place, place_in_word,
+    places_are_distinct, position, row_at,
 };
 
 // Row 16 has part 16 of word 0, which is quarter 1 at 16 bits, and 1 in two bits reversed is 2: lane 16 * 2. Row 8 is
@@ -68,6 +68,13 @@ fn a_range_of_rows_is_cleared_and_filled() -> Result<(), Fail> {
         (mask.count(), Mask::all().count(), Mask::none().count()),
         (1024, 1024, 0),
     )
+}
+
+#[test]
+fn ones_stand_between_two_bits() -> Result<(), Fail> {
+    agree(ones_between(3, 5), 0b1_1000)?;
+    agree(ones_between(0, 64), u64::MAX)?;
+    agree(ones_between(63, 64), 1 << 63)
 }
 
 // The two masks differ in each of the four ways at rows 0 to 3.

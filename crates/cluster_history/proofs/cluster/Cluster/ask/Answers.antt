@@ -24,9 +24,12 @@ pub returns-in_err-summary : goal.returns-in_err-summary
 returns-in_err-summary c =
     let p = err_from_is_err_and c.from_residual-in_err-summary.result c.from_residual-in_err-summary.ensures.1 in
     let room : length c.self.inside.messages.items < message_limit = omega arith in
-    rw (p.1, p.2) (refl, ask_lacks c.args.self.now.parts c.args.replica c.index.result.now.replica c.in_err-summary.field-0.0
-    (numbered_store c.args.self.now.parts c.self.inside.schema c.self.inside.stores.items (messages_in c.self.inside.messages.items) c.args.replica c.in_ok-place.place c.index.result.now (parts_same c.self.view_is) c.in_ok-place.ensures.place c.in_ok-place.ensures.bound c.index.ensures)
-    (has_room c.args.self.now.parts c.self.inside.schema c.self.inside.stores.items c.self.inside.messages.items (parts_same c.self.view_is) room) c.in_err-summary.ensures)
+    rw (p.1, p.2) (
+      refl,
+      ask_lacks c.args.self.now.parts c.args.replica c.index.result.now.replica c.in_err-summary.field-0.0
+          (numbered_store c.args.self.now.parts c.self.inside.schema c.self.inside.stores.items (messages_in c.self.inside.messages.items) c.args.replica c.in_ok-place.place c.index.result.now (parts_same c.self.view_is) c.in_ok-place.ensures.place c.in_ok-place.ensures.bound c.index.ensures)
+          (has_room c.args.self.now.parts c.self.inside.schema c.self.inside.stores.items c.self.inside.messages.items (parts_same c.self.view_is) room) c.in_err-summary.ensures,
+    )
 
 pub returns : goal.returns
 returns c =

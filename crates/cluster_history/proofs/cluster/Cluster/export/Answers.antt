@@ -22,7 +22,7 @@ returns-in_err-file c =
 
 pub returns : goal.returns
 returns c = (
-      export_done c.args.self.now.parts c.self.inside.schema c.self.inside.stores.items (messages_in c.self.inside.messages.items) c.args.replica c.in_ok-place.place c.index.result.now c.in_ok-file.file
-          (parts_same c.self.view_is) c.in_ok-place.ensures.place c.in_ok-place.ensures.bound c.index.ensures c.in_ok-file.ensures,
-      refl,
-    )
+  export_done c.args.self.now.parts c.self.inside.schema c.self.inside.stores.items (messages_in c.self.inside.messages.items) c.args.replica c.in_ok-place.place c.index.result.now c.in_ok-file.file
+      (parts_same c.self.view_is) c.in_ok-place.ensures.place c.in_ok-place.ensures.bound c.index.ensures c.in_ok-file.ensures,
+  refl,
+)

@@ -35,9 +35,12 @@ returns-in_err-offer c =
     let room : length c.self.inside.messages.items < message_limit = omega arith in
     let is : Some c.in-Some.summary.now ≡ listing_in (numbered c.args.self.now.parts.messages c.args.message) =
     said_of (λ (messages : List Carried). listing_in (numbered messages c.args.message)) c.args.self.now.parts c.self.inside.schema c.self.inside.stores.items c.self.inside.messages.items c.as_slice.result.now (Some c.in-Some.summary.now) (parts_same c.self.view_is) c.as_slice.ensures.value c.in-Some.ensures in
-    rw (p.1, p.2) (refl, serve_refused c.args.self.now.parts c.args.replica c.args.message c.index.result.now.replica c.in-Some.summary.now c.in_err-offer.field-0.0
-    (numbered_store c.args.self.now.parts c.self.inside.schema c.self.inside.stores.items (messages_in c.self.inside.messages.items) c.args.replica c.in_ok-place.place c.index.result.now (parts_same c.self.view_is) c.in_ok-place.ensures.place c.in_ok-place.ensures.bound c.index.ensures)
-    is (has_room c.args.self.now.parts c.self.inside.schema c.self.inside.stores.items c.self.inside.messages.items (parts_same c.self.view_is) room) c.in_err-offer.ensures.state)
+    rw (p.1, p.2) (
+      refl,
+      serve_refused c.args.self.now.parts c.args.replica c.args.message c.index.result.now.replica c.in-Some.summary.now c.in_err-offer.field-0.0
+          (numbered_store c.args.self.now.parts c.self.inside.schema c.self.inside.stores.items (messages_in c.self.inside.messages.items) c.args.replica c.in_ok-place.place c.index.result.now (parts_same c.self.view_is) c.in_ok-place.ensures.place c.in_ok-place.ensures.bound c.index.ensures)
+          is (has_room c.args.self.now.parts c.self.inside.schema c.self.inside.stores.items c.self.inside.messages.items (parts_same c.self.view_is) room) c.in_err-offer.ensures.state,
+    )
 
 pub returns : goal.returns
 returns c =

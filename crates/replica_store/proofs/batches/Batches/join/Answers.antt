@@ -2,10 +2,11 @@
 use Rattle.std.specs.Prelude.{◌++◌}
 use Rattle.std.proofs.Common.{sym, ap, subst, ◌∙◌}
 use Rattle.std.specs.FinMap as map
+use Rattle.table_model.specs.State.{union_of}
 use Rattle.table_model.specs.Name.{name_cmp}
 use Rattle.segment_core.specs.Segment.{SegmentForm}
 use Rattle.replica_store.specs.Entries.{merge}
-use Rattle.replica_store.specs.Segments.{BatchesForm, union_in}
+use Rattle.replica_store.specs.Segments.{BatchesForm}
 use Rattle.replica_store.proofs.Maps.{Sorted, as_map}
 use Rattle.replica_store.proofs.Merges.{Sorted-lacked}
 use Rattle.replica_store.proofs.Putting.{kept_merged, map_merged}
@@ -26,4 +27,4 @@ returns-clause-ok c =
     map_merged c.self.inside.own c.self.inside.up_to.items c.self.inside.past.items c.merged.result.items c.merged-2.result.items c.in_ok-fresh_up_to.fresh_up_to.items c.in_ok-fresh_up_to.fresh_past.items
     (c.args.first.now ++ c.args.second.now) c.self.inside.held c.self.invariant c.in_ok-fresh_up_to.ensures.parted (c.in_ok-fresh_up_to.ensures.whole ∙ c.in_ok-fresh.ensures) c.requires.sorted
     (c.merged.ensures ∙ ap (λ v. merge name_cmp v.items c.in_ok-fresh_up_to.fresh_up_to.items) c.replace-up_to.ensures.value) (c.merged-2.ensures ∙ ap (λ v. merge name_cmp v.items c.in_ok-fresh_up_to.fresh_past.items) c.replace-past.ensures.value)
-    ∙ ap (λ (m : map.FinMap name_cmp SegmentForm). union_in m (as_map (c.args.first.now ++ c.args.second.now))) (ap (λ (b : BatchesForm). b.segments) c.self.view_is)
+    ∙ ap (λ (m : map.FinMap name_cmp SegmentForm). union_of m (as_map (c.args.first.now ++ c.args.second.now))) (ap (λ (b : BatchesForm). b.segments) c.self.view_is)

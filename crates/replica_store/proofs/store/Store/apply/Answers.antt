@@ -6,11 +6,12 @@ use Rattle.std.proofs.lemmas.Bool.{false≢true}
 use Rattle.std.proofs.lemmas.Result.{err_from_is_err_and}
 use Rattle.std.specs.FinMap as map
 use Rattle.std.specs.FinSet as set
+use Rattle.table_model.specs.State.{union_of}
 use Rattle.table_model.specs.Name.{row_name_cmp}
 use Rattle.table_model.specs.Table.{Table}
 use Rattle.table_model.specs.declared.refusal.Refusal.{Refusal}
 use Rattle.replica_store.specs.Replica.{Replica, joined_with, names_of}
-use Rattle.replica_store.specs.Segments.{StoreForm, Entry, AreStored, rows_in, union_in}
+use Rattle.replica_store.specs.Segments.{StoreForm, Entry, AreStored, rows_in}
 use Rattle.replica_store.specs.Exchange.{OfferForm, offering, applied}
 use Rattle.replica_store.proofs.Idle.{coming, no_answer, answer_same}
 use Rattle.replica_store.proofs.Joining.{refused_merged, joined_merged, ok_merged, mergeable}
@@ -89,7 +90,7 @@ returns-clause-acts c =
     ∙ ap (λ (x : Replica). let ok : Result (Unit {0} × Replica) Refusal = Ok (tt, x) in ok) made
 
 pub returns-clause-segments : goal.returns-clause-segments
-returns-clause-segments c = c.in_ok-take_all.ensures.segments ∙ ap (union_in c.args.self.now.segments) (whole c.args.offer.now (c.split_at.result.0.now ++ c.split_at.result.1.now) (one_list c.entries-entries.result.now c.split_at.result.0.now c.split_at.result.1.now _ c.split_at.ensures.front c.split_at.ensures.back ∙ c.entries-entries.ensures.value))
+returns-clause-segments c = c.in_ok-take_all.ensures.segments ∙ ap (union_of c.args.self.now.segments) (whole c.args.offer.now (c.split_at.result.0.now ++ c.split_at.result.1.now) (one_list c.entries-entries.result.now c.split_at.result.0.now c.split_at.result.1.now _ c.split_at.ensures.front c.split_at.ensures.back ∙ c.entries-entries.ensures.value))
 
 -- joined with an offer, a replica is joined with its entries and deletions
 joins : (r : Replica) (o : OfferForm) (es : List Entry) (tombs : set.FinSet row_name_cmp) → es ≡ map.entries o.segments → o.state.batches ≡ rows_in o.segments → tombs ≡ o.state.deleted → joined_with r o.state ≡ joined_with r (coming (as_map es) tombs)
@@ -105,7 +106,7 @@ returns-then-has_all-clause-acts c =
 
 pub returns-then-has_all-clause-segments : goal.returns-then-has_all-clause-segments
 returns-then-has_all-clause-segments c =
-    sym (c.has_all.ensures.segments c.if-has_all.true) ∙ ap (union_in c.args.self.now.segments) (whole c.args.offer.now (c.split_at.result.0.now ++ c.split_at.result.1.now) (one_list c.entries-entries.result.now c.split_at.result.0.now c.split_at.result.1.now _ c.split_at.ensures.front c.split_at.ensures.back ∙ c.entries-entries.ensures.value))
+    sym (c.has_all.ensures.segments c.if-has_all.true) ∙ ap (union_of c.args.self.now.segments) (whole c.args.offer.now (c.split_at.result.0.now ++ c.split_at.result.1.now) (one_list c.entries-entries.result.now c.split_at.result.0.now c.split_at.result.1.now _ c.split_at.ensures.front c.split_at.ensures.back ∙ c.entries-entries.ensures.value))
 
 pub returns-in_err-merge_fault-clause-idle : goal.returns-in_err-merge_fault-clause-idle
 returns-in_err-merge_fault-clause-idle c same =

@@ -8,7 +8,7 @@ use Rattle.table_model.specs.Name.{name_cmp}
 use Rattle.table_model.specs.State.{union_of}
 use Rattle.segment_core.specs.Segment.{SegmentForm}
 use Rattle.replica_store.specs.Replica.{Replica, joined_with}
-use Rattle.replica_store.specs.Segments.{StoreForm, rows_in, union_in}
+use Rattle.replica_store.specs.Segments.{StoreForm, rows_in}
 use Rattle.replica_store.proofs.Idle.{coming, replica_same, segments_same, same_deletions, same_count}
 use Rattle.replica_store.proofs.Maps.{as_map}
 use Rattle.replica_store.proofs.store.Store.has_all.Goals as goal
@@ -32,7 +32,7 @@ returns-then-has_all-clause-segments c none =
     let m = c.self.inside.batches.segments in
     let n : map.FinMap name_cmp SegmentForm = as_map (c.args.first.now ++ c.args.second.now) in
     let exceeds = c.union_exceeds.ensures ∙ ap (λ k. nat_lt k (map.len (union_of (rows_in m) (rows_in n)))) c.len.ensures.count in
-    subst (λ (s : StoreForm). union_in s.segments n ≡ s.segments) c.self.view_is (segments_same m n (few m n c.union_exceeds.result exceeds none))
+    subst (λ (s : StoreForm). union_of s.segments n ≡ s.segments) c.self.view_is (segments_same m n (few m n c.union_exceeds.result exceeds none))
 
 pub returns-then-has_all-clause-lacking : goal.returns-then-has_all-clause-lacking
 returns-then-has_all-clause-lacking c same =

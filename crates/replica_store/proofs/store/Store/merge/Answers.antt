@@ -5,12 +5,13 @@ use Rattle.std.proofs.lemmas.Bool.{false≢true}
 use Rattle.std.proofs.lemmas.Result.{err_from_is_err_and}
 use Rattle.std.specs.FinMap as map
 use Rattle.std.specs.FinSet as set
+use Rattle.table_model.specs.State.{union_of}
 use Rattle.table_model.specs.Name.{name_cmp, row_name_cmp}
 use Rattle.table_model.specs.Table.{Table}
 use Rattle.table_model.specs.declared.refusal.Refusal.{Refusal}
 use Rattle.segment_core.specs.Segment.{SegmentForm}
 use Rattle.replica_store.specs.Replica.{Replica, joined_with, merged, names_of}
-use Rattle.replica_store.specs.Segments.{StoreForm, Entry, AreStored, rows_in, union_in}
+use Rattle.replica_store.specs.Segments.{StoreForm, Entry, AreStored, rows_in}
 use Rattle.replica_store.proofs.Idle.{coming, no_answer, answer_same}
 use Rattle.replica_store.proofs.Joining.{refused_merged, joined_merged, ok_merged, mergeable}
 use Rattle.replica_store.proofs.Maps.{as_map}
@@ -89,7 +90,7 @@ returns-clause-acts c =
 pub returns-clause-segments : goal.returns-clause-segments
 returns-clause-segments c =
     c.in_ok-take_all.ensures.segments
-    ∙ ap (union_in c.args.self.now.segments) (whole c.other.inside.batches.segments (c.parts.result.0.now ++ c.parts.result.1.now) c.parts.ensures.whole ∙ ap (λ (s : StoreForm). s.segments) c.other.view_is)
+    ∙ ap (union_of c.args.self.now.segments) (whole c.other.inside.batches.segments (c.parts.result.0.now ++ c.parts.result.1.now) c.parts.ensures.whole ∙ ap (λ (s : StoreForm). s.segments) c.other.view_is)
 
 -- joined with the other store, a replica is joined with its entries and deletions
 joins : (r : Replica) (s : StoreForm) (m : map.FinMap name_cmp SegmentForm) (tombs : set.FinSet row_name_cmp) (es : List Entry) → s.replica.state ≡ coming m tombs → es ≡ map.entries m → joined_with r s.replica.state ≡ joined_with r (coming (as_map es) tombs)
@@ -110,7 +111,7 @@ returns-then-has_all-clause-acts c =
 pub returns-then-has_all-clause-segments : goal.returns-then-has_all-clause-segments
 returns-then-has_all-clause-segments c =
     sym (c.has_all.ensures.segments c.if-has_all.true)
-    ∙ ap (union_in c.args.self.now.segments) (whole c.other.inside.batches.segments (c.parts.result.0.now ++ c.parts.result.1.now) c.parts.ensures.whole ∙ ap (λ (s : StoreForm). s.segments) c.other.view_is)
+    ∙ ap (union_of c.args.self.now.segments) (whole c.other.inside.batches.segments (c.parts.result.0.now ++ c.parts.result.1.now) c.parts.ensures.whole ∙ ap (λ (s : StoreForm). s.segments) c.other.view_is)
 
 pub returns-in_err-merge_fault-clause-idle : goal.returns-in_err-merge_fault-clause-idle
 returns-in_err-merge_fault-clause-idle c same =

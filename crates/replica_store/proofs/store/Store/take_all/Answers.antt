@@ -6,7 +6,7 @@ use Rattle.table_model.specs.Name.{name_cmp}
 use Rattle.table_model.specs.State.{State, Batch, union_of}
 use Rattle.segment_core.specs.Segment.{SegmentForm}
 use Rattle.replica_store.specs.Replica.{IsWithinLimits, joined_with, batch_limit}
-use Rattle.replica_store.specs.Segments.{BatchesForm, StoreForm, IsSoundStore, AreStored, rows_in, union_in}
+use Rattle.replica_store.specs.Segments.{BatchesForm, StoreForm, IsSoundStore, AreStored, rows_in}
 use Rattle.replica_store.proofs.Limits.{IsWithinLimits-union}
 use Rattle.replica_store.proofs.Maps.{as_map}
 use Rattle.replica_store.proofs.RowsIn.{rows_in-union}
@@ -42,4 +42,4 @@ returns-clause-ok c =
     ∙ λ i. joined_with (c.self.view_is i).replica theirs
 
 pub returns-clause-segments : goal.returns-clause-segments
-returns-clause-segments c = c.in_ok-join.ensures.ok ∙ λ i. union_in (c.self.view_is i).segments (as_map (c.args.first.now ++ c.args.second.now))
+returns-clause-segments c = c.in_ok-join.ensures.ok ∙ λ i. union_of (c.self.view_is i).segments (as_map (c.args.first.now ++ c.args.second.now))
