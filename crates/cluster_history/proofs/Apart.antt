@@ -1,9 +1,9 @@
 -- Two places of a list that is split between them: a write at the one leaves the other.
-use Rattle.std.specs.Prelude.{◌≡◌, ◌≢◌, ◌⊎◌, ℕ, ◌+◌, ◌-◌, ◌<◌, Bool, true, false, cond, ◌==◌, List, [], ◌∷◌, ◌++◌, length, take, drop, slice_get, slice_set, Option, Some, None, Result, Ok, Err, IsOk, OnErr}
+use Rattle.std.specs.Prelude.{◌≡◌, ◌≢◌, ◌⊎◌, ℕ, ◌+◌, ◌-◌, ◌<◌, Bool, true, false, cond, ◌==◌, List, [], ◌++◌, length, take, drop, slice_get, slice_set, Option, Some, None, Result, Ok, Err, IsOk, OnErr}
 use Rattle.std.proofs.Common.{refl, sym, ap, subst, ◌∙◌, arith, inl, inr, get_or}
 use Rattle.std.proofs.Math.Seq.{take-append_seam}
 use Rattle.std.proofs.lemmas.Bool.Decides.{nat_tests}
-use Rattle.std.proofs.lemmas.List.{set-get_or, set-append_left, set-append_right, get_or_append_left, get_or-append_right, length-append, drop_all, map-set, get_or-map}
+use Rattle.std.proofs.lemmas.List.{set-get_or, set-append_left, set-append_right, get_or_append_left, get_or-append_right, length-append, drop_all, map-append, map-set, get_or-map}
 use Rattle.std.proofs.lemmas.Option.{slice_get_read, get_or_from_slice_get}
 use Rattle.table_model.specs.Table.{Table}
 use Rattle.table_model.specs.Outcome.{Acts}
@@ -80,24 +80,20 @@ merged_back stores front back place from r other new result parts is_len before 
     (ap (λ k. front ++ slice_set back k new) none ∙ sym (set-append_right front back place place new is_len (omega arith)) ∙ ap (λ s. slice_set s place new) (sym parts))
     acts
 
-pub map-append : (front back : List StoreForm) → replicas_in (front ++ back) ≡ replicas_in front ++ replicas_in back
-map-append [] back = refl
-map-append (s ∷ front) back = ap (λ (rest : List Replica). s.replica ∷ rest) (map-append front back)
-
 replica_at : (stores : List StoreForm) (i : ℕ) (s : StoreForm) → i < length stores → s ≡ get_or stores i s → s.replica ≡ get_or (replicas_in stores) i s.replica
 replica_at stores i s below is = ap (λ (x : StoreForm). x.replica) is ∙ sym (get_or-map (λ (x : StoreForm). x.replica) stores i s s.replica below)
 
 -- a store of the front is the replica at its place
 pub in_front : (stores front back : List StoreForm) (i : ℕ) (s : StoreForm) → stores ≡ front ++ back → i < length front → s ≡ get_or front i s → slice_get (replicas_in stores) i ≡ Some s.replica
 in_front stores front back i s parts below is =
-    ap (λ rs. slice_get rs i) (ap replicas_in parts ∙ map-append front back)
+    ap (λ rs. slice_get rs i) (ap replicas_in parts ∙ map-append (λ (x : StoreForm). x.replica) front back)
     ∙ at_left (replicas_in front) (replicas_in back) i s.replica (omega (arith, below, length-replicas_in front)) (replica_at front i s below is)
 
 -- and the head of the back is that at the seam
 pub at_head : (stores front back : List StoreForm) (i : ℕ) (s : StoreForm) → stores ≡ front ++ back → length front ≡ i → i < length stores → s ≡ get_or back 0 s → slice_get (replicas_in stores) i ≡ Some s.replica
 at_head stores front back i s parts is_len within is =
     let lengths : length stores ≡ length front + length back = ap length parts ∙ length-append front back in
-    ap (λ rs. slice_get rs i) (ap replicas_in parts ∙ map-append front back)
+    ap (λ rs. slice_get rs i) (ap replicas_in parts ∙ map-append (λ (x : StoreForm). x.replica) front back)
     ∙ at_seam (replicas_in front) (replicas_in back) i s.replica (length-replicas_in front ∙ is_len) (omega (arith, length-replicas_in back)) (replica_at back 0 s (omega arith) is)
 
 -- into the front, from the head of the back
@@ -107,10 +103,10 @@ pub stored_front : (stores front back : List StoreForm) (place from : ℕ) (s ot
 stored_front stores front back place from s other new result parts is_len before within held lent acts =
     let lengths : length stores ≡ length front + length back = ap length parts ∙ length-append front back in
     let made : slice_set (replicas_in front) place new.replica ++ replicas_in back ≡ replicas_in (slice_set front place new ++ back) =
-    ap (λ (rs : List Replica). rs ++ replicas_in back) (sym (map-set (λ (x : StoreForm). x.replica) front place new)) ∙ sym (map-append (slice_set front place new) back) in
+    ap (λ (rs : List Replica). rs ++ replicas_in back) (sym (map-set (λ (x : StoreForm). x.replica) front place new)) ∙ sym (map-append (λ (x : StoreForm). x.replica) (slice_set front place new) back) in
     subst (λ (rs : List Replica). Acts unit (replicas_in stores) result rs (merged_in (replicas_in stores) place from)) made
     (merged_front (replicas_in stores) (replicas_in front) (replicas_in back) place from s.replica other.replica new.replica result
-    (ap replicas_in parts ∙ map-append front back) (length-replicas_in front ∙ is_len) before (omega (arith, within, length-replicas_in stores))
+    (ap replicas_in parts ∙ map-append (λ (x : StoreForm). x.replica) front back) (length-replicas_in front ∙ is_len) before (omega (arith, within, length-replicas_in stores))
     (replica_at front place s (omega arith) held) (replica_at back 0 other (omega arith) lent) acts)
 
 -- into the head of the back, from the front
@@ -120,10 +116,10 @@ pub stored_back : (stores front back : List StoreForm) (place from : ℕ) (s oth
 stored_back stores front back place from s other new result parts is_len before within held lent acts =
     let lengths : length stores ≡ length front + length back = ap length parts ∙ length-append front back in
     let made : replicas_in front ++ slice_set (replicas_in back) 0 new.replica ≡ replicas_in (front ++ slice_set back 0 new) =
-    ap (λ (rs : List Replica). replicas_in front ++ rs) (sym (map-set (λ (x : StoreForm). x.replica) back 0 new)) ∙ sym (map-append front (slice_set back 0 new)) in
+    ap (λ (rs : List Replica). replicas_in front ++ rs) (sym (map-set (λ (x : StoreForm). x.replica) back 0 new)) ∙ sym (map-append (λ (x : StoreForm). x.replica) front (slice_set back 0 new)) in
     subst (λ (rs : List Replica). Acts unit (replicas_in stores) result rs (merged_in (replicas_in stores) place from)) made
     (merged_back (replicas_in stores) (replicas_in front) (replicas_in back) place from s.replica other.replica new.replica result
-    (ap replicas_in parts ∙ map-append front back) (length-replicas_in front ∙ is_len) before (omega (arith, within, length-replicas_in stores))
+    (ap replicas_in parts ∙ map-append (λ (x : StoreForm). x.replica) front back) (length-replicas_in front ∙ is_len) before (omega (arith, within, length-replicas_in stores))
     (replica_at back 0 s (omega arith) held) (replica_at front from other (omega arith) lent) acts)
 
 -- a merge into the front that is refused leaves the stores

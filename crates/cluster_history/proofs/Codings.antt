@@ -2,9 +2,9 @@
 use Rattle.std.specs.Prelude.{◌≡◌, ◌<◌, ◌≤◌, ℕ, ◌+◌, ◌-◌, List, [], ◌∷◌, ◌++◌, length, map, take, drop, slice_get, slice_set, Option, Some, None, option_map, option_and_then, Result, Ok, Err, OnOk}
 use Rattle.std.specs.FinMap as finite
 use Rattle.std.proofs.Common.{refl, sym, ap, subst, ◌∙◌, arith, inl, inr, get_or}
-use Rattle.std.proofs.lemmas.List.{length-map, length-append, length-set, map-append, map-set, set-get_or, set-append_left, set-append_right}
-use Rattle.std.proofs.lemmas.Option.{slice_get_read, slice_get-map, get_or_from_slice_get}
-use Rattle.table_model.specs.State.{State, Batch, union_of}
+use Rattle.std.proofs.lemmas.List.{length-map, length-append, map-append, map-set, set-append_left, set-append_right}
+use Rattle.std.proofs.lemmas.Option.{slice_get_read, slice_get-map}
+use Rattle.table_model.specs.State.{Batch, union_of}
 use Rattle.table_model.specs.Table.{Table}
 use Rattle.table_model.specs.declared.names.BatchName.{BatchName}
 use Rattle.table_model.specs.declared.names.Origin.{Origin}
@@ -13,7 +13,7 @@ use Rattle.segment_core.specs.Segment.{SegmentForm, canonical_segment}
 use Rattle.segment_core.specs.declared.coding.Coding.{Coding}
 use Rattle.table_model.specs.Name.{name_cmp}
 use Rattle.replica_store.specs.Replica.{Replica, next_name, then_added, with_batch, appended, place_for, then_placed, inserted}
-use Rattle.replica_store.specs.Segments.{StoreForm, rows_in, recoded_in}
+use Rattle.replica_store.specs.Segments.{StoreForm, rows_in}
 use Rattle.replica_store.specs.Exchange.{SummaryForm, unlisted}
 use Rattle.replica_store.specs.declared.inserted.Inserted.{Inserted}
 use Rattle.replica_store.specs.declared.inserted.Inserted.TheVariants.{New, Already}
@@ -21,19 +21,19 @@ use Rattle.table_model.proofs.Joins.{or_else-idempotent, get-union, same_maps}
 use Rattle.replica_store.proofs.Limits.{IsFree-next_name, IsFree-place_for}
 use Rattle.replica_store.proofs.RowsIn.{get-rows_in}
 use Rattle.column_file.specs.Files.{AreCanonicalOf, opened_from}
-use Rattle.cluster_history.specs.Cluster.{replicas_in, place_of, numbered}
+use Rattle.cluster_history.specs.Cluster.{place_of, numbered}
 use Rattle.cluster_history.specs.Codings.{Become, IsPut, AreJoined, IsSent, MergesAt, SegmentsAfter}
 use Rattle.cluster_history.specs.Message.{listing_in}
 use Rattle.cluster_history.specs.Segments.{Segments, ClusterSegments, ClusterForm, cluster_form, segments_in, brought_by, segments_brought}
 use Rattle.cluster_history.specs.declared.message.Message.{Message}
 use Rattle.cluster_history.specs.declared.reply.Reply.{Reply}
-use Rattle.cluster_history.specs.declared.reply.Reply.TheVariants.{Done, Put}
+use Rattle.cluster_history.specs.declared.reply.Reply.TheVariants.{Put}
 use Rattle.cluster_history.specs.Recoded.{RecodesAt}
-use Rattle.cluster_history.proofs.Apart.{refill, at_left, at_seam}
+use Rattle.cluster_history.proofs.Apart.{at_left, at_seam}
 use Rattle.cluster_history.proofs.Opened.{opened_held}
+use Rattle.cluster_history.proofs.Recodes.{refilled, there_is}
 use Rattle.cluster_history.proofs.Takes.{ok_parts}
 use Rattle.cluster_history.proofs.Placed.{length-replicas_in, same_store, store_there}
-use Rattle.script_lines.specs.declared.step.Step.{Step}
 use Rattle.script_lines.specs.declared.step.Step.TheVariants.{Insert, Merge, Recode, Open}
 
 -- what is seen of each store is seen at its place
@@ -162,15 +162,6 @@ itself_at schema stores sent replica other at from reply c is_other one view is 
       (s.segments, numbered_in (λ x. x.segments) stores replica at s here within held, becomes schema stores sent replica at s (union_of s.segments s.segments) here (sym (union-self s.segments))),
     ))
 
--- stores that were lent and came back, of which one place was set
-set_lent : (stores lent new : List StoreForm) (n at : ℕ) (made : StoreForm) → lent ≡ stores → n ≡ length stores → new ≡ slice_set lent at made → take n (new ++ drop (length new) stores) ≡ slice_set stores at made
-set_lent stores lent new n at made is is_len set =
-    let made_is : new ≡ slice_set stores at made = set ∙ ap (λ (ss : List StoreForm). slice_set ss at made) is in
-    refill n stores new is_len (ap length made_is ∙ length-set stores at made) ∙ made_is
-
-held_lent : (stores lent : List StoreForm) (at : ℕ) (s : StoreForm) → lent ≡ stores → slice_get lent at ≡ Some s → s ≡ get_or stores at s
-held_lent stores lent at s is held = sym (get_or_from_slice_get stores at s s (ap (λ (ss : List StoreForm). slice_get ss at) (sym is) ∙ held))
-
 -- a merge of two replicas takes in the segments of the other
 pub merged_at : (schema : Table) (stores lent new : List StoreForm) (sent : List Message) (n replica other at from : ℕ) (reply : Reply) (c : ClusterForm)
     → lent ≡ stores → n ≡ length stores → MergesAt lent at from new → Some from ≡ place_of (length c.parts.stores) other → from < length c.parts.stores
@@ -181,10 +172,10 @@ merged_at schema stores lent new sent n replica other at from reply c is_lent is
     let made : StoreForm = merges.2 in
     let lengths : length c.parts.stores ≡ length stores = ap (λ (d : ClusterForm). length d.parts.stores) (sym view) ∙ length-replicas_in stores in
     let there : Some from ≡ place_of (length stores) other = is_from ∙ ap (λ n. place_of n other) lengths in
-    let came : numbered (segments_in stores) other ≡ Some t.segments = numbered_in (λ x. x.segments) stores other from t there (omega (arith, below_from)) (held_lent stores lent from t is_lent merges.4) in
-    let joined = joined_at schema stores sent replica at s made t.segments c (held_lent stores lent at s is_lent merges.3) merges.6 view is below in
+    let came : numbered (segments_in stores) other ≡ Some t.segments = numbered_in (λ x. x.segments) stores other from t there (omega (arith, below_from)) (there_is stores lent from t is_lent merges.4) in
+    let joined = joined_at schema stores sent replica at s made t.segments c (there_is stores lent at s is_lent merges.3) merges.6 view is below in
     let Q : ClusterForm → Type 0 = λ d. numbered d.segments.stores other ≡ Some t.segments in
-    subst (λ (ss : List StoreForm). SegmentsAfter c (Merge replica other) reply (cluster_form schema ss sent).segments) (sym (set_lent stores lent new n at made is_lent is_len merges.5))
+    subst (λ (ss : List StoreForm). SegmentsAfter c (Merge replica other) reply (cluster_form schema ss sent).segments) (sym (refilled stores lent new n at made is_lent is_len merges.5))
     (t.segments, subst Q view came, joined)
 
 -- a vector was put into another coding
@@ -194,8 +185,8 @@ pub recoded_at : (schema : Table) (stores lent new : List StoreForm) (sent : Lis
 recoded_at schema stores lent new sent n replica at name column vector coding u reply c is_lent is_len recodes view is below =
     let s : StoreForm = recodes.0 in
     let made : StoreForm = recodes.1 in
-    let held : s ≡ get_or stores at s = held_lent stores lent at s is_lent recodes.2 in
-    subst (λ (ss : List StoreForm). SegmentsAfter c (Recode replica name column vector coding) reply (cluster_form schema ss sent).segments) (sym (set_lent stores lent new n at made is_lent is_len recodes.3))
+    let held : s ≡ get_or stores at s = there_is stores lent at s is_lent recodes.2 in
+    subst (λ (ss : List StoreForm). SegmentsAfter c (Recode replica name column vector coding) reply (cluster_form schema ss sent).segments) (sym (refilled stores lent new n at made is_lent is_len recodes.3))
     (said_at (λ d. SegmentsAfter d (Recode replica name column vector coding) reply (cluster_form schema (slice_set stores at made) sent).segments) schema stores sent replica at c (λ is below. (
       s.segments,
       made.segments,

@@ -31,12 +31,12 @@ recodes_there stores place s made result name column vector coding below is acts
     (s, made, slice_get_read stores (length stores) place s refl below is, refl, acts, segments)
 
 -- stores that were lent and came back, of which one place was set
-refilled : (stores lent new : List StoreForm) (n place : ℕ) (made : StoreForm) → lent ≡ stores → n ≡ length stores → new ≡ slice_set lent place made → take n (new ++ drop (length new) stores) ≡ slice_set stores place made
+pub refilled : (stores lent new : List StoreForm) (n place : ℕ) (made : StoreForm) → lent ≡ stores → n ≡ length stores → new ≡ slice_set lent place made → take n (new ++ drop (length new) stores) ≡ slice_set stores place made
 refilled stores lent new n place made is is_len set =
     let made_is : new ≡ slice_set stores place made = set ∙ ap (λ (ss : List StoreForm). slice_set ss place made) is in
     refill n stores new is_len (ap length made_is ∙ length-set stores place made) ∙ made_is
 
-there_is : (stores lent : List StoreForm) (place : ℕ) (s : StoreForm) → lent ≡ stores → slice_get lent place ≡ Some s → s ≡ get_or stores place s
+pub there_is : (stores lent : List StoreForm) (place : ℕ) (s : StoreForm) → lent ≡ stores → slice_get lent place ≡ Some s → s ≡ get_or stores place s
 there_is stores lent place s is held = sym (get_or_from_slice_get stores place s s (ap (λ (ss : List StoreForm). slice_get ss place) (sym is) ∙ held))
 
 -- a recode that is refused leaves the stores

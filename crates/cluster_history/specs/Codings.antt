@@ -37,7 +37,7 @@ abbrev pub IsSent : ClusterSegments → Segments → ClusterSegments → Type 0
 IsSent old brought new = new ≡ record old { messages = old.messages ++ (brought ∷ []) }
 
 -- What a step that is answered makes of the segments: a recode alone changes a coding, that of the vector that it names; a batch that
--- is appended, inserted or read from a file comes with canonical vectors, and one of a merge or a message as it is coded there.
+-- is appended, inserted or read from a file comes with canonical vectors, and one of a merge, an offer or a take as it is coded where it comes from.
 abbrev pub SegmentsAfter : ClusterForm → Step → Reply → ClusterSegments → Type 0
 SegmentsAfter old (Append replica rows) reply new = (name : BatchName) × (reply ≡ Named name) × IsPut old replica name rows new
 SegmentsAfter old (Insert replica name rows) reply new = ((reply ≡ Put New) × IsPut old replica name rows new) ⊎ ((reply ≡ Put Already) × (new ≡ old.segments))
@@ -62,7 +62,19 @@ abbrev pub StayIn : List Segments → List Segments → Type 0
 StayIn old new =
     (at : ℕ) (held : Segments) → slice_get old at ≡ Some held → (now : Segments) × (slice_get new at ≡ Some now) × ((name : BatchName) (s : SegmentForm) → finite.get held name ≡ Some s → finite.get now name ≡ Some s)
 
--- no step but a recode changes a coding: what replicas hold and what messages bring stays as it is
-abbrev pub CodingsStay : Type 0
-CodingsStay = (old : ClusterForm) (step : Step) (reply : Reply) (new : ClusterSegments) → ((replica column vector : ℕ) (name : BatchName) (coding : Coding) → step ≢ Recode replica name column vector coding) →
-    SegmentsAfter old step reply new → StayIn old.segments.stores new.stores × StayIn old.segments.messages new.messages
+-- a step that is no recode
+abbrev pub IsNoRecode : Step → Type 0
+IsNoRecode step = (replica column vector : ℕ) (name : BatchName) (coding : Coding) → step ≢ Recode replica name column vector coding
+
+-- no step of a list is a recode
+abbrev pub AreNoRecodes : List Step → Type 0
+AreNoRecodes [] = Unit {0}
+AreNoRecodes (step ∷ steps) = IsNoRecode step × AreNoRecodes steps
+
+-- no step but a recode changes a coding of what a replica holds
+abbrev pub HeldStay : Type 0
+HeldStay = (old : ClusterForm) (step : Step) (reply : Reply) (new : ClusterSegments) → IsNoRecode step → SegmentsAfter old step reply new → StayIn old.segments.stores new.stores
+
+-- no step changes a coding of what a message brings, once it is made
+abbrev pub SentStay : Type 0
+SentStay = (old : ClusterForm) (step : Step) (reply : Reply) (new : ClusterSegments) → SegmentsAfter old step reply new → StayIn old.segments.messages new.messages

@@ -6,7 +6,7 @@ use Rattle.replica_store.specs.declared.inserted.Inserted.TheVariants.{Already}
 use Rattle.cluster_history.specs.Cluster.{ClusterParts, numbered, step_of}
 use Rattle.cluster_history.specs.declared.reply.Reply.{Reply}
 use Rattle.cluster_history.specs.declared.reply.Reply.TheVariants.{Done, Refused, Put}
-use Rattle.cluster_history.specs.Codings.{SegmentsAfter}
+use Rattle.cluster_history.specs.Codings.{SegmentsAfter, StayIn, AreNoRecodes, HeldStay, SentStay}
 use Rattle.cluster_history.specs.Segments.{ClusterForm}
 use Rattle.script_lines.specs.declared.step.Step.{Step}
 use Rattle.script_lines.specs.declared.step.Step.TheVariants.{Insert, Delete, Merge, Take, Open, Query}
@@ -54,3 +54,14 @@ Run = Leads StepTo
 -- a run with the codings of what is held and sent
 abbrev pub CodedRun : ClusterForm → List Step → List Reply → ClusterForm → Type 0
 CodedRun = Leads StepsTo
+
+-- over a run without a recode, with its refused steps and those for which memory lacked, what replicas held and what messages brought lies as it lay
+abbrev pub RunsKeep : Type 0
+RunsKeep = (old new : ClusterForm) (steps : List Step) (replies : List Reply) → AreNoRecodes steps → CodedRun old steps replies new →
+    StayIn old.segments.stores new.segments.stores × StayIn old.segments.messages new.segments.messages
+
+-- what becomes of codings
+pub record CodingLaws : Type 0 where
+  pub held : HeldStay
+  pub sent : SentStay
+  pub runs : RunsKeep

@@ -1,5 +1,5 @@
 -- A cluster as contracts see it: its parts, and beside them the segments in which the batches of its replicas and messages lie, with their codings.
-use Rattle.std.specs.Prelude.{List, map, refl}
+use Rattle.std.specs.Prelude.{ℕ, List, [], map, replicate, refl}
 use Rattle.std.specs.Coded.{Coded, code_by, coded×, coded_list}
 use Rattle.std.specs.FinMap as finite
 use Rattle.table_model.specs.Name.{name_cmp, coded_name}
@@ -38,6 +38,10 @@ coded_cluster = code_by (ClusterParts × ClusterSegments) (coded× coded_parts c
 -- the segments of each store
 abbrev pub segments_in : List StoreForm → List Segments
 segments_in stores = map (λ s. s.segments) stores
+
+-- the segments of so many new replicas, which hold nothing, where there is no message
+abbrev pub new_segments : ℕ → ClusterSegments
+new_segments count = record { stores = replicate count finite.empty; messages = [] }
 
 -- the segments that a message brings; a summary brings none
 abbrev pub brought_by : Message → Segments

@@ -1,11 +1,12 @@
 //! Clusters: a table at replicas and the messages between them, both numbered from 1.
 ghost use Rattle.std.specs.Prelude.{◌≡◌, ◌≢◌, ◌<◌, ◌≤◌, ◌++◌, codes, length, IfSome, IfOk, IfErr, IsOk, OnOk, OnErr, Some, None, Ok};
+ghost use Rattle.std.specs.FinMap as map;
 ghost use Rattle.table_model.specs.Outcome.{Acts, Gives};
 ghost use Rattle.cluster_history.specs.Cluster.{new_cluster, new_replicas, replicas_in, empty_replica, place_of, with_message, merged_in, message_limit};
 ghost use Rattle.cluster_history.specs.Message.{carried, messages_in};
 ghost use Rattle.cluster_history.specs.Recoded.{RecodesAt};
 ghost use Rattle.cluster_history.specs.Run.{ActsOn, StepsTo};
-ghost use Rattle.cluster_history.specs.Segments.{brought_by, segments_in, segments_brought};
+ghost use Rattle.cluster_history.specs.Segments.{brought_by, new_segments, segments_in, segments_brought};
 ghost use Rattle.cluster_history.specs.Codings.{IsSent, MergesAt};
 
 use crate::files::{exported, opened};
@@ -49,7 +50,8 @@ impl Cluster {
     pub fn new(alloc: Global, schema: &Schema, replicas: usize) -> Result<Cluster, Refusal>
         requires some { 1 ≤ replicas }
         requires limit { replicas ≤ 64 }
-        ensures { Gives (λ cluster. cluster.parts) result (Ok (new_cluster schema.now replicas)) }
+        ensures parts { Gives (λ cluster. cluster.parts) result (Ok (new_cluster schema.now replicas)) }
+        ensures segments { IfOk result (λ cluster. cluster.segments ≡ new_segments replicas) }
     {
         let stores = new_stores(alloc, schema, replicas)?;
         let schema = schema.copy(alloc)?;
@@ -316,7 +318,8 @@ pub fn place_of(count: usize, number: u32) -> Option<usize>
 /// So many new replicas, replica i having own origin i.
 fn new_stores(alloc: Global, schema: &Schema, count: usize) -> Result<Vec<Store>, Refusal>
     requires { count ≤ 64 }
-    ensures { Gives (λ stores. replicas_in stores.items) result (Ok (new_replicas schema.now 1 count)) }
+    ensures replicas { Gives (λ stores. replicas_in stores.items) result (Ok (new_replicas schema.now 1 count)) }
+    ensures segments { IfOk result (λ stores. segments_in stores.items ≡ (new_segments count).stores) }
 {
     let mut stores = Vec::with_capacity(alloc, count)?;
     for i in 0..count {
@@ -328,7 +331,8 @@ fn new_stores(alloc: Global, schema: &Schema, count: usize) -> Result<Vec<Store>
 /// A new replica with this own origin.
 fn new_store(alloc: Global, schema: &Schema, own: u32) -> Result<Store, Refusal>
     requires { 1 ≤ own }
-    ensures { Gives (λ store. store.replica) result (Ok (empty_replica schema.now own)) }
+    ensures replica { Gives (λ store. store.replica) result (Ok (empty_replica schema.now own)) }
+    ensures segments { IfOk result (λ store. store.segments ≡ map.empty) }
 {
     Store::new(alloc, schema, Origin(own))
 }

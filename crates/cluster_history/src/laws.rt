@@ -1,6 +1,6 @@
 //! Laws of histories, each the contract of a function that does nothing.
-ghost use Rattle.cluster_history.specs.Codings.{CodingsStay};
 ghost use Rattle.cluster_history.specs.History.{HistoryLaws};
+ghost use Rattle.cluster_history.specs.Run.{CodingLaws};
 
 /// What replicas take decides what they are, in whatever order and however often it came.
 ///
@@ -14,8 +14,9 @@ pub fn history_laws()
     ensures { HistoryLaws }
 {}
 
-/// No step but a recode changes a coding: after any other that is answered, each batch that a replica held and that a message
-/// brought lies in the segment that it lay in. A step that is refused changes nothing at all.
-pub fn codings_stay()
-    ensures { CodingsStay }
+/// What becomes of codings: no step but a recode changes one of what a replica holds, and no step at all one of what a message
+/// brings. So over a run without a recode each batch that a replica held, or that a message brought, lies in the segment that it
+/// lay in, whatever was appended, inserted, merged, taken or opened beside it, and whichever steps were refused.
+pub fn coding_laws()
+    ensures { CodingLaws }
 {}

@@ -1,6 +1,5 @@
-//! Recode steps, each of which puts the vector that it names into the coding that it names, and no other. What a contract sees of a
-//! cluster is its replicas, which have rows and no codings; so which coding a step hands on is seen here, and that no other step
-//! changes the codings of what is held.
+//! Recode steps, each of which puts the vector that it names into the coding that it names, and no other; and that no other step,
+//! answered or refused, changes the codings of what is held. Contracts say so too; here it is seen of the coded vectors themselves.
 use crate::tests::{Want, is_wanted, name};
 use cluster_history::{Cluster, Reply};
 use expectations::agree;

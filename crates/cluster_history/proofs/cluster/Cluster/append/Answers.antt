@@ -1,4 +1,4 @@
-use Rattle.std.proofs.Common.{refl, inl, ◌≡◌, subst}
+use Rattle.std.proofs.Common.{refl, ◌≡◌, subst}
 use Rattle.std.proofs.lemmas.Result.{err_from_is_err_and}
 use Rattle.replica_store.specs.Replica.{appended}
 use Rattle.replica_store.specs.Segments.{StoreForm, rows_in}

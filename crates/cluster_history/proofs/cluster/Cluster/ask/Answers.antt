@@ -1,8 +1,8 @@
 use Rattle.std.proofs.Common.{◌≡◌, ◌∙◌, ◌<◌, ◌≤◌, refl, inl, length, arith}
 use Rattle.std.proofs.lemmas.Result.{err_from_is_err_and}
 use Rattle.replica_store.specs.Exchange.{summary_of}
-use Rattle.cluster_history.specs.Cluster.{ask_step, message_limit}
-use Rattle.cluster_history.specs.Message.{Listing, messages_in}
+use Rattle.cluster_history.specs.Cluster.{message_limit}
+use Rattle.cluster_history.specs.Message.{messages_in}
 use Rattle.cluster_history.specs.declared.message.Message.TheVariants.{Summary}
 use Rattle.cluster_history.proofs.Forms.{nowhere, parts_same}
 use Rattle.cluster_history.proofs.Sent.{sent_as, ask_nowhere, ask_full, ask_lacks, ask_sends, some_numbered, numbered_store, has_room, is_full, same_ok, summary_sent}

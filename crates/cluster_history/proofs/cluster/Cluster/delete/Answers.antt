@@ -1,4 +1,4 @@
-use Rattle.std.proofs.Common.{◌≢◌, Ok, refl, inl}
+use Rattle.std.proofs.Common.{◌≢◌, Ok}
 use Rattle.std.proofs.lemmas.Bool.{false≢true}
 use Rattle.std.proofs.lemmas.Result.{err_from_is_err_and}
 use Rattle.replica_store.specs.Replica.{deleted_rows}

@@ -1,4 +1,4 @@
-use Rattle.std.proofs.Common.{◌≢◌, refl, inl, Ok, ◌≡◌, subst}
+use Rattle.std.proofs.Common.{◌≢◌, Ok, ◌≡◌, subst}
 use Rattle.std.proofs.lemmas.Result.{err_from_is_err_and}
 use Rattle.replica_store.specs.Replica.{Replica, inserted}
 use Rattle.replica_store.specs.declared.inserted.Inserted.TheVariants.{Already}

@@ -1,4 +1,4 @@
-use Rattle.std.proofs.Common.{◌≡◌, ◌≢◌, Ok, refl, inl, length}
+use Rattle.std.proofs.Common.{◌≡◌, ◌≢◌, Ok, length}
 use Rattle.std.proofs.lemmas.Bool.{false≢true}
 use Rattle.std.proofs.lemmas.Result.{err_from_is_err_and}
 use Rattle.cluster_history.specs.Cluster.{merge_step}

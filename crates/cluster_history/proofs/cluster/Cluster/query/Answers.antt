@@ -1,4 +1,4 @@
-use Rattle.std.proofs.Common.{refl, inl}
+use Rattle.std.proofs.Common.{refl}
 use Rattle.std.proofs.lemmas.Result.{err_from_is_err_and}
 use Rattle.cluster_history.specs.Message.{messages_in}
 use Rattle.cluster_history.proofs.Forms.{nowhere, parts_same}

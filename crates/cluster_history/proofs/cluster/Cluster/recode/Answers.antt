@@ -1,4 +1,3 @@
-use Rattle.std.proofs.Common.{refl, inl}
 use Rattle.std.proofs.lemmas.Result.{err_from_is_err_and}
 use Rattle.replica_store.specs.Replica.{recoded_rows}
 use Rattle.cluster_history.specs.Cluster.{recode_step, done_reply}

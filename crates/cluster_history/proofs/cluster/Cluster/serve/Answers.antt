@@ -1,7 +1,7 @@
 use Rattle.std.proofs.Common.{◌≡◌, ◌<◌, ◌≤◌, refl, inl, length, arith, Some, None, List}
 use Rattle.std.proofs.lemmas.Result.{err_from_is_err_and}
-use Rattle.cluster_history.specs.Cluster.{numbered, serve_step, message_limit}
-use Rattle.cluster_history.specs.Message.{Carried, Offering, listing_in, messages_in}
+use Rattle.cluster_history.specs.Cluster.{numbered, message_limit}
+use Rattle.cluster_history.specs.Message.{Carried, listing_in, messages_in}
 use Rattle.cluster_history.specs.declared.message.Message.TheVariants.{Offer}
 use Rattle.cluster_history.proofs.Codings.{served_at}
 use Rattle.cluster_history.proofs.Forms.{nowhere, parts_same}
