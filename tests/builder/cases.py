@@ -110,6 +110,14 @@ def changes_of_sources(trial):
     ran_only(trial, trial.run(), source="second source")
 
 
+def other_program(trial):
+    built(trial, trial.run())
+    # As a program of other sources, or for another processor, that the toolchain has built there.
+    trial.write("crates/lanes/out/lanes", "#!/bin/sh\necho another program\n")
+    built(trial, trial.run())
+    ran_only(trial, trial.run())
+
+
 def other_changes(trial):
     built(trial, trial.run())
     for name in [
@@ -272,6 +280,7 @@ CASES = [
     ("for a processor without AVX2 the toolchain chooses", HOUSE, older_processor),
     ("a second run calls the toolchain not at all", HOUSE, second_run),
     ("a change of a source builds again", HOUSE, changes_of_sources),
+    ("a program that another command put in its place is built again", HOUSE, other_program),
     ("a change of anything else does not", HOUSE, other_changes),
     ("a crate that is not proved is named, and no old program is run", HOUSE, crate_that_fails),
     ("so it is where it is the first", HOUSE, first_crate_that_fails),

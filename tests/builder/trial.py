@@ -195,11 +195,11 @@ class Trial:
         path = os.pathsep.join([self.commands, self.path]) if has_rt else self.path
         # Whatever the script starts has this pipe open too, so that its other end tells when the last of it has ended.
         ends, held = os.pipe()
-        with open(self.at("given"), "rb") as given, open(self.at("out"), "wb") as out, open(self.at("err"), "wb") as err:
+        with open(self.at("given"), "rb") as source, open(self.at("out"), "wb") as out, open(self.at("err"), "wb") as err:
             process = subprocess.Popen(
                 [os.path.join(self.top, "lanes"), *arguments],
                 cwd=self.elsewhere,
-                stdin=given,
+                stdin=source,
                 stdout=out,
                 stderr=err,
                 env={**os.environ, "PATH": path, "LC_ALL": language, "TRIAL": self.room},
