@@ -1,18 +1,13 @@
 -- Set functions of two lists joined, from those of each.
 use Rattle.std.specs.Prelude.{◌≡◌, List, [], ◌∷◌, ◌++◌, Option, Some, None, ℤ, ◌+ℤ◌}
 use Rattle.std.specs.Int.{int_min, int_max}
-use Rattle.std.proofs.Common.{refl, ap, ◌∙◌, arith, append-nil}
+use Rattle.std.proofs.Common.{refl, ap, ◌∙◌, arith}
 use Rattle.std.proofs.lemmas.Int.{ints, clamps}
-use Rattle.table_model.specs.Values.{total, total_or_null, added, lesser, greater, least, greatest}
+use Rattle.table_model.specs.Values.{total, lesser, greater, least, greatest}
 
 pub total-append : (xs ys : List ℤ) → total (xs ++ ys) ≡ total xs +ℤ total ys
 total-append [] ys = omega (arith, ints)
 total-append (x ∷ xs) ys = omega (arith, ints, total-append xs ys)
-
-pub total_or_null-append : (xs ys : List ℤ) → total_or_null (xs ++ ys) ≡ added (total_or_null xs) (total_or_null ys)
-total_or_null-append [] ys = refl
-total_or_null-append (x ∷ xs) [] = ap (λ (l : List ℤ). total_or_null (x ∷ l)) (append-nil xs)
-total_or_null-append (x ∷ xs) (y ∷ ys) = ap Some (total-append (x ∷ xs) (y ∷ ys))
 
 min_assoc : (x y z : ℤ) → int_min x (int_min y z) ≡ int_min (int_min x y) z
 min_assoc x y z = omega (arith, ints, clamps)

@@ -43,11 +43,12 @@ cells-IsRow row column [] (v ∷ vs) h = absurd h
 cells-IsRow row column (c ∷ cs) [] h = absurd h
 cells-IsRow row column (c ∷ cs) (v ∷ vs) h = ap (λ b. cond b (cells_fault row (suc column) cs vs) (Some (OutOfType row column))) (fits-Fits c v h.0) ∙ cells-IsRow row (suc column) cs vs h.1
 
-lengths-IsRow : (columns : List ColumnShape) (cells : Cells) → IsRow columns cells → length cells ≡ length columns
-lengths-IsRow [] [] h = refl
-lengths-IsRow [] (v ∷ vs) h = absurd h
-lengths-IsRow (c ∷ cs) [] h = absurd h
-lengths-IsRow (c ∷ cs) (v ∷ vs) h = ap suc (lengths-IsRow cs vs h.1)
+-- a row has one cell for each column
+pub row_length : (columns : List ColumnShape) (cells : Cells) → IsRow columns cells → length cells ≡ length columns
+row_length [] [] h = refl
+row_length [] (v ∷ vs) h = absurd h
+row_length (c ∷ cs) [] h = absurd h
+row_length (c ∷ cs) (v ∷ vs) h = ap suc (row_length cs vs h.1)
 
 IsRow-fault : (columns : List ColumnShape) (row : ℕ) (cells : Cells) → row_fault columns row cells ≡ None → IsRow columns cells
 IsRow-fault columns row cells e =
@@ -58,7 +59,7 @@ IsRow-fault columns row cells e =
 
 fault-IsRow : (columns : List ColumnShape) (row : ℕ) (cells : Cells) → IsRow columns cells → row_fault columns row cells ≡ None
 fault-IsRow columns row cells h =
-    let lengths = lengths-IsRow columns cells h in
+    let lengths = row_length columns cells h in
     let same : (length cells == length columns) ≡ true = grind (arith, nat_tests) in
     ap (λ b. cond b (cells_fault row 0 columns cells) (Some (WrongArity row))) same ∙ cells-IsRow row 0 columns cells h
 

@@ -1,13 +1,13 @@
 -- To fold a name twice is to fold it once, and folding keeps what makes it an identifier: so a schema's own parts give it again.
-use Rattle.std.specs.Prelude.{◌≡◌, ℕ, ◌≤◌, Bool, true, false, cond, not, ◌&&◌, ◌||◌, nat_le, List, [], ◌∷◌, map, length, Ok, Err, Result}
+use Rattle.std.specs.Prelude.{◌≡◌, ℕ, ◌≤◌, Bool, true, false, cond, not, ◌&&◌, ◌||◌, nat_le, nat_lt, List, [], ◌∷◌, map, length, Ok, Err, Result}
 use Rattle.std.specs.List.{list_any, list_all}
 use Rattle.std.specs.Char.{to_ascii_uppercase, is_ascii_alphabetic}
 use Rattle.std.proofs.Common.{refl, ap, ◌∙◌, arith}
 use Rattle.std.proofs.lemmas.Bool.Decides.{nat_tests}
 use Rattle.std.proofs.lemmas.List.{length-map}
 use Rattle.std.proofs.lemmas.Str.Ascii.{uppercase-uppercase}
-use Rattle.table_model.specs.Identifier.{folded, same_text, keywords, is_keyword, is_word_byte, is_word, is_identifier}
-use Rattle.table_model.specs.Table.{Table, has_name, are_distinct, name_of, is_named, is_schema, column_of, asked_of, folded_table, schema_of, IsTable}
+use Rattle.table_model.specs.Identifier.{folded, same_text, keywords, is_keyword, is_word_byte, word_limit, is_word, is_identifier}
+use Rattle.table_model.specs.Table.{Table, has_name, are_distinct, name_of, is_named, column_limit, is_schema, column_of, asked_of, folded_table, schema_of, IsTable}
 use Rattle.table_model.specs.declared.schema.ColType.{ColType}
 use Rattle.table_model.specs.declared.refusal.Refusal.{Refusal}
 use Rattle.table_model.specs.declared.refusal.Refusal.TheVariants.{BadSchema}
@@ -32,7 +32,7 @@ is_word-folded (c ∷ cs) =
     let first = alphabetic-uppercase c in
     let rest = word_bytes-folded cs in
     let long = length-map cs to_ascii_uppercase in
-    λ i. first i && (rest i && nat_le (long i) 63)
+    λ i. first i && (rest i && nat_lt (long i) word_limit)
 
 is_keyword-folded : (text : List ℕ) → is_keyword (folded text) ≡ is_keyword text
 unfolding is_keyword
@@ -71,7 +71,7 @@ is_schema-again table columns =
     let long = length-again columns in
     let named = are_named-again columns in
     let distinct = are_distinct-again columns in
-    λ i. name i && (nat_le 1 (long i) && (nat_le (long i) 32 && (named i && distinct i)))
+    λ i. name i && (nat_le 1 (long i) && (nat_le (long i) column_limit && (named i && distinct i)))
 
 columns-again : (columns : List (List ℕ × ColType)) → map column_of (again columns) ≡ map column_of columns
 columns-again [] = refl
@@ -92,12 +92,12 @@ second_third true true false d e = cc
 second_third true false c d e = cc
 second_third false b c d e = cc
 
-lengths : (table : List ℕ) (columns : List (List ℕ × ColType)) → is_schema table columns ≡ true → (1 ≤ length columns) × (length columns ≤ 32)
+lengths : (table : List ℕ) (columns : List (List ℕ × ColType)) → is_schema table columns ≡ true → (1 ≤ length columns) × (length columns ≤ column_limit)
 unfolding is_schema
 lengths table columns h =
-    let both : (nat_le 1 (length columns) ≡ true) × (nat_le (length columns) 32 ≡ true) = second_third (is_identifier table) (nat_le 1 (length columns)) (nat_le (length columns) 32) (list_all is_named columns && are_distinct (map name_of columns)) h in
+    let both : (nat_le 1 (length columns) ≡ true) × (nat_le (length columns) column_limit ≡ true) = second_third (is_identifier table) (nat_le 1 (length columns)) (nat_le (length columns) column_limit) (list_all is_named columns && are_distinct (map name_of columns)) h in
     let least : nat_le 1 (length columns) ≡ true = both.0 in
-    let most : nat_le (length columns) 32 ≡ true = both.1 in
+    let most : nat_le (length columns) column_limit ≡ true = both.1 in
     (grind (arith, nat_tests, least), grind (arith, nat_tests, most))
 
 pub IsTable-folded : (table : List ℕ) (columns : List (List ℕ × ColType)) → is_schema table columns ≡ true → IsTable (folded_table table columns)
@@ -109,11 +109,3 @@ IsTable-folded table columns h =
       limit = omega (arith, limits.1, long);
       itself = itself table columns h;
     }
-
--- what a schema's parts were asked for by is proper
-pub IsTable-is_schema : (table : Table) → IsTable table → is_schema table.name (map asked_of table.columns) ≡ true
-IsTable-is_schema table h =
-    elim (is_schema table.name (map asked_of table.columns)) as (λ b. cond b (Ok (folded_table table.name (map asked_of table.columns))) (Err BadSchema) ≡ Ok table → b ≡ true) [
-      | true ↦ λ e. refl
-      | false ↦ λ e. cc
-    ] h.itself

@@ -1,25 +1,14 @@
--- Texts that are the same have the same length.
-use Rattle.std.specs.Prelude.{◌≡◌, ◌≢◌, ℕ, suc, Bool, true, false, IsTrue, ◌↔◌, ◌⊎◌, nat_eq, not, ◌&&◌, ◌||◌, ◌==◌, List, [], ◌∷◌, length, map}
+-- Texts compared byte for byte, and names without regard to case.
+use Rattle.std.specs.Prelude.{◌≡◌, ℕ, Bool, true, false, IsTrue, ◌↔◌, ◌⊎◌, nat_eq, not, ◌&&◌, ◌||◌, ◌==◌, List, [], ◌∷◌, map}
 use Rattle.std.specs.Char.{to_ascii_uppercase, to_ascii_lowercase}
 use Rattle.std.specs.Cmp.Lexicographic.{pointwise, same_text as same_as_texts}
 use Rattle.std.proofs.lemmas.Bool.{cases_Bool, both_ways, eq-eqb}
 use Rattle.std.proofs.lemmas.Bool.Decides.{nat_tests}
 use Rattle.std.specs.List.{list_any}
 use Rattle.std.proofs.Common.{refl, sym, ap, ◌∙◌, inl, inr, arith}
-use Rattle.std.proofs.Math.Bool.{and-false}
-use Rattle.std.proofs.lemmas.List.{length-map}
 use Rattle.table_model.specs.Identifier.{folded, same_text}
 use Rattle.table_model.specs.Table.{has_name, name_of, are_distinct}
 use Rattle.table_model.specs.declared.schema.ColType.{ColType}
-
-pub same_text-lengths : (xs ys : List ℕ) → length xs ≢ length ys → same_text xs ys ≡ false
-same_text-lengths [] [] apart = absurd (apart refl)
-same_text-lengths [] (y ∷ ys) apart = refl
-same_text-lengths (x ∷ xs) [] apart = refl
-same_text-lengths (x ∷ xs) (y ∷ ys) apart = ap (λ b. (x == y) && b) (same_text-lengths xs ys (λ e. apart (ap suc e))) ∙ and-false _
-
-pub same_folded-lengths : (xs ys : List ℕ) → length xs ≢ length ys → false ≡ same_text (folded xs) (folded ys)
-same_folded-lengths xs ys apart = sym (same_text-lengths (folded xs) (folded ys) (λ e. apart (sym (length-map xs to_ascii_uppercase) ∙ e ∙ length-map ys to_ascii_uppercase)))
 
 -- whether a name comes again is asked of what the names are read from
 pub list_any-map : {X Y : Type 0} (p : Y → Bool) (f : X → Y) (xs : List X) → list_any p (map f xs) ≡ list_any (λ x. p (f x)) xs

@@ -13,7 +13,7 @@ use Rattle.table_model.specs.State.{Cells, same_cells}
 use Rattle.table_model.specs.Table.{ColumnShape, AreRows}
 use Rattle.table_model.specs.Values.{present, distinct, total}
 
--- a row's cell in a column, from 0 on; past its end null, of which no query asks
+-- a row's cell in a column, from 0 on; past its end null, of which no resolved query asks
 abbrev pub cell : Cells → ℕ → Option ℤ
 cell row column = slice_index_or row column None
 

@@ -1,5 +1,5 @@
 -- Identifiers: the names of tables and columns, and the words that are none.
-use Rattle.std.specs.Prelude.{ℕ, Bool, true, false, ◌&&◌, ◌||◌, not, ◌==◌, nat_le, List, [], ◌∷◌, length, map, codes}
+use Rattle.std.specs.Prelude.{ℕ, Bool, true, false, ◌&&◌, ◌||◌, not, ◌==◌, nat_lt, List, [], ◌∷◌, length, map, codes}
 use Rattle.std.specs.List.{list_any, list_all}
 use Rattle.std.specs.Char.{is_ascii_alphabetic, is_ascii_alphanumeric, to_ascii_uppercase}
 
@@ -29,10 +29,14 @@ is_keyword text = list_any (λ word. same_text (folded text) (folded word)) keyw
 abbrev pub is_word_byte : ℕ → Bool
 is_word_byte c = is_ascii_alphanumeric c || c == 95
 
--- a letter, and then letters, digits and underscores, at most 64 bytes in all
+-- how many bytes a word may have, and so the name of a table or a column
+abbrev pub word_limit : ℕ
+word_limit = 64
+
+-- a letter, and then letters, digits and underscores, at most word_limit bytes in all
 abbrev pub is_word : List ℕ → Bool
 is_word [] = false
-is_word (c ∷ cs) = is_ascii_alphabetic c && (list_all is_word_byte cs && nat_le (length cs) 63)
+is_word (c ∷ cs) = is_ascii_alphabetic c && (list_all is_word_byte cs && nat_lt (length cs) word_limit)
 
 -- a word that is no keyword
 abbrev pub is_identifier : List ℕ → Bool

@@ -2,6 +2,7 @@
 use Rattle.std.specs.Prelude.{◌≡◌, ℕ, suc, Bool, true, false, cond, not, ◌&&◌, ◌==◌, nat_le, nat_lt, ◌≤◌, List, [], ◌∷◌, map, length, codes, Option, Some, None, Result, Ok, Err, ℤ, pos, negsuc, ◌≤ℤ◌, int_le, refl}
 use Rattle.std.specs.Coded.{Coded, code_by, coded×, coded_ℕ, coded_list}
 use Rattle.std.specs.List.{list_any, list_all}
+use Rattle.std.specs.Str.{bytes_eq}
 use Rattle.table_model.specs.Identifier.{folded, same_text, is_identifier}
 use Rattle.table_model.specs.State.{Cells, Batch}
 use Rattle.table_model.specs.declared.schema.ColType.{ColType}
@@ -47,6 +48,13 @@ type_text SmallInt = codes "SMALLINT"
 type_text Integer = codes "INTEGER"
 type_text BigInt = codes "BIGINT"
 
+-- the type of this name, in upper case
+abbrev pub type_named : List ℕ → Option ColType
+type_named text =
+    cond (bytes_eq text (type_text SmallInt)) (Some SmallInt)
+    (cond (bytes_eq text (type_text Integer)) (Some Integer)
+    (cond (bytes_eq text (type_text BigInt)) (Some BigInt) None))
+
 -- whether two names are equal once folded
 abbrev pub has_name : List ℕ → List ℕ → Bool
 has_name name other = same_text (folded name) (folded other)
@@ -64,11 +72,15 @@ name_of c = c.0
 abbrev pub is_named : List ℕ × ColType → Bool
 is_named c = is_identifier c.0
 
--- whether a table may have this name and these columns: 1 to 32 columns, each name an identifier, column names all different
+-- how many columns a table may have
+abbrev pub column_limit : ℕ
+column_limit = 32
+
+-- whether a table may have this name and these columns: 1 to column_limit columns, each name an identifier, column names all different
 unfoldable pub is_schema : List ℕ → List (List ℕ × ColType) → Bool
 is_schema table columns =
     is_identifier table
-    && (nat_le 1 (length columns) && (nat_le (length columns) 32
+    && (nat_le 1 (length columns) && (nat_le (length columns) column_limit
     && (list_all is_named columns
     && are_distinct (map name_of columns))))
 
@@ -91,7 +103,7 @@ asked_of c = (c.name, c.column_type)
 -- a table that a schema has: asked for by its own name and columns, it is what comes, so that its names are identifiers in upper case
 pub record IsTable (table : Table) : Type 0 where
   pub some : 1 ≤ length table.columns
-  pub limit : length table.columns ≤ 32
+  pub limit : length table.columns ≤ column_limit
   pub itself : schema_of table.name (map asked_of table.columns) ≡ Ok table
 
 -- a cell is null or a value of its column's type

@@ -3,7 +3,7 @@ ghost use Rattle.std.specs.Prelude.{◌≡◌, ◌<◌, ◌≤◌, map, length, 
 ghost use Rattle.std.specs.List.{list_all, list_any, zip};
 ghost use Rattle.table_model.specs.Meaning.{column_at};
 ghost use Rattle.table_model.specs.Outcome.{Gives};
-ghost use Rattle.table_model.specs.Table.{bits_of, is_in_range, schema_of, folded_table, column_of, name_of, is_named, has_name, is_schema, are_distinct, same_column, same_columns, same_table, IsTable};
+ghost use Rattle.table_model.specs.Table.{bits_of, type_named, is_in_range, schema_of, folded_table, column_of, name_of, is_named, has_name, is_schema, are_distinct, same_column, same_columns, same_table, column_limit, IsTable};
 
 use crate::identifier::{folded_copy, is_identifier, same_text, same_word};
 use crate::refusal::Refusal;
@@ -34,6 +34,18 @@ impl ColType {
             ColType::SmallInt => 16,
             ColType::Integer => 32,
             ColType::BigInt => 64,
+        }
+    }
+
+    /// The type of this name in SQL, in upper case: SMALLINT, INTEGER or BIGINT.
+    pub fn named(text: &str) -> Option<ColType>
+        ensures { result ≡ type_named text.now }
+    {
+        match text {
+            "SMALLINT" => Some(ColType::SmallInt),
+            "INTEGER" => Some(ColType::Integer),
+            "BIGINT" => Some(ColType::BigInt),
+            _ => None,
         }
     }
 
@@ -167,7 +179,7 @@ impl Schema {
     pub fn columns(&self) -> usize
         ensures count { result ≡ length self.now.columns }
         ensures some { 1 ≤ result }
-        ensures limit { result ≤ 32 }
+        ensures limit { result ≤ column_limit }
     {
         self.columns.len()
     }

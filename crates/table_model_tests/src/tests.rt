@@ -185,6 +185,23 @@ fn a_table_has_1_to_32_columns_with_names_of_their_own(rt: HostRuntime) -> Resul
 
 // The words are those of the query language's grammar.
 #[test]
+fn a_type_is_found_by_its_name_in_upper_case() -> Result<(), Fail> {
+    let cases = [
+        ("SMALLINT", Some(ColType::SmallInt)),
+        ("INTEGER", Some(ColType::Integer)),
+        ("BIGINT", Some(ColType::BigInt)),
+        ("Integer", None),
+        ("INT", None),
+        ("BIGINT ", None),
+        ("", None),
+    ];
+    for (name, wanted) in cases {
+        agree(ColType::named(name), wanted)?;
+    }
+    Ok(())
+}
+
+#[test]
 fn keywords_are_known_in_either_case(rt: HostRuntime) -> Result<(), Fail> {
     let words =
         "all AND As aVg BETWEEN by Count DISTINCT false FROM group HAVING in IS max MIN not NULL or SELECT sum TRUE unknown WHERE";
