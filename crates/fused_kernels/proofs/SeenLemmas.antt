@@ -18,10 +18,6 @@ only_read s now q few e =
     let given : now.given ≡ q = ap (λ (x : LanesSeen). x.given) e in
     record { given = omega (arith, few, given); same = e ∙ ap (given_of s) (sym given) }
 
-pub form_kept : (s now : LanesSeen) (q : ℕ) → AreLanes s → now ≡ given_of s q → AreLanes now
-form_kept s now q form e =
-    subst AreLanes (sym e) (record { width = form.width; covered = form.covered; long = form.long; fit = form.fit })
-
 -- the values of the piece that is next
 pub next_is : (s now : LanesSeen) (q t : ℕ) → now ≡ given_of s q → t ≡ s.lane_width → (i : ℕ) → value_at now.values (64 * i + place_of now.lane_width now.given) ≡ value_at s.values (64 * i + place_of t q)
 next_is s now q t e same i =

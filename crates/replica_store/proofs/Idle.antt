@@ -12,12 +12,9 @@ use Rattle.table_model.specs.declared.refusal.Refusal.{Refusal}
 use Rattle.segment_core.specs.Segment.{SegmentForm}
 use Rattle.table_model.specs.declared.names.RowName.{RowName}
 use Rattle.replica_store.specs.Replica.{Replica, joined_with, rows_between, unless_fault, delete_fault, deleted_rows, with_deleted}
-use Rattle.replica_store.specs.Segments.{rows_in}
+use Rattle.replica_store.specs.Segments.{Segments, rows_in}
 use Rattle.replica_store.proofs.Merges.{union-same}
 use Rattle.replica_store.proofs.RowsIn.{rows_in-union, len-rows_in}
-
-abbrev Segments : Type 0
-Segments = map.FinMap name_cmp SegmentForm
 
 -- what a replica is joined with: the batches of segments, and deletions
 abbrev pub coming : Segments → set.FinSet row_name_cmp → State

@@ -53,12 +53,6 @@ AllFit-lacked t names (f ∷ fs) h =
       | false ↦ (h.0, AllFit-lacked t names fs h.1)
     ]
 
--- the batch at a place
-pub IsEntry-at : (t : Table) (es : List Entry) (i : ℕ) (e : Entry) → AllFit t es → slice_get es i ≡ Some e → IsEntry t e
-IsEntry-at t [] i e h is = cc
-IsEntry-at t (x ∷ es) zero e h is = let here : x ≡ e = cc in subst (IsEntry t) here h.0
-IsEntry-at t (x ∷ es) (suc i) e h is = IsEntry-at t es i e h.1 is
-
 no_entries : (es : List Entry) → length es ≡ 0 → es ≡ []
 no_entries [] e = refl
 no_entries (x ∷ es) e = absurd (omega arith)

@@ -30,11 +30,6 @@ less_is Greater h = absurd h
 pub is_less : (r : Ordering) → r ≡ Less → T (is_lt r)
 is_less r e = subst (λ (x : Ordering). T (is_lt x)) (sym e) tt
 
-not_below : (r : Ordering) → is_lt r ≡ false → (r ≡ Equal) ⊎ (r ≡ Greater)
-not_below Less e = cc
-not_below Equal e = inl refl
-not_below Greater e = inr refl
-
 turned : {K : Type 0} {R : K → K → Ordering} → IsTotalOrder R → (x y : K) (r : Ordering) → R x y ≡ r → R y x ≡ ordering_reverse r
 turned o x y r e = o.antisymm y x ∙ ap ordering_reverse e
 

@@ -12,11 +12,8 @@ use Rattle.table_model.proofs.NameOrder.{names_total}
 use Rattle.table_model.proofs.Joins.{or_else, get-union, same_maps}
 use Rattle.segment_core.specs.Segment.{SegmentForm}
 use Rattle.replica_store.specs.Replica.{greatest_number, conflict_with, differs}
-use Rattle.replica_store.specs.Segments.{Entry, rows_entries, rows_in, conflict_in}
+use Rattle.replica_store.specs.Segments.{Segments, Entry, rows_entries, rows_in, conflict_in}
 use Rattle.replica_store.proofs.Maps.{entries-as_map}
-
-abbrev Segments : Type 0
-Segments = map.FinMap name_cmp SegmentForm
 
 -- the rows of a segment
 abbrev pub rows : SegmentForm → Batch

@@ -16,14 +16,11 @@ use Rattle.table_model.proofs.Joins.{or_else, get-union}
 use Rattle.segment_core.specs.Segment.{SegmentForm}
 use Rattle.segment_core.specs.declared.coding.Coding.{Coding}
 use Rattle.replica_store.specs.Replica.{AllFit, IsWithinLimits}
-use Rattle.replica_store.specs.Segments.{Entry, IsStored, AreStored, HasProperName, RecodesEntries, rows_in, rows_entries}
+use Rattle.replica_store.specs.Segments.{Segments, Entry, IsStored, AreStored, HasProperName, RecodesEntries, rows_in, rows_entries}
 use Rattle.replica_store.specs.Exchange.{AreOffered}
 use Rattle.replica_store.proofs.Maps.{Sorted, as_map, entries-as_map, get-as_map, len-as_map}
 use Rattle.replica_store.proofs.Recodes.{get-held, as_map-set}
 use Rattle.replica_store.proofs.RowsIn.{entries-rows_in, len-rows_in}
-
-abbrev Segments : Type 0
-Segments = map.FinMap name_cmp SegmentForm
 
 same_some : {X : Type 0} (x y : X) → Some x ≡ Some y → x ≡ y
 same_some x y e = cc
@@ -93,10 +90,6 @@ AllFit-stored t [] all = tt
 AllFit-stored t (x ∷ es) all =
     let here = all 0 x (omega arith) in
     (record { proper = here.proper; fits = here.fits }, AllFit-stored t es (λ k d below. all (suc k) d (omega (arith, below))))
-
--- a batch that may be held has a proper name
-pub All-proper : (t : Table) (es : List Entry) → All (IsStored t) es → All HasProperName es
-All-proper t es all = λ k d below. let here = all k d below in here.proper
 
 -- the rows of batches that may be held fit the schema
 pub AllFit-rows_in : (t : Table) (m : Segments) → AreStored t m → AllFit t (map.entries (rows_in m))

@@ -7,6 +7,7 @@ use Rattle.std.specs.FinMap as map
 use Rattle.table_model.specs.Name.{name_cmp}
 use Rattle.table_model.specs.State.{Cells, Batch}
 use Rattle.table_model.specs.Table.{Table, ColumnShape, IsBatch, IsRow, AreRows}
+use Rattle.table_model.proofs.Batches.{row_length}
 use Rattle.table_model.specs.declared.names.BatchName.{BatchName}
 use Rattle.table_model.specs.declared.refusal.Refusal.{Refusal}
 use Rattle.table_model.specs.declared.refusal.Refusal.TheVariants.{NoSuchVector}
@@ -48,15 +49,9 @@ vector_there n forms column vector is =
       | false ↦ λ t. ap (λ (vs : List VectorForm). is_some (slice_get vs vector)) (get_past forms column t)
     ] refl
 
-length-row : (columns : List ColumnShape) (cells : Cells) → IsRow columns cells → length cells ≡ length columns
-length-row [] [] h = refl
-length-row [] (c ∷ cells) h = absurd h
-length-row (column ∷ columns) [] h = absurd h
-length-row (column ∷ columns) (c ∷ cells) h = ap suc (length-row columns cells h.1)
-
 first_row : (columns : List ColumnShape) (rows : Batch) → 1 ≤ length rows → AreRows columns rows → length (get_or rows 0 []) ≡ length columns
 first_row columns [] some h = absurd (omega arith)
-first_row columns (cells ∷ rows) some h = length-row columns cells h.0
+first_row columns (cells ∷ rows) some h = row_length columns cells h.0
 
 -- a batch of a table has a column for each of the table's
 pub columns_are : (table : Table) (n : ℕ) (s : SegmentForm) → n ≡ length s.rows → s.rows ≡ batch_of n s.forms → IsBatch table s.rows → length s.forms ≡ length table.columns

@@ -19,32 +19,36 @@ use Rattle.replica_store.specs.Replica.{Replica, coded_replica, coded_origin, di
 abbrev pub Entry : Type 0
 Entry = BatchName × SegmentForm
 
+-- the segments of batches, by name
+abbrev pub Segments : Type 0
+Segments = map.FinMap name_cmp SegmentForm
+
 -- the rows of segments
 abbrev pub rows_entries : List Entry → List (BatchName × Batch)
 rows_entries [] = []
 rows_entries (e ∷ es) = (e.0, e.1.rows) ∷ rows_entries es
 
 -- the rows of each segment of a map
-unfoldable pub rows_in : map.FinMap name_cmp SegmentForm → map.FinMap name_cmp Batch
+unfoldable pub rows_in : Segments → map.FinMap name_cmp Batch
 rows_in segments = map.from_sorted (rows_entries (map.entries segments))
 
 -- a store: a replica, and the segments of its batches, whose rows are the batches of its state
 pub record StoreForm : Type 0 where
   pub replica : Replica
-  pub segments : map.FinMap name_cmp SegmentForm
+  pub segments : Segments
 
 -- a store by its parts
 abbrev pub coded_store : Coded StoreForm
-coded_store = code_by (Replica × map.FinMap name_cmp SegmentForm) (coded× coded_replica (map.code coded_name coded_segment)) (λ s. (s.replica, s.segments)) (λ p. record { replica = p.0; segments = p.1 }) (λ _. refl)
+coded_store = code_by (Replica × Segments) (coded× coded_replica (map.code coded_name coded_segment)) (λ s. (s.replica, s.segments)) (λ p. record { replica = p.0; segments = p.1 }) (λ _. refl)
 
 -- the batches that a store keeps: the own origin that parts them, and the segments by name
 pub record BatchesForm : Type 0 where
   pub own : Origin
-  pub segments : map.FinMap name_cmp SegmentForm
+  pub segments : Segments
 
 -- batches by their parts
 abbrev pub coded_batches : Coded BatchesForm
-coded_batches = code_by (Origin × map.FinMap name_cmp SegmentForm) (coded× coded_origin (map.code coded_name coded_segment)) (λ b. (b.own, b.segments)) (λ p. record { own = p.0; segments = p.1 }) (λ _. refl)
+coded_batches = code_by (Origin × Segments) (coded× coded_origin (map.code coded_name coded_segment)) (λ b. (b.own, b.segments)) (λ p. record { own = p.0; segments = p.1 }) (λ _. refl)
 
 -- a batch's name is proper
 abbrev pub HasProperName : Entry → Type 0
@@ -57,7 +61,7 @@ pub record IsStored (table : Table) (e : Entry) : Type 0 where
   pub widths : widths_in e.1.forms ≡ widths_of table
 
 -- a store of the table may hold each of the batches
-abbrev pub AreStored : Table → map.FinMap name_cmp SegmentForm → Type 0
+abbrev pub AreStored : Table → Segments → Type 0
 AreStored table segments = (name : BatchName) (s : SegmentForm) → map.get segments name ≡ Some s → IsStored table (name, s)
 
 -- what is always true of a store: its own origin is at least 1, it is within the limits, it may hold each of its batches, and these are parted by its own origin
@@ -72,12 +76,12 @@ recoded_held None column vector coding = Err NoSuchVector
 recoded_held (Some s) column vector coding = recoded s column vector coding
 
 -- the segments with what a call made of one put under its name
-abbrev pub put_under : map.FinMap name_cmp SegmentForm → BatchName → Result (Unit {0} × SegmentForm) Refusal → Result (Unit {0} × map.FinMap name_cmp SegmentForm) Refusal
+abbrev pub put_under : Segments → BatchName → Result (Unit {0} × SegmentForm) Refusal → Result (Unit {0} × Segments) Refusal
 put_under segments name (Ok made) = Ok (tt, map.insert segments name made.1)
 put_under segments name (Err e) = Err e
 
 -- the segments with the least form of a coding in the place of one vector
-unfoldable pub recoded_in : map.FinMap name_cmp SegmentForm → BatchName → ℕ → ℕ → Coding → Result (Unit {0} × map.FinMap name_cmp SegmentForm) Refusal
+unfoldable pub recoded_in : Segments → BatchName → ℕ → ℕ → Coding → Result (Unit {0} × Segments) Refusal
 recoded_in segments name column vector coding = put_under segments name (recoded_held (map.get segments name) column vector coding)
 
 -- the first of the segments whose rows differ from those held under its name

@@ -10,6 +10,7 @@ use Rattle.table_model.specs.State.{Cells, Batch}
 use Rattle.table_model.specs.declared.schema.ColType.{ColType}
 use Rattle.table_model.specs.declared.schema.ColType.TheVariants.{SmallInt, Integer, BigInt}
 use Rattle.table_model.specs.Table.{Table, ColumnShape, bits_of, least_of, greatest_of, Fits, IsRow, AreRows, IsBatch, IsTable}
+use Rattle.table_model.proofs.Batches.{row_length}
 use Rattle.segment_core.specs.Fill.{AreCellsInRange}
 use Rattle.segment_core.specs.Coded.{lane_width_of}
 use Rattle.segment_core.specs.CodedVector.{VectorForm, IsVector, canonical_vector}
@@ -68,12 +69,6 @@ unfolding canonical_column
 made_all t cells count vectors e is = is ∙ ap (λ n. map (λ k. canonical_vector t (cells_in cells k)) (range_with_len 0 n)) e
 
 -- ---- what a batch's rows have
-row_length : (columns : List ColumnShape) (cells : Cells) → IsRow columns cells → length cells ≡ length columns
-row_length [] [] h = refl
-row_length [] (v ∷ vs) h = absurd h
-row_length (c ∷ cs) [] h = absurd h
-row_length (c ∷ cs) (v ∷ vs) h = ap suc (row_length cs vs h.1)
-
 row_cell : (columns : List ColumnShape) (cells : Cells) (c : ℕ) (column : ColumnShape) → IsRow columns cells → slice_get columns c ≡ Some column → Fits column (get_or cells c None)
 row_cell [] cells c column h e = absurd (cc)
 row_cell (x ∷ xs) [] c column h e = absurd h

@@ -24,12 +24,6 @@ get_or-column_cells [] c k h = absurd (omega arith)
 get_or-column_cells (row ∷ rows) c zero h = refl
 get_or-column_cells (row ∷ rows) c (suc k) h = get_or-column_cells rows c k (omega arith)
 
-wider : (t : ℕ) → IsLaneWidth t → (z : ℤ) → FitsSigned (integer_width t) z → FitsSigned w64 z
-wider t w z = at_widths (λ t. FitsSigned (integer_width t) z → FitsSigned w64 z) (λ h. let l = h in search rules) (λ h. let l = h in search rules) (λ h. let l = h in search rules) (λ h. h) t w
-
-pub column_of_64 : (t : ℕ) (rows : Batch) (c : ℕ) → IsLaneWidth t → HasColumn t rows c → HasColumn 64 rows c
-column_of_64 t rows c w h = record { there = h.there; fit = λ n z l e. wider t w z (h.fit n z l e) }
-
 -- ---- the rows so far
 pub record Gathering (cells : List (Option ℤ)) (n : ℕ) (nulls : List Bool) (values : List ℤ) : Type 0 where
   pub long : length nulls ≡ 1024

@@ -161,10 +161,6 @@ signed_is_lawful t width =
     let c = chosen_some (is_in_bits t z) (cast_unsigned (integer_width t) z) n e in
     ap (λ (k : ℕ). int_wrap (integer_width t) (pos k)) (sym c.1) ∙ signed-forth (integer_width t) z (in_bits_fits t z width c.0))
 
--- a signed number has bytes exactly where it is in range
-pub signed_valid : (t : ℕ) (z : ℤ) → IsLaneWidth t → (signed t).valid z ≡ true → FitsSigned (integer_width t) z
-signed_valid t z width valid = in_bits_fits t z width (cond_valid (number (t / 8)) (is_in_bits t z) (cast_unsigned (integer_width t) z) valid).0
-
 pub signed_is_valid : (t : ℕ) (z : ℤ) → IsLaneWidth t → FitsSigned (integer_width t) z → (signed t).valid z ≡ true
 signed_is_valid t z width fits =
     rw (fits_in_bits t z width fits) (number_is_valid (t / 8) (cast_unsigned (integer_width t) z) (bits-below t z width fits))

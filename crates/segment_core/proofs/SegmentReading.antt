@@ -25,9 +25,6 @@ pub record AreVectors (t rows : ℕ) (vectors : List VectorForm) : Type 0 where
   pub wide : (k : ℕ) (v : VectorForm) → slice_get vectors k ≡ Some v → lane_width_of v.coded ≡ t
   pub forms : (k : ℕ) (v : VectorForm) → slice_get vectors k ≡ Some v → IsVector v
 
-pub no_vectors : (t rows : ℕ) → AreVectors t rows []
-no_vectors t rows = record { cover = λ k v e. absurd cc; wide = λ k v e. absurd cc; forms = λ k v e. absurd cc }
-
 pub more_vectors : (t rows : ℕ) (vectors : List VectorForm) (v : VectorForm) → AreVectors t rows vectors → v.rows ≡ rows_in rows (length vectors) → lane_width_of v.coded ≡ t → IsVector v → AreVectors t rows (vectors ++ v ∷ [])
 more_vectors t rows vectors v h covers wide form = record {
   cover = λ k w e. cover_at k w (last_or vectors v w k e);
@@ -47,20 +44,9 @@ more_vectors t rows vectors v h covers wide form = record {
     wide_at k w (inl e) = h.wide k w e
     wide_at k w (inr (at, same)) = ap (λ (u : VectorForm). lane_width_of u.coded) (sym same) ∙ wide
 
-pub column_of_vectors : (t rows : ℕ) (vectors : List VectorForm) → length vectors ≡ vector_count rows → AreVectors t rows vectors → IsColumn rows vectors
-column_of_vectors t rows vectors count h = record {
-  each = h.forms;
-  count = count;
-  cover = h.cover;
-  one_width = λ j k u v e f. h.wide j u e ∙ sym (h.wide k v f);
-}
-
 -- the columns of so many rows, from the first on
 pub record AreColumns (rows : ℕ) (forms : List (List VectorForm)) : Type 0 where
   pub each : (c : ℕ) (vectors : List VectorForm) → slice_get forms c ≡ Some vectors → IsColumn rows vectors
-
-pub no_columns : (rows : ℕ) → AreColumns rows []
-no_columns rows = record { each = λ c vectors e. absurd cc }
 
 pub more_columns : (rows : ℕ) (forms : List (List VectorForm)) (vectors : List VectorForm) → AreColumns rows forms → IsColumn rows vectors → AreColumns rows (forms ++ vectors ∷ [])
 more_columns rows forms vectors h column = record { each = λ c found e. each_at c found (last_or forms vectors found c e) }

@@ -101,12 +101,6 @@ a_value : (b : Bool) (x z : ℤ) → cond b None (Some x) ≡ Some z → (b ≡ 
 a_value true x z e = absurd (cc)
 a_value false x z e = (refl, let f : Some x ≡ Some z = e in cc)
 
-pub under_in_range : (t rows : ℕ) (mask : List Bool) (values : List ℤ) → rows ≤ 1024 → length values ≡ 1024 → AreInRange t values → HaveAll (λ z. FitsSigned (integer_width t) z) (cells_under rows mask values)
-under_in_range t rows mask values r l h = λ n z w e.
-    let below : n < rows = omega (arith, length-cells_under rows mask values) in
-    let same = a_value (has mask n) (value_at values n) z (sym (get_or-cells_under rows mask values n None below) ∙ e) in
-    subst (λ (x : ℤ). FitsSigned (integer_width t) x) same.1 (All-get_or (λ x. FitsSigned (integer_width t) x) values n (pos 0) (omega arith) h)
-
 pub cells_in_range : (v : VectorForm) → IsVector v → HaveAll (λ z. FitsSigned (integer_width (lane_width_of v.coded)) z) (cells_of v)
 cells_in_range v is = λ n z w e.
     let below : n < v.rows = omega (arith, length-cells_of v) in

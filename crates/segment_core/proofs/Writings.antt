@@ -4,6 +4,7 @@ use Rattle.std.specs.Io.KnownBytes.{Appends}
 use Rattle.std.proofs.lemmas.List.{append-nil, take-append-drop, drop_more}
 use Rattle.std.proofs.lemmas.Grind.{take_at_read}
 use Rattle.table_model.specs.Counted.{one_more}
+use Rattle.table_model.proofs.Written.{appends_both}
 use Rattle.table_model.specs.Faults.{AppendsFront}
 use Rattle.table_model.specs.declared.refusal.Refusal.{Refusal}
 use Rattle.table_model.specs.declared.refusal.Refusal.TheVariants.{WriteFault}
@@ -13,13 +14,6 @@ use Rattle.segment_core.specs.Format.{Format, Writes, spell_all}
 pub appends_none : (known : Option (List ℕ)) → Appends known known []
 appends_none None = tt
 appends_none (Some xs) = sym (append-nil xs)
-
--- one piece after another
-pub appends_both : (old mid new : Option (List ℕ)) (xs ys : List ℕ) → Appends old mid xs → Appends mid new ys → Appends old new (xs ++ ys)
-appends_both None mid new xs ys h k = tt
-appends_both (Some a) None new xs ys h k = absurd h
-appends_both (Some a) (Some b) None xs ys h k = absurd k
-appends_both (Some a) (Some b) (Some c) xs ys h k = k ∙ ap (λ (x : List ℕ). x ++ ys) h ∙ append_assoc a xs ys
 
 -- what a call that writes all bytes says of them
 pub writes_from : (r : Result (Unit {0}) Refusal) (old new : Option (List ℕ)) (before after : ℕ) (bytes : List ℕ)

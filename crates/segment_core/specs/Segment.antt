@@ -2,7 +2,7 @@
 use Rattle.std.specs.Prelude.{◌≡◌, ℕ, ◌<◌, ◌+◌, ◌-◌, ◌*◌, ◌/◌, ◌%◌, ◌≤◌, min, Bool, IsTrue, ℤ, List, [], ◌∷◌, map, take, drop, length, slice_get, slice_index_or, slice_set, Option, Some, None, Result, Ok, Err}
 use Rattle.std.specs.List.{range_with_len}
 use Rattle.table_model.specs.State.{Cells, Batch}
-use Rattle.table_model.specs.Table.{Table, ColumnShape, bits_of, row_limit}
+use Rattle.table_model.specs.Table.{Table, ColumnShape, bits_of, column_limit, row_limit}
 use Rattle.table_model.specs.declared.refusal.Refusal.{Refusal}
 use Rattle.table_model.specs.declared.refusal.Refusal.TheVariants.{NoSuchVector}
 use Rattle.segment_core.specs.Fill.{AreCellsInRange}
@@ -47,12 +47,12 @@ pub record IsColumn (rows : ℕ) (vectors : List VectorForm) : Type 0 where
   pub cover : (k : ℕ) (v : VectorForm) → slice_get vectors k ≡ Some v → v.rows ≡ rows_in rows k
   pub one_width : (j k : ℕ) (u v : VectorForm) → slice_get vectors j ≡ Some u → slice_get vectors k ≡ Some v → lane_width_of u.coded ≡ lane_width_of v.coded
 
--- the vectors of a segment: 1 to 65,536 rows in 1 to 32 columns
+-- the vectors of a segment: 1 to row_limit rows in 1 to column_limit columns
 pub record IsSegment (rows : ℕ) (forms : List (List VectorForm)) : Type 0 where
   pub some : 1 ≤ rows
   pub limit : rows ≤ row_limit
   pub some_columns : 1 ≤ length forms
-  pub columns_limit : length forms ≤ 32
+  pub columns_limit : length forms ≤ column_limit
   pub columns : (c : ℕ) (vectors : List VectorForm) → slice_get forms c ≡ Some vectors → IsColumn rows vectors
 
 -- a column's cells in rows

@@ -9,7 +9,7 @@ ghost use Rattle.segment_core.specs.Coded.{lane_width_of};
 ghost use Rattle.segment_core.specs.CodedVector.{AreNulls, IsNullMask, IsVector};
 ghost use Rattle.table_model.specs.Reading.{Reads};
 ghost use Rattle.segment_core.specs.Format.{Format, checked};
-ghost use Rattle.segment_core.specs.VectorBytes.{mask, nulls, is_null_mask, tag_of, coding_tagged, coding, is_width, is_count, header, frame, deltas, starts, runs, is_above, dictionary, are_codes_below, codes, dict, payload, coded, vector};
+ghost use Rattle.segment_core.specs.VectorBytes.{mask, nulls, is_null_mask, coding, is_width, is_count, header, frame, deltas, starts, runs, is_above, dictionary, are_codes_below, codes, dict, payload, coded, vector};
 
 use crate::boxed::Boxed;
 use crate::coded::Coded;
@@ -105,28 +105,16 @@ fn read_nulls(
     Ok((Some(Boxed::new(alloc, nulls)?), after_mask(rest)))
 }
 
-/// The coding of a number from 0 to 3.
-fn coding_of_tag(tag: u64) -> Coding
-    ensures { result ≡ coding_tagged tag }
-{
-    match tag {
-        0 => Coding::For,
-        1 => Coding::Delta,
-        2 => Coding::Runs,
-        _ => Coding::Dict,
-    }
-}
-
 /// The coding at the front, and what stands after it.
 #[tactic(auto, unfolding(crate::specs::VectorBytes::coding))]
 fn read_coding(total: usize, bytes: &[u8]) -> Result<(Coding, &[u8]), Refusal>
     ensures { Reads (λ x. (x.0, x.1.now)) result (coding.read total bytes.now) }
 {
     let (tag, rest) = read_number(total, bytes, 1)?;
-    if tag > 3 {
+    if tag > Coding::GREATEST_TAG {
         return Err(Refusal::BadTag(place_of(total, bytes)));
     }
-    Ok((coding_of_tag(tag), rest))
+    Ok((Coding::tagged(tag), rest))
 }
 
 /// Whether a coding may have a width at lanes of `lane_width` bits.

@@ -3,7 +3,7 @@ ghost use Rattle.std.specs.Prelude.{◌≡◌, ◌<◌, length};
 ghost use Rattle.std.specs.Option.{option_copied};
 ghost use Rattle.segment_core.specs.Coded.{lane_width_of};
 ghost use Rattle.segment_core.specs.Format.{Format, Writes};
-ghost use Rattle.segment_core.specs.VectorBytes.{nulls, tag_of, header, frame, deltas, runs, dict, payload, header_of, coded, vector};
+ghost use Rattle.segment_core.specs.VectorBytes.{nulls, header, frame, deltas, runs, dict, payload, header_of, coded, vector};
 
 use crate::coded::Coded;
 use crate::coded_vector::CodedVector;
@@ -16,18 +16,6 @@ use std::io::Write;
 use table_model::{Counted, Refusal};
 use transpose_order::Mask;
 
-/// The number of a coding.
-fn tag(coding: Coding) -> u64
-    ensures { result ≡ tag_of coding }
-{
-    match coding {
-        Coding::For => 0,
-        Coding::Delta => 1,
-        Coding::Runs => 2,
-        Coding::Dict => 3,
-    }
-}
-
 /// Writes what stands before a payload. The width is below 256, and the count below 65,536.
 fn write_header<W: Write>(
     writer: &mut Counted<W>,
@@ -38,7 +26,7 @@ fn write_header<W: Write>(
     requires count { head.count < 65536 }
     ensures { Writes result (W.contents writer.old.0) (W.contents writer.new.0) writer.old.1 writer.new.1 ((header lane_width).spell head) }
 {
-    write_number(writer, tag(head.coding), 1)?;
+    write_number(writer, head.coding.tag(), 1)?;
     write_number(writer, head.width as u64, 1)?;
     write_number(writer, head.count as u64, 2)
 }

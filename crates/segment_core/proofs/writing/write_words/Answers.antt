@@ -4,7 +4,8 @@ use Rattle.std.proofs.lemmas.Result.{err_from_is_err_and}
 use Rattle.bit_interleave.specs.PackedBytes.{bytes_of}
 use Rattle.bit_interleave.proofs.WordBytesLemmas.{length-bytes_of-packed}
 use Rattle.segment_core.proofs.VectorLaws.{words_spelled}
-use Rattle.segment_core.proofs.Writings.{appends_both, writes_both, writes_front, one_more_block, at_block}
+use Rattle.table_model.proofs.Written.{appends_both}
+use Rattle.segment_core.proofs.Writings.{writes_both, writes_front, one_more_block, at_block}
 use Rattle.segment_core.proofs.writing.write_words.Goals as goal
 
 pub le_bytes_at-requires : goal.le_bytes_at-requires

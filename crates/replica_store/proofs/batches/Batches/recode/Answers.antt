@@ -11,16 +11,13 @@ use Rattle.table_model.specs.declared.refusal.Refusal.{Refusal}
 use Rattle.segment_core.specs.Segment.{SegmentForm}
 use Rattle.segment_core.specs.declared.coding.Coding.{Coding}
 use Rattle.replica_store.specs.Parted.{AreKeptInParts}
-use Rattle.replica_store.specs.Segments.{BatchesForm, Entry, AreStored, RecodesEntries, rows_in, recoded_in}
+use Rattle.replica_store.specs.Segments.{Segments, BatchesForm, Entry, AreStored, RecodesEntries, rows_in, recoded_in}
 use Rattle.replica_store.proofs.InParts.{Sorted-front, Sorted-back, recodes-up_to, recodes-past}
 use Rattle.replica_store.proofs.Maps.{Sorted, as_map}
 use Rattle.replica_store.proofs.Putting.{recoded_front, recoded_back}
 use Rattle.replica_store.proofs.Recodes.{same_length, refill, rows_recoded, acts_recoded}
 use Rattle.replica_store.proofs.Stored.{AreStored-recoded}
 use Rattle.replica_store.proofs.batches.Batches.recode.Goals as goal
-
-abbrev Segments : Type 0
-Segments = map.FinMap name_cmp SegmentForm
 
 -- the entries as they come back are those that were made
 back_in : (k : ℕ) (old new : List Entry) (result : Result (Unit {0}) Refusal) (n : BatchName) (column vector : ℕ) (coding : Coding) → k ≡ length old → RecodesEntries old new result n column vector coding → take k (new ++ drop (length new) old) ≡ new
