@@ -25,14 +25,6 @@ rest_after f law bytes rest x after fit is read =
     let taken = law.takes (length bytes) rest x after (rest_bytes bytes rest fit is) read in
     (place_after bytes (f.spell x) after (length bytes - length rest) (omega arith) (is ∙ taken.0)).0
 
--- a place past the end is the end
-pub drop-min : (bytes : List ℕ) (n : ℕ) → drop (min n (length bytes)) bytes ≡ drop n bytes
-drop-min bytes n =
-    elim (cases_lt n (length bytes)) [
-      | inl within ↦ ap (λ (k : ℕ). drop k bytes) (omega arith)
-      | inr past ↦ ap (λ (k : ℕ). drop k bytes) (omega arith) ∙ drop_all (length bytes) bytes (omega arith) ∙ sym (drop_all n bytes past)
-    ]
-
 -- a name that was read is proper
 pub name_proper : (front : List BatchName) (total : ℕ) (bytes : List ℕ) (name : BatchName) (after : List ℕ) → AreBytes bytes → (batch_name front).read total bytes ≡ Ok (name, after) → IsTrue (is_proper_name name)
 unfolding batch_name proper_name

@@ -5,7 +5,7 @@ use Rattle.bit_interleave.specs.PackedWords.{PackedWords}
 use Rattle.run_dictionary.specs.Runs.{run_of}
 use Rattle.table_model.specs.Faults.{CountsReads}
 use Rattle.table_model.specs.Name.{is_proper_name}
-use Rattle.table_model.specs.Table.{Table, ColumnShape}
+use Rattle.table_model.specs.Table.{Table, ColumnShape, column_limit}
 use Rattle.table_model.specs.declared.schema.ColType.{ColType}
 use Rattle.table_model.specs.declared.names.BatchName.{BatchName}
 use Rattle.table_model.specs.declared.refusal.Refusal.{Refusal}
@@ -16,14 +16,14 @@ use Rattle.segment_core.specs.declared.coded.Coded.{Coded}
 use Rattle.segment_core.specs.CodedVector.{VectorForm}
 use Rattle.table_model.specs.Reading.{◌>>=◌, Reads}
 use Rattle.segment_core.specs.Format.{Format, raw, number, signed, seen, checked, before, optional, read_all, all, constant, read_whole}
-use Rattle.table_model.specs.Identifier.{same_text}
+use Rattle.table_model.specs.Identifier.{same_text, word_limit}
 use Rattle.segment_core.specs.Segment.{vector_count, rows_in, widths_of}
 use Rattle.segment_core.specs.VectorBytes.{mask, words, is_null_mask, nulls, coding, is_width, is_count, header, frame, deltas, starts, runs, is_above, dictionary, are_codes_below, codes as packed_codes, dict, payload_of, payload, coded, vector}
 use Rattle.segment_core.specs.SegmentBytes.{column as segment_column, columns as segment_columns, batch_columns}
 use Rattle.replica_store.specs.Replica.{batch_limit}
 use Rattle.column_file.specs.Input.{is_fault_of_bytes, is_refusal_of_reading}
-use Rattle.column_file.specs.SchemaBytes.{text, is_name, name, column_type, is_new, column, column_count, schema}
-use Rattle.column_file.specs.SummaryBytes.{version, head, any_name, proper_name, is_after, batch_name, name_count, names, summary, summary_read}
+use Rattle.column_file.specs.SchemaBytes.{text, is_name, name, is_type_tag, column_type, is_new, column, column_count, schema}
+use Rattle.column_file.specs.SummaryBytes.{format_version, version, head, any_name, proper_name, is_after, batch_name, name_count, names, summary, summary_read}
 use Rattle.column_file.specs.Files.{offer_read}
 use Rattle.column_file.specs.ContainerBytes.{row_count, Entry, name_of, batch, batches, Deleted, is_named, is_range, begins_after, range_parts, range, ranges, container}
 
@@ -197,8 +197,8 @@ segment_columns_judges widths rows =
 text_judges : Judges text
 unfolding text
 text_judges =
-    let size = checked (number 1) (λ (n : ℕ). leb 1 n && leb n 64) (λ _. BadSchema) in
-    let q = before_judges size raw (checked_judges (number 1) (λ (n : ℕ). leb 1 n && leb n 64) (λ _. BadSchema) (λ n. refl) (number_judges 1)) raw_judges in
+    let size = checked (number 1) (λ (n : ℕ). leb 1 n && leb n word_limit) (λ _. BadSchema) in
+    let q = before_judges size raw (checked_judges (number 1) (λ (n : ℕ). leb 1 n && leb n word_limit) (λ _. BadSchema) (λ n. refl) (number_judges 1)) raw_judges in
     λ total bytes. then_judged ((before size raw).read total bytes) _ (q total bytes) (λ x. tt)
 
 name_judges : Judges name
@@ -208,9 +208,8 @@ name_judges = checked_judges text is_name (λ _. BadSchema) (λ n. refl) text_ju
 column_type_judges : Judges column_type
 unfolding column_type
 column_type_judges =
-    let test : ℕ → Bool = λ tag. eqb tag 2 || (eqb tag 4 || eqb tag 8) in
-    let tag = checked (number 1) test (λ _. BadSchema) in
-    let q = checked_judges (number 1) test (λ _. BadSchema) (λ n. refl) (number_judges 1) in
+    let tag = checked (number 1) is_type_tag (λ _. BadSchema) in
+    let q = checked_judges (number 1) is_type_tag (λ _. BadSchema) (λ n. refl) (number_judges 1) in
     λ total bytes. then_judged (tag.read total bytes) _ (q total bytes) (λ x. tt)
 
 column_judges : (front : List ColumnShape) → Judges (column front)
@@ -223,7 +222,7 @@ column_judges front =
 
 column_count_judges : Judges column_count
 unfolding column_count
-column_count_judges = checked_judges (number 2) (λ (n : ℕ). leb 1 n && leb n 32) BadCount (λ n. refl) (number_judges 2)
+column_count_judges = checked_judges (number 2) (λ (n : ℕ). leb 1 n && leb n column_limit) BadCount (λ n. refl) (number_judges 2)
 
 schema_judges : Judges schema
 unfolding schema
@@ -236,7 +235,7 @@ schema_judges =
 
 version_judges : Judges version
 unfolding version
-version_judges = checked_judges (number 2) (λ (n : ℕ). eqb n 1) (λ _. BadVersion) (λ n. refl) (number_judges 2)
+version_judges = checked_judges (number 2) (λ (n : ℕ). eqb n format_version) (λ _. BadVersion) (λ n. refl) (number_judges 2)
 
 head_judges : (magic : List ℕ) → Judges (head magic)
 unfolding head

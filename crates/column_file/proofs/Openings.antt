@@ -42,19 +42,6 @@ goes_on a b i d in_a in_b same so_far =
     alike : (x y : ℕ) (xs ys : List ℕ) → x ≡ y → first_difference (x ∷ xs) (y ∷ ys) ≡ suc (first_difference xs ys)
     alike x y xs ys e = ap (λ (b : Bool). cond b (suc (first_difference xs ys)) 0) (eq-eqb x y e)
 
--- different numbers at a place
-pub differs_here : (a b : List ℕ) (i : ℕ) (d : ℕ) → i < length a → i < length b → get_or a i d ≢ get_or b i d → first_difference a b ≡ i + first_difference (drop i a) (drop i b) → i ≡ first_difference a b
-differs_here a b i d in_a in_b differ so_far =
-    let one : first_difference (drop i a) (drop i b) ≡ 0 =
-    (λ k. first_difference (drop_more a i d in_a k) (drop_more b i d in_b k)) ∙ unlike (get_or a i d) (get_or b i d) (drop (i + 1) a) (drop (i + 1) b) differ in
-    omega (arith, so_far, one)
-  where
-    test : (x y : ℕ) → x ≢ y → eqb x y ≡ false
-    test x y h = grind (arith, nat_tests)
-
-    unlike : (x y : ℕ) (xs ys : List ℕ) → x ≢ y → first_difference (x ∷ xs) (y ∷ ys) ≡ 0
-    unlike x y xs ys h = ap (λ (b : Bool). cond b (suc (first_difference xs ys)) 0) (test x y h)
-
 none_left : (xs : List ℕ) → first_difference xs [] ≡ 0
 none_left [] = refl
 none_left (x ∷ xs) = refl
@@ -162,9 +149,6 @@ canonical_is bytes o items rs fit is offered batches entries canonical ranges =
 -- what is judged of an offer that was read
 pub canonical_was_read : (bytes : List ℕ) (o : OfferForm) → offer_read bytes ≡ Ok o → canonical_read bytes ≡ judged bytes o
 canonical_was_read bytes o is = rw is refl
-
-pub canonical_fault : (bytes : List ℕ) (e : Refusal) → offer_read bytes ≡ Err e → canonical_read bytes ≡ Err e
-canonical_fault bytes e is = rw is refl
 
 -- ---- what a call is refused as
 

@@ -9,7 +9,8 @@ use Rattle.catalogue_join.specs.declared.run.Run.{Run}
 use Rattle.catalogue_join.specs.Run.{name_at, names_from, names_of, names_listed}
 use Rattle.catalogue_join.proofs.NameLists.{listed_more, listed_parts}
 use Rattle.segment_core.specs.Format.{Writes, spell_all}
-use Rattle.segment_core.proofs.Writings.{appends_both, writes_both, writes_front, spell_all-append, spell_all-cons, spell_all-nil}
+use Rattle.table_model.proofs.Written.{appends_both}
+use Rattle.segment_core.proofs.Writings.{writes_both, writes_front, spell_all-append, spell_all-cons, spell_all-nil}
 use Rattle.column_file.specs.SummaryBytes.{batch_name}
 
 -- the bytes of names after those before them

@@ -4,15 +4,15 @@ use Rattle.std.specs.List.{list_all, list_any}
 use Rattle.std.proofs.lemmas.Bool.{eqb-true, leb-true, and_parts, and_from}
 use Rattle.std.proofs.lemmas.Bool.Decides.{nat_tests}
 use Rattle.std.proofs.lemmas.List.{append-nil, length-map}
-use Rattle.table_model.specs.Identifier.{folded, is_identifier}
-use Rattle.table_model.specs.Table.{Table, ColumnShape, IsTable, has_name, are_distinct, is_named, name_of, asked_of, column_of, is_schema, folded_table}
+use Rattle.table_model.specs.Identifier.{folded, word_limit, is_identifier}
+use Rattle.table_model.specs.Table.{Table, ColumnShape, IsTable, column_limit, has_name, are_distinct, is_named, name_of, asked_of, column_of, is_schema, folded_table}
 use Rattle.table_model.specs.declared.schema.ColType.{ColType}
 use Rattle.table_model.specs.declared.schema.ColType.TheVariants.{SmallInt, Integer, BigInt}
 use Rattle.table_model.specs.declared.refusal.Refusal.TheVariants.{BadCount, BadSchema}
 use Rattle.segment_core.specs.Format.{Format, IsLawful, is_byte, raw, number, seen, checked, before, all, valid_all}
 use Rattle.segment_core.proofs.FormatLaws.{raw_is_lawful, seen_is_lawful, checked_is_lawful, before_is_lawful, all_is_lawful}
 use Rattle.segment_core.proofs.NumberLaws.{number_is_lawful}
-use Rattle.column_file.specs.SchemaBytes.{text, is_name, name, tag_of, type_tagged, column_type, is_upper, is_new, column, column_count, schema}
+use Rattle.column_file.specs.SchemaBytes.{text, is_name, name, tag_of, is_type_tag, type_tagged, column_type, is_upper, is_new, column, column_count, schema}
 
 some_is : {A : Type 0} (x y : A) → Some x ≡ Some y → x ≡ y
 some_is x y e = cc
@@ -22,7 +22,7 @@ some_is x y e = cc
 pub text_is_lawful : IsLawful text
 unfolding text
 text_is_lawful =
-    let test : ℕ → Bool = λ n. leb 1 n && leb n 64 in
+    let test : ℕ → Bool = λ n. leb 1 n && leb n word_limit in
     let size = checked (number 1) test (λ _. BadSchema) in
     seen_is_lawful (before size raw) (λ p. p.1) (λ t. Some (length t, t))
     (before_is_lawful size raw (checked_is_lawful (number 1) test (λ _. BadSchema) (number_is_lawful 1)) (λ n valid. raw_is_lawful n))
@@ -38,7 +38,7 @@ name_is_lawful = checked_is_lawful text is_name (λ _. BadSchema) text_is_lawful
 
 -- ---- types
 
-tag_is : (tag : ℕ) → (eqb tag 2 || (eqb tag 4 || eqb tag 8)) ≡ true → tag_of (type_tagged tag) ≡ tag
+tag_is : (tag : ℕ) → is_type_tag tag ≡ true → tag_of (type_tagged tag) ≡ tag
 tag_is zero e = absurd cc
 tag_is (suc zero) e = absurd cc
 tag_is (suc (suc zero)) e = refl
@@ -63,9 +63,8 @@ tag_gives_back BigInt = refl
 pub column_type_is_lawful : IsLawful column_type
 unfolding column_type
 column_type_is_lawful =
-    let test : ℕ → Bool = λ tag. eqb tag 2 || (eqb tag 4 || eqb tag 8) in
-    seen_is_lawful (checked (number 1) test (λ _. BadSchema)) type_tagged (λ t. Some (tag_of t)) (checked_is_lawful (number 1) test (λ _. BadSchema) (number_is_lawful 1))
-    (λ tag valid. ap Some (tag_is tag (and_parts ((number 1).valid tag) (test tag) valid).1))
+    seen_is_lawful (checked (number 1) is_type_tag (λ _. BadSchema)) type_tagged (λ t. Some (tag_of t)) (checked_is_lawful (number 1) is_type_tag (λ _. BadSchema) (number_is_lawful 1))
+    (λ tag valid. ap Some (tag_is tag (and_parts ((number 1).valid tag) (is_type_tag tag) valid).1))
     (λ tag t e. ap type_tagged (sym (some_is (tag_of t) tag e)) ∙ tag_gives_back t)
 
 -- ---- columns and schemas
@@ -83,7 +82,7 @@ column_is_lawful front =
 
 pub column_count_is_lawful : IsLawful column_count
 unfolding column_count
-column_count_is_lawful = checked_is_lawful (number 2) (λ n. leb 1 n && leb n 32) BadCount (number_is_lawful 2)
+column_count_is_lawful = checked_is_lawful (number 2) (λ n. leb 1 n && leb n column_limit) BadCount (number_is_lawful 2)
 
 pub schema_is_lawful : IsLawful schema
 unfolding schema
@@ -166,14 +165,14 @@ columns_named front (c ∷ cs) valid =
 
 -- the parts of a valid schema
 schema_parts : (t : Table) → schema.valid t ≡ true
-    → ((leb 1 (length t.columns) ≡ true) × (leb (length t.columns) 32 ≡ true)) × ((is_name t.name ≡ true) × (valid_all column [] t.columns ≡ true))
+    → ((leb 1 (length t.columns) ≡ true) × (leb (length t.columns) column_limit ≡ true)) × ((is_name t.name ≡ true) × (valid_all column [] t.columns ≡ true))
 unfolding schema column_count name
 schema_parts t valid =
     let n = length t.columns in
-    let v = and_parts ((number 2).valid n && (leb 1 n && leb n 32)) ((text.valid t.name && is_name t.name) && (eqb n n && valid_all column [] t.columns)) valid in
-    let w = and_parts ((number 2).valid n) (leb 1 n && leb n 32) v.0 in
+    let v = and_parts ((number 2).valid n && (leb 1 n && leb n column_limit)) ((text.valid t.name && is_name t.name) && (eqb n n && valid_all column [] t.columns)) valid in
+    let w = and_parts ((number 2).valid n) (leb 1 n && leb n column_limit) v.0 in
     let x = and_parts (text.valid t.name && is_name t.name) (eqb n n && valid_all column [] t.columns) v.1 in
-    (and_parts (leb 1 n) (leb n 32) w.1, ((and_parts (text.valid t.name) (is_name t.name) x.0).1, (and_parts (eqb n n) (valid_all column [] t.columns) x.1).1))
+    (and_parts (leb 1 n) (leb n column_limit) w.1, ((and_parts (text.valid t.name) (is_name t.name) x.0).1, (and_parts (eqb n n) (valid_all column [] t.columns) x.1).1))
 
 valid_is_asked : (t : Table) → schema.valid t ≡ true → is_schema t.name (map asked_of t.columns) ≡ true
 unfolding is_schema

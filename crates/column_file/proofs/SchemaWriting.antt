@@ -1,11 +1,11 @@
 -- What a schema is has bytes, and which bytes these are.
-use Rattle.std.proofs.Common.{◌≡◌, ℕ, ◌≤◌, Bool, true, false, not, ◌&&◌, ◌||◌, eqb, leb, List, [], ◌∷◌, ◌++◌, map, length, All, refl, ap, ◌∙◌, append_assoc, arith, lit<}
+use Rattle.std.proofs.Common.{◌≡◌, ℕ, ◌≤◌, Bool, true, false, not, ◌&&◌, ◌||◌, eqb, leb, ltb, ◌<◌, List, [], ◌∷◌, ◌++◌, map, length, All, refl, ap, ◌∙◌, append_assoc, arith, lit<}
 use Rattle.std.specs.Char.{to_ascii_uppercase}
 use Rattle.std.specs.List.{list_all, list_any, AllByRecursion}
-use Rattle.std.proofs.lemmas.Bool.{eq-eqb, le-leb, leb-true, and_parts, and_from}
+use Rattle.std.proofs.lemmas.Bool.{eq-eqb, le-leb, leb-true, ltb-true, and_parts, and_from}
 use Rattle.std.proofs.lemmas.List.Elements.{All-from_recursion}
-use Rattle.table_model.specs.Identifier.{folded, is_word, is_word_byte, is_keyword, is_identifier}
-use Rattle.table_model.specs.Table.{Table, ColumnShape, IsTable, has_name, are_distinct, is_named, name_of, asked_of, column_of, is_schema, folded_table}
+use Rattle.table_model.specs.Identifier.{folded, word_limit, is_word, is_word_byte, is_keyword, is_identifier}
+use Rattle.table_model.specs.Table.{Table, ColumnShape, IsTable, column_limit, has_name, are_distinct, is_named, name_of, asked_of, column_of, is_schema, folded_table}
 use Rattle.table_model.specs.declared.schema.ColType.{ColType}
 use Rattle.table_model.specs.declared.schema.ColType.TheVariants.{SmallInt, Integer, BigInt}
 use Rattle.table_model.specs.declared.refusal.Refusal.TheVariants.{BadSchema}
@@ -31,14 +31,14 @@ schema_spelled t = refl
 
 -- ---- names
 
-word_short : (t : List ℕ) → is_word t ≡ true → (1 ≤ length t) × (length t ≤ 64)
+word_short : (t : List ℕ) → is_word t ≡ true → (1 ≤ length t) × (length t ≤ word_limit)
 word_short [] e = absurd cc
 word_short (c ∷ t) e =
-    let rest = (and_parts _ (list_all is_word_byte t && leb (length t) 63) e).1 in
-    let short : length t ≤ 63 = leb-true _ _ (and_parts (list_all is_word_byte t) (leb (length t) 63) rest).1 in
+    let rest = (and_parts _ (list_all is_word_byte t && ltb (length t) word_limit) e).1 in
+    let short : length t < word_limit = ltb-true _ _ (and_parts (list_all is_word_byte t) (ltb (length t) word_limit) rest).1 in
     (omega arith, omega arith)
 
-pub name_short : (t : List ℕ) → is_name t ≡ true → (1 ≤ length t) × (length t ≤ 64)
+pub name_short : (t : List ℕ) → is_name t ≡ true → (1 ≤ length t) × (length t ≤ word_limit)
 name_short t e =
     let id = (and_parts (is_identifier t) (list_all is_upper t) e).0 in
     word_short t (and_parts (is_word t) (not (is_keyword t)) id).0
@@ -53,10 +53,10 @@ name_is_valid : (t : List ℕ) → is_name t ≡ true → name.valid t ≡ true
 unfolding name text
 name_is_valid t e =
     let short = name_short t e in
-    let size = and_from ((number 1).valid (length t)) (leb 1 (length t) && leb (length t) 64) (number_is_valid 1 (length t) (omega arith)) (and_from (leb 1 (length t)) (leb (length t) 64) (le-leb _ _ short.0) (le-leb _ _ short.1)) in
+    let size = and_from ((number 1).valid (length t)) (leb 1 (length t) && leb (length t) word_limit) (number_is_valid 1 (length t) (omega arith)) (and_from (leb 1 (length t)) (leb (length t) word_limit) (le-leb _ _ short.0) (le-leb _ _ short.1)) in
     let bytes = and_from (eqb (length t) (length t)) (list_all is_byte t) (eq-eqb _ _ refl) (name_bytes t e) in
-    and_from (((number 1).valid (length t) && (leb 1 (length t) && leb (length t) 64)) && (eqb (length t) (length t) && list_all is_byte t)) (is_name t)
-    (and_from ((number 1).valid (length t) && (leb 1 (length t) && leb (length t) 64)) (eqb (length t) (length t) && list_all is_byte t) size bytes) e
+    and_from (((number 1).valid (length t) && (leb 1 (length t) && leb (length t) word_limit)) && (eqb (length t) (length t) && list_all is_byte t)) (is_name t)
+    (and_from ((number 1).valid (length t) && (leb 1 (length t) && leb (length t) word_limit)) (eqb (length t) (length t) && list_all is_byte t) size bytes) e
 
 folded_is_upper : (t : List ℕ) → folded t ≡ t → list_all is_upper t ≡ true
 folded_is_upper [] e = refl
@@ -126,7 +126,7 @@ columns_valid front (c ∷ cs) names distinct =
 record TableParts (t : Table) : Type 0 where
   proper : is_name t.name ≡ true
   some : 1 ≤ length t.columns
-  limit : length t.columns ≤ 32
+  limit : length t.columns ≤ column_limit
   columns : AreNamed t.columns
   distinct : are_distinct (named t.columns) ≡ true
 
@@ -137,7 +137,7 @@ table_parts t table =
     let g = guard_ok {A = Table} (is_schema t.name asked) BadSchema (folded_table t.name asked) t table.itself in
     let a = and_parts (is_identifier t.name) _ g.0 in
     let b = and_parts (leb 1 (length asked)) _ a.1 in
-    let c = and_parts (leb (length asked) 32) (list_all is_named asked && are_distinct (map name_of asked)) b.1 in
+    let c = and_parts (leb (length asked) column_limit) (list_all is_named asked && are_distinct (map name_of asked)) b.1 in
     let d = and_parts (list_all is_named asked) (are_distinct (map name_of asked)) c.1 in
     let same_name : folded t.name ≡ t.name = ap (λ (u : Table). u.name) g.1 in
     let same_columns : map column_of asked ≡ t.columns = ap (λ (u : Table). u.columns) g.1 in
@@ -155,21 +155,21 @@ unfolding schema column_count
 table_is_valid t table =
     let p = table_parts t table in
     let n = length t.columns in
-    let count = and_from ((number 2).valid n) (leb 1 n && leb n 32) (number_is_valid 2 n (let small = p.limit in omega arith)) (and_from (leb 1 n) (leb n 32) (le-leb _ _ p.some) (le-leb _ _ p.limit)) in
+    let count = and_from ((number 2).valid n) (leb 1 n && leb n column_limit) (number_is_valid 2 n (let small = p.limit in omega arith)) (and_from (leb 1 n) (leb n column_limit) (le-leb _ _ p.some) (le-leb _ _ p.limit)) in
     let columns = and_from (eqb n n) (valid_all column [] t.columns) (eq-eqb _ _ refl) (columns_valid [] t.columns p.columns p.distinct) in
-    and_from ((number 2).valid n && (leb 1 n && leb n 32)) (name.valid t.name && (eqb n n && valid_all column [] t.columns)) count
+    and_from ((number 2).valid n && (leb 1 n && leb n column_limit)) (name.valid t.name && (eqb n n && valid_all column [] t.columns)) count
     (and_from (name.valid t.name) (eqb n n && valid_all column [] t.columns) (name_is_valid t.name p.proper) columns)
 
 -- ---- short names
 
 abbrev IsShort : ColumnShape → Type 0
-IsShort c = length c.name ≤ 64
+IsShort c = length c.name ≤ word_limit
 
 all_short : (cs : List ColumnShape) → AreNamed cs → AllByRecursion IsShort cs
 all_short [] names = tt
 all_short (c ∷ cs) names = ((name_short c.name names.0).1, all_short cs names.1)
 
-pub table_short : (t : Table) → IsTable t → (length t.name ≤ 64) × All (λ (c : ColumnShape). length c.name ≤ 64) t.columns
+pub table_short : (t : Table) → IsTable t → (length t.name ≤ word_limit) × All (λ (c : ColumnShape). length c.name ≤ word_limit) t.columns
 table_short t table =
     let p = table_parts t table in
     ((name_short t.name p.proper).1, All-from_recursion IsShort t.columns (all_short t.columns p.columns))

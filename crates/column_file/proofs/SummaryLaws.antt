@@ -12,7 +12,7 @@ use Rattle.segment_core.proofs.FormatLaws.{raw_is_lawful, seen_is_lawful, checke
 use Rattle.segment_core.proofs.NumberLaws.{number_is_lawful}
 use Rattle.replica_store.specs.Replica.{batch_limit}
 use Rattle.column_file.specs.SchemaBytes.{schema}
-use Rattle.column_file.specs.SummaryBytes.{version, head, any_name, proper_name, is_after, batch_name, name_count, names, summary}
+use Rattle.column_file.specs.SummaryBytes.{format_version, version, head, any_name, proper_name, is_after, batch_name, name_count, names, summary}
 use Rattle.column_file.proofs.SchemaLaws.{schema_is_lawful}
 
 some_is : {A : Type 0} (x y : A) → Some x ≡ Some y → x ≡ y
@@ -30,11 +30,11 @@ one_text (x ∷ xs) (y ∷ ys) e =
 
 version_is_lawful : IsLawful version
 unfolding version
-version_is_lawful = checked_is_lawful (number 2) (λ n. eqb n 1) (λ _. BadVersion) (number_is_lawful 2)
+version_is_lawful = checked_is_lawful (number 2) (λ n. eqb n format_version) (λ _. BadVersion) (number_is_lawful 2)
 
-version_is : (n : ℕ) → version.valid n ≡ true → n ≡ 1
+version_is : (n : ℕ) → version.valid n ≡ true → n ≡ format_version
 unfolding version
-version_is n valid = eqb-true n 1 (and_parts ((number 2).valid n) (eqb n 1) valid).1
+version_is n valid = eqb-true n format_version (and_parts ((number 2).valid n) (eqb n format_version) valid).1
 
 pub head_is_lawful : (magic : List ℕ) → IsLawful (head magic)
 unfolding head
@@ -42,14 +42,14 @@ head_is_lawful magic =
     let first = constant magic BadMagic in
     let rest : List ℕ → Format (ℕ × Table) = λ _. before version (λ _. schema) in
     let made : List ℕ × (ℕ × Table) → Table = λ p. p.1.1 in
-    seen_is_lawful (before first rest) made (λ t. Some (magic, (1, t)))
+    seen_is_lawful (before first rest) made (λ t. Some (magic, (format_version, t)))
     (before_is_lawful first rest (checked_is_lawful (raw (length magic)) (same_text magic) (λ _. BadMagic) (raw_is_lawful (length magic))) (λ x valid. before_is_lawful version (λ _. schema) version_is_lawful (λ n v. schema_is_lawful)))
     (λ p valid.
     let v = and_parts (first.valid p.0) ((rest p.0).valid p.1) valid in
     let same : magic ≡ p.0 = one_text magic p.0 (and_parts ((raw (length magic)).valid p.0) (same_text magic p.0) v.0).1 in
-    let one : p.1.0 ≡ 1 = version_is p.1.0 (and_parts (version.valid p.1.0) (schema.valid p.1.1) v.1).0 in
+    let one : p.1.0 ≡ format_version = version_is p.1.0 (and_parts (version.valid p.1.0) (schema.valid p.1.1) v.1).0 in
     λ i. Some (same i, (sym one i, p.1.1)))
-    (λ p t e. sym (ap made (some_is {A = List ℕ × (ℕ × Table)} (magic, (1, t)) p e)))
+    (λ p t e. sym (ap made (some_is {A = List ℕ × (ℕ × Table)} (magic, (format_version, t)) p e)))
 
 pub any_name_is_lawful : IsLawful any_name
 unfolding any_name

@@ -13,13 +13,17 @@ use Rattle.segment_core.specs.Format.{Format, IsLawful, seen, checked, before, a
 use Rattle.replica_store.specs.Exchange.{SummaryForm}
 use Rattle.column_file.specs.SchemaBytes.{schema}
 
+-- the number of the version of all formats
+abbrev pub format_version : ℕ
+format_version = 1
+
 -- the version of all formats
 unfoldable pub version : Format ℕ
-version = checked (number 2) (λ n. n == 1) (λ _. BadVersion)
+version = checked (number 2) (λ n. n == format_version) (λ _. BadVersion)
 
 -- what each format begins with: its own four bytes, the version and a schema
 unfoldable pub head : List ℕ → Format Table
-head magic = seen (before (constant magic BadMagic) (λ _. before version (λ _. schema))) (λ p. p.1.1) (λ t. Some (magic, (1, t)))
+head magic = seen (before (constant magic BadMagic) (λ _. before version (λ _. schema))) (λ p. p.1.1) (λ t. Some (magic, (format_version, t)))
 
 -- an origin and a number
 unfoldable pub any_name : Format BatchName

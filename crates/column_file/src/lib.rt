@@ -15,6 +15,7 @@ mod schema_reading;
 mod schema_writing;
 mod summary_reading;
 mod summary_writing;
+mod type_tags;
 
 pub use canonical_writing::export;
 pub use laws::{

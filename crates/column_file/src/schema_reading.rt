@@ -7,6 +7,7 @@ ghost use Rattle.segment_core.specs.Format.{Format, all};
 ghost use Rattle.column_file.specs.Input.{is_fault_of_bytes};
 ghost use Rattle.column_file.specs.SchemaBytes.{text, is_upper, is_name, name, column_type, shape_of, column, column_count, schema};
 
+use crate::type_tags::tagged;
 use segment_core::{place_of, read_number};
 use std::alloc::Global;
 use table_model::{ColType, MAX_COLUMNS, MAX_WORD, Refusal, Schema, is_identifier, same_word};
@@ -65,16 +66,10 @@ fn read_column_type(total: usize, bytes: &[u8]) -> Result<(ColType, &[u8]), Refu
     ensures fault { IfErr result (λ e. IsTrue (is_fault_of_bytes e)) }
 {
     let (tag, rest) = read_number(total, bytes, 1)?;
-    if tag == 2 {
-        return Ok((ColType::SmallInt, rest));
+    match tagged(tag) {
+        Some(column_type) => Ok((column_type, rest)),
+        None => Err(Refusal::BadSchema),
     }
-    if tag == 4 {
-        return Ok((ColType::Integer, rest));
-    }
-    if tag == 8 {
-        return Ok((ColType::BigInt, rest));
-    }
-    Err(Refusal::BadSchema)
 }
 
 /// Whether one of the columns has this name.

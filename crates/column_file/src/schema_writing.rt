@@ -1,37 +1,28 @@
 //! Writing a schema to bytes: how many columns there are, the table's name, and each column's type and name.
 ghost use Rattle.std.specs.Prelude.{◌≡◌, ◌≤◌, List, length};
 ghost use Rattle.std.specs.List.{All};
+ghost use Rattle.table_model.specs.Identifier.{word_limit};
 ghost use Rattle.table_model.specs.Table.{ColumnShape};
 ghost use Rattle.segment_core.specs.Format.{Format, Writes, all};
-ghost use Rattle.column_file.specs.SchemaBytes.{tag_of, name, column_type, column, schema};
+ghost use Rattle.column_file.specs.SchemaBytes.{name, column_type, column, schema};
 
+use crate::type_tags::tag;
 use segment_core::{write_number, write_whole};
 use std::io::Write;
-use table_model::{ColType, Column, Counted, Refusal, Schema};
+use table_model::{Column, Counted, Refusal, Schema};
 
 /// Writes the name of a table or a column, of at most 64 bytes.
 fn write_name<W: Write>(writer: &mut Counted<W>, text: &str) -> Result<(), Refusal>
-    requires { length text.now ≤ 64 }
+    requires { length text.now ≤ word_limit }
     ensures { Writes result (W.contents writer.old.0) (W.contents writer.new.0) writer.old.1 writer.new.1 (name.spell text.now) }
 {
     write_number(writer, text.len() as u64, 1)?;
     write_whole(writer, text.as_bytes())
 }
 
-/// The number of bytes that stands for a type.
-fn tag(column_type: ColType) -> u64
-    ensures { result ≡ tag_of column_type }
-{
-    match column_type {
-        ColType::SmallInt => 2,
-        ColType::Integer => 4,
-        ColType::BigInt => 8,
-    }
-}
-
 /// Writes a column's type and name.
 fn write_column<W: Write>(writer: &mut Counted<W>, shape: &Column) -> Result<(), Refusal>
-    requires { length shape.now.name ≤ 64 }
+    requires { length shape.now.name ≤ word_limit }
     ensures { (front : List ColumnShape) → Writes result (W.contents writer.old.0) (W.contents writer.new.0) writer.old.1 writer.new.1 ((column front).spell shape.now) }
 {
     write_number(writer, tag(shape.column_type()), 1)?;
@@ -40,7 +31,7 @@ fn write_column<W: Write>(writer: &mut Counted<W>, shape: &Column) -> Result<(),
 
 /// Writes columns, whose names have at most 64 bytes.
 fn write_columns<W: Write>(writer: &mut Counted<W>, columns: &[Column]) -> Result<(), Refusal>
-    requires { All (λ (c : ColumnShape). length c.name ≤ 64) columns.now }
+    requires { All (λ (c : ColumnShape). length c.name ≤ word_limit) columns.now }
     ensures { Writes result (W.contents writer.old.0) (W.contents writer.new.0) writer.old.1 writer.new.1 ((all (length columns.now) column).spell columns.now) }
 {
     for shape in columns {

@@ -19,6 +19,9 @@ use std::alloc::{AllocError, Global};
 use std::io::Read;
 use table_model::{BatchName, Counted, Number, Origin, Refusal, Schema, same_text};
 
+/// The version of all formats.
+pub(crate) const VERSION: u64 = 1;
+
 /// What a summary begins with.
 pub(crate) const SUMMARY: [u8; 4] = *b"FLSM";
 
@@ -37,14 +40,14 @@ fn read_magic<'a>(total: usize, bytes: &'a [u8], magic: &[u8]) -> Result<&'a [u8
     Ok(rest)
 }
 
-/// What stands after the version, which is 1.
+/// The version, and what stands after it.
 #[tactic(auto, unfolding(crate::specs::SummaryBytes::version))]
 fn read_version(total: usize, bytes: &[u8]) -> Result<(u64, &[u8]), Refusal>
     ensures read { Reads (λ x. (x.0, x.1.now)) result (version.read total bytes.now) }
     ensures fault { IfErr result (λ e. IsTrue (is_fault_of_bytes e)) }
 {
     let (version, rest) = read_number(total, bytes, 2)?;
-    if version != 1 {
+    if version != VERSION {
         return Err(Refusal::BadVersion);
     }
     Ok((version, rest))

@@ -11,15 +11,12 @@ ghost use Rattle.column_file.specs.SummaryBytes.{head, batch_name, names, summar
 ghost use Rattle.column_file.specs.Files.{HasSummaryBytes};
 
 use crate::schema_writing::write_schema;
-use crate::summary_reading::SUMMARY;
+use crate::summary_reading::{SUMMARY, VERSION};
 use catalogue_join::{Held, Run};
 use replica_store::Summary;
 use segment_core::{write_number, write_whole};
 use std::io::Write;
 use table_model::{BatchName, Counted, Number, Refusal, Schema};
-
-/// The version of all formats.
-const VERSION: u64 = 1;
 
 /// Writes what a format begins with: its own four bytes, the version and a schema.
 pub(crate) fn write_head<W: Write>(
