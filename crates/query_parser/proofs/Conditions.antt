@@ -13,6 +13,7 @@ use Rattle.query_parser.proofs.Simulation.{then_fault, choose_law, word_law, bin
 use Rattle.query_parser.proofs.Productions.{IsShallow, Takes, name_law, literal_law, function_law, function_word_law, named_law, item_law}
 use Rattle.table_model.specs.Reading.{Reads, ◌>>=◌}
 use Rattle.query_parser.specs.Descent.{Reader, read_name, read_literal, read_more, read_many, one_more, read_function, read_item, read_items, read_operand, comparison_word, read_literals, read_list, read_range, read_range_or_list, read_is_null, read_after_operand, read_predicate, read_truth_word, read_asked, read_primary, read_test, read_factor, read_term, read_terms, nested, read_condition, read_filter, read_having, read_columns, read_grouping, read_query, read_whole, whole}
+use Rattle.query_parser.specs.Limits.{depth_limit}
 use Rattle.query_parser.specs.Stack.{Symbol, a_sign, a_name, a_query, some_items, more_items, an_item, a_filter, a_grouping, a_having, some_columns, more_columns, a_condition, or_terms, a_term, and_factors, a_factor, a_test, an_is_truth, an_asked, a_truth_word, a_primary, a_closing, a_predicate, an_after_operand, a_range_or_list, an_is_null, an_operand, a_literal, some_literals, more_literals, begin, may_be_empty, open_count, after, first_fault, and_then, on, Finds}
 use Rattle.query_parser.specs.declared.predicate.Clause.{Clause}
 use Rattle.query_parser.specs.declared.predicate.Clause.TheVariants.{Where, Having}
@@ -160,7 +161,7 @@ asked_law end ts ss d =
 
 -- so many parentheses are open that just these levels are left
 abbrev pub IsDeep : ℕ → List Symbol → Type 0
-IsDeep levels ss = levels + open_count ss ≡ 64
+IsDeep levels ss = levels + open_count ss ≡ depth_limit
 
 shallow : (levels : ℕ) (ss : List Symbol) → IsDeep levels ss → IsShallow ss
 shallow levels ss d = grind (arith, nat_tests)
@@ -225,20 +226,20 @@ condition_law c levels end ts ss d = terms_law c levels end (inner_law c levels 
 abbrev IsOutside : List Symbol → Type 0
 IsOutside ss = open_count ss ≡ 0
 
-pub filter_law : (end : ℕ) (ts : List Token) (ss : List Symbol) → IsOutside ss → first_fault end (a_filter ∷ ss) ts ≡ then_fault end ss (read_filter 64 end ts)
+pub filter_law : (end : ℕ) (ts : List Token) (ss : List Symbol) → IsOutside ss → first_fault end (a_filter ∷ ss) ts ≡ then_fault end ss (read_filter depth_limit end ts)
 unfolding read_filter
 filter_law end ts ss d =
     choose_law _ end ss (taken sign.Where ts) _ _
     (λ rest e. passes end sign.Where a_filter ss (a_condition Where ∷ []) ts rest e refl (rw e refl)
-    ∙ bind_law _ end ss ss (read_condition Where 64 end rest) _ (condition_law Where 64 end rest ss (omega arith)) (λ r f. refl))
+    ∙ bind_law _ end ss ss (read_condition Where depth_limit end rest) _ (condition_law Where depth_limit end rest ss (omega arith)) (λ r f. refl))
     (λ n. skips end a_filter ss ts refl (rw n refl))
 
-pub having_law : (end : ℕ) (ts : List Token) (ss : List Symbol) → IsOutside ss → first_fault end (a_having ∷ ss) ts ≡ then_fault end ss (read_having 64 end ts)
+pub having_law : (end : ℕ) (ts : List Token) (ss : List Symbol) → IsOutside ss → first_fault end (a_having ∷ ss) ts ≡ then_fault end ss (read_having depth_limit end ts)
 unfolding read_having
 having_law end ts ss d =
     choose_law _ end ss (taken sign.Having ts) _ _
     (λ rest e. passes end sign.Having a_having ss (a_condition Having ∷ []) ts rest e refl (rw e refl)
-    ∙ bind_law _ end ss ss (read_condition Having 64 end rest) _ (condition_law Having 64 end rest ss (omega arith)) (λ r f. refl))
+    ∙ bind_law _ end ss ss (read_condition Having depth_limit end rest) _ (condition_law Having depth_limit end rest ss (omega arith)) (λ r f. refl))
     (λ n. skips end a_having ss ts refl (rw n refl))
 
 pub grouping_law : (end : ℕ) → Takes end a_grouping (read_grouping end)
@@ -260,7 +261,7 @@ on_select ts = by_taken (taken sign.Select ts)
     by_taken None = refl
     by_taken (Some rest) = refl
 
-pub query_law : (end : ℕ) (ts : List Token) → first_fault end (a_query ∷ []) ts ≡ then_fault end [] (read_query 64 end ts)
+pub query_law : (end : ℕ) (ts : List Token) → first_fault end (a_query ∷ []) ts ≡ then_fault end [] (read_query depth_limit end ts)
 unfolding read_query
 query_law end ts =
     expands end a_query (a_sign sign.Select) behind_select [] ts refl refl (on_select ts)
@@ -268,9 +269,9 @@ query_law end ts =
     (λ list. bind_law _ end (a_sign sign.From ∷ a_name ∷ a_filter ∷ a_grouping ∷ a_having ∷ []) [] (read_items end list) _ (items_law end list _ refl)
     (λ items e. sign_law end sign.From [] (a_name ∷ a_filter ∷ a_grouping ∷ a_having ∷ []) items.1 _ refl
     (λ name. bind_law _ end (a_filter ∷ a_grouping ∷ a_having ∷ []) [] (read_name end name) _ (name_law end name _ refl)
-    (λ table f. bind_law _ end (a_grouping ∷ a_having ∷ []) [] (read_filter 64 end table.1) _ (filter_law end table.1 _ refl)
+    (λ table f. bind_law _ end (a_grouping ∷ a_having ∷ []) [] (read_filter depth_limit end table.1) _ (filter_law end table.1 _ refl)
     (λ filter g. bind_law _ end (a_having ∷ []) [] (read_grouping end filter.1) _ (grouping_law end filter.1 _ refl)
-    (λ grouping h. bind_law _ end [] [] (read_having 64 end grouping.1) _ (having_law end grouping.1 _ refl) (λ having i. refl)))))))
+    (λ grouping h. bind_law _ end [] [] (read_having depth_limit end grouping.1) _ (having_law end grouping.1 _ refl) (λ having i. refl)))))))
 
 -- the fault that a reading ended with
 abbrev pub fault_in : {V : Type 0} → Result V Refusal → Option Refusal
@@ -285,7 +286,7 @@ whole_fault end v (t ∷ ts) = let some : (length (t ∷ ts) == 0) ≡ false = g
 -- the stack's first fault is what the descent ends with
 pub whole_law : (end : ℕ) (ts : List Token) → first_fault end (a_query ∷ []) ts ≡ fault_in (read_whole end ts)
 unfolding read_whole
-whole_law end ts = by_result (read_query 64 end ts) (query_law end ts)
+whole_law end ts = by_result (read_query depth_limit end ts) (query_law end ts)
   where
     by_result : (r : Result (QueryShape × List Token) Refusal) → first_fault end (a_query ∷ []) ts ≡ then_fault end [] r → first_fault end (a_query ∷ []) ts ≡ fault_in (r >>= whole end)
     by_result (Ok x) e = e ∙ whole_fault end x.0 x.1

@@ -5,6 +5,7 @@ use Rattle.std.specs.Prelude.{nat_eq}
 use Rattle.std.specs.Char.{is_ascii_alphabetic, is_ascii_digit}
 use Rattle.std.proofs.lemmas.List.Sums.{take_while-cons}
 use Rattle.std.proofs.lemmas.List.{drop_more, drop-drop}
+use Rattle.std.proofs.lemmas.Bool.{cond_both}
 use Rattle.std.proofs.lemmas.Bool.Decides.{nat_tests}
 use Rattle.table_model.specs.Identifier.{is_word_byte}
 use Rattle.query_parser.specs.declared.token.Sign.{Sign}
@@ -12,31 +13,14 @@ use Rattle.query_parser.specs.declared.token.Kind.{Kind}
 use Rattle.query_parser.specs.declared.token.Token.{Token}
 use Rattle.query_parser.specs.Token.{first_spelling, symbols, symbol_of, symbol_token, first_token, tokens_from, is_white}
 
--- what holds of both sides of a choice holds of the choice
-pub pick : {X : Type 0} (P : X → Type 0) (b : Bool) (x y : X) → (b ≡ true → P x) → (b ≡ false → P y) → P (cond b x y)
-pick P true x y f g = f refl
-pick P false x y f g = g refl
-
 -- what a front of passing bytes has, they all have
 pub list_all-take_while : (p q : ℕ → Bool) → ((c : ℕ) → p c ≡ true → q c ≡ true) → (xs : List ℕ) → list_all q (take_while p xs) ≡ true
 list_all-take_while p q weaker [] = refl
 list_all-take_while p q weaker (x ∷ xs) =
-    rw take_while-cons (pick (λ ys. list_all q ys ≡ true) (p x) (x ∷ take_while p xs) [] (λ e. rw (weaker x e) (list_all-take_while p q weaker xs)) (λ e. refl))
+    rw take_while-cons (cond_both (p x) (x ∷ take_while p xs) [] (λ ys. list_all q ys ≡ true) (λ e. rw (weaker x e) (list_all-take_while p q weaker xs)) (λ e. refl))
 
 pub word_byte_of_digit : (c : ℕ) → is_ascii_digit c ≡ true → is_word_byte c ≡ true
 word_byte_of_digit c h = grind (arith, nat_tests)
-
-pub word_byte_of_letter : (c : ℕ) → is_ascii_alphabetic c ≡ true → is_word_byte c ≡ true
-word_byte_of_letter c h = grind (arith, nat_tests)
-
--- a front that a first byte passes into has a byte
-pub one_le-take_while : (p : ℕ → Bool) (x : ℕ) (xs : List ℕ) → p x ≡ true → 1 ≤ length (take_while p (x ∷ xs))
-one_le-take_while p x xs e = rw (take_while-cons, e) (omega arith)
-
-pub length-take_while-le : (p : ℕ → Bool) (xs : List ℕ) → length (take_while p xs) ≤ length xs
-length-take_while-le p [] = omega arith
-length-take_while-le p (x ∷ xs) =
-    rw take_while-cons (pick (λ ys. length ys ≤ length (x ∷ xs)) (p x) (x ∷ take_while p xs) [] (λ e. omega (arith, length-take_while-le p xs)) (λ e. omega arith))
 
 -- a spelling of one or two bytes
 abbrev is_short : List ℕ × Sign → Bool
@@ -49,7 +33,7 @@ IsWithin n m = (1 ≤ m) × (m ≤ n)
 short_symbol : (fits : List ℕ → Bool) (entries : List (List ℕ × Sign)) → list_all is_short entries ≡ true → IsWithin 2 ((symbol_token (first_spelling fits entries)).1)
 short_symbol fits [] h = (omega arith, omega arith)
 short_symbol fits (entry ∷ entries) h =
-    pick (λ o. IsWithin 2 ((symbol_token o).1)) (fits entry.0) (Some entry) (first_spelling fits entries)
+    cond_both (fits entry.0) (Some entry) (first_spelling fits entries) (λ o. IsWithin 2 ((symbol_token o).1))
     (λ e. (grind (arith, nat_tests), grind (arith, nat_tests))) (λ e. short_symbol fits entries (grind (arith, nat_tests)))
 
 pub short_symbol_of : (text : List ℕ) → IsWithin 2 ((symbol_token (symbol_of text)).1)
@@ -68,16 +52,6 @@ symbol_length text s n e = by_found (symbol_of text) e (short_symbol_of text)
     by_found None e h = absurd (cc)
     by_found (Some entry) e h = let same : length entry.0 ≡ n = ap second e in rw (← same) h
 
--- a token has a byte, and at most one more than the text has
-pub length-first_token : (c : ℕ) (cs : List ℕ) → IsWithin (length cs + 2) ((first_token c (c ∷ cs)).1)
-length-first_token c cs =
-    let P : Kind × ℕ → Type 0 = λ t. IsWithin (length cs + 2) (t.1) in
-    pick P (is_ascii_alphabetic c) _ _
-    (λ e. (one_le-take_while is_word_byte c cs (word_byte_of_letter c e), omega (arith, length-take_while-le is_word_byte (c ∷ cs))))
-    (λ e. pick P (is_ascii_digit c) _ _
-    (λ f. (one_le-take_while is_ascii_digit c cs f, omega (arith, length-take_while-le is_ascii_digit (c ∷ cs))))
-    (λ f. ((short_symbol_of (c ∷ cs)).0, omega (arith, (short_symbol_of (c ∷ cs)).1))))
-
 -- the rest of a token is passed over
 pub tokens_from-skip : (at n : ℕ) (xs : List ℕ) → tokens_from at n xs ≡ tokens_from (at + n) 0 (drop n xs)
 tokens_from-skip at zero [] = refl
@@ -86,10 +60,6 @@ tokens_from-skip at zero (x ∷ xs) = rw add-zero refl
 tokens_from-skip at (suc n) (x ∷ xs) =
     let e : at + 1 + n ≡ at + suc n = omega arith in
     tokens_from-skip (at + 1) n xs ∙ ap (λ k. tokens_from k 0 (drop n xs)) e
-
--- a byte of white space gives no token
-pub tokens_from-white : (at c : ℕ) (cs : List ℕ) → is_white c ≡ true → tokens_from at 0 (c ∷ cs) ≡ tokens_from (at + 1) 0 cs
-tokens_from-white at c cs e = rw e refl
 
 -- the token of a kind at a place
 abbrev pub token_at : Kind → ℕ → Token

@@ -17,7 +17,7 @@ use Rattle.table_model.specs.declared.query.SetFunction.TheVariants.{CountRows, 
 use Rattle.query_parser.proofs.Taking.{Fits}
 use Rattle.query_parser.specs.Grammar.{IsSign, IsName, Listed, only, more, IsPlusOrMinus, IsLiteral, word_of, fold_of, IsQuantifier, IsArgument, IsFunction, IsOperand, sign_of, IsNegation, IsPredicate, word_of_truth, IsAsked, rank, IsFormula, IsClause, IsGrouping, IsItemValue, IsAlias, IsItem, IsQuery}
 use Rattle.query_parser.specs.Limits.{is_large_number}
-use Rattle.query_parser.specs.Token.{choose, is_sign, taken, mention_of, mentioned, digits_of, spelled_digits, significant, is_large, value_of, signed}
+use Rattle.query_parser.specs.Token.{choose, is_sign, taken, mention_of, mentioned, digits_of, spelled_digits, significant, digit_limit, is_large, value_of, signed}
 use Rattle.query_parser.specs.declared.predicate.Clause.{Clause}
 use Rattle.query_parser.specs.declared.token.Kind.{Kind}
 use Rattle.query_parser.specs.declared.token.Kind.TheVariants.{Identifier, Digits, Bad}
@@ -40,7 +40,7 @@ value-digit n = by_zero (n + 48 == 48) refl
 small-digit : (n : ℕ) → is_large (digit n) ≡ false
 small-digit n = by_zero (n + 48 == 48)
   where
-    by_zero : (b : Bool) → nat_lt 30 (length (cond b [] ((n + 48) ∷ []))) ≡ false
+    by_zero : (b : Bool) → nat_lt digit_limit (length (cond b [] ((n + 48) ∷ []))) ≡ false
     by_zero true = refl
     by_zero false = refl
 

@@ -8,16 +8,17 @@ use Rattle.table_model.specs.declared.refusal.Refusal.TheVariants.{NumberTooLarg
 use Rattle.query_parser.proofs.Simulation.{then_fault, choose_law, word_law, bind_law, stops, skips, expands, begins_alike, passes, sign_law, open_law, name_passes, digits_pass}
 use Rattle.table_model.specs.Reading.{◌>>=◌}
 use Rattle.query_parser.specs.Descent.{Reader, read_name, read_digits, read_literal, function_word, read_column_argument, read_quantified, read_argument, read_function, read_item_value, read_alias, read_item, begins_with_name, syntax}
+use Rattle.query_parser.specs.Limits.{depth_limit}
 use Rattle.query_parser.specs.Token.{choose, taken, mentioned, spelled_digits, is_large, signed, value_of, significant, place_of}
 use Rattle.query_parser.specs.Stack.{Symbol, a_sign, a_name, some_digits, an_item, an_item_value, an_alias, an_argument, a_quantified, a_literal, begin, open_count, first_fault, on_name, on_function, an_argument_of}
 use Rattle.query_parser.specs.declared.token.Sign.TheVariants as sign
 use Rattle.query_parser.specs.declared.token.Token.{Token}
 
--- at most 64 parentheses are open round conditions
+-- at most depth_limit parentheses are open round conditions
 abbrev pub IsShallow : List Symbol → Type 0
-IsShallow ss = nat_lt 64 (open_count ss) ≡ false
+IsShallow ss = nat_lt depth_limit (open_count ss) ≡ false
 
--- a symbol takes what a reader reads, wherever at most 64 parentheses are open
+-- a symbol takes what a reader reads, wherever at most depth_limit parentheses are open
 abbrev pub Takes : {V : Type 0} → ℕ → Symbol → Reader V → Type 0
 Takes end s read = (ts : List Token) (ss : List Symbol) → IsShallow ss → first_fault end (s ∷ ss) ts ≡ then_fault end ss (read ts)
 

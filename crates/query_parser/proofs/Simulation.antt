@@ -6,6 +6,7 @@ use Rattle.table_model.specs.declared.refusal.Refusal.TheVariants.{Syntax, Numbe
 use Rattle.query_parser.specs.Token.{same_sign, sign_number, choose, taken, mentioned, mention_of, spelled_digits, digits_of, is_sign, is_large, place_of}
 use Rattle.table_model.specs.Reading.{◌>>=◌}
 use Rattle.query_parser.specs.Descent.{syntax, read_sign}
+use Rattle.query_parser.specs.Limits.{depth_limit}
 use Rattle.query_parser.specs.Stack.{Symbol, a_sign, begin, may_be_empty, open_count, after, fault_of, first_fault, and_then}
 use Rattle.query_parser.specs.declared.token.Kind.{Kind}
 use Rattle.query_parser.specs.declared.token.Kind.TheVariants.{Identifier, Digits, Bad}
@@ -93,15 +94,15 @@ quiet (Identifier word) a next at h q = refl
 quiet (Digits digits) a next at h q = absurd (cc)
 quiet Bad a next at h q = refl
 
--- an opening parenthesis is no fault where at most 64 are open
-opened : (k : Kind) (next : List Symbol) (at : ℕ) → is_sign k sign.OpenParen ≡ true → nat_lt 64 (open_count next) ≡ false → fault_of next k at ≡ None
+-- an opening parenthesis is no fault where at most depth_limit are open
+opened : (k : Kind) (next : List Symbol) (at : ℕ) → is_sign k sign.OpenParen ≡ true → nat_lt depth_limit (open_count next) ≡ false → fault_of next k at ≡ None
 opened (kind.Sign b) next at h q = rw (h, q) refl
 opened (Identifier word) next at h q = refl
 opened (Digits digits) next at h q = absurd (cc)
 opened Bad next at h q = refl
 
 -- and the fault where more are
-too_many : (k : Kind) (next : List Symbol) (at : ℕ) → is_sign k sign.OpenParen ≡ true → nat_lt 64 (open_count next) ≡ true → fault_of next k at ≡ Some TooDeep
+too_many : (k : Kind) (next : List Symbol) (at : ℕ) → is_sign k sign.OpenParen ≡ true → nat_lt depth_limit (open_count next) ≡ true → fault_of next k at ≡ Some TooDeep
 too_many (kind.Sign b) next at h q = rw (h, q) refl
 too_many (Identifier word) next at h q = absurd (cc)
 too_many (Digits digits) next at h q = absurd (cc)
@@ -125,8 +126,8 @@ passes end a s ss next (t ∷ ts) rest e q f =
     let is = taken_is a t ts rest e in
     at_token end s ss next t ts f ∙ rw (quiet t.kind a (next ++ ss) t.at is.0 q) (ap (first_fault end (next ++ ss)) is.1)
 
--- an opening parenthesis is passed where at most 64 are open then
-pub opens : (end : ℕ) (s : Symbol) (ss next : List Symbol) (ts rest : List Token) → taken sign.OpenParen ts ≡ Some rest → nat_lt 64 (open_count (next ++ ss)) ≡ false → begin s ts ≡ Some next
+-- an opening parenthesis is passed where at most depth_limit are open then
+pub opens : (end : ℕ) (s : Symbol) (ss next : List Symbol) (ts rest : List Token) → taken sign.OpenParen ts ≡ Some rest → nat_lt depth_limit (open_count (next ++ ss)) ≡ false → begin s ts ≡ Some next
     → first_fault end (s ∷ ss) ts ≡ first_fault end (next ++ ss) rest
 unfolding taken
 opens end s ss next [] rest e q f = absurd (cc)
@@ -134,7 +135,7 @@ opens end s ss next (t ∷ ts) rest e q f =
     let is = taken_is sign.OpenParen t ts rest e in
     at_token end s ss next t ts f ∙ rw (opened t.kind (next ++ ss) t.at is.0 q) (ap (first_fault end (next ++ ss)) is.1)
 
-pub too_deep : (end : ℕ) (s : Symbol) (ss next : List Symbol) (ts rest : List Token) → taken sign.OpenParen ts ≡ Some rest → nat_lt 64 (open_count (next ++ ss)) ≡ true → begin s ts ≡ Some next
+pub too_deep : (end : ℕ) (s : Symbol) (ss next : List Symbol) (ts rest : List Token) → taken sign.OpenParen ts ≡ Some rest → nat_lt depth_limit (open_count (next ++ ss)) ≡ true → begin s ts ≡ Some next
     → first_fault end (s ∷ ss) ts ≡ Some TooDeep
 unfolding taken
 too_deep end s ss next [] rest e q f = absurd (cc)
@@ -153,7 +154,7 @@ sign_law end a ss middle ts next q f = by_taken (taken a ts) refl
     by_taken (Some rest) e = passes end a (a_sign a) middle [] ts rest e q (rw e refl) ∙ f rest
 
 -- the same of an opening parenthesis
-pub open_law : {V : Type 0} (end : ℕ) (ss middle : List Symbol) (ts : List Token) (next : List Token → Result (V × List Token) Refusal) → nat_lt 64 (open_count middle) ≡ false
+pub open_law : {V : Type 0} (end : ℕ) (ss middle : List Symbol) (ts : List Token) (next : List Token → Result (V × List Token) Refusal) → nat_lt depth_limit (open_count middle) ≡ false
     → ((rest : List Token) → first_fault end middle rest ≡ then_fault end ss (next rest)) → first_fault end (a_sign sign.OpenParen ∷ middle) ts ≡ then_fault end ss (read_sign sign.OpenParen end ts >>= next)
 unfolding read_sign
 open_law end ss middle ts next q f = by_taken (taken sign.OpenParen ts) refl

@@ -14,6 +14,7 @@ use Rattle.table_model.specs.declared.refusal.Refusal.{Refusal}
 use Rattle.table_model.specs.Reading.{Reads, ◌>>=◌}
 use Rattle.query_parser.specs.Descent.{Reader, read_sign, read_name, read_digits, read_literal, read_more, read_many, one_more, function_word, read_column_argument, read_quantified, read_argument, read_function, read_item_value, read_alias, read_item, read_items, read_operand, begins_with_name, comparison_word, read_literals, read_list, read_range, read_range_or_list, read_is_null, read_after_operand, read_predicate, read_truth_word, read_asked, read_primary, read_test, read_factor, read_term, read_terms, nested, read_condition, read_filter, read_having, read_columns, read_grouping, read_query, read_whole, whole, syntax}
 use Rattle.query_parser.specs.Token.{choose, taken, mentioned, spelled_digits, is_large}
+use Rattle.query_parser.specs.Limits.{depth_limit}
 use Rattle.query_parser.specs.Grammar.{IsSign, IsName, Listed, only, more, IsPlusOrMinus, IsLiteral, word_of, IsQuantifier, IsArgument, fold_of, IsFunction, IsOperand, sign_of, IsNegation, IsPredicate, IsAsked, rank, IsFormula, IsCondition, IsClause, IsGrouping, IsItemValue, IsAlias, IsItem, IsQuery}
 use Rattle.query_parser.specs.declared.predicate.Clause.{Clause}
 use Rattle.query_parser.specs.declared.predicate.Clause.TheVariants.{Where, Having}
@@ -326,7 +327,7 @@ query_sound levels end ts =
 -- a query behind which no token is left is the whole of the tokens
 pub whole_sound : (end : ℕ) (ts : List Token) (q : QueryShape) → read_whole end ts ≡ Ok q → IsQuery q ts []
 unfolding read_whole
-whole_sound end ts q h = by_result (read_query 64 end ts) (query_sound 64 end ts) h
+whole_sound end ts q h = by_result (read_query depth_limit end ts) (query_sound depth_limit end ts) h
   where
     by_rest : (x : QueryShape) (rest : List Token) → IsQuery x ts rest → whole end (x, rest) ≡ Ok q → IsQuery q ts []
     by_rest x [] s e = let same : x ≡ q = cc in rw (← same) s

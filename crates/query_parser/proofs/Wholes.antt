@@ -10,7 +10,7 @@ use Rattle.query_parser.proofs.Taking.{Fits, IsLimit, Agrees, reads, stops}
 use Rattle.table_model.specs.Reading.{Reads, ◌>>=◌}
 use Rattle.query_parser.specs.Descent.{read_query, read_whole, whole}
 use Rattle.query_parser.specs.Grammar.{IsQuery}
-use Rattle.query_parser.specs.Limits.{depth_of, is_large_number, IsWithinLimits, TakesQueries, IsUnambiguous}
+use Rattle.query_parser.specs.Limits.{depth_limit, depth_of, is_large_number, IsWithinLimits, TakesQueries, IsUnambiguous}
 use Rattle.query_parser.specs.declared.token.Token.{Token}
 
 all_fit : (ts : List Token) → All (λ t. is_large_number t.kind ≡ false) ts → Fits ⊥ ts
@@ -24,9 +24,9 @@ any_fit (t ∷ ts) = (λ l. tt, any_fit ts)
 -- a query within the limits is read
 within : (end : ℕ) (ts : List Token) (q : QueryShape) → IsQuery q ts [] → IsWithinLimits q ts → read_whole end ts ≡ Ok q
 unfolding read_whole
-within end ts q is limits = by_agreement (query_agrees ⊥ 64 end q ts is (all_fit ts limits.literals) (inl limits.filter) (inl limits.having))
+within end ts q is limits = by_agreement (query_agrees ⊥ depth_limit end q ts is (all_fit ts limits.literals) (inl limits.filter) (inl limits.having))
   where
-    by_agreement : Agrees ⊥ (read_query 64 end ts) q [] → (read_query 64 end ts >>= whole end) ≡ Ok q
+    by_agreement : Agrees ⊥ (read_query depth_limit end ts) q [] → (read_query depth_limit end ts >>= whole end) ≡ Ok q
     by_agreement (reads e d) = rw e refl
     by_agreement (stops x e h l) = absurd x
 
@@ -38,9 +38,9 @@ takes_queries end ts (Err e) (inr m) q is limits = m
 -- any query is read, or a limit is passed
 limited : (end : ℕ) (ts : List Token) (q : QueryShape) → IsQuery q ts [] → (read_whole end ts ≡ Ok q) ⊎ ((e : Refusal) × ((read_whole end ts ≡ Err e) × IsLimit e))
 unfolding read_whole
-limited end ts q is = by_agreement (query_agrees (Unit {0}) 64 end q ts is (any_fit ts) (inr tt) (inr tt))
+limited end ts q is = by_agreement (query_agrees (Unit {0}) depth_limit end q ts is (any_fit ts) (inr tt) (inr tt))
   where
-    by_agreement : Agrees (Unit {0}) (read_query 64 end ts) q [] → ((read_query 64 end ts >>= whole end) ≡ Ok q) ⊎ ((e : Refusal) × (((read_query 64 end ts >>= whole end) ≡ Err e) × IsLimit e))
+    by_agreement : Agrees (Unit {0}) (read_query depth_limit end ts) q [] → ((read_query depth_limit end ts >>= whole end) ≡ Ok q) ⊎ ((e : Refusal) × (((read_query depth_limit end ts >>= whole end) ≡ Err e) × IsLimit e))
     by_agreement (reads e d) = inl (rw e refl)
     by_agreement (stops x e h l) = inr (e, (rw h refl, l))
 

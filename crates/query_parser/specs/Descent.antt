@@ -23,6 +23,7 @@ use Rattle.table_model.specs.declared.query.SetFunction.TheVariants.{CountRows, 
 use Rattle.table_model.specs.declared.refusal.Refusal.{Refusal}
 use Rattle.table_model.specs.declared.refusal.Refusal.TheVariants.{Syntax, NumberTooLarge, TooDeep}
 use Rattle.query_parser.specs.Grammar.{takes_functions}
+use Rattle.query_parser.specs.Limits.{depth_limit}
 use Rattle.query_parser.specs.Token.{choose, taken, mentioned, spelled_digits, significant, is_large, value_of, signed, place_of, tokens_of}
 use Rattle.query_parser.specs.declared.predicate.Clause.{Clause}
 use Rattle.query_parser.specs.declared.predicate.Clause.TheVariants.{Where, Having}
@@ -305,7 +306,7 @@ whole end r = if length r.1 == 0 then Ok r.0 else syntax end r.1
 
 -- the query that tokens are, or their first fault
 unfoldable pub read_whole : ℕ → List Token → Result QueryShape Refusal
-read_whole end ts = read_query 64 end ts >>= whole end
+read_whole end ts = read_query depth_limit end ts >>= whole end
 
 -- the query that a text is, or its first fault
 unfoldable pub query_of : List ℕ → Result QueryShape Refusal

@@ -12,6 +12,10 @@ use Rattle.query_parser.specs.declared.token.Kind.TheVariants.{Identifier, Digit
 use Rattle.query_parser.specs.declared.token.Kind.TheVariants as kind
 use Rattle.query_parser.specs.declared.token.Token.{Token}
 
+-- how many parentheses may be open at once round conditions
+abbrev pub depth_limit : ℕ
+depth_limit = 64
+
 -- how many parentheses are at most open at once in a condition
 abbrev pub depth : Formula → ℕ
 depth (says p) = 0
@@ -28,17 +32,17 @@ abbrev pub depth_of : Option Formula → ℕ
 depth_of None = 0
 depth_of (Some f) = depth f
 
--- whether a token is the digits of a literal, more than 30 after their leading zeros
+-- whether a token is the digits of a literal, more than digit_limit after their leading zeros
 abbrev pub is_large_number : Kind → Bool
 is_large_number (kind.Sign s) = false
 is_large_number (Identifier word) = false
 is_large_number (Digits digits) = is_large digits
 is_large_number Bad = false
 
--- at most 64 parentheses are open at once round conditions, and no literal has more than 30 digits after its leading zeros
+-- at most depth_limit parentheses are open at once round conditions, and no literal has more than digit_limit digits after its leading zeros
 pub record IsWithinLimits (q : QueryShape) (tokens : List Token) : Type 0 where
-  pub filter : depth_of q.filter ≤ 64
-  pub having : depth_of q.having ≤ 64
+  pub filter : depth_of q.filter ≤ depth_limit
+  pub having : depth_of q.having ≤ depth_limit
   pub literals : All (λ t. is_large_number t.kind ≡ false) tokens
 
 -- each query of the grammar that is within the limits is answered, or Memory in its place

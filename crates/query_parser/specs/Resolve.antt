@@ -1,5 +1,5 @@
 -- Whether a query's names are those of a table.
-use Rattle.std.specs.Prelude.{◌≡◌, ◌≤◌, ℕ, Bool, true, false, not, ◌&&◌, ◌==◌, min, if◌then◌else◌, Option, Some, None, is_none, All, Any, Result, Ok, Err, List, [], ◌∷◌, ◌++◌, fold, position}
+use Rattle.std.specs.Prelude.{◌≡◌, ◌≤◌, ℕ, Bool, true, false, not, ◌&&◌, ◌==◌, min, if◌then◌else◌, Option, Some, None, is_none, All, Any, Result, Ok, Err, List, [], ◌∷◌, ◌++◌, fold}
 use Rattle.std.specs.List.{list_any}
 use Rattle.table_model.specs.Meaning.{column_at}
 use Rattle.table_model.specs.Formula.{Formula, says, in_parentheses, is_truth, negation, no_factor, both, no_term, either}

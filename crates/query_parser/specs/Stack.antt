@@ -5,6 +5,7 @@ use Rattle.table_model.specs.declared.query.Fold.{Fold}
 use Rattle.table_model.specs.declared.query.Fold.TheVariants as folds
 use Rattle.table_model.specs.declared.refusal.Refusal.{Refusal}
 use Rattle.table_model.specs.declared.refusal.Refusal.TheVariants.{Memory, Syntax, NumberTooLarge, TooDeep}
+use Rattle.query_parser.specs.Limits.{depth_limit}
 use Rattle.query_parser.specs.Token.{same_sign, tokens_of, choose, taken, mentioned, spelled_digits, is_large}
 use Rattle.query_parser.specs.Grammar.{takes_functions}
 use Rattle.query_parser.specs.declared.predicate.Clause.{Clause}
@@ -209,9 +210,9 @@ unfoldable pub after : List Symbol → List Token → Option (List Symbol)
 after [] ts = None
 after (s ∷ ss) ts = choose (begin s ts) (λ next. Some (next ++ ss)) (if may_be_empty s then after ss ts else None)
 
--- the fault of a token that the stack takes: the 65th parenthesis open at once, or a literal that is too large
+-- the fault of a token that the stack takes: one parenthesis more than depth_limit open at once, or a literal that is too large
 abbrev pub fault_of : List Symbol → Kind → ℕ → Option Refusal
-fault_of next (kind.Sign s) at = if same_sign s sign.OpenParen && nat_lt 64 (open_count next) then Some TooDeep else None
+fault_of next (kind.Sign s) at = if same_sign s sign.OpenParen && nat_lt depth_limit (open_count next) then Some TooDeep else None
 fault_of next (Identifier word) at = None
 fault_of next (Digits digits) at = if is_large digits then Some (NumberTooLarge at) else None
 fault_of next Bad at = None

@@ -1,9 +1,9 @@
 -- Tokens, and the tokens of a text.
-use Rattle.std.specs.Prelude.{ℕ, zero, suc, ℤ, pos, Bool, true, false, ◌==◌, ◌+◌, ◌-◌, ◌*◌, ◌||◌, nat_le, nat_lt, if◌then◌else◌, Option, Some, None, List, [], ◌∷◌, length, fold, codes, drop, take_while, nat_eq}
+use Rattle.std.specs.Prelude.{◌≡◌, ℕ, zero, suc, ℤ, pos, Bool, true, false, ◌==◌, ◌+◌, ◌-◌, ◌*◌, ◌||◌, nat_le, nat_lt, if◌then◌else◌, Option, Some, None, List, [], ◌∷◌, length, map, fold, codes, drop, take_while, nat_eq}
 use Rattle.std.proofs.Common.{neg_ℤ}
 use Rattle.std.specs.List.{starts_with}
 use Rattle.std.specs.Char.{is_ascii_alphabetic, is_ascii_digit}
-use Rattle.table_model.specs.Identifier.{folded, same_text, is_word_byte}
+use Rattle.table_model.specs.Identifier.{folded, same_text, keywords as reserved_words, is_word_byte, word_limit}
 use Rattle.table_model.specs.declared.query.ColumnMention.{ColumnMention}
 use Rattle.query_parser.specs.declared.token.Kind.{Kind}
 use Rattle.query_parser.specs.declared.token.Kind.TheVariants.{Identifier, Digits, Bad}
@@ -84,6 +84,10 @@ keywords =
     ∷ (codes "WHERE", sign.Where)
     ∷ []
 
+-- the keywords are, in order, the words that name no table and no column
+abbrev pub KeywordsAreReserved : Type 0
+KeywordsAreReserved = map (λ entry. entry.0) keywords ≡ reserved_words
+
 -- the symbols, of two that begin alike the longer first
 unfoldable pub symbols : List (List ℕ × Sign)
 symbols =
@@ -119,9 +123,9 @@ abbrev pub sign_or : Kind → Option (List ℕ × Sign) → Kind
 sign_or other None = other
 sign_or other (Some entry) = kind.Sign entry.1
 
--- a word of at most 64 bytes is a keyword or an identifier
+-- a word of at most word_limit bytes is a keyword or an identifier
 abbrev pub word_kind : List ℕ → Kind
-word_kind word = if nat_le (length word) 64 then sign_or (Identifier word) (keyword_of word) else Bad
+word_kind word = if nat_le (length word) word_limit then sign_or (Identifier word) (keyword_of word) else Bad
 
 -- a run of digits and what follows it: a letter or an underscore right behind makes it no token
 abbrev pub digits_kind : List ℕ → List ℕ → Kind
@@ -208,9 +212,13 @@ abbrev pub significant : List ℕ → List ℕ
 significant [] = []
 significant (d ∷ ds) = if d == 48 then significant ds else d ∷ ds
 
--- whether digits are more than 30 after their leading zeros
+-- how many digits a literal may have after its leading zeros
+abbrev pub digit_limit : ℕ
+digit_limit = 30
+
+-- whether digits are more than digit_limit after their leading zeros
 abbrev pub is_large : List ℕ → Bool
-is_large digits = nat_lt 30 (length (significant digits))
+is_large digits = nat_lt digit_limit (length (significant digits))
 
 -- the number that digits spell
 abbrev pub value_of : List ℕ → ℕ

@@ -1,5 +1,5 @@
 //! Conditions: predicates under AND, OR, NOT, IS TRUE and the like, and parentheses.
-ghost use Rattle.std.specs.Prelude.{◌≡◌, ◌<◌, ◌≤◌, length, IfOk, IfSome, MatchOption, Some, None};
+ghost use Rattle.std.specs.Prelude.{◌<◌, ◌≤◌, length, IfOk};
 ghost use Rattle.table_model.specs.Query.{formula_of_primary, formula_of_test, formula_of_factor, formula_of_term};
 ghost use Rattle.table_model.specs.Reading.{Reads};
 ghost use Rattle.query_parser.specs.Descent.{read_condition, read_term, read_factor, read_test, read_is, read_primary, read_asked, read_truth_word, nested};

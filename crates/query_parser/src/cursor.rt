@@ -1,5 +1,5 @@
 //! What the tokens that are left begin with.
-ghost use Rattle.std.specs.Prelude.{◌≡◌, MatchOption, IfOk, Some, None, ◌<◌, ◌≤◌, length, IfSome};
+ghost use Rattle.std.specs.Prelude.{◌≡◌, MatchOption, IfOk, Some, None, ◌<◌, length, IfSome};
 ghost use Rattle.table_model.specs.Identifier.{folded};
 ghost use Rattle.table_model.specs.Reading.{Reads};
 ghost use Rattle.query_parser.specs.Descent.{read_sign, read_name, begins_with_name};

@@ -1,9 +1,9 @@
 //! A text's tokens.
-ghost use Rattle.std.specs.Prelude.{◌≡◌, ◌<◌, ◌≤◌, ◌-◌, ◌+◌, IsTrue, IfOk, take_while, length, drop, option_map, map, nat_eq, ◌∷◌};
+ghost use Rattle.std.specs.Prelude.{◌≡◌, ◌≤◌, ◌+◌, IsTrue, IfOk, take_while, length, option_map, map, nat_eq, ◌∷◌};
 ghost use Rattle.std.specs.List.{list_all, starts_with};
 ghost use Rattle.std.specs.Char.{is_ascii_digit};
 ghost use Rattle.table_model.specs.Identifier.{is_word_byte, folded, same_text};
-ghost use Rattle.query_parser.specs.Token.{first_spelling, keyword_of, symbol_of, word_kind, digits_kind, symbol_token, first_token, is_white, tokens_of};
+ghost use Rattle.query_parser.specs.Token.{first_spelling, keyword_of, symbol_of, word_kind, digits_kind, first_token, is_white, tokens_of};
 
 use crate::token::{Kind, Sign, Token, Word};
 use std::alloc::{AllocError, AllocFailed, Global};

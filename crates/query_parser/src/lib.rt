@@ -13,6 +13,6 @@ mod query;
 mod select;
 mod token;
 
-pub use laws::texts_are_unambiguous;
+pub use laws::{keywords_are_reserved, texts_are_unambiguous};
 pub use names::resolve;
 pub use query::parse;

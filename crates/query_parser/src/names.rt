@@ -1,7 +1,7 @@
 //! Whether a query's names are those of a table.
 ghost use Rattle.std.specs.Prelude.{◌≡◌, ℕ, ◌<◌, ◌≤◌, length, None, slice_index_or, false};
-ghost use Rattle.table_model.specs.Meaning.{column_at};
 ghost use Rattle.table_model.specs.Query.{formula_of_term, formula_of_factor};
+ghost use Rattle.table_model.specs.Table.{column_limit};
 ghost use Rattle.query_parser.specs.Resolve.{places, sooner, visited, verdict, resolved, is_grouped, in_function, in_operand, in_predicate, in_formula, in_clause, in_items, in_value, in_grouping, in_query, IsJudged};
 
 use table_model::{
@@ -18,14 +18,14 @@ struct Names<'a> {
     columns: &'a [Column],
     grouping: &'a [ColumnMention],
     grouped: [bool; MAX_COLUMNS],
-    ghost few: { length columns.now ≤ 32 },
-    ghost marked: { (i : ℕ) → i < 32 → slice_index_or grouped i false ≡ is_grouped columns.now grouping.now i },
+    ghost few: { length columns.now ≤ column_limit },
+    ghost marked: { (i : ℕ) → i < column_limit → slice_index_or grouped i false ≡ is_grouped columns.now grouping.now i },
 }
 
 impl<'a> Names<'a> {
     /// The columns of the table, with those marked that GROUP BY names.
     fn new(columns: &'a [Column], grouping: &'a [ColumnMention]) -> Names<'a>
-        requires { length columns.now ≤ 32 }
+        requires { length columns.now ≤ column_limit }
         ensures columns { result.columns.now ≡ columns.entry.now }
         ensures grouping { result.grouping.now ≡ grouping.entry.now }
     {
@@ -194,7 +194,7 @@ fn in_grouping(names: &Names<'_>, found: Places, columns: &[ColumnMention]) -> P
 
 /// The places of all columns that the query names.
 fn in_query(query: &Query, columns: &[Column]) -> Places
-    requires { length columns.now ≤ 32 }
+    requires { length columns.now ≤ column_limit }
     ensures { result ≡ places columns.now query.now.grouping (None, None) (in_query query.now) }
 {
     let names = Names::new(columns, query.grouping.as_slice());

@@ -1,8 +1,8 @@
 //! Literals: digits with or without a sign.
-ghost use Rattle.std.specs.Prelude.{◌≡◌, IsTrue, pos, option_map, length, ◌≤◌, ◌<◌, IfOk, IfSome, MatchOption, Some, None};
+ghost use Rattle.std.specs.Prelude.{◌≡◌, pos, length, ◌≤◌, ◌<◌, IfOk};
 ghost use Rattle.table_model.specs.Reading.{Reads};
 ghost use Rattle.query_parser.specs.Descent.{read_literal, read_digits};
-ghost use Rattle.query_parser.specs.Token.{significant, is_large, value_of};
+ghost use Rattle.query_parser.specs.Token.{significant, digit_limit, value_of};
 
 use crate::cursor::{Read, after, syntax};
 use crate::token::{Kind, Sign, Token};
@@ -67,7 +67,7 @@ fn significant(digits: &[u8]) -> &[u8]
 
 /// The number that the digits spell.
 fn value_of(digits: &[u8]) -> i128
-    requires { length digits.now ≤ 30 }
+    requires { length digits.now ≤ digit_limit }
     ensures { result ≡ pos (value_of digits.now) }
 {
     let mut value: u128 = 0;

@@ -1,5 +1,5 @@
 //! Predicates: comparisons, BETWEEN, IN and IS NULL.
-ghost use Rattle.std.specs.Prelude.{◌≡◌, MatchOption, Some, None, ◌<◌, ◌≤◌, length, IfOk, IfSome};
+ghost use Rattle.std.specs.Prelude.{◌≡◌, MatchOption, Some, None, ◌<◌, length, IfOk, IfSome};
 ghost use Rattle.table_model.specs.Reading.{Reads};
 ghost use Rattle.query_parser.specs.Descent.{read_predicate, read_after_operand, read_range_or_list, read_range, read_list, read_literals, read_is_null, read_operand, comparison_word};
 ghost use Rattle.query_parser.specs.Grammar.{takes_functions};

@@ -3,7 +3,7 @@ ghost use Rattle.std.specs.Prelude.{◌≡◌, ℕ, IfOk, Err, []};
 ghost use Rattle.table_model.specs.Reading.{Reads};
 ghost use Rattle.query_parser.specs.Descent.{read_query, read_table, read_clauses, read_filter, read_having, read_grouping, read_columns, read_whole, query_of};
 ghost use Rattle.query_parser.specs.Grammar.{IsQuery};
-ghost use Rattle.query_parser.specs.Limits.{TakesQueries, IsNoQuery};
+ghost use Rattle.query_parser.specs.Limits.{depth_limit, TakesQueries, IsNoQuery};
 ghost use Rattle.query_parser.specs.Stack.{Finds, text_fault};
 ghost use Rattle.query_parser.specs.Token.{tokens_of};
 
@@ -61,7 +61,7 @@ fn whole_query(alloc: Global, tokens: &[Token<'_>], end: u64) -> Result<Query, R
 /// `SELECT item {"," item}`, and the rest of the query that the tokens begin with.
 #[tactic(auto, unfolding(crate::specs::Descent::read_query))]
 fn query<'t, 'a>(alloc: Global, tokens: &'t [Token<'a>], end: u64) -> Read<'t, 'a, Query>
-    ensures { Reads (λ r. (r.0, r.1.now)) result (read_query 64 end tokens.now) }
+    ensures { Reads (λ r. (r.0, r.1.now)) result (read_query depth_limit end tokens.now) }
 {
     let rest = expect(tokens, end, Sign::Select)?;
     let (items, rest) = items(alloc, rest, end)?;
@@ -75,7 +75,7 @@ fn table<'t, 'a>(
     tokens: &'t [Token<'a>],
     end: u64,
 ) -> Read<'t, 'a, Query>
-    ensures { Reads (λ r. (r.0, r.1.now)) result (read_table items.items 64 end tokens.now) }
+    ensures { Reads (λ r. (r.0, r.1.now)) result (read_table items.items depth_limit end tokens.now) }
 {
     let rest = expect(tokens, end, Sign::From)?;
     let (table, rest) = identifier(alloc, rest, end)?;
@@ -90,7 +90,7 @@ fn clauses<'t, 'a>(
     tokens: &'t [Token<'a>],
     end: u64,
 ) -> Read<'t, 'a, Query>
-    ensures { Reads (λ r. (r.0, r.1.now)) result (read_clauses items.items table 64 end tokens.now) }
+    ensures { Reads (λ r. (r.0, r.1.now)) result (read_clauses items.items table depth_limit end tokens.now) }
 {
     let (filter, rest) = filter(alloc, tokens, end)?;
     let (grouping, rest) = grouping(alloc, rest, end)?;
@@ -114,7 +114,7 @@ fn filter<'t, 'a>(
     tokens: &'t [Token<'a>],
     end: u64,
 ) -> Read<'t, 'a, Option<Condition>>
-    ensures { Reads (λ r. (r.0, r.1.now)) result (read_filter 64 end tokens.now) }
+    ensures { Reads (λ r. (r.0, r.1.now)) result (read_filter depth_limit end tokens.now) }
 {
     match after(tokens, Sign::Where) {
         Some(rest) => {
@@ -132,7 +132,7 @@ fn having<'t, 'a>(
     tokens: &'t [Token<'a>],
     end: u64,
 ) -> Read<'t, 'a, Option<Condition>>
-    ensures { Reads (λ r. (r.0, r.1.now)) result (read_having 64 end tokens.now) }
+    ensures { Reads (λ r. (r.0, r.1.now)) result (read_having depth_limit end tokens.now) }
 {
     match after(tokens, Sign::Having) {
         Some(rest) => {

@@ -2,7 +2,7 @@
 ghost use Rattle.std.specs.Prelude.{◌≡◌, IsTrue};
 ghost use Rattle.std.specs.List.{list_all};
 ghost use Rattle.table_model.specs.Identifier.{is_word_byte};
-ghost use Rattle.query_parser.specs.Token.{sign_number, same_sign};
+ghost use Rattle.query_parser.specs.Token.{same_sign};
 
 use std::marker::Model;
 
