@@ -2,7 +2,6 @@
 use Rattle.std.proofs.Common.{◌≡◌, ℕ, ◌<◌, ◌+◌, Bool, true, false, ◌&&◌, ◌||◌, not, cond, List, [], ◌∷◌, length, take, get_or, slice_index_or, Some, None, ℤ, pos, refl, sym, ap, ◌∙◌, arith}
 use Rattle.std.specs.List.{list_any}
 use Rattle.std.specs.Ordering.{int_eq}
-use Rattle.std.proofs.lemmas.Bool.Decides.{Decides-int_eq}
 use Rattle.std.proofs.lemmas.List.Folds.{list_any_more}
 use Rattle.table_model.proofs.Predicates.{predicates}
 use Rattle.table_model.proofs.TruthPairs.{is_true-truth_of, is_false-truth_of}
@@ -14,15 +13,6 @@ use Rattle.transpose_order.specs.MaskWords.{has-rows_of, rows_of-like}
 use Rattle.query_eval.specs.Where.{IsPair}
 use Rattle.query_eval.specs.declared.pair.Pair.{Pair}
 use Rattle.query_eval.proofs.PairLemmas.{is_yes, is_no}
-
--- equality asks neither side first
-pub int_eq_flip : (x y : ℤ) → int_eq x y ≡ int_eq y x
-int_eq_flip x y = one (int_eq x y) (int_eq y x) (λ e. (Decides-int_eq y x).1 (sym ((Decides-int_eq x y).0 e))) (λ e. (Decides-int_eq x y).1 (sym ((Decides-int_eq y x).0 e)))
-  where
-    one : (a b : Bool) → (a ≡ true → b ≡ true) → (b ≡ true → a ≡ true) → a ≡ b
-    one true b f g = sym (f refl)
-    one false true f g = g refl
-    one false false f g = refl
 
 -- one literal more
 pub among_more : (values literals : List ℤ) (i : ℕ) (before one found : List Bool) → i < length literals → before ≡ rows_of (λ n. list_any (int_eq (get_or values n (pos 0))) (take i literals)) → one ≡ rows_of (λ n. int_eq (get_or values n (pos 0)) (get_or literals i (pos 0))) → found ≡ rows_of (λ n. has before n || has one n) → found ≡ rows_of (λ n. list_any (int_eq (get_or values n (pos 0))) (take (i + 1) literals))

@@ -2,7 +2,7 @@
 use Rattle.std.specs.Prelude.{◌≡◌, ℕ, ◌-◌, ◌^◌, ◌<◌, ◌≤◌, List, [], ◌∷◌, ◌++◌, map, length, drop, replicate}
 use Rattle.std.specs.List.{flat_map}
 use Rattle.std.specs.Fmt.{decimal}
-use Rattle.std.proofs.Common.{refl, sym, ap, ◌∙◌, append_assoc, arith}
+use Rattle.std.proofs.Common.{refl, sym, ap, ◌∙◌, append-nil, append_assoc, arith}
 use Rattle.std.proofs.lemmas.Fmt.{length-decimal-le}
 use Rattle.std.proofs.lemmas.List.{drop-replicate}
 use Rattle.table_model.specs.Answer.{joined, line_of, rows_text, field_text}
@@ -12,11 +12,8 @@ use Rattle.table_model.specs.declared.answer.Field.{Field}
 abbrev pub comma : {X : Type 0} → (X → List ℕ) → X → List ℕ
 comma f x = 44 ∷ f x
 
-pub joined_first : {X : Type 0} (f : X → List ℕ) (x : X) (xs : List X) → joined (f x ∷ map f xs) ≡ f x ++ flat_map (comma f) xs
-joined_first f x [] = sym (append_nil (f x)) where
-  append_nil : (l : List ℕ) → l ++ [] ≡ l
-  append_nil [] = refl
-  append_nil (b ∷ bs) = ap (λ (rest : List ℕ). b ∷ rest) (append_nil bs)
+joined_first : {X : Type 0} (f : X → List ℕ) (x : X) (xs : List X) → joined (f x ∷ map f xs) ≡ f x ++ flat_map (comma f) xs
+joined_first f x [] = sym (append-nil (f x))
 joined_first f x (y ∷ ys) = ap (λ (rest : List ℕ). f x ++ (44 ∷ rest)) (joined_first f y ys)
 
 -- the line of a row

@@ -1,6 +1,7 @@
 -- One row more.
-use Rattle.std.proofs.Common.{◌≡◌, ℕ, ◌+◌, ◌<◌, ◌≤◌, Bool, true, false, cond, ◌&&◌, nat_lt, nat_le, ◌⊎◌, inl, inr, List, refl, sym, ap, ◌∙◌, arith}
-use Rattle.std.proofs.lemmas.Bool.{cases_lt}
+use Rattle.std.proofs.Common.{◌≡◌, ℕ, ◌+◌, ◌<◌, ◌≤◌, Bool, true, false, cond, ◌&&◌, nat_lt, nat_le, ◌⊎◌, inl, inr, List, sym, ap, ◌∙◌, arith}
+use Rattle.std.proofs.Math.Bool.{and-false}
+use Rattle.std.proofs.lemmas.Bool.{cases_lt, le-ltb, lt-ltb}
 use Rattle.std.proofs.lemmas.Bool.Decides.{nat_tests}
 use Rattle.table_model.specs.Truth.{is_true, is_false}
 use Rattle.table_model.specs.declared.truth.Truth.{Truth}
@@ -12,12 +13,6 @@ use Rattle.query_eval.specs.Where.{IsPair}
 use Rattle.query_eval.specs.declared.pair.Pair.{Pair}
 use Rattle.query_eval.proofs.PairLemmas.{is_yes, is_no}
 
-below : (n k : ℕ) → n < k → nat_lt n k ≡ true
-below n k h = grind (arith, nat_tests)
-
-not_below : (n k : ℕ) → k ≤ n → nat_lt n k ≡ false
-not_below n k h = grind (arith, nat_tests)
-
 here_true : (k n : ℕ) → k ≤ n → n ≤ k → (nat_le k n && nat_lt n (k + 1)) ≡ true
 here_true k n h l = grind (arith, nat_tests)
 
@@ -27,36 +22,32 @@ here_low k n h = grind (arith, nat_tests)
 here_high : (k n : ℕ) → k < n → (nat_le k n && nat_lt n (k + 1)) ≡ false
 here_high k n h = grind (arith, nat_tests)
 
-and-none : (b : Bool) → (b && false) ≡ false
-and-none true = refl
-and-none false = refl
-
 kept : (q : ℕ → Bool) (k n : ℕ) → q k ≡ false → (nat_lt n k && q n) ≡ (nat_lt n (k + 1) && q n)
 kept q k n e = first (cases_lt n k)
   where
     same : n ≡ k → (nat_lt n k && q n) ≡ (nat_lt n (k + 1) && q n)
-    same h = let none : q n ≡ false = ap q h ∙ e in ap (λ b. nat_lt n k && b) none ∙ and-none (nat_lt n k) ∙ sym (ap (λ b. nat_lt n (k + 1) && b) none ∙ and-none (nat_lt n (k + 1)))
+    same h = let none : q n ≡ false = ap q h ∙ e in ap (λ b. nat_lt n k && b) none ∙ and-false (nat_lt n k) ∙ sym (ap (λ b. nat_lt n (k + 1) && b) none ∙ and-false (nat_lt n (k + 1)))
 
     second : k ≤ n → (k < n) ⊎ (n ≤ k) → (nat_lt n k && q n) ≡ (nat_lt n (k + 1) && q n)
-    second g (inl l) = ap (λ b. b && q n) (not_below n k g ∙ sym (not_below n (k + 1) (omega arith)))
+    second g (inl l) = ap (λ b. b && q n) (le-ltb n k g ∙ sym (le-ltb n (k + 1) (omega arith)))
     second g (inr l) = same (omega arith)
 
     first : (n < k) ⊎ (k ≤ n) → (nat_lt n k && q n) ≡ (nat_lt n (k + 1) && q n)
-    first (inl l) = ap (λ b. b && q n) (below n k l ∙ sym (below n (k + 1) (omega arith)))
+    first (inl l) = ap (λ b. b && q n) (lt-ltb n k l ∙ sym (lt-ltb n (k + 1) (omega arith)))
     first (inr g) = second g (cases_lt k n)
 
 written : (q : ℕ → Bool) (k n : ℕ) (old : Bool) → q k ≡ true → old ≡ (nat_lt n k && q n) → cond (nat_le k n && nat_lt n (k + 1)) true old ≡ (nat_lt n (k + 1) && q n)
 written q k n old e o = first (cases_lt n k)
   where
     same : k ≤ n → n ≤ k → n ≡ k → cond (nat_le k n && nat_lt n (k + 1)) true old ≡ (nat_lt n (k + 1) && q n)
-    same g l h = ap (λ b. cond b true old) (here_true k n g l) ∙ sym (ap (λ b. b && q n) (below n (k + 1) (omega arith)) ∙ ap q h ∙ e)
+    same g l h = ap (λ b. cond b true old) (here_true k n g l) ∙ sym (ap (λ b. b && q n) (lt-ltb n (k + 1) (omega arith)) ∙ ap q h ∙ e)
 
     second : k ≤ n → (k < n) ⊎ (n ≤ k) → cond (nat_le k n && nat_lt n (k + 1)) true old ≡ (nat_lt n (k + 1) && q n)
-    second g (inl l) = ap (λ b. cond b true old) (here_high k n l) ∙ o ∙ ap (λ b. b && q n) (not_below n k g ∙ sym (not_below n (k + 1) (omega arith)))
+    second g (inl l) = ap (λ b. cond b true old) (here_high k n l) ∙ o ∙ ap (λ b. b && q n) (le-ltb n k g ∙ sym (le-ltb n (k + 1) (omega arith)))
     second g (inr l) = same g l (omega arith)
 
     first : (n < k) ⊎ (k ≤ n) → cond (nat_le k n && nat_lt n (k + 1)) true old ≡ (nat_lt n (k + 1) && q n)
-    first (inl l) = ap (λ b. cond b true old) (here_low k n l) ∙ o ∙ ap (λ b. b && q n) (below n k l ∙ sym (below n (k + 1) (omega arith)))
+    first (inl l) = ap (λ b. cond b true old) (here_low k n l) ∙ o ∙ ap (λ b. b && q n) (lt-ltb n k l ∙ sym (lt-ltb n (k + 1) (omega arith)))
     first (inr g) = second g (cases_lt k n)
 
 pub passing_kept : (q : ℕ → Bool) (k : ℕ) → q k ≡ false → passing_below k q ≡ passing_below (k + 1) q
@@ -69,7 +60,7 @@ passing_written q k old e o = rows_of-like _ _ (λ n h. written q k n (has old n
 
 pub none_below : (q : ℕ → Bool) → rows_of (λ _. false) ≡ passing_below 0 q
 unfolding passing_below
-none_below q = rows_of-like _ _ (λ n h. ap (λ b. b && q n) (sym (not_below n 0 (omega arith))))
+none_below q = rows_of-like _ _ (λ n h. ap (λ b. b && q n) (sym (le-ltb n 0 (omega arith))))
 
 pub pair_start : (mask : List Bool) (t : ℕ → Truth) (c : Pair) → c.yes ≡ rows_of (λ _. false) → c.no ≡ rows_of (λ _. false) → IsPairBelow 0 mask t c
 pair_start mask t c e f = record { yes = e ∙ none_below _; no = f ∙ none_below _ }
@@ -104,6 +95,6 @@ put_unknown a c k e f mask t p m h = record {
 pub pair_end : (mask : List Bool) (t : ℕ → Truth) (c : Pair) → IsPairBelow 1024 mask t c → IsPair mask t c
 unfolding passing_below
 pair_end mask t c p = record {
-  yes = p.yes ∙ is_yes mask t _ (λ n h. ap (λ b. b && (has mask n && is_true (t n))) (below n 1024 h));
-  no = p.no ∙ is_no mask t _ (λ n h. ap (λ b. b && (has mask n && is_false (t n))) (below n 1024 h));
+  yes = p.yes ∙ is_yes mask t _ (λ n h. ap (λ b. b && (has mask n && is_true (t n))) (lt-ltb n 1024 h));
+  no = p.no ∙ is_no mask t _ (λ n h. ap (λ b. b && (has mask n && is_false (t n))) (lt-ltb n 1024 h));
 }

@@ -2,6 +2,7 @@
 use Rattle.std.proofs.Common.{◌≡◌, ℕ, ◌+◌, ◌<◌, ◌≤◌, Bool, true, false, not, cond, ◌&&◌, ◌||◌, List, [], ◌∷◌, ◌++◌, length, get_or, take, Option, Some, None, ℤ, pos, slice_index_or, refl, sym, ap, ◌∙◌, arith}
 use Rattle.std.specs.List.{list_any, IsDistinct, AllByRecursion}
 use Rattle.std.specs.Ordering.{int_eq}
+use Rattle.std.proofs.Math.Bool.{or_assoc, or-false}
 use Rattle.std.proofs.lemmas.Cmp.{int_eq_equiv}
 use Rattle.std.proofs.lemmas.List.{take_more}
 use Rattle.std.proofs.lemmas.List.Elements.{filter_map-append}
@@ -27,30 +28,22 @@ use Rattle.query_eval.proofs.Lifted.{rows_of-alike}
 abbrev pub picked : List Bool → List ℤ → ℕ → Option ℤ
 picked rows values n = cond (has rows n) (Some (slice_index_or values n (pos 0))) None
 
-or_none : (b : Bool) → (b || false) ≡ b
-or_none true = refl
-or_none false = refl
-
-or_three : (a b c : Bool) → (a || b) || c ≡ a || (b || c)
-or_three true b c = refl
-or_three false b c = refl
-
-pub one-more : (rows : List Bool) (values : List ℤ) (k : ℕ) → k < 1024 → present (take (k + 1) (rows_of (picked rows values))) ≡ present (take k (rows_of (picked rows values))) ++ present (picked rows values k ∷ [])
+one-more : (rows : List Bool) (values : List ℤ) (k : ℕ) → k < 1024 → present (take (k + 1) (rows_of (picked rows values))) ≡ present (take k (rows_of (picked rows values))) ++ present (picked rows values k ∷ [])
 one-more rows values k h =
     let all : List (Option ℤ) = rows_of (picked rows values) in
     let within : k < length all = omega (arith, length-rows_of (picked rows values)) in
     ap present (take_more all k None within) ∙ filter_map-append (λ o. o) (take k all) (get_or all k None ∷ [])
     ∙ ap (λ o. present (take k all) ++ present (o ∷ [])) (get_or-rows_of (picked rows values) k None h)
 
-pub member-more : (rows : List Bool) (values : List ℤ) (k : ℕ) (z : ℤ) → k < 1024 → list_any (int_eq z) (present (take (k + 1) (rows_of (picked rows values)))) ≡ (list_any (int_eq z) (present (take k (rows_of (picked rows values)))) || list_any (int_eq z) (present (picked rows values k ∷ [])))
+member-more : (rows : List Bool) (values : List ℤ) (k : ℕ) (z : ℤ) → k < 1024 → list_any (int_eq z) (present (take (k + 1) (rows_of (picked rows values)))) ≡ (list_any (int_eq z) (present (take k (rows_of (picked rows values)))) || list_any (int_eq z) (present (picked rows values k ∷ [])))
 member-more rows values k z h = ap (list_any (int_eq z)) (one-more rows values k h) ∙ list_any-append (int_eq z) (present (take k (rows_of (picked rows values)))) (present (picked rows values k ∷ []))
 
 pub member-put : (rows : List Bool) (values : List ℤ) (k : ℕ) (z x : ℤ) (old new first : Bool) → k < 1024 → has rows k ≡ true → slice_index_or values k (pos 0) ≡ x → old ≡ (first || list_any (int_eq z) (present (take k (rows_of (picked rows values))))) → new ≡ cond (int_eq x z) true old → new ≡ (first || list_any (int_eq z) (present (take (k + 1) (rows_of (picked rows values)))))
 member-put rows values k z x old new first h here is before put =
     let last : list_any (int_eq z) (present (picked rows values k ∷ [])) ≡ int_eq z x =
-    ap (λ b. list_any (int_eq z) (present (cond b (Some (slice_index_or values k (pos 0))) None ∷ []))) here ∙ or_none (int_eq z (slice_index_or values k (pos 0))) ∙ ap (int_eq z) is in
+    ap (λ b. list_any (int_eq z) (present (cond b (Some (slice_index_or values k (pos 0))) None ∷ []))) here ∙ or-false (int_eq z (slice_index_or values k (pos 0))) ∙ ap (int_eq z) is in
     put ∙ by_test (int_eq x z) old ∙ ap (λ b. old || b) (int_eq_equiv.symm x z) ∙ ap (λ b. b || int_eq z x) before
-    ∙ or_three first (list_any (int_eq z) (present (take k (rows_of (picked rows values))))) (int_eq z x)
+    ∙ or_assoc first (list_any (int_eq z) (present (take k (rows_of (picked rows values))))) (int_eq z x)
     ∙ ap (λ b. first || b) (sym (member-more rows values k z h ∙ ap (λ b. list_any (int_eq z) (present (take k (rows_of (picked rows values)))) || b) last))
   where
     by_test : (a b : Bool) → cond a true b ≡ (b || a)
@@ -62,7 +55,7 @@ member-put rows values k z x old new first h here is before put =
 pub member-skip : (rows : List Bool) (values : List ℤ) (k : ℕ) (z : ℤ) (old first : Bool) → k < 1024 → has rows k ≡ false → old ≡ (first || list_any (int_eq z) (present (take k (rows_of (picked rows values))))) → old ≡ (first || list_any (int_eq z) (present (take (k + 1) (rows_of (picked rows values)))))
 member-skip rows values k z old first h here before =
     let last : list_any (int_eq z) (present (picked rows values k ∷ [])) ≡ false = ap (λ b. list_any (int_eq z) (present (cond b (Some (slice_index_or values k (pos 0))) None ∷ []))) here in
-    before ∙ ap (λ b. first || b) (sym (member-more rows values k z h ∙ ap (λ b. list_any (int_eq z) (present (take k (rows_of (picked rows values)))) || b) last ∙ or_none _))
+    before ∙ ap (λ b. first || b) (sym (member-more rows values k z h ∙ ap (λ b. list_any (int_eq z) (present (take k (rows_of (picked rows values)))) || b) last ∙ or-false _))
 
 -- ---- a decoded column
 pub decoded-values : (v : Vector) (column : ℕ) (mask nulls rows : List Bool) (values : List ℤ) → nulls ≡ rows_of (λ n. is_null (whole (cell_at v column n))) → rows ≡ rows_of (λ n. has mask n && not (has nulls n)) → ((n : ℕ) (z : ℤ) → n < 1024 → cell_at v column n ≡ Some z → slice_index_or values n (pos 0) ≡ z) → present (rows_of (picked rows values)) ≡ looked_at v column mask

@@ -1,10 +1,13 @@
 -- A finished group gives the fields that its group has, for each set function that the query names.
-use Rattle.std.proofs.Common.{append-nil, get_or, take, ◌<◌, ◌≡◌, ℕ, ◌==◌, Bool, true, false, cond, not, ◌&&◌, ◌||◌, List, [], ◌∷◌, ◌++◌, map, filter, length, slice_index_or, Option, Some, None, refl, sym, ap, subst, ◌∙◌, eqb→eq, T, arith, suc, ◌+◌}
+use Rattle.std.proofs.Common.{append-nil, get_or, take, ◌<◌, ◌≡◌, ℕ, ◌==◌, Bool, true, false, cond, not, ◌&&◌, ◌||◌, List, [], ◌∷◌, ◌++◌, map, filter, length, slice_index_or, Option, Some, None, refl, sym, ap, ◌∙◌, arith, suc, ◌+◌}
 use Rattle.std.specs.List.{flat_map, list_any, position_or_len}
-use Rattle.std.proofs.lemmas.Bool.{false≢true}
+use Rattle.std.specs.Cmp.{booleans_Decides}
+use Rattle.std.specs.Bool.{beq}
+use Rattle.std.proofs.lemmas.Bool.{and_parts, false≢true, or_right}
+use Rattle.std.proofs.lemmas.Bool.Decides.{Decides-eqb}
 use Rattle.std.proofs.lemmas.List.{map-append, take_more}
 use Rattle.std.proofs.lemmas.List.Elements.{filter-append}
-use Rattle.table_model.specs.QueryCode.{fold_number}
+use Rattle.table_model.specs.QueryCode.{fold_number, fold_of, fold_of-fold_number}
 use Rattle.table_model.specs.Condition.{predicate_truth, condition_truth, field_comparison, between, is_among, is_null, not_if, asked}
 use Rattle.table_model.specs.Formula.{Formula, says, in_parentheses, is_truth, negation, no_factor, both, no_term, either}
 use Rattle.table_model.specs.Group.{Group}
@@ -16,7 +19,6 @@ use Rattle.table_model.specs.Truth.{is_true, and_of, or_of, not_of, truth_of}
 use Rattle.table_model.specs.declared.answer.Field.{Field}
 use Rattle.table_model.specs.declared.answer.Field.TheVariants.{Null}
 use Rattle.table_model.specs.declared.query.Fold.{Fold}
-use Rattle.table_model.specs.declared.query.Fold.TheVariants.{Count, Sum, Avg, Min, Max}
 use Rattle.table_model.specs.declared.query.Item.{Item}
 use Rattle.table_model.specs.declared.query.ItemValue.{ItemValue}
 use Rattle.table_model.specs.declared.query.ItemValue.TheVariants.{Grouped, Computed}
@@ -26,36 +28,13 @@ use Rattle.table_model.specs.declared.query.Predicate.{Predicate}
 use Rattle.table_model.specs.declared.query.Predicate.TheVariants.{Compare, Between, In, IsNull}
 use Rattle.table_model.specs.declared.query.SetFunction.{SetFunction}
 use Rattle.table_model.specs.declared.query.SetFunction.TheVariants.{CountRows, Of}
-use Rattle.query_eval.specs.Aggregate.{aggregate_of, aggregate_value, aggregates_of, condition_functions, functions_of, having_functions, item_functions, operand_functions, predicate_functions, same_aggregate, same_flag}
+use Rattle.query_eval.specs.Aggregate.{aggregate_of, aggregate_value, aggregates_of, condition_functions, functions_of, having_functions, item_functions, operand_functions, predicate_functions, same_aggregate}
 use Rattle.query_eval.specs.Finished.{PlanShape, finished_of, plan_of, seen_aggregate, seen_item, seen_operand}
 use Rattle.query_eval.specs.declared.aggregate.Aggregate.{Aggregate}
 use Rattle.query_eval.specs.declared.aggregate.Aggregate.TheVariants.{Rows, Folded}
 
--- the kind with a number
-abbrev fold_by : ℕ → Fold
-fold_by n = cond (n == 0) Count (cond (n == 1) Sum (cond (n == 2) Avg (cond (n == 3) Min Max)))
-
-fold_back : (f : Fold) → fold_by (fold_number f) ≡ f
-fold_back Count = refl
-fold_back Sum = refl
-fold_back Avg = refl
-fold_back Min = refl
-fold_back Max = refl
-
-same_number : (m n : ℕ) → (m == n) ≡ true → m ≡ n
-same_number m n e = eqb→eq m n (subst T (sym e) tt)
-
 one_fold : (f g : Fold) → (fold_number f == fold_number g) ≡ true → f ≡ g
-one_fold f g e = sym (fold_back f) ∙ ap fold_by (same_number (fold_number f) (fold_number g) e) ∙ fold_back g
-
-one_flag : (a b : Bool) → same_flag a b ≡ true → a ≡ b
-one_flag true b e = sym e
-one_flag false false e = refl
-one_flag false true e = absurd (false≢true e)
-
-both_true : (a b : Bool) → (a && b) ≡ true → (a ≡ true) × (b ≡ true)
-both_true true b e = (refl, e)
-both_true false b e = absurd (false≢true e)
+one_fold f g e = sym (fold_of-fold_number f) ∙ ap fold_of ((Decides-eqb (fold_number f) (fold_number g)).0 e) ∙ fold_of-fold_number g
 
 -- aggregates that are the same are one
 pub one_aggregate : (a b : Aggregate) → same_aggregate a b ≡ true → a ≡ b
@@ -63,30 +42,23 @@ one_aggregate Rows Rows e = refl
 one_aggregate Rows (Folded fold distinct place) e = absurd (false≢true e)
 one_aggregate (Folded fold distinct place) Rows e = absurd (false≢true e)
 one_aggregate (Folded f d p) (Folded g e q) h =
-    let first = both_true (fold_number f == fold_number g) (same_flag d e && (p == q)) h in
-    let rest = both_true (same_flag d e) (p == q) first.1 in
+    let first = and_parts (fold_number f == fold_number g) (beq d e && (p == q)) h in
+    let rest = and_parts (beq d e) (p == q) first.1 in
     let fold = one_fold f g first.0 in
-    let distinct = one_flag d e rest.0 in
-    let place = same_number p q rest.1 in
+    let distinct = (booleans_Decides d e).0 rest.0 in
+    let place = (Decides-eqb p q).0 rest.1 in
     λ i. Folded (fold i) (distinct i) (place i)
 
-itself_flag : (a : Bool) → same_flag a a ≡ true
-itself_flag true = refl
-itself_flag false = refl
-
-itself_number : (n : ℕ) → (n == n) ≡ true
-itself_number n = grind (arith)
-
-pub itself_aggregate : (a : Aggregate) → same_aggregate a a ≡ true
+itself_aggregate : (a : Aggregate) → same_aggregate a a ≡ true
 itself_aggregate Rows = refl
-itself_aggregate (Folded f d p) = (λ i. itself_number (fold_number f) i && (itself_flag d i && itself_number p i))
+itself_aggregate (Folded f d p) = (λ i. (Decides-eqb (fold_number f) (fold_number f)).1 refl i && ((booleans_Decides d d).1 refl i && (Decides-eqb p p).1 refl i))
 
 at_or_later : (F : Aggregate → Field) (a b : Aggregate) (t : Bool) (fields : List Field) (n : ℕ) → same_aggregate a b ≡ t → (t ≡ false → slice_index_or fields n Null ≡ F a) → slice_index_or (F b ∷ fields) (cond (not t) (1 + n) 0) Null ≡ F a
 at_or_later F a b true fields n is later = ap F (sym (one_aggregate a b is))
 at_or_later F a b false fields n is later = let next : 1 + n ≡ suc n = omega arith in ap (λ k. slice_index_or (F b ∷ fields) k Null) next ∙ later refl
 
 -- the field of an aggregate that was asked for
-pub field_found : (F : Aggregate → Field) (a : Aggregate) (asked : List Aggregate) → list_any (same_aggregate a) asked ≡ true → slice_index_or (map F asked) (position_or_len (same_aggregate a) asked) Null ≡ F a
+field_found : (F : Aggregate → Field) (a : Aggregate) (asked : List Aggregate) → list_any (same_aggregate a) asked ≡ true → slice_index_or (map F asked) (position_or_len (same_aggregate a) asked) Null ≡ F a
 field_found F a [] h = absurd (false≢true h)
 field_found F a (b ∷ bs) h =
     at_or_later F a b (same_aggregate a b) (map F bs) (position_or_len (same_aggregate a) bs) refl
@@ -95,10 +67,6 @@ field_found F a (b ∷ bs) h =
 value_of : (columns : List ColumnShape) (f : SetFunction) (rows : List Cells) → aggregate_value (aggregate_of columns f) rows ≡ function_value columns f rows
 value_of columns CountRows rows = refl
 value_of columns (Of fold distinct column) rows = refl
-
-or_true : (a b : Bool) → b ≡ true → (a || b) ≡ true
-or_true true b e = refl
-or_true false b e = e
 
 module _ (columns : List ColumnShape) (plan : PlanShape) where
   -- each set function was asked for
@@ -111,7 +79,7 @@ module _ (columns : List ColumnShape) (plan : PlanShape) where
   all_named (f ∷ fs) h =
       let a = aggregate_of columns f in
       let here = ap (λ b. b || list_any (same_aggregate a) (map (aggregate_of columns) fs)) (itself_aggregate a) in
-      (h a here, all_named fs (λ b e. h b (or_true (same_aggregate b a) _ e)))
+      (h a here, all_named fs (λ b e. h b (or_right (same_aggregate b a) _ e)))
 
   parted : (fs gs : List SetFunction) → AreNamed (fs ++ gs) → AreNamed fs × AreNamed gs
   parted [] gs h = (tt, h)

@@ -2,29 +2,29 @@
 use Rattle.std.proofs.Common.{◌≡◌, ◌≢◌, ℕ, zero, suc, ◌+◌, ◌*◌, ◌/◌, ◌%◌, ◌==◌, ◌<◌, ◌≤◌, ◌⊎◌, inl, inr, Bool, true, false, cond, not, ◌&&◌, ◌||◌, List, [], ◌∷◌, ◌++◌, map, length, get_or, set, Option, Some, None, ℤ, pos, refl, sym, ap, subst, ◌∙◌, arith, append-nil, append_assoc, length-append, length-set, get_or-set_same, get_or-set_other}
 use Rattle.std.specs.Int.{bit_at}
 use Rattle.std.specs.List.{filter_map, list_any}
-use Rattle.std.specs.BTreeMap.{BTreeMap, get, is_at}
+use Rattle.std.specs.BTreeMap.{get}
 use Rattle.std.specs.Global.{Vec}
-use Rattle.std.specs.Map.{lookup}
 use Rattle.std.specs.Option.{is_some}
 use Rattle.std.proofs.Math.ListN.{get_or-append}
 use Rattle.std.proofs.Math.Seq.{get_or-append_seam}
-use Rattle.std.proofs.lemmas.Bool.{cases_lt, false≢true}
+use Rattle.std.proofs.lemmas.Bool.{cases_lt, false≢true, or_parts}
 use Rattle.std.proofs.lemmas.Bool.Decides.{Decides-eqb}
-use Rattle.std.proofs.lemmas.List.{map-append}
+use Rattle.std.proofs.lemmas.List.{get_or_default, map-append}
 use Rattle.std.proofs.lemmas.List.Elements.{filter-append}
+use Rattle.std.proofs.lemmas.List.Folds.{list_any-append}
+use Rattle.std.proofs.lemmas.Option.{none-some, same_Some}
 use Rattle.table_model.specs.Group.{cell, key_cmp, key_of, rows_with, values_in}
 use Rattle.table_model.specs.State.{Cells, same_cells}
 use Rattle.table_model.proofs.Groups.{values_in-append}
-use Rattle.table_model.proofs.Parts.{neither}
 use Rattle.table_model.proofs.SameRows.{one_row, itself_row}
-use Rattle.query_eval.specs.Grouping.{AreEmpty, AreGroups, AreHeld, IsHeld, IsTaken, AreCounted, AreShown, aggregate_cell, aggregate_values, as_list}
+use Rattle.query_eval.specs.Grouping.{AreGroups, AreHeld, IsHeld, IsTaken, AreCounted, AreShown, aggregate_cell, aggregate_values, as_list}
 use Rattle.query_eval.specs.Places.{IsIndex, rows_below, rows_placed}
 use Rattle.query_eval.specs.Slices.{IsSplit, rows_shared}
 use Rattle.query_eval.specs.Kept.{rows_at}
 use Rattle.query_eval.specs.Vector.{Vector, row_at}
 use Rattle.query_eval.specs.declared.places.Places.{Places}
 use Rattle.query_eval.specs.declared.split.Split.{Split}
-use Rattle.query_eval.proofs.PlaceLemmas.{some_same}
+use Rattle.query_eval.proofs.Lifted.{shown_if}
 use Rattle.query_eval.proofs.SliceLemmas.{shared_with}
 use Rattle.query_eval.proofs.RowsBelow.{below_all, below_more, placed_more_rows}
 use Rattle.transpose_order.specs.Mask.{has, rows_of, truth_at}
@@ -36,7 +36,8 @@ use Rattle.query_eval.specs.declared.aggregate.Aggregate.TheVariants.{Rows, Fold
 use Rattle.query_eval.specs.declared.tally.Tally.{Tally}
 use Rattle.query_eval.specs.declared.tally.TallyKind.{TallyKind}
 
-none_values : (a : Aggregate) → aggregate_values a [] ≡ []
+-- over no rows there are no values
+pub none_values : (a : Aggregate) → aggregate_values a [] ≡ []
 unfolding values_in
 none_values Rows = refl
 none_values (Folded fold distinct place) = refl
@@ -55,22 +56,27 @@ values_more Rows rows one = sym (map-append (λ _. pos 0) rows (one ∷ []))
 values_more (Folded fold distinct place) rows one = ap (λ l. values_in place rows ++ l) (sym (one_value place one (cell one place) refl)) ∙ sym (values_in-append place rows (one ∷ []))
 
 -- no row has a key that didn't occur
-pub rows_with-none : (by : List ℕ) (rows : List Cells) (key : Cells) → list_any (same_cells key) (map (key_of by) rows) ≡ false → rows_with by rows key ≡ []
+rows_with-none : (by : List ℕ) (rows : List Cells) (key : Cells) → list_any (same_cells key) (map (key_of by) rows) ≡ false → rows_with by rows key ≡ []
 unfolding rows_with
 rows_with-none by [] key h = refl
 rows_with-none by (row ∷ rows) key h =
-    let parts = neither (same_cells key (key_of by row)) (list_any (same_cells key) (map (key_of by) rows)) h in
+    let parts = or_parts (same_cells key (key_of by row)) (list_any (same_cells key) (map (key_of by) rows)) h in
     ap (λ b. cond b (row ∷ rows_with by rows key) (rows_with by rows key)) parts.0 ∙ rows_with-none by rows key parts.1
+
+-- no value is listed, whatever the test
+nothing_listed : (b : Bool) → cond b (as_list None) [] ≡ []
+nothing_listed true = refl
+nothing_listed false = refl
 
 -- a cell of one row more in the tally at its place
 module _ (k : ℕ) (v : Vector) (mask : List Bool) (places : List ℕ) (g : ℕ) (a : Aggregate) (rows : List Cells) where
   -- the next row isn't one of the mask
-  pub held_left : (t : Tally) → has mask k ≡ false → IsHeld (rows ++ rows_placed k v mask places g) a t → IsHeld (rows ++ rows_placed (k + 1) v mask places g) a t
+  held_left : (t : Tally) → has mask k ≡ false → IsHeld (rows ++ rows_placed k v mask places g) a t → IsHeld (rows ++ rows_placed (k + 1) v mask places g) a t
   held_left t off h =
       subst (λ (l : List Cells). IsHeld (rows ++ l) a t) (sym (append-nil (rows_placed k v mask places g)) ∙ sym (placed_more_rows k v mask places g false (ap (λ b. b && (get_or places k 0 == g)) off))) h
 
   -- the next row's cell is taken into the tally at its place
-  pub held_cell : (t u : Tally) (place : ℕ) (cell : Option ℤ) → has mask k ≡ true → place ≡ get_or places k 0 → cell ≡ aggregate_cell (row_at v k) a → ((values : List ℤ) → IsTally values t → IsTally (values ++ cond (place == g) (as_list cell) []) u) → kind_of u ≡ kind_of t → IsHeld (rows ++ rows_placed k v mask places g) a t → IsHeld (rows ++ rows_placed (k + 1) v mask places g) a u
+  held_cell : (t u : Tally) (place : ℕ) (cell : Option ℤ) → has mask k ≡ true → place ≡ get_or places k 0 → cell ≡ aggregate_cell (row_at v k) a → ((values : List ℤ) → IsTally values t → IsTally (values ++ cond (place == g) (as_list cell) []) u) → kind_of u ≡ kind_of t → IsHeld (rows ++ rows_placed k v mask places g) a t → IsHeld (rows ++ rows_placed (k + 1) v mask places g) a u
   held_cell t u place cell on at is takes same h = one (place == g) refl
     where
       before : List Cells
@@ -99,10 +105,7 @@ module _ (k : ℕ) (v : Vector) (mask : List Bool) (places : List ℕ) (g : ℕ)
 
   chosen_one : (b : Bool) (o : Option ℤ) (z : ℤ) → cond b o None ≡ Some z → (b ≡ true) × (o ≡ Some z)
   chosen_one true o z e = (refl, e)
-  chosen_one false o z e = absurd (never e)
-    where
-      never : None ≡ Some z → ⊥
-      never q = cc
+  chosen_one false o z e = absurd (none-some z e)
 
   -- the next row's value is taken into the tally at its place
   pub held_on : (chosen : List Bool) (values : List ℤ) (t u : Tally) → k < 1024 → AreShown a v mask chosen values → has chosen k ≡ true → ((taken : List ℤ) → IsTally taken t → IsTally (taken ++ cond (get_or places k 0 == g) (get_or values k (pos 0) ∷ []) []) u) → kind_of u ≡ kind_of t → IsHeld (rows ++ rows_placed k v mask places g) a t → IsHeld (rows ++ rows_placed (k + 1) v mask places g) a u
@@ -115,15 +118,11 @@ module _ (k : ℕ) (v : Vector) (mask : List Bool) (places : List ℕ) (g : ℕ)
   pub held_off : (chosen : List Bool) (values : List ℤ) (t : Tally) → k < 1024 → AreShown a v mask chosen values → has chosen k ≡ false → IsHeld (rows ++ rows_placed k v mask places g) a t → IsHeld (rows ++ rows_placed (k + 1) v mask places g) a t
   held_off chosen values t l shown off h = by_test (has mask k) refl
     where
-      nothing : (b : Bool) → cond b (as_list None) [] ≡ []
-      nothing true = refl
-      nothing false = refl
-
       by_test : (b : Bool) → has mask k ≡ b → IsHeld (rows ++ rows_placed (k + 1) v mask places g) a t
       by_test false e = held_left t e h
       by_test true e =
           let null : None ≡ aggregate_cell (row_at v k) a = sym (ap (λ b. cond b (aggregate_cell (row_at v k) a) None) (sym e) ∙ shown k l ∙ ap (λ b. cond b (Some (get_or values k (pos 0))) None) off) in
-          held_cell t t (get_or places k 0) None e refl null (λ taken q. subst (λ (vs : List ℤ). IsTally vs t) (sym (ap (λ l2. taken ++ l2) (nothing (get_or places k 0 == g)) ∙ append-nil taken)) q) refl h
+          held_cell t t (get_or places k 0) None e refl null (λ taken q. subst (λ (vs : List ℤ). IsTally vs t) (sym (ap (λ l2. taken ++ l2) (nothing_listed (get_or places k 0 == g)) ∙ append-nil taken)) q) refl h
 
   -- the next row's cell, none where the row isn't one of the mask, is taken into the tally at its place
   pub held_next : (t u : Tally) (cell : Option ℤ) → cell ≡ cond (has mask k) (aggregate_cell (row_at v k) a) None → ((values : List ℤ) → IsTally values t → IsTally (values ++ cond (get_or places k 0 == g) (as_list cell) []) u) → kind_of u ≡ kind_of t → IsHeld (rows ++ rows_placed k v mask places g) a t → IsHeld (rows ++ rows_placed (k + 1) v mask places g) a u
@@ -131,10 +130,6 @@ module _ (k : ℕ) (v : Vector) (mask : List Bool) (places : List ℕ) (g : ℕ)
     where
       before : List ℤ
       before = aggregate_values a (rows ++ rows_placed k v mask places g)
-
-      nothing : (b : Bool) → cond b (as_list None) [] ≡ []
-      nothing true = refl
-      nothing false = refl
 
       by_test : (b : Bool) → has mask k ≡ b → IsHeld (rows ++ rows_placed (k + 1) v mask places g) a u
       by_test true e = held_cell t u (get_or places k 0) cell e refl (is ∙ ap (λ b. cond b (aggregate_cell (row_at v k) a) None) e) takes same h
@@ -144,7 +139,7 @@ module _ (k : ℕ) (v : Vector) (mask : List Bool) (places : List ℕ) (g : ℕ)
           (record {
             values =
                 subst (λ (vs : List ℤ). IsTally vs u)
-                (ap (λ o. before ++ cond (get_or places k 0 == g) (as_list o) []) none ∙ ap (λ l. before ++ l) (nothing (get_or places k 0 == g)) ∙ append-nil before) (takes before h.values);
+                (ap (λ o. before ++ cond (get_or places k 0 == g) (as_list o) []) none ∙ ap (λ l. before ++ l) (nothing_listed (get_or places k 0 == g)) ∙ append-nil before) (takes before h.values);
             kind = same ∙ h.kind;
           })
 
@@ -172,10 +167,6 @@ module _ (k : ℕ) (v : Vector) (mask : List Bool) (places : List ℕ) (g : ℕ)
 
 -- no row has a value
 module _ (v : Vector) (mask : List Bool) (places : List ℕ) (g : ℕ) (a : Aggregate) (rows : List Cells) (t : Tally) (missing : (n : ℕ) → n < 1024 → aggregate_cell (row_at v n) a ≡ None) where
-  nothing_there : (b : Bool) → cond b (as_list None) [] ≡ []
-  nothing_there true = refl
-  nothing_there false = refl
-
   missing_at : (k : ℕ) → k < 1024 → (b : Bool) → None ≡ cond b (aggregate_cell (row_at v k) a) None
   missing_at k l true = sym (missing k l)
   missing_at k l false = refl
@@ -186,13 +177,7 @@ module _ (v : Vector) (mask : List Bool) (places : List ℕ) (g : ℕ) (a : Aggr
       let e : k + 1 ≡ suc k = omega arith in
       let inside : k < 1024 = omega (arith, l) in
       subst (λ (n : ℕ). IsHeld (rows ++ rows_placed n v mask places g) a t) e
-      (held_next k v mask places g a rows t t None (missing_at k inside (has mask k)) (λ taken q. subst (λ (vs : List ℤ). IsTally vs t) (sym (ap (λ zs. taken ++ zs) (nothing_there (get_or places k 0 == g)) ∙ append-nil taken)) q) refl (held_without k (omega (arith, l)) h))
-
--- within a list it doesn't matter what stands past its end
-pub within_any : {X : Type 0} (xs : List X) (i : ℕ) (a b : X) → i < length xs → get_or xs i a ≡ get_or xs i b
-within_any [] i a b l = absurd (omega arith)
-within_any (x ∷ xs) zero a b l = refl
-within_any (x ∷ xs) (suc i) a b l = within_any xs i a b (omega arith)
+      (held_next k v mask places g a rows t t None (missing_at k inside (has mask k)) (λ taken q. subst (λ (vs : List ℤ). IsTally vs t) (sym (ap (λ zs. taken ++ zs) (nothing_listed (get_or places k 0 == g)) ∙ append-nil taken)) q) refl (held_without k (omega (arith, l)) h))
 
 -- the tally at a place takes in a value
 module _ (place : ℕ) (old new : List Tally) (u d : Tally) (within : place < length old) (new_is : new ≡ set old place u) where
@@ -202,7 +187,7 @@ module _ (place : ℕ) (old new : List Tally) (u d : Tally) (within : place < le
       one : (b : Bool) → (place == g) ≡ b → IsTally (values ++ cond b added []) (get_or new g t)
       one true e =
           let same : place ≡ g = (Decides-eqb place g).0 e in
-          let before : IsTally values (get_or old place d) = subst (IsTally values) (ap (λ j. get_or old j t) (sym same) ∙ within_any old place t d within) h in
+          let before : IsTally values (get_or old place d) = subst (IsTally values) (ap (λ j. get_or old j t) (sym same) ∙ get_or_default old place t d within) h in
           subst (IsTally (values ++ added)) (sym (ap (λ ts. get_or ts g t) new_is ∙ ap (λ j. get_or (set old place u) j t) (sym same) ∙ get_or-set_same old place u t within)) (takes values before)
       one false e =
           let ne : g ≢ place = λ q. false≢true (sym e ∙ (Decides-eqb place g).1 (sym q)) in
@@ -214,22 +199,11 @@ module _ (place : ℕ) (old new : List Tally) (u d : Tally) (within : place < le
       one : (b : Bool) → (place == g) ≡ b → IsTally (values ++ cond b added []) (get_or new g t)
       one true e =
           let same : place ≡ g = (Decides-eqb place g).0 e in
-          let here : get_or old place d ≡ get_or old g t = within_any old place d t within ∙ ap (λ j. get_or old j t) same in
+          let here : get_or old place d ≡ get_or old g t = get_or_default old place d t within ∙ ap (λ j. get_or old j t) same in
           subst (IsTally (values ++ added)) (sym (ap (λ ts. get_or ts g t) new_is ∙ ap (λ j. get_or (set old place u) j t) (sym same) ∙ get_or-set_same old place u t within)) (takes values (ap kind_of here ∙ is) (subst (IsTally values) (sym here) h))
       one false e =
           let ne : g ≢ place = λ q. false≢true (sym e ∙ (Decides-eqb place g).1 (sym q)) in
           subst (λ (vs : List ℤ). IsTally vs (get_or new g t)) (sym (append-nil values)) (subst (IsTally values) (sym (ap (λ ts. get_or ts g t) new_is ∙ get_or-set_other old place g u t ne)) h)
-
-  pub cell_kind : kind_of u ≡ kind_of (get_or old place d) → (g : ℕ) (t : Tally) → g < length old → kind_of (get_or new g t) ≡ kind_of (get_or old g t)
-  cell_kind same g t l = one (place == g) refl
-    where
-      one : (b : Bool) → (place == g) ≡ b → kind_of (get_or new g t) ≡ kind_of (get_or old g t)
-      one true e =
-          let at : place ≡ g = (Decides-eqb place g).0 e in
-          ap kind_of (ap (λ ts. get_or ts g t) new_is ∙ ap (λ j. get_or (set old place u) j t) (sym at) ∙ get_or-set_same old place u t within) ∙ same ∙ ap kind_of (within_any old place d t within ∙ ap (λ j. get_or old j t) at)
-      one false e =
-          let ne : g ≢ place = λ q. false≢true (sym e ∙ (Decides-eqb place g).1 (sym q)) in
-          ap kind_of (ap (λ ts. get_or ts g t) new_is ∙ get_or-set_other old place g u t ne)
 
 -- one tally more
 pub known_push : (old ts next : List Tally) (u : Tally) → next ≡ ts ++ u ∷ [] → length old ≤ length ts → ((g : ℕ) (t : Tally) → g < length old → get_or ts g t ≡ get_or old g t) → (g : ℕ) (t : Tally) → g < length old → get_or next g t ≡ get_or old g t
@@ -278,7 +252,7 @@ module _ (by : List ℕ) (v : Vector) (mask : List Bool) (places : List ℕ) (g 
       ∙ sym (rows_with-append by (rows_below k v mask) (row_at v k ∷ []) key)
       ∙ ap (λ rows. rows_with by rows key) (sym (below_more k v mask true e))
 
-  pub placed_with : (k : ℕ) → k ≤ 1024 → rows_placed k v mask places g ≡ rows_with by (rows_below k v mask) key
+  placed_with : (k : ℕ) → k ≤ 1024 → rows_placed k v mask places g ≡ rows_with by (rows_below k v mask) key
   placed_with zero l = placed_none_with
   placed_with (suc k) l =
       let e : k + 1 ≡ suc k = omega arith in
@@ -291,22 +265,14 @@ groups_more by named v mask rows before after split old new index placed size ta
   columns = λ i c l. let m : i < length old = omega (arith, h.size, l) in (taken i Rows c l m).size (omega (arith, h.columns i c l, placed.grown.longer));
   held = λ key g is. one_held key g is (get key_cmp before.index key) refl;
   occurs = λ key. placed.occurs key ∙ ap (λ b. b || list_any (same_cells key) (map (key_of by) (rows_at v mask))) (h.occurs key)
-      ∙ sym (any-both key (map (key_of by) rows) (map (key_of by) (rows_at v mask))) ∙ ap (list_any (same_cells key)) (sym (map-append (key_of by) rows (rows_at v mask)));
+      ∙ sym (list_any-append (same_cells key) (map (key_of by) rows) (map (key_of by) (rows_at v mask))) ∙ ap (list_any (same_cells key)) (sym (map-append (key_of by) rows (rows_at v mask)));
 }
   where
-    any-both : (key : Cells) (ks ls : List Cells) → list_any (same_cells key) (ks ++ ls) ≡ (list_any (same_cells key) ks || list_any (same_cells key) ls)
-    any-both key [] ls = refl
-    any-both key (k ∷ ks) ls = ap (λ b. same_cells key k || b) (any-both key ks ls) ∙ assoc (same_cells key k) (list_any (same_cells key) ks) (list_any (same_cells key) ls)
-      where
-        assoc : (a b c : Bool) → (a || (b || c)) ≡ ((a || b) || c)
-        assoc true b c = refl
-        assoc false b c = refl
-
     agrees : (key : Cells) (g : ℕ) → get key_cmp after.index key ≡ Some g → (n : ℕ) → n < 1024 → has split.left n ≡ true → (get_or split.places n 0 == g) ≡ same_cells key (key_of by (row_at v n))
     agrees key g is n l on = by_test (same_cells key (key_of by (row_at v n))) refl
       where
         by_test : (b : Bool) → same_cells key (key_of by (row_at v n)) ≡ b → (get_or split.places n 0 == g) ≡ b
-        by_test true e = (Decides-eqb (get_or split.places n 0) g).1 (some_same (sym (placed.placed n l on) ∙ ap (get key_cmp after.index) (sym (one_row key (key_of by (row_at v n)) e)) ∙ is))
+        by_test true e = (Decides-eqb (get_or split.places n 0) g).1 (same_Some _ _ (sym (placed.placed n l on) ∙ ap (get key_cmp after.index) (sym (one_row key (key_of by (row_at v n)) e)) ∙ is))
         by_test false e = by_place (get_or split.places n 0 == g) refl
           where
             by_place : (b : Bool) → (get_or split.places n 0 == g) ≡ b → b ≡ false
@@ -323,7 +289,7 @@ groups_more by named v mask rows before after split old new index placed size ta
 
     one_held : (key : Cells) (g : ℕ) → get key_cmp after.index key ≡ Some g → (o : Option ℕ) → get key_cmp before.index key ≡ o → AreHeld (rows_with by (rows ++ rows_at v mask) key) named new g
     one_held key g is (Some p) was =
-        let same : p ≡ g = some_same (sym (placed.grown.kept key p was) ∙ is) in
+        let same : p ≡ g = same_Some _ _ (sym (placed.grown.kept key p was) ∙ is) in
         let here = h.held key g (was ∙ ap Some same) in
         record {
           size = size ∙ h.size;
@@ -343,34 +309,6 @@ groups_more by named v mask rows before after split old new index placed size ta
               subst (λ (xs : List Cells). IsHeld xs (get_or named i a) (get_or (get_or new i c).items g t)) (more key g is ∙ ap (λ xs. xs ++ rows_with by (rows_at v mask) key) (sym nowhere) ∙ sym (rows_with-append by rows (rows_at v mask) key))
               ((taken i a c l m).fresh g t (omega (arith, h.columns i c l, placed.grown.fresh key g was is)) (index.below key g is));
         }
-
--- no groups
-pub groups_none : (by : List ℕ) (named : List Aggregate) (m : BTreeMap Cells ℕ) (tallies : List (Vec Tally)) → m.entries ≡ [] → AreEmpty (length named) tallies → AreGroups by named [] m tallies
-groups_none by named m tallies e h = record {
-  size = h.size;
-  columns = λ i c l. ap length (h.empty i c l) ∙ ap length (sym e);
-  held = λ key g is. absurd (never (sym (nowhere key) ∙ is));
-  occurs = λ key. ap is_some (nowhere key);
-}
-  where
-    never : {g : ℕ} → None ≡ Some g → ⊥
-    never z = cc
-
-    nowhere : (key : Cells) → get key_cmp m key ≡ None
-    nowhere key = ap (λ es. lookup (is_at (key_cmp key)) es) e
-
--- one column more
-pub empty_push : (n : ℕ) (ts next : List (Vec Tally)) (u : Vec Tally) → next ≡ ts ++ u ∷ [] → u.items ≡ [] → AreEmpty n ts → AreEmpty (n + 1) next
-empty_push n ts next u is e h = record {
-  size = ap length is ∙ length-append ts (u ∷ []) ∙ ap (λ k. k + 1) h.size;
-  empty = λ i c l. one i c l (cases_lt i (length ts));
-}
-  where
-    one : (i : ℕ) (c : Vec Tally) → i < n + 1 → (i < length ts) ⊎ (length ts ≤ i) → (get_or next i c).items ≡ []
-    one i c l (inl m) = ap (λ xs. (get_or xs i c).items) is ∙ ap (λ x. x.items) (get_or-append ts (u ∷ []) c i m) ∙ h.empty i c (omega (arith, m, h.size))
-    one i c l (inr m) =
-        let at : i ≡ length ts = omega (arith, l, h.size, m) in
-        ap (λ xs. (get_or xs i c).items) is ∙ ap (λ j. (get_or (ts ++ u ∷ []) j c).items) at ∙ ap (λ x. x.items) (get_or-append_seam ts u [] c) ∙ e
 
 -- one aggregate more has taken in the rows
 module _ (named : List Aggregate) (v : Vector) (split : Split) (count i : ℕ) (old now : List (Vec Tally)) (m u : Vec Tally) (size : length now ≡ length old) (ln : i < length named) (lo : i < length old) (ahead : (j : ℕ) (c : Vec Tally) → i ≤ j → get_or now j c ≡ get_or old j c) where
@@ -393,19 +331,14 @@ module _ (named : List Aggregate) (v : Vector) (split : Split) (count i : ℕ) (
           let inside : i < length now = omega (arith, lo, size) in
           subst (λ (k : ℕ). IsTaken (get_or named k a) v split count (get_or old k c).items (get_or (set now i u) k c).items) e
           (subst (λ (x : Vec Tally). IsTaken (get_or named i a) v split count (get_or old i c).items x.items) (sym (get_or-set_same now i u c inside))
-          (subst (λ (x : Vec Tally). IsTaken (get_or named i a) v split count x.items u.items) (mine ∙ within_any now i m c inside ∙ ahead i c (omega arith))
-          (subst (λ (x : Aggregate). IsTaken x v split count m.items u.items) (within_any named i Rows a ln) one)))
+          (subst (λ (x : Vec Tally). IsTaken (get_or named i a) v split count x.items u.items) (mine ∙ get_or_default now i m c inside ∙ ahead i c (omega arith))
+          (subst (λ (x : Aggregate). IsTaken x v split count m.items u.items) (get_or_default named i Rows a ln) one)))
 
 -- of a column, the rows of the mask that aren't null have one
 pub shown_values : (a : Aggregate) (v : Vector) (mask nulls rows : List Bool) (values : List ℤ) → rows ≡ rows_of (λ n. has mask n && not (has nulls n)) → ((n : ℕ) → n < 1024 → cond (has nulls n) None (Some (get_or values n (pos 0))) ≡ aggregate_cell (row_at v n) a) → AreShown a v mask rows values
 shown_values a v mask nulls rows values e shown n l =
-    ap (λ o. cond (has mask n) o None) (sym (shown n l)) ∙ one (has mask n) (has nulls n)
+    ap (λ o. cond (has mask n) o None) (sym (shown n l)) ∙ sym (shown_if (has mask n) (has nulls n) (get_or values n (pos 0)))
     ∙ ap (λ b. cond b (Some (get_or values n (pos 0))) None) (sym (ap (λ m. has m n) e ∙ has-rows_of (λ m. has mask m && not (has nulls m)) n l))
-  where
-    one : (b c : Bool) → cond b (cond c None (Some (get_or values n (pos 0)))) None ≡ cond (b && not c) (Some (get_or values n (pos 0))) None
-    one true true = refl
-    one true false = refl
-    one false c = refl
 
 -- bit b of word j is row 64 * j + b
 pub word_bits : (words : List ℕ) (rows : List Bool) (j b : ℕ) → j < 16 → b < 64 → rows ≡ rows_of (truth_at words) → (bit_at (get_or words j 0) b == 1) ≡ has rows (64 * j + b)

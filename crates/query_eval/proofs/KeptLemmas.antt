@@ -1,6 +1,7 @@
 -- The mask of the rows that are kept.
 use Rattle.std.proofs.Common.{◌≡◌, ℕ, zero, suc, ◌+◌, ◌<◌, ◌≤◌, ◌==◌, length, Bool, true, false, not, cond, ◌&&◌, List, [], ◌∷◌, Option, Some, None, count_by, refl, sym, ap, ◌∙◌, arith}
-use Rattle.std.proofs.lemmas.Bool.Decides.{nat_tests}
+use Rattle.std.proofs.Math.Bool.{and-true}
+use Rattle.std.proofs.lemmas.Bool.{ne_eqb}
 use Rattle.std.proofs.lemmas.List.Sums.{sum_by-cons}
 use Rattle.table_model.specs.Condition.{condition_truth}
 use Rattle.table_model.specs.Formula.{Formula}
@@ -14,10 +15,6 @@ use Rattle.query_eval.specs.Mentions.{condition_mentions}
 use Rattle.query_eval.specs.Pairs.{yes_of}
 use Rattle.query_eval.specs.Vector.{Vector, row_at, is_live}
 use Rattle.query_eval.specs.Where.{truth_in}
-
-and-true : (b : Bool) → b ≡ (b && true)
-and-true true = refl
-and-true false = refl
 
 -- where none is true, each is false
 pub no_true : (xs : List Bool) (n : ℕ) → count_by (λ b. b) xs ≡ 0 → has xs n ≡ false
@@ -42,7 +39,7 @@ kept-nowhere table condition v live e h =
 pub kept-all : (table : Table) (condition : Option Formula) (v : Vector) (live : List Bool) → live ≡ rows_of (is_live v) → condition ≡ None → live ≡ kept_mask table condition v
 unfolding kept_mask
 kept-all table condition v live e h =
-    e ∙ rows_of-like (is_live v) _ (λ n l. and-true (is_live v n) ∙ ap (λ (c : Option Formula). is_live v n && is_kept c (at_row table.columns (row_at v n))) (sym h))
+    e ∙ rows_of-like (is_live v) _ (λ n l. sym (and-true (is_live v n)) ∙ ap (λ (c : Option Formula). is_live v n && is_kept c (at_row table.columns (row_at v n))) (sym h))
 
 pub kept-where : (table : Table) (condition : Option Formula) (f : Formula) (v : Vector) (live kept : List Bool) → live ≡ rows_of (is_live v) → condition ≡ Some f → kept ≡ yes_of live (truth_in table v f) → kept ≡ kept_mask table condition v
 unfolding kept_mask yes_of
@@ -51,16 +48,9 @@ kept-where table condition f v live kept e h y =
     (λ n l. ap (λ b. b && is_true (condition_truth (at_row table.columns (row_at v n)) f)) (ap (λ m. has m n) e ∙ has-rows_of (is_live v) n l)
     ∙ ap (λ (c : Option Formula). is_live v n && is_kept c (at_row table.columns (row_at v n))) (sym h))
 
-differs : (n : ℕ) → (n ≡ 0 → ⊥) → (n == 0) ≡ false
-differs n ne = grind (arith, nat_tests)
-
 pub live-some : (v : Vector) (live : List Bool) (n : ℕ) → live ≡ rows_of (is_live v) → n ≡ count_by (λ b. b) live → (n ≡ 0 → ⊥) → has_live v ≡ true
 unfolding has_live
-live-some v live n e c ne = ap (λ m. not (m == 0)) (ap (count_by (λ b. b)) (sym e) ∙ sym c) ∙ ap not (differs n ne)
-
-pub live-none : (v : Vector) (live : List Bool) (n : ℕ) → live ≡ rows_of (is_live v) → n ≡ count_by (λ b. b) live → n ≡ 0 → has_live v ≡ false
-unfolding has_live
-live-none v live n e c ne = ap (λ m. not (m == 0)) (ap (count_by (λ b. b)) (sym e) ∙ sym c ∙ ne)
+live-some v live n e c ne = ap (λ m. not (m == 0)) (ap (count_by (λ b. b)) (sym e) ∙ sym c) ∙ ap not (ne_eqb n 0 ne)
 
 pub passes-where : (v : Vector) (condition : Option Formula) (f : Formula) (p q : ℕ) → has_live v ≡ true → condition ≡ Some f → p ≤ q + condition_mentions f → p ≤ q + cond (has_live v) (where_mentions condition) 0
 passes-where v condition f p q l e h =

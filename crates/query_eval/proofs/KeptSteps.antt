@@ -1,11 +1,9 @@
 -- The rows of one vector, or of one batch, more among those that are taken in.
-use Rattle.std.proofs.Common.{◌≡◌, ℕ, suc, ◌+◌, ◌*◌, ◌≤◌, ◌<◌, ◌==◌, Bool, true, false, not, cond, List, [], ◌∷◌, ◌++◌, map, Option, Some, None, count_by, refl, sym, ap, subst, ◌∙◌, arith, append_assoc, append-nil}
-use Rattle.std.specs.List.{range_with_len}
-use Rattle.std.proofs.lemmas.Bool.Decides.{nat_tests}
+use Rattle.std.proofs.Common.{◌≡◌, ℕ, suc, ◌+◌, ◌*◌, ◌≤◌, ◌<◌, Bool, true, false, not, cond, List, [], ◌++◌, Option, Some, None, count_by, refl, sym, ap, subst, ◌∙◌, arith, append_assoc, append-nil}
+use Rattle.std.proofs.lemmas.Bool.{ne_eqb}
 use Rattle.table_model.specs.Formula.{Formula}
 use Rattle.table_model.specs.State.{Cells, State}
 use Rattle.table_model.specs.Table.{Table}
-use Rattle.table_model.specs.Values.{present}
 use Rattle.transpose_order.specs.Mask.{rows_of, has, count_below}
 use Rattle.query_eval.specs.Finished.{PlanShape}
 use Rattle.query_eval.specs.Kept.{kept_mask, has_live, live_vectors_in, live_vectors_below, rows_at, rows_kept, batch_alive}
@@ -13,36 +11,20 @@ use Rattle.query_eval.specs.Taken.{AreTaken}
 use Rattle.query_eval.specs.Vector.{Vector, vector_at, row_at, is_live, batch_count, vector_count}
 use Rattle.query_eval.specs.declared.taken.Taken.{Taken}
 use Rattle.query_eval.proofs.KeptLemmas.{no_true, kept-nowhere}
-use Rattle.query_eval.proofs.Lifted.{rows_of-alike, front_kept, front_kept-more, first_alive, first_alive-more, rows_kept-append}
+use Rattle.query_eval.proofs.Lifted.{none_present, front_kept, front_kept-more, first_alive, first_alive-more, rows_kept-append}
 
 -- ---- the rows of a mask
-no_row : ℕ → Option Cells
-no_row n = None
-
-nothing_present : (ns : List ℕ) → present (map no_row ns) ≡ []
-unfolding no_row
-nothing_present [] = refl
-nothing_present (n ∷ ns) = nothing_present ns
-
-none_present : present (rows_of no_row) ≡ []
-unfolding rows_of
-none_present = nothing_present (range_with_len 0 1024)
-
 rows_at-none : (v : Vector) (mask : List Bool) → count_by (λ b. b) mask ≡ 0 → rows_at v mask ≡ []
-unfolding rows_at no_row
-rows_at-none v mask h =
-    ap present (rows_of-alike (λ n. cond (has mask n) (Some (row_at v n)) None) no_row None (λ n l. ap (λ b. cond b (Some (row_at v n)) None) (no_true mask n h))) ∙ none_present
-
-by_test : (n : ℕ) (b : Bool) → (n == 0) ≡ b → (n ≡ 0 → ⊥) → not (n == 0) ≡ true
-by_test n true e h = absurd (h (grind (arith, nat_tests)))
-by_test n false e h = ap not e
+unfolding rows_at
+rows_at-none v mask h = none_present (λ n. cond (has mask n) (Some (row_at v n)) None) (λ n l. ap (λ b. cond b (Some (row_at v n)) None) (no_true mask n h))
 
 -- where a row is kept, there is a live one
 pub kept-live : (table : Table) (condition : Option Formula) (v : Vector) (mask : List Bool) → mask ≡ kept_mask table condition v → (count_by (λ b. b) mask ≡ 0 → ⊥) → has_live v ≡ true
 unfolding has_live
 kept-live table condition v mask e ne =
-    by_test (count_by (λ b. b) (rows_of (is_live v))) _ refl
-    (λ none. ne (ap (count_by (λ b. b)) (e ∙ sym (kept-nowhere table condition v (rows_of (is_live v)) refl none)) ∙ none))
+    ap not
+    (ne_eqb (count_by (λ b. b) (rows_of (is_live v))) 0
+    (λ none. ne (ap (count_by (λ b. b)) (e ∙ sym (kept-nowhere table condition v (rows_of (is_live v)) refl none)) ∙ none)))
 
 -- ---- one vector
 pub nothing-kept : (plan : PlanShape) (table : Table) (condition : Option Formula) (v : Vector) (mask : List Bool) (taken : Taken) → mask ≡ kept_mask table condition v → count_by (λ b. b) mask ≡ 0 → (rows : List Cells) → AreTaken plan rows taken → AreTaken plan (rows ++ rows_at v (kept_mask table condition v)) taken

@@ -23,6 +23,30 @@ use Rattle.query_eval.specs.Vector.{Vector, vector_at, row_at, is_live, batch_at
 pub rows_of-alike : {X : Type 0} (f g : ℕ → X) → X → ((n : ℕ) → n < 1024 → f n ≡ g n) → rows_of f ≡ rows_of g
 rows_of-alike f g d h = rows_of-same g (rows_of f) d (length-rows_of f) (λ n w. get_or-rows_of f n d w ∙ h n w)
 
+-- nothing, whatever the test
+pub none_if : {X : Type 0} (b : Bool) (o : Option X) → o ≡ None → cond b o None ≡ None
+none_if true o e = e
+none_if false o e = refl
+
+-- what is there but for the nulls
+pub shown_if : {X : Type 0} (b c : Bool) (x : X) → cond (b && not c) (Some x) None ≡ cond b (cond c None (Some x)) None
+shown_if true true x = refl
+shown_if true false x = refl
+shown_if false c x = refl
+
+-- nothing at a row
+abbrev no_item : {X : Type 0} → ℕ → Option X
+no_item n = None
+
+no_items : {X : Type 0} (ns : List ℕ) → present (map (no_item {X = X}) ns) ≡ []
+no_items [] = refl
+no_items (n ∷ ns) = no_items ns
+
+-- of 1024 rows with nothing, nothing is present
+pub none_present : {X : Type 0} (f : ℕ → Option X) → ((n : ℕ) → n < 1024 → f n ≡ None) → present (rows_of f) ≡ []
+unfolding rows_of
+none_present f h = ap present (rows_of-alike f no_item None h) ∙ no_items (range_with_len 0 1024)
+
 -- the rows from an ordinal on that aren't deleted and pass a test
 abbrev pub chosen : (ℕ → Bool) → (Cells → Bool) → ℕ → Batch → Batch
 chosen dead test n [] = []
@@ -148,9 +172,6 @@ alive_kept : (table : Table) (condition : Option Formula) (s : State) (name : Ba
 alive_kept table condition s name n [] = refl
 alive_kept table condition s name n (row ∷ rows) = one (not (set.contains s.deleted (record { batch = name; ordinal = n }))) _ (alive_kept table condition s name (suc n) rows)
   where
-    rest : Batch
-    rest = chosen (λ m. set.contains s.deleted (record { batch = name; ordinal = m })) (keeps table condition) (suc n) rows
-
     one : (b : Bool) (l : List (RowName × Cells)) → rows_kept table condition (map (λ (r : RowName × Cells). r.1) l) ≡ chosen (λ m. set.contains s.deleted (record { batch = name; ordinal = m })) (keeps table condition) (suc n) rows → rows_kept table condition (map (λ (r : RowName × Cells). r.1) (cond b ((record { batch = name; ordinal = n }, row) ∷ l) l)) ≡ cond (b && keeps table condition row) (row ∷ chosen (λ m. set.contains s.deleted (record { batch = name; ordinal = m })) (keeps table condition) (suc n) rows) (chosen (λ m. set.contains s.deleted (record { batch = name; ordinal = m })) (keeps table condition) (suc n) rows)
     one true l e = ap (λ (m : List Cells). cond (keeps table condition row) (row ∷ m) m) e
     one false l e = e

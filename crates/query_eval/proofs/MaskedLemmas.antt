@@ -1,18 +1,17 @@
 -- The values at the rows of a mask, one row more.
-use Rattle.std.proofs.Common.{◌≡◌, ◌==◌, ℕ, zero, suc, ◌+◌, ◌-◌, ◌*◌, ◌/◌, ◌%◌, ◌^◌, ◌<◌, ◌≤◌, Bool, true, false, not, cond, List, [], ◌∷◌, ◌++◌, map, length, get_or, count_by, Some, None, ℤ, pos, ◌+ℤ◌, refl, sym, ap, ◌∙◌, arith, append-nil, length-append}
+use Rattle.std.proofs.Common.{◌≡◌, ◌==◌, ℕ, zero, suc, ◌+◌, ◌-◌, ◌*◌, ◌/◌, ◌%◌, ◌^◌, ◌<◌, ◌≤◌, Bool, true, false, not, cond, List, [], ◌∷◌, ◌++◌, length, get_or, count_by, Some, None, ℤ, pos, ◌+ℤ◌, refl, sym, ap, ◌∙◌, arith, append-nil, length-append}
 use Rattle.std.specs.Int.{bit_at, from_bool, int_max, int_min}
 use Rattle.std.proofs.Math.Nat.{mul-suc, pow-le-pow_right}
-use Rattle.std.specs.List.{range_with_len, cons_option}
 use Rattle.std.specs.Ordering.{int_eq}
 use Rattle.std.proofs.lemmas.Bool.Decides.{Decides-int_eq}
 use Rattle.std.proofs.lemmas.Int.{ints}
-use Rattle.std.proofs.lemmas.List.FromFn.{map-range_with_len_more}
-use Rattle.std.proofs.lemmas.List.Elements.{filter_map-append}
-use Rattle.std.proofs.lemmas.List.Sums.{sum_by-cons}
 use Rattle.table_model.proofs.Appended.{total-append, least-append, greatest-append}
-use Rattle.table_model.specs.Values.{present, total, lesser, greater, least, greatest}
+use Rattle.table_model.specs.Values.{total, lesser, greater, least, greatest}
 use Rattle.transpose_order.specs.Mask.{has, number_of_bits, rows_of}
-use Rattle.transpose_order.specs.MaskWords.{has-rows_of, rows_of-like, bit_at-number_of_bits, number_of_bits-below, number_of_bits-suc}
+use Rattle.transpose_order.specs.MaskWords.{bit_at-number_of_bits, number_of_bits-below, number_of_bits-suc}
+use Rattle.query_eval.proofs.ColumnLemmas.{length-masked}
+use Rattle.query_eval.proofs.RowsBelow.{present_more}
+use Rattle.query_eval.proofs.TallyLemmas.{one_total}
 use Rattle.query_eval.specs.Slices.{IsRaised, differs_at, value_of, values_at, values_below}
 
 pub values_all : (k : ℕ) (rows : List Bool) (values : List ℤ) → k ≡ 1024 → values_below k rows values ≡ values_at rows values
@@ -20,16 +19,10 @@ unfolding rows_of
 values_all k rows values e = ap (λ n. values_below n rows values) e
 
 pub values_more : (k : ℕ) (rows : List Bool) (values : List ℤ) (b : Bool) → has rows k ≡ b → values_below (k + 1) rows values ≡ values_below k rows values ++ cond b (get_or values k (pos 0) ∷ []) []
-values_more k rows values b is =
-    ap present (map-range_with_len_more (value_of rows values) 0 k k (omega arith)) ∙ filter_map-append (λ x. x) (map (value_of rows values) (range_with_len 0 k)) (value_of rows values k ∷ [])
-    ∙ ap (λ c. values_below k rows values ++ present (cond c (Some (get_or values k (pos 0))) None ∷ [])) is ∙ ap (λ l. values_below k rows values ++ l) (one b)
-  where
-    one : (c : Bool) → present (cond c (Some (get_or values k (pos 0))) None ∷ []) ≡ cond c (get_or values k (pos 0) ∷ []) []
-    one true = refl
-    one false = refl
+values_more k rows values b is = present_more (value_of rows values) k b (get_or values k (pos 0)) (ap (λ c. cond c (Some (get_or values k (pos 0))) None) is)
 
 -- no row below k is one of the mask
-pub values_none : (k : ℕ) (rows : List Bool) (values : List ℤ) → ((n : ℕ) → n < k → has rows n ≡ false) → values_below k rows values ≡ []
+values_none : (k : ℕ) (rows : List Bool) (values : List ℤ) → ((n : ℕ) → n < k → has rows n ≡ false) → values_below k rows values ≡ []
 values_none zero rows values h = refl
 values_none (suc k) rows values h =
     ap (λ n. values_below n rows values) (let e : suc k ≡ k + 1 = omega arith in e) ∙ values_more k rows values false (h k (omega arith)) ∙ append-nil (values_below k rows values) ∙ values_none k rows values (λ n l. h n (omega (arith, l)))
@@ -41,21 +34,8 @@ values_skip k (suc j) rows values h =
     ap (λ n. values_below n rows values) (let e : k + suc j ≡ (k + j) + 1 = omega arith in e) ∙ values_more (k + j) rows values false (h j (omega arith)) ∙ append-nil (values_below (k + j) rows values) ∙ values_skip k j rows values (λ b l. h b (omega (arith, l)))
 
 -- as many values as rows
-one_counted : (b : Bool) (z : ℤ) (zs : List ℤ) (bs : List Bool) → length zs ≡ count_by (λ y. y) bs → length (cons_option (cond b (Some z) None) zs) ≡ count_by (λ y. y) (b ∷ bs)
-one_counted true z zs bs e = omega (arith, e, sum_by-cons (λ (y : Bool). cond y 1 0) true bs)
-one_counted false z zs bs e = omega (arith, e, sum_by-cons (λ (y : Bool). cond y 1 0) false bs)
-
-counted : (p : ℕ → Bool) (value : ℕ → ℤ) (ns : List ℕ) → length (present (map (λ n. cond (p n) (Some (value n)) None) ns)) ≡ count_by (λ y. y) (map p ns)
-counted p value [] = refl
-counted p value (n ∷ ns) = one_counted (p n) (value n) _ (map p ns) (counted p value ns)
-
-counted_of : (p : ℕ → Bool) (value : ℕ → ℤ) → length (present (rows_of (λ n. cond (p n) (Some (value n)) None))) ≡ count_by (λ y. y) (rows_of p)
-unfolding rows_of
-counted_of p value = counted p value (range_with_len 0 1024)
-
 pub length-values_at : (rows : List Bool) (values : List ℤ) (p : ℕ → Bool) → rows ≡ rows_of p → length (values_at rows values) ≡ count_by (λ y. y) rows
-length-values_at rows values p e =
-    counted_of (has rows) (λ n. get_or values n (pos 0)) ∙ ap (count_by (λ y. y)) (rows_of-like (has rows) p (λ n l. ap (λ m. has m n) e ∙ has-rows_of p n l) ∙ sym e)
+length-values_at rows values p e = length-masked rows p (λ n. get_or values n (pos 0)) e
 
 -- ---- words bit by bit
 bit_below : (b : Bool) → cond b 1 0 < 2
@@ -80,7 +60,7 @@ module _ (f : ℕ → Bool) (bit word n : ℕ) (is : word ≡ number_of_bits bit
   whole : word + n * 2 ^ bit ≡ number_of_bits (suc bit) (λ b. cond (f b) 1 0)
   whole = omega (arith, shifted, is, number_of_bits-suc bit (λ b. cond (f b) 1 0))
 
-  pub word_fits : word + n * 2 ^ bit < 2 ^ 64
+  word_fits : word + n * 2 ^ bit < 2 ^ 64
   word_fits =
       let base : 0 < 2 = omega arith in
       let least : suc bit ≤ 64 = omega (arith, within) in
@@ -109,9 +89,6 @@ changed_at values (suc n) before same e is =
 -- a number is its two halves
 pub halves : (n low high : ℕ) → n < 2 ^ 64 → low ≡ n % 2 ^ 32 → high ≡ n / 2 ^ 32 → low + 2 ^ 32 * high ≡ n
 halves n low high h l r = omega (arith, l, r)
-
-one_total : (z : ℤ) → total (z ∷ []) ≡ z
-one_total z = omega (arith, ints)
 
 pub raised_more : (by : ℕ) (b : Bool) (k s t n : ℕ) (rows : List Bool) (values : List ℤ) → has rows k ≡ b → IsRaised by k rows values s → pos n ≡ cond b (get_or values k (pos 0) +ℤ pos by) (pos 0) → t ≡ s + n → IsRaised by (k + 1) rows values t
 raised_more by true k s t n rows values on before one more =

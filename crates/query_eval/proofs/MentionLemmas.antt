@@ -80,5 +80,3 @@ unfolding aggregates_of
 mentions-within columns query =
     let items : List SetFunction = flat_map (λ (item : Item). item_functions item.value) query.items in
     omega (arith, length-map {B = ℕ} query.grouping (λ (column : ColumnMention). place_of columns column.name), as_aggregates columns (functions_of query), joined items (having_functions query.having), in_items query.items, in_having query.having)
-
--- the passes of WHERE, and those of the groups of the vectors in which rows are kept

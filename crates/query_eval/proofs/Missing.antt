@@ -1,26 +1,17 @@
 -- A column that a table hasn't is null at each row.
 use Rattle.std.proofs.Common.{◌≡◌, ℕ, zero, suc, ◌*◌, ◌≤◌, List, [], ◌∷◌, length, get_or, take, drop, None, refl, ap, ◌∙◌, arith}
+use Rattle.std.proofs.lemmas.List.{get_or_past}
+use Rattle.table_model.proofs.Batches.{row_length}
 use Rattle.table_model.specs.Answer.{whole}
 use Rattle.table_model.specs.Group.{cell}
 use Rattle.table_model.specs.Meaning.{place_of}
 use Rattle.table_model.specs.State.{Cells, State}
-use Rattle.table_model.specs.Table.{Table, ColumnShape, IsRow, AreRows}
+use Rattle.table_model.specs.Table.{Table, ColumnShape, AreRows}
 use Rattle.table_model.specs.declared.query.ColumnMention.{ColumnMention}
 use Rattle.table_model.specs.declared.query.Operand.{Operand}
 use Rattle.table_model.specs.declared.query.Operand.TheVariants.{Column}
 use Rattle.query_eval.specs.Vector.{IsThere, IsWithin, vector_at, cell_at}
 use Rattle.query_eval.specs.Where.{operand_at}
-
-row_length : (columns : List ColumnShape) (cells : Cells) → IsRow columns cells → length cells ≡ length columns
-row_length [] [] h = refl
-row_length [] (v ∷ vs) h = absurd h
-row_length (c ∷ cs) [] h = absurd h
-row_length (c ∷ cs) (v ∷ vs) h = ap suc (row_length cs vs h.1)
-
-past : (cells : Cells) (c : ℕ) → length cells ≤ c → cell cells c ≡ None
-past [] c h = refl
-past (v ∷ vs) zero h = absurd (omega arith)
-past (v ∷ vs) (suc c) h = past vs c (omega arith)
 
 rows_drop : (columns : List ColumnShape) (k : ℕ) (rows : List Cells) → AreRows columns rows → AreRows columns (drop k rows)
 rows_drop columns zero rows h = h
@@ -34,7 +25,7 @@ rows_take columns (suc k) (r ∷ rows) h = (h.0, rows_take columns k rows h.1)
 
 past_columns : (columns : List ColumnShape) (rows : List Cells) → AreRows columns rows → (n c : ℕ) → length columns ≤ c → cell (get_or rows n []) c ≡ None
 past_columns columns [] h n c l = refl
-past_columns columns (r ∷ rows) h zero c l = past r c (omega (arith, row_length columns r h.0))
+past_columns columns (r ∷ rows) h zero c l = get_or_past r c None (omega (arith, row_length columns r h.0))
 past_columns columns (r ∷ rows) h (suc n) c l = past_columns columns rows h.1 n c l
 
 pub missing_cell : (table : Table) (s : State) → IsWithin table s → (batch vector n column : ℕ) → IsThere s batch vector → length table.columns ≤ column → cell_at (vector_at s batch vector) column n ≡ None

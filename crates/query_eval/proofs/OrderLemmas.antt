@@ -1,10 +1,10 @@
 -- The groups that a map has are the groups of the rows, in the order of the map's keys.
-use Rattle.std.proofs.Common.{◌≡◌, ℕ, zero, suc, ◌+◌, ◌≤◌, ◌<◌, Bool, true, false, cond, ◌||◌, List, [], ◌∷◌, ◌++◌, map, filter, length, get_or, take, Option, Some, None, ℤ, pos, All, AllPairs, refl, sym, ap, ◌∙◌, arith, append_assoc}
+use Rattle.std.proofs.Common.{◌≡◌, ℕ, ◌+◌, ◌≤◌, ◌<◌, Bool, true, false, cond, ◌||◌, List, [], ◌∷◌, ◌++◌, map, length, get_or, take, Option, Some, None, ℤ, pos, All, AllPairs, refl, sym, ap, ◌∙◌, arith, append_assoc}
 use Rattle.std.specs.BTreeMap.{BTreeMap, IsOrdered, is_at, keys}
 use Rattle.std.specs.FinMap as finite
 use Rattle.std.specs.Map.{keys_of, lookup}
 use Rattle.std.specs.Global.{Vec}
-use Rattle.std.specs.List.{AllByRecursion, list_any, slice_get}
+use Rattle.std.specs.List.{AllByRecursion, list_any}
 use Rattle.std.specs.List.Sorted.{IsStrictlySortedBy}
 use Rattle.std.proofs.lemmas.List.Elements.{All-nil, All-cons}
 use Rattle.std.proofs.lemmas.List.Kept.{AllPairs-cons}
@@ -12,11 +12,14 @@ use Rattle.std.specs.Option.{is_some}
 use Rattle.std.specs.Ordering.{eq_by_cmp}
 use Rattle.std.specs.declared.cmp.Ordering.TheVariants.{Less}
 use Rattle.std.proofs.lemmas.Int.{ints}
-use Rattle.std.proofs.lemmas.List.{map-append, take_more}
+use Rattle.std.proofs.lemmas.List.{length-map, map-append, take_more}
+use Rattle.std.proofs.lemmas.List.Sums.{count_by-le-length, length-filter}
+use Rattle.std.proofs.lemmas.Option.{none-some}
+use Rattle.std.proofs.lemmas.Simd.{map-map}
 use Rattle.table_model.specs.Group.{key_cmp, key_of, group_at, groups_of, keys_in, rows_with, values_in, state_row_limit}
 use Rattle.table_model.specs.Meaning.{fold_value, once_if}
 use Rattle.table_model.specs.State.{Cells, same_cells}
-use Rattle.table_model.specs.Table.{Table, ColumnShape, IsRow, AreRows}
+use Rattle.table_model.specs.Table.{Table}
 use Rattle.table_model.specs.declared.answer.Field.{Field}
 use Rattle.table_model.specs.declared.answer.Field.TheVariants.{Whole}
 use Rattle.table_model.specs.declared.query.Fold.{Fold}
@@ -24,6 +27,7 @@ use Rattle.table_model.specs.declared.query.Fold.TheVariants.{Count}
 use Rattle.table_model.proofs.Bounds.{AreSmall, small_values, length-values_in}
 use Rattle.table_model.proofs.KeyLists.{keys_are}
 use Rattle.table_model.proofs.Keys.{tied_keys}
+use Rattle.query_eval.proofs.TableLemmas.{kept_rows_fit}
 use Rattle.query_eval.specs.Aggregate.{aggregate_value}
 use Rattle.query_eval.specs.Finished.{GroupFields, finished_groups, finished_of}
 use Rattle.query_eval.specs.Grouping.{AreGroups, IsHeld, aggregate_values}
@@ -38,52 +42,32 @@ zeros_small : (rows : List Cells) → AreSmall (map (λ _. pos 0) rows)
 zeros_small [] = tt
 zeros_small (row ∷ rows) = ((omega (arith, ints), omega (arith, ints)), zeros_small rows)
 
-zeros_length : (rows : List Cells) → length (map (λ _. pos 0) rows) ≡ length rows
-zeros_length [] = refl
-zeros_length (row ∷ rows) = ap suc (zeros_length rows)
-
 -- the values of few rows are few and small
 values_small : (a : Aggregate) (table : Table) (rows : List Cells) → AreFew table rows → AreSmall (aggregate_values a rows)
 values_small Rows table rows few = zeros_small rows
 values_small (Folded fold distinct place) table rows few = small_values table.columns rows place few.fit
 
 values_few : (a : Aggregate) (table : Table) (rows : List Cells) → AreFew table rows → length (aggregate_values a rows) ≤ state_row_limit
-values_few Rows table rows few = omega (arith, zeros_length rows, few.few)
+values_few Rows table rows few = omega (arith, length-map {B = ℤ} rows (λ _. pos 0), few.few)
 values_few (Folded fold distinct place) table rows few = omega (arith, length-values_in rows place, few.few)
 
 -- COUNT(*) counts the rows
 pub rows_value : (table : Table) (rows : List Cells) (t : Tally) (field : Field) → ((distinct : Bool) (values : List ℤ) → length values ≤ state_row_limit → AreSmall values → IsTally values t → kind_of t ≡ fold_kind distinct Count → field ≡ fold_value Count (once_if distinct values)) → AreFew table rows → IsHeld rows Rows t → field ≡ aggregate_value Rows rows
 rows_value table rows t field is few h =
     is false (aggregate_values Rows rows) (values_few Rows table rows few) (values_small Rows table rows few) h.values h.kind
-    ∙ ap (λ n. Whole (pos n)) (zeros_length rows)
+    ∙ ap (λ n. Whole (pos n)) (length-map {B = ℤ} rows (λ _. pos 0))
 
 -- a set function of a column
 pub folded_value : (fold : Fold) (distinct : Bool) (place : ℕ) (table : Table) (rows : List Cells) (t : Tally) (field : Field) → ((each : Bool) (values : List ℤ) → length values ≤ state_row_limit → AreSmall values → IsTally values t → kind_of t ≡ fold_kind each fold → field ≡ fold_value fold (once_if each values)) → AreFew table rows → IsHeld rows (Folded fold distinct place) t → field ≡ aggregate_value (Folded fold distinct place) rows
 folded_value fold distinct place table rows t field is few h =
     is distinct (values_in place rows) (values_few (Folded fold distinct place) table rows few) (values_small (Folded fold distinct place) table rows few) h.values h.kind
 
-row_chosen : (columns : List ColumnShape) (row : Cells) (rows : List Cells) (b : Bool) → IsRow columns row → AreRows columns rows → AreRows columns (cond b (row ∷ rows) rows)
-row_chosen columns row rows true h rest = (h, rest)
-row_chosen columns row rows false h rest = rest
-
-rows_chosen : (columns : List ColumnShape) (p : Cells → Bool) (rows : List Cells) → AreRows columns rows → AreRows columns (filter p rows)
-rows_chosen columns p [] h = tt
-rows_chosen columns p (row ∷ rows) h = row_chosen columns row (filter p rows) (p row) h.0 (rows_chosen columns p rows h.1)
-
-no_more : (row : Cells) (rows : List Cells) (n : ℕ) (b : Bool) → length rows ≤ n → length (cond b (row ∷ rows) rows) ≤ suc n
-no_more row rows n true h = omega arith
-no_more row rows n false h = omega arith
-
-fewer : (p : Cells → Bool) (rows : List Cells) → length (filter p rows) ≤ length rows
-fewer p [] = omega arith
-fewer p (row ∷ rows) = no_more row (filter p rows) (length rows) (p row) (fewer p rows)
-
 -- the rows of a group are few where all are
 pub few_with : (table : Table) (by : List ℕ) (rows : List Cells) (key : Cells) → AreFew table rows → AreFew table (rows_with by rows key)
 unfolding rows_with
 few_with table by rows key few = record {
-  fit = rows_chosen table.columns (λ row. same_cells key (key_of by row)) rows few.fit;
-  few = omega (arith, fewer (λ row. same_cells key (key_of by row)) rows, few.few);
+  fit = kept_rows_fit table.columns (λ row. same_cells key (key_of by row)) rows few.fit;
+  few = omega (arith, length-filter (λ row. same_cells key (key_of by row)) rows, count_by-le-length (λ row. same_cells key (key_of by row)) rows, few.few);
 }
 
 -- one field more
@@ -94,10 +78,7 @@ fields_more named i d rows fields next field l before is e =
 
 -- what is known of all groups is known of those that are left when one is taken out
 pub place_left : (old now : Option ℕ) (b : Bool) → now ≡ cond b None old → (place : ℕ) → now ≡ Some place → old ≡ Some place
-place_left old now true e place h = absurd (never (sym e ∙ h))
-  where
-    never : None ≡ Some place → ⊥
-    never z = cc
+place_left old now true e place h = absurd (none-some place (sym e ∙ h))
 place_left old now false e place h = sym e ∙ h
 
 -- one group more is finished
@@ -134,16 +115,7 @@ module _ (m : BTreeMap Cells ℕ) where
   groups_in_order named (column ∷ by) rows tallies some up h =
       let all = column ∷ by in
       let same = keys_are all rows (keys m) (sorted_pairs (keys m) up) (λ q. sym (found_any q m.entries) ∙ h.occurs q ∙ any_tied q (map (key_of all) rows)) in
-      ap (map (λ key. finished_of named (group_at all rows key))) (sym same) ∙ map_twice (finished_of named) (group_at all rows) (finite.keys (keys_in all rows))
-    where
-      map_twice : {X Y Z : Type 0} (f : Y → Z) (g : X → Y) (xs : List X) → map (λ x. f (g x)) xs ≡ map f (map g xs)
-      map_twice f g [] = refl
-      map_twice f g (x ∷ xs) = ap (λ l. f (g x) ∷ l) (map_twice f g xs)
-
-pub no_slice : {X : Type 0} (xs : List X) (i : ℕ) → i < length xs → None ≡ slice_get xs i → ⊥
-no_slice [] i l e = omega arith
-no_slice (x ∷ xs) zero l e = cc
-no_slice (x ∷ xs) (suc i) l e = no_slice xs i (omega arith) e
+      ap (map (λ key. finished_of named (group_at all rows key))) (sym same) ∙ sym (map-map (finished_of named) (group_at all rows) (finite.keys (keys_in all rows)))
 
 pub some_column : (columns : List (Vec Tally)) → 0 < length columns → Vec Tally
 some_column [] l = absurd (omega (arith, l))

@@ -1,5 +1,6 @@
 -- What is made of pairs of masks is what AND, OR, NOT and IS TRUE and its kin make of their truth values, row by row.
 use Rattle.std.proofs.Common.{◌≡◌, ℕ, ◌<◌, Bool, true, false, ◌&&◌, ◌||◌, not, List, refl, sym, ap, ◌∙◌, subst}
+use Rattle.std.proofs.Math.Bool.{and-false, and_self, and-true}
 use Rattle.table_model.proofs.TruthPairs.{is_true-and_of, is_false-and_of, is_true-or_of, is_false-or_of, is_false-not_of, is_true-truth_of, is_false-truth_of}
 use Rattle.table_model.specs.Condition.{asked, not_if}
 use Rattle.table_model.specs.Truth.{is_true, is_false, and_of, or_of, not_of, truth_of, same_truth}
@@ -20,18 +21,18 @@ pub is_no : (mask : List Bool) (t : ℕ → Truth) (f : ℕ → Bool) → ((n : 
 unfolding no_of
 is_no mask t f h = rows_of-like _ _ h
 
-pub has_yes : (mask : List Bool) (t : ℕ → Truth) (n : ℕ) → n < 1024 → has (yes_of mask t) n ≡ (has mask n && is_true (t n))
+has_yes : (mask : List Bool) (t : ℕ → Truth) (n : ℕ) → n < 1024 → has (yes_of mask t) n ≡ (has mask n && is_true (t n))
 unfolding yes_of
 has_yes mask t n h = has-rows_of (λ n. has mask n && is_true (t n)) n h
 
-pub has_no : (mask : List Bool) (t : ℕ → Truth) (n : ℕ) → n < 1024 → has (no_of mask t) n ≡ (has mask n && is_false (t n))
+has_no : (mask : List Bool) (t : ℕ → Truth) (n : ℕ) → n < 1024 → has (no_of mask t) n ≡ (has mask n && is_false (t n))
 unfolding no_of
 has_no mask t n h = has-rows_of (λ n. has mask n && is_false (t n)) n h
 
-pub yes_at : (mask : List Bool) (t : ℕ → Truth) (a : Pair) → IsPair mask t a → (n : ℕ) → n < 1024 → has a.yes n ≡ (has mask n && is_true (t n))
+yes_at : (mask : List Bool) (t : ℕ → Truth) (a : Pair) → IsPair mask t a → (n : ℕ) → n < 1024 → has a.yes n ≡ (has mask n && is_true (t n))
 yes_at mask t a p n h = ap (λ m. has m n) p.yes ∙ has_yes mask t n h
 
-pub no_at : (mask : List Bool) (t : ℕ → Truth) (a : Pair) → IsPair mask t a → (n : ℕ) → n < 1024 → has a.no n ≡ (has mask n && is_false (t n))
+no_at : (mask : List Bool) (t : ℕ → Truth) (a : Pair) → IsPair mask t a → (n : ℕ) → n < 1024 → has a.no n ≡ (has mask n && is_false (t n))
 no_at mask t a p n h = ap (λ m. has m n) p.no ∙ has_no mask t n h
 
 within_and : (b x y z u v : Bool) → u ≡ (b && x) → v ≡ (b && y) → z ≡ (x && y) → (u && v) ≡ (b && z)
@@ -41,10 +42,6 @@ within_and false x y z u v e f g = ap (λ w. w && v) e
 within_or : (b x y z u v : Bool) → u ≡ (b && x) → v ≡ (b && y) → z ≡ (x || y) → (u || v) ≡ (b && z)
 within_or true x y z u v e f g = ap (λ w. w || v) e ∙ ap (λ w. x || w) f ∙ sym g
 within_or false x y z u v e f g = ap (λ w. w || v) e ∙ f
-
-twice : (b : Bool) → (b && b) ≡ b
-twice true = refl
-twice false = refl
 
 pub pair_and : (a b c : Pair) → c.yes ≡ rows_of (λ n. has a.yes n && has b.yes n) → c.no ≡ rows_of (λ n. has a.no n || has b.no n) → (mask : List Bool) (s t : ℕ → Truth) → IsPair mask s a → IsPair mask t b → IsPair mask (λ n. and_of (s n) (t n)) c
 pair_and a b c e f mask s t p q = record {
@@ -104,10 +101,10 @@ pub pair_not : (a c : Pair) → c.yes ≡ a.no → c.no ≡ a.yes → (mask : Li
 pair_not a c e f mask t p = record { yes = e ∙ p.no ∙ no_as_yes mask t; no = f ∙ p.yes ∙ yes_as_no mask t }
 
 pub having_true : (a : Pair) (mask : List Bool) (t : ℕ → Truth) → IsPair mask t a → rows_of (λ n. has a.yes n && has a.yes n) ≡ rows_of (λ n. has mask n && same_truth (t n) True)
-having_true a mask t p = rows_of-like _ _ (λ n h. twice (has a.yes n) ∙ yes_at mask t a p n h)
+having_true a mask t p = rows_of-like _ _ (λ n h. and_self (has a.yes n) ∙ yes_at mask t a p n h)
 
 pub having_false : (a : Pair) (mask : List Bool) (t : ℕ → Truth) → IsPair mask t a → rows_of (λ n. has a.no n && has a.no n) ≡ rows_of (λ n. has mask n && same_truth (t n) False)
-having_false a mask t p = rows_of-like _ _ (λ n h. twice (has a.no n) ∙ no_at mask t a p n h)
+having_false a mask t p = rows_of-like _ _ (λ n h. and_self (has a.no n) ∙ no_at mask t a p n h)
 
 neither : (b x y u v : Bool) → u ≡ (b && x) → v ≡ (b && y) → (b && not (u || v)) ≡ (b && (not x && not y))
 neither true true y u v e f = ap (λ w. not (w || v)) e
@@ -128,37 +125,29 @@ tested mask there elsewhere test c e f g k = record {
   no = k ∙ f ∙ is_no mask (λ n. truth_of (test n)) _ (λ n h. apart (has mask n) (test n) (has there n) (ap (λ m. has m n) e ∙ has-rows_of (λ n. has mask n && test n) n h) ∙ ap (λ b. has mask n && b) (sym (is_false-truth_of (test n))));
 }
 
-and-true : (b : Bool) → b ≡ (b && true)
-and-true true = refl
-and-true false = refl
-
-and-false : (b : Bool) → false ≡ (b && false)
-and-false true = refl
-and-false false = refl
-
 pub all_true : (mask : List Bool) (c : Pair) → c.yes ≡ rows_of (λ n. has mask n && has mask n) → c.no ≡ rows_of (λ _. false) → IsPair mask (λ _. True) c
 all_true mask c e f = record {
-  yes = e ∙ is_yes mask (λ _. True) _ (λ n h. twice (has mask n) ∙ and-true (has mask n));
-  no = f ∙ is_no mask (λ _. True) _ (λ n h. and-false (has mask n));
+  yes = e ∙ is_yes mask (λ _. True) _ (λ n h. and_self (has mask n) ∙ sym (and-true (has mask n)));
+  no = f ∙ is_no mask (λ _. True) _ (λ n h. sym (and-false (has mask n)));
 }
 
 pub all_false : (mask : List Bool) (c : Pair) → c.yes ≡ rows_of (λ _. false) → c.no ≡ rows_of (λ n. has mask n && has mask n) → IsPair mask (λ _. False) c
 all_false mask c e f = record {
-  yes = e ∙ is_yes mask (λ _. False) _ (λ n h. and-false (has mask n));
-  no = f ∙ is_no mask (λ _. False) _ (λ n h. twice (has mask n) ∙ and-true (has mask n));
+  yes = e ∙ is_yes mask (λ _. False) _ (λ n h. sym (and-false (has mask n)));
+  no = f ∙ is_no mask (λ _. False) _ (λ n h. and_self (has mask n) ∙ sym (and-true (has mask n)));
 }
 
 pub all_unknown : (mask : List Bool) (c : Pair) → c.yes ≡ rows_of (λ _. false) → c.no ≡ rows_of (λ _. false) → IsPair mask (λ _. Unknown) c
 all_unknown mask c e f = record {
-  yes = e ∙ is_yes mask (λ _. Unknown) _ (λ n h. and-false (has mask n));
-  no = f ∙ is_no mask (λ _. Unknown) _ (λ n h. and-false (has mask n));
+  yes = e ∙ is_yes mask (λ _. Unknown) _ (λ n h. sym (and-false (has mask n)));
+  no = f ∙ is_no mask (λ _. Unknown) _ (λ n h. sym (and-false (has mask n)));
 }
 
 -- one truth value everywhere, by another name
 pub everywhere_as : (mask : List Bool) (p q : Truth) (c : Pair) → p ≡ q → IsPair mask (λ _. q) c → IsPair mask (λ _. p) c
 everywhere_as mask p q c e h = subst (λ (r : Truth). IsPair mask (λ _. r) c) (sym e) h
 
-pub asked_as : (mask : List Bool) (t : ℕ → Truth) (is : IsTruth) (b : Bool) (c : Pair) → is.negated ≡ b → IsPair mask (λ n. not_if b (truth_of (same_truth (t n) is.truth))) c → IsPair mask (λ n. asked is (t n)) c
+asked_as : (mask : List Bool) (t : ℕ → Truth) (is : IsTruth) (b : Bool) (c : Pair) → is.negated ≡ b → IsPair mask (λ n. not_if b (truth_of (same_truth (t n) is.truth))) c → IsPair mask (λ n. asked is (t n)) c
 asked_as mask t is b c e h = subst (λ (x : Bool). IsPair mask (λ n. not_if x (truth_of (same_truth (t n) is.truth))) c) (sym e) h
 
 pub asked_plain : (mask there elsewhere : List Bool) (is : IsTruth) → is.negated ≡ false → elsewhere ≡ rows_of (λ n. has mask n && not (has there n)) → (t : ℕ → Truth) → there ≡ rows_of (λ n. has mask n && same_truth (t n) is.truth) → IsPair mask (λ n. asked is (t n)) (record { yes = there; no = elsewhere })
@@ -222,8 +211,8 @@ none_yes mask t h = is_yes mask t _ (λ n l. sym (ap (λ b. b && is_true (t n)) 
 
 -- no row is where what is false everywhere is true
 pub false_yes : (mask : List Bool) → rows_of (λ _. false) ≡ yes_of mask (λ _. False)
-false_yes mask = is_yes mask (λ _. False) _ (λ n l. and-false (has mask n))
+false_yes mask = is_yes mask (λ _. False) _ (λ n l. sym (and-false (has mask n)))
 
 -- all rows are where what is true everywhere is true
 pub true_yes : (mask : List Bool) → rows_of (λ n. has mask n && has mask n) ≡ yes_of mask (λ _. True)
-true_yes mask = is_yes mask (λ _. True) _ (λ n l. twice (has mask n) ∙ and-true (has mask n))
+true_yes mask = is_yes mask (λ _. True) _ (λ n l. and_self (has mask n) ∙ sym (and-true (has mask n)))

@@ -4,8 +4,11 @@ use Rattle.std.specs.BTreeMap.{BTreeMap, get, is_at}
 use Rattle.std.specs.Global.{Vec}
 use Rattle.std.specs.List.{list_any}
 use Rattle.std.specs.Option.{is_some}
-use Rattle.std.proofs.lemmas.Bool.{cases_lt, false≢true}
+use Rattle.std.proofs.Math.Bool.{or_assoc, or-false}
+use Rattle.std.proofs.lemmas.Bool.{cases_lt, false≢true, or_right}
 use Rattle.std.proofs.lemmas.List.{map-append}
+use Rattle.std.proofs.lemmas.List.Folds.{list_any-append}
+use Rattle.std.proofs.lemmas.Option.{none-some, same_Some}
 use Rattle.table_model.specs.Group.{key_cmp, key_of}
 use Rattle.table_model.specs.State.{Cells, same_cells}
 use Rattle.table_model.proofs.Keys.{tied_keys}
@@ -16,28 +19,14 @@ use Rattle.query_eval.specs.Vector.{Vector, row_at}
 use Rattle.query_eval.specs.declared.places.Recent.{Recent}
 use Rattle.query_eval.proofs.RowsBelow.{below_more}
 
-never : {X : Type 0} {x : X} → None ≡ Some x → ⊥
-never e = cc
-
-pub some_same : {X : Type 0} {x y : X} → Some x ≡ Some y → x ≡ y
-some_same e = cc
-
 or_known : (a b : Bool) → (b ≡ true → a ≡ true) → a ≡ (a || b)
 or_known true b h = refl
 or_known false true h = h refl
 or_known false false h = refl
 
-or_true : (a b : Bool) → b ≡ true → true ≡ (a || b)
-or_true true b e = refl
-or_true false b e = sym e
-
 or_false : (a b : Bool) → b ≡ false → a ≡ (a || b)
 or_false true b e = refl
 or_false false b e = sym e
-
-or_assoc : (a b c : Bool) → ((a || b) || c) ≡ (a || (b || c))
-or_assoc true b c = refl
-or_assoc false b c = refl
 
 pub turned : (key q : Cells) → same_cells key q ≡ false → same_cells q key ≡ false
 turned key q e = by_test (same_cells q key) refl
@@ -47,7 +36,19 @@ turned key q e = by_test (same_cells q key) refl
     by_test true t = absurd (false≢true (sym e ∙ ap (same_cells key) (one_row q key t) ∙ itself_row key))
 
 pub grown_same : (m : BTreeMap Cells ℕ) → IsGrown m m
-grown_same m = record { kept = λ key place e. e; fresh = λ key place none e. absurd (never (sym none ∙ e)); longer = omega arith }
+grown_same m = record { kept = λ key place e. e; fresh = λ key place none e. absurd (none-some place (sym none ∙ e)); longer = omega arith }
+
+-- what grew twice has grown
+pub grown_more : (old mid new : BTreeMap Cells ℕ) → IsGrown old mid → IsGrown mid new → IsGrown old new
+grown_more old mid new g h = record {
+  kept = λ q p e. h.kept q p (g.kept q p e);
+  fresh = λ q p none e. one q p none e (get key_cmp mid q) refl;
+  longer = omega (arith, g.longer, h.longer);
+}
+  where
+    one : (q : Cells) (p : ℕ) → get key_cmp old q ≡ None → get key_cmp new q ≡ Some p → (o : Option ℕ) → get key_cmp mid q ≡ o → length old.entries ≤ p
+    one q p none e None m = omega (arith, h.fresh q p m e, g.longer)
+    one q p none e (Some r) m = let same : r ≡ p = same_Some _ _ (sym (h.kept q r m) ∙ e) in omega (arith, g.fresh q r none m, same)
 
 -- a key that has a place
 pub taken_known : (key : Cells) (place : ℕ) (m : BTreeMap Cells ℕ) → get key_cmp m key ≡ Some place → IsTakenIn key place m m
@@ -63,15 +64,15 @@ module _ (key : Cells) (old new : BTreeMap Cells ℕ) (n : ℕ) (many : n ≡ le
   here q b e = updates q ∙ ap (λ c. cond c (Some n) (get key_cmp old q)) (sym (tied_keys key q) ∙ e)
 
   one_kept : (q : Cells) (place : ℕ) → get key_cmp old q ≡ Some place → (b : Bool) → same_cells key q ≡ b → get key_cmp new q ≡ Some place
-  one_kept q place is true e = absurd (never (sym none ∙ ap (get key_cmp old) (one_row key q e) ∙ is))
+  one_kept q place is true e = absurd (none-some place (sym none ∙ ap (get key_cmp old) (one_row key q e) ∙ is))
   one_kept q place is false e = here q false e ∙ is
 
   one_fresh : (q : Cells) (place : ℕ) → get key_cmp old q ≡ None → get key_cmp new q ≡ Some place → (b : Bool) → same_cells key q ≡ b → length old.entries ≤ place
-  one_fresh q place was is true e = omega (arith, some_same (sym (here q true e) ∙ is), many)
-  one_fresh q place was is false e = absurd (never (sym was ∙ sym (here q false e) ∙ is))
+  one_fresh q place was is true e = omega (arith, same_Some _ _ (sym (here q true e) ∙ is), many)
+  one_fresh q place was is false e = absurd (none-some place (sym was ∙ sym (here q false e) ∙ is))
 
   one_occurs : (q : Cells) (b : Bool) → same_cells key q ≡ b → is_some (get key_cmp new q) ≡ (is_some (get key_cmp old q) || same_cells q key)
-  one_occurs q true e = ap is_some (here q true e) ∙ or_true (is_some (get key_cmp old q)) (same_cells q key) (ap (same_cells q) (one_row key q e) ∙ itself_row q)
+  one_occurs q true e = ap is_some (here q true e) ∙ sym (or_right (is_some (get key_cmp old q)) (same_cells q key) (ap (same_cells q) (one_row key q e) ∙ itself_row q))
   one_occurs q false e = ap is_some (here q false e) ∙ or_false (is_some (get key_cmp old q)) (same_cells q key) (turned key q e)
 
   pub taken_new : IsTakenIn key n old new
@@ -94,13 +95,13 @@ module _ (key : Cells) (old new : BTreeMap Cells ℕ) (n : ℕ) (many : n ≡ le
   }
     where
       one_below : (q : Cells) (place : ℕ) → get key_cmp new q ≡ Some place → (b : Bool) → same_cells key q ≡ b → place < length new.entries
-      one_below q place is true e = omega (arith, some_same (sym (here q true e) ∙ is), many, longer)
+      one_below q place is true e = omega (arith, same_Some _ _ (sym (here q true e) ∙ is), many, longer)
       one_below q place is false e = omega (arith, h.below q place (sym (here q false e) ∙ is), longer)
 
       one_apart : (q r : Cells) (place : ℕ) → get key_cmp new q ≡ Some place → get key_cmp new r ≡ Some place → (b c : Bool) → same_cells key q ≡ b → same_cells key r ≡ c → q ≡ r
       one_apart q r place is also true true e f = sym (one_row key q e) ∙ one_row key r f
-      one_apart q r place is also true false e f = absurd (omega (arith, some_same (sym (here q true e) ∙ is), many, h.below r place (sym (here r false f) ∙ also)))
-      one_apart q r place is also false true e f = absurd (omega (arith, some_same (sym (here r true f) ∙ also), many, h.below q place (sym (here q false e) ∙ is)))
+      one_apart q r place is also true false e f = absurd (omega (arith, same_Some _ _ (sym (here q true e) ∙ is), many, h.below r place (sym (here r false f) ∙ also)))
+      one_apart q r place is also false true e f = absurd (omega (arith, same_Some _ _ (sym (here r true f) ∙ also), many, h.below q place (sym (here q false e) ∙ is)))
       one_apart q r place is also false false e f = h.apart q r place (sym (here q false e) ∙ is) (sym (here r false f) ∙ also)
 
 -- a value's place is remembered
@@ -122,20 +123,15 @@ index_null index recent before place is h = record {
   below = h.below;
   apart = h.apart;
   recent = h.recent;
-  null = λ p e. is ∙ ap Some (some_same e);
+  null = λ p e. is ∙ ap Some (same_Some _ _ e);
 }
 
 -- no row has a place yet
 pub placed_none : (by : List ℕ) (v : Vector) (mask : List Bool) (m : BTreeMap Cells ℕ) (places : List ℕ) → ArePlaced 0 by v mask m m places
 placed_none by v mask m places = record { grown = grown_same m; placed = λ n l. absurd (omega arith); occurs = λ key. or_false (is_some (get key_cmp m key)) false refl }
 
-pub any-append : (key other : Cells) (ks : List Cells) → list_any (same_cells key) (ks ++ other ∷ []) ≡ (list_any (same_cells key) ks || same_cells key other)
-any-append key other [] = last (same_cells key other)
-  where
-    last : (b : Bool) → (b || false) ≡ b
-    last true = refl
-    last false = refl
-any-append key other (k ∷ ks) = ap (λ b. same_cells key k || b) (any-append key other ks) ∙ sym (or_assoc (same_cells key k) (list_any (same_cells key) ks) (same_cells key other))
+any-append : (key other : Cells) (ks : List Cells) → list_any (same_cells key) (ks ++ other ∷ []) ≡ (list_any (same_cells key) ks || same_cells key other)
+any-append key other ks = list_any-append (same_cells key) ks (other ∷ []) ∙ ap (λ b. list_any (same_cells key) ks || b) (or-false (same_cells key other))
 
 module _ (k : ℕ) (by : List ℕ) (v : Vector) (mask : List Bool) (old mid : BTreeMap Cells ℕ) (places : List ℕ) (h : ArePlaced k by v mask old mid places) where
   -- the next row isn't one of the mask
@@ -153,21 +149,13 @@ module _ (k : ℕ) (by : List ℕ) (v : Vector) (mask : List Bool) (old mid : BT
   -- the next row has a place
   pub placed_more : (new : BTreeMap Cells ℕ) (key : Cells) (place : ℕ) (after : List ℕ) → has mask k ≡ true → key ≡ key_of by (row_at v k) → IsTakenIn key place mid new → k < length places → after ≡ set places k place → ArePlaced (k + 1) by v mask old new after
   placed_more new key place after on is t within now = record {
-    grown = record {
-      kept = λ q p e. t.grown.kept q p (h.grown.kept q p e);
-      fresh = λ q p none e. one_fresh q p none e (get key_cmp mid q) refl;
-      longer = omega (arith, h.grown.longer, t.grown.longer);
-    };
+    grown = grown_more old mid new h.grown t.grown;
     placed = λ n l m. one n l m (cases_lt n k);
     occurs = λ q. t.occurs q ∙ ap (λ b. b || same_cells q key) (h.occurs q) ∙ or_assoc (is_some (get key_cmp old q)) (list_any (same_cells q) (map (key_of by) (rows_below k v mask))) (same_cells q key)
         ∙ ap (λ b. is_some (get key_cmp old q) || b) (ap (λ (x : Cells). list_any (same_cells q) (map (key_of by) (rows_below k v mask)) || same_cells q x) is ∙ sym (any-append q (key_of by (row_at v k)) (map (key_of by) (rows_below k v mask)))
         ∙ ap (list_any (same_cells q)) (sym (map-append (key_of by) (rows_below k v mask) (row_at v k ∷ []))) ∙ ap (λ rows. list_any (same_cells q) (map (key_of by) rows)) (sym (below_more k v mask true on)));
   }
     where
-      one_fresh : (q : Cells) (p : ℕ) → get key_cmp old q ≡ None → get key_cmp new q ≡ Some p → (o : Option ℕ) → get key_cmp mid q ≡ o → length old.entries ≤ p
-      one_fresh q p none e None m = omega (arith, t.grown.fresh q p m e, h.grown.longer)
-      one_fresh q p none e (Some r) m = let same : r ≡ p = some_same (sym (t.grown.kept q r m) ∙ e) in omega (arith, h.grown.fresh q r none m, same)
-
       one : (n : ℕ) → n < k + 1 → has mask n ≡ true → (n < k) ⊎ (k ≤ n) → get key_cmp new (key_of by (row_at v n)) ≡ Some (get_or after n 0)
       one n l m (inl b) = let ne : n ≢ k = omega arith in t.grown.kept (key_of by (row_at v n)) (get_or places n 0) (h.placed n b m) ∙ ap Some (sym (ap (λ xs. get_or xs n 0) now ∙ get_or-set_other places k n place 0 ne))
       one n l m (inr b) =

@@ -3,7 +3,6 @@ use Rattle.std.proofs.Common.{◌≡◌, ◌==◌, ℕ, zero, suc, ◌+◌, ◌<
 use Rattle.std.specs.List.{cons_option, range_with_len}
 use Rattle.std.specs.Option.{is_some}
 use Rattle.std.proofs.lemmas.List.{map-append, take_more}
-use Rattle.std.proofs.lemmas.List.Sums.{sum_by-cons}
 use Rattle.table_model.specs.Answer.{whole}
 use Rattle.table_model.specs.Condition.{is_null}
 use Rattle.table_model.specs.Group.{values_in}
@@ -24,9 +23,9 @@ use Rattle.query_eval.specs.declared.aggregate.Aggregate.TheVariants.{Rows, Fold
 use Rattle.query_eval.specs.declared.split.Slice.{Slice}
 use Rattle.query_eval.specs.declared.split.Split.{Split}
 use Rattle.query_eval.specs.declared.tally.Tally.{Tally}
-use Rattle.query_eval.proofs.ColumnLemmas.{values-of}
-use Rattle.query_eval.proofs.GroupingLemmas.{held_without}
-use Rattle.query_eval.proofs.Lifted.{rows_of-alike}
+use Rattle.query_eval.proofs.ColumnLemmas.{length-present, values-of}
+use Rattle.query_eval.proofs.GroupingLemmas.{held_without, none_values}
+use Rattle.query_eval.proofs.Lifted.{none_if, none_present, rows_of-alike, shown_if}
 use Rattle.query_eval.proofs.RowsBelow.{placed_more_rows}
 
 -- ---- the values of some rows that an aggregate goes over
@@ -60,25 +59,8 @@ values_slice a v mask nulls rows values cells e =
     ap present (rows_of-alike (λ n. cond (has rows n) (Some (get_or values n (pos 0))) None) (shown_cell a v mask) None
     (λ n l.
     ap (λ b. cond b (Some (get_or values n (pos 0))) None) (ap (λ m. has m n) e ∙ has-rows_of (λ n. has mask n && not (has nulls n)) n l)
-    ∙ one (has mask n) (has nulls n) (get_or values n (pos 0)) ∙ ap (λ o. cond (has mask n) o None) (cells n l)))
+    ∙ shown_if (has mask n) (has nulls n) (get_or values n (pos 0)) ∙ ap (λ o. cond (has mask n) o None) (cells n l)))
     ∙ sym (values_shown a v mask)
-  where
-    one : (b c : Bool) (z : ℤ) → cond (b && not c) (Some z) None ≡ cond b (cond c None (Some z)) None
-    one true true z = refl
-    one true false z = refl
-    one false c z = refl
-
-one_counted : (o : Option ℤ) (zs : List ℤ) (bs : List Bool) → length zs ≡ count_by (λ y. y) bs → length (cons_option o zs) ≡ count_by (λ y. y) (is_some o ∷ bs)
-one_counted (Some z) zs bs e = omega (arith, e, sum_by-cons (λ (y : Bool). cond y 1 0) true bs)
-one_counted None zs bs e = omega (arith, e, sum_by-cons (λ (y : Bool). cond y 1 0) false bs)
-
-cells_counted : (f : ℕ → Option ℤ) (ns : List ℕ) → length (present (map f ns)) ≡ count_by (λ y. y) (map (λ n. is_some (f n)) ns)
-cells_counted f [] = refl
-cells_counted f (n ∷ ns) = one_counted (f n) (present (map f ns)) (map (λ m. is_some (f m)) ns) (cells_counted f ns)
-
-all_counted : (f : ℕ → Option ℤ) → length (present (rows_of f)) ≡ count_by (λ y. y) (rows_of (λ n. is_some (f n)))
-unfolding rows_of
-all_counted f = cells_counted f (range_with_len 0 1024)
 
 some_of : (b c : Bool) (o : Option ℤ) → is_some o ≡ not c → is_some (cond b o None) ≡ (b && not c)
 some_of true c o e = e
@@ -88,7 +70,7 @@ some_of false c o e = refl
 pub count_slice : (a : Aggregate) (v : Vector) (mask nulls rows : List Bool) (count : ℕ) → AreNulls a v nulls → rows ≡ rows_of (λ n. has mask n && not (has nulls n)) → count ≡ count_by (λ y. y) rows → count ≡ length (aggregate_values a (rows_at v mask))
 count_slice a v mask nulls rows count none e is =
     is ∙ ap (count_by (λ y. y)) (e ∙ rows_of-like (λ n. has mask n && not (has nulls n)) (λ n. is_some (shown_cell a v mask n)) (λ n l. sym (some_of (has mask n) (has nulls n) (aggregate_cell (row_at v n) a) (none n l))))
-    ∙ sym (ap length (values_shown a v mask) ∙ all_counted (shown_cell a v mask))
+    ∙ sym (ap length (values_shown a v mask) ∙ length-present (shown_cell a v mask))
 
 pub counted_left : (a : Aggregate) (v : Vector) (mask nulls rows : List Bool) → AreNulls a v nulls → rows ≡ rows_of (λ n. has mask n && not (has nulls n)) → AreCounted a v mask rows
 counted_left a v mask nulls rows none e n l =
@@ -103,11 +85,6 @@ nulls_column fold distinct v column nulls e n l = one (cell_at v column n) ∙ s
     one : (o : Option ℤ) → is_some o ≡ not (is_null (whole o))
     one None = refl
     one (Some z) = refl
-
-no_values : (a : Aggregate) → [] ≡ aggregate_values a []
-unfolding values_in
-no_values Rows = refl
-no_values (Folded fold distinct place) = refl
 
 -- ---- one slice more
 sliced_both : (v : Vector) (xs ys : List Slice) (g : ℕ) → rows_sliced v (xs ++ ys) g ≡ rows_sliced v xs g ++ rows_sliced v ys g
@@ -133,7 +110,7 @@ held_slice v slices i s g a taken t u added l at is told same h =
   where
     one : (b : Bool) → cond b (aggregate_values a (rows_at v s.rows)) [] ≡ aggregate_values a (cond b (rows_at v s.rows) [])
     one true = refl
-    one false = no_values a
+    one false = sym (none_values a)
 
 -- ---- the slices, and then the rows that are left
 placed_nothing : (k : ℕ) (v : Vector) (mask : List Bool) (places : List ℕ) (g : ℕ) → ((n : ℕ) → n < k → has mask n ≡ false) → rows_placed k v mask places g ≡ []
@@ -151,27 +128,9 @@ module _ (v : Vector) (split : Split) (g : ℕ) (a : Aggregate) (taken : List Ce
       held_shared (subst (λ (rows : List Cells). IsHeld rows a t) (sym (ap (λ rows. (taken ++ rows_sliced v split.slices.items g) ++ rows) (placed_nothing 1024 v split.left split.places g none) ∙ append-nil (taken ++ rows_sliced v split.slices.items g))) h)
 
 -- ---- no row has a value
-abbrev no_value : Option ℤ
-no_value = None
-
-nothing_present : (f : ℕ → Bool) (ns : List ℕ) → present (map (λ n. cond (f n) None no_value) ns) ≡ []
-nothing_present f [] = refl
-nothing_present f (n ∷ ns) = one (f n) ∙ nothing_present f ns
-  where
-    rest : List ℤ
-    rest = present (map (λ n. cond (f n) None no_value) ns)
-
-    one : (b : Bool) → cons_option (cond b None no_value) rest ≡ rest
-    one true = refl
-    one false = refl
-
-all_nothing : (f : ℕ → Bool) → present (rows_of (λ n. cond (f n) None no_value)) ≡ []
-unfolding rows_of
-all_nothing f = nothing_present f (range_with_len 0 1024)
-
 module _ (v : Vector) (a : Aggregate) (t : Tally) (missing : (n : ℕ) → n < 1024 → aggregate_cell (row_at v n) a ≡ None) where
   without : (mask : List Bool) → aggregate_values a (rows_at v mask) ≡ []
-  without mask = values_shown a v mask ∙ ap present (rows_of-alike (shown_cell a v mask) (λ n. cond (has mask n) None no_value) None (λ n l. ap (λ o. cond (has mask n) o None) (missing n l))) ∙ all_nothing (has mask)
+  without mask = values_shown a v mask ∙ none_present (shown_cell a v mask) (λ n l. none_if (has mask n) (aggregate_cell (row_at v n) a) (missing n l))
 
   more : (rows taken : List Cells) → aggregate_values a rows ≡ [] → IsHeld taken a t → IsHeld (taken ++ rows) a t
   more rows taken e h = record { values = subst (λ (zs : List ℤ). IsTally zs t) (sym (values_both a taken rows ∙ ap (λ zs. aggregate_values a taken ++ zs) e ∙ append-nil (aggregate_values a taken))) h.values; kind = h.kind }

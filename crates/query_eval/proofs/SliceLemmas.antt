@@ -4,9 +4,11 @@ use Rattle.std.specs.BTreeMap.{BTreeMap, get}
 use Rattle.std.specs.List.{cons_option, list_any, range_with_len}
 use Rattle.std.specs.Option.{is_some}
 use Rattle.std.specs.Ordering.{int_eq}
-use Rattle.std.proofs.lemmas.Bool.{false≢true, le-leb, le-ltb, lt-leb, lt-ltb, ltb-false, ltb-true}
+use Rattle.std.proofs.Math.Bool.{and_assoc, and-false, and-true, or_assoc}
+use Rattle.std.proofs.lemmas.Bool.{false≢true, le-leb, le-ltb, lt-leb, lt-ltb, ltb-false, ltb-true, not-false, or_parts}
 use Rattle.std.proofs.lemmas.Bool.Decides.{Decides-eqb, Decides-int_eq}
 use Rattle.std.proofs.lemmas.List.{map-append, take_more}
+use Rattle.std.proofs.lemmas.Option.{same_Some}
 use Rattle.table_model.specs.Group.{key_cmp, key_of, rows_with}
 use Rattle.table_model.specs.State.{Cells, same_cell, same_cells}
 use Rattle.table_model.specs.Values.{present}
@@ -22,7 +24,7 @@ use Rattle.query_eval.specs.declared.decoded.Decoded.{Decoded}
 use Rattle.query_eval.specs.declared.split.Slice.{Slice}
 use Rattle.query_eval.specs.declared.split.Split.{Split}
 use Rattle.query_eval.proofs.Lifted.{rows_of-alike}
-use Rattle.query_eval.proofs.PlaceLemmas.{grown_same, some_same, turned}
+use Rattle.query_eval.proofs.PlaceLemmas.{grown_more, grown_same, turned}
 use Rattle.query_eval.proofs.RowsBelow.{below_all}
 
 -- ---- the rows with a cell
@@ -42,43 +44,19 @@ like_value nulls equal rows values row n l off e f =
     same : Bool
     same = int_eq (get_or values row (pos 0)) (get_or values n (pos 0))
 
-    nowhere : (b : Bool) → (b && false) ≡ false
-    nowhere true = refl
-    nowhere false = refl
-
-    there : (b : Bool) → (b && true) ≡ b
-    there true = refl
-    there false = refl
-
     one : (b : Bool) → (same && not b) ≡ same_cell (Some (get_or values row (pos 0))) (cond b None (Some (get_or values n (pos 0))))
-    one true = nowhere same
-    one false = there same
+    one true = and-false same
+    one false = and-true same
 
 pub like_fixed : (cell : Option ℤ) → true ≡ same_cell cell cell
-like_fixed cell = sym (itself_row (cell ∷ [])) ∙ there (same_cell cell cell)
-  where
-    there : (b : Bool) → (b && true) ≡ b
-    there true = refl
-    there false = refl
+like_fixed cell = sym (itself_row (cell ∷ [])) ∙ and-true (same_cell cell cell)
 
 -- one column more
-pub like_more : (row n : ℕ) (columns : List Decoded) (column : Decoded) → same_cells (map (λ d. decoded_at d row) (columns ++ column ∷ [])) (map (λ d. decoded_at d n) (columns ++ column ∷ [])) ≡ (same_cells (map (λ d. decoded_at d row) columns) (map (λ d. decoded_at d n) columns) && same_cell (decoded_at column row) (decoded_at column n))
-like_more row n [] column = last (same_cell (decoded_at column row) (decoded_at column n))
-  where
-    last : (b : Bool) → (b && true) ≡ b
-    last true = refl
-    last false = refl
+like_more : (row n : ℕ) (columns : List Decoded) (column : Decoded) → same_cells (map (λ d. decoded_at d row) (columns ++ column ∷ [])) (map (λ d. decoded_at d n) (columns ++ column ∷ [])) ≡ (same_cells (map (λ d. decoded_at d row) columns) (map (λ d. decoded_at d n) columns) && same_cell (decoded_at column row) (decoded_at column n))
+like_more row n [] column = and-true (same_cell (decoded_at column row) (decoded_at column n))
 like_more row n (d ∷ ds) column =
     ap (λ b. same_cell (decoded_at d row) (decoded_at d n) && b) (like_more row n ds column)
-    ∙ assoc (same_cell (decoded_at d row) (decoded_at d n)) (same_cells (map (λ d. decoded_at d row) ds) (map (λ d. decoded_at d n) ds)) (same_cell (decoded_at column row) (decoded_at column n))
-  where
-    assoc : (a b c : Bool) → (a && (b && c)) ≡ ((a && b) && c)
-    assoc true b c = refl
-    assoc false b c = refl
-
-pub like_none : (row n : ℕ) (b : Bool) → b ≡ (b && same_cells (map (λ d. decoded_at d row) []) (map (λ d. decoded_at d n) []))
-like_none row n true = refl
-like_none row n false = refl
+    ∙ sym (and_assoc (same_cell (decoded_at d row) (decoded_at d n)) (same_cells (map (λ d. decoded_at d row) ds) (map (λ d. decoded_at d n) ds)) (same_cell (decoded_at column row) (decoded_at column n)))
 
 pub like_next : (row n i : ℕ) (mask rows like next : List Bool) (columns : List Decoded) (column : Decoded) → n < 1024 → i < length columns → column ≡ get_or columns i column
     → has rows n ≡ (has mask n && same_cells (map (λ d. decoded_at d row) (take i columns)) (map (λ d. decoded_at d n) (take i columns)))
@@ -88,27 +66,19 @@ like_next row n i mask rows like next columns column l inside at before one is =
     let front : take (i + 1) columns ≡ take i columns ++ column ∷ [] = take_more columns i column inside ∙ ap (λ d. take i columns ++ d ∷ []) (sym at) in
     ap (λ m. has m n) is ∙ has-rows_of (λ n. has rows n && has like n) n l ∙ ap (λ b. b && has like n) before
     ∙ ap (λ b. (has mask n && same_cells (map (λ d. decoded_at d row) (take i columns)) (map (λ d. decoded_at d n) (take i columns))) && b) one
-    ∙ assoc (has mask n) (same_cells (map (λ d. decoded_at d row) (take i columns)) (map (λ d. decoded_at d n) (take i columns))) (same_cell (decoded_at column row) (decoded_at column n))
+    ∙ and_assoc (has mask n) (same_cells (map (λ d. decoded_at d row) (take i columns)) (map (λ d. decoded_at d n) (take i columns))) (same_cell (decoded_at column row) (decoded_at column n))
     ∙ ap (λ b. has mask n && b) (sym (like_more row n (take i columns) column))
     ∙ ap (λ ds. has mask n && same_cells (map (λ d. decoded_at d row) ds) (map (λ d. decoded_at d n) ds)) (sym front)
-  where
-    assoc : (a b c : Bool) → ((a && b) && c) ≡ (a && (b && c))
-    assoc true b c = refl
-    assoc false b c = refl
 
 -- ---- the rows where a cell may differ from that of the row before
 pub unchanged_value : (nulls rows : List Bool) (values : List ℤ) (n : ℕ) → n + 1 < 1024 → ((k : ℕ) → k < 1024 → has nulls k ≡ false) → rows ≡ rows_of (differs_at values) → has rows (n + 1) ≡ false
     → cond (has nulls (n + 1)) None (Some (get_or values (n + 1) (pos 0))) ≡ cond (has nulls n) None (Some (get_or values n (pos 0)))
 unchanged_value nulls rows values n l none e off =
     let next : suc n ≡ n + 1 = omega arith in
-    let same : int_eq (get_or values n (pos 0)) (get_or values (suc n) (pos 0)) ≡ true = not_false (int_eq (get_or values n (pos 0)) (get_or values (suc n) (pos 0))) (ap (differs_at values) next ∙ sym (has-rows_of (differs_at values) (n + 1) l) ∙ sym (ap (λ m. has m (n + 1)) e) ∙ off) in
+    let same : int_eq (get_or values n (pos 0)) (get_or values (suc n) (pos 0)) ≡ true = not-false (int_eq (get_or values n (pos 0)) (get_or values (suc n) (pos 0))) (ap (differs_at values) next ∙ sym (has-rows_of (differs_at values) (n + 1) l) ∙ sym (ap (λ m. has m (n + 1)) e) ∙ off) in
     ap (λ b. cond b None (Some (get_or values (n + 1) (pos 0)))) (none (n + 1) l)
     ∙ ap Some (sym ((Decides-int_eq (get_or values n (pos 0)) (get_or values (suc n) (pos 0))).0 same ∙ ap (λ k. get_or values k (pos 0)) next))
     ∙ sym (ap (λ b. cond b None (Some (get_or values n (pos 0)))) (none n (omega (arith, l))))
-  where
-    not_false : (b : Bool) → not b ≡ false → b ≡ true
-    not_false true _ = refl
-    not_false false e = absurd (false≢true (sym e))
 
 -- one column more
 pub unchanged_next : (n i : ℕ) (columns : List Decoded) (column : Decoded) (before changes next : List Bool) → n + 1 < 1024 → i < length columns → column ≡ get_or columns i column
@@ -116,20 +86,11 @@ pub unchanged_next : (n i : ℕ) (columns : List Decoded) (column : Decoded) (be
     → has next (n + 1) ≡ false → map (λ d. decoded_at d (n + 1)) (take (i + 1) columns) ≡ map (λ d. decoded_at d n) (take (i + 1) columns)
 unchanged_next n i columns column before changes next l inside at so_far one is off =
     let front : take (i + 1) columns ≡ take i columns ++ column ∷ [] = take_more columns i column inside ∙ ap (λ d. take i columns ++ d ∷ []) (sym at) in
-    let both : (has before (n + 1) || has changes (n + 1)) ≡ false = sym (has-rows_of (λ k. has before k || has changes k) (n + 1) l) ∙ sym (ap (λ m. has m (n + 1)) is) ∙ off in
+    let both = or_parts (has before (n + 1)) (has changes (n + 1)) (sym (has-rows_of (λ k. has before k || has changes k) (n + 1) l) ∙ sym (ap (λ m. has m (n + 1)) is) ∙ off) in
     ap (map (λ d. decoded_at d (n + 1))) front ∙ map-append (λ d. decoded_at d (n + 1)) (take i columns) (column ∷ [])
-    ∙ ap (λ cells. cells ++ decoded_at column (n + 1) ∷ []) (so_far (left_off (has before (n + 1)) (has changes (n + 1)) both))
-    ∙ ap (λ cell. map (λ d. decoded_at d n) (take i columns) ++ cell ∷ []) (one (right_off (has before (n + 1)) (has changes (n + 1)) both))
+    ∙ ap (λ cells. cells ++ decoded_at column (n + 1) ∷ []) (so_far both.0)
+    ∙ ap (λ cell. map (λ d. decoded_at d n) (take i columns) ++ cell ∷ []) (one both.1)
     ∙ sym (map-append (λ d. decoded_at d n) (take i columns) (column ∷ [])) ∙ sym (ap (map (λ d. decoded_at d n)) front)
-  where
-    left_off : (a b : Bool) → (a || b) ≡ false → a ≡ false
-    left_off true b e = absurd (false≢true (sym e))
-    left_off false b _ = refl
-
-    right_off : (a b : Bool) → (a || b) ≡ false → b ≡ false
-    right_off true b e = absurd (false≢true (sym e))
-    right_off false true e = absurd (false≢true (sym e))
-    right_off false false _ = refl
 
 -- up to where the key may change, it is that of the first row
 pub run_same : (columns : List Decoded) (changes : List Bool) (row end : ℕ) → end ≤ 1024 → ((n : ℕ) → n + 1 < 1024 → has changes (n + 1) ≡ false → map (λ d. decoded_at d (n + 1)) columns ≡ map (λ d. decoded_at d n) columns)
@@ -153,21 +114,13 @@ run_rows mask rows columns row end n l none same e =
     alike : Bool
     alike = same_cells (map (λ d. decoded_at d row) columns) (map (λ d. decoded_at d n) columns)
 
-    nowhere : (a : Bool) → false ≡ (a && false)
-    nowhere true = refl
-    nowhere false = refl
-
-    there : (a : Bool) → a ≡ (a && true)
-    there true = refl
-    there false = refl
-
     by_row : (b : Bool) → ltb n row ≡ b → n < end → has mask n ≡ (has mask n && alike)
     by_row true f h = let off : has mask n ≡ false = none n (ltb-true n row f) in off ∙ ap (λ b. b && alike) (sym off)
-    by_row false f h = there (has mask n) ∙ ap (λ b. has mask n && b) (sym (ap (same_cells (map (λ d. decoded_at d row) columns)) (same n (ltb-false n row f) h) ∙ itself_row (map (λ d. decoded_at d row) columns)))
+    by_row false f h = sym (and-true (has mask n)) ∙ ap (λ b. has mask n && b) (sym (ap (same_cells (map (λ d. decoded_at d row) columns)) (same n (ltb-false n row f) h) ∙ itself_row (map (λ d. decoded_at d row) columns)))
 
     by_end : (b : Bool) → ltb n end ≡ b → cond (leb end n && true) false (has mask n) ≡ (has mask n && (ltb n end && alike))
     by_end true f = ap (λ b. cond (b && true) false (has mask n)) (lt-leb end n (ltb-true n end f)) ∙ by_row (ltb n row) refl (ltb-true n end f) ∙ ap (λ b. has mask n && (b && alike)) (sym f)
-    by_end false f = ap (λ b. cond (b && true) false (has mask n)) (le-leb end n (ltb-false n end f)) ∙ nowhere (has mask n) ∙ ap (λ b. has mask n && (b && alike)) (sym f)
+    by_end false f = ap (λ b. cond (b && true) false (has mask n)) (le-leb end n (ltb-false n end f)) ∙ sym (and-false (has mask n)) ∙ ap (λ b. has mask n && (b && alike)) (sym f)
 
 -- all rows with a key are those below 1024
 pub all_below : (mask rows : List Bool) (n : ℕ) (b : Bool) → n < 1024 → has rows n ≡ (has mask n && b) → has rows n ≡ (has mask n && (ltb n 1024 && b))
@@ -210,22 +163,14 @@ picked p row ns = present (map (λ n. cond (p n) (Some (row n)) None) ns)
 none_below : (p : ℕ → Bool) (row : ℕ → Cells) (end k count : ℕ) → end ≤ k → picked (λ n. p n && ltb n end) row (range_with_len k count) ≡ []
 unfolding picked
 none_below p row end k zero h = refl
-none_below p row end k (suc count) h = ap (λ b. cons_option (cond b (Some (row k)) None) (picked (λ n. p n && ltb n end) row (range_with_len (k + 1) count))) (ap (λ b. p k && b) (le-ltb k end h) ∙ nowhere (p k)) ∙ none_below p row end (k + 1) count (omega (arith, h))
-  where
-    nowhere : (a : Bool) → (a && false) ≡ false
-    nowhere true = refl
-    nowhere false = refl
+none_below p row end k (suc count) h = ap (λ b. cons_option (cond b (Some (row k)) None) (picked (λ n. p n && ltb n end) row (range_with_len (k + 1) count))) (ap (λ b. p k && b) (le-ltb k end h) ∙ and-false (p k)) ∙ none_below p row end (k + 1) count (omega (arith, h))
 
 all_after : (p : ℕ → Bool) (row : ℕ → Cells) (end k count : ℕ) → end ≤ k → picked (λ n. p n && not (ltb n end)) row (range_with_len k count) ≡ picked p row (range_with_len k count)
 unfolding picked
 all_after p row end k zero h = refl
 all_after p row end k (suc count) h =
-    ap (λ b. cons_option (cond b (Some (row k)) None) (picked (λ n. p n && not (ltb n end)) row (range_with_len (k + 1) count))) (ap (λ b. p k && not b) (le-ltb k end h) ∙ there (p k))
+    ap (λ b. cons_option (cond b (Some (row k)) None) (picked (λ n. p n && not (ltb n end)) row (range_with_len (k + 1) count))) (ap (λ b. p k && not b) (le-ltb k end h) ∙ and-true (p k))
     ∙ ap (cons_option (cond (p k) (Some (row k)) None)) (all_after p row end (k + 1) count (omega (arith, h)))
-  where
-    there : (a : Bool) → (a && true) ≡ a
-    there true = refl
-    there false = refl
 
 parted_at : (p : ℕ → Bool) (row : ℕ → Cells) (end k count : ℕ) → picked (λ n. p n && ltb n end) row (range_with_len k count) ++ picked (λ n. p n && not (ltb n end)) row (range_with_len k count) ≡ picked p row (range_with_len k count)
 unfolding picked
@@ -300,19 +245,13 @@ module _ (by : List ℕ) (v : Vector) where
     outside_other : same_cells q one.key ≡ false → (n : ℕ) → n < 1024 → (has (rows_outside mask slice) n && same_cells q (key_at n)) ≡ (has mask n && same_cells q (key_at n))
     outside_other e n l = ap (λ b. b && same_cells q (key_at n)) (is_outside n l) ∙ by_test (same_cells q (key_at n)) refl
       where
-        nowhere : (a b : Bool) → (a && false) ≡ (b && false)
-        nowhere true true = refl
-        nowhere true false = refl
-        nowhere false true = refl
-        nowhere false false = refl
-
         same : (a c : Bool) → ((a && not (a && (c && false))) && true) ≡ (a && true)
         same true true = refl
         same true false = refl
         same false c = refl
 
         by_test : (b : Bool) → same_cells q (key_at n) ≡ b → ((has mask n && not (has mask n && (ltb n one.end && same_cells one.key (key_at n)))) && b) ≡ (has mask n && b)
-        by_test false f = nowhere (has mask n && not (has mask n && (ltb n one.end && same_cells one.key (key_at n)))) (has mask n)
+        by_test false f = and-false (has mask n && not (has mask n && (ltb n one.end && same_cells one.key (key_at n)))) ∙ sym (and-false (has mask n))
         by_test true f =
             let apart : same_cells one.key (key_at n) ≡ false = ap (same_cells one.key) (sym (one_row q (key_at n) f)) ∙ turned q one.key e in
             ap (λ b. (has mask n && not (has mask n && (ltb n one.end && b))) && true) apart ∙ same (has mask n) (ltb n one.end)
@@ -350,21 +289,10 @@ module _ (by : List ℕ) (v : Vector) where
     rows_other e = with_key (rows_outside mask slice) q ∙ passing_like (λ n. has (rows_outside mask slice) n && same_cells q (key_at n)) (λ n. has mask n && same_cells q (key_at n)) (outside_other e) ∙ sym (with_key mask q)
 
 -- ---- one slice more
-grown_more : (old mid new : BTreeMap Cells ℕ) → IsGrown old mid → IsGrown mid new → IsGrown old new
-grown_more old mid new g h = record {
-  kept = λ q p e. h.kept q p (g.kept q p e);
-  fresh = λ q p none e. one q p none e (get key_cmp mid q) refl;
-  longer = omega (arith, g.longer, h.longer);
-}
-  where
-    one : (q : Cells) (p : ℕ) → get key_cmp old q ≡ None → get key_cmp new q ≡ Some p → (o : Option ℕ) → get key_cmp mid q ≡ o → length old.entries ≤ p
-    one q p none e None m = omega (arith, h.fresh q p m e, g.longer)
-    one q p none e (Some r) m = let same : r ≡ p = some_same (sym (h.kept q r m) ∙ e) in omega (arith, g.fresh q r none m, same)
-
 slice_grown : (by : List ℕ) (v : Vector) (mid new : BTreeMap Cells ℕ) (mask : List Bool) (slice : Slice) → IsGrown mid new → IsSlice by v mid mask slice → IsSlice by v new mask slice
 slice_grown by v mid new mask slice grown h = record { key = h.key; end = h.end; placed = grown.kept h.key slice.place h.placed; rows = h.rows }
 
-pub parted_grown : (by : List ℕ) (v : Vector) (mid new : BTreeMap Cells ℕ) (mask left : List Bool) (slices : List Slice) → IsGrown mid new → AreParted by v mid mask slices left → AreParted by v new mask slices left
+parted_grown : (by : List ℕ) (v : Vector) (mid new : BTreeMap Cells ℕ) (mask left : List Bool) (slices : List Slice) → IsGrown mid new → AreParted by v mid mask slices left → AreParted by v new mask slices left
 parted_grown by v mid new mask left [] grown h = h
 parted_grown by v mid new mask left (s ∷ ss) grown h = (slice_grown by v mid new mask s grown h.0, parted_grown by v mid new (rows_outside mask s) left ss grown h.1)
 
@@ -385,13 +313,9 @@ sliced_more by v mask left next old mid new slices after slice key row end h l o
       grown = grown_more old mid new h.grown t.grown;
       parted = parted_push by v new mask left slices slice one (parted_grown by v mid new mask left slices t.grown h.parted);
       occurs = λ q.
-          ap (λ b. b || occurs_in by v q (rows_outside left slice)) (t.occurs q) ∙ assoc (is_some (get key_cmp mid q)) (same_cells q key) (occurs_in by v q (rows_outside left slice))
+          ap (λ b. b || occurs_in by v q (rows_outside left slice)) (t.occurs q) ∙ or_assoc (is_some (get key_cmp mid q)) (same_cells q key) (occurs_in by v q (rows_outside left slice))
           ∙ ap (λ b. is_some (get key_cmp mid q) || b) (occurs_parted by v new left slice one q row l on is) ∙ h.occurs q;
     }))
-  where
-    assoc : (a b c : Bool) → ((a || b) || c) ≡ (a || (b || c))
-    assoc true b c = refl
-    assoc false b c = refl
 
 -- ---- the slices, and then the rows that are left
 pub split_all : (by : List ℕ) (v : Vector) (mask : List Bool) (old mid new : BTreeMap Cells ℕ) (split : Split) → AreSliced by v mask split.left old mid split.slices.items → ArePlaced 1024 by v split.left mid new split.places → IsSplit by v mask old new split
@@ -419,7 +343,7 @@ shared_with by v index places left q g apart is last mask (s ∷ ss) h = by_test
 
     by_test : rest ≡ rows_with by (rows_at v (rows_outside mask s)) q → (b : Bool) → same_cells q h.0.key ≡ b → (cond (s.place == g) (rows_at v s.rows) [] ++ rows_sliced v ss g) ++ rows_placed 1024 v left places g ≡ rows_with by (rows_at v mask) q
     by_test further true e =
-        let here : (s.place == g) ≡ true = (Decides-eqb s.place g).1 (some_same (sym h.0.placed ∙ ap (get key_cmp index) (sym (one_row q h.0.key e)) ∙ is)) in
+        let here : (s.place == g) ≡ true = (Decides-eqb s.place g).1 (same_Some _ _ (sym h.0.placed ∙ ap (get key_cmp index) (sym (one_row q h.0.key e)) ∙ is)) in
         append_assoc (cond (s.place == g) (rows_at v s.rows) []) (rows_sliced v ss g) (rows_placed 1024 v left places g)
         ∙ ap (λ b. cond b (rows_at v s.rows) [] ++ rest) here
         ∙ ap (λ l. rows_at v s.rows ++ l) further ∙ rows_same by v index mask s h.0 q e

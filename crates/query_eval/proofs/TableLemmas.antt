@@ -1,9 +1,9 @@
 -- The set functions of all rows that are kept.
-use Rattle.std.proofs.Common.{◌≡◌, ℕ, zero, suc, ◌<◌, Bool, true, false, not, cond, List, [], ◌∷◌, ◌++◌, map, filter, length, get_or, Option, refl, sym, ap, subst, arith}
+use Rattle.std.proofs.Common.{◌≡◌, ℕ, suc, ◌<◌, Bool, true, false, not, cond, List, [], ◌∷◌, ◌++◌, map, filter, length, get_or, Option, refl, sym, ap, subst, arith}
 use Rattle.std.specs.FinMap as finite
 use Rattle.std.specs.FinSet as set
 use Rattle.std.specs.List.{flat_map}
-use Rattle.std.proofs.lemmas.List.{map-append, length-map}
+use Rattle.std.proofs.lemmas.List.{get_or_default, map-append, length-map}
 use Rattle.std.proofs.lemmas.List.Sums.{length-filter, count_by-le-length}
 use Rattle.table_model.specs.Formula.{Formula}
 use Rattle.table_model.specs.Group.{groups_of}
@@ -24,7 +24,8 @@ unfolding finished_groups groups_of
 whole-group aggregates rows group k f = λ i. record { key = k i; fields = f i } ∷ []
 
 -- ---- the rows of a state are rows of its table, and few
-kept_rows_fit : (columns : List ColumnShape) (p : Cells → Bool) (xs : List Cells) → AreRows columns xs → AreRows columns (filter p xs)
+-- rows that pass a test fit where all do
+pub kept_rows_fit : (columns : List ColumnShape) (p : Cells → Bool) (xs : List Cells) → AreRows columns xs → AreRows columns (filter p xs)
 kept_rows_fit columns p [] h = tt
 kept_rows_fit columns p (x ∷ xs) h = one (p x) (kept_rows_fit columns p xs h.1)
   where
@@ -60,14 +61,9 @@ kept-few table condition s h =
     let cells : RowName × Cells → Cells = λ row. row.1 in
     let is_there : RowName × Cells → Bool = λ row. not_deleted s row in
     record {
-      fit = kept_rows_fit table.columns (keeps table condition) _ (live_rows_fit table.columns _ (named_rows s) (batches_fit table.columns (finite.entries s.batches) (λ i d l. subst (λ (e : BatchName × Batch). AreRows table.columns e.1) (same_entry (finite.entries s.batches) i _ d l) (h.batches i l).rows_fit)));
+      fit = kept_rows_fit table.columns (keeps table condition) _ (live_rows_fit table.columns _ (named_rows s) (batches_fit table.columns (finite.entries s.batches) (λ i d l. subst (λ (e : BatchName × Batch). AreRows table.columns e.1) (get_or_default (finite.entries s.batches) i _ d l) (h.batches i l).rows_fit)));
       few = omega (arith, h.rows, length-filter (keeps table condition) (rows_alive s), count_by-le-length (keeps table condition) (rows_alive s), length-map {B = Cells} (live_rows s) cells, length-filter (not_deleted s) (named_rows s), count_by-le-length (not_deleted s) (named_rows s));
     }
   where
     not_deleted : State → RowName × Cells → Bool
     not_deleted s row = not (set.contains s.deleted row.0)
-
-    same_entry : (es : List (BatchName × Batch)) (i : ℕ) (d e : BatchName × Batch) → i < length es → get_or es i d ≡ get_or es i e
-    same_entry [] i d e l = absurd (omega arith)
-    same_entry (x ∷ xs) zero d e l = refl
-    same_entry (x ∷ xs) (suc i) d e l = same_entry xs i d e (omega arith)

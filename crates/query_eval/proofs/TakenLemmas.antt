@@ -1,14 +1,12 @@
 -- The rows of one vector more in the tallies of all rows.
-use Rattle.std.proofs.Common.{◌≡◌, ◌≢◌, ℕ, ◌+◌, ◌<◌, ◌≤◌, ◌⊎◌, inl, inr, Bool, true, false, cond, List, [], ◌∷◌, ◌++◌, map, length, get_or, set, Option, None, ℤ, pos, refl, sym, ap, subst, ◌∙◌, arith, append-nil, length-set, get_or-set_same, get_or-set_other}
-use Rattle.std.specs.List.{range_with_len}
+use Rattle.std.proofs.Common.{◌≡◌, ◌≢◌, ℕ, ◌+◌, ◌<◌, ◌≤◌, ◌⊎◌, inl, inr, Bool, cond, List, [], ◌∷◌, ◌++◌, map, length, get_or, set, None, ℤ, pos, refl, sym, ap, subst, ◌∙◌, arith, append-nil, length-set, get_or-set_same, get_or-set_other}
 use Rattle.std.proofs.Math.Seq.{get_or-append_seam}
 use Rattle.std.proofs.lemmas.Bool.{cases_lt}
-use Rattle.std.proofs.lemmas.List.{get_or_append_left, map-append, length-map}
+use Rattle.std.proofs.lemmas.List.{get_or_append_left, get_or_default, map-append, length-map}
 use Rattle.table_model.specs.Group.{values_in}
 use Rattle.table_model.specs.State.{Cells}
-use Rattle.table_model.specs.Values.{present}
 use Rattle.table_model.proofs.Groups.{values_in-append}
-use Rattle.transpose_order.specs.Mask.{rows_of, has}
+use Rattle.transpose_order.specs.Mask.{has}
 use Rattle.query_eval.specs.Grouping.{IsHeld, aggregate_values}
 use Rattle.query_eval.specs.Kept.{rows_at}
 use Rattle.query_eval.specs.Tally.{IsTally, kind_of}
@@ -18,8 +16,7 @@ use Rattle.query_eval.specs.declared.aggregate.Aggregate.TheVariants.{Rows, Fold
 use Rattle.query_eval.specs.declared.tally.Tally.{Tally}
 use Rattle.query_eval.specs.declared.tally.TallyKind.TheVariants as kinds
 use Rattle.query_eval.proofs.ColumnLemmas.{values-at}
-use Rattle.query_eval.proofs.GroupingLemmas.{within_any}
-use Rattle.query_eval.proofs.Lifted.{rows_of-alike}
+use Rattle.query_eval.proofs.Lifted.{none_if, none_present}
 
 -- ---- the rows of a mask more
 -- COUNT(*) counts them
@@ -36,22 +33,9 @@ held_values v mask fold distinct column rows t u takes same h = record {
   kind = same ∙ h.kind;
 }
 
-no_value : ℕ → Option ℤ
-no_value n = None
-
-nothing : (ns : List ℕ) → present (map no_value ns) ≡ []
-unfolding no_value
-nothing [] = refl
-nothing (n ∷ ns) = nothing ns
-
-none_if : (b : Bool) (o : Option ℤ) → o ≡ None → cond b o None ≡ None
-none_if true o e = e
-none_if false o e = refl
-
 missing_values : (v : Vector) (column : ℕ) (mask : List Bool) → ((n : ℕ) → n < 1024 → cell_at v column n ≡ None) → looked_at v column mask ≡ []
-unfolding looked_at rows_of no_value
-missing_values v column mask h =
-    ap present (rows_of-alike (λ n. cond (has mask n) (cell_at v column n) None) no_value None (λ n l. none_if (has mask n) (cell_at v column n) (h n l))) ∙ nothing (range_with_len 0 1024)
+unfolding looked_at
+missing_values v column mask h = none_present (λ n. cond (has mask n) (cell_at v column n) None) (λ n l. none_if (has mask n) (cell_at v column n) (h n l))
 
 -- a column that the table hasn't has none
 pub held_missing : (v : Vector) (mask : List Bool) (fold : _) (distinct : Bool) (column : ℕ) (rows : List Cells) (t : Tally) → ((n : ℕ) → n < 1024 → cell_at v column n ≡ None) → IsHeld rows (Folded fold distinct column) t → IsHeld (rows ++ rows_at v mask) (Folded fold distinct column) t
@@ -69,7 +53,7 @@ held_pushed rows named i now next one u within size is at held before j a t l = 
     by_place (inr b) =
         let e : j ≡ i = omega arith in
         let last : get_or next j t ≡ u = ap (λ ts. get_or ts j t) is ∙ ap (λ k. get_or (now ++ u ∷ []) k t) (e ∙ sym size) ∙ get_or-append_seam now u [] t in
-        let mine : get_or named j a ≡ one = ap (λ k. get_or named k a) e ∙ within_any named i a one within ∙ sym at in
+        let mine : get_or named j a ≡ one = ap (λ k. get_or named k a) e ∙ get_or_default named i a one within ∙ sym at in
         subst (IsHeld rows (get_or named j a)) (sym last) (subst (λ (x : Aggregate). IsHeld rows x u) (sym mine) held)
 
 -- ---- one tally takes in more rows, beside those that did and those that didn't yet
@@ -98,4 +82,4 @@ module _ (named : List Aggregate) (rows more : List Cells) (i : ℕ) (old now : 
           let e : i ≡ j = omega arith in
           subst (λ (k : ℕ). IsHeld (rows ++ more) (get_or named k a) (get_or (set now i u) k t)) e
           (subst (IsHeld (rows ++ more) (get_or named i a)) (sym (get_or-set_same now i u t inside))
-          (subst (λ (x : Aggregate). IsHeld (rows ++ more) x u) (within_any named i Rows a ln) held))
+          (subst (λ (x : Aggregate). IsHeld (rows ++ more) x u) (get_or_default named i Rows a ln) held))

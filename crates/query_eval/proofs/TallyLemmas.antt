@@ -1,10 +1,7 @@
 -- One value more, and what set functions are in the end.
-use Rattle.std.proofs.Common.{◌≡◌, ℕ, ◌+◌, ◌-◌, ◌*◌, ◌^◌, ◌≤◌, min, Bool, true, false, cond, ◌||◌, List, [], ◌∷◌, ◌++◌, length, Option, Some, ℤ, pos, ◌+ℤ◌, ◌*ℤ◌, FitsSigned, refl, sym, ap, subst, ◌∙◌, arith, append-nil, length-append}
+use Rattle.std.proofs.Common.{◌≡◌, ℕ, ◌+◌, ◌-◌, ◌*◌, ◌^◌, ◌≤◌, min, Bool, true, false, cond, List, [], ◌∷◌, ◌++◌, length, Option, Some, ℤ, pos, ◌+ℤ◌, ◌*ℤ◌, FitsSigned, sym, ap, subst, ◌∙◌, arith, append-nil, length-append}
 use Rattle.std.specs.Int.{w128}
 use Rattle.std.specs.Int.{from_bool}
-use Rattle.std.specs.List.{list_any}
-use Rattle.std.specs.Ordering.{int_eq}
-use Rattle.std.proofs.lemmas.Cmp.{int_eq_equiv}
 use Rattle.std.proofs.lemmas.Int.{ints}
 use Rattle.table_model.specs.Group.{IsWithin, state_row_limit}
 use Rattle.table_model.specs.Values.{total, lesser, greater, least, greatest}
@@ -32,7 +29,8 @@ pub mean-fits : (zs : List ℤ) → length zs ≤ state_row_limit → AreSmall z
 mean-fits zs le small = millionths_fit (length zs) (total zs) le (total-small zs small)
 
 -- ---- one value more
-one_total : (z : ℤ) → total (z ∷ []) ≡ z
+-- the sum of one value
+pub one_total : (z : ℤ) → total (z ∷ []) ≡ z
 one_total z = omega (arith, ints)
 
 pub count_more : (count next : ℕ) (z : ℤ) → next ≡ min (count + 1) (2 ^ 64 - 1) → (values : List ℤ) → (length values ≤ state_row_limit → count ≡ length values) → length (values ++ z ∷ []) ≤ state_row_limit → next ≡ length (values ++ z ∷ [])
@@ -70,30 +68,6 @@ least_more before after z is values h = is ∙ ap (λ o. lesser o (Some z)) h �
 
 pub greatest_more : (before after : Option ℤ) (z : ℤ) → after ≡ greater before (Some z) → (values : List ℤ) → before ≡ greatest values → after ≡ greatest (values ++ z ∷ [])
 greatest_more before after z is values h = is ∙ ap (λ o. greater o (Some z)) h ∙ sym (greatest-append values (z ∷ []))
-
-any_push : (xs : List ℤ) (z q : ℤ) → list_any (int_eq q) (xs ++ z ∷ []) ≡ (list_any (int_eq q) xs || int_eq q z)
-any_push [] z q = last (int_eq q z)
-  where
-    last : (b : Bool) → (b || false) ≡ b
-    last true = refl
-    last false = refl
-any_push (x ∷ xs) z q = ap (λ b. int_eq q x || b) (any_push xs z q) ∙ assoc (int_eq q x) (list_any (int_eq q) xs) (int_eq q z)
-  where
-    assoc : (a b c : Bool) → (a || (b || c)) ≡ ((a || b) || c)
-    assoc true b c = refl
-    assoc false b c = refl
-
-updated : (z q : ℤ) (a : Bool) → cond (int_eq z q) true a ≡ (a || int_eq q z)
-updated z q a = one (int_eq z q) (int_eq q z) (int_eq_equiv.symm z q) a
-  where
-    one : (b c : Bool) → b ≡ c → (d : Bool) → cond b true d ≡ (d || c)
-    one true c e true = refl
-    one true c e false = e
-    one false c e true = refl
-    one false c e false = e
-
-pub members_put : (seen now : List ℤ) (z : ℤ) → ((q : ℤ) → list_any (int_eq q) now ≡ cond (int_eq z q) true (list_any (int_eq q) seen)) → (values : List ℤ) → ((q : ℤ) → list_any (int_eq q) seen ≡ list_any (int_eq q) values) → (q : ℤ) → list_any (int_eq q) now ≡ list_any (int_eq q) (values ++ z ∷ [])
-members_put seen now z updates values h q = updates q ∙ updated z q (list_any (int_eq q) seen) ∙ ap (λ b. b || int_eq q z) (h q) ∙ sym (any_push values z q)
 
 -- ---- many values more
 small_front : (xs ys : List ℤ) → AreSmall (xs ++ ys) → AreSmall xs

@@ -1,5 +1,6 @@
 -- Set functions by the places of their columns, and which of them a query names.
-use Rattle.std.specs.Prelude.{ℕ, ◌==◌, Bool, true, false, not, ◌&&◌, List, [], ◌∷◌, ◌++◌, map, length, Option, Some, None, pos}
+use Rattle.std.specs.Prelude.{◌==◌, Bool, true, false, ◌&&◌, List, [], ◌∷◌, ◌++◌, map, length, Option, Some, None, pos}
+use Rattle.std.specs.Bool.{beq}
 use Rattle.std.specs.List.{flat_map}
 use Rattle.table_model.specs.QueryCode.{fold_number}
 use Rattle.table_model.specs.Formula.{Formula, says, in_parentheses, is_truth, negation, no_factor, both, no_term, either}
@@ -10,7 +11,6 @@ use Rattle.table_model.specs.State.{Cells}
 use Rattle.table_model.specs.Table.{ColumnShape}
 use Rattle.table_model.specs.declared.answer.Field.{Field}
 use Rattle.table_model.specs.declared.answer.Field.TheVariants.{Whole}
-use Rattle.table_model.specs.declared.query.Fold.{Fold}
 use Rattle.table_model.specs.declared.query.ItemValue.{ItemValue}
 use Rattle.table_model.specs.declared.query.ItemValue.TheVariants.{Grouped, Computed}
 use Rattle.table_model.specs.declared.query.Operand.{Operand}
@@ -32,17 +32,12 @@ abbrev pub aggregate_value : Aggregate → List Cells → Field
 aggregate_value Rows rows = Whole (pos (length rows))
 aggregate_value (Folded fold distinct place) rows = fold_value fold (once_if distinct (values_in place rows))
 
--- whether two truth values of a flag are the same
-abbrev pub same_flag : Bool → Bool → Bool
-same_flag true b = b
-same_flag false b = not b
-
 -- whether two aggregates are the same set function of the same column
 abbrev pub same_aggregate : Aggregate → Aggregate → Bool
 same_aggregate Rows Rows = true
 same_aggregate Rows (Folded fold distinct place) = false
 same_aggregate (Folded fold distinct place) Rows = false
-same_aggregate (Folded f d p) (Folded g e q) = (fold_number f == fold_number g) && (same_flag d e && (p == q))
+same_aggregate (Folded f d p) (Folded g e q) = (fold_number f == fold_number g) && (beq d e && (p == q))
 
 -- the set function that a select item names, if it does
 abbrev pub item_functions : ItemValue → List SetFunction

@@ -1,7 +1,7 @@
 //! HAVING and the select list at a finished group.
 ghost use Rattle.std.specs.Prelude.{◌≡◌, ◌==◌, ◌*ℤ◌, pos};
 ghost use Rattle.std.specs.List.{position, position_or_len};
-ghost use Rattle.table_model.specs.Condition.{condition_truth, field_comparison, is_among, is_null, not_if, predicate_truth};
+ghost use Rattle.table_model.specs.Condition.{between, condition_truth, field_comparison, is_among, is_null, not_if, predicate_truth};
 ghost use Rattle.table_model.specs.Meaning.{is_kept};
 ghost use Rattle.table_model.specs.Query.{formula_of_factor, formula_of_primary, formula_of_term, formula_of_test};
 ghost use Rattle.table_model.specs.Truth.{compared};
@@ -139,6 +139,13 @@ fn among(field: Field, literals: &Literals) -> Truth
     truth
 }
 
+/// Whether a field is neither below one field nor above another.
+fn between(field: Field, low: Field, high: Field) -> Truth
+    ensures { result ≡ between field low high }
+{
+    compare_fields(Op::GreaterOrEqual, field, low).and(compare_fields(Op::LessOrEqual, field, high))
+}
+
 /// The truth value, under NOT or not.
 fn not_if(negated: bool, truth: Truth) -> Truth
     ensures { result ≡ not_if negated truth }
@@ -162,17 +169,9 @@ fn predicate_at(schema: &Schema, plan: &Plan, group: &FinishedGroup, predicate: 
             high,
         } => {
             let field = operand_at(schema, plan, group, operand);
-            let above = compare_fields(
-                Op::GreaterOrEqual,
-                field,
-                operand_at(schema, plan, group, low),
-            );
-            let below = compare_fields(
-                Op::LessOrEqual,
-                field,
-                operand_at(schema, plan, group, high),
-            );
-            not_if(*negated, above.and(below))
+            let low = operand_at(schema, plan, group, low);
+            let high = operand_at(schema, plan, group, high);
+            not_if(*negated, between(field, low, high))
         }
         Predicate::In {
             operand,

@@ -40,22 +40,15 @@ pub fn predicate_masks<C: Columns>(
             negated,
             low,
             high,
-        } => {
-            let pair = between_operands(columns, batch, vector, operand, low, high, mask);
-            pair.not_if(*negated)
-        }
+        } => between_operands(columns, batch, vector, operand, low, high, mask).not_if(*negated),
         Predicate::In {
             operand,
             negated,
             literals,
-        } => {
-            let pair = among_operand(columns, batch, vector, operand, literals, mask);
-            pair.not_if(*negated)
-        }
-        Predicate::IsNull { operand, negated } => {
-            let pair = null_operand(columns, batch, vector, operand, mask);
-            pair.not_if(*negated)
-        }
+        } => among_operand(columns, batch, vector, operand, literals, mask).not_if(*negated),
+        Predicate::IsNull { operand, negated } => null_operand(
+            columns, batch, vector, operand, mask,
+        ).not_if(*negated),
     }
 }
 

@@ -1,9 +1,9 @@
 -- No row is left, or each has its place by its one cell or by its key.
 use Rattle.std.proofs.Common.{◌≡◌, ◌∙◌, sym, get_or, length, arith}
+use Rattle.std.proofs.lemmas.List.{get_or_default}
 use Rattle.query_eval.specs.Decoded.{decoded_at}
 use Rattle.query_eval.specs.declared.decoded.Decoded.{Decoded}
 use Rattle.query_eval.specs.declared.decoded.Decoded.TheVariants.{Column}
-use Rattle.query_eval.proofs.GroupingLemmas.{within_any}
 use Rattle.query_eval.proofs.PlaceLemmas.{only_one, placed_nowhere}
 use Rattle.query_eval.proofs.placing.place_each.Goals as goal
 
@@ -16,7 +16,7 @@ returns-in-Column-clause-placed c = λ by v shown h.
     let columns = c.args.columns.now in
     let one : length columns ≡ 1 = omega (arith, c.if-columns-eq1.true) in
     let column : Decoded = Column c.in-Column.nulls c.in-Column.values in
-    let at : column ≡ get_or columns 0 column = sym c.in-Column.is ∙ c.index-columns-0.is ∙ within_any columns 0 c.index-columns-0.result column (omega (arith, one)) in
+    let at : column ≡ get_or columns 0 column = sym c.in-Column.is ∙ c.index-columns-0.is ∙ get_or_default columns 0 c.index-columns-0.result column (omega (arith, one)) in
     c.in_ok-place_by_value.ensures.placed by v (λ n l. only_one (λ d. decoded_at d n) columns column one at ∙ shown n l) h
 
 pub returns-clause-placed : goal.returns-clause-placed

@@ -1,13 +1,13 @@
 -- By the one cell.
 use Rattle.std.proofs.Common.{rules, ◌≡◌, ◌∙◌, ◌∷◌, [], Some, None, cond, pos, sym, ap, subst, get_or, length, FitsSigned, w64, of_z, to_z, arith}
 use Rattle.std.proofs.lemmas.Int.{to_z-of_z}
+use Rattle.std.proofs.lemmas.List.{get_or_default}
 use Rattle.transpose_order.specs.Mask.{has}
 use Rattle.table_model.specs.State.{Cells}
 use Rattle.query_eval.specs.Decoded.{decoded_at}
 use Rattle.query_eval.specs.Places.{IsTakenIn}
 use Rattle.query_eval.specs.declared.decoded.Decoded.{Decoded}
 use Rattle.query_eval.specs.declared.decoded.Decoded.TheVariants.{Column}
-use Rattle.query_eval.proofs.GroupingLemmas.{within_any}
 use Rattle.query_eval.proofs.PlaceLemmas.{only_one}
 use Rattle.query_eval.proofs.slicing.place_of.Goals as goal
 
@@ -16,7 +16,7 @@ returns-in-Column-clause-taken c = λ h.
     let columns = c.args.columns.now in
     let one : length columns ≡ 1 = omega (arith, c.if-columns-eq1.true) in
     let column : Decoded = Column c.in-Column.nulls c.in-Column.values in
-    let at : column ≡ get_or columns 0 column = sym c.in-Column.is ∙ c.index-columns-0.is ∙ within_any columns 0 c.index-columns-0.result column (omega (arith, one)) in
+    let at : column ≡ get_or columns 0 column = sym c.in-Column.is ∙ c.index-columns-0.is ∙ get_or_default columns 0 c.index-columns-0.result column (omega (arith, one)) in
     let nulls = c.in-Column.nulls in
     let values = c.in-Column.values in
     let row = c.args.row in

@@ -1,8 +1,9 @@
 -- One tally more.
 use Rattle.std.proofs.Common.{◌<◌, [], ◌∷◌, length, get_or, ap, ◌∙◌, arith, length-append}
+use Rattle.std.proofs.lemmas.List.{get_or_default}
 use Rattle.query_eval.specs.declared.aggregate.Aggregate.{Aggregate}
 use Rattle.query_eval.specs.declared.aggregate.Aggregate.TheVariants.{Rows}
-use Rattle.query_eval.proofs.GroupingLemmas.{held_none, within_any}
+use Rattle.query_eval.proofs.GroupingLemmas.{held_none}
 use Rattle.query_eval.proofs.TakenLemmas.{held_pushed}
 use Rattle.query_eval.proofs.whole_table.no_tallies.Goals as goal
 
@@ -22,5 +23,5 @@ loop-aggregate-preserved c =
     let within : i < length named = omega (arith, c.loop-aggregate-test.true) in
     record {
       size = omega (arith, inv.size, ap length c.in_ok-push.ensures.items, length-append now (c.in_ok-new.field-0 ∷ []));
-      held = held_pushed [] named i now c.push.new.self.items one c.in_ok-new.field-0 within inv.size c.in_ok-push.ensures.items (within_any named i Rows one within) (held_none one c.in_ok-new.field-0 c.in_ok-new.ensures.values (c.in_ok-new.ensures.kind ∙ c.aggregate_kind.ensures)) inv.held;
+      held = held_pushed [] named i now c.push.new.self.items one c.in_ok-new.field-0 within inv.size c.in_ok-push.ensures.items (get_or_default named i Rows one within) (held_none one c.in_ok-new.field-0 c.in_ok-new.ensures.values (c.in_ok-new.ensures.kind ∙ c.aggregate_kind.ensures)) inv.held;
     }
