@@ -6,6 +6,7 @@ use Rattle.std.proofs.Common.{refl, sym, ap, ◌∙◌, arith, get_or, add-one}
 use Rattle.std.proofs.Math.Nat.{pow-le-pow_right, pow-suc}
 use Rattle.std.proofs.lemmas.Bool.Decides.{nat_tests}
 use Rattle.std.proofs.lemmas.List.Folds.{list_all_at}
+use Rattle.script_lines.specs.Word.{value_digits}
 
 -- an ASCII digit's value
 pub digit_is : (c : ℕ) → is_ascii_digit c ≡ true → (48 ≤ c) × (c ≤ 57) × (digit_value c ≡ c - 48)
@@ -22,13 +23,13 @@ digit_at bs i within all =
       | false ↦ λ t. let both : false ≡ true = sym (list_all_at is_ascii_digit bs i 0 within t) ∙ all in cc
     ] refl
 
--- a number of i digits stays below the i-th power of ten, and i is below 30
+-- a number of i digits stays below the i-th power of ten, and i is below value_digits
 pub ten_more : (n d i : ℕ) → n < 10 ^ i → d ≤ 9 → n * 10 + d < 10 ^ (i + 1)
 ten_more n d i below digit =
     let power : 10 ^ (i + 1) ≡ 10 ^ i * 10 = ap (λ k. 10 ^ k) (add-one i) ∙ pow-suc 10 i in
     omega arith
 
-pub room_for_ten : (n i : ℕ) → n < 10 ^ i → i < 30 → n * 10 + 10 ≤ 10 ^ 30
+pub room_for_ten : (n i : ℕ) → n < 10 ^ i → i < value_digits → n * 10 + 10 ≤ 10 ^ value_digits
 room_for_ten n i below few =
     let power = pow-le-pow_right {n = 10} (omega arith) {i = i} {j = 29} (omega arith) in
     omega arith

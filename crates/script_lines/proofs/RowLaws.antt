@@ -1,7 +1,9 @@
 -- What was read of a row or of rows, before what the rest of the text gives, stays what the whole text gives.
 use Rattle.std.specs.Prelude.{◌≡◌, ◌⊎◌, ℕ, true, false, cond, ◌==◌, List, [], ◌∷◌, ◌++◌, length, Option, Some, None, option_map, ℤ}
 use Rattle.std.proofs.Common.{refl, sym, ap, ◌∙◌, append_assoc, inl, inr, arith}
+use Rattle.std.proofs.lemmas.Bool.{eqb-true}
 use Rattle.std.proofs.lemmas.Bool.Decides.{nat_tests}
+use Rattle.std.proofs.lemmas.List.{nil_from_length}
 use Rattle.table_model.specs.State.{Cells, Batch}
 use Rattle.table_model.specs.declared.refusal.Refusal.{Refusal}
 use Rattle.table_model.specs.declared.refusal.Refusal.TheVariants.{Memory, BadLine}
@@ -46,7 +48,7 @@ abbrev pub row_before : Option Cells → Option Batch → Option Batch
 row_before o rows = o >>= (λ row. option_map (λ rs. row ∷ rs) rows)
 
 -- there is always a first piece
-first_piece : (c : ℕ) (text : List ℕ) → (p : List ℕ) × (ps : List (List ℕ)) × (pieces c text ≡ p ∷ ps)
+pub first_piece : (c : ℕ) (text : List ℕ) → (p : List ℕ) × (ps : List (List ℕ)) × (pieces c text ≡ p ∷ ps)
 first_piece c text = shape (cut c text) (pieces_cut c text) where
   shape : (o : Option (List ℕ × List ℕ)) → pieces c text ≡ pieces_at c text o → (p : List ℕ) × (ps : List (List ℕ)) × (pieces c text ≡ p ∷ ps)
   shape None e = (text, [], e)
@@ -92,15 +94,11 @@ pub rows_more : (xs : Batch) (rest row after next : List ℕ) (r : Cells) → So
 rows_more xs rest row after next r at is comma =
     ap (after_all xs) (rows_first rest row after at) ∙ row_good xs row r (rows_from (pieces 41 after)) is ∙ ap (after_all (xs ++ (r ∷ []))) (rows_comma after next comma)
 
-no_bytes : (bs : List ℕ) → (length bs == 0) ≡ true → bs ≡ []
-no_bytes [] e = refl
-no_bytes (b ∷ bs) e = let no : ⊥ = grind (arith, nat_tests) in absurd no
-
 rows_last : (xs : Batch) (rest row : List ℕ) (r : Cells) → Some (row, []) ≡ cut 41 rest → opened_cells row ≡ Some r → after_all xs (rows_of rest) ≡ Some (xs ++ (r ∷ []))
 rows_last xs rest row r at is = ap (after_all xs) (rows_first rest row [] at) ∙ row_good xs row r (Some []) is ∙ ap Some (append_assoc xs (r ∷ []) [])
 
 pub rows_all : (xs : Batch) (rest row after : List ℕ) (r : Cells) → Some (row, after) ≡ cut 41 rest → opened_cells row ≡ Some r → (length after == 0) ≡ true → after_all xs (rows_of rest) ≡ Some (xs ++ (r ∷ []))
-rows_all xs rest row after r at is empty = rows_last xs rest row r (ap (λ (a : List ℕ). Some (row, a)) (sym (no_bytes after empty)) ∙ at) is
+rows_all xs rest row after r at is empty = rows_last xs rest row r (ap (λ (a : List ℕ). Some (row, a)) (sym (nil_from_length after (eqb-true (length after) 0 empty))) ∙ at) is
 
 pub rows_no_more : (xs : Batch) (rest row after : List ℕ) (r : Cells) → Some (row, after) ≡ cut 41 rest → opened_cells row ≡ Some r → (length after == 0) ≡ false → None ≡ without 44 after → after_all xs (rows_of rest) ≡ None
 rows_no_more xs rest row [] r at is some none = cc

@@ -5,15 +5,16 @@ use Rattle.std.specs.Char.{is_ascii_digit}
 use Rattle.std.specs.Str.{bytes_eq}
 use Rattle.std.specs.Str.Parse.{digits_value}
 use Rattle.std.proofs.Common.{refl, sym, ap, subst, ◌∙◌, arith, inl, inr, append_assoc, get_or}
+use Rattle.std.proofs.lemmas.Bool.{and_parts}
 use Rattle.std.proofs.lemmas.Bool.Decides.{nat_tests}
 use Rattle.std.proofs.lemmas.Slice.Eq.{bytes_eq-Decides}
-use Rattle.std.proofs.lemmas.Option.{some_pair_parts}
+use Rattle.std.proofs.lemmas.Option.{same_Some, some_pair_parts}
 use Rattle.std.proofs.lemmas.List.{append-nil}
 use Rattle.table_model.specs.State.{Cells, Batch}
-use Rattle.script_lines.specs.Word.{◌>>=◌, cut, longer, pieces, without, each_of, is_numeral, magnitude_of, signed_of, integer_of, cell_of, cells_of, opened_cells, rows_from, rows_of}
+use Rattle.script_lines.specs.Word.{◌>>=◌, cut, longer, pieces, without, each_of, is_numeral, value_digits, magnitude_of, signed_of, integer_of, cell_of, cells_of, opened_cells, rows_from, rows_of}
 use Rattle.script_lines.specs.Spelled.{SpellsNumber, SpellsValue, SpellsValues, SpellsRow, SpellsRows, RowsAreReadAsSpelled}
 use Rattle.script_lines.proofs.Cuts.{pieces_at, pieces_cut}
-use Rattle.script_lines.proofs.RowLaws.{rows_first, rows_comma, rows_none, rows_no_comma, row_before}
+use Rattle.script_lines.proofs.RowLaws.{first_piece, rows_first, rows_comma, rows_none, rows_no_comma, row_before}
 
 -- a text without a byte
 abbrev Lacks : ℕ → List ℕ → Type 0
@@ -65,27 +66,23 @@ without_is c (b ∷ bs) rest e =
 without_at : (c : ℕ) (rest : List ℕ) → without c (c ∷ rest) ≡ Some rest
 without_at c rest = let itself : (c == c) ≡ true = grind (arith, nat_tests) in ap (λ (t : Bool). cond t (Some rest) None) itself
 
-both_true : (a b : Bool) → (a && b) ≡ true → (a ≡ true) × (b ≡ true)
-both_true true b e = (refl, e)
-both_true false b e = cc
-
 -- a numeral has digits alone
-numeral_digits : (text : List ℕ) → is_numeral 30 text ≡ true → (nat_le 1 (length text) ≡ true) × (list_all is_ascii_digit text ≡ true)
+numeral_digits : (text : List ℕ) → is_numeral value_digits text ≡ true → (nat_le 1 (length text) ≡ true) × (list_all is_ascii_digit text ≡ true)
 unfolding is_numeral
 numeral_digits text e =
-    let p = both_true (nat_le 1 (length text)) (nat_le (length text) 30 && list_all is_ascii_digit text) e in
-    (p.0, (both_true (nat_le (length text) 30) (list_all is_ascii_digit text) p.1).1)
+    let p = and_parts (nat_le 1 (length text)) (nat_le (length text) value_digits && list_all is_ascii_digit text) e in
+    (p.0, (and_parts (nat_le (length text) value_digits) (list_all is_ascii_digit text) p.1).1)
 
 digits_lack : (c : ℕ) (text : List ℕ) → is_ascii_digit c ≡ false → list_all is_ascii_digit text ≡ true → Lacks c text
 digits_lack c [] outside e = tt
 digits_lack c (b ∷ bs) outside e =
-    let p = both_true (is_ascii_digit b) (list_all is_ascii_digit bs) e in
+    let p = and_parts (is_ascii_digit b) (list_all is_ascii_digit bs) e in
     (apart (b == c) refl p.0, digits_lack c bs outside p.1) where
       apart : (t : Bool) → (b == c) ≡ t → is_ascii_digit b ≡ true → t ≡ false
       apart true t digit = let same : b ≡ c = grind (arith, nat_tests) in sym digit ∙ ap is_ascii_digit same ∙ outside
       apart false t digit = refl
 
-numeral_lacks : (c : ℕ) (text : List ℕ) → is_ascii_digit c ≡ false → is_numeral 30 text ≡ true → Lacks c text
+numeral_lacks : (c : ℕ) (text : List ℕ) → is_ascii_digit c ≡ false → is_numeral value_digits text ≡ true → Lacks c text
 numeral_lacks c text outside e = digits_lack c text outside (numeral_digits text e).1
 
 value_lacks : (c : ℕ) (text : List ℕ) (v : Option ℤ) → is_ascii_digit c ≡ false → Lacks c (codes "NULL") → (45 == c) ≡ false → SpellsValue text v → Lacks c text
@@ -110,7 +107,7 @@ values_no_end text (v ∷ w ∷ vs) is =
 number_read : (text : List ℕ) (n : ℕ) → magnitude_of text ≡ Some n → SpellsNumber text n
 unfolding magnitude_of
 number_read text n e =
-    elim (is_numeral 30 text) as (λ t. is_numeral 30 text ≡ t → cond t (Some (digits_value 10 text)) None ≡ Some n → SpellsNumber text n) [
+    elim (is_numeral value_digits text) as (λ t. is_numeral value_digits text ≡ t → cond t (Some (digits_value 10 text)) None ≡ Some n → SpellsNumber text n) [
       | true ↦ λ t h. let same : digits_value 10 text ≡ n = cc in (t, same)
       | false ↦ λ t h. cc
     ] refl e
@@ -143,11 +140,11 @@ value_read text v e =
       | false ↦ λ t h. integer_read text v h
     ] refl e
 
-no_null : (text : List ℕ) → is_numeral 30 text ≡ true → text ≡ codes "NULL" → ⊥
+no_null : (text : List ℕ) → is_numeral value_digits text ≡ true → text ≡ codes "NULL" → ⊥
 unfolding is_numeral
-no_null text e is = let bad : is_numeral 30 (codes "NULL") ≡ true = sym (ap (is_numeral 30) is) ∙ e in cc
+no_null text e is = let bad : is_numeral value_digits (codes "NULL") ≡ true = sym (ap (is_numeral value_digits) is) ∙ e in cc
 
-no_minus : (text : List ℕ) → is_numeral 30 text ≡ true → without 45 text ≡ None
+no_minus : (text : List ℕ) → is_numeral value_digits text ≡ true → without 45 text ≡ None
 no_minus text e = uncut text (numeral_lacks 45 text refl e) where
   uncut : (t : List ℕ) → Lacks 45 t → without 45 t ≡ None
   uncut [] h = refl
@@ -196,19 +193,10 @@ each_parts {Y = Y} f x xs ys e = first (f x) refl e where
 cells_cut : (text : List ℕ) → cells_of text ≡ each_of cell_of (pieces_at 44 text (cut 44 text))
 cells_cut text = ap (each_of cell_of) (pieces_cut 44 text)
 
-some_list : {X : Type 0} (xs ys : List X) → Some xs ≡ Some ys → xs ≡ ys
-some_list xs ys e = cc
-
-pieces_some : (c : ℕ) (text : List ℕ) → (p : List ℕ) × (ps : List (List ℕ)) × (pieces c text ≡ p ∷ ps)
-pieces_some c text = shape (cut c text) (pieces_cut c text) where
-  shape : (o : Option (List ℕ × List ℕ)) → pieces c text ≡ pieces_at c text o → (p : List ℕ) × (ps : List (List ℕ)) × (pieces c text ≡ p ∷ ps)
-  shape None e = (text, [], e)
-  shape (Some parts) e = (parts.0, pieces c parts.1, e)
-
 -- there is a value in each row that is read
 values_some : (text : List ℕ) → cells_of text ≡ Some [] → ⊥
 values_some text e =
-    let p = pieces_some 44 text in
+    let p = first_piece 44 text in
     let parts = each_parts cell_of p.0 p.1 [] (sym (ap (each_of cell_of) p.2) ∙ e) in
     let bad : ◌≡◌ {A = Cells} [] (parts.0 ∷ parts.1) = parts.4 in cc
 
@@ -218,7 +206,7 @@ values_read (v ∷ vs) text e = at (λ rest f. values_read vs rest f) (cut 44 te
   at : ((rest : List ℕ) → cells_of rest ≡ Some vs → SpellsValues rest vs) → (o : Option (List ℕ × List ℕ)) → cut 44 text ≡ o → each_of cell_of (pieces_at 44 text o) ≡ Some (v ∷ vs) → SpellsValues text (v ∷ vs)
   at more None is h =
       let parts = each_parts cell_of text [] (v ∷ vs) h in
-      let none : [] ≡ parts.1 = some_list [] parts.1 parts.3 in
+      let none : [] ≡ parts.1 = same_Some [] parts.1 parts.3 in
       let whole : v ∷ vs ≡ parts.0 ∷ [] = parts.4 ∙ ap (λ (rest : Cells). parts.0 ∷ rest) (sym none) in
       let P : Cells → Type 0 = λ xs. SpellsValues text xs in
       subst P (sym whole) (value_read text parts.0 parts.2)

@@ -1,13 +1,12 @@
 -- The lines of a script: which are commands, and which steps they ask for.
-use Rattle.std.specs.Prelude.{ℕ, suc, length, Bool, IsTrue, cond, ◌&&◌, ◌||◌, nat_le, List, [], ◌∷◌, codes, Option, Some, None, option_map, Result}
+use Rattle.std.specs.Prelude.{ℕ, suc, length, Bool, IsTrue, cond, ◌&&◌, ◌||◌, nat_le, List, [], ◌∷◌, codes, Option, Some, None, option_map}
 use Rattle.std.specs.List.{list_all}
-use Rattle.std.specs.Option.{ok_or, IsSomeAnd}
+use Rattle.std.specs.Option.{IsSomeAnd}
 use Rattle.std.specs.Str.{bytes_eq}
+use Rattle.table_model.specs.Table.{type_named}
 use Rattle.table_model.specs.declared.schema.ColType.{ColType}
-use Rattle.table_model.specs.declared.refusal.Refusal.{Refusal}
-use Rattle.table_model.specs.declared.refusal.Refusal.TheVariants.{BadLine}
-use Rattle.script_lines.specs.Word.{◌>>=◌, cut, pieces, number_of, small_number, ordinal_of, name_of, rows_of, type_of, coding_of, some_text, file_of}
-use Rattle.script_lines.specs.TableWords.{TableWords}
+use Rattle.script_lines.specs.Word.{◌>>=◌, cut, pieces, number_of, number_digits, small_number, ordinal_of, name_of, rows_of, coding_of, some_text, file_of}
+use Rattle.script_lines.specs.TableWords.{replica_limit, TableWords}
 use Rattle.script_lines.specs.declared.step.Step.{Step}
 use Rattle.script_lines.specs.declared.step.Step.TheVariants.{Append, Insert, Delete, Merge, Ask, Serve, Take, Recode, Open, Export, Query}
 use Rattle.script_lines.specs.declared.command.Command.{Command}
@@ -127,7 +126,7 @@ step_line word text =
 abbrev pub column_of : List ℕ → List ℕ → Option (List ℕ × ColType)
 column_of name word = do
   column ← some_text name
-  column_type ← type_of word
+  column_type ← type_named word
   Some (column, column_type)
 
 -- the columns of a table: two words for each
@@ -146,9 +145,9 @@ abbrev pub left_len : Option (List ℕ) → ℕ
 left_len None = 0
 left_len (Some text) = suc (length text)
 
--- how many replicas: 1 to 10 digits, from 1 to 64
+-- how many replicas: 1 to number_digits digits, from 1 to replica_limit
 unfoldable pub replicas_of : List ℕ → Option ℕ
-replicas_of text = number_of 10 64 text >>= (λ n. cond (nat_le 1 n) (Some n) None)
+replicas_of text = number_of number_digits replica_limit text >>= (λ n. cond (nat_le 1 n) (Some n) None)
 
 -- N and NAME of a line that makes a table, and the words that follow them
 unfoldable pub table_words : List ℕ → Option (ℕ × List ℕ × List ℕ)
@@ -178,10 +177,6 @@ is_printable c = nat_le 32 c && nat_le c 126
 -- the command that a line is, if it is one
 unfoldable pub command_of : List ℕ → Option Command
 command_of line = cond (list_all is_printable line) (cut 32 line >>= (λ parts. words_of parts.0 parts.1)) None
-
--- a line is a command or BadLine
-abbrev pub line_of : List ℕ → Result Command Refusal
-line_of line = ok_or (command_of line) BadLine
 
 -- whether a word is one of which further words are kept as they are read: table, append, insert, open or query
 unfoldable pub grows : List ℕ → Bool

@@ -2,11 +2,11 @@
 use Rattle.std.specs.Prelude.{◌≡◌, ◌⊎◌, ◌↔◌, ℕ, List, [], ◌∷◌, ◌++◌, codes, Option, Some, None, IsTrue, ℤ, pos, neg_ℤ}
 use Rattle.std.specs.Str.Parse.{digits_value}
 use Rattle.table_model.specs.State.{Cells, Batch}
-use Rattle.script_lines.specs.Word.{is_numeral, rows_of}
+use Rattle.script_lines.specs.Word.{is_numeral, value_digits, rows_of}
 
--- a number: 1 to 30 digits, in base ten
+-- a number: 1 to value_digits digits, in base ten
 abbrev pub SpellsNumber : List ℕ → ℕ → Type 0
-SpellsNumber text n = IsTrue (is_numeral 30 text) × (digits_value 10 text ≡ n)
+SpellsNumber text n = IsTrue (is_numeral value_digits text) × (digits_value 10 text ≡ n)
 
 -- a value: NULL, or a number, which a minus sign may precede
 abbrev pub SpellsValue : List ℕ → Option ℤ → Type 0

@@ -8,10 +8,8 @@ use Rattle.hex.specs.Hex.{decode_of}
 use Rattle.hex.specs.declared.error.FromHexError.{FromHexError}
 use Rattle.table_model.specs.State.{Cells, Batch}
 use Rattle.table_model.specs.declared.names.BatchName.{BatchName}
-use Rattle.table_model.specs.declared.schema.ColType.{ColType}
 use Rattle.segment_core.specs.declared.coding.Coding.{Coding}
 use Rattle.segment_core.specs.declared.coding.Coding.TheVariants.{For, Delta, Runs, Dict}
-use Rattle.table_model.specs.declared.schema.ColType.TheVariants.{SmallInt, Integer, BigInt}
 
 infixl 10 ◌>>=◌
 -- what comes next, where there is a first
@@ -55,13 +53,21 @@ is_numeral digits text = nat_le 1 (length text) && (nat_le (length text) digits 
 unfoldable pub number_of : ℕ → ℕ → List ℕ → Option ℕ
 number_of digits limit text = cond (is_numeral digits text) (cond (nat_le (digits_value 10 text) limit) (Some (digits_value 10 text)) None) None
 
--- a replica, an origin or a batch's number: 1 to 10 digits, at most 4,294,967,295
-abbrev pub small_number : List ℕ → Option ℕ
-small_number text = number_of 10 4294967295 text
+-- how many digits a number of 32 bits is written with at most
+abbrev pub number_digits : ℕ
+number_digits = 10
 
--- an ordinal: 1 to 5 digits, at most 65,535
+-- a replica, an origin or a batch's number: 1 to number_digits digits, at most 4,294,967,295
+abbrev pub small_number : List ℕ → Option ℕ
+small_number text = number_of number_digits 4294967295 text
+
+-- how many digits an ordinal is written with at most
+abbrev pub ordinal_digits : ℕ
+ordinal_digits = 5
+
+-- an ordinal: 1 to ordinal_digits digits, at most 65,535
 abbrev pub ordinal_of : List ℕ → Option ℕ
-ordinal_of text = number_of 5 65535 text
+ordinal_of text = number_of ordinal_digits 65535 text
 
 -- the name of a batch: an origin, a point and a number
 abbrev pub name_of : List ℕ → Option BatchName
@@ -71,16 +77,20 @@ name_of text = do
   number ← small_number parts.1
   Some (record { origin = record { 0 = origin }; number = record { 0 = number } })
 
--- 1 to 30 digits
+-- how many digits a value is written with at most, its sign apart
+abbrev pub value_digits : ℕ
+value_digits = 30
+
+-- 1 to value_digits digits
 unfoldable pub magnitude_of : List ℕ → Option ℕ
-magnitude_of text = cond (is_numeral 30 text) (Some (digits_value 10 text)) None
+magnitude_of text = cond (is_numeral value_digits text) (Some (digits_value 10 text)) None
 
 -- a number whose sign, if it has one, was taken off
 abbrev pub signed_of : List ℕ → Option (List ℕ) → Option ℤ
 signed_of text (Some digits) = option_map (λ n. neg_ℤ (pos n)) (magnitude_of digits)
 signed_of text None = option_map pos (magnitude_of text)
 
--- a whole number: an optional minus sign and 1 to 30 digits
+-- a whole number: an optional minus sign and 1 to value_digits digits
 abbrev pub integer_of : List ℕ → Option ℤ
 integer_of text = signed_of text (without 45 text)
 
@@ -106,13 +116,6 @@ rows_from (text ∷ next ∷ texts) = (without 44 text >>= opened_cells) >>= (λ
 -- rows: values in parentheses, joined by commas; so with one more comma at their head, what each closing parenthesis ends opens by a comma and a parenthesis
 abbrev pub rows_of : List ℕ → Option Batch
 rows_of text = rows_from (pieces 41 (44 ∷ text))
-
--- the type of a column
-abbrev pub type_of : List ℕ → Option ColType
-type_of text =
-    cond (bytes_eq text (codes "SMALLINT")) (Some SmallInt)
-    (cond (bytes_eq text (codes "INTEGER")) (Some Integer)
-    (cond (bytes_eq text (codes "BIGINT")) (Some BigInt) None))
 
 -- the name of a coding
 abbrev pub coding_of : List ℕ → Option Coding

@@ -1,10 +1,10 @@
 //! The columns of a line that makes a table.
-ghost use Rattle.std.specs.Prelude.{◌≡◌, ◌∷◌, ◌<◌, ◌≤◌, map, length, option_map, option_and_then, IfSome};
+ghost use Rattle.std.specs.Prelude.{◌≡◌, ◌∷◌, ◌<◌, ◌≤◌, map, option_map, option_and_then, IfSome};
 ghost use Rattle.script_lines.specs.Reading.{ReadsPart};
 ghost use Rattle.script_lines.specs.Word.{pieces};
 ghost use Rattle.script_lines.specs.Line.{columns_of, words_left, left_len};
 
-use crate::words::{column_type, cut, some_text};
+use crate::words::{cut, some_text};
 use std::alloc::Global;
 use table_model::{ColType, Refusal};
 
@@ -33,7 +33,7 @@ fn column<'a>(words: &'a str) -> Option<(&'a str, ColType, Option<&'a str>)>
     let (name, after) = cut(words, ' ')?;
     let (word, more) = first_word(after);
     let name = some_text(name)?;
-    let column_type = column_type(word)?;
+    let column_type = ColType::named(word)?;
     Some((name, column_type, more))
 }
 

@@ -14,17 +14,18 @@ pub struct TableCommand<'a> {
 
 impl<'a> Model for TableCommand<'a> {
     ghost use Rattle.std.specs.Prelude.{map, ◌≤◌};
-    ghost use Rattle.script_lines.specs.TableWords.{TableWords};
+    ghost use Rattle.script_lines.specs.TableWords.{replica_limit, TableWords};
 
     ghost Value = { TableWords };
 
     ghost view = { λ c. record { replicas = c.replicas; table = c.table.now; columns = map (λ column. (column.0.now, column.1)) c.columns.items } };
 
-    ghost invariant = { λ c. (1 ≤ c.replicas) × (c.replicas ≤ 64) };
+    ghost invariant = { λ c. (1 ≤ c.replicas) × (c.replicas ≤ replica_limit) };
 }
 
 impl<'a> TableCommand<'a> {
     ghost use Rattle.std.specs.Prelude.{◌≡◌, ◌≤◌, map};
+    ghost use Rattle.script_lines.specs.TableWords.{replica_limit};
 
     /// The command with these words, for 1 to 64 replicas. It takes no memory.
     pub fn new(
@@ -33,7 +34,7 @@ impl<'a> TableCommand<'a> {
         columns: Vec<(&'a str, ColType)>,
     ) -> TableCommand<'a>
         requires some { 1 ≤ replicas }
-        requires limit { replicas ≤ 64 }
+        requires limit { replicas ≤ replica_limit }
         ensures replicas { result.replicas ≡ replicas }
         ensures table { result.table ≡ table.now }
         ensures columns { result.columns ≡ map (λ column. (column.0.now, column.1)) columns.entry.items }
@@ -49,7 +50,7 @@ impl<'a> TableCommand<'a> {
     pub fn replicas(&self) -> usize
         ensures count { result ≡ self.now.replicas }
         ensures some { 1 ≤ result }
-        ensures limit { result ≤ 64 }
+        ensures limit { result ≤ replica_limit }
     {
         self.replicas
     }

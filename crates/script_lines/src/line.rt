@@ -1,8 +1,9 @@
 //! Lines of a script, and which commands they are.
-ghost use Rattle.std.specs.Prelude.{◌≡◌, ◌<◌, ◌≤◌, option_map, IfSome, IfErr, IsTrue};
+ghost use Rattle.std.specs.Prelude.{◌≡◌, ◌≤◌, option_map, IfSome, IfErr, IsTrue};
 ghost use Rattle.std.specs.List.{list_all};
 ghost use Rattle.script_lines.specs.Reading.{ReadsPart};
 ghost use Rattle.script_lines.specs.Line.{addressed, append_words, insert_words, delete_words, merge_words, ask_words, serve_words, take_words, recode_words, open_words, export_words, query_words, step_words, longer_step, step_line, replicas_of, table_words, table_line, words_of, is_printable, command_of, grows, MayGrow};
+ghost use Rattle.script_lines.specs.TableWords.{replica_limit};
 
 use crate::columns::columns;
 use crate::command::{Command, TableCommand};
@@ -75,7 +76,7 @@ fn table_line<'a>(alloc: Global, text: &'a str) -> Result<TableCommand<'a>, Refu
 #[tactic(auto, unfolding(crate::specs::Line::table_words))]
 fn table_words<'a>(text: &'a str) -> Option<(usize, &'a str, &'a str)>
     ensures words { option_map (λ words. (words.0, words.1.now, words.2.now)) result ≡ table_words text.now }
-    ensures count { IfSome result (λ words. (1 ≤ words.0) × (words.0 ≤ 64)) }
+    ensures count { IfSome result (λ words. (1 ≤ words.0) × (words.0 ≤ replica_limit)) }
 {
     let (replicas_word, rest) = cut(text, ' ')?;
     let count = replicas(replicas_word)?;
@@ -88,7 +89,7 @@ fn table_words<'a>(text: &'a str) -> Option<(usize, &'a str, &'a str)>
 #[tactic(auto, unfolding(crate::specs::Line::replicas_of))]
 pub(crate) fn replicas(text: &str) -> Option<usize>
     ensures value { result ≡ replicas_of text.now }
-    ensures bound { IfSome result (λ n. (1 ≤ n) × (n ≤ 64)) }
+    ensures bound { IfSome result (λ n. (1 ≤ n) × (n ≤ replica_limit)) }
 {
     let count = number(text, NUMBER_DIGITS, MAX_REPLICAS)?;
     if 1 <= count {

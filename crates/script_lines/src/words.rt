@@ -1,16 +1,16 @@
 //! Words of a line: numbers, names of batches, values and rows.
-ghost use Rattle.std.specs.Prelude.{◌≡◌, ◌<◌, ◌≤◌, ◌^◌, length, option_map, Some, IfSome, true, pos, ◌≤ℤ◌};
+ghost use Rattle.std.specs.Prelude.{◌≡◌, ◌<◌, ◌≤◌, ◌^◌, length, option_map, IfSome, true, pos, ◌≤ℤ◌};
 ghost use Rattle.std.specs.List.{list_all};
 ghost use Rattle.std.specs.Char.{is_ascii_digit};
 ghost use Rattle.std.specs.Str.Parse.{digits_value};
 ghost use Rattle.script_lines.specs.Reading.{ReadsPart};
-ghost use Rattle.script_lines.specs.Word.{cut, without, is_numeral, number_of, small_number, ordinal_of, name_of, magnitude_of, integer_of, cell_of, cells_of, opened_cells, rows_of, type_of, coding_of, some_text, file_of};
+ghost use Rattle.script_lines.specs.Word.{cut, without, is_numeral, number_of, small_number, ordinal_of, name_of, value_digits, magnitude_of, integer_of, cell_of, coding_of, some_text, file_of};
 
 use crate::file_bytes::FileBytes;
 use hex::FromHexError;
 use segment_core::Coding;
 use std::alloc::Global;
-use table_model::{BatchName, ColType, Number, Origin, Refusal, Row, Rows};
+use table_model::{BatchName, Number, Origin, Refusal};
 
 /// How many digits a number of 32 bits is written with at most.
 pub const NUMBER_DIGITS: usize = 10;
@@ -57,9 +57,9 @@ fn are_digits(text: &[u8]) -> bool
 /// The number that at most 30 digits write.
 fn digits_value(text: &[u8]) -> u128
     requires digits { list_all is_ascii_digit text.now ≡ true }
-    requires short { length text.now ≤ 30 }
+    requires short { length text.now ≤ value_digits }
     ensures value { result ≡ digits_value 10 text.now }
-    ensures bound { result < 10 ^ 30 }
+    ensures bound { result < 10 ^ value_digits }
 {
     let mut value: u128 = 0;
     for digit in text {
@@ -71,7 +71,7 @@ fn digits_value(text: &[u8]) -> u128
 /// The number that 1 to so many digits write, where it is at most the limit.
 #[tactic(auto, unfolding(crate::specs::Word::number_of, crate::specs::Word::is_numeral))]
 pub fn number(text: &str, digits: usize, limit: u128) -> Option<u128>
-    requires { digits ≤ 30 }
+    requires { digits ≤ value_digits }
     ensures value { result ≡ number_of digits limit text.now }
     ensures bound { IfSome result (λ n. n ≤ limit) }
 {
@@ -129,7 +129,7 @@ fn integer(text: &str) -> Option<i128>
 #[tactic(auto, unfolding(crate::specs::Word::magnitude_of, crate::specs::Word::is_numeral))]
 fn magnitude(text: &str) -> Option<i128>
     ensures value { result ≡ option_map pos (magnitude_of text.now) }
-    ensures bound { IfSome result (λ z. z ≤ℤ pos (10 ^ 30)) }
+    ensures bound { IfSome result (λ z. z ≤ℤ pos (10 ^ value_digits)) }
 {
     let text = text.as_bytes();
     if !is_numeral(text, VALUE_DIGITS) {
@@ -148,22 +148,6 @@ pub fn cell(text: &str) -> Option<Option<i128>>
     }
     let value = integer(text)?;
     Some(Some(value))
-}
-
-/// The type of a column.
-pub fn column_type(text: &str) -> Option<ColType>
-    ensures { result ≡ type_of text.now }
-{
-    if text == "SMALLINT" {
-        return Some(ColType::SmallInt);
-    }
-    if text == "INTEGER" {
-        return Some(ColType::Integer);
-    }
-    if text == "BIGINT" {
-        return Some(ColType::BigInt);
-    }
-    None
 }
 
 /// The coding that a word names.

@@ -2,6 +2,7 @@ use Rattle.std.proofs.Common.{◌≡◌, ◌+◌, ◌*◌, get_or, arith, ◌∙
 use Rattle.std.proofs.Math.Nat.{pow-le-pow_right}
 use Rattle.std.proofs.lemmas.Int.Digits.{digits_value_more}
 use Rattle.std.specs.Char.{digit_value}
+use Rattle.script_lines.specs.Word.{value_digits}
 use Rattle.script_lines.proofs.Numerals.{digit_at, digit_is, ten_more, room_for_ten}
 use Rattle.script_lines.proofs.words.digits_value.Goals as goal
 
@@ -25,4 +26,4 @@ loop-digit-preserved c =
 
 pub returns-clause-bound : goal.returns-clause-bound
 returns-clause-bound c =
-    let power = pow-le-pow_right {n = 10} (omega arith) {i = c.loop-digit.digit-index} {j = 30} (omega arith) in omega arith
+    let power = pow-le-pow_right {n = 10} (omega arith) {i = c.loop-digit.digit-index} {j = value_digits} (omega arith) in omega arith
