@@ -16,8 +16,9 @@ use Rattle.segment_core.proofs.PutLemmas.{slice_get-set_same, slice_get-set_othe
 use Rattle.segment_core.specs.Segment.{SegmentForm}
 use Rattle.cluster_history.specs.Cluster.{numbered}
 use Rattle.cluster_history.specs.Codings.{Become, IsPut, AreJoined, IsSent, StayIn, IsNoRecode, HeldStay, SentStay}
-use Rattle.cluster_history.specs.Run.{StepsTo, RunsKeep, CodingLaws}
-use Rattle.cluster_history.specs.Segments.{Segments, ClusterSegments, ClusterForm}
+use Rattle.cluster_history.specs.Run.{CodedStepTo, RunsKeep, CodingLaws}
+use Rattle.replica_store.specs.Segments.{Segments}
+use Rattle.cluster_history.specs.Segments.{ClusterSegments, ClusterForm}
 use Rattle.cluster_history.specs.declared.reply.Reply.{Reply}
 use Rattle.script_lines.specs.declared.step.Step.{Step}
 use Rattle.script_lines.specs.declared.step.Step.TheVariants.{Append, Insert, Delete, Merge, Ask, Serve, Take, Recode, Open, Export, Query}
@@ -79,7 +80,7 @@ held_stay old (Merge replica from) reply new other after = joined_stay old repli
 held_stay old (Ask replica) reply new other after = same_stay old.segments.stores new.stores (ap (λ (c : ClusterSegments). c.stores) after)
 held_stay old (Serve replica message) reply new other after = same_stay old.segments.stores new.stores (ap (λ (c : ClusterSegments). c.stores) after.4)
 held_stay old (Take replica message) reply new other after = joined_stay old replica after.0 new after.2
-held_stay old (Recode replica name column vector coding) reply new other after = absurd (other replica column vector name coding refl)
+held_stay old (Recode replica name column vector coding) reply new other after = absurd other
 held_stay old (Open replica file) reply new other after = joined_stay old replica after.1 new after.4
 held_stay old (Export replica) reply new other after = same_stay old.segments.stores new.stores (ap (λ (c : ClusterSegments). c.stores) after)
 held_stay old (Query replica sql) reply new other after = same_stay old.segments.stores new.stores (ap (λ (c : ClusterSegments). c.stores) after)
@@ -111,7 +112,7 @@ stay_then xs ys zs first then at held has =
     let last = then at mid.0 mid.1 in
     (last.0, last.1, λ name s e. last.2 name s (mid.2 name s e))
 
-step_stays : (old mid : ClusterForm) (step : Step) (reply : Reply) → IsNoRecode step → StepsTo old step reply mid
+step_stays : (old mid : ClusterForm) (step : Step) (reply : Reply) → IsNoRecode step → CodedStepTo old step reply mid
     → StayIn old.segments.stores mid.segments.stores × StayIn old.segments.messages mid.segments.messages
 step_stays old mid step reply other (inl made) = (held_stay old step reply mid.segments other made.1, sent_stay old step reply mid.segments made.1)
 step_stays old mid step reply other (inr refused) =

@@ -13,7 +13,7 @@ use Rattle.segment_core.specs.Segment.{SegmentForm, canonical_segment}
 use Rattle.segment_core.specs.declared.coding.Coding.{Coding}
 use Rattle.table_model.specs.Name.{name_cmp}
 use Rattle.replica_store.specs.Replica.{Replica, next_name, then_added, with_batch, appended, place_for, then_placed, inserted}
-use Rattle.replica_store.specs.Segments.{StoreForm, rows_in}
+use Rattle.replica_store.specs.Segments.{Segments, StoreForm, rows_in}
 use Rattle.replica_store.specs.Exchange.{SummaryForm, unlisted}
 use Rattle.replica_store.specs.declared.inserted.Inserted.{Inserted}
 use Rattle.replica_store.specs.declared.inserted.Inserted.TheVariants.{New, Already}
@@ -22,13 +22,13 @@ use Rattle.replica_store.proofs.Limits.{IsFree-next_name, IsFree-place_for}
 use Rattle.replica_store.proofs.RowsIn.{get-rows_in}
 use Rattle.column_file.specs.Files.{AreCanonicalOf, opened_from}
 use Rattle.cluster_history.specs.Cluster.{place_of, numbered}
-use Rattle.cluster_history.specs.Codings.{Become, IsPut, AreJoined, IsSent, MergesAt, SegmentsAfter}
+use Rattle.cluster_history.specs.Codings.{Become, IsPut, AreJoined, IsSent, SegmentsAfter}
 use Rattle.cluster_history.specs.Message.{listing_in}
-use Rattle.cluster_history.specs.Segments.{Segments, ClusterSegments, ClusterForm, cluster_form, segments_in, brought_by, segments_brought}
+use Rattle.cluster_history.specs.Segments.{ClusterSegments, ClusterForm, cluster_form, segments_in, brought_by, segments_brought}
 use Rattle.cluster_history.specs.declared.message.Message.{Message}
 use Rattle.cluster_history.specs.declared.reply.Reply.{Reply}
 use Rattle.cluster_history.specs.declared.reply.Reply.TheVariants.{Put}
-use Rattle.cluster_history.specs.Recoded.{RecodesAt}
+use Rattle.cluster_history.specs.ChangedStores.{MergesAt, RecodesAt}
 use Rattle.cluster_history.proofs.Apart.{at_left, at_seam}
 use Rattle.cluster_history.proofs.Opened.{opened_held}
 use Rattle.cluster_history.proofs.Recodes.{refilled, there_is}
@@ -139,7 +139,7 @@ joined_at schema stores sent replica at s new came c held made =
     ))
 
 -- a union with itself is itself
-union-self : (m : Segments) → union_of m m ≡ m
+pub union-self : (m : Segments) → union_of m m ≡ m
 union-self m = same_maps (union_of m m) m (λ q. get-union m m q ∙ or_else-idempotent (finite.get m q))
 
 -- a merge with itself leaves all

@@ -157,7 +157,7 @@ merge_kept table sets messages (Some at) (Some from) reply new agree e =
     ] refl e
 
 -- a question leaves the cluster
-asked_leaves : (c : ClusterParts) (question : Table → State → Result Reply Refusal) (o : Option ℕ) → (answered (asked_place c question o) c).1 ≡ c
+pub asked_leaves : (c : ClusterParts) (question : Table → State → Result Reply Refusal) (o : Option ℕ) → (answered (asked_place c question o) c).1 ≡ c
 asked_leaves c question None = refl
 asked_leaves c question (Some at) =
     elim (slice_get c.stores at) as (λ o. (answered (asked_of c question o) c).1 ≡ c) [
@@ -168,7 +168,7 @@ asked_leaves c question (Some at) =
       ]
     ]
 
-answered_ok : (c : ClusterParts) (made : Result (Reply × ClusterParts) Refusal) (done : Reply × ClusterParts) → made ≡ Ok done → (answered made c).1 ≡ c → done.1 ≡ c
+pub answered_ok : (c : ClusterParts) (made : Result (Reply × ClusterParts) Refusal) (done : Reply × ClusterParts) → made ≡ Ok done → (answered made c).1 ≡ c → done.1 ≡ c
 answered_ok c made done is leaves = let same : (answered made c).1 ≡ done.1 = ap (λ (m : Result (Reply × ClusterParts) Refusal). (answered m c).1) is in sym same ∙ leaves
 
 set_same : (stores : List Replica) (at : ℕ) (r : Replica) → slice_get stores at ≡ Some r → slice_set stores at r ≡ stores
@@ -207,7 +207,7 @@ stays_more table taken brought message agree one is = (
 )
 
 -- what has no room isn't made
-room_made : (c : ClusterParts) (made : Result (Reply × ClusterParts) Refusal) (done : Reply × ClusterParts) → where_room c made ≡ Ok done → made ≡ Ok done
+pub room_made : (c : ClusterParts) (made : Result (Reply × ClusterParts) Refusal) (done : Reply × ClusterParts) → where_room c made ≡ Ok done → made ≡ Ok done
 room_made c made done e =
     elim (nat_lt (length c.messages) message_limit) as (λ b. cond b made (Err Full) ≡ Ok done → made ≡ Ok done) [
       | true ↦ λ f. f

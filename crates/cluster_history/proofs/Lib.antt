@@ -10,6 +10,7 @@ pub mod Numbers
 pub mod Opened
 pub mod Placed
 pub mod Recodes
+pub mod RowsKept
 pub mod Runs
 pub mod Sent
 pub mod Takes

@@ -31,7 +31,7 @@ listing_of table names = record { schema = table; names = set.from_list names }
 abbrev pub offering_of : Table → List Operation → Table × State
 offering_of table ops = (table, state_of ops)
 
-numbered-map : {X Y : Type 0} (f : X → Y) (xs : List X) (number : ℕ) → numbered (map f xs) number ≡ option_map f (numbered xs number)
+pub numbered-map : {X Y : Type 0} (f : X → Y) (xs : List X) (number : ℕ) → numbered (map f xs) number ≡ option_map f (numbered xs number)
 numbered-map f xs number =
     ap (λ n. option_and_then (slice_get (map f xs)) (place_of n number)) (length-map xs f)
     ∙ elim (place_of (length xs) number) as (λ o. option_and_then (slice_get (map f xs)) o ≡ option_map f (option_and_then (slice_get xs) o)) [

@@ -13,7 +13,7 @@ use Rattle.replica_store.specs.Replica.{recoded_rows}
 use Rattle.replica_store.specs.Segments.{StoreForm, recoded_in}
 use Rattle.cluster_history.specs.Cluster.{ClusterParts, place_of, recode_step, done_reply}
 use Rattle.cluster_history.specs.Message.{Carried}
-use Rattle.cluster_history.specs.Recoded.{RecodesAt}
+use Rattle.cluster_history.specs.ChangedStores.{RecodesAt}
 use Rattle.cluster_history.specs.declared.reply.Reply.{Reply}
 use Rattle.cluster_history.specs.declared.reply.Reply.TheVariants.{Done}
 use Rattle.cluster_history.proofs.Apart.{refill}

@@ -4,14 +4,14 @@ use Rattle.std.proofs.Common.{refl, sym, ap, ◌∙◌, subst, get_or, inl, inr}
 use Rattle.std.proofs.lemmas.List.{take_more}
 use Rattle.table_model.specs.declared.refusal.Refusal.{Refusal}
 use Rattle.cluster_history.specs.Cluster.{ClusterParts}
-use Rattle.cluster_history.specs.Run.{StepsTo, StepTo, Leads, Run, answered}
+use Rattle.cluster_history.specs.Run.{CodedStepTo, StepTo, Leads, answered}
 use Rattle.cluster_history.specs.Segments.{ClusterForm}
 use Rattle.cluster_history.specs.declared.reply.Reply.{Reply}
 use Rattle.cluster_history.specs.declared.reply.Reply.TheVariants.{Refused}
 use Rattle.script_lines.specs.declared.step.Step.{Step}
 
 -- a step that is answered or refused is one of a run, codings apart
-pub step_parts : (old new : ClusterForm) (step : Step) (reply : Reply) → StepsTo old step reply new → StepTo old.parts step reply new.parts
+pub step_parts : (old new : ClusterForm) (step : Step) (reply : Reply) → CodedStepTo old step reply new → StepTo old.parts step reply new.parts
 step_parts old new step reply (inl made) = inl (ap (λ (m : Result (Reply × ClusterParts) Refusal). answered m old.parts) made.0)
 step_parts old new step reply (inr refused) =
     let same : new.parts ≡ old.parts = ap (λ (c : ClusterForm). c.parts) refused.2.0 in
@@ -19,10 +19,6 @@ step_parts old new step reply (inr refused) =
       | inl is ↦ inl (ap (λ (m : Result (Reply × ClusterParts) Refusal). answered m old.parts) is ∙ λ i. (sym refused.1 i, sym same i))
       | inr lack ↦ inr (refused.1 ∙ ap Refused lack.0, same, lack.1)
     ]
-
--- the empty run
-pub run_none : (c : ClusterParts) → Run c [] [] c
-run_none c = refl
 
 leads_more : {C : Type 0} (To : C → Step → Reply → C → Type 0) (old mid new : C) (steps : List Step) (replies : List Reply) (step : Step) (reply : Reply)
     → Leads To old steps replies mid → To mid step reply new → Leads To old (steps ++ (step ∷ [])) (replies ++ (reply ∷ [])) new

@@ -44,11 +44,6 @@ get-state_of ops n b agree h =
     let found = found-Among ops n b h in
     map.get-from_entries names_total (inserts_of ops) n ∙ found.1 ∙ ap Some (agree n found.0 b (Among-find ops n found.0 found.1) h)
 
--- and what the state has is among them
-pub Among-state_of : (ops : List Operation) (n : BatchName) (b : Batch) → map.get (state_of ops).batches n ≡ Some b → Among (Inserts n b) ops
-unfolding state_of
-Among-state_of ops n b e = Among-find ops n b (sym (map.get-from_entries names_total (inserts_of ops) n) ∙ e)
-
 agree-insert : (ops : List Operation) (name : BatchName) (rows : Batch) → AreAgreeing ops → ((b : Batch) → map.get (state_of ops).batches name ≡ Some b → b ≡ rows) → AreAgreeing (Inserts name rows ∷ ops)
 agree-insert ops name rows agree only n a b (inl e) (inl f) =
     let p = insert_parts n name a rows e in let q = insert_parts n name b rows f in p.1 ∙ sym q.1
@@ -83,7 +78,7 @@ append-takes table own ops rows name new agree e =
     ] refl e
 
 -- to put in what is there changes nothing
-insert_again : (m : map.FinMap name_cmp Batch) (name : BatchName) (rows : Batch) → map.get m name ≡ Some rows → map.insert m name rows ≡ m
+pub insert_again : (m : map.FinMap name_cmp Batch) (name : BatchName) (rows : Batch) → map.get m name ≡ Some rows → map.insert m name rows ≡ m
 insert_again m name rows has = same_maps _ _ (λ q.
     map.get-insert names_total m name rows q
     ∙ elim (eq_by_cmp name_cmp q name) as (λ b. eq_by_cmp name_cmp q name ≡ b → cond b (Some rows) (map.get m q) ≡ map.get m q) [
@@ -208,10 +203,6 @@ among-left : (op : Operation) (ops more : List Operation) → Among op ops → A
 among-left op [] more h = absurd h
 among-left op (x ∷ ops) more (inl e) = inl e
 among-left op (x ∷ ops) more (inr h) = inr (among-left op ops more h)
-
-among-right : (op : Operation) (ops more : List Operation) → Among op more → Among op (ops ++ more)
-among-right op [] more h = h
-among-right op (x ∷ ops) more h = inr (among-right op ops more h)
 
 -- both sets together: their state is the join, where they agree with each other
 state_of-append : (ops more : List Operation) → Agree (state_of ops) (state_of more) → join (state_of ops) (state_of more) ≡ state_of (more ++ ops)

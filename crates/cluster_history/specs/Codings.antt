@@ -1,18 +1,17 @@
 -- What a step that is answered makes of a cluster's segments, and so of the codings of what replicas hold and messages bring.
-use Rattle.std.specs.Prelude.{◌≡◌, ◌≢◌, ◌⊎◌, ℕ, List, [], ◌∷◌, ◌++◌, length, slice_get, slice_set, Some, None, Ok}
+use Rattle.std.specs.Prelude.{◌≡◌, ◌⊎◌, ℕ, List, [], ◌∷◌, ◌++◌, length, slice_get, slice_set, Some, None, Ok}
 use Rattle.std.specs.FinMap as finite
 use Rattle.table_model.specs.State.{Batch, union_of}
 use Rattle.table_model.specs.declared.names.BatchName.{BatchName}
 use Rattle.segment_core.specs.Segment.{SegmentForm, canonical_segment}
-use Rattle.segment_core.specs.declared.coding.Coding.{Coding}
 use Rattle.replica_store.specs.Replica.{Replica}
-use Rattle.replica_store.specs.Segments.{StoreForm, recoded_in}
+use Rattle.replica_store.specs.Segments.{Segments, recoded_in}
 use Rattle.replica_store.specs.Exchange.{SummaryForm, OfferForm, unlisted}
 use Rattle.replica_store.specs.declared.inserted.Inserted.TheVariants.{New, Already}
 use Rattle.column_file.specs.Files.{AreCanonicalOf, canonical_read}
 use Rattle.cluster_history.specs.Cluster.{place_of, numbered}
 use Rattle.cluster_history.specs.Message.{listing_in}
-use Rattle.cluster_history.specs.Segments.{Segments, ClusterSegments, ClusterForm}
+use Rattle.cluster_history.specs.Segments.{ClusterSegments, ClusterForm}
 use Rattle.cluster_history.specs.declared.reply.Reply.{Reply}
 use Rattle.cluster_history.specs.declared.reply.Reply.TheVariants.{Named, Put}
 use Rattle.script_lines.specs.declared.step.Step.{Step}
@@ -52,11 +51,6 @@ SegmentsAfter old (Open replica file) reply new =
     (held : OfferForm) × (came : Segments) × (canonical_read file ≡ Ok held) × AreCanonicalOf held.schema held.state.batches came × AreJoined old replica came new
 SegmentsAfter old step reply new = new ≡ old.segments
 
--- the stores after the one at a place took in the batches of another: it has their segments beside its own, and the other stores stay
-abbrev pub MergesAt : List StoreForm → ℕ → ℕ → List StoreForm → Type 0
-MergesAt old place from new =
-    (s other made : StoreForm) × (slice_get old place ≡ Some s) × (slice_get old from ≡ Some other) × (new ≡ slice_set old place made) × (made.segments ≡ union_of s.segments other.segments)
-
 -- what a list of segments has is there afterwards as it was, codings included
 abbrev pub StayIn : List Segments → List Segments → Type 0
 StayIn old new =
@@ -64,7 +58,8 @@ StayIn old new =
 
 -- a step that is no recode
 abbrev pub IsNoRecode : Step → Type 0
-IsNoRecode step = (replica column vector : ℕ) (name : BatchName) (coding : Coding) → step ≢ Recode replica name column vector coding
+IsNoRecode (Recode replica name column vector coding) = ⊥
+IsNoRecode step = Unit {0}
 
 -- no step of a list is a recode
 abbrev pub AreNoRecodes : List Step → Type 0

@@ -1,7 +1,8 @@
+pub mod ChangedStores
 pub mod Cluster
 pub mod Codings
 pub mod History
 pub mod Message
-pub mod Recoded
+pub mod Rows
 pub mod Run
 pub mod Segments

@@ -32,8 +32,8 @@ ActsOn old step (Ok reply) new = (step_of old.parts step ≡ Ok (reply, new.part
 ActsOn old step (Err e) new = (new ≡ old) × ((step_of old.parts step ≡ Err e) ⊎ ((e ≡ Memory) × MayLack old.parts step (step_of old.parts step)))
 
 -- a step is done, and this is its reply; or the reply is its refusal, as it has to be or because memory lacked, and nothing changed, no coding either
-abbrev pub StepsTo : ClusterForm → Step → Reply → ClusterForm → Type 0
-StepsTo old step reply new = ActsOn old step (Ok reply) new ⊎ ((e : Refusal) × (reply ≡ Refused e) × ActsOn old step (Err e) new)
+abbrev pub CodedStepTo : ClusterForm → Step → Reply → ClusterForm → Type 0
+CodedStepTo old step reply new = ActsOn old step (Ok reply) new ⊎ ((e : Refusal) × (reply ≡ Refused e) × ActsOn old step (Err e) new)
 
 -- the reply and the cluster after a step are what the step makes; or memory lacked, and nothing changed
 abbrev pub StepTo : ClusterParts → Step → Reply → ClusterParts → Type 0
@@ -53,7 +53,7 @@ Run = Leads StepTo
 
 -- a run with the codings of what is held and sent
 abbrev pub CodedRun : ClusterForm → List Step → List Reply → ClusterForm → Type 0
-CodedRun = Leads StepsTo
+CodedRun = Leads CodedStepTo
 
 -- over a run without a recode, with its refused steps and those for which memory lacked, what replicas held and what messages brought lies as it lay
 abbrev pub RunsKeep : Type 0

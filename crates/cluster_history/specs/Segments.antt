@@ -2,19 +2,14 @@
 use Rattle.std.specs.Prelude.{ℕ, List, [], map, replicate, refl}
 use Rattle.std.specs.Coded.{Coded, code_by, coded×, coded_list}
 use Rattle.std.specs.FinMap as finite
-use Rattle.table_model.specs.Name.{name_cmp, coded_name}
+use Rattle.table_model.specs.Name.{coded_name}
 use Rattle.table_model.specs.Table.{Table}
-use Rattle.segment_core.specs.Segment.{SegmentForm}
 use Rattle.segment_core.specs.SegmentCode.{coded_segment}
-use Rattle.replica_store.specs.Segments.{StoreForm}
+use Rattle.replica_store.specs.Segments.{Segments, StoreForm}
 use Rattle.cluster_history.specs.Cluster.{ClusterParts, coded_parts, replicas_in}
 use Rattle.cluster_history.specs.Message.{messages_in}
 use Rattle.cluster_history.specs.declared.message.Message.{Message}
 use Rattle.cluster_history.specs.declared.message.Message.TheVariants as kinds
-
--- the segments of batches, by name
-abbrev pub Segments : Type 0
-Segments = finite.FinMap name_cmp SegmentForm
 
 -- the segments of the batches that each replica holds and that each message brings
 pub record ClusterSegments : Type 0 where

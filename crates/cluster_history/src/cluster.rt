@@ -1,13 +1,14 @@
 //! Clusters: a table at replicas and the messages between them, both numbered from 1.
-ghost use Rattle.std.specs.Prelude.{◌≡◌, ◌≢◌, ◌<◌, ◌≤◌, ◌++◌, codes, length, IfSome, IfOk, IfErr, IsOk, OnOk, OnErr, Some, None, Ok};
+ghost use Rattle.std.specs.Prelude.{◌≡◌, ◌≢◌, ◌<◌, ◌≤◌, length, IfSome, IfOk, IfErr, IsOk, OnOk, OnErr, Some, None, Ok};
 ghost use Rattle.std.specs.FinMap as map;
 ghost use Rattle.table_model.specs.Outcome.{Acts, Gives};
+ghost use Rattle.script_lines.specs.TableWords.{replica_limit};
 ghost use Rattle.cluster_history.specs.Cluster.{new_cluster, new_replicas, replicas_in, empty_replica, place_of, with_message, merged_in, message_limit};
 ghost use Rattle.cluster_history.specs.Message.{carried, messages_in};
-ghost use Rattle.cluster_history.specs.Recoded.{RecodesAt};
-ghost use Rattle.cluster_history.specs.Run.{ActsOn, StepsTo};
+ghost use Rattle.cluster_history.specs.ChangedStores.{MergesAt, RecodesAt};
+ghost use Rattle.cluster_history.specs.Run.{ActsOn, CodedStepTo};
 ghost use Rattle.cluster_history.specs.Segments.{brought_by, new_segments, segments_in, segments_brought};
-ghost use Rattle.cluster_history.specs.Codings.{IsSent, MergesAt};
+ghost use Rattle.cluster_history.specs.Codings.{IsSent};
 
 use crate::files::{exported, opened};
 use crate::message::{Message, offer_at, summary_at};
@@ -49,7 +50,7 @@ impl Cluster {
     #[tactic(auto, unfolding(crate::specs::Cluster::new_cluster))]
     pub fn new(alloc: Global, schema: &Schema, replicas: usize) -> Result<Cluster, Refusal>
         requires some { 1 ≤ replicas }
-        requires limit { replicas ≤ 64 }
+        requires limit { replicas ≤ replica_limit }
         ensures parts { Gives (λ cluster. cluster.parts) result (Ok (new_cluster schema.now replicas)) }
         ensures segments { IfOk result (λ cluster. cluster.segments ≡ new_segments replicas) }
     {
@@ -293,7 +294,7 @@ impl Cluster {
 
     /// The reply to a step; a refusal is a reply too.
     pub fn step(&mut self, alloc: Global, step: &Step) -> Reply
-        ensures { StepsTo self.old step.now result self.new }
+        ensures { CodedStepTo self.old step.now result self.new }
     {
         match self.act(alloc, step) {
             Ok(reply) => reply,
@@ -317,7 +318,7 @@ pub fn place_of(count: usize, number: u32) -> Option<usize>
 
 /// So many new replicas, replica i having own origin i.
 fn new_stores(alloc: Global, schema: &Schema, count: usize) -> Result<Vec<Store>, Refusal>
-    requires { count ≤ 64 }
+    requires { count ≤ replica_limit }
     ensures replicas { Gives (λ stores. replicas_in stores.items) result (Ok (new_replicas schema.now 1 count)) }
     ensures segments { IfOk result (λ stores. segments_in stores.items ≡ (new_segments count).stores) }
 {

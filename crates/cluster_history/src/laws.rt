@@ -1,5 +1,6 @@
 //! Laws of histories, each the contract of a function that does nothing.
 ghost use Rattle.cluster_history.specs.History.{HistoryLaws};
+ghost use Rattle.cluster_history.specs.Rows.{RowLaws};
 ghost use Rattle.cluster_history.specs.Run.{CodingLaws};
 
 /// What replicas take decides what they are, in whatever order and however often it came.
@@ -19,4 +20,11 @@ pub fn history_laws()
 /// lay in, whatever was appended, inserted, merged, taken or opened beside it, and whichever steps were refused.
 pub fn coding_laws()
     ensures { CodingLaws }
+{}
+
+/// The segments of a cluster have the rows of its parts: those of each replica are the batches that it holds, name by name, and
+/// those of each message the batches that it brings. So it is in a new cluster, and so it stays: after each step, whether it is
+/// done or refused, and after each run, recodes among them.
+pub fn row_laws()
+    ensures { RowLaws }
 {}

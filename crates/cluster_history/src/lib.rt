@@ -9,7 +9,7 @@ mod reply;
 mod runner;
 
 pub use cluster::Cluster;
-pub use laws::{coding_laws, history_laws};
+pub use laws::{coding_laws, history_laws, row_laws};
 pub use message::Message;
 pub use reply::Reply;
 pub use runner::run;
