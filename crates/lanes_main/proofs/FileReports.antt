@@ -1,20 +1,19 @@
 -- What is written for a file, step by step: the file is read, and the line of a check or one answer after another is written.
-use Rattle.std.proofs.Common.{◌≡◌, ◌⊎◌, inl, inr, ℕ, suc, ◌++◌, ◌+◌, ◌<◌, ◌≤◌, Bool, true, false, ◌||◌, IsTrue, List, [], ◌∷◌, length, map, drop, get_or, Option, Some, None, Result, Ok, Err, OnOk, OnErr, IfErr, refl, sym, ap, ◌∙◌, subst, append_assoc}
-use Rattle.std.proofs.lemmas.List.{append-nil, drop_more, drop_all}
+use Rattle.std.proofs.Common.{◌≡◌, inl, inr, ℕ, ◌++◌, ◌+◌, ◌<◌, Bool, true, false, ◌||◌, IsTrue, List, [], ◌∷◌, length, map, drop, get_or, Option, Some, None, Result, Ok, Err, OnOk, OnErr, IfErr, refl, sym, ap, ◌∙◌, subst, append_assoc}
+use Rattle.std.proofs.lemmas.List.{append-nil, drop_more}
 use Rattle.std.specs.Io.KnownBytes.{Appends}
 use Rattle.table_model.proofs.Written.{appends_both}
 use Rattle.table_model.specs.Answer.{AnswerParts, answer_text}
 use Rattle.table_model.specs.Counted.{one_more}
-use Rattle.table_model.specs.Faults.{AppendsFront, CountsBoth, CountsReads, CountsWrites}
+use Rattle.table_model.specs.Faults.{AppendsFront, CountsBoth, CountsReads}
 use Rattle.table_model.specs.State.{State}
 use Rattle.table_model.specs.Table.{Table}
 use Rattle.table_model.specs.declared.refusal.Refusal.{Refusal}
 use Rattle.table_model.specs.declared.refusal.Refusal.TheVariants.{Memory, ReadFault, WriteFault}
-use Rattle.replica_store.specs.Replica.{Replica}
 use Rattle.column_file.specs.Files.{checked_from}
 use Rattle.column_file.specs.Input.{Judges, is_refusal_of_reading}
-use Rattle.store_view.specs.Asked.{query_answer, is_refusal_of_query}
-use Rattle.lanes_main.specs.FileReport.{Report, no_report, refused, after_text, checked_text, checked_report, check_report, answer_report, answers_report, opened_report, is_refusal_of_answering, is_refusal_of_checking, is_refusal_of_querying, Tells, Reports}
+use Rattle.store_view.specs.Asked.{query_answer}
+use Rattle.lanes_main.specs.FileReport.{Report, no_report, refused, after_text, checked_text, checked_report, check_report, answer_report, answers_report, is_refusal_of_answering, is_refusal_of_checking, is_refusal_of_querying, Tells, Reports}
 use Rattle.lanes_main.proofs.Tellings.{appends_none}
 
 -- nothing is a front of each text
@@ -42,21 +41,6 @@ pub reading_counted : (many : Type 0) (e : Refusal) (r r' w : ℕ) → IsTrue (i
 reading_counted many ReadFault r r' w listed h = (h, refl)
 reading_counted many WriteFault r r' w listed h = let wrong : false ≡ true = listed in absurd cc
 reading_counted many other r r' w listed h = (h, refl)
-
--- the counts after a file was read and something was written
-pub writing_counted : (many : Type 0) (e : Refusal) (r r' w w' : ℕ) → IsTrue (is_refusal_of_answering e) → r' ≡ r → CountsWrites e w w' → CountsBoth many e r r' w w'
-writing_counted many ReadFault r r' w w' listed same h = let wrong : false ≡ true = listed in absurd cc
-writing_counted many WriteFault r r' w w' listed same h = (same, h)
-writing_counted many other r r' w w' listed same h = (same, h)
-
--- a query is refused so, and no writer failed
-pub asking_counted : (e : Refusal) (w : ℕ) → IsTrue (is_refusal_of_query e) → CountsWrites e w w
-asking_counted WriteFault w listed = let wrong : false ≡ true = listed in absurd cc
-asking_counted other w listed = refl
-
-pub asking_listed : (e : Refusal) → IsTrue (is_refusal_of_query e) → IsTrue (is_refusal_of_answering e)
-asking_listed WriteFault listed = refl
-asking_listed other listed = listed
 
 -- a refusal of reading a file is one of its check
 pub reading_checks : (e : Refusal) → IsTrue (is_refusal_of_reading e) → IsTrue (is_refusal_of_checking e)
@@ -102,9 +86,6 @@ pub record SoFar (before now : Option (List ℕ)) (all left : List (List ℕ)) (
   pub told : Appends before now done
   pub whole : answers_report table state all ≡ after_text done (answers_report table state left)
 
-pub so_far_none : (known : Option (List ℕ)) (all : List (List ℕ)) (table : Table) (state : State) → SoFar known known all all table state
-so_far_none known all table state = record { done = []; told = appends_none known; whole = refl }
-
 -- an answer that was written, whatever comes after it
 next_text : (a : Result AnswerParts Refusal) (rest : Report) (before now : Option (List ℕ)) → Tells (Ok tt) before now (answer_report a no_report)
     → (text : List ℕ) × Appends before now text × (answer_report a rest ≡ after_text text rest)
@@ -120,13 +101,6 @@ pub so_far_at : {X : Type 0} (text : X → List ℕ) (queries : List X) (i : ℕ
 so_far_at {X = X} text queries i d before now table state below so =
     let P : List X → Type 0 = λ left. SoFar before now (map text queries) (map text left) table state in
     subst P (drop_more queries i d below) so
-
--- none is left
-pub so_far_end : {X : Type 0} (text : X → List ℕ) (queries : List X) (i : ℕ) (before now : Option (List ℕ)) (table : Table) (state : State)
-    → length queries ≤ i → SoFar before now (map text queries) (map text (drop i queries)) table state → SoFar before now (map text queries) [] table state
-so_far_end {X = X} text queries i before now table state past so =
-    let P : List X → Type 0 = λ left. SoFar before now (map text queries) (map text left) table state in
-    subst P (drop_all i queries past) so
 
 pub so_far_next : (before now next : Option (List ℕ)) (all left : List (List ℕ)) (query : List ℕ) (table : Table) (state : State)
     → SoFar before now all (query ∷ left) table state → Tells (Ok tt) now next (answer_report (query_answer query table state) no_report) → SoFar before next all left table state
@@ -172,21 +146,6 @@ pub answers_stopped : (before now next : Option (List ℕ)) (all left : List (Li
 answers_stopped before now next all left query table state e so h =
     let P : Report → Type 0 = λ r. Tells (Err e) before next r in
     subst P (sym so.whole) (stopped (query_answer query table state) e (answers_report table state left) before now next so.done so.told h)
-
-pub answers_told : (before now : Option (List ℕ)) (all : List (List ℕ)) (table : Table) (state : State) → SoFar before now all [] table state → Tells (Ok tt) before now (answers_report table state all)
-answers_told before now all table state so =
-    let P : Report → Type 0 = λ r. Tells (Ok tt) before now r in
-    let Q : List ℕ → Type 0 = λ t. Appends before now t in
-    subst P (sym so.whole) (refl, subst Q (sym (append-nil so.done)) so.told)
-
--- the file that was read is what the report is of
-pub opened_told : {X : Type 0} (view : X → Replica) (x : X) (meaning : List ℕ → Result Replica Refusal) (input before now : Option (List ℕ)) (queries : List (List ℕ)) (result : Result (Unit {0}) Refusal)
-    → Judges view (Ok x) input meaning → Tells result before now (answers_report (view x).schema (view x).state queries)
-    → Reports result input before now (λ bytes. opened_report queries (meaning bytes))
-opened_told view x meaning None before now queries result h told = tt
-opened_told view x meaning (Some bytes) before now queries result h told =
-    let P : Result Replica Refusal → Type 0 = λ r. Tells result before now (opened_report queries r) in
-    subst P (sym h) told
 
 pub checked_told : {X : Type 0} (view : X → ℕ × ℕ) (x : X) (input before now : Option (List ℕ)) (result : Result (Unit {0}) Refusal)
     → Judges view (Ok x) input checked_from → Tells result before now (checked_text (view x), None) → Reports result input before now check_report

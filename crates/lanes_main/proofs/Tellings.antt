@@ -1,9 +1,8 @@
 -- What was told so far, told further by each chunk that is read, answered and written.
-use Rattle.std.specs.Prelude.{◌≡◌, ◌≢◌, ℕ, ◌+◌, ◌<◌, ◌≤◌, Bool, false, cond, ◌&&◌, ◌==◌, not, List, [], ◌++◌, length, replicate, Option, Some, None}
-use Rattle.std.specs.Io.KnownBytes.{Appends, Consumes, Keeps, IsAtEnd}
+use Rattle.std.specs.Prelude.{◌≡◌, ℕ, ◌+◌, ◌<◌, ◌≤◌, List, [], ◌++◌, length, replicate, Option, Some, None}
+use Rattle.std.specs.Io.KnownBytes.{Appends, Consumes, IsAtEnd}
 use Rattle.std.proofs.Common.{refl, sym, ap, ◌∙◌, arith, append_assoc, subst, inl, inr}
 use Rattle.std.proofs.lemmas.List.{length-append, append-nil, append_cancel_right}
-use Rattle.std.proofs.lemmas.Bool.Decides.{nat_tests}
 use Rattle.table_model.specs.Faults.{AppendsFront, IsWithin, GaveMore, Failed}
 use Rattle.table_model.specs.declared.counted.TheConstants.{READ_LIMIT}
 use Rattle.table_model.proofs.Written.{appends_both}
@@ -22,12 +21,6 @@ use Rattle.lanes_main.proofs.WholeLines.{last_line, text_whole}
 pub appends_none : (known : Option (List ℕ)) → Appends known known []
 appends_none None = tt
 appends_none (Some xs) = sym (append-nil xs)
-
--- an error of a writer leaves what it holds
-pub appends_kept : (old new : Option (List ℕ)) → Keeps old new → Appends old new []
-appends_kept None new h = tt
-appends_kept (Some a) None h = absurd h
-appends_kept (Some a) (Some b) h = h ∙ sym (append-nil a)
 
 -- a script begins with nothing told
 pub told_start : (input before : Option (List ℕ)) → Sofar input input before before None [] 0
@@ -146,13 +139,6 @@ gave_within (Some xs) (Some ys) before now cluster part total h end within =
     let lengths : length xs ≡ length h.0 + length ys = ap length h.2 ∙ length-append h.0 ys in
     let none : length ys ≡ 0 = ap length end in
     omega (arith, h.3)
-
--- a reader that failed has what it had
-pub told_kept : (input rest rest' before now : Option (List ℕ)) (cluster : Option ClusterParts) (part : List ℕ) (total : ℕ) → Sofar input rest before now cluster part total → Keeps rest rest' → Sofar input rest' before now cluster part total
-told_kept None rest rest' before now cluster part total h kept = tt
-told_kept (Some xs) None rest' before now cluster part total h kept = absurd h
-told_kept (Some xs) (Some ys) None before now cluster part total h kept = absurd kept
-told_kept (Some xs) (Some ys) (Some zs) before now cluster part total h kept = let P : List ℕ → Type 0 = λ r. Sofar (Some xs) (Some r) before now cluster part total in subst P (sym kept) h
 
 -- whatever session it was read into, what was told is the replies to the whole lines: a line past the limit that follows is refused by all alike
 pinned : (read done : List ℕ) (cluster : Option ClusterParts) (part : List ℕ) (n : ℕ) → line_limit < n

@@ -11,7 +11,7 @@ mod querying;
 mod reply_format;
 mod session;
 
-pub use cluster_history::{Cluster, Message, Reply, coding_laws, history_laws, run};
+pub use cluster_history::{Cluster, Message, Reply, coding_laws, history_laws, row_laws, run};
 pub use file_check::check_file;
 pub use interpreter::{script, script_with_notes};
 pub use laws::script_laws;

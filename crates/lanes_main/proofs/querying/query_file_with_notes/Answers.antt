@@ -6,7 +6,7 @@ use Rattle.column_file.specs.Files.{opened_from}
 use Rattle.replica_store.specs.Replica.{Replica}
 use Rattle.replica_store.specs.Segments.{StoreForm}
 use Rattle.lanes_main.specs.FileReport.{queries_report, opened_report, is_refusal_of_answering, is_refusal_of_querying}
-use Rattle.lanes_main.proofs.FileReports.{reading_refused, reading_queries, reading_counted, answering_queries, writing_counted, opened_told}
+use Rattle.lanes_main.proofs.FileReports.{reading_refused, reading_queries, reading_counted, answering_queries}
 use Rattle.lanes_main.proofs.querying.query_file_with_notes.Goals as goal
 
 pub returns-in_err-store-clause-told : goal.returns-in_err-store-clause-told
