@@ -1,4 +1,5 @@
 pub mod WrapLemmas
+pub mod GapLemmas
 pub mod LeastWidthLemmas
 pub mod BitLemmas
 pub mod SixteenLemmas

@@ -1,7 +1,7 @@
 -- A value that lies within one word is a shift and a mask; one that goes on into the next is the two parts joined.
 use Rattle.std.proofs.Common.{◌≡◌, ℕ, ◌+◌, ◌-◌, ◌*◌, ◌/◌, ◌%◌, ◌^◌, ◌<◌, ◌≤◌, ◌⊎◌, inl, inr, List, map, length, get_or, replicate, max, bit_or, sym, ap, ◌∙◌, subst, arith}
 use Rattle.std.specs.Int.{bit_at}
-use Rattle.std.proofs.lemmas.Nat.{div-mul-add, mod-mul-add, div-add-mod', mod_below, pow_pos}
+use Rattle.std.proofs.lemmas.Nat.{div-mul-add, mod-mul-add, div-add-mod', mod_below, pow_pos, row_fits}
 use Rattle.std.proofs.lemmas.Nat.Bits.{bit_at_or, bit_at_above, bit_at-lt, same_from_bits_below}
 use Rattle.std.proofs.lemmas.Bool.{cases_lt}
 use Rattle.std.specs.Simd.Lanes.{zip2, Each1}
@@ -112,6 +112,12 @@ step_across t w words group step low high result positive narrow within loads mo
     let below : f i < 2 ^ t = subst (λ (n : ℕ). n < 2 ^ t) (ap (λ xs. get_or xs i 0) loads ∙ get_or-sixteen_of f i 0 near) (Each1-get_or (λ n. n < 2 ^ t) low i 0 (omega (arith, ap length loads, length-sixteen_of f)) fit) in
     ap (λ x. put x (h i)) first ∙ ap (put (get_or words (step * w / t * (1024 / t) + (16 * group + i)) 0)) second
     ∙ across_native t w words (16 * group + i) step positive narrow within (subst (λ (n : ℕ). n < 2 ^ t) first below))
+
+-- a value's bits lie among its lane's
+pub bits_within : (t w step : ℕ) → 0 < w → step < t → (step * w + w ≤ t * w) × (step * w < t * w)
+bits_within t w step positive h =
+    let all = row_fits step w t w h (omega arith) in
+    (all, omega arith)
 
 -- at width 0 each value is 0
 pub value_of_nothing : (t w : ℕ) (words : List ℕ) (lane step : ℕ) → w ≡ 0 → 0 ≡ packed_value t w words lane step

@@ -3,7 +3,6 @@ use Rattle.std.specs.Prelude.{◌≡◌, ◌<◌, ◌≤◌, ℕ, ◌+◌, ◌-�
 use Rattle.std.specs.FinMap as finite
 use Rattle.std.proofs.Common.{refl, sym, ap, subst, ◌∙◌, arith, inl, inr, get_or}
 use Rattle.std.proofs.lemmas.List.{length-map, length-append, map-append, map-set, set-append_left, set-append_right}
-use Rattle.std.proofs.lemmas.Option.{slice_get_read, slice_get-map}
 use Rattle.table_model.specs.State.{Batch, union_of}
 use Rattle.table_model.specs.Table.{Table}
 use Rattle.table_model.specs.declared.names.BatchName.{BatchName}
@@ -33,12 +32,8 @@ use Rattle.cluster_history.proofs.Apart.{at_left, at_seam}
 use Rattle.cluster_history.proofs.Opened.{opened_held}
 use Rattle.cluster_history.proofs.Recodes.{refilled, there_is}
 use Rattle.cluster_history.proofs.Takes.{ok_parts}
-use Rattle.cluster_history.proofs.Placed.{length-replicas_in, same_store, store_there}
+use Rattle.cluster_history.proofs.Placed.{length-replicas_in, same_store, store_there, found_in}
 use Rattle.script_lines.specs.declared.step.Step.TheVariants.{Insert, Merge, Recode, Open}
-
--- what is seen of each store is seen at its place
-found_in : {X : Type 0} (seen : StoreForm → X) (stores : List StoreForm) (at : ℕ) (s : StoreForm) → at < length stores → s ≡ get_or stores at s → slice_get (map seen stores) at ≡ Some (seen s)
-found_in seen stores at s below is = slice_get-map seen stores at ∙ ap (option_map seen) (slice_get_read stores (length stores) at s refl below is)
 
 -- a replica's number finds what is seen of its store
 numbered_in : {X : Type 0} (seen : StoreForm → X) (stores : List StoreForm) (replica at : ℕ) (s : StoreForm) → Some at ≡ place_of (length stores) replica → at < length stores → s ≡ get_or stores at s → numbered (map seen stores) replica ≡ Some (seen s)

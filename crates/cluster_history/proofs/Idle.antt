@@ -10,6 +10,7 @@ use Rattle.replica_store.specs.Segments.{StoreForm}
 use Rattle.cluster_history.specs.Message.{Carried}
 use Rattle.replica_store.specs.declared.inserted.Inserted.{Inserted}
 use Rattle.replica_store.specs.declared.inserted.Inserted.TheVariants.{New, Already}
+use Rattle.replica_store.proofs.Limits.{same_Ok}
 use Rattle.cluster_history.specs.Cluster.{ClusterParts, replicas_in, place_of, placed, at_replica, with_store, done_reply, stored, merged_in, merge_reply, merge_step}
 use Rattle.cluster_history.specs.declared.reply.Reply.{Reply}
 use Rattle.cluster_history.specs.declared.reply.Reply.TheVariants.{Done, Put}
@@ -20,15 +21,12 @@ use Rattle.cluster_history.proofs.Placed.{at_found, cluster_with, found, length-
 pub refused_where : {A B C D E : Type 0} → E → A × (B ⊎ (C × D)) → A × (B ⊎ (C × (D × E)))
 refused_where may acts = (acts.0, elim acts.1 [ inl refused ↦ inl refused | inr lack ↦ inr (lack.0, (lack.1, may)) ])
 
-same_pair : {X : Type 0} (x y : X) → ◌≡◌ {A = Result X Refusal} (Ok x) (Ok y) → x ≡ y
-same_pair x y is = cc
-
 put_apart : Put New ≡ Put Already → ⊥
 put_apart is = cc
 
 placed_new : (c d : ClusterParts) (at : ℕ) (made : Result (Inserted × Replica) Refusal) → ((r : Replica) → made ≢ Ok (Already, r)) → placed Put c at made ≢ Ok (Put Already, d)
 placed_new c d at (Ok (Already, r)) new is = new r refl
-placed_new c d at (Ok (New, r)) new is = put_apart (ap (λ (p : Reply × ClusterParts). p.0) (same_pair (Put New, with_store c at r) (Put Already, d) is))
+placed_new c d at (Ok (New, r)) new is = put_apart (ap (λ (p : Reply × ClusterParts). p.0) (same_Ok (Put New, with_store c at r) (Put Already, d) is))
 placed_new c d at (Err e) new is = cc
 
 put_new : (c : ClusterParts) (replica at : ℕ) (call : Replica → Result (Inserted × Replica) Refusal) (r : Replica)
@@ -52,7 +50,7 @@ abbrev as_it_was : Replica → Result (Unit {0} × Replica) Refusal
 as_it_was r = Ok (tt, r)
 
 placed_same : (c : ClusterParts) (at : ℕ) (r : Replica) (made : Result (Unit {0} × Replica) Refusal) → slice_get c.stores at ≡ Some r → placed done_reply c at made ≡ Ok (Done, c) → made ≡ as_it_was r
-placed_same c at r (Ok done) held is = ap as_it_was (written_same c.stores at r done.1 held (ap (λ (p : Reply × ClusterParts). p.1.stores) (same_pair (Done, with_store c at done.1) (Done, c) is)))
+placed_same c at r (Ok done) held is = ap as_it_was (written_same c.stores at r done.1 held (ap (λ (p : Reply × ClusterParts). p.1.stores) (same_Ok (Done, with_store c at done.1) (Done, c) is)))
 placed_same c at r (Err e) held is = cc
 
 found_same : (c : ClusterParts) (replica at : ℕ) (call : Replica → Result (Unit {0} × Replica) Refusal) (r : Replica)
@@ -68,7 +66,7 @@ call_same c schema stores messages replica at call s view is below held =
     subst Q view (λ is below. found_same (cluster_with schema stores messages) replica at call s.replica is (found stores at s (omega (arith, below, length-replicas_in stores)) held)) is below
 
 stored_same : (stores : List Replica) (at : ℕ) (r : Replica) (made : Result (Unit {0} × Replica) Refusal) → slice_get stores at ≡ Some r → stored stores at made ≡ Ok (tt, stores) → made ≡ as_it_was r
-stored_same stores at r (Ok done) held is = ap as_it_was (written_same stores at r done.1 held (ap (λ (p : Unit {0} × List Replica). p.1) (same_pair (tt, slice_set stores at done.1) (tt, stores) is)))
+stored_same stores at r (Ok done) held is = ap as_it_was (written_same stores at r done.1 held (ap (λ (p : Unit {0} × List Replica). p.1) (same_Ok (tt, slice_set stores at done.1) (tt, stores) is)))
 stored_same stores at r (Err e) held is = cc
 
 merged_same : (stores : List Replica) (at from : ℕ) (r other : Replica) → slice_get stores at ≡ Some r → slice_get stores from ≡ Some other → merged_in stores at from ≡ Ok (tt, stores) → merged r other ≡ Ok (tt, r)
@@ -89,7 +87,7 @@ back_same stores front back place from s other parts is_len before within held l
     merged_same (replicas_in stores) place from s.replica other.replica (at_head stores front back place s parts is_len within held) (in_front stores front back from other parts (omega arith) lent)
 
 reply_same : (c : ClusterParts) (made : Result (Unit {0} × List Replica) Refusal) → merge_reply c made ≡ Ok (Done, c) → made ≡ Ok (tt, c.stores)
-reply_same c (Ok done) is = ap (λ (rs : List Replica). let same : Result (Unit {0} × List Replica) Refusal = Ok (tt, rs) in same) (ap (λ (p : Reply × ClusterParts). p.1.stores) (same_pair (Done, record c { stores = done.1 }) (Done, c) is))
+reply_same c (Ok done) is = ap (λ (rs : List Replica). let same : Result (Unit {0} × List Replica) Refusal = Ok (tt, rs) in same) (ap (λ (p : Reply × ClusterParts). p.1.stores) (same_Ok (Done, record c { stores = done.1 }) (Done, c) is))
 reply_same c (Err e) is = cc
 
 -- a merge that leaves the cluster leaves its replicas

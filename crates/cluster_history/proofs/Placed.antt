@@ -1,5 +1,5 @@
 -- What a call makes of one replica, it makes of the cluster at that replica's place.
-use Rattle.std.specs.Prelude.{◌≡◌, ◌⊎◌, ℕ, zero, suc, ◌+◌, ◌<◌, List, [], ◌∷◌, ◌++◌, length, slice_get, slice_set, Some, None, option_map, Result, Ok, Err, IsOk}
+use Rattle.std.specs.Prelude.{◌≡◌, ◌⊎◌, ℕ, zero, suc, ◌+◌, ◌<◌, List, [], ◌∷◌, ◌++◌, map, length, slice_get, slice_set, Some, None, option_map, Result, Ok, Err, IsOk}
 use Rattle.std.proofs.Common.{refl, sym, ap, ◌∙◌, arith, inl, inr, add-one, get_or, subst}
 use Rattle.std.proofs.lemmas.List.{set-get_or, map-set}
 use Rattle.std.proofs.lemmas.Option.{slice_get_read, slice_get-map}
@@ -47,8 +47,12 @@ acts_refused reply c replica at call r e is held (inl refused) = inl (at_found r
 acts_refused {X = X} reply c replica at call r e is held (inr lack) =
     inr (lack.0, rw (at_found reply c replica at call r is held) (placed_ok reply c at (call r) lack.1))
 
+-- what is seen of the store at a place
+pub found_in : {X : Type 0} (seen : StoreForm → X) (stores : List StoreForm) (at : ℕ) (s : StoreForm) → at < length stores → s ≡ get_or stores at s → slice_get (map seen stores) at ≡ Some (seen s)
+found_in seen stores at s below is = slice_get-map seen stores at ∙ ap (option_map seen) (slice_get_read stores (length stores) at s refl below is)
+
 pub found : (stores : List StoreForm) (at : ℕ) (s : StoreForm) → at < length stores → s ≡ get_or stores at s → slice_get (replicas_in stores) at ≡ Some s.replica
-found stores at s below is = slice_get-map (λ (x : StoreForm). x.replica) stores at ∙ ap (option_map (λ (x : StoreForm). x.replica)) (slice_get_read stores (length stores) at s refl below is)
+found stores at s below is = found_in (λ (x : StoreForm). x.replica) stores at s below is
 
 -- as many replicas as stores
 pub length-replicas_in : (stores : List StoreForm) → length (replicas_in stores) ≡ length stores

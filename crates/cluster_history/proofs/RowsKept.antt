@@ -25,7 +25,8 @@ use Rattle.replica_store.proofs.Limits.{ok_unless, same_Ok}
 use Rattle.replica_store.proofs.MergeAnswers.{made_of}
 use Rattle.replica_store.proofs.Offers.{rows_in-unlisted}
 use Rattle.replica_store.proofs.RowsIn.{entries-rows_in, get-rows_in, rows_in-empty, rows_in-insert, rows_in-union}
-use Rattle.column_file.specs.Files.{canonical_entry, AreCanonicalOf, canonical_read}
+use Rattle.column_file.specs.Files.{AreCanonicalOf, canonical_read}
+use Rattle.column_file.proofs.FileLaws.{rows_back}
 use Rattle.cluster_history.specs.Cluster.{ClusterParts, new_cluster, new_replicas, place_of, numbered, with_store, placed, held_at, at_place, at_replica, done_reply, append_step, insert_step, delete_step, recode_step, stored, merged_pair, merged_in, merge_reply, merge_places, merge_step, with_message, ask_of, ask_step, offer_message, serve_of, serve_step, taking, take_step, opening, open_step, export_reply, export_step, query_reply, query_step, step_of}
 use Rattle.cluster_history.specs.Codings.{Become, AreJoined, IsSent, SegmentsAfter}
 use Rattle.cluster_history.specs.Message.{Carried, Listing, Offering, offering_in}
@@ -216,11 +217,7 @@ taken_alike sent messages message held came r next u alike has before e =
 
 -- canonical segments have the rows of the batches that they are of
 canonical_rows : (table : Table) (batches : Batches) (came : Segments) → AreCanonicalOf table batches came → rows_in came ≡ batches
-canonical_rows table batches came canonical = finite.same_entries_map _ _ (entries-rows_in came ∙ ap rows_entries canonical ∙ back (finite.entries batches))
-  where
-    back : (es : List (BatchName × Batch)) → rows_entries (map (canonical_entry table) es) ≡ es
-    back [] = refl
-    back (e ∷ es) = let rest = back es in λ i. e ∷ rest i
+canonical_rows table batches came canonical = finite.same_entries_map _ _ (entries-rows_in came ∙ ap rows_entries canonical ∙ rows_back table (finite.entries batches))
 
 opened_alike : (file : List ℕ) (brought : OfferForm) (held came : Segments) (r next : Replica) (u : Unit {0}) → canonical_read file ≡ Ok brought → AreCanonicalOf brought.schema brought.state.batches came
     → rows_in held ≡ batches_held r → opening (canonical_read file) r ≡ Ok (u, next) → rows_in (union_of held came) ≡ batches_held next

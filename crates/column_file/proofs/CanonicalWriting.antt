@@ -19,7 +19,7 @@ use Rattle.replica_store.specs.Segments.{Entry as Held, IsStored, rows_in, rows_
 use Rattle.replica_store.proofs.RowsIn.{entries-rows_in}
 use Rattle.column_file.specs.ContainerBytes.{Entry, entry_of, batch, batches, deleted_of, container}
 use Rattle.column_file.proofs.ContainerWriting.{batch_anywhere, batches_spelled}
-use Rattle.column_file.specs.Files.{file_of, ranges_of, canonical_entry, canonical_file, canonical_as_read, chosen, AreChosen, Exports}
+use Rattle.column_file.specs.Files.{file_of, ranges_of, canonical_entry, canonical_file, canonical_as_read, chosen, Exports}
 
 -- a canonical segment is its own canonical form
 pub canonical_itself : (s : SegmentForm) → s.forms ≡ canonical_forms (widths_in s.forms) s.rows → s ≡ canonical_again s

@@ -4,10 +4,14 @@ use Rattle.std.proofs.Math.Seq.{take-add, take-append_seam, drop-append_seam}
 use Rattle.std.proofs.lemmas.Bool.{eqb-true, eq-eqb, lt-ltb, le-ltb}
 use Rattle.std.proofs.lemmas.Bool.Decides.{nat_tests}
 use Rattle.std.proofs.lemmas.List.{append-nil, length-append, length-take-le, length-drop, drop-drop, take_more}
+use Rattle.std.proofs.Math.Bool.{and-true, and-false}
 use Rattle.column_file.specs.Comparing.{other_byte, came, IsCompared, has_differed, told}
 use Rattle.column_file.specs.Files.{first_difference}
 
-none_left : (xs : List ℕ) → first_difference xs [] ≡ 0
+pub less_is_other : (m k : ℕ) → m < k → eqb m k ≡ false
+less_is_other m k less = grind (arith, nat_tests)
+
+pub none_left : (xs : List ℕ) → first_difference xs [] ≡ 0
 none_left [] = refl
 none_left (x ∷ xs) = refl
 
@@ -119,14 +123,6 @@ came_other expected piece same d below =
 
 -- ---- whether another byte came
 
-and_true : (b : Bool) → b ≡ (b && true)
-and_true true = refl
-and_true false = refl
-
-and_false : (b : Bool) → false ≡ (b && false)
-and_false true = refl
-and_false false = refl
-
 pub none_here : (other : Option ℕ) (b : Bool) → b ≡ is_some other → b ≡ false → other ≡ None
 none_here None b is test = refl
 none_here (Some x) b is test = absurd cc
@@ -138,7 +134,7 @@ whole_is expected same None b is tells test =
     let place = place_is expected same None is in
     let long = came_long expected same None is in
     let end : eqb (first_difference expected (came expected same None)) (length (came expected same None)) ≡ true = eq-eqb _ _ (omega (arith, place, long)) in
-    ap (λ (n : ℕ). eqb n (length expected)) place ∙ and_true (eqb (first_difference expected (came expected same None)) (length expected))
+    ap (λ (n : ℕ). eqb n (length expected)) place ∙ sym (and-true (eqb (first_difference expected (came expected same None)) (length expected)))
     ∙ ap (λ (t : Bool). eqb (first_difference expected (came expected same None)) (length expected) && t) (sym end)
 
 pub not_whole : (expected : List ℕ) (same : ℕ) (other : Option ℕ) (b : Bool) → IsCompared expected same other → b ≡ is_some other → b ≡ true
@@ -148,11 +144,8 @@ not_whole expected same (Some x) b is tells test =
     let place = place_is expected same (Some x) is in
     let long = came_long expected same (Some x) is in
     let past : first_difference expected (came expected same (Some x)) < length (came expected same (Some x)) = omega (arith, place, long) in
-    and_false (eqb (first_difference expected (came expected same (Some x))) (length expected))
+    sym (and-false (eqb (first_difference expected (came expected same (Some x))) (length expected)))
     ∙ ap (λ (t : Bool). eqb (first_difference expected (came expected same (Some x))) (length expected) && t) (sym (less_is_other _ _ past))
-  where
-    less_is_other : (m n : ℕ) → m < n → eqb m n ≡ false
-    less_is_other m n below = grind (arith, nat_tests)
 
 -- it has differed exactly where a byte came that wasn't expected
 pub differed_is : (expected : List ℕ) (same : ℕ) (other : Option ℕ) (b : Bool) → IsCompared expected same other → b ≡ is_some other → b ≡ has_differed (expected, came expected same other)

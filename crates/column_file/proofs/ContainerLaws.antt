@@ -10,12 +10,10 @@ use Rattle.segment_core.specs.SegmentBytes.{batch_columns}
 use Rattle.segment_core.proofs.FormatLaws.{seen_is_lawful, checked_is_lawful, before_is_lawful, all_is_lawful}
 use Rattle.segment_core.proofs.NumberLaws.{number_is_lawful}
 use Rattle.segment_core.proofs.SegmentLaws.{batch_columns_are_lawful}
+use Rattle.segment_core.proofs.VectorLaws.{some_is}
 use Rattle.column_file.specs.SummaryBytes.{head, any_name, batch_name, name_count}
 use Rattle.column_file.specs.ContainerBytes.{one_less, row_count, Entry, name_of, batch, batches, Deleted, is_named, is_range, begins_after, range_parts, range, ranges, container}
 use Rattle.column_file.proofs.SummaryLaws.{head_is_lawful, any_name_is_lawful, batch_name_is_lawful, name_count_is_lawful}
-
-some_is : {A : Type 0} (x y : A) → Some x ≡ Some y → x ≡ y
-some_is x y e = cc
 
 one_more_is : (n rows : ℕ) → one_less rows ≡ Some n → suc n ≡ rows
 one_more_is n zero e = absurd cc

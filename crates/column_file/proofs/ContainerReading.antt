@@ -1,7 +1,6 @@
 -- The readings of the parts of a container make that of the whole.
-use Rattle.std.proofs.Common.{◌≡◌, ℕ, ◌-◌, ◌&&◌, IsTrue, List, [], ◌∷◌, ◌++◌, length, take, drop, min, Ok, All, inl, inr, sym, ap, ◌∙◌, arith}
-use Rattle.std.proofs.lemmas.List.{take-append-drop, drop_all}
-use Rattle.std.proofs.lemmas.Bool.{cases_lt}
+use Rattle.std.proofs.Common.{◌≡◌, ℕ, ◌-◌, ◌&&◌, IsTrue, List, [], ◌∷◌, ◌++◌, length, take, drop, Ok, All, sym, ap, ◌∙◌, arith}
+use Rattle.std.proofs.lemmas.List.{take-append-drop}
 use Rattle.segment_core.specs.Format.{Format, IsLawful, AreBytes}
 use Rattle.segment_core.proofs.FormatLaws.{rest_are_bytes}
 use Rattle.segment_core.proofs.SegmentLaws.{place_after}

@@ -1,11 +1,11 @@
 -- Texts that differ from another first at the same place.
 use Rattle.std.proofs.Common.{◌≡◌, ℕ, zero, suc, ◌+◌, ◌<◌, Bool, true, false, cond, eqb, List, [], ◌∷◌, ◌++◌, length, get_or, take, drop, Result, Ok, refl, sym, ap, ◌∙◌, append_assoc, arith}
 use Rattle.std.proofs.lemmas.Bool.{and_parts, eqb-true, eq-eqb}
-use Rattle.std.proofs.lemmas.List.{append-nil, length-append, take-append-drop, drop_more}
+use Rattle.std.proofs.lemmas.List.{append-nil, length-append}
 use Rattle.table_model.specs.declared.refusal.Refusal.{Refusal}
 use Rattle.segment_core.specs.Format.{Format, IsLawful, spell_all, valid_all}
 use Rattle.segment_core.proofs.FormatLaws.{ok_is}
-use Rattle.segment_core.proofs.Writings.{spell_all-append, spell_all-cons}
+use Rattle.segment_core.proofs.Writings.{spell_all-at}
 use Rattle.column_file.specs.Files.{first_difference}
 use Rattle.column_file.specs.Differing.{DifferAlike}
 
@@ -71,9 +71,8 @@ alike_from {A = A} f law x y valid_x valid_y other = λ p q r.
 spell_at : {A : Type 0} (item : List A → Format A) (xs : List A) (k : ℕ) (d : A) → k < length xs
     → spell_all item [] xs ≡ spell_all item [] (take k xs) ++ ((item (take k xs)).spell (get_or xs k d) ++ spell_all item (take k xs ++ get_or xs k d ∷ []) (drop (k + 1) xs))
 spell_at {A = A} item xs k d below =
-    ap (spell_all item []) (sym (take-append-drop k xs)) ∙ spell_all-append item [] (take k xs) (drop k xs)
-    ∙ ap (λ (t : List A). spell_all item [] (take k xs) ++ spell_all item (take k xs) t) (drop_more xs k d below)
-    ∙ ap (λ (t : List ℕ). spell_all item [] (take k xs) ++ t) (spell_all-cons item (take k xs) (get_or xs k d) (drop (k + 1) xs))
+    spell_all-at item xs k d below
+    ∙ append_assoc (spell_all item [] (take k xs)) ((item (take k xs)).spell (get_or xs k d)) (spell_all item (take k xs ++ get_or xs k d ∷ []) (drop (k + 1) xs))
 
 -- lists that are the same up to a place, where their items differ
 pub all_alike : {A : Type 0} (item : List A → Format A) (k : ℕ) (d : A) (xs ys zs : List A) → k < length xs → k < length ys → k < length zs → take k ys ≡ take k xs → take k zs ≡ take k xs

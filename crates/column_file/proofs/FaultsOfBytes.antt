@@ -1,5 +1,5 @@
 -- What reading bytes is refused as is a fault of bytes, format by format.
-use Rattle.std.proofs.Common.{◌≡◌, ℕ, zero, suc, ◌-◌, ◌/◌, ◌*◌, ◌+◌, ◌&&◌, ◌||◌, not, Bool, true, false, cond, ltb, leb, eqb, ℤ, List, [], ◌∷◌, ◌++◌, length, map, take, drop, codes, slice_index_or, Option, Some, Result, Ok, Err, IfErr, IsTrue, inl, inr, refl, subst}
+use Rattle.std.proofs.Common.{◌≡◌, ℕ, zero, suc, ◌-◌, ◌/◌, ◌*◌, ◌+◌, ◌&&◌, not, Bool, true, false, cond, ltb, leb, eqb, ℤ, List, [], ◌∷◌, ◌++◌, length, map, take, drop, codes, slice_index_or, Option, Some, Result, Ok, Err, IfErr, IsTrue, inl, inr, refl, subst}
 use Rattle.transpose_order.specs.Mask.{has}
 use Rattle.bit_interleave.specs.PackedWords.{PackedWords}
 use Rattle.run_dictionary.specs.Runs.{run_of}

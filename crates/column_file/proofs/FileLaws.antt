@@ -9,6 +9,7 @@ use Rattle.std.proofs.lemmas.Bool.{and_parts, and_from, eq-eqb, le-leb}
 use Rattle.std.proofs.lemmas.List.Elements.{All-from_recursion, recursion_from_All}
 use Rattle.std.proofs.lemmas.Bool.Decides.{nat_tests}
 use Rattle.std.proofs.lemmas.List.{map-append, length-append, length-map, append-nil}
+use Rattle.std.specs.Bool.{passes}
 use Rattle.table_model.specs.Name.{name_cmp, is_proper_name}
 use Rattle.table_model.specs.State.{State, Batch}
 use Rattle.table_model.specs.Table.{Table, IsTable, row_limit}
@@ -19,6 +20,7 @@ use Rattle.catalogue_join.specs.RowRange.{RowRange, IsRowRange, IsBefore, AreMax
 use Rattle.table_model.specs.Reading.{◌>>=◌}
 use Rattle.segment_core.specs.Format.{Format, IsLawful, constant, number, valid_all, read_whole}
 use Rattle.table_model.specs.Identifier.{same_text}
+use Rattle.table_model.proofs.Passed.{true_from_T}
 use Rattle.segment_core.specs.Segment.{widths_of, canonical_segment}
 use Rattle.segment_core.specs.SegmentBytes.{batch_columns, HasBytesIn}
 use Rattle.segment_core.proofs.BuildLemmas.{canonical_is_segment, canonical_rows}
@@ -34,7 +36,7 @@ use Rattle.column_file.specs.SummaryBytes.{version, head, any_name, proper_name,
 use Rattle.column_file.specs.ContainerBytes.{row_count, Entry, entry_of, name_of, batch, batches, Deleted, deleted_of, is_named, is_range, ends_before, begins_after, range_parts, range, ranges, container, IsFound}
 use Rattle.column_file.specs.Files.{range_of, segments_of, offer_held, offer_read, file_of, canonical_entry, canonical_file, judged, canonical_read, offer_bytes, IsNumbered, HasBatchBytes, HasFile, OpensTo, FilesOpen, FilesOpenToOne, SameFileSameState, OffersAreReadAgain}
 use Rattle.column_file.proofs.ContainerLaws.{container_is_lawful}
-use Rattle.column_file.proofs.OfferReading.{after_last, held_back, offer_is, offer_was_read, range_back, true_T}
+use Rattle.column_file.proofs.OfferReading.{after_last, held_back, offer_is, offer_was_read, range_back}
 use Rattle.column_file.proofs.Openings.{same_itself}
 use Rattle.column_file.proofs.RangeLists.{ranges_are}
 use Rattle.column_file.proofs.SchemaWriting.{table_is_valid}
@@ -151,10 +153,6 @@ head_valid magic t first table =
     let one = and_from ((number 2).valid 1) true (number_is_valid 2 1 (lit< tt)) refl in
     and_from ((constant magic BadMagic).valid magic) (((number 2).valid 1 && true) && schema.valid t) first (and_from ((number 2).valid 1 && true) (schema.valid t) one (table_is_valid t table))
 
-T_true : (b : Bool) → T b → b ≡ true
-T_true true h = refl
-T_true false h = absurd h
-
 first_start : (es : List Held) → Starts [] es
 first_start [] = tt
 first_start (e ∷ es) = refl
@@ -198,7 +196,7 @@ canonical_bytes t [] table fit numbered = tt
 canonical_bytes t (e ∷ es) table fit numbered =
     (record { found = canonical_found t e fit.0; columns = columns_valid t e table fit.0; numbered = numbered 0 e (omega arith) }, canonical_bytes t es table fit.1 (λ k d below. numbered (suc k) d (omega (arith, below))))
 
-rows_back : (t : Table) (es : List (BatchName × Batch)) → rows_entries (map (canonical_entry t) es) ≡ es
+pub rows_back : (t : Table) (es : List (BatchName × Batch)) → rows_entries (map (canonical_entry t) es) ≡ es
 rows_back t [] = refl
 rows_back t (e ∷ es) = let rest = rows_back t es in λ i. e ∷ rest i
 
@@ -216,7 +214,7 @@ file_valid t state h =
     let within = h.within in
     let limit : length (map (canonical_entry t) es) ≤ batch_limit = (let l = within.limit in omega (arith, finite.len-entries state.batches, length-map es (canonical_entry t))) in
     container_valid t (map (canonical_entry t) es) h.ranges h.schema (canonical_bytes t es h.schema within.fits h.names) limit
-    (sorted_kept t es ∙ T_true (is_sorted name_cmp es) (finite.entries_sorted state.batches)) h.maximal h.count
+    (sorted_kept t es ∙ true_from_T (is_sorted name_cmp es) (finite.entries_sorted state.batches)) h.maximal h.count
 
 pub files_open : FilesOpen
 unfolding file_of
@@ -229,7 +227,7 @@ files_open t state h =
     let ranges = ranges_are rs state.deleted (h.maximal) (h.rows) in
     let file : canonical_file t state ≡ container.spell c = ap (λ (xs : List RowRange). container.spell (t, (map entry_of items, map deleted_of xs))) ranges in
     let read : read_whole container (canonical_file t state) ≡ Ok c = ap (read_whole container) file ∙ whole_again container container_is_lawful c (file_valid t state h) in
-    let sorted : T (is_sorted name_cmp items) = true_T (is_sorted name_cmp items) (sorted_kept t es ∙ T_true (is_sorted name_cmp es) (finite.entries_sorted state.batches)) in
+    let sorted : T (is_sorted name_cmp items) = passes (is_sorted name_cmp items) (sorted_kept t es ∙ true_from_T (is_sorted name_cmp es) (finite.entries_sorted state.batches)) in
     let back = held_back t items (All-from_recursion (IsFound t) items (each_found t es within.fits)) in
     let segments : finite.entries (segments_of (map entry_of items)) ≡ items = ap (λ (xs : List Held). finite.entries (finite.from_sorted {R = name_cmp} xs)) back ∙ finite.entries-from_sorted name_cmp items sorted in
     let entries : finite.entries (rows_in (segments_of (map entry_of items))) ≡ es = entries-rows_in (segments_of (map entry_of items)) ∙ ap rows_entries segments ∙ rows_back t es in
@@ -268,7 +266,7 @@ offers_are_read_again o h =
     let offered = h.offered in
     let c : Table × (List Entry × List Deleted) = (t, (map entry_of items, map deleted_of rs)) in
     let file : offer_bytes o ≡ container.spell c = ap (λ (xs : List RowRange). container.spell (t, (map entry_of items, map deleted_of xs))) (ranges_are rs o.state.deleted h.maximal h.deleted) in
-    let valid = container_valid t items rs h.schema (recursion_from_All (HasBatchBytes t) items h.batches) offered.limit (T_true (is_sorted name_cmp items) offered.sorted) h.maximal h.count in
+    let valid = container_valid t items rs h.schema (recursion_from_All (HasBatchBytes t) items h.batches) offered.limit (true_from_T (is_sorted name_cmp items) offered.sorted) h.maximal h.count in
     let read : read_whole container (offer_bytes o) ≡ Ok c = ap (read_whole container) file ∙ whole_again container container_is_lawful c valid in
     let found : All (IsFound t) items = λ k d below. (h.batches k d below).found in
     offer_was_read (offer_bytes o) c o read (offer_is o t items rs found offered refl h.rows (sym h.deleted) refl)

@@ -1,14 +1,13 @@
 -- The first vector that isn't canonical, put into its canonical form: the bytes of the columns then differ from those that were read
 -- where those of the canonical columns do.
-use Rattle.std.proofs.Common.{◌≡◌, ℕ, ◌+◌, ◌<◌, ◌≤◌, true, eqb, List, [], ◌∷◌, map, length, get_or, set, take, slice_get, slice_index_or, Some, Option, Bool, IsTrue, ℤ, Result, Ok, Err, OnOk, IfErr, inl, inr, All, sym, ap, subst, ◌∙◌, arith}
-use Rattle.std.specs.List.{AllByRecursion}
+use Rattle.std.proofs.Common.{◌≡◌, ℕ, ◌+◌, ◌<◌, ◌≤◌, true, eqb, List, [], map, length, get_or, set, take, slice_get, slice_index_or, Some, Option, Bool, IsTrue, ℤ, Result, Ok, Err, OnOk, IfErr, inl, inr, All, sym, ap, subst, ◌∙◌, arith}
 use Rattle.std.proofs.lemmas.Bool.{and_parts, eqb-true}
 use Rattle.std.proofs.lemmas.List.{length-map, length-set, length-take-le, get_or-set_same, get_or-map, take-set, take_all, take_more_same}
 use Rattle.std.proofs.lemmas.List.Elements.{All-from_recursion}
 use Rattle.std.proofs.lemmas.Option.{slice_get_within, get_or_from_slice_get, slice_get-get_or}
 use Rattle.transpose_order.specs.Place.{IsLaneWidth}
 use Rattle.table_model.specs.Outcome.{Acts}
-use Rattle.table_model.specs.Table.{Table, ColumnShape, bits_of}
+use Rattle.table_model.specs.Table.{Table}
 use Rattle.table_model.specs.declared.refusal.Refusal.{Refusal}
 use Rattle.table_model.specs.declared.refusal.Refusal.TheVariants.{Memory}
 use Rattle.segment_core.specs.Fill.{filled}
@@ -20,11 +19,11 @@ use Rattle.segment_core.specs.SegmentBytes.{column, columns, batch_columns, HasB
 use Rattle.segment_core.specs.VectorBytes.{vector}
 use Rattle.segment_core.specs.Format.{Format, valid_all}
 use Rattle.segment_core.specs.declared.coding.Coding.{Coding}
-use Rattle.segment_core.proofs.BuildLemmas.{bits_are_lanes}
 use Rattle.segment_core.proofs.CanonicalCopies.{canonical_copy_forms}
 use Rattle.segment_core.proofs.CodedLemmas.{coding_of-least_form}
 use Rattle.segment_core.proofs.VectorLaws.{vector_is_lawful}
 use Rattle.segment_core.proofs.VectorLemmas.{length-cells_of, null_mask-cells_of}
+use Rattle.segment_core.proofs.LaneWidths.{widths_are_lanes}
 use Rattle.column_file.specs.Differing.{DifferAlike, IsFirstOther, IsFirstOtherIn, ColumnsDifferAlike}
 use Rattle.column_file.proofs.Differences.{all_alike, alike_from, valid_at}
 
@@ -59,10 +58,6 @@ recoded_is_canonical v coding is chosen =
     λ i. record { rows = sym rows i; nulls = sym nulls i; coded = least_form (coding_is i) t full }
 
 -- ---- the bytes
-
-widths_are_lanes : (shapes : List ColumnShape) → AllByRecursion (λ t. IsLaneWidth t) (map (λ (s : ColumnShape). bits_of s.column_type) shapes)
-widths_are_lanes [] = tt
-widths_are_lanes (shape ∷ shapes) = (bits_are_lanes shape.column_type, widths_are_lanes shapes)
 
 column_alike : (t rows : ℕ) (vs : List VectorForm) (k : ℕ) (v : VectorForm) → IsLaneWidth t → (column t rows).valid vs ≡ true → (column t rows).valid (set vs k (canonical_of v)) ≡ true → slice_get vs k ≡ Some v → IsFirstOther vs k
     → DifferAlike ((column t rows).spell vs) ((column t rows).spell (set vs k (canonical_of v))) ((column t rows).spell (canonical_vectors vs))

@@ -1,7 +1,6 @@
 -- The rows of a segment in lanes as wide as a table's columns fit the table.
 use Rattle.std.proofs.Common.{◌≡◌, ℕ, suc, ◌/◌, ◌%◌, ◌<◌, Bool, true, false, cond, ℤ, pos, ◌≤ℤ◌, FitsSigned, List, [], ◌∷◌, map, length, slice_get, Option, Some, None, refl, sym, subst, ◌∙◌, arith}
 use Rattle.std.specs.List.{range_with_len}
-use Rattle.std.proofs.lemmas.List.FromFn.{length-map-range_with_len}
 use Rattle.std.proofs.lemmas.Int.{ints}
 use Rattle.std.proofs.lemmas.List.Elements.{All-get_or}
 use Rattle.bit_interleave.specs.Arithmetic.{integer_width}
@@ -13,6 +12,7 @@ use Rattle.segment_core.specs.CodedVector.{VectorForm, IsVector, is_null}
 use Rattle.segment_core.specs.Segment.{cell_of, column_cell, row_of, batch_of, IsColumn, IsSegment, width_in, widths_in, widths_of}
 use Rattle.segment_core.proofs.CodedLemmas.{value_at-values_of, length-values_of, AreInRange-values_of}
 use Rattle.segment_core.proofs.CellLemmas.{width_of_vector}
+use Rattle.segment_core.proofs.SegmentLemmas.{length-batch_of}
 
 value_fits : (t : ColType) (z : ℤ) → FitsSigned (integer_width (bits_of t)) z → (least_of t ≤ℤ z) × (z ≤ℤ greatest_of t)
 value_fits SmallInt z h = (omega (arith, ints), omega (arith, ints))
@@ -55,11 +55,6 @@ rows_fit : (columns : List ColumnShape) (rows : ℕ) (forms : List (List VectorF
     → widths_in forms ≡ map (λ (column : ColumnShape). bits_of column.column_type) columns → AreRows columns (map (row_of forms) ordinals)
 rows_fit columns rows forms [] proper widths = tt
 rows_fit columns rows forms (o ∷ ordinals) proper widths = (row_fits columns rows o forms proper widths, rows_fit columns rows forms ordinals proper widths)
-
--- as many rows as are covered
-pub length-batch_of : (rows : ℕ) (forms : List (List VectorForm)) → length (batch_of rows forms) ≡ rows
-unfolding batch_of
-length-batch_of rows forms = length-map-range_with_len (row_of forms) 0 rows
 
 pub segment_fits : (table : Table) (rows : ℕ) (forms : List (List VectorForm)) → IsSegment rows forms → widths_in forms ≡ widths_of table → IsBatch table (batch_of rows forms)
 unfolding batch_of

@@ -1,5 +1,5 @@
 -- What was read of a container makes an offer.
-use Rattle.std.proofs.Common.{◌≡◌, ℕ, suc, ◌+◌, ◌-◌, ◌<◌, ◌≤◌, Bool, true, false, ◌&&◌, ◌||◌, eqb, leb, ltb, T, All, List, [], ◌∷◌, ◌++◌, map, length, get_or, take, codes, Ok, refl, sym, ap, ◌∙◌, append_assoc, arith}
+use Rattle.std.proofs.Common.{◌≡◌, ℕ, suc, ◌+◌, ◌-◌, ◌<◌, ◌≤◌, Bool, true, false, ◌&&◌, ◌||◌, eqb, leb, ltb, All, List, [], ◌∷◌, ◌++◌, map, length, get_or, take, codes, Ok, refl, sym, ap, ◌∙◌, append_assoc, arith}
 use Rattle.std.specs.List.{AllByRecursion, list_any}
 use Rattle.std.specs.Ordering.{nat_cmp, ordering_then, is_lt, eq_by_cmp}
 use Rattle.std.specs.FinMap as finite
@@ -11,6 +11,7 @@ use Rattle.std.proofs.lemmas.Bool.Decides.{nat_tests}
 use Rattle.std.proofs.lemmas.List.{map-append, length-append, length-map, take_more, append-nil}
 use Rattle.std.proofs.lemmas.List.Elements.{All-from_recursion}
 use Rattle.std.proofs.lemmas.List.Folds.{list_any-append}
+use Rattle.std.specs.Bool.{passes}
 use Rattle.table_model.specs.Name.{name_cmp, row_name_cmp}
 use Rattle.table_model.specs.Table.{Table}
 use Rattle.table_model.specs.declared.names.BatchName.{BatchName}
@@ -109,10 +110,6 @@ sorted_items t front (x ∷ items) valid =
     let v = and_parts ((batch t front).valid (entry_of x)) (valid_all (batch t) (front ++ entry_of x ∷ []) (map entry_of items)) valid in
     and_from (below_all name_cmp x.0 items) (is_sorted name_cmp items) (all_below x items (above t front (entry_of x) (map entry_of items) v.1)) (sorted_items t (front ++ entry_of x ∷ []) items v.1)
 
-pub true_T : (b : Bool) → b ≡ true → T b
-true_T true e = tt
-true_T false e = absurd cc
-
 stored_of : (t : Table) (items : List Held) → All (IsFound t) items → All (IsStored t) items
 stored_of t items found = λ k d below. let f = found k d below in f.stored
 
@@ -122,7 +119,7 @@ are_offered bytes t items ds fit is found =
     let p = container_parts bytes t (map entry_of items) ds fit is in
     let count = p.count in
     record {
-      sorted = true_T (is_sorted name_cmp items) (sorted_items t [] items p.batches);
+      sorted = passes (is_sorted name_cmp items) (sorted_items t [] items p.batches);
       limit = omega (arith, length-map items entry_of);
       stored = stored_of t items found;
     }

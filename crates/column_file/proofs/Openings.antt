@@ -1,10 +1,10 @@
 -- Whether bytes are the canonical file of what they hold, and what an open makes of them.
-use Rattle.std.proofs.Common.{◌≡◌, ◌≢◌, ℕ, suc, ◌+◌, ◌<◌, ◌≤◌, Bool, true, false, cond, ◌&&◌, eqb, All, List, [], ◌∷◌, ◌++◌, map, length, get_or, take, drop, min, Some, Result, Ok, Err, ◌⊎◌, inl, inr, refl, sym, ap, ◌∙◌, arith}
+use Rattle.std.proofs.Common.{◌≡◌, ℕ, suc, ◌+◌, ◌<◌, ◌≤◌, Bool, true, false, cond, ◌&&◌, eqb, All, List, [], ◌∷◌, ◌++◌, map, length, get_or, drop, min, Some, Result, Ok, Err, ◌⊎◌, inl, inr, refl, sym, ap, ◌∙◌, arith}
 use Rattle.std.specs.FinMap as finite
 use Rattle.std.specs.List.{list_all, zip}
 use Rattle.std.proofs.lemmas.Bool.{and_parts, and_from, eqb-true, eq-eqb, ltb-true}
-use Rattle.std.proofs.lemmas.Bool.Decides.{nat_tests}
-use Rattle.std.proofs.lemmas.List.{drop_more, drop_all, append-nil, length-append, take_more, take_all}
+use Rattle.std.proofs.lemmas.List.{drop_more, drop_all, append-nil, length-append}
+use Rattle.std.proofs.Math.Bool.{and-false}
 use Rattle.table_model.specs.Table.{Table}
 use Rattle.table_model.specs.declared.refusal.Refusal.{Refusal}
 use Rattle.table_model.specs.declared.refusal.Refusal.TheVariants.{Memory, NotCanonical, WriteFault}
@@ -20,7 +20,7 @@ use Rattle.column_file.specs.ContainerBytes.{Entry, entry_of, deleted_of, contai
 use Rattle.column_file.specs.Files.{ranges_of, canonical_as_read, canonical_file, first_difference, judged, offer_read, canonical_read, checked_from, IsCanonicalHeld, is_same_range}
 use Rattle.column_file.specs.Differing.{matched}
 use Rattle.column_file.specs.Comparing.{is_whole, has_differed, verdict, told}
-use Rattle.column_file.proofs.Comparisons.{more_after, told_apart}
+use Rattle.column_file.proofs.Comparisons.{more_after, told_apart, none_left, less_is_other}
 use Rattle.column_file.proofs.ContainerLaws.{container_is_lawful}
 use Rattle.column_file.proofs.CanonicalWriting.{canonical_spelled}
 use Rattle.column_file.proofs.FaultsOfBytes.{Judged, then_judged, offer_read_judged}
@@ -41,10 +41,6 @@ goes_on a b i d in_a in_b same so_far =
   where
     alike : (x y : ℕ) (xs ys : List ℕ) → x ≡ y → first_difference (x ∷ xs) (y ∷ ys) ≡ suc (first_difference xs ys)
     alike x y xs ys e = ap (λ (b : Bool). cond b (suc (first_difference xs ys)) 0) (eq-eqb x y e)
-
-none_left : (xs : List ℕ) → first_difference xs [] ≡ 0
-none_left [] = refl
-none_left (x ∷ xs) = refl
 
 -- one text ended
 pub ends_here : (a b : List ℕ) (i : ℕ) → i ≡ min (length a) (length b) → first_difference a b ≡ i + first_difference (drop i a) (drop i b) → i ≡ first_difference a b
@@ -172,15 +168,8 @@ matched_ends bytes text n is ends =
 
 -- ---- what a comparison that a text was written to says
 
-less_is_other : (m k : ℕ) → m < k → eqb m k ≡ false
-less_is_other m k less = grind (arith, nat_tests)
-
-and_false : (b : Bool) → (b && false) ≡ false
-and_false true = refl
-and_false false = refl
-
 no_end : (b : Bool) (m k : ℕ) → m < k → (b && eqb m k) ≡ false
-no_end b m k less = ap (λ (t : Bool). b && t) (less_is_other m k less) ∙ and_false b
+no_end b m k less = ap (λ (t : Bool). b && t) (less_is_other m k less) ∙ and-false b
 
 -- the whole text was written, and nothing else was expected
 pub whole_matched : (bytes text : List ℕ) (c : List ℕ × List ℕ) (whole : Bool) → told c ≡ told (bytes, []) ++ text

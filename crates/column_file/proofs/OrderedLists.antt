@@ -1,19 +1,21 @@
 -- The members of a set in ascending order are its one strictly ascending list.
-use Rattle.std.proofs.Common.{◌≡◌, ℕ, suc, ◌≤◌, ◌+◌, Bool, true, false, cond, ◌||◌, List, [], ◌∷◌, map, length, get_or, take, ◌<◌, is_some, T, IsTrue, All, refl, sym, ap, ◌∙◌, subst, arith}
+use Rattle.std.proofs.Common.{◌≡◌, ℕ, suc, ◌+◌, true, false, cond, ◌||◌, List, [], ◌∷◌, map, length, get_or, take, ◌<◌, is_some, IsTrue, All, refl, sym, ap, ◌∙◌, subst, arith}
 use Rattle.std.specs.List.{list_any, AllByRecursion}
 use Rattle.std.specs.List.Sorted.{IsStrictlySortedBy}
 use Rattle.std.specs.Ordering.{eq_by_cmp, is_lt}
 use Rattle.std.specs.Cmp.{IsTotalOrder, Equal-is}
 use Rattle.std.specs.declared.cmp.Ordering.{Ordering}
-use Rattle.std.specs.declared.cmp.Ordering.TheVariants.{Less, Equal, Greater}
+use Rattle.std.specs.declared.cmp.Ordering.TheVariants.{Less, Equal}
 use Rattle.std.specs.FinMap as finite
 use Rattle.std.specs.FinMap.Entries.{below_all, is_sorted, is_some-find}
 use Rattle.std.specs.FinSet as set
 use Rattle.std.proofs.lemmas.Bool.{and_parts}
 use Rattle.std.proofs.lemmas.List.{take_more}
+use Rattle.std.specs.Bool.{passes}
 use Rattle.table_model.specs.Name.{name_cmp, is_proper_name}
 use Rattle.table_model.specs.declared.names.BatchName.{BatchName}
 use Rattle.table_model.proofs.NameOrder.{names_total, exact_names}
+use Rattle.table_model.proofs.Passed.{true_from_T, less_is}
 use Rattle.catalogue_join.specs.Held.{IsListOf}
 use Rattle.column_file.specs.Ordered.{in_order}
 
@@ -21,30 +23,21 @@ each_key : {K : Type 0} (ks : List K) → map (λ (e : K × Unit {0}). e.0) (map
 each_key [] = refl
 each_key (k ∷ ks) = let rest = each_key ks in λ i. k ∷ rest i
 
-less_is : (o : Ordering) → is_lt o ≡ true → o ≡ Less
-less_is Less e = refl
-less_is Equal e = absurd cc
-less_is Greater e = absurd cc
-
 module _ {K : Type 0} (R : K → K → Ordering) (o : IsTotalOrder R) where
   above : (x : K) (es : List (K × Unit {0})) → below_all R x es ≡ true → AllByRecursion (λ y. R x y ≡ Less) (map (λ (e : K × Unit {0}). e.0) es)
   above x [] h = tt
-  above x (e ∷ es) h = let v = and_parts (is_lt (R x e.0)) (below_all R x es) h in (less_is (R x e.0) v.0, above x es v.1)
+  above x (e ∷ es) h = let v = and_parts (is_lt (R x e.0)) (below_all R x es) h in (less_is (R x e.0) (passes (is_lt (R x e.0)) v.0), above x es v.1)
 
   rising : (es : List (K × Unit {0})) → is_sorted R es ≡ true → IsStrictlySortedBy R (map (λ (e : K × Unit {0}). e.0) es)
   unfolding IsStrictlySortedBy
   rising [] h = tt
   rising (e ∷ es) h = let v = and_parts (below_all R e.0 es) (is_sorted R es) h in (above e.0 es v.0, rising es v.1)
 
-  true_of : (b : Bool) → T b → b ≡ true
-  true_of true h = refl
-  true_of false h = absurd h
-
   pub ascending-in_order : (s : set.FinSet R) → IsStrictlySortedBy R (in_order R s)
   unfolding in_order
   ascending-in_order s =
       let m = finite.from_entries {R = R} (map (λ (k : K). (k, tt {0})) (set.items s)) in
-      rising (finite.entries m) (true_of (is_sorted R (finite.entries m)) (finite.entries_sorted m))
+      rising (finite.entries m) (true_from_T (is_sorted R (finite.entries m)) (finite.entries_sorted m))
 
   pub members-in_order : (s : set.FinSet R) (q : K) → list_any (eq_by_cmp R q) (in_order R s) ≡ set.contains s q
   unfolding in_order
@@ -81,16 +74,6 @@ length-in_order held =
     sym (len-ascending (in_order name_cmp held) listed.ascending) ∙ ap set.len listed.same
 
 -- ---- the set of a list of names
-
-pub len-from_list-le : (xs : List BatchName) → set.len (set.from_list {R = name_cmp} xs) ≤ length xs
-len-from_list-le [] = omega (arith, set.len-empty name_cmp)
-len-from_list-le (x ∷ xs) =
-    let rest = len-from_list-le xs in
-    go (set.contains (set.from_list {R = name_cmp} xs) x) (set.len (set.from_list {R = name_cmp} (x ∷ xs))) (set.len (set.from_list {R = name_cmp} xs)) (length xs) (set.len-insert names_total (set.from_list xs) x) rest
-  where
-    go : (b : Bool) (m n k : ℕ) → m ≡ cond b n (n + 1) → n ≤ k → m ≤ suc k
-    go true m n k e h = omega arith
-    go false m n k e h = omega arith
 
 -- each name of the list's set is proper where those of the list are
 pub proper-from_list : (xs : List BatchName) → All (λ name. IsTrue (is_proper_name name)) xs → (q : BatchName) → IsTrue (set.contains (set.from_list {R = name_cmp} xs) q) → IsTrue (is_proper_name q)

@@ -1,7 +1,7 @@
 -- The laws of a schema in bytes.
 use Rattle.std.proofs.Common.{◌≡◌, ℕ, zero, suc, Bool, true, false, not, ◌&&◌, ◌||◌, eqb, leb, List, [], ◌∷◌, ◌++◌, map, length, Some, Ok, refl, sym, ap, ◌∙◌, append_assoc, arith}
 use Rattle.std.specs.List.{list_all, list_any}
-use Rattle.std.proofs.lemmas.Bool.{eqb-true, leb-true, and_parts, and_from}
+use Rattle.std.proofs.lemmas.Bool.{eqb-true, leb-true, and_parts, and_from, or_parts, or_from}
 use Rattle.std.proofs.lemmas.Bool.Decides.{nat_tests}
 use Rattle.std.proofs.lemmas.List.{append-nil, length-map}
 use Rattle.table_model.specs.Identifier.{folded, word_limit, is_identifier}
@@ -12,10 +12,8 @@ use Rattle.table_model.specs.declared.refusal.Refusal.TheVariants.{BadCount, Bad
 use Rattle.segment_core.specs.Format.{Format, IsLawful, is_byte, raw, number, seen, checked, before, all, valid_all}
 use Rattle.segment_core.proofs.FormatLaws.{raw_is_lawful, seen_is_lawful, checked_is_lawful, before_is_lawful, all_is_lawful}
 use Rattle.segment_core.proofs.NumberLaws.{number_is_lawful}
+use Rattle.segment_core.proofs.VectorLaws.{some_is}
 use Rattle.column_file.specs.SchemaBytes.{text, is_name, name, tag_of, is_type_tag, type_tagged, column_type, is_upper, is_new, column, column_count, schema}
-
-some_is : {A : Type 0} (x y : A) → Some x ≡ Some y → x ≡ y
-some_is x y e = cc
 
 -- ---- names
 
@@ -100,13 +98,6 @@ schema_is_lawful =
 
 -- ---- what is valid is a schema
 
-or_false : (a b : Bool) → (a || b) ≡ false → (a ≡ false) × (b ≡ false)
-or_false true b e = absurd cc
-or_false false b e = (refl, e)
-
-or_none : (a b : Bool) → a ≡ false → b ≡ false → (a || b) ≡ false
-or_none a b e f = rw (e, f) refl
-
 not_true : (b : Bool) → not b ≡ true → b ≡ false
 not_true true e = absurd cc
 not_true false e = refl
@@ -116,16 +107,16 @@ abbrev named : List ColumnShape → List (List ℕ)
 named columns = map name_of (map asked_of columns)
 
 among_push : (n : List ℕ) (front : List ColumnShape) (c : ColumnShape) → list_any (has_name n) (named front) ≡ false → has_name n c.name ≡ false → list_any (has_name n) (named (front ++ c ∷ [])) ≡ false
-among_push n [] c e f = or_none (has_name n c.name) false f refl
+among_push n [] c e f = or_from (has_name n c.name) false f refl
 among_push n (d ∷ front) c e f =
-    let parts = or_false (has_name n d.name) (list_any (has_name n) (named front)) e in
-    or_none (has_name n d.name) (list_any (has_name n) (named (front ++ c ∷ []))) parts.0 (among_push n front c parts.1 f)
+    let parts = or_parts (has_name n d.name) (list_any (has_name n) (named front)) e in
+    or_from (has_name n d.name) (list_any (has_name n) (named (front ++ c ∷ []))) parts.0 (among_push n front c parts.1 f)
 
 distinct_push : (front : List ColumnShape) (c : ColumnShape) → are_distinct (named front) ≡ true → list_any (λ (d : ColumnShape). has_name d.name c.name) front ≡ false → are_distinct (named (front ++ c ∷ [])) ≡ true
 distinct_push [] c e f = refl
 distinct_push (d ∷ front) c e f =
     let v = and_parts (not (list_any (has_name d.name) (named front))) (are_distinct (named front)) e in
-    let w = or_false (has_name d.name c.name) (list_any (λ (x : ColumnShape). has_name x.name c.name) front) f in
+    let w = or_parts (has_name d.name c.name) (list_any (λ (x : ColumnShape). has_name x.name c.name) front) f in
     let none = among_push d.name front c (not_true (list_any (has_name d.name) (named front)) v.0) w.0 in
     and_from (not (list_any (has_name d.name) (named (front ++ c ∷ [])))) (are_distinct (named (front ++ c ∷ []))) (ap not none) (distinct_push front c v.1 w.1)
 

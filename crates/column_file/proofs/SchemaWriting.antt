@@ -1,8 +1,8 @@
 -- What a schema is has bytes, and which bytes these are.
-use Rattle.std.proofs.Common.{◌≡◌, ℕ, ◌≤◌, Bool, true, false, not, ◌&&◌, ◌||◌, eqb, leb, ltb, ◌<◌, List, [], ◌∷◌, ◌++◌, map, length, All, refl, ap, ◌∙◌, append_assoc, arith, lit<}
+use Rattle.std.proofs.Common.{◌≡◌, ℕ, ◌≤◌, Bool, true, false, not, ◌&&◌, eqb, leb, ltb, ◌<◌, List, [], ◌∷◌, ◌++◌, map, length, All, refl, ap, ◌∙◌, append_assoc, arith, lit<}
 use Rattle.std.specs.Char.{to_ascii_uppercase}
 use Rattle.std.specs.List.{list_all, list_any, AllByRecursion}
-use Rattle.std.proofs.lemmas.Bool.{eq-eqb, le-leb, leb-true, ltb-true, and_parts, and_from}
+use Rattle.std.proofs.lemmas.Bool.{eq-eqb, le-leb, ltb-true, and_parts, and_from, or_parts}
 use Rattle.std.proofs.lemmas.List.Elements.{All-from_recursion}
 use Rattle.table_model.specs.Identifier.{folded, word_limit, is_word, is_word_byte, is_keyword, is_identifier}
 use Rattle.table_model.specs.Table.{Table, ColumnShape, IsTable, column_limit, has_name, are_distinct, is_named, name_of, asked_of, column_of, is_schema, folded_table}
@@ -80,14 +80,10 @@ not_true : (b : Bool) → not b ≡ true → b ≡ false
 not_true true e = absurd cc
 not_true false e = refl
 
-or_false : (a b : Bool) → (a || b) ≡ false → (a ≡ false) × (b ≡ false)
-or_false true b e = absurd cc
-or_false false b e = (refl, e)
-
 -- a column that stands further on does not have the name
 further : (n : List ℕ) (front : List ColumnShape) (c : ColumnShape) (cs : List ColumnShape) → list_any (has_name n) (named (front ++ c ∷ cs)) ≡ false → has_name n c.name ≡ false
-further n [] c cs e = (or_false (has_name n c.name) (list_any (has_name n) (named cs)) e).0
-further n (d ∷ front) c cs e = further n front c cs (or_false (has_name n d.name) (list_any (has_name n) (named (front ++ c ∷ cs))) e).1
+further n [] c cs e = (or_parts (has_name n c.name) (list_any (has_name n) (named cs)) e).0
+further n (d ∷ front) c cs e = further n front c cs (or_parts (has_name n d.name) (list_any (has_name n) (named (front ++ c ∷ cs))) e).1
 
 none_before : (front : List ColumnShape) (c : ColumnShape) (cs : List ColumnShape) → are_distinct (named (front ++ c ∷ cs)) ≡ true → list_any (λ (d : ColumnShape). has_name d.name c.name) front ≡ false
 none_before [] c cs e = refl

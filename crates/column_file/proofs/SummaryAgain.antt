@@ -1,11 +1,11 @@
 -- The bytes of a summary are read as that summary.
-use Rattle.std.proofs.Common.{◌≡◌, ◌≤◌, Bool, true, false, ◌&&◌, ◌||◌, eqb, leb, ltb, IsTrue, List, [], ◌∷◌, ◌++◌, length, codes, Ok, refl, sym, ap, ◌∙◌, arith}
+use Rattle.std.proofs.Common.{◌≡◌, ◌≤◌, true, ◌&&◌, eqb, leb, ltb, IsTrue, List, [], ◌∷◌, ◌++◌, length, codes, Ok, refl, sym, ap, ◌∙◌, arith}
 use Rattle.std.specs.List.{AllByRecursion, list_any}
 use Rattle.std.specs.List.Sorted.{IsStrictlySortedBy}
 use Rattle.std.specs.Ordering.{is_lt}
 use Rattle.std.specs.declared.cmp.Ordering.TheVariants.{Less}
 use Rattle.std.specs.FinSet as set
-use Rattle.std.proofs.lemmas.Bool.{and_parts, and_from, eq-eqb, le-leb, ltb-true}
+use Rattle.std.proofs.lemmas.Bool.{and_parts, and_from, eq-eqb, le-leb, ltb-true, or_right, or_left}
 use Rattle.table_model.specs.Name.{name_cmp, is_proper_name}
 use Rattle.table_model.specs.Table.{Table, IsTable}
 use Rattle.table_model.specs.declared.names.BatchName.{BatchName}
@@ -30,19 +30,12 @@ use Rattle.column_file.proofs.FileLaws.{head_valid, less_numbers, name_valid, wh
 abbrev IsWritten : BatchName → Type 0
 IsWritten name = IsNumbered name × (is_proper_name name ≡ true)
 
-either : (a b : Bool) → b ≡ true → (a || b) ≡ true
-either true b e = refl
-either false b e = e
-
-first_true : (a b : Bool) → a ≡ true → (a || b) ≡ true
-first_true a b e = ap (λ (x : Bool). x || b) e
-
 -- what is true of each name that is among those of a list
 each_among : (P : BatchName → Type 0) (xs : List BatchName) → ((q : BatchName) → list_any (same_name q) xs ≡ true → P q) → AllByRecursion P xs
 each_among P [] h = tt
 each_among P (x ∷ xs) h =
     let itself : same_name x x ≡ true = same_name_parts x x ∙ and_from (eqb x.origin.0 x.origin.0) (eqb x.number.0 x.number.0) (eq-eqb _ _ refl) (eq-eqb _ _ refl) in
-    (h x (first_true (same_name x x) (list_any (same_name x) xs) itself), each_among P xs (λ q e. h q (either (same_name q x) (list_any (same_name q) xs) e)))
+    (h x (or_left (same_name x x) (list_any (same_name x) xs) itself), each_among P xs (λ q e. h q (or_right (same_name q x) (list_any (same_name q) xs) e)))
 
 -- the first of the names comes after those before it
 abbrev Starts : List BatchName → List BatchName → Type 0

@@ -1,5 +1,5 @@
 -- The laws of a summary in bytes.
-use Rattle.std.proofs.Common.{◌≡◌, ◌≤◌, ℕ, true, false, eqb, leb, ltb, List, [], ◌∷◌, length, take, drop, codes, Some, Result, Ok, refl, sym, ap, ◌∙◌}
+use Rattle.std.proofs.Common.{◌≡◌, ◌≤◌, ℕ, true, false, eqb, leb, ltb, List, [], length, take, drop, codes, Some, Result, Ok, refl, sym, ap, ◌∙◌}
 use Rattle.std.proofs.lemmas.Bool.{eqb-true, le-ltb, and_parts}
 use Rattle.table_model.specs.Name.{is_proper_name}
 use Rattle.table_model.specs.Table.{Table}
@@ -8,25 +8,14 @@ use Rattle.table_model.specs.declared.refusal.Refusal.{Refusal}
 use Rattle.table_model.specs.declared.refusal.Refusal.TheVariants.{BadMagic, BadVersion, BadName, BadOrder, BadCount}
 use Rattle.segment_core.specs.Format.{Format, IsLawful, raw, number, before, all, valid_all, constant}
 use Rattle.table_model.specs.Identifier.{same_text}
+use Rattle.table_model.proofs.SameTable.{one_text}
 use Rattle.segment_core.proofs.FormatLaws.{raw_is_lawful, seen_is_lawful, checked_is_lawful, before_is_lawful, all_is_lawful}
 use Rattle.segment_core.proofs.NumberLaws.{number_is_lawful}
+use Rattle.segment_core.proofs.VectorLaws.{some_is}
 use Rattle.replica_store.specs.Replica.{batch_limit}
 use Rattle.column_file.specs.SchemaBytes.{schema}
 use Rattle.column_file.specs.SummaryBytes.{format_version, version, head, any_name, proper_name, is_after, batch_name, name_count, names, summary}
 use Rattle.column_file.proofs.SchemaLaws.{schema_is_lawful}
-
-some_is : {A : Type 0} (x y : A) → Some x ≡ Some y → x ≡ y
-some_is x y e = cc
-
-one_text : (xs ys : List ℕ) → same_text xs ys ≡ true → xs ≡ ys
-one_text [] [] e = refl
-one_text [] (y ∷ ys) e = absurd cc
-one_text (x ∷ xs) [] e = absurd cc
-one_text (x ∷ xs) (y ∷ ys) e =
-    let v = and_parts (eqb x y) (same_text xs ys) e in
-    let here = eqb-true x y v.0 in
-    let rest = one_text xs ys v.1 in
-    λ i. here i ∷ rest i
 
 version_is_lawful : IsLawful version
 unfolding version

@@ -12,10 +12,11 @@ use Rattle.segment_core.specs.Format.{Format, AreBytes, number, all, valid_all, 
 use Rattle.segment_core.proofs.FormatLaws.{bind_ok, guard_ok}
 use Rattle.replica_store.specs.Exchange.{AreListable}
 use Rattle.replica_store.specs.Replica.{batch_limit}
+use Rattle.replica_store.proofs.Summaries.{len-from_list}
 use Rattle.column_file.specs.SchemaBytes.{schema}
 use Rattle.column_file.specs.SummaryBytes.{version, head, any_name, proper_name, is_after, batch_name, name_count, names, summary}
 use Rattle.column_file.proofs.SummaryLaws.{summary_is_lawful}
-use Rattle.column_file.proofs.OrderedLists.{len-from_list-le, proper-from_list}
+use Rattle.column_file.proofs.OrderedLists.{proper-from_list}
 
 -- ---- the bytes
 
@@ -74,6 +75,6 @@ pub listable : (bytes : List ℕ) (t : Table) (xs : List BatchName) → AreBytes
 listable bytes t xs fit is =
     let h = names_read bytes t xs fit is in
     record {
-      limit = (let few = len-from_list-le xs in let limit = h.0 in omega arith);
+      limit = (let few = len-from_list xs in let limit = h.0 in omega arith);
       proper = proper-from_list xs h.1;
     }

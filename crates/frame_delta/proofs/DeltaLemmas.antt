@@ -20,8 +20,8 @@ use Rattle.bit_interleave.specs.PackedWords.{words_packing}
 use Rattle.bit_interleave.proofs.ValueLemmas.{HasWidth-words_packing}
 use Rattle.bit_interleave.proofs.WrapLemmas.{int_wrap-mod, int_wrap-bits}
 use Rattle.bit_interleave.specs.Range.{AreInRange, value_at}
+use Rattle.bit_interleave.proofs.GapLemmas.{gap_back}
 use Rattle.frame_delta.specs.Delta.{DeltaForm, sum_to, delta_of, delta_at, delta_value, delta_values, is_later, difference_at, least_difference, greatest_difference, delta_width, later_gaps, bases_of, least_delta, IsDeltaForm, AreSums}
-use Rattle.frame_delta.proofs.GapLemmas.{gap_back}
 use Rattle.frame_delta.proofs.PieceRows.{row_of_piece}
 use Rattle.frame_delta.proofs.FramedLemmas.{least_of, greatest_of, least_is_low, least_not_above, least_is_at, range_in_lane, width_in_lane, gap_has_width}
 use Rattle.frame_delta.proofs.FrameLemmas.{column_fits, packed_back}

@@ -14,8 +14,8 @@ use Rattle.bit_interleave.proofs.RoundTrip.{unpacked-packed}
 use Rattle.bit_interleave.specs.PackedWords.{words_packing}
 use Rattle.bit_interleave.proofs.ValueLemmas.{get_or-unpacked, HasWidth-words_packing}
 use Rattle.bit_interleave.specs.Range.{AreInRange, value_at}
+use Rattle.bit_interleave.proofs.GapLemmas.{gap_back}
 use Rattle.frame_delta.specs.Frame.{FrameForm, frame_value, frame_values, least_value, greatest_value, frame_width, gaps_above, least_frame, IsFrameForm}
-use Rattle.frame_delta.proofs.GapLemmas.{gap_back}
 use Rattle.frame_delta.proofs.FramedLemmas.{least_of, greatest_of, least_is_low, range_in_lane, width_in_lane, gap_has_width, least_not_above, least_is_at}
 
 pub least_value_is : (values : List ℤ) → least_value values ≡ least_of (λ _. true) (value_at values) 0

@@ -9,8 +9,9 @@ use Rattle.transpose_order.specs.Place.{IsLaneWidth}
 use Rattle.bit_interleave.specs.Arithmetic.{integer_width, least_width}
 use Rattle.bit_interleave.proofs.LeastWidthLemmas.{least_width-holds, least_width-least}
 use Rattle.bit_interleave.proofs.StepLemmas.{narrow_width}
+use Rattle.bit_interleave.proofs.GapLemmas.{gap_back, gap_within}
 use Rattle.frame_delta.specs.Extremes.{least_among, greatest_among}
-use Rattle.frame_delta.proofs.GapLemmas.{gap_back, gap_of_sum, gap_rises, gap_of_self, gap_fits, sum_stays, between_fits}
+use Rattle.frame_delta.proofs.GapLemmas.{gap_of_sum, gap_of_self, gap_fits, sum_stays, between_fits}
 use Rattle.frame_delta.proofs.ExtremeLemmas.{IsLow, IsHigh, IsOne, least_among-bound, least_among-one, least_among-unique, greatest_among-bound, greatest_among-one, greatest_among-unique}
 
 -- the f n of the n below 1024 that pass p are r plus g n, modulo two to the power of t, and m is the first that passes
@@ -127,7 +128,7 @@ least_form_is_tight t p f r g m framed least gaps =
     let top_fits : FitsSigned (integer_width t) (greatest_of p f m) = subst (λ (z : ℤ). FitsSigned (integer_width t) z) (sym top.is) (framed_fits t p f r g m framed top.place top.within top.passes) in
     let wrapped : int_wrap (integer_width t) (r +ℤ pos (int_gap (least_of p f m) (greatest_of p f m))) ≡ greatest_of p f m = ap (int_wrap (integer_width t)) sum ∙ int_wrap_fits (integer_width t) (greatest_of p f m) top_fits in
     record {
-      bound = λ n h pass. subst (λ (x : ℕ). x ≤ int_gap (least_of p f m) (greatest_of p f m)) (sym (gaps n h pass)) (gap_rises (least_of p f m) (f n) (greatest_of p f m) (low.each_bound n h pass) (high.each_bound n h pass));
+      bound = λ n h pass. subst (λ (x : ℕ). x ≤ int_gap (least_of p f m) (greatest_of p f m)) (sym (gaps n h pass)) (gap_within (least_of p f m) (least_of p f m) (f n) (greatest_of p f m) (omega (arith, ints)) (low.each_bound n h pass) (high.each_bound n h pass));
       reached_at = top.place;
       reached_within = top.within;
       reached_passes = top.passes;
@@ -160,7 +161,7 @@ width_in_lane t x width h = least_width-least x t (below_word t x width h) h
 
 pub gap_has_width : (t : ℕ) (p : ℕ → Bool) (f : ℕ → ℤ) (m n : ℕ) → IsLaneWidth t → int_gap (least_of p f m) (greatest_of p f m) < 2 ^ t → n < 1024 → p n ≡ true → int_gap (least_of p f m) (f n) < 2 ^ least_width (int_gap (least_of p f m) (greatest_of p f m))
 gap_has_width t p f m n width small h pass =
-    omega (arith, gap_rises (least_of p f m) (f n) (greatest_of p f m) ((least_is_low p f m).each_bound n h pass) ((greatest_is_high p f m).each_bound n h pass), least_width-holds (int_gap (least_of p f m) (greatest_of p f m)) (below_word t (int_gap (least_of p f m) (greatest_of p f m)) width small))
+    omega (arith, gap_within (least_of p f m) (least_of p f m) (f n) (greatest_of p f m) (omega (arith, ints)) ((least_is_low p f m).each_bound n h pass) ((greatest_is_high p f m).each_bound n h pass), least_width-holds (int_gap (least_of p f m) (greatest_of p f m)) (below_word t (int_gap (least_of p f m) (greatest_of p f m)) width small))
 
 -- no form whose reference is above none of its numbers has a smaller width
 pub no_smaller_width : (t : ℕ) (p : ℕ → Bool) (f : ℕ → ℤ) (r : ℤ) (g : ℕ → ℕ) (m w : ℕ) → IsFramed t p f r g m → ((n : ℕ) → n < 1024 → p n ≡ true → r ≤ℤ f n) → ((n : ℕ) → n < 1024 → p n ≡ true → g n < 2 ^ w) → w ≤ t → least_width (int_gap (least_of p f m) (greatest_of p f m)) ≤ w

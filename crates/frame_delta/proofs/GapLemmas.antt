@@ -1,4 +1,4 @@
--- A number is a lower one plus the gap between them, and a sum that does not fall below its first number has not wrapped.
+-- The gap between two numbers is what the one is above the other, and a sum that does not fall below its first number has not wrapped.
 use Rattle.std.proofs.Common.{◌≡◌, ℕ, ◌^◌, ◌<◌, ◌≤◌, ℤ, pos, negsuc, ◌+ℤ◌, ◌≤ℤ◌, refl, arith}
 use Rattle.std.specs.Int.{w8, w16, w32, w64, int_wrap, int_gap}
 use Rattle.std.specs.Int.RustNames.{FitsSigned}
@@ -7,23 +7,14 @@ use Rattle.transpose_order.specs.Place.{IsLaneWidth}
 use Rattle.transpose_order.proofs.WidthLemmas.{at_widths}
 use Rattle.bit_interleave.specs.Arithmetic.{integer_width}
 use Rattle.bit_interleave.proofs.WrapLemmas.{int_wrap_pos}
+use Rattle.bit_interleave.proofs.GapLemmas.{gap_back}
 
 -- ---- gaps
-pub gap_back : (r v : ℤ) → r ≤ℤ v → r +ℤ pos (int_gap r v) ≡ v
-gap_back (pos a) (pos b) h = omega (arith, ints)
-gap_back (pos a) (negsuc b) h = absurd (omega (arith, ints))
-gap_back (negsuc a) (pos b) h = omega (arith, ints)
-gap_back (negsuc a) (negsuc b) h = omega (arith, ints)
-
 pub gap_of_sum : (r v : ℤ) (g : ℕ) → v ≡ r +ℤ pos g → int_gap r v ≡ g
 gap_of_sum (pos a) (pos b) g e = omega (arith, ints)
 gap_of_sum (pos a) (negsuc b) g e = omega (arith, ints)
 gap_of_sum (negsuc a) (pos b) g e = omega (arith, ints)
 gap_of_sum (negsuc a) (negsuc b) g e = omega (arith, ints)
-
-pub gap_rises : (r v u : ℤ) → r ≤ℤ v → v ≤ℤ u → int_gap r v ≤ int_gap r u
-gap_rises r v u h k =
-    omega (arith, ints, gap_back r v h, gap_back r u (omega (arith, ints)))
 
 pub gap_of_self : (r : ℤ) → int_gap r r ≡ 0
 gap_of_self r = gap_of_sum r r 0 (omega (arith, ints))

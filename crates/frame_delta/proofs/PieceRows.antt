@@ -17,7 +17,7 @@ use Rattle.bit_interleave.proofs.PieceLemmas.{place_of-place_of, places_apart, p
 use Rattle.bit_interleave.proofs.WrapLemmas.{int_wrap-mod, int_wrap-bits}
 use Rattle.bit_interleave.specs.Range.{value_at}
 
-either : {A B C : Type 0} → A ⊎ B → (A → C) → (B → C) → C
+pub either : {A B C : Type 0} → A ⊎ B → (A → C) → (B → C) → C
 either (inl a) f g = f a
 either (inr b) f g = g b
 

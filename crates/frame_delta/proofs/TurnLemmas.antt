@@ -1,7 +1,8 @@
 -- Lanes of two pieces by turns, twice, are the lanes of four pieces by fours, which stand at neighbouring places of their rows.
-use Rattle.std.proofs.Common.{◌≡◌, ◌≢◌, ◌⊎◌, inl, inr, ℕ, ◌+◌, ◌-◌, ◌*◌, ◌/◌, ◌%◌, ◌<◌, ◌≤◌, ℤ, List, ◌++◌, length, get_or, ap, subst, ◌∙◌, arith}
+use Rattle.std.proofs.Common.{◌≡◌, ◌≢◌, ℕ, ◌+◌, ◌-◌, ◌*◌, ◌/◌, ◌%◌, ◌<◌, ◌≤◌, ℤ, List, ◌++◌, length, get_or, ap, subst, ◌∙◌, arith}
 use Rattle.std.proofs.lemmas.Bool.{cases_lt}
 use Rattle.std.proofs.lemmas.List.{get_or_append_left, get_or-append_right}
+use Rattle.frame_delta.proofs.PieceRows.{either}
 use Rattle.bit_interleave.specs.Packing.{sixteen_of}
 use Rattle.bit_interleave.specs.Range.{value_at}
 use Rattle.bit_interleave.proofs.SixteenLemmas.{get_or-sixteen_of}
@@ -21,10 +22,6 @@ part_row : (places k j m : ℕ) (w : ℕ → ℤ) (f : ℕ → ℕ) (x : List �
 part_row places k j m w f x v small near written read =
     let row : 64 * (m + 4 * j) + 4 * places + k ≡ 256 * j + 64 * ((4 * m + k) / 4) + 4 * places + (4 * m + k) % 4 = omega arith in
     ap (value_at v) row ∙ written (4 * m + k) (omega arith) ∙ ap w read
-
-either : {A B C : Type 0} → A ⊎ B → (A → C) → (B → C) → C
-either (inl a) f g = f a
-either (inr b) f g = g b
 
 -- the rows of four parts that are written one after another
 pub rows_of_parts : (places k : ℕ) (w : ℕ → ℤ) (f : ℕ → ℕ) (x0 x1 x2 x3 : List ℕ) (v1 v2 v3 v4 : List ℤ) → k < 4 → places < 16 → ((n : ℕ) → n < 16 → value_at v1 (256 * 0 + 64 * (n / 4) + 4 * places + n % 4) ≡ w (get_or x0 n 0)) → ((n : ℕ) → n < 16 → value_at v2 (256 * 1 + 64 * (n / 4) + 4 * places + n % 4) ≡ w (get_or x1 n 0)) → ((n : ℕ) → n < 16 → value_at v3 (256 * 2 + 64 * (n / 4) + 4 * places + n % 4) ≡ w (get_or x2 n 0)) → ((n : ℕ) → n < 16 → value_at v4 (256 * 3 + 64 * (n / 4) + 4 * places + n % 4) ≡ w (get_or x3 n 0)) → ((n : ℕ) → n / 256 ≢ 1 → value_at v2 n ≡ value_at v1 n) → ((n : ℕ) → n / 256 ≢ 2 → value_at v3 n ≡ value_at v2 n) → ((n : ℕ) → n / 256 ≢ 3 → value_at v4 n ≡ value_at v3 n) → ((m : ℕ) → m < 4 → get_or x0 (4 * m + k) 0 ≡ f (m + 4 * 0)) → ((m : ℕ) → m < 4 → get_or x1 (4 * m + k) 0 ≡ f (m + 4 * 1)) → ((m : ℕ) → m < 4 → get_or x2 (4 * m + k) 0 ≡ f (m + 4 * 2)) → ((m : ℕ) → m < 4 → get_or x3 (4 * m + k) 0 ≡ f (m + 4 * 3)) → (i : ℕ) → i < 16 → value_at v4 (64 * i + 4 * places + k) ≡ w (f i)

@@ -1,8 +1,9 @@
 -- A number of 64 bits is in a range exactly where it is in the part of it that 64 bits hold.
-use Rattle.std.proofs.Common.{◌≡◌, ℕ, ◌-◌, ◌^◌, ◌<◌, Bool, true, false, not, ◌&&◌, ℤ, pos, negsuc, int_lt, int_le, FitsSigned, List, sym, ap, ◌∙◌, refl, arith}
+use Rattle.std.proofs.Common.{◌≡◌, ℕ, ◌-◌, ◌^◌, ◌<◌, Bool, true, false, not, ◌&&◌, ℤ, pos, negsuc, int_lt, int_le, FitsSigned, List, sym, ap, ◌∙◌, arith}
 use Rattle.std.specs.Int.{w64}
 use Rattle.std.proofs.lemmas.Int.{ints}
 use Rattle.std.proofs.lemmas.List.Elements.{All-get_or}
+use Rattle.std.proofs.Math.Bool.{and-false, and-true}
 use Rattle.transpose_order.specs.Mask.{rows_of, has}
 use Rattle.transpose_order.specs.MaskWords.{rows_of-like, has-rows_of}
 use Rattle.bit_interleave.specs.Range.{value_at}
@@ -10,10 +11,6 @@ use Rattle.fused_kernels.specs.Seen.{LanesSeen, AreLanes, between}
 
 pub value_fits : (s : LanesSeen) (n : ℕ) → AreLanes s → n < 1024 → FitsSigned w64 (value_at s.values n)
 value_fits s n form h = All-get_or (λ v. FitsSigned w64 v) s.values n (pos 0) (omega (arith, form.long)) form.fit
-
-and_false : (b : Bool) → (b && false) ≡ false
-and_false true = refl
-and_false false = refl
 
 pub past_greatest : (low high value : ℤ) → int_lt (pos (2 ^ 63 - 1)) low ≡ true → FitsSigned w64 value → between low high value ≡ false
 past_greatest low high value past fits =
@@ -23,7 +20,7 @@ past_greatest low high value past fits =
 pub before_least : (low high value : ℤ) → int_lt high (negsuc (2 ^ 63 - 1)) ≡ true → FitsSigned w64 value → between low high value ≡ false
 before_least low high value before fits =
     let above : int_le value high ≡ false = grind (arith, ints) in
-    ap (λ b. int_le low value && b) above ∙ and_false (int_le low value)
+    ap (λ b. int_le low value && b) above ∙ and-false (int_le low value)
 
 pub low_end : (low value : ℤ) → int_lt low (negsuc (2 ^ 63 - 1)) ≡ true → FitsSigned w64 value → int_le (negsuc (2 ^ 63 - 1)) value ≡ int_le low value
 low_end low value before fits =
@@ -51,15 +48,11 @@ rows_and_not look test rows found is holds =
 -- where the test holds nowhere
 pub no_row : (look test : ℕ → Bool) → ((n : ℕ) → n < 1024 → test n ≡ false) → rows_of (λ _. false) ≡ rows_of (λ n. look n && test n)
 no_row look test none =
-    rows_of-like (λ _. false) (λ n. look n && test n) (λ n h. sym (ap (λ b. look n && b) (none n h) ∙ and_false (look n)))
+    rows_of-like (λ _. false) (λ n. look n && test n) (λ n h. sym (ap (λ b. look n && b) (none n h) ∙ and-false (look n)))
 
 pub each_row : (look test : ℕ → Bool) → ((n : ℕ) → n < 1024 → test n ≡ false) → rows_of look ≡ rows_of (λ n. look n && not (test n))
 each_row look test none =
-    rows_of-like look (λ n. look n && not (test n)) (λ n h. sym (ap (λ b. look n && not b) (none n h) ∙ and_true (look n)))
-  where
-    and_true : (b : Bool) → (b && true) ≡ b
-    and_true true = refl
-    and_true false = refl
+    rows_of-like look (λ n. look n && not (test n)) (λ n h. sym (ap (λ b. look n && not b) (none n h) ∙ and-true (look n)))
 
 -- two tests that agree choose the same rows
 pub rows_alike : (look test other : ℕ → Bool) → ((n : ℕ) → n < 1024 → test n ≡ other n) → rows_of (λ n. look n && test n) ≡ rows_of (λ n. look n && other n)

@@ -6,6 +6,7 @@ use Rattle.std.proofs.lemmas.Bool.Decides.{nat_tests}
 use Rattle.std.specs.Int.{bit_at}
 use Rattle.std.proofs.lemmas.Nat.Bits.{bit_at-zero}
 use Rattle.std.proofs.lemmas.List.{get_or-replicate}
+use Rattle.std.proofs.Math.Bool.{and-false, or-false}
 use Rattle.transpose_order.specs.Mask.{has, truth_at}
 use Rattle.transpose_order.proofs.MaskLemmas.{count_below-zero}
 use Rattle.run_dictionary.specs.Runs.{RunForm, IsRunForm, run_of, run_value}
@@ -30,11 +31,7 @@ not_in_word first end k p (inl l) h =
     ap (λ x. x && nat_lt (64 * k + p) end) before
 not_in_word first end k p (inr l) h =
     let after : nat_lt (64 * k + p) end ≡ false = grind (arith, nat_tests) in
-    ap (λ y. nat_le first (64 * k + p) && y) after ∙ and_false (nat_le first (64 * k + p))
-  where
-    and_false : (b : Bool) → (b && false) ≡ false
-    and_false true = refl
-    and_false false = refl
+    ap (λ y. nat_le first (64 * k + p) && y) after ∙ and-false (nat_le first (64 * k + p))
 
 pub at_row : (words : List ℕ) (n : ℕ) (f : ℕ → Bool) → ((k p : ℕ) → p < 64 → truth_at words (64 * k + p) ≡ f (64 * k + p)) → truth_at words n ≡ f n
 at_row words n f h =
@@ -121,11 +118,7 @@ found_more row end n test b order same = by_row (cases_lt n row) (cases_lt n end
         let y : nat_lt n row ≡ false = grind (arith, nat_tests) in
         let z : nat_lt n end ≡ true = grind (arith, nat_tests) in
         ap (λ t. (t && nat_lt n end && test) || (nat_lt n row && b)) x ∙ ap (λ t. (t && test) || (nat_lt n row && b)) z ∙ ap (λ t. test || (t && b)) y
-        ∙ or_none test ∙ sym (same l m) ∙ sym (ap (λ t. t && b) z)
-      where
-        or_none : (t : Bool) → (t || false) ≡ t
-        or_none true = refl
-        or_none false = refl
+        ∙ or-false test ∙ sym (same l m) ∙ sym (ap (λ t. t && b) z)
     by_row (inr l) (inr m) =
         let x : nat_le row n ≡ true = grind (arith, nat_tests) in
         let y : nat_lt n row ≡ false = grind (arith, nat_tests) in

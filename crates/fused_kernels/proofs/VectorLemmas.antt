@@ -16,14 +16,9 @@ use Rattle.segment_core.specs.CodedVector.{VectorForm, IsVector}
 use Rattle.segment_core.specs.declared.coded.Coded.{Coded}
 use Rattle.segment_core.specs.declared.coded.Coded.TheVariants.{For, Delta, Runs, Dict}
 use Rattle.segment_core.proofs.CodedLemmas.{length-values_of, value_at-values_of, AreInRange-values_of}
+use Rattle.segment_core.proofs.VectorLemmas.{lane_width_is}
 use Rattle.fused_kernels.specs.Seen.{AreLanes, next_of}
 use Rattle.fused_kernels.specs.VectorSeen.{piece_width, vector_seen}
-
-value_width : (c : Coded) → IsCodedForm c → IsLaneWidth (lane_width_of c)
-value_width (For form) is = is.lane_width
-value_width (Delta form) is = is.lane_width
-value_width (Runs form) is = is.lane_width
-value_width (Dict form) is = is.lane_width
 
 pub piece_width_is : (c : Coded) → IsCodedForm c → IsLaneWidth (piece_width c)
 piece_width_is (For form) is = is.lane_width
@@ -34,7 +29,7 @@ piece_width_is (Dict form) is = inr (inl refl)
 pub values_fit : (c : Coded) → IsCodedForm c → All (λ value. FitsSigned w64 value) (values_of c)
 values_fit c is =
     All-from_get_or (λ value. FitsSigned w64 value) (values_of c) (pos 0)
-    (λ n h. fits_wide (lane_width_of c) (value_at (values_of c) n) (value_width c is) (All-get_or (λ v. FitsSigned (integer_width (lane_width_of c)) v) (values_of c) n (pos 0) h (AreInRange-values_of c is)))
+    (λ n h. fits_wide (lane_width_of c) (value_at (values_of c) n) (lane_width_is c is) (All-get_or (λ v. FitsSigned (integer_width (lane_width_of c)) v) (values_of c) n (pos 0) h (AreInRange-values_of c is)))
 
 pub vector_is_lanes : (v : VectorForm) (q : ℕ) → IsVector v → AreLanes (vector_seen v q)
 vector_is_lanes v q is = record {

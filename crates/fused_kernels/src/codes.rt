@@ -9,10 +9,9 @@ ghost use Rattle.native_lanes.specs.Between.{between};
 ghost use Rattle.native_lanes.specs.Folds.{fold_to};
 ghost use Rattle.native_lanes.specs.Walks.{number_of_row};
 
-use crate::sums::raised_if;
 use native_lanes::{Walk16, lanes_of_mask_16, numbers_16, rows_between_16};
 use run_dictionary::Dict;
-use transpose_order::Mask;
+use transpose_order::{Mask, raised_if};
 
 /// The walk whose numbers are the codes of a dictionary's rows.
 fn walk_of_codes(form: &Dict) -> Walk16<'_>

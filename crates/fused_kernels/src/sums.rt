@@ -8,19 +8,7 @@ ghost use Rattle.fused_kernels.specs.Seen.{LanesSeen, AreOnlyRead, values_looked
 
 use crate::lanes::{Lanes, next_values, rows_to_look_at};
 use native_lanes::sum_of_lanes;
-use transpose_order::{Mask, place_in_word};
-
-/// How far a number is above the least of 64 bits where it is taken, else 0.
-#[inline(always)]
-pub(crate) fn raised_if(taken: bool, number: i64) -> u64
-    ensures { pos result ≡ cond taken (number +ℤ pos (2 ^ 63)) (pos 0) }
-{
-    if taken {
-        number.cast_unsigned().wrapping_add(1 << 63)
-    } else {
-        0
-    }
-}
+use transpose_order::{Mask, place_in_word, raised_if};
 
 /// How far each number of a piece is above the least of 64 bits where its row's bit is set, else 0.
 #[inline(always)]

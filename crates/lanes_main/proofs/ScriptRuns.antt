@@ -1,18 +1,16 @@
 -- Line by line: a line that asks for a step is answered by it, and each other line is refused. So the replies are a run's.
-use Rattle.std.specs.Prelude.{◌≡◌, ◌⊎◌, ℕ, ◌<◌, Bool, true, false, cond, nat_lt, List, [], ◌∷◌, ◌++◌, length, codes, Option, Some, None, IsSome, Result, Ok, Err}
+use Rattle.std.specs.Prelude.{◌≡◌, ◌⊎◌, ℕ, Bool, true, false, cond, nat_lt, List, [], ◌∷◌, ◌++◌, length, codes, Option, Some, None, Result, Ok, Err}
 use Rattle.std.specs.List.{cons_option}
 use Rattle.std.proofs.Common.{refl, sym, ap, subst, ◌∙◌, inl, inr, append_assoc}
-use Rattle.table_model.specs.Operation.{SameOperations}
 use Rattle.table_model.specs.Table.{Table, schema_of}
 use Rattle.table_model.specs.declared.refusal.Refusal.{Refusal}
 use Rattle.table_model.specs.declared.refusal.Refusal.TheVariants.{BadLine, LineTooLong}
 use Rattle.cluster_history.specs.Cluster.{ClusterParts, new_cluster, step_of}
-use Rattle.cluster_history.specs.History.{new_taken, taken_of, taken_by, replica_numbered, AreAlike}
 use Rattle.script_lines.specs.Line.{command_of}
 use Rattle.lanes_main.specs.ReplyText.{reply_text_of}
 use Rattle.cluster_history.specs.Run.{Run, answered}
-use Rattle.lanes_main.specs.Script.{line_limit, founded, first_answer, later_answer, goes_on, line_answer, line_text, after_line, lines_text, after_lines}
-use Rattle.lanes_main.specs.ScriptRun.{replies_of, cluster_after, step_in, asked_by, steps_of, unasked_text, next_text, replies_text, MakesTable, MakesOneOrNone, StepsRun, WritesReplies, EndsAsRun, SameInScripts, SameInScriptsExport, ScriptLaws}
+use Rattle.lanes_main.specs.Script.{line_limit, founded, first_answer, later_answer, line_answer, line_text, after_line, lines_text, after_lines}
+use Rattle.lanes_main.specs.ScriptRun.{replies_of, cluster_after, step_in, steps_of, next_text, replies_text, MakesTable, MakesOneOrNone, StepsRun, WritesReplies, EndsAsRun, SameInScripts, SameInScriptsExport, ScriptLaws}
 use Rattle.script_lines.specs.TableWords.{TableWords}
 use Rattle.script_lines.specs.declared.command.Command.{Command}
 use Rattle.script_lines.specs.declared.command.Command.TheVariants as commands

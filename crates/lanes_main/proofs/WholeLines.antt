@@ -1,5 +1,5 @@
 -- The lines of two texts, one after another: the first's whole lines, and then the second's, whose first one goes on with what the first had left.
-use Rattle.std.specs.Prelude.{◌≡◌, ℕ, Bool, true, false, cond, ◌==◌, List, [], ◌∷◌, ◌++◌, Option, None}
+use Rattle.std.specs.Prelude.{◌≡◌, ℕ, true, false, cond, ◌==◌, List, [], ◌∷◌, ◌++◌, None}
 use Rattle.std.proofs.Common.{refl, sym, ap, ◌∙◌}
 use Rattle.lanes_main.specs.Script.{lines_text, after_lines, all_but_last, whole_lines, onto_line, script_text, text_from}
 use Rattle.script_lines.specs.Word.{pieces, onto_first}

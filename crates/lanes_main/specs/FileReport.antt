@@ -6,7 +6,6 @@ use Rattle.table_model.specs.Answer.{AnswerParts, answer_text}
 use Rattle.table_model.specs.Faults.{AppendsFront}
 use Rattle.table_model.specs.State.{State}
 use Rattle.table_model.specs.Table.{Table}
-use Rattle.table_model.specs.declared.names.Origin.{Origin}
 use Rattle.table_model.specs.declared.refusal.Refusal.{Refusal}
 use Rattle.table_model.specs.declared.refusal.Refusal.TheVariants.{Memory, ReadFault, WriteFault}
 use Rattle.replica_store.specs.Replica.{Replica}

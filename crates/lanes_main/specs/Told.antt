@@ -1,5 +1,5 @@
 -- What a script has told its writer of what its reader gave, where readers and writers tell their bytes.
-use Rattle.std.specs.Prelude.{◌≡◌, ◌⊎◌, ℕ, ◌+◌, ◌<◌, ◌≤◌, List, ◌++◌, length, Option, Some, None}
+use Rattle.std.specs.Prelude.{◌≡◌, ℕ, ◌+◌, List, ◌++◌, length, Option, Some, None}
 use Rattle.std.specs.Io.KnownBytes.{Appends}
 use Rattle.table_model.specs.Faults.{AppendsFront}
 use Rattle.cluster_history.specs.Cluster.{ClusterParts}

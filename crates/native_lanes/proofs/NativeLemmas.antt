@@ -6,15 +6,6 @@ use Rattle.std.proofs.lemmas.Bool.{cases_lt}
 use Rattle.std.proofs.lemmas.Bool.Decides.{nat_tests}
 use Rattle.std.proofs.lemmas.Nat.Bits.{bit_at_cat_low, bit_at_cat_high}
 use Rattle.transpose_order.specs.Place.{lane_of}
-use Rattle.bit_interleave.specs.Packing.{packed_value}
-use Rattle.bit_interleave.proofs.StepLemmas.{packed_value-below}
-
--- a number of no bits
-pub nothing_packed : (t w : ℕ) (words : List ℕ) (lane step : ℕ) → w ≡ 0 → 0 ≡ packed_value t w words lane step
-nothing_packed t w words lane step none =
-    let below : packed_value t w words lane step < 2 ^ w = packed_value-below t w words lane step in
-    let one : 2 ^ w ≡ 1 = ap (λ (n : ℕ). 2 ^ n) none in
-    omega (arith, below, one)
 
 -- a word's bits are those of its lowest lane, and above them those of the others
 low_lane : (t high low word p : ℕ) → word ≡ high * 2 ^ t + low → p < t → bit_at word p ≡ bit_at low p

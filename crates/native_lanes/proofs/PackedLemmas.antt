@@ -4,6 +4,7 @@ use Rattle.std.specs.Int.{w64, int_min, int_max}
 use Rattle.std.proofs.lemmas.Int.{ints, clamps, int_wrap_fits, to_z-of_z}
 use Rattle.std.proofs.lemmas.Bool.{cases_Bool}
 use Rattle.std.proofs.lemmas.Bool.Decides.{nat_tests}
+use Rattle.std.proofs.Math.Bool.{and-false}
 use Rattle.transpose_order.specs.Mask.{rows_of}
 use Rattle.transpose_order.specs.MaskWords.{rows_of-like}
 use Rattle.transpose_order.specs.Place.{IsLaneWidth, lane_of, step_of}
@@ -55,11 +56,7 @@ all_between low high v least greatest a b c d =
 pub none_below : (low high v least : ℤ) → least ≤ℤ v → int_lt high least ≡ true → between low high v ≡ false
 none_below low high v least a b =
     let h : int_le v high ≡ false = grind (arith, ints) in
-    ap (λ x. int_le low v && x) h ∙ and_false (int_le low v)
-  where
-    and_false : (b : Bool) → (b && false) ≡ false
-    and_false true = refl
-    and_false false = refl
+    ap (λ x. int_le low v && x) h ∙ and-false (int_le low v)
 
 pub none_above : (low high v greatest : ℤ) → v ≤ℤ greatest → int_lt greatest low ≡ true → between low high v ≡ false
 none_above low high v greatest a b =

@@ -28,6 +28,7 @@ use Rattle.table_model.specs.declared.query.Predicate.{Predicate}
 use Rattle.table_model.specs.declared.query.Predicate.TheVariants.{Compare, Between, In, IsNull}
 use Rattle.table_model.specs.declared.query.SetFunction.{SetFunction}
 use Rattle.table_model.specs.declared.query.SetFunction.TheVariants.{CountRows, Of}
+use Rattle.table_model.proofs.AnswerOrder.{map-chosen}
 use Rattle.query_eval.specs.Aggregate.{aggregate_of, aggregate_value, aggregates_of, condition_functions, functions_of, having_functions, item_functions, operand_functions, predicate_functions, same_aggregate}
 use Rattle.query_eval.specs.Finished.{PlanShape, finished_of, plan_of, seen_aggregate, seen_item, seen_operand}
 use Rattle.query_eval.specs.declared.aggregate.Aggregate.{Aggregate}
@@ -149,10 +150,6 @@ module _ (columns : List ColumnShape) (plan : PlanShape) where
         let first = item_seen item.value parts.0 in
         let rest = items_seen items parts.1 in
         λ i. first i ∷ rest i
-
-map-chosen : {G V : Type 0} (f : G → V) (b : Bool) (x : G) (xs : List G) → map f (cond b (x ∷ xs) xs) ≡ cond b (f x ∷ map f xs) (map f xs)
-map-chosen f true x xs = refl
-map-chosen f false x xs = refl
 
 chosen_alike : {G H V : Type 0} (F : G → H) (p : H → Bool) (f : H → V) (q : G → Bool) (g : G → V) → ((x : G) → p (F x) ≡ q x) → ((x : G) → f (F x) ≡ g x) → (xs : List G) → map f (filter p (map F xs)) ≡ map g (filter q xs)
 chosen_alike F p f q g same value [] = refl

@@ -1,5 +1,5 @@
 -- The set functions of all rows that are kept.
-use Rattle.std.proofs.Common.{◌≡◌, ℕ, suc, ◌<◌, Bool, true, false, not, cond, List, [], ◌∷◌, ◌++◌, map, filter, length, get_or, Option, refl, sym, ap, subst, arith}
+use Rattle.std.proofs.Common.{◌≡◌, ℕ, suc, ◌<◌, Bool, true, false, not, cond, List, [], ◌∷◌, ◌++◌, map, filter, length, get_or, Option, refl, sym, ap, subst, arith, ◌∙◌}
 use Rattle.std.specs.FinMap as finite
 use Rattle.std.specs.FinSet as set
 use Rattle.std.specs.List.{flat_map}
@@ -48,6 +48,10 @@ joined_fit columns (x ∷ xs) ys h k = (h.0, joined_fit columns xs ys h.1 k)
 named_cells : (name : BatchName) (n : ℕ) (rows : Batch) → map (λ (row : RowName × Cells). row.1) (named_from name n rows) ≡ rows
 named_cells name n [] = refl
 named_cells name n (row ∷ rows) = ap (λ l. row ∷ l) (named_cells name (suc n) rows)
+
+-- naming rows leaves their number
+pub length-named_from : (name : BatchName) (n : ℕ) (rows : Batch) → length (named_from name n rows) ≡ length rows
+length-named_from name n rows = sym (length-map {B = Cells} (named_from name n rows) (λ (row : RowName × Cells). row.1)) ∙ ap length (named_cells name n rows)
 
 batches_fit : (columns : List ColumnShape) (es : List (BatchName × Batch)) → ((i : ℕ) (d : BatchName × Batch) → i < length es → AreRows columns (get_or es i d).1) → AreRows columns (map (λ (row : RowName × Cells). row.1) (flat_map (λ (e : BatchName × Batch). named_from e.0 0 e.1) es))
 batches_fit columns [] h = tt

@@ -25,12 +25,7 @@ use Rattle.query_eval.specs.declared.tally.Tally.{Tally}
 abbrev pub place_side : Table → ℕ → Side
 place_side table place = cond (nat_lt place (length table.columns)) (Column place) (Fixed None)
 
--- the side that an aggregate goes over: COUNT(*) counts the rows as if each had a value
-abbrev pub aggregate_side : Table → Aggregate → Side
-aggregate_side table Rows = Fixed (Some (pos 0))
-aggregate_side table (Folded fold distinct place) = place_side table place
-
--- the cell of a row that an aggregate goes over
+-- the cell of a row that an aggregate goes over: COUNT(*) counts the rows as if each had a value
 abbrev pub aggregate_cell : Cells → Aggregate → Option ℤ
 aggregate_cell row Rows = Some (pos 0)
 aggregate_cell row (Folded fold distinct place) = cell row place

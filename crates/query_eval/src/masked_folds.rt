@@ -8,7 +8,7 @@ ghost use Rattle.transpose_order.specs.Mask.{has, number_of_bits, rows_of};
 ghost use Rattle.query_eval.specs.Slices.{AreHalves, AreShort, IsRaised, IsShort, differs_at, values_at, values_below};
 
 use crate::bits::is_set;
-use transpose_order::{Mask, greater_if, lesser_if};
+use transpose_order::{Mask, greater_if, lesser_if, raised_if};
 
 /// Whether two numbers are the same.
 #[inline(always)]
@@ -76,18 +76,6 @@ pub fn count_at(rows: &Mask) -> usize
     // That a mask has 1024 places is told by its words.
     let _words = rows.words();
     rows.count()
-}
-
-/// How far a number is above the least of 64 bits where it is taken, else 0.
-#[inline(always)]
-fn raised_if(taken: bool, number: i64) -> u64
-    ensures { pos result ≡ cond taken (number +ℤ pos (2 ^ 63)) (pos 0) }
-{
-    if taken {
-        number.cast_unsigned().wrapping_add(1 << 63)
-    } else {
-        0
-    }
 }
 
 /// Adds to two sums the halves of 32 bits of the values at the rows of a word, raised by 2 to the power of 63 each: the low halves

@@ -7,7 +7,7 @@ use Rattle.std.proofs.lemmas.Bool.{cases_lt, false≢true}
 use Rattle.std.proofs.lemmas.Bool.Decides.{nat_tests}
 use Rattle.std.specs.Option.{is_some}
 use Rattle.std.proofs.lemmas.Int.{ints}
-use Rattle.std.proofs.lemmas.List.{get_or-take, get_or-drop, length-take, length-drop}
+use Rattle.std.proofs.lemmas.List.{get_or-take, get_or-drop, length-take, length-drop, get_or_default, get_or_past}
 use Rattle.std.proofs.lemmas.List.Elements.{filter_map-append}
 use Rattle.std.proofs.lemmas.List.FromFn.{map-range_with_len_more}
 use Rattle.table_model.specs.Answer.{whole}
@@ -24,6 +24,7 @@ use Rattle.table_model.specs.declared.schema.ColType.{ColType}
 use Rattle.table_model.specs.declared.schema.ColType.TheVariants.{SmallInt, Integer, BigInt}
 use Rattle.transpose_order.specs.Mask.{rows_of, has}
 use Rattle.transpose_order.specs.MaskWords.{has-rows_of, rows_of-like}
+use Rattle.query_eval.proofs.TableLemmas.{length-named_from}
 use Rattle.query_eval.specs.Below.{passing_below}
 use Rattle.query_eval.specs.Grouping.{as_list}
 use Rattle.query_eval_tests.specs.PlainRows.{plain_name, plain_state, plain_vector}
@@ -60,37 +61,23 @@ vector_plain rows batch vector h = ap (λ (b : ℕ). vector_at (plain_state rows
     same : vector_at (plain_state rows) 0 vector ≡ plain_vector rows vector
     same = λ i. record { rows = take 1024 (drop (1024 * vector) (batch_plain rows i).1); deleted = λ n. set.contains-empty row_name_cmp (record { batch = (batch_at (plain_state rows) 0).0; ordinal = 1024 * vector + n }) i }
 
-named_length : (name : BatchName) (n : ℕ) (rows : Batch) → length (named_from name n rows) ≡ length rows
-named_length name n [] = refl
-named_length name n (row ∷ rows) = ap suc (named_length name (suc n) rows)
-
 pub within_plain : (table : Table) (rows : Batch) → IsBatch table rows → IsWithin table (plain_state rows)
 within_plain table rows h = record {
   batches = λ i l. subst (λ (b : BatchName × Batch). IsBatch table b.1) (sym (ap (batch_at (plain_state rows)) (first_plain rows i l) ∙ batch_plain rows)) h;
   rows =
       let all : length (named_rows (plain_state rows)) ≡ length (named_from plain_name 0 rows ++ []) = ap (λ (es : List (BatchName × Batch)). length (flat_map (λ (e : BatchName × Batch). named_from e.0 0 e.1) es)) (entries_plain rows) in
-      omega (arith, all, length-append (named_from plain_name 0 rows) [], named_length plain_name 0 rows, h.limit);
+      omega (arith, all, length-append (named_from plain_name 0 rows) [], length-named_from plain_name 0 rows, h.limit);
 }
 
 -- ---- cells
 row_plain : (rows : Batch) (vector n : ℕ) → n < 1024 → row_at (plain_vector rows vector) n ≡ get_or rows (1024 * vector + n) []
 row_plain rows vector n l = get_or-take 1024 (drop (1024 * vector) rows) n [] l ∙ get_or-drop (1024 * vector) rows n []
 
-past : {X : Type 0} (xs : List X) (i : ℕ) (d : X) → length xs ≤ i → get_or xs i d ≡ d
-past [] i d h = refl
-past (x ∷ xs) zero d h = absurd (omega arith)
-past (x ∷ xs) (suc i) d h = past xs i d (omega arith)
-
 pub cell_past : (rows : Batch) (vector column n : ℕ) → n < 1024 → length rows ≤ 1024 * vector + n → None ≡ cell_at (plain_vector rows vector) column n
-cell_past rows vector column n l h = sym (ap (λ (row : Cells). cell row column) (row_plain rows vector n l ∙ past rows (1024 * vector + n) [] h))
-
-pub within_any : {X : Type 0} (xs : List X) (i : ℕ) (a b : X) → i < length xs → get_or xs i a ≡ get_or xs i b
-within_any [] i a b l = absurd (omega arith)
-within_any (x ∷ xs) zero a b l = refl
-within_any (x ∷ xs) (suc i) a b l = within_any xs i a b (omega arith)
+cell_past rows vector column n l h = sym (ap (λ (row : Cells). cell row column) (row_plain rows vector n l ∙ get_or_past rows (1024 * vector + n) [] h))
 
 pub cell_here : (rows : Batch) (vector column n : ℕ) (row : Cells) → n < 1024 → 1024 * vector + n < length rows → row ≡ get_or rows (1024 * vector + n) row → cell row column ≡ cell_at (plain_vector rows vector) column n
-cell_here rows vector column n row l h is = ap (λ (r : Cells). cell r column) (is ∙ within_any rows (1024 * vector + n) row [] h ∙ sym (row_plain rows vector n l))
+cell_here rows vector column n row l h is = ap (λ (r : Cells). cell r column) (is ∙ get_or_default rows (1024 * vector + n) row [] h ∙ sym (row_plain rows vector n l))
 
 -- ---- values of 64 bits
 type_fits : (t : ColType) (z : ℤ) → least_of t ≤ℤ z → z ≤ℤ greatest_of t → FitsSigned w64 z
@@ -204,13 +191,13 @@ module _ (rows slice : Batch) (vector column n : ℕ) (r cells : Cells) (l : n <
   cell_of_row = cell_here rows vector column n r l (omega (arith, inside, ap (λ (xs : Batch). length xs) same)) (at ∙ ap (λ (xs : Batch). get_or xs (1024 * vector + n) r) same)
 
   pub cell_found : (found : Option ℤ) → true ≡ nat_lt column (length cells) → found ≡ get_or cells column found → found ≡ cell_at (plain_vector rows vector) column n
-  cell_found found some is = is ∙ within_any cells column found None (small column (length cells) some) ∙ ap (λ (c : Cells). cell c column) its ∙ cell_of_row
+  cell_found found some is = is ∙ get_or_default cells column found None (small column (length cells) some) ∙ ap (λ (c : Cells). cell c column) its ∙ cell_of_row
     where
       small : (a b : ℕ) → true ≡ nat_lt a b → a < b
       small a b e = grind (arith, nat_tests)
 
   pub cell_absent : false ≡ nat_lt column (length cells) → None ≡ cell_at (plain_vector rows vector) column n
-  cell_absent none = sym (past cells column None (large column (length cells) none)) ∙ ap (λ (c : Cells). cell c column) its ∙ cell_of_row
+  cell_absent none = sym (get_or_past cells column None (large column (length cells) none)) ∙ ap (λ (c : Cells). cell c column) its ∙ cell_of_row
     where
       large : (a b : ℕ) → false ≡ nat_lt a b → b ≤ a
       large a b e = grind (arith, nat_tests)
@@ -223,7 +210,7 @@ pub cell_at_fits : (table : Table) (rows : Batch) (vector column n : ℕ) (z : �
 cell_at_fits table rows vector column n z h l e = one (cases_lt (1024 * vector + n) (length rows))
   where
     one : (1024 * vector + n < length rows) ⊎ (length rows ≤ 1024 * vector + n) → FitsSigned w64 z
-    one (inl m) = value_fits table rows (1024 * vector + n) column (get_or rows (1024 * vector + n) []) z h m (within_any rows (1024 * vector + n) [] _ m) (sym (ap (λ (row : Cells). cell row column) (row_plain rows vector n l)) ∙ e)
+    one (inl m) = value_fits table rows (1024 * vector + n) column (get_or rows (1024 * vector + n) []) z h m (get_or_default rows (1024 * vector + n) [] _ m) (sym (ap (λ (row : Cells). cell row column) (row_plain rows vector n l)) ∙ e)
     one (inr m) = absurd (never_some (cell_past rows vector column n l m ∙ e))
 
 pub compared_same : (op : Op) (x y l m : Option ℤ) → x ≡ y → l ≡ m → comparison op x l ≡ comparison op y m

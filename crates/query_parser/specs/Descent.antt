@@ -1,6 +1,6 @@
 -- The grammar read by descent: what each function of the parser answers. That this is the grammar's query, and the first fault
 -- by the stack of symbols, is proved of it.
-use Rattle.std.specs.Prelude.{◌≡◌, ℕ, zero, suc, ℤ, Bool, true, false, ◌==◌, if◌then◌else◌, Option, Some, None, is_some, Result, Ok, Err, List, [], ◌∷◌, ◌++◌, length}
+use Rattle.std.specs.Prelude.{ℕ, zero, suc, ℤ, Bool, true, false, ◌==◌, if◌then◌else◌, Option, Some, None, is_some, Result, Ok, Err, List, [], ◌∷◌, ◌++◌, length}
 use Rattle.table_model.specs.Formula.{Formula, says, in_parentheses, is_truth, negation, no_factor, both, no_term, either}
 use Rattle.table_model.specs.Query.{QueryShape}
 use Rattle.table_model.specs.Reading.{◌>>=◌}

@@ -15,7 +15,7 @@ use Rattle.replica_store.specs.Replica.{Replica, entries_of, differs, conflict_w
 use Rattle.replica_store.specs.MergeLaws.{IsLesser, conflict_of, AgreeAt, DifferAt, ConflictLaws}
 use Rattle.replica_store.proofs.Maps.{Entry, Sorted}
 use Rattle.replica_store.proofs.Merges.{below_from}
-use Rattle.replica_store.proofs.Places.{first_of_both, second_of_both, less_is, find_below, T_from_true}
+use Rattle.replica_store.proofs.Places.{first_of_both, second_of_both, less_is, find_below, passes}
 
 -- what doesn't differ from the rows is the rows
 same_held : (o : Option Batch) (rows a : Batch) → differs o rows ≡ false → o ≡ Some a → a ≡ rows
@@ -125,7 +125,7 @@ none_agreeing r other agree =
 
 least : (r other : Replica) (name lesser : BatchName) → conflict_of r other ≡ Some name → IsLesser lesser name → AgreeAt lesser r.state other.state
 least r other name lesser e less a b has in_other =
-    same_below r.state.batches (entries_of other) name (map.entries_sorted other.state.batches) e lesser a b (less_is _ (T_from_true _ less)) has (in_found other.state.batches lesser b in_other)
+    same_below r.state.batches (entries_of other) name (map.entries_sorted other.state.batches) e lesser a b (less_is _ (passes _ less)) has (in_found other.state.batches lesser b in_other)
 
 pub conflicts : ConflictLaws
 conflicts = record { none = λ r other. (agree_without r other, none_agreeing r other); two_lists = two_lists; least = least }

@@ -1,8 +1,9 @@
 -- What an offer lacks of its server's state is what its summary listed, so beside those batches it is as good as the whole.
-use Rattle.std.specs.Prelude.{◌≡◌, ◌≤◌, Bool, true, false, cond, ◌||◌, IsTrue, Option, Some, None, is_some, Ok, Err}
+use Rattle.std.specs.Prelude.{◌≡◌, ◌≤◌, Bool, true, false, cond, IsTrue, Option, Some, None, is_some, Ok, Err}
 use Rattle.std.proofs.Common.{refl, sym, ap, subst, ◌∙◌}
 use Rattle.std.specs.FinMap as map
 use Rattle.std.specs.FinSet as set
+use Rattle.std.proofs.lemmas.Bool.{or_right}
 use Rattle.table_model.specs.State.{State, Batch, Agree, join, union_of}
 use Rattle.table_model.specs.Table.{same_table}
 use Rattle.table_model.specs.declared.names.BatchName.{BatchName}
@@ -18,6 +19,7 @@ use Rattle.replica_store.proofs.Growth.{growth_laws_hold, grown_itself, grown_me
 use Rattle.replica_store.proofs.MergeAnswers.{is_merge, merges}
 use Rattle.replica_store.proofs.Names.{contains-names_of}
 use Rattle.replica_store.proofs.Offers.{get-unlisted}
+use Rattle.replica_store.proofs.Idle.{absorbs}
 
 served : (b : Bool) (s t : State) → cond b (Ok s) (Err SchemaDiffers) ≡ Ok t → (b ≡ true) × (s ≡ t)
 served true s t is = let same : s ≡ t = cc in (refl, same)
@@ -95,15 +97,6 @@ nothing_new before (Some o) (Some l) kept = refl
 nothing_new None (Some o) None kept = sym (kept o refl)
 nothing_new (Some b) (Some o) None kept = let no = kept b refl in cc
 
-or_held : (late offered : Bool) → (offered ≡ true → late ≡ true) → (late || offered) ≡ late
-or_held true offered kept = refl
-or_held false true kept = sym (kept refl)
-or_held false false kept = refl
-
-or_second : (a b : Bool) → b ≡ true → (a || b) ≡ true
-or_second true b is = refl
-or_second false b is = is
-
 module _ (r new late : Replica) (offer : OfferForm) (applies : Applies r offer new) (grown : HasGrown new late) where
   joined : joined_with r offer.state ≡ new
   joined = let done = is_merge r (offering r.own offer) new applies in done.made
@@ -115,7 +108,7 @@ module _ (r new late : Replica) (offer : OfferForm) (applies : Applies r offer n
   has_deletions row has = grown.deletions row
       (ap (λ (x : Replica). set.contains x.state.deleted row) (sym joined)
       ∙ set.contains-union row_names_total r.state.deleted offer.state.deleted row
-      ∙ or_second (set.contains r.state.deleted row) (set.contains offer.state.deleted row) has)
+      ∙ or_right (set.contains r.state.deleted row) (set.contains offer.state.deleted row) has)
 
   stays : join late.state offer.state ≡ late.state
   stays = same_states _ _
@@ -124,7 +117,7 @@ module _ (r new late : Replica) (offer : OfferForm) (applies : Applies r offer n
       ∙ nothing_new (map.get r.state.batches q) (map.get offer.state.batches q) (map.get late.state.batches q) (has_batches q)))
       (set.same_set row_names_total exact_row_names _ _ (λ row.
       set.contains-union row_names_total late.state.deleted offer.state.deleted row
-      ∙ or_held (set.contains late.state.deleted row) (set.contains offer.state.deleted row) (has_deletions row)))
+      ∙ absorbs (set.contains late.state.deleted row) (set.contains offer.state.deleted row) (has_deletions row)))
 
   agrees : Agree late.state offer.state
   agrees name a b has comes =

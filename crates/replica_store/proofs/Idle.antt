@@ -5,22 +5,22 @@ use Rattle.std.proofs.lemmas.Bool.{or_right, ltb-false}
 use Rattle.std.proofs.lemmas.Bool.Decides.{nat_tests}
 use Rattle.std.specs.FinMap as map
 use Rattle.std.specs.FinSet as set
-use Rattle.table_model.specs.Name.{name_cmp, row_name_cmp}
+use Rattle.table_model.specs.Name.{row_name_cmp}
 use Rattle.table_model.specs.State.{State, union_of}
 use Rattle.table_model.proofs.NameOrder.{row_names_total, exact_row_names}
 use Rattle.table_model.specs.declared.refusal.Refusal.{Refusal}
-use Rattle.segment_core.specs.Segment.{SegmentForm}
 use Rattle.table_model.specs.declared.names.RowName.{RowName}
 use Rattle.replica_store.specs.Replica.{Replica, joined_with, rows_between, unless_fault, delete_fault, deleted_rows, with_deleted}
 use Rattle.replica_store.specs.Segments.{Segments, rows_in}
 use Rattle.replica_store.proofs.Merges.{union-same}
 use Rattle.replica_store.proofs.RowsIn.{rows_in-union, len-rows_in}
+use Rattle.replica_store.proofs.Limits.{same_Ok}
 
 -- what a replica is joined with: the batches of segments, and deletions
 abbrev pub coming : Segments → set.FinSet row_name_cmp → State
 coming segments tombs = record { batches = rows_in segments; deleted = tombs }
 
-absorbs : (a b : Bool) → (b ≡ true → a ≡ true) → (a || b) ≡ a
+pub absorbs : (a b : Bool) → (b ≡ true → a ≡ true) → (a || b) ≡ a
 absorbs true b h = refl
 absorbs false true h = sym (h refl)
 absorbs false false h = refl
@@ -68,9 +68,7 @@ no_answer made e x refused is = let both : Err e ≡ Ok x = sym refused ∙ is i
 
 -- a call that leaves the replica makes what it was
 pub answer_same : (made : Result (Unit {0} × Replica) Refusal) (new old : Replica) → made ≡ Ok (tt, new) → made ≡ Ok (tt, old) → new ≡ old
-answer_same made new old is same = ap (λ (p : Unit {0} × Replica). p.1) (ok_same (tt, new) (tt, old) (sym is ∙ same)) where
-  ok_same : {X : Type 0} (x y : X) → ◌≡◌ {A = Result X Refusal} (Ok x) (Ok y) → x ≡ y
-  ok_same x y is = cc
+answer_same made new old is same = ap (λ (p : Unit {0} × Replica). p.1) (same_Ok (tt, new) (tt, old) (sym is ∙ same))
 
 -- a call that leaves the replica has no fault, and makes what it was
 no_fault : (o : Option Refusal) (new old : Replica) → unless_fault {X = Unit {0} × Replica} o (Ok (tt, new)) ≡ Ok (tt, old) → (o ≡ None) × (new ≡ old)

@@ -1,12 +1,12 @@
 -- The limits of a replica are kept: by a batch that goes in, and by a union; and what was decided before a batch goes in.
-use Rattle.std.specs.Prelude.{◌≡◌, ℕ, zero, suc, ◌+◌, ◌<◌, ◌≤◌, Bool, true, false, cond, ◌==◌, nat_lt, List, [], ◌∷◌, length, Option, Some, None, is_some, Result, Ok, Err}
+use Rattle.std.specs.Prelude.{◌≡◌, ℕ, ◌+◌, ◌<◌, ◌≤◌, Bool, true, false, cond, ◌==◌, nat_lt, List, [], ◌∷◌, length, Option, Some, None, is_some, Result, Ok, Err}
 use Rattle.std.proofs.Common.{refl, sym, ap, subst, ◌∙◌, arith, Less, Equal, Greater}
 use Rattle.std.specs.Ordering.{is_lt, eq_by_cmp}
 use Rattle.std.specs.FinMap as map
 use Rattle.std.specs.FinSet as set
-use Rattle.std.specs.List.{slice_get}
 use Rattle.std.specs.FinMap.Entries.{by_order}
 use Rattle.std.proofs.lemmas.Bool.Decides.{nat_tests, Decides-eqb}
+use Rattle.std.proofs.lemmas.List.{nil_from_length}
 use Rattle.table_model.specs.Outcome.{unless}
 use Rattle.table_model.specs.Name.{name_cmp, is_proper_name}
 use Rattle.table_model.specs.State.{Batch, union_of, same_rows}
@@ -53,15 +53,11 @@ AllFit-lacked t names (f ∷ fs) h =
       | false ↦ (h.0, AllFit-lacked t names fs h.1)
     ]
 
-no_entries : (es : List Entry) → length es ≡ 0 → es ≡ []
-no_entries [] e = refl
-no_entries (x ∷ es) e = absurd (omega arith)
-
 -- a new replica is within the limits
 pub IsWithinLimits-empty : (t : Table) → IsWithinLimits t map.empty
 IsWithinLimits-empty t =
     let none : map.len {X = Batch} (map.empty {R = name_cmp}) ≡ 0 = map.len-empty name_cmp Batch in
-    let entries : map.entries {X = Batch} (map.empty {R = name_cmp}) ≡ [] = no_entries _ (sym (map.len-entries (map.empty {R = name_cmp})) ∙ none) in
+    let entries : map.entries {X = Batch} (map.empty {R = name_cmp}) ≡ [] = nil_from_length _ (sym (map.len-entries (map.empty {R = name_cmp})) ∙ none) in
     record { limit = omega arith; fits = subst (AllFit t) (sym entries) tt }
 
 same_length : (m : map.FinMap name_cmp Batch) (q : BatchName) (v : Batch) → map.get m q ≡ None → map.len (map.insert m q v) ≡ map.len m + 1

@@ -7,6 +7,7 @@ use Rattle.std.specs.Option.{option_map}
 use Rattle.std.specs.Ordering.{eq_by_cmp}
 use Rattle.std.specs.FinMap as map
 use Rattle.std.specs.FinSet as set
+use Rattle.std.proofs.Math.Bool.{or-false}
 use Rattle.table_model.proofs.Joins.{same_maps}
 use Rattle.table_model.specs.Name.{name_cmp}
 use Rattle.table_model.specs.State.{Batch}
@@ -105,10 +106,6 @@ or_turned true true c = refl
 or_turned true false c = refl
 or_turned false b c = refl
 
-or_none : (b : Bool) → (b || false) ≡ b
-or_none true = refl
-or_none false = refl
-
 -- one name more is named among the names, and no more among what is left
 pub named_more : (es : List Entry) (i : ℕ) (e : Entry) (names new : Names) → i < length es → e ≡ get_or es i e → new ≡ set.insert names e.0 → (q : BatchName)
     → (set.contains new q || is_some (map.find name_cmp q (drop (i + 1) es))) ≡ (set.contains names q || is_some (map.find name_cmp q (drop i es)))
@@ -122,7 +119,7 @@ named_more es i e names new below is more q =
 -- where nothing is left, the names are those of the map
 pub named_all : (es : List Entry) (i : ℕ) (names : Names) → Sorted es → length es ≤ i → ((q : BatchName) → (set.contains names q || is_some (map.find name_cmp q (drop i es))) ≡ is_some (map.find name_cmp q es)) → names ≡ names_of (as_map es)
 named_all es i names sorted past all = set.same_set names_total exact_names _ _ (λ q.
-    sym (or_none (set.contains names q))
+    sym (or-false (set.contains names q))
     ∙ ap (λ (xs : List Entry). set.contains names q || is_some (map.find name_cmp q xs)) (sym (drop_all i es past))
     ∙ all q
     ∙ ap is_some (sym (get-as_map es q sorted))

@@ -1,6 +1,6 @@
 -- Entries in the order of their keys: how many are below a key, what is found there, and how two lists in order become one.
-use Rattle.std.specs.Prelude.{◌≡◌, ◌⊎◌, ℕ, zero, suc, ◌<◌, ◌≤◌, Bool, true, false, cond, ◌&&◌, T, List, [], ◌∷◌, length, Option, Some, None, drop}
-use Rattle.std.proofs.Common.{refl, sym, ap, subst, ◌∙◌, inl, inr, arith, get_or, Less, Equal, Greater}
+use Rattle.std.specs.Prelude.{◌≡◌, ◌⊎◌, ℕ, zero, suc, ◌<◌, ◌≤◌, Bool, true, false, cond, T, List, [], ◌∷◌, length, Option, Some, None, drop}
+use Rattle.std.proofs.Common.{refl, sym, ap, ◌∙◌, inl, inr, arith, get_or, Less, Equal, Greater}
 use Rattle.std.specs.List.{insert}
 use Rattle.std.specs.List.Sorted.{IsPartitionedBy}
 use Rattle.std.specs.Ordering.{is_lt, is_eq, ordering_reverse}
@@ -8,27 +8,9 @@ use Rattle.std.specs.Cmp.{IsTotalOrder}
 use Rattle.std.specs.declared.cmp.Ordering.{Ordering}
 use Rattle.std.specs.FinMap.Entries.{find, put, is_sorted, below_all, by_order}
 use Rattle.std.proofs.lemmas.Bool.{cases_lt}
-pub use Rattle.table_model.proofs.Operations.{first_of_both, second_of_both}
+pub use Rattle.std.specs.Bool.{passes}
+pub use Rattle.table_model.proofs.Passed.{true_from_T, first_of_both, second_of_both, both_of, less_is, is_less}
 use Rattle.replica_store.specs.Entries.{count_below}
-
-pub true_from_T : (b : Bool) → T b → b ≡ true
-true_from_T true h = refl
-true_from_T false h = absurd h
-
-pub T_from_true : (b : Bool) → b ≡ true → T b
-T_from_true b e = subst T (sym e) tt
-
-pub both_of : (a b : Bool) → T a → T b → T (a && b)
-both_of true b g h = h
-both_of false b g h = absurd g
-
-pub less_is : (r : Ordering) → T (is_lt r) → r ≡ Less
-less_is Less h = refl
-less_is Equal h = absurd h
-less_is Greater h = absurd h
-
-pub is_less : (r : Ordering) → r ≡ Less → T (is_lt r)
-is_less r e = subst (λ (x : Ordering). T (is_lt x)) (sym e) tt
 
 turned : {K : Type 0} {R : K → K → Ordering} → IsTotalOrder R → (x y : K) (r : Ordering) → R x y ≡ r → R y x ≡ ordering_reverse r
 turned o x y r e = o.antisymm y x ∙ ap ordering_reverse e
@@ -76,7 +58,7 @@ module _ {K X : Type 0} (R : K → K → Ordering) where
     pub parted : (q : K) (es : List (K × X)) → T (is_sorted R es) → IsPartitionedBy (is_below q) es
     parted q es h i j d le in_range is =
         elim (cases_le i j le) as (λ _. is_below q (get_or es i d) ≡ true) [
-          | inl lt ↦ true_from_T _ (is_less _ (o.trans _ _ _ (sorted_at es i j d h lt in_range) (less_is _ (T_from_true _ is))))
+          | inl lt ↦ true_from_T _ (is_less _ (o.trans _ _ _ (sorted_at es i j d h lt in_range) (less_is _ (passes _ is))))
           | inr same ↦ ap (λ k. is_below q (get_or es k d)) same ∙ is
         ]
 

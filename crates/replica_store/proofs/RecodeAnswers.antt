@@ -1,6 +1,6 @@
 -- A recode puts one segment in the place of one with the same rows, whose other vectors are the same.
-use Rattle.std.specs.Prelude.{◌≡◌, ◌≢◌, ℕ, zero, suc, ◌<◌, true, false, cond, List, [], ◌∷◌, length, slice_get, Option, Some, None, Result, Ok}
-use Rattle.std.proofs.Common.{refl, sym, ap, subst, ◌∙◌, arith, get_or}
+use Rattle.std.specs.Prelude.{◌≡◌, ◌≢◌, ℕ, true, false, cond, List, [], slice_get, Option, Some, None, Result, Ok}
+use Rattle.std.proofs.Common.{refl, sym, ap, subst, ◌∙◌, get_or}
 use Rattle.std.proofs.lemmas.List.{get_or-set_same, get_or-set_other}
 use Rattle.std.specs.Ordering.{eq_by_cmp}
 use Rattle.std.specs.FinMap as map
@@ -12,20 +12,11 @@ use Rattle.table_model.proofs.Operations.{same_name, itself}
 use Rattle.segment_core.specs.CodedVector.{VectorForm, recoded_vector}
 use Rattle.segment_core.specs.Segment.{SegmentForm, vector_at, with_vector, recoded, recoded_found, put_in}
 use Rattle.segment_core.specs.declared.coding.Coding.{Coding}
-use Rattle.segment_core.proofs.PutLemmas.{slice_get-set_other}
+use Rattle.segment_core.proofs.PutLemmas.{slice_get-set_other, column_there}
 use Rattle.replica_store.specs.Replica.{Replica, recode_fault, recoded_rows}
 use Rattle.replica_store.specs.Segments.{recoded_in, recoded_held, put_under}
 use Rattle.replica_store.specs.RecodeLaws.{DifferOnlyAt, LeavesOthers, RecodeLaws}
 use Rattle.replica_store.proofs.Limits.{ok_unless, same_Ok}
-
--- the forms of a column that there is
-column_below : (forms : List (List VectorForm)) (c k : ℕ) (v : VectorForm) → vector_at forms c k ≡ Some v → c < length forms
-column_below [] zero zero v is = cc
-column_below [] zero (suc k) v is = cc
-column_below [] (suc c) zero v is = cc
-column_below [] (suc c) (suc k) v is = cc
-column_below (x ∷ forms) zero k v is = omega arith
-column_below (x ∷ forms) (suc c) k v is = let rest = column_below forms c k v is in omega arith
 
 -- a vector put in leaves all others
 put_elsewhere : (s : SegmentForm) (c k : ℕ) (v old : VectorForm) → vector_at s.forms c k ≡ Some old → DifferOnlyAt c k s (record s { forms = with_vector s.forms c k v })
@@ -33,7 +24,7 @@ put_elsewhere s c k v old is = record {
   rows = refl;
   columns = λ other j apart. ap (λ (vs : List VectorForm). slice_get vs j) (get_or-set_other s.forms c other _ [] apart);
   vectors = λ other apart.
-      ap (λ (vs : List VectorForm). slice_get vs other) (get_or-set_same s.forms c _ [] (column_below s.forms c k old is))
+      ap (λ (vs : List VectorForm). slice_get vs other) (get_or-set_same s.forms c _ [] (column_there s.forms c k old is))
       ∙ slice_get-set_other (get_or s.forms c []) k other v apart;
 }
 

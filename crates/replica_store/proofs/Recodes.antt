@@ -157,7 +157,7 @@ rows_recoded es new result n column vector coding h (inr r) =
     ∙ ap (map.insert (rows_in m) n) r.5
     ∙ insert_again (rows_in m) n r.1.rows (get-rows_in m n ∙ ap (option_map rows) (get-held n es r.0 r.1 h r.3))
 
-put_ok : (m : map.FinMap name_cmp SegmentForm) (n : BatchName) (made : Result (Unit {0} × SegmentForm) Refusal) → IsOk made → IsOk (put_under m n made)
+pub put_ok : (m : map.FinMap name_cmp SegmentForm) (n : BatchName) (made : Result (Unit {0} × SegmentForm) Refusal) → IsOk made → IsOk (put_under m n made)
 put_ok m n (Ok done) ok = ok
 put_ok m n (Err e) ok = ok
 

@@ -15,15 +15,13 @@ use Rattle.table_model.proofs.Operations.{same_name}
 use Rattle.table_model.proofs.Joins.{or_else, get-union}
 use Rattle.segment_core.specs.Segment.{SegmentForm}
 use Rattle.segment_core.specs.declared.coding.Coding.{Coding}
+use Rattle.segment_core.proofs.VectorLaws.{some_is}
 use Rattle.replica_store.specs.Replica.{AllFit, IsWithinLimits}
-use Rattle.replica_store.specs.Segments.{Segments, Entry, IsStored, AreStored, HasProperName, RecodesEntries, rows_in, rows_entries}
+use Rattle.replica_store.specs.Segments.{Segments, Entry, IsStored, AreStored, RecodesEntries, rows_in, rows_entries}
 use Rattle.replica_store.specs.Exchange.{AreOffered}
 use Rattle.replica_store.proofs.Maps.{Sorted, as_map, entries-as_map, get-as_map, len-as_map}
 use Rattle.replica_store.proofs.Recodes.{get-held, as_map-set}
 use Rattle.replica_store.proofs.RowsIn.{entries-rows_in, len-rows_in}
-
-same_some : {X : Type 0} (x y : X) → Some x ≡ Some y → x ≡ y
-same_some x y e = cc
 
 -- what is found is one of the entries
 found_stored : (t : Table) (es : List Entry) (q : BatchName) (s : SegmentForm) → All (IsStored t) es → map.find name_cmp q es ≡ Some s → IsStored t (q, s)
@@ -32,7 +30,7 @@ found_stored t (x ∷ es) q s all e =
     elim (eq_by_cmp name_cmp q x.0) as (λ b. eq_by_cmp name_cmp q x.0 ≡ b → cond b (Some x.1) (map.find name_cmp q es) ≡ Some s → IsStored t (q, s)) [
       | true ↦ λ tied is.
           let name : x.0 ≡ q = sym (same_name q x.0 tied) in
-          let segment : x.1 ≡ s = same_some x.1 s is in
+          let segment : x.1 ≡ s = some_is x.1 s is in
           subst (IsStored t) (λ i. (name i, segment i)) (all 0 x (omega arith))
       | false ↦ λ tied is. found_stored t es q s (λ k d below. all (suc k) d (omega (arith, below))) is
     ] refl e
@@ -64,7 +62,7 @@ AreStored-insert t m name made stored new = λ q s has.
     elim (eq_by_cmp name_cmp q name) as (λ b. eq_by_cmp name_cmp q name ≡ b → cond b (Some made) (map.get m q) ≡ Some s → IsStored t (q, s)) [
       | true ↦ λ tied is.
           let at : name ≡ q = sym (same_name q name tied) in
-          let segment : made ≡ s = same_some made s is in
+          let segment : made ≡ s = some_is made s is in
           subst (IsStored t) (λ i. (at i, segment i)) new
       | false ↦ λ tied is. stored q s is
     ] refl (sym (map.get-insert names_total m name made q) ∙ has)

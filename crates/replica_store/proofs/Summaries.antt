@@ -22,7 +22,7 @@ AreListable-empty = record {
 }
 
 -- a set has no more names than a list that it is made of
-len-from_list : (ks : List BatchName) → set.len (set.from_list {R = name_cmp} ks) ≤ length ks
+pub len-from_list : (ks : List BatchName) → set.len (set.from_list {R = name_cmp} ks) ≤ length ks
 len-from_list [] = omega (arith, set.len-empty name_cmp)
 len-from_list (k ∷ ks) =
     let names = set.from_list {R = name_cmp} ks in

@@ -1,12 +1,12 @@
 -- A segment has a vector at a place exactly where its rows have a cell and reach so far; so a replica tells which vectors there are.
-use Rattle.std.specs.Prelude.{◌≡◌, ℕ, zero, suc, ◌≤◌, Bool, true, false, cond, ◌&&◌, nat_lt, List, [], ◌∷◌, length, slice_get, Option, Some, None, is_some, Result, Ok, Err, IsOk}
+use Rattle.std.specs.Prelude.{◌≡◌, ℕ, zero, suc, ◌≤◌, Bool, true, false, cond, ◌&&◌, nat_lt, List, [], ◌∷◌, length, slice_get, Option, Some, None, is_some, Err, IsOk}
 use Rattle.std.proofs.Common.{refl, sym, ap, subst, ◌∙◌, arith, get_or}
 use Rattle.std.proofs.lemmas.Bool.Decides.{nat_tests}
 use Rattle.std.specs.Ordering.{eq_by_cmp}
 use Rattle.std.specs.FinMap as map
 use Rattle.table_model.specs.Name.{name_cmp}
-use Rattle.table_model.specs.State.{Cells, Batch}
-use Rattle.table_model.specs.Table.{Table, ColumnShape, IsBatch, IsRow, AreRows}
+use Rattle.table_model.specs.State.{Batch}
+use Rattle.table_model.specs.Table.{Table, ColumnShape, IsBatch, AreRows}
 use Rattle.table_model.proofs.Batches.{row_length}
 use Rattle.table_model.specs.declared.names.BatchName.{BatchName}
 use Rattle.table_model.specs.declared.refusal.Refusal.{Refusal}
@@ -17,6 +17,7 @@ use Rattle.segment_core.specs.declared.coding.Coding.{Coding}
 use Rattle.replica_store.specs.Replica.{Replica, AllFit, has_vector, recode_fault}
 use Rattle.replica_store.specs.Segments.{recoded_in, recoded_held, put_under, HasVector}
 use Rattle.replica_store.proofs.RowValues.{length-row_of, row-batch_of}
+use Rattle.replica_store.proofs.Recodes.{put_ok}
 
 lt_suc : (i n : ℕ) → nat_lt (suc i) (suc n) ≡ nat_lt i n
 lt_suc i n = elim (nat_lt i n) as (λ b. nat_lt i n ≡ b → nat_lt (suc i) (suc n) ≡ b) [
@@ -83,10 +84,6 @@ fault_found r name column vector s test fit has h =
 pub fault_none : (r : Replica) (name : BatchName) (column vector : ℕ) → map.get r.state.batches name ≡ None → recode_fault r name column vector ≡ NoVector
 unfolding recode_fault
 fault_none r name column vector none = ap (λ (o : Option Batch). cond (has_vector r column vector o) None NoVector) none
-
-put_ok : (m : map.FinMap name_cmp SegmentForm) (n : BatchName) (made : Result (Unit {0} × SegmentForm) Refusal) → IsOk made → IsOk (put_under m n made)
-put_ok m n (Ok done) ok = ok
-put_ok m n (Err e) ok = ok
 
 found_ok : (s : SegmentForm) (column vector : ℕ) (coding : Coding) (o : Option VectorForm) → is_some o ≡ true → IsOk (put_in s column vector (recoded_found coding o))
 found_ok s column vector coding None e = cc

@@ -1,5 +1,5 @@
 -- A store: a replica, and beside it the segments that its batches lie in, which have their codings.
-use Rattle.std.specs.Prelude.{◌≡◌, ◌⊎◌, ◌&&◌, Bool, IsTrue, is_some, nat_lt, slice_get, ℕ, cond, List, [], ◌∷◌, ◌++◌, length, slice_set, Option, Some, None, Result, Ok, Err, refl}
+use Rattle.std.specs.Prelude.{◌≡◌, ◌⊎◌, ◌&&◌, Bool, IsTrue, is_some, nat_lt, slice_get, ℕ, cond, List, [], ◌∷◌, length, slice_set, Option, Some, None, Result, Ok, Err, refl}
 use Rattle.std.specs.Coded.{Coded, code_by, coded×}
 use Rattle.std.specs.FinMap as map
 use Rattle.table_model.specs.Name.{name_cmp, coded_name, is_proper_name}

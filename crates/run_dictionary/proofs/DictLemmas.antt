@@ -259,7 +259,7 @@ index_cases false true false false f g = absurd (false≢true (g refl))
 index_cases false false false true f g = omega arith
 index_cases false false false false f g = omega arith
 
-test_from_less : (x y : ℤ) → x <ℤ y → int_lt x y ≡ true
+pub test_from_less : (x y : ℤ) → x <ℤ y → int_lt x y ≡ true
 test_from_less x y l = grind (arith, ints)
 
 through_left : (x y v : ℤ) → x ≤ℤ y → y <ℤ v → x <ℤ v

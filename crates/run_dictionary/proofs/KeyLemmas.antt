@@ -8,6 +8,7 @@ use Rattle.std.proofs.lemmas.Nat.Bits.{bit_at-zero, bit_at_set_same, bit_at_set_
 use Rattle.std.proofs.lemmas.Bool.Decides.{Decides-int_eq}
 use Rattle.std.proofs.lemmas.List.{get_or-set_same, get_or-set_other, length-map, map-append, take_more, take-append-drop}
 use Rattle.std.proofs.Math.Bool.{or-true}
+use Rattle.bit_interleave.proofs.GapLemmas.{gap_within}
 use Rattle.transpose_order.specs.Mask.{truth_at}
 use Rattle.run_dictionary.specs.Dict.{with_value, distinct}
 use Rattle.run_dictionary.specs.Keys.{key_of, keys_of}
@@ -202,29 +203,6 @@ KeysCounted-bound values words count i h =
 pub at_most_one : (b : Bool) → cond b 0 1 ≤ 1
 at_most_one true = omega arith
 at_most_one false = omega arith
-
-gap-left : (low x y : ℤ) → low ≤ℤ x → x ≤ℤ y → int_gap x y ≤ int_gap low y
-gap-left (pos a) (pos b) (pos c) l m = omega (arith, ints)
-gap-left (negsuc a) (pos b) (pos c) l m = omega (arith, ints)
-gap-left (negsuc a) (negsuc b) (pos c) l m = omega (arith, ints)
-gap-left (negsuc a) (negsuc b) (negsuc c) l m = omega (arith, ints)
-gap-left (pos a) (negsuc b) y l m = absurd (omega (arith, ints))
-gap-left low (pos b) (negsuc c) l m = absurd (omega (arith, ints))
-
-gap-right : (x y high : ℤ) → x ≤ℤ y → y ≤ℤ high → int_gap x y ≤ int_gap x high
-gap-right (pos a) (pos b) (pos c) l m = omega (arith, ints)
-gap-right (negsuc a) (pos b) (pos c) l m = omega (arith, ints)
-gap-right (negsuc a) (negsuc b) (pos c) l m = omega (arith, ints)
-gap-right (negsuc a) (negsuc b) (negsuc c) l m = omega (arith, ints)
-gap-right (pos a) (negsuc b) high l m = absurd (omega (arith, ints))
-gap-right x (pos b) (negsuc c) l m = absurd (omega (arith, ints))
-
--- values from the least to the greatest are no farther apart than these
-pub gap_within : (low x y high : ℤ) → low ≤ℤ x → x ≤ℤ y → y ≤ℤ high → int_gap x y ≤ int_gap low high
-gap_within low x y high a b c = omega (arith, gap-left low x y a b, gap-right low y high (through low x y a b) c)
-  where
-    through : (x y z : ℤ) → x ≤ℤ y → y ≤ℤ z → x ≤ℤ z
-    through x y z l m = omega (arith, ints)
 
 pub fewer_keys_than_values : (values : List ℤ) → length (distinct (keys_of values)) ≤ length (distinct values)
 fewer_keys_than_values values = fewer_keys (λ v. pos (key_of v)) values

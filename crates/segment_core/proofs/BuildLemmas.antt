@@ -1,7 +1,7 @@
 -- The canonical vectors of rows: each column's vectors cover its cells part by part, and stand for the rows.
-use Rattle.std.proofs.Common.{◌≡◌, ℕ, zero, suc, ◌+◌, ◌-◌, ◌*◌, ◌/◌, ◌%◌, ◌<◌, inl, inr, min, ℤ, ◌≤ℤ◌, FitsSigned, List, [], ◌∷◌, map, take, drop, length, get_or, slice_get, Option, Some, None, refl, sym, ◌∙◌, ap, subst, arith, rules}
+use Rattle.std.proofs.Common.{◌≡◌, ℕ, zero, suc, ◌+◌, ◌-◌, ◌*◌, ◌/◌, ◌%◌, ◌<◌, min, ℤ, ◌≤ℤ◌, FitsSigned, List, [], ◌∷◌, map, take, drop, length, get_or, slice_get, Option, Some, None, refl, sym, ◌∙◌, ap, subst, arith, rules}
 use Rattle.std.specs.List.{range_with_len, take-map, drop-map}
-use Rattle.std.proofs.lemmas.List.{same_lists, get_or-take, get_or-drop, length-take, length-drop, length-map}
+use Rattle.std.proofs.lemmas.List.{same_lists, get_or-take, get_or-drop, length-take, length-drop, length-map, get_or_default}
 use Rattle.std.proofs.lemmas.List.FromFn.{length-map-range_with_len, get_or-map-range_with_len}
 use Rattle.std.proofs.lemmas.Option.{slice_get_within, slice_get-get_or, get_or_from_slice_get}
 use Rattle.transpose_order.specs.Place.{IsLaneWidth}
@@ -17,7 +17,8 @@ use Rattle.segment_core.specs.CodedVector.{VectorForm, IsVector, canonical_vecto
 use Rattle.segment_core.specs.Segment.{column_cells, cells_in, canonical_column, canonical_forms, widths_of, vector_count, cell_of, column_cell, row_of, batch_of, HasColumn, IsColumn, IsSegment}
 use Rattle.segment_core.proofs.GatherLemmas.{length-column_cells, get_or-column_cells}
 use Rattle.segment_core.proofs.SegmentLemmas.{length-batch_of, get_or-batch_of}
-use Rattle.segment_core.proofs.VectorLemmas.{canonical_cell, canonical_is_a_vector, lane_width-canonical, get_or-any}
+use Rattle.segment_core.proofs.VectorLemmas.{canonical_cell, canonical_is_a_vector, lane_width-canonical}
+use Rattle.segment_core.proofs.LaneWidths.{bits_are_lanes}
 
 -- ---- a part of the rows
 pub part_cells : (rows : Batch) (c k : ℕ) → column_cells (take 1024 (drop (1024 * k) rows)) c ≡ cells_in (column_cells rows c) k
@@ -100,11 +101,6 @@ batch_has_column table rows c column h e =
           (row_cell table.columns (get_or rows n []) c column (row_at table.columns rows n h.rows_fit below) e)
           (sym (get_or-column_cells rows c n below) ∙ is);
     }
-
-pub bits_are_lanes : (t : ColType) → IsLaneWidth (bits_of t)
-bits_are_lanes SmallInt = inr (inl refl)
-bits_are_lanes Integer = inr (inr (inl refl))
-bits_are_lanes BigInt = inr (inr (inr refl))
 
 -- ---- the columns of a table's rows
 pub length-widths_of : (table : Table) → length (widths_of table) ≡ length table.columns
@@ -208,7 +204,7 @@ row_cell_is table rows n c d h l there inside within =
     ∙ ap (λ (vectors : List VectorForm). column_cell vectors n) (get_or-canonical_forms widths rows c [] (omega (arith, length-widths_of table)) ∙ ap (λ t. canonical_column t cells) width)
     ∙ canonical_column_cell (bits_of column.column_type) cells n (bits_are_lanes column.column_type) has.fit (omega (arith, length-column_cells rows c))
     ∙ get_or-column_cells rows c n l
-    ∙ get_or-any (get_or rows n []) c None d within
+    ∙ get_or_default (get_or rows n []) c None d within
 
 canonical_row : (table : Table) (rows : Batch) (n : ℕ) → IsBatch table rows → n < length rows → row_of (canonical_forms (widths_of table) rows) n ≡ get_or rows n []
 canonical_row table rows n h l =

@@ -1,6 +1,6 @@
 -- The canonical vectors of a segment's own cells: a segment of the same rows.
 use Rattle.std.proofs.Common.{◌≡◌, true, ℕ, zero, suc, ◌<◌, ℤ, List, [], ◌∷◌, map, length, get_or, slice_get, Option, Some, None, refl, sym, ◌∙◌, ap, subst, arith}
-use Rattle.std.proofs.lemmas.List.{same_lists, length-map}
+use Rattle.std.proofs.lemmas.List.{same_lists, length-map, get_or_default}
 use Rattle.std.proofs.lemmas.Option.{slice_get_within, slice_get-get_or}
 use Rattle.table_model.specs.State.{Batch}
 use Rattle.segment_core.specs.Coded.{lane_width_of}
@@ -8,7 +8,7 @@ use Rattle.segment_core.specs.CodedVector.{VectorForm, cells_of, canonical_vecto
 use Rattle.segment_core.specs.Segment.{column_cells, cells_in, canonical_column, canonical_forms, canonical_vectors, width_in, widths_in, vector_count, batch_of, IsColumn, IsSegment, IsMarked}
 use Rattle.segment_core.proofs.SegmentLemmas.{length-batch_of}
 use Rattle.segment_core.proofs.GatherLemmas.{length-column_cells}
-use Rattle.segment_core.proofs.VectorLemmas.{length-cells_of, get_or-cells_of, get_or-any, cells_in_range, canonical_cell, canonical_is_a_vector, lane_width_is, lane_width-canonical}
+use Rattle.segment_core.proofs.VectorLemmas.{length-cells_of, get_or-cells_of, cells_in_range, canonical_cell, canonical_is_a_vector, lane_width_is, lane_width-canonical}
 use Rattle.segment_core.proofs.BuildLemmas.{slice_get-canonical_column, length-canonical_column, length-canonical_forms, get_or-canonical_forms}
 use Rattle.segment_core.proofs.CellLemmas.{column_part, width_of_vector, same_columns, get_or-widths_in, rows_of_same}
 
@@ -38,7 +38,7 @@ cells_of-canonical_of v is =
     let below : n < length (cells_of v) = omega (arith, length-cells_of (canonical_of v)) in
     get_or-cells_of (canonical_of v) n d below
     ∙ canonical_cell (lane_width_of v.coded) (cells_of v) n (lane_width_is v.coded is.form) (omega arith) (cells_in_range v is) below
-    ∙ get_or-any (cells_of v) n None d below)
+    ∙ get_or_default (cells_of v) n None d below)
 
 -- ---- a column
 pub canonical_vectors_are_a_column : (rows : ℕ) (vectors : List VectorForm) → IsColumn rows vectors → IsColumn rows (canonical_vectors vectors)

@@ -1,6 +1,6 @@
 -- The cells of a segment's vectors, and the rows that they stand for.
 use Rattle.std.proofs.Common.{◌≡◌, ℕ, zero, suc, ◌+◌, ◌-◌, ◌*◌, ◌/◌, ◌%◌, ◌<◌, inl, inr, ◌↔◌, min, Bool, true, false, ℤ, List, [], ◌∷◌, length, get_or, slice_get, Option, Some, None, IsTrue, refl, sym, ◌∙◌, ap, subst, arith}
-use Rattle.std.proofs.lemmas.List.{same_lists, length-map}
+use Rattle.std.proofs.lemmas.List.{same_lists, length-map, get_or_default}
 use Rattle.std.proofs.lemmas.Option.{slice_get_within, slice_get-get_or, get_or_from_slice_get, slice_get_cases, slice_get_read}
 use Rattle.table_model.specs.State.{Cells, Batch, same_rows}
 use Rattle.table_model.proofs.SameRows.{one_batch, itself_batch}
@@ -10,7 +10,7 @@ use Rattle.segment_core.specs.Segment.{SegmentForm, AreCanonical, HaveSameCells,
 use Rattle.segment_core.proofs.SegmentLemmas.{Shows, forms_shown, count_shown, length-batch_of, get_or-batch_of}
 use Rattle.segment_core.proofs.GatherLemmas.{length-column_cells, get_or-column_cells}
 use Rattle.segment_core.proofs.BuildLemmas.{length-cells_in, get_or-cells_in, get_or-map, row_any, slice_get-canonical_column, length-canonical_column, length-canonical_forms, get_or-canonical_forms}
-use Rattle.segment_core.proofs.VectorLemmas.{length-cells_of, get_or-cells_of, get_or-any, lane_width-canonical}
+use Rattle.segment_core.proofs.VectorLemmas.{length-cells_of, get_or-cells_of, lane_width-canonical}
 
 -- ---- a cell of the rows
 pub cell_at-batch_of : (rows : ℕ) (forms : List (List VectorForm)) (n c : ℕ) → n < rows → c < length forms → cell_at (batch_of rows forms) n c ≡ column_cell (get_or forms c []) n
@@ -47,7 +47,7 @@ column_part rows forms c k vectors v is column found =
     ∙ ap (vector_cell v) (sym rest)
     ∙ sym (cell_found rows forms (1024 * k + n) c vectors v within column there)
     ∙ sym (get_or-column_cells batch c (1024 * k + n) (omega (arith, length-batch_of rows forms)))
-    ∙ get_or-any (column_cells batch c) (1024 * k + n) None d (omega (arith, length-column_cells batch c, length-batch_of rows forms))
+    ∙ get_or_default (column_cells batch c) (1024 * k + n) None d (omega (arith, length-column_cells batch c, length-batch_of rows forms))
     ∙ sym (get_or-cells_in (column_cells batch c) k n d small))
 
 -- ---- which rows they are
@@ -85,7 +85,7 @@ row_from_parts rows forms batch n is h below =
     let inside : c < length (get_or batch n []) = let e = h.arity n below in omega arith in
     get_or-map (λ (vectors : List VectorForm). column_cell vectors n) forms c d [] there
     ∙ part_cell rows forms batch n c (get_or forms c []) f.0 is h below column f.1
-    ∙ get_or-any (get_or batch n []) c None d inside)
+    ∙ get_or_default (get_or batch n []) c None d inside)
 
 pub rows_from_parts : (rows : ℕ) (forms : List (List VectorForm)) (batch : Batch) → IsSegment rows forms → HasParts rows forms batch → batch_of rows forms ≡ batch
 rows_from_parts rows forms batch is h =
@@ -116,7 +116,7 @@ pub test_false : (xs ys : Batch) → (xs ≡ ys → ⊥) → false ≡ same_rows
 test_false xs ys differ = test_at xs ys (same_rows xs ys) differ refl
 
 -- ---- canonical columns
-width_first : (vectors : List VectorForm) (v : VectorForm) → slice_get vectors 0 ≡ Some v → width_in vectors ≡ lane_width_of v.coded
+pub width_first : (vectors : List VectorForm) (v : VectorForm) → slice_get vectors 0 ≡ Some v → width_in vectors ≡ lane_width_of v.coded
 width_first [] v e = absurd (cc)
 width_first (x ∷ xs) v e = let same : x ≡ v = cc in ap (λ (y : VectorForm). lane_width_of y.coded) same
 

@@ -1,9 +1,9 @@
 -- A filled vector row by row: the values so far end with the row's own, where it has one.
-use Rattle.std.proofs.Common.{◌≡◌, ◌≢◌, ℕ, zero, suc, ◌<◌, ◌≤◌, ◌⊎◌, inl, inr, Bool, true, false, not, cond, ◌&&◌, nat_lt, ℤ, pos, List, [], ◌∷◌, ◌++◌, take, drop, drop-cons, length, get_or, set, get_or-set_same, get_or-set_other, Option, Some, None, refl, sym, ◌∙◌, ap, arith, append-nil}
+use Rattle.std.proofs.Common.{◌≡◌, ◌≢◌, ℕ, suc, ◌<◌, ◌≤◌, ◌⊎◌, inl, inr, Bool, true, false, not, cond, ◌&&◌, nat_lt, ℤ, pos, List, [], ◌∷◌, ◌++◌, take, drop, drop-cons, length, get_or, set, get_or-set_same, get_or-set_other, Option, Some, None, refl, sym, ◌∙◌, ap, arith, append-nil}
 use Rattle.std.proofs.lemmas.List.FromFn.{length-map-range_with_len, get_or-map-range_with_len}
 use Rattle.std.proofs.Math.Seq.{take-suc}
 use Rattle.std.proofs.Math.ListN.{length-set}
-use Rattle.std.proofs.lemmas.List.{same_lists, take_all, take-append-drop}
+use Rattle.std.proofs.lemmas.List.{same_lists, take_all, take-append-drop, get_or_default}
 use Rattle.std.proofs.lemmas.Bool.{cases_lt, cases_eq}
 use Rattle.std.proofs.lemmas.Bool.Decides.{nat_tests}
 use Rattle.transpose_order.specs.Mask.{has}
@@ -138,17 +138,12 @@ fill_step rows nulls given now n latest z below h e =
     }
 
 -- ---- cells that are the same
-cell_any : (cells : List (Option ℤ)) (n : ℕ) (d e : Option ℤ) → n < length cells → get_or cells n d ≡ get_or cells n e
-cell_any [] n d e h = absurd (omega arith)
-cell_any (x ∷ xs) zero d e h = refl
-cell_any (x ∷ xs) (suc n) d e h = cell_any xs n d e (omega arith)
-
 pub under_are : (rows : ℕ) (nulls : List Bool) (values : List ℤ) (cells : List (Option ℤ)) → length cells ≡ rows → ((n : ℕ) → n < rows → cell_under nulls values n ≡ get_or cells n None) → cells_under rows nulls values ≡ cells
 under_are rows nulls values cells count h =
     same_lists (cells_under rows nulls values) cells (length-cells_under rows nulls values ∙ sym count)
     (λ n d w.
     let below : n < rows = omega (arith, length-cells_under rows nulls values) in
-    get_or-cells_under rows nulls values n d below ∙ h n below ∙ cell_any cells n None d (omega arith))
+    get_or-cells_under rows nulls values n d below ∙ h n below ∙ get_or_default cells n None d (omega arith))
 
 pub under_at : (rows : ℕ) (nulls : List Bool) (values : List ℤ) (cells : List (Option ℤ)) (n : ℕ) → cells_under rows nulls values ≡ cells → n < rows → cell_under nulls values n ≡ get_or cells n None
 under_at rows nulls values cells n e h = sym (get_or-cells_under rows nulls values n None h) ∙ ap (λ (xs : List (Option ℤ)). get_or xs n None) e

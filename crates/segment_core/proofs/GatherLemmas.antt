@@ -1,18 +1,15 @@
 -- A column's cells are gathered row by row: nulls into a mask, and values into their places.
-use Rattle.std.proofs.Common.{◌≡◌, ◌≢◌, ℕ, zero, suc, ◌+◌, ◌<◌, ◌≤◌, ◌⊎◌, inl, inr, Bool, false, cond, ℤ, pos, w64, FitsSigned, List, [], ◌∷◌, take, drop, length, get_or, Option, Some, None, IfSome, min, ◌-◌, refl, sym, ◌∙◌, ap, subst, arith, rules}
-use Rattle.std.proofs.lemmas.List.{same_lists, get_or_past, get_or_read, take_all, length-drop}
+use Rattle.std.proofs.Common.{◌≡◌, ◌≢◌, ℕ, zero, suc, ◌+◌, ◌<◌, ◌≤◌, ◌⊎◌, inl, inr, Bool, false, cond, ℤ, pos, List, [], ◌∷◌, take, drop, length, get_or, Option, Some, None, IfSome, min, ◌-◌, refl, sym, ◌∙◌, ap, subst, arith}
+use Rattle.std.proofs.lemmas.List.{same_lists, get_or_past, get_or_read, take_all, length-drop, get_or_default}
 use Rattle.std.proofs.lemmas.Bool.{cases_lt, cases_eq}
-use Rattle.transpose_order.specs.Place.{IsLaneWidth}
 use Rattle.transpose_order.specs.Mask.{has}
-use Rattle.transpose_order.proofs.WidthLemmas.{at_widths}
-use Rattle.bit_interleave.specs.Arithmetic.{integer_width}
 use Rattle.bit_interleave.specs.Range.{value_at}
 use Rattle.table_model.specs.State.{Cells, Batch}
 use Rattle.segment_core.specs.Fill.{cells_under}
 use Rattle.segment_core.specs.CodedVector.{is_null_cell, null_rows}
-use Rattle.segment_core.specs.Segment.{column_cells, HasColumn}
+use Rattle.segment_core.specs.Segment.{column_cells}
 use Rattle.segment_core.proofs.FillLemmas.{length-cells_under, get_or-cells_under}
-use Rattle.segment_core.proofs.VectorLemmas.{null_rows_is, get_or-any}
+use Rattle.segment_core.proofs.VectorLemmas.{null_rows_is}
 
 -- ---- a column's cells
 pub length-column_cells : (rows : Batch) (c : ℕ) → length (column_cells rows c) ≡ length rows
@@ -57,7 +54,7 @@ gather_step cells n nulls after values values_after below g p = record {
 
 -- ---- all rows
 null_at_all : (cells : List (Option ℤ)) (nulls : List Bool) (values : List ℤ) → Gathering cells (length cells) nulls values → (k : ℕ) → k < 1024 → (k < length cells) ⊎ (length cells ≤ k) → has nulls k ≡ is_null_cell (get_or cells k (Some (pos 0)))
-null_at_all cells nulls values g k l (inl h) = g.null_so_far k h ∙ ap is_null_cell (get_or-any cells k None (Some (pos 0)) h)
+null_at_all cells nulls values g k l (inl h) = g.null_so_far k h ∙ ap is_null_cell (get_or_default cells k None (Some (pos 0)) h)
 null_at_all cells nulls values g k l (inr h) = g.null_later k h l ∙ sym (ap is_null_cell (get_or_past cells k (Some (pos 0)) h))
 
 pub gathered_nulls : (cells : List (Option ℤ)) (nulls : List Bool) (values : List ℤ) → Gathering cells (length cells) nulls values → nulls ≡ null_rows cells
@@ -75,7 +72,7 @@ gathered_cells cells rows nulls values count g =
     let within : k < length cells = omega arith in
     get_or-cells_under rows nulls values k d below
     ∙ read_back (get_or cells k None) (has nulls k) (value_at values k) (g.null_so_far k within) (λ y e. g.values_so_far k y within e)
-    ∙ get_or-any cells k None d within)
+    ∙ get_or_default cells k None d within)
 
 -- ---- what the loop reads
 pub if_some : (cell : Option ℤ) (P : ℤ → Type 0) → ((z : ℤ) → cell ≡ Some z → P z) → IfSome cell P

@@ -4,6 +4,7 @@ pub mod FillLemmas
 pub mod SameCells
 pub mod VectorLemmas
 pub mod GatherLemmas
+pub mod LaneWidths
 pub mod BuildLemmas
 pub mod CellLemmas
 pub mod WidthLemmas

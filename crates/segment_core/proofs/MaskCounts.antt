@@ -1,22 +1,11 @@
 -- A null mask by its counts: it has a row below a limit, and none from there on.
 use Rattle.std.proofs.Common.{◌≡◌, ℕ, zero, suc, ◌+◌, ◌-◌, ◌<◌, ◌≤◌, Bool, true, false, cond, ltb, eqb, ◌⊎◌, inl, inr, List, length, refl, sym, ap, subst, ◌∙◌, arith}
-use Rattle.std.proofs.lemmas.Bool.{ltb-true, lt-ltb, eqb-true, eq-eqb, and_parts, and_from, cases_lt}
+use Rattle.std.proofs.lemmas.Bool.{ltb-true, lt-ltb, eqb-true, eq-eqb, and_parts, and_from, cases_lt, cases_Bool}
 use Rattle.std.proofs.lemmas.List.{get_or_past}
 use Rattle.transpose_order.specs.Mask.{has, count_below}
+use Rattle.transpose_order.proofs.MaskLemmas.{count_below-suc, count_below-zero}
 use Rattle.segment_core.specs.CodedVector.{IsNullMask}
 use Rattle.segment_core.specs.VectorBytes.{is_null_mask}
-
-pub count_below-suc : (p : ℕ → Bool) (n : ℕ) → count_below p (suc n) ≡ count_below p n + cond (p n) 1 0
-unfolding count_below
-count_below-suc p n = refl
-
-pub count_below-zero : (p : ℕ → Bool) → count_below p zero ≡ 0
-unfolding count_below
-count_below-zero p = refl
-
-which : (b : Bool) → (b ≡ true) ⊎ (b ≡ false)
-which true = inl refl
-which false = inr refl
 
 -- what is counted is there
 found_at : (p : ℕ → Bool) (n : ℕ) → 0 < count_below p n + cond {A = ℕ} (p n) 1 0 → ((0 < count_below p n) → (k : ℕ) × (k < n) × (p k ≡ true)) → (p n ≡ true) ⊎ (p n ≡ false) → (k : ℕ) × (k < suc n) × (p k ≡ true)
@@ -30,7 +19,7 @@ found : (p : ℕ → Bool) (n : ℕ) → 0 < count_below p n → (k : ℕ) × (k
 found p zero some = absurd (omega (arith, count_below-zero p))
 found p (suc n) some =
     let more : 0 < count_below p n + cond {A = ℕ} (p n) 1 0 = subst (λ (c : ℕ). 0 < c) (count_below-suc p n) some in
-    found_at p n more (λ h. found p n h) (which (p n))
+    found_at p n more (λ h. found p n h) (cases_Bool (p n))
 
 -- what is there is counted
 counted_at : (p : ℕ → Bool) (n k : ℕ) → k < suc n → p k ≡ true → (k < n → 0 < count_below p n) → (k < n) ⊎ (n ≤ k) → 0 < count_below p n + cond {A = ℕ} (p n) 1 0
@@ -82,7 +71,7 @@ tested_is_null_mask rows mask long e =
     record {
       long = long;
       one = f;
-      past = λ n past. absent rows mask n long (eqb-true _ _ v.1) past (which (has mask n)) (cases_lt n 1024);
+      past = λ n past. absent rows mask n long (eqb-true _ _ v.1) past (cases_Bool (has mask n)) (cases_lt n 1024);
     }
 
 pub null_mask_is_tested : (rows : ℕ) (mask : List Bool) → rows ≤ 1024 → IsNullMask rows mask → is_null_mask rows mask ≡ true

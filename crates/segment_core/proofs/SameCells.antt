@@ -3,6 +3,7 @@ use Rattle.std.proofs.Common.{◌≡◌, ℕ, ◌<◌, ◌≤◌, ◌-◌, ◌/�
 use Rattle.std.proofs.lemmas.List.Elements.{All-from_get_or}
 use Rattle.std.proofs.lemmas.List.Folds.{list_any_none}
 use Rattle.std.proofs.lemmas.Bool.{cases_lt}
+use Rattle.std.proofs.lemmas.List.{get_or_default}
 use Rattle.transpose_order.specs.Mask.{has}
 use Rattle.transpose_order.specs.Place.{IsLaneWidth}
 use Rattle.bit_interleave.specs.Range.{value_at}
@@ -17,7 +18,7 @@ use Rattle.segment_core.specs.declared.coded.Coded.TheVariants.{For}
 use Rattle.segment_core.specs.Coded.{least_form}
 use Rattle.segment_core.proofs.ChoiceLemmas.{bare_frame_is_first}
 use Rattle.segment_core.proofs.FillLemmas.{length-filled, value_at-filled, filled_at-some, filled_past}
-use Rattle.segment_core.proofs.VectorLemmas.{length-null_rows, has-null_rows, null_past, get_or-any}
+use Rattle.segment_core.proofs.VectorLemmas.{length-null_rows, has-null_rows, null_past}
 
 module _ (rows : ℕ) (value : ℤ) (cells : List (Option ℤ)) (some : 1 ≤ rows) (h : AreSame rows value cells) where
   past_same : (n : ℕ) → rows ≤ n → filled_at cells n ≡ value
@@ -42,7 +43,7 @@ module _ (rows : ℕ) (value : ℤ) (cells : List (Option ℤ)) (some : 1 ≤ ro
   form_same t w = ap (λ (k : Coding). least_form k t (filled cells)) (bare_frame_is_first t (filled cells) w (length-filled cells) (bytes_same t))
 
   null_at : (n : ℕ) → n < 1024 → (n < rows) ⊎ (rows ≤ n) → has (null_rows cells) n ≡ false
-  null_at n l (inl m) = let count = h.count in has-null_rows cells n l ∙ ap is_null_cell (get_or-any cells n (Some (pos 0)) None (omega arith) ∙ h.each n m)
+  null_at n l (inl m) = let count = h.count in has-null_rows cells n l ∙ ap is_null_cell (get_or_default cells n (Some (pos 0)) None (omega arith) ∙ h.each n m)
   null_at n l (inr m) = let count = h.count in null_past cells n (omega arith) (inl l)
 
   no_nulls : None ≡ null_mask cells

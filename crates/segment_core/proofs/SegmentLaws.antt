@@ -1,20 +1,18 @@
 -- The laws of a segment's columns in bytes.
-use Rattle.std.proofs.Common.{◌≡◌, ℕ, ◌+◌, ◌-◌, ◌≤◌, true, List, [], ◌∷◌, ◌++◌, length, map, slice_index_or, slice_range, take, drop, Ok, All, inl, inr, refl, sym, ap, ◌∙◌, arith}
+use Rattle.std.proofs.Common.{◌≡◌, ℕ, ◌+◌, ◌-◌, ◌≤◌, true, List, ◌++◌, length, slice_index_or, slice_range, take, drop, Ok, All, refl, sym, ap, ◌∙◌, arith}
 use Rattle.transpose_order.specs.Place.{IsLaneWidth}
-use Rattle.std.specs.List.{AllByRecursion}
 use Rattle.std.proofs.lemmas.List.{length-append, length-drop, take_at, drop_at, drop-drop, take-append-drop}
 use Rattle.std.proofs.lemmas.List.Elements.{All-from_recursion}
-use Rattle.std.proofs.lemmas.List.FromFn.{length-map-range_with_len}
-use Rattle.table_model.specs.Table.{Table, ColumnShape, bits_of}
-use Rattle.table_model.specs.declared.schema.ColType.{ColType}
-use Rattle.table_model.specs.declared.schema.ColType.TheVariants.{SmallInt, Integer, BigInt}
+use Rattle.table_model.specs.Table.{Table}
 use Rattle.segment_core.specs.CodedVector.{VectorForm}
-use Rattle.segment_core.specs.Segment.{SegmentForm, vector_count, rows_in, row_of, batch_of, widths_of, widths_in}
+use Rattle.segment_core.specs.Segment.{SegmentForm, vector_count, rows_in, batch_of, widths_of, widths_in}
 use Rattle.segment_core.specs.Format.{IsLawful, AreBytes}
 use Rattle.segment_core.specs.VectorBytes.{vector}
 use Rattle.segment_core.specs.SegmentBytes.{column, columns, batch_columns, columns_then, segment_bytes}
+use Rattle.segment_core.proofs.SegmentLemmas.{length-batch_of}
 use Rattle.segment_core.proofs.FormatLaws.{all_is_lawful, rest_are_bytes}
 use Rattle.segment_core.proofs.VectorLaws.{vector_is_lawful}
+use Rattle.segment_core.proofs.LaneWidths.{widths_are_lanes}
 
 pub column_is_lawful : (t rows : ℕ) → IsLaneWidth t → IsLawful (column t rows)
 unfolding column
@@ -45,22 +43,9 @@ place_onward bytes text rest at within parts =
 
 -- ---- the columns of a table
 
-type_lanes : (t : ColType) → IsLaneWidth (bits_of t)
-type_lanes SmallInt = inr (inl refl)
-type_lanes Integer = inr (inr (inl refl))
-type_lanes BigInt = inr (inr (inr refl))
-
-widths_are_lanes : (shapes : List ColumnShape) → AllByRecursion (λ t. IsLaneWidth t) (map (λ (s : ColumnShape). bits_of s.column_type) shapes)
-widths_are_lanes [] = tt
-widths_are_lanes (shape ∷ shapes) = (type_lanes shape.column_type, widths_are_lanes shapes)
-
 pub batch_columns_are_lawful : (table : Table) (rows : ℕ) → IsLawful (batch_columns table rows)
 batch_columns_are_lawful table rows =
     columns_are_lawful (widths_of table) rows (All-from_recursion (λ t. IsLaneWidth t) (widths_of table) (widths_are_lanes table.columns))
-
-length-batch_of : (rows : ℕ) (forms : List (List VectorForm)) → length (batch_of rows forms) ≡ rows
-unfolding batch_of
-length-batch_of rows forms = length-map-range_with_len (row_of forms) 0 rows
 
 -- the bytes of a segment of so many rows and of a table's lane widths
 pub segment_bytes_are : (s : SegmentForm) (table : Table) (rows : ℕ) → s.rows ≡ batch_of rows s.forms → widths_in s.forms ≡ widths_of table → segment_bytes s ≡ (batch_columns table rows).spell s.forms

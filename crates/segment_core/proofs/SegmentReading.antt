@@ -6,7 +6,7 @@ use Rattle.std.proofs.Math.ListN.{get_or-map}
 use Rattle.table_model.specs.Table.{bits_of, ColumnShape}
 use Rattle.segment_core.specs.Coded.{lane_width_of}
 use Rattle.segment_core.specs.CodedVector.{VectorForm, IsVector}
-use Rattle.segment_core.specs.Segment.{IsColumn, vector_count, rows_in, width_in, widths_in}
+use Rattle.segment_core.specs.Segment.{IsColumn, rows_in, width_in, widths_in}
 
 -- what stands at a place of a list with one more item
 pub last_or : {X : Type 0} (front : List X) (x y : X) (k : ℕ) → slice_get (front ++ x ∷ []) k ≡ Some y → (slice_get front k ≡ Some y) ⊎ ((k ≡ length front) × (x ≡ y))

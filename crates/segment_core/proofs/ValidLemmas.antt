@@ -1,6 +1,5 @@
 -- What is a form has bytes: each part of it, and so each vector, each column and each segment.
 use Rattle.std.proofs.Common.{◌≡◌, ℕ, suc, ◌+◌, ◌-◌, ◌*◌, ◌/◌, ◌^◌, ◌<◌, ◌≤◌, ◌⊎◌, Bool, true, false, cond, ◌&&◌, ◌||◌, ◌==◌, not, leb, eqb, ℤ, pos, int_lt, ◌<ℤ◌, List, [], ◌∷◌, ◌++◌, length, get_or, slice_get, Option, Some, None, inl, inr, refl, sym, ap, subst, ◌∙◌, append_assoc, arith, FitsSigned, All}
-use Rattle.std.proofs.lemmas.Int.{ints}
 use Rattle.std.specs.List.{list_all}
 use Rattle.std.proofs.lemmas.Bool.{le-leb, eq-eqb, ne_eqb, and_from, cases_lt}
 use Rattle.std.proofs.lemmas.List.{length-append, length-map, get_or_past, get_or_append_left}
@@ -23,6 +22,7 @@ use Rattle.frame_delta.specs.Frame.{FrameForm, IsFrameForm}
 use Rattle.frame_delta.specs.Delta.{DeltaForm, IsDeltaForm}
 use Rattle.run_dictionary.specs.Runs.{RunForm, IsRunForm, run_of}
 use Rattle.run_dictionary.specs.Dict.{DictForm, IsDictForm, IsAscending}
+use Rattle.run_dictionary.proofs.DictLemmas.{test_from_less}
 use Rattle.table_model.specs.Table.{Table}
 use Rattle.table_model.specs.declared.refusal.Refusal.TheVariants.{BadDictionary}
 use Rattle.segment_core.specs.declared.coding.Coding.{Coding}
@@ -162,9 +162,6 @@ runs_valid r is =
     (eq-eqb _ _ (sym is.count)))
     (values_valid r.lane_width (length r.values) r.values is.lane_width refl is.range))
 
-less_passes : (x y : ℤ) → x <ℤ y → int_lt x y ≡ true
-less_passes x y h = grind (arith, ints)
-
 -- a value is above the last of those before it in an ascending list
 above_last : (front : List ℤ) (x : ℤ) (xs : List ℤ) → IsAscending (front ++ x ∷ xs) → is_above front x ≡ true
 above_last [] x xs rises = refl
@@ -176,7 +173,7 @@ above_last (y ∷ front) x xs rises =
     let place : length (y ∷ front) - 1 ≡ k = omega arith in
     let below : value_at (y ∷ front) (length (y ∷ front) - 1) <ℤ x = rw place (rw (last, here) at less) in
     let some : (length (y ∷ front) == 0) ≡ false = ne_eqb _ _ (omega arith) in
-    ap (λ (b : Bool). b || int_lt (value_at (y ∷ front) (length (y ∷ front) - 1)) x) some ∙ less_passes (value_at (y ∷ front) (length (y ∷ front) - 1)) x below
+    ap (λ (b : Bool). b || int_lt (value_at (y ∷ front) (length (y ∷ front) - 1)) x) some ∙ test_from_less (value_at (y ∷ front) (length (y ∷ front) - 1)) x below
 
 dictionary_from : (t : ℕ) (xs front : List ℤ) → IsLaneWidth t → IsAscending (front ++ xs) → AreInRange t xs → valid_all (λ front. checked (signed t) (is_above front) BadDictionary) front xs ≡ true
 unfolding valid_all

@@ -30,7 +30,7 @@ use Rattle.segment_core.specs.VectorBytes.{mask, are_words, words, is_null_mask,
 use Rattle.segment_core.proofs.FormatLaws.{raw_is_lawful, seen_is_lawful, checked_is_lawful, before_is_lawful, optional_is_lawful, all_is_lawful}
 use Rattle.segment_core.proofs.NumberLaws.{number_is_lawful, signed_is_lawful, chosen_some, cond_valid}
 
-some_is : {A : Type 0} (x y : A) → Some x ≡ Some y → x ≡ y
+pub some_is : {A : Type 0} (x y : A) → Some x ≡ Some y → x ≡ y
 some_is x y e = cc
 
 same_lanes : (t : ℕ) {A : Type 0} (x : A) → cond (eqb t t) (Some x) None ≡ Some x

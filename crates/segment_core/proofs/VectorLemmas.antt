@@ -4,7 +4,7 @@ use Rattle.std.specs.List.{list_any, All}
 use Rattle.std.proofs.lemmas.List.FromFn.{length-map-range_with_len, get_or-map-range_with_len}
 use Rattle.std.proofs.lemmas.List.Elements.{All-get_or, All-from_get_or}
 use Rattle.std.proofs.lemmas.List.Folds.{list_any_none, list_any_at}
-use Rattle.std.proofs.lemmas.List.{same_lists, get_or_past, get_or-take, length-take}
+use Rattle.std.proofs.lemmas.List.{same_lists, get_or_past, get_or-take, length-take, get_or_default}
 use Rattle.std.proofs.lemmas.Bool.{cases_lt}
 use Rattle.transpose_order.specs.Place.{IsLaneWidth}
 use Rattle.transpose_order.specs.Mask.{rows_of, has}
@@ -241,11 +241,6 @@ not_there : (mask : List Bool) (n : ℕ) → n < length mask → list_any (λ ro
 not_there mask n l e true f = absurd (let g = some_row mask n l f in cc)
 not_there mask n l e false f = refl
 
-pub get_or-any : (cells : List (Option ℤ)) (n : ℕ) (d e : Option ℤ) → n < length cells → get_or cells n d ≡ get_or cells n e
-get_or-any [] n d e h = absurd (omega arith)
-get_or-any (x ∷ xs) zero d e h = refl
-get_or-any (x ∷ xs) (suc n) d e h = get_or-any xs n d e (omega arith)
-
 some_mask : (mask : List Bool) (n : ℕ) → n < length mask → (b : Bool) → list_any (λ row. row) mask ≡ b → is_null (cond b (Some mask) None) n ≡ has mask n
 some_mask mask n l true e = refl
 some_mask mask n l false e = not_there mask n l e (has mask n) refl
@@ -255,7 +250,7 @@ pub canonical_cell : (t : ℕ) (cells : List (Option ℤ)) (n : ℕ) → IsLaneW
 canonical_cell t cells n w limit fit h =
     let null : is_null (null_mask cells) n ≡ is_null_cell (get_or cells n None) =
     some_mask (null_rows cells) n (omega (arith, length-null_rows cells)) (list_any (λ row. row) (null_rows cells)) refl
-    ∙ has-null_rows cells n (omega arith) ∙ ap is_null_cell (get_or-any cells n (Some (pos 0)) None h) in
+    ∙ has-null_rows cells n (omega arith) ∙ ap is_null_cell (get_or_default cells n (Some (pos 0)) None h) in
     ap (λ b. cond b None (Some (value_in (canonical_form t (filled cells)) n))) null
     ∙ canonical_cell_at cells n (get_or cells n None) (value_in (canonical_form t (filled cells)) n) refl
     (λ y e. form_cell (choice t (filled cells)) t cells w fit limit n y h e)

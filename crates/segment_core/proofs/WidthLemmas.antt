@@ -11,15 +11,12 @@ use Rattle.segment_core.proofs.GatherLemmas.{length-column_cells}
 use Rattle.segment_core.proofs.BuildLemmas.{slice_get-canonical_column, length-canonical_forms, get_or-canonical_forms}
 use Rattle.segment_core.proofs.VectorLemmas.{lane_width-canonical}
 use Rattle.segment_core.proofs.PutLemmas.{picked}
+use Rattle.segment_core.proofs.CellLemmas.{width_first}
 
 -- ---- the widths of canonical columns
-width_found : (vectors : List VectorForm) (v : VectorForm) → slice_get vectors 0 ≡ Some v → width_in vectors ≡ lane_width_of v.coded
-width_found [] v e = absurd (cc)
-width_found (x ∷ xs) v e = let same : x ≡ v = cc in ap (λ (y : VectorForm). lane_width_of y.coded) same
-
 width_in-canonical : (t : ℕ) (cells : List (Option ℤ)) → 1 ≤ length cells → width_in (canonical_column t cells) ≡ t
 width_in-canonical t cells h =
-    width_found (canonical_column t cells) _ (slice_get-canonical_column t cells 0 (omega arith)) ∙ lane_width-canonical t (cells_in cells 0)
+    width_first (canonical_column t cells) _ (slice_get-canonical_column t cells 0 (omega arith)) ∙ lane_width-canonical t (cells_in cells 0)
 
 get_or-widths : (forms : List (List VectorForm)) (c d : ℕ) → c < length forms → get_or (map width_in forms) c d ≡ width_in (get_or forms c [])
 get_or-widths [] c d h = absurd (omega arith)

@@ -65,7 +65,7 @@ unfolding spell_all
 spell_all-nil item front = refl
 
 -- the bytes of items at one of them
-spell_all-at : {A : Type 0} (item : List A → Format A) (xs : List A) (i : ℕ) (d : A) → i < length xs
+pub spell_all-at : {A : Type 0} (item : List A → Format A) (xs : List A) (i : ℕ) (d : A) → i < length xs
     → spell_all item [] xs ≡ (spell_all item [] (take i xs) ++ (item (take i xs)).spell (get_or xs i d)) ++ spell_all item (take i xs ++ get_or xs i d ∷ []) (drop (i + 1) xs)
 spell_all-at {A = A} item xs i d below =
     ap (spell_all item []) (sym (take-append-drop i xs)) ∙ spell_all-append item [] (take i xs) (drop i xs)

@@ -6,7 +6,7 @@ use Rattle.std.specs.FinMap as finite
 use Rattle.table_model.specs.State.{Cells, Batch, State}
 use Rattle.table_model.specs.declared.names.BatchName.{BatchName}
 use Rattle.segment_core.specs.CodedVector.{VectorForm, IsVector, vector_cell}
-use Rattle.segment_core.specs.Segment.{SegmentForm, IsSegment, batch_of, rows_in, vector_count}
+use Rattle.segment_core.specs.Segment.{SegmentForm, IsSegment, batch_of, rows_in}
 use Rattle.segment_core.specs.Segment as segment
 use Rattle.segment_core.proofs.CellLemmas.{cell_found}
 use Rattle.query_eval.specs.Vector.{Vector, batch_at, vector_at, row_at, cell_at}

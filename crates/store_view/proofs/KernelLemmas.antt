@@ -3,7 +3,6 @@ use Rattle.std.proofs.Common.{◌≡◌, ℕ, ◌<◌, ◌≤◌, Bool, true, fa
 use Rattle.std.proofs.lemmas.Bool.Decides.{nat_tests}
 use Rattle.std.proofs.lemmas.Option.{none-some}
 use Rattle.std.specs.Option.{unwrap_or}
-use Rattle.std.proofs.lemmas.List.FromFn.{length-map-range_with_len, get_or-map-range_with_len}
 use Rattle.table_model.specs.Answer.{whole}
 use Rattle.table_model.specs.Condition.{is_null}
 use Rattle.table_model.specs.Truth.{comparison, compared, and_of, truth_of, is_true, is_false}
@@ -11,25 +10,22 @@ use Rattle.table_model.specs.Values.{present}
 use Rattle.table_model.specs.declared.op.Op.{Op}
 use Rattle.table_model.specs.declared.truth.Truth.{Truth}
 use Rattle.table_model.specs.declared.op.Op.TheVariants.{GreaterOrEqual, LessOrEqual}
+use Rattle.table_model.proofs.Predicates.{both_known}
 use Rattle.table_model.proofs.TruthPairs.{is_true-truth_of, is_false-truth_of}
 use Rattle.transpose_order.specs.Mask.{rows_of, has}
-use Rattle.transpose_order.specs.MaskWords.{has-rows_of, rows_of-like, rows_of-same}
+use Rattle.transpose_order.specs.MaskWords.{has-rows_of, rows_of-like}
 use Rattle.segment_core.specs.Coded.{values_of, value_in}
-use Rattle.segment_core.specs.CodedVector.{VectorForm, IsVector, vector_cell}
+use Rattle.segment_core.specs.CodedVector.{VectorForm}
 use Rattle.segment_core.specs.CodedVector as coded_vector
 use Rattle.segment_core.proofs.CodedLemmas.{value_at-values_of}
-use Rattle.fused_kernels.specs.Seen.{LanesSeen, looked_cell, values_looked_at, between}
+use Rattle.fused_kernels.specs.Seen.{looked_cell, values_looked_at, between}
 use Rattle.fused_kernels.specs.Seen as seen
 use Rattle.fused_kernels.specs.VectorSeen.{vector_seen}
 use Rattle.query_eval.specs.Pairs.{yes_of, no_of}
 use Rattle.query_eval.specs.Vector.{Vector, cell_at, looked_at}
+use Rattle.query_eval.proofs.Lifted.{rows_of-alike, shown_if}
 use Rattle.store_view.specs.View.{HasCells}
 use Rattle.store_view.proofs.CellLemmas.{cell_past}
-
-covered_cell : (m k : Bool) (z : ℤ) → cond (m && not k) (Some z) None ≡ cond m (cond k None (Some z)) None
-covered_cell true true z = refl
-covered_cell true false z = refl
-covered_cell false k z = refl
 
 no_cell : (m : Bool) (c : Option ℤ) → c ≡ cond m c c
 no_cell true c = refl
@@ -43,22 +39,18 @@ looked coded v column h mask n low =
     elim (nat_lt n coded.rows) as (λ b. nat_lt n coded.rows ≡ b → cond (b && (has mask n && not (has (vector_seen coded 0).nulls n))) (Some (value_in coded.coded n)) None ≡ cond (has mask n) (cell_at v column n) None) [
       | true ↦ λ t.
           ap (λ k. cond (has mask n && not k) (Some (value_in coded.coded n)) None) nulls
-          ∙ covered_cell (has mask n) (coded_vector.is_null coded.nulls n) (value_in coded.coded n)
+          ∙ shown_if (has mask n) (coded_vector.is_null coded.nulls n) (value_in coded.coded n)
           ∙ ap (λ c. cond (has mask n) c None) (sym (h.cells n (grind (arith, nat_tests))))
       | false ↦ λ t.
           let past : length v.rows ≤ n = let e = h.covers in grind (arith, nat_tests) in
           no_cell (has mask n) None ∙ ap (λ c. cond (has mask n) c None) (sym (cell_past v column n past))
     ] refl
 
-same_rows_of : (f g : ℕ → Option ℤ) → ((n : ℕ) → n < 1024 → f n ≡ g n) → rows_of f ≡ rows_of g
-unfolding rows_of
-same_rows_of f g h = rows_of-same g (rows_of f) None (length-map-range_with_len f 0 1024) (λ n low. get_or-map-range_with_len f 0 1024 n n None low (omega arith) ∙ h n low)
-
 -- the values that a kernel looks at
 pub same_values : (coded : VectorForm) (v : Vector) (column : ℕ) → HasCells coded v column → (mask : List Bool) → values_looked_at (vector_seen coded 0) mask ≡ looked_at v column mask
 unfolding values_looked_at looked_at
 same_values coded v column h mask =
-    ap present (same_rows_of (looked_cell (vector_seen coded 0) mask) (λ n. cond (has mask n) (cell_at v column n) None)
+    ap present (rows_of-alike (looked_cell (vector_seen coded 0) mask) (λ n. cond (has mask n) (cell_at v column n) None) None
     (λ n low. ap (λ z. cond (seen.looked_at (vector_seen coded 0) mask n) (Some z) None) (value_at-values_of coded.coded n low) ∙ looked coded v column h mask n low))
 
 -- ---- comparisons
@@ -92,14 +84,10 @@ compare_no coded v column h op literal mask = rows_of-like _ _ (λ n low. no_one
 
 -- ---- a range
 both_true : (a b : Bool) → (a && b) ≡ is_true (and_of (truth_of a) (truth_of b))
-both_true true true = refl
-both_true true false = refl
-both_true false b = refl
+both_true a b = sym (is_true-truth_of (a && b)) ∙ ap is_true (sym (both_known a b))
 
 both_false : (a b : Bool) → not (a && b) ≡ is_false (and_of (truth_of a) (truth_of b))
-both_false true true = refl
-both_false true false = refl
-both_false false b = refl
+both_false a b = sym (is_false-truth_of (a && b)) ∙ ap is_false (sym (both_known a b))
 
 -- the truth of BETWEEN at a cell
 abbrev range_truth : ℤ → ℤ → Option ℤ → Truth

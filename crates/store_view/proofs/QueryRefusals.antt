@@ -1,11 +1,12 @@
 -- What a query is refused as: a fault of its text, or one of its names.
-use Rattle.std.proofs.Common.{◌≡◌, ◌⊎◌, inl, inr, ℕ, ◌&&◌, Bool, true, false, cond, ltb, IsTrue, List, [], ◌∷◌, length, Option, Some, None, Result, Ok, Err, refl, sym, ap, ◌∙◌, subst}
+use Rattle.std.proofs.Common.{◌≡◌, inl, inr, ℕ, ◌&&◌, Bool, true, false, cond, ltb, IsTrue, List, [], ◌∷◌, length, Option, Some, None, Result, Ok, Err, refl, ap, subst}
 use Rattle.std.specs.List.{list_all}
 use Rattle.table_model.specs.Identifier.{same_text}
 use Rattle.table_model.specs.Query.{QueryShape}
 use Rattle.table_model.specs.Table.{Table}
 use Rattle.table_model.specs.declared.refusal.Refusal.{Refusal}
-use Rattle.table_model.specs.declared.refusal.Refusal.TheVariants.{Memory, Syntax, NumberTooLarge, TooDeep, NoSuchTable}
+use Rattle.table_model.specs.declared.refusal.Refusal.TheVariants.{Syntax, NumberTooLarge, TooDeep, NoSuchTable}
+use Rattle.query_parser.specs.Limits.{depth_limit}
 use Rattle.query_parser.specs.Resolve.{Places, places, verdict, in_query, resolved}
 use Rattle.query_parser.specs.Stack.{Symbol, a_query, may_be_empty, open_count, after, fault_of, first_fault, text_fault, Finds}
 use Rattle.query_parser.specs.Token.{choose, is_large, same_sign, tokens_of}
@@ -34,7 +35,7 @@ end_listed true end = tt
 end_listed false end = refl
 
 token_listed : (next : List Symbol) (k : Kind) (at : ℕ) → IsListed (fault_of next k at)
-token_listed next (kind.Sign s) at = open_listed (same_sign s sign.OpenParen && ltb 64 (open_count next))
+token_listed next (kind.Sign s) at = open_listed (same_sign s sign.OpenParen && ltb depth_limit (open_count next))
 token_listed next (Identifier word) at = tt
 token_listed next (Digits digits) at = large_listed (is_large digits) at
 token_listed next Bad at = tt

@@ -1,5 +1,5 @@
 -- A store's state is one that a query may be asked of: each batch is one of the table's, and there are no more rows than a state may have.
-use Rattle.std.proofs.Common.{◌≡◌, ℕ, zero, suc, ◌*◌, ◌<◌, ◌≤◌, ◌&&◌, not, nat_lt, List, [], ◌∷◌, length, flat_map, get_or, slice_get, Some, refl, sym, ◌∙◌, ap, arith}
+use Rattle.std.proofs.Common.{◌≡◌, ℕ, zero, suc, ◌*◌, ◌<◌, ◌≤◌, ◌&&◌, not, nat_lt, List, [], ◌∷◌, length, flat_map, get_or, slice_get, Some, sym, ◌∙◌, ap, arith}
 use Rattle.std.proofs.lemmas.List.{length-append}
 use Rattle.std.specs.FinMap as finite
 use Rattle.std.specs.FinSet as set
@@ -9,14 +9,11 @@ use Rattle.table_model.specs.declared.names.BatchName.{BatchName}
 use Rattle.catalogue_join.specs.LiveMask as catalogue
 use Rattle.replica_store.specs.Replica.{AllFit, IsWithinLimits}
 use Rattle.query_eval.specs.Vector.{IsWithin, batch_at, vector_count, vector_at, is_live}
+use Rattle.query_eval.proofs.TableLemmas.{length-named_from}
 use Rattle.store_view.proofs.CellLemmas.{batch_found}
 
 abbrev Entry : Type 0
 Entry = BatchName × Batch
-
-length-named_from : (name : BatchName) (n : ℕ) (rows : Batch) → length (named_from name n rows) ≡ length rows
-length-named_from name n [] = refl
-length-named_from name n (row ∷ rows) = ap suc (length-named_from name (suc n) rows)
 
 entry_fits : (table : Table) (es : List Entry) (i : ℕ) (d : Entry) → AllFit table es → i < length es → IsBatch table (get_or es i d).1
 entry_fits table [] i d fit h = absurd (omega arith)

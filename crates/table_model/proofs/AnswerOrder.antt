@@ -76,7 +76,7 @@ module _ (columns : List ColumnShape) where
   abbrev fields : List ℕ → List Item → Group → List Field
   fields by items group = map (λ item. item_value columns by group item.value) items
 
-map-chosen : {G V : Type 0} (f : G → V) (b : Bool) (x : G) (xs : List G) → map f (cond b (x ∷ xs) xs) ≡ cond b (f x ∷ map f xs) (map f xs)
+pub map-chosen : {G V : Type 0} (f : G → V) (b : Bool) (x : G) (xs : List G) → map f (cond b (x ∷ xs) xs) ≡ cond b (f x ∷ map f xs) (map f xs)
 map-chosen f true x xs = refl
 map-chosen f false x xs = refl
 

@@ -1,30 +1,24 @@
 -- A batch has no fault exactly where it has from 1 to 65,536 rows, and each cell of each row fits.
-use Rattle.std.specs.Prelude.{◌≡◌, ℕ, suc, ◌≤◌, Bool, true, false, cond, ◌&&◌, ◌==◌, List, [], ◌∷◌, length, Option, Some, None, ℤ, int_le, T}
-use Rattle.std.proofs.Common.{refl, sym, ap, ◌∙◌, arith, subst}
+use Rattle.std.specs.Prelude.{◌≡◌, ℕ, suc, ◌≤◌, true, false, cond, ◌==◌, List, [], ◌∷◌, length, Option, Some, None, ℤ, int_le}
+use Rattle.std.proofs.Common.{refl, ap, ◌∙◌, arith}
 use Rattle.std.specs.Int.Signed.{le_z_yes}
 use Rattle.std.proofs.lemmas.Bool.{and_parts}
 use Rattle.std.proofs.lemmas.Bool.Decides.{nat_tests}
+use Rattle.std.specs.Bool.{passes}
 use Rattle.table_model.specs.State.{Cells, Batch}
 use Rattle.table_model.specs.Table.{Table, ColumnShape, least_of, greatest_of, fits, cells_fault, row_fault, first_fault, or_else, Fits, IsRow, AreRows, IsBatch, row_limit}
 use Rattle.table_model.specs.declared.refusal.Refusal.TheVariants.{WrongArity, OutOfType}
-
-holds_true : {b : Bool} → b ≡ true → T b
-holds_true e = subst T (sym e) tt
-
-two_hold : (a b : Bool) → T a → T b → (a && b) ≡ true
-two_hold true true h g = refl
-two_hold true false h g = absurd g
-two_hold false b h g = absurd h
+use Rattle.table_model.proofs.Passed.{true_from_T, both_of}
 
 Fits-fits : (c : ColumnShape) (v : Option ℤ) → fits c v ≡ true → Fits c v
 Fits-fits c None e = tt
 Fits-fits c (Some z) e =
     let both = and_parts (int_le (least_of c.column_type) z) (int_le z (greatest_of c.column_type)) e in
-    (le_z_yes (holds_true both.0), le_z_yes (holds_true both.1))
+    (le_z_yes (passes _ both.0), le_z_yes (passes _ both.1))
 
 fits-Fits : (c : ColumnShape) (v : Option ℤ) → Fits c v → fits c v ≡ true
 fits-Fits c None h = refl
-fits-Fits c (Some z) h = two_hold _ _ h.0.le h.1.le
+fits-Fits c (Some z) h = true_from_T _ (both_of _ _ h.0.le h.1.le)
 
 -- a row with one cell for each column, none of them at fault
 IsRow-cells : (row column : ℕ) (columns : List ColumnShape) (cells : Cells) → length cells ≡ length columns → cells_fault row column columns cells ≡ None → IsRow columns cells

@@ -7,7 +7,7 @@ use Rattle.std.specs.List.Sorted.{IsPermutation}
 use Rattle.std.specs.Ordering.{eq_by_cmp}
 use Rattle.std.specs.declared.cmp.Ordering.TheVariants.{Less}
 use Rattle.std.proofs.Common.{refl, sym, ap, subst, ◌∙◌, arith, append-nil, get_or, ◌<◌}
-use Rattle.std.proofs.lemmas.Bool.{false≢true}
+use Rattle.std.proofs.lemmas.Bool.{false≢true, or_right}
 use Rattle.std.proofs.lemmas.Cmp.{eq_by_cmp_equiv}
 use Rattle.std.proofs.lemmas.List.{map-append, get_or-map, length-map}
 use Rattle.std.proofs.lemmas.List.Elements.{All-nil, All-cons, All-map, All-weaker, filter_passes, filter_map-append}
@@ -44,10 +44,6 @@ any_turned (k ∷ ks) q = λ i. turned k q i || any_turned ks q i
 
 itself : (q : Cells) → eq_by_cmp key_cmp q q ≡ true
 itself q = sym (tied_keys q q) ∙ itself_row q
-
-or_right : (a b : Bool) → b ≡ true → (a || b) ≡ true
-or_right true b e = refl
-or_right false b e = e
 
 any_itself : (ks : List Cells) (i : ℕ) (d : Cells) → i < length ks → list_any (eq_by_cmp key_cmp (get_or ks i d)) ks ≡ true
 any_itself [] i d h = absurd (omega arith)

@@ -1,5 +1,5 @@
 -- The keys that occur among some rows: each once, in ascending order.
-use Rattle.std.specs.Prelude.{◌≡◌, ℕ, Bool, true, false, ◌&&◌, ◌||◌, T, List, [], ◌∷◌, map, All, AllPairs, Option, Some, None, ℤ}
+use Rattle.std.specs.Prelude.{◌≡◌, ℕ, Bool, false, ◌&&◌, ◌||◌, T, List, [], ◌∷◌, map, All, AllPairs, Option, Some, None, ℤ}
 use Rattle.std.specs.Cmp.{IsTotalOrder}
 use Rattle.std.specs.Cmp.Lexicographic.{lists_total, options_total}
 use Rattle.std.specs.FinMap as finite
@@ -17,6 +17,7 @@ use Rattle.table_model.specs.Group.{key_cmp, keys_in}
 use Rattle.table_model.specs.State.{Cells, same_cell, same_cells}
 use Rattle.table_model.proofs.Parts.{AreApart}
 use Rattle.table_model.proofs.SameRows.{one_row}
+use Rattle.table_model.proofs.Passed.{first_of_both, second_of_both, less_is}
 
 pub key_total : IsTotalOrder key_cmp
 key_total = lists_total (options_total int_cmp_total)
@@ -48,30 +49,19 @@ Marked = List (Cells × Unit {0})
 abbrev firsts : Marked → List Cells
 firsts es = map (λ e. e.0) es
 
-less : (o : Ordering) → T (is_lt o) → o ≡ Less
-less Less h = refl
-less Equal h = absurd h
-less Greater h = absurd h
-
-first_of : (a b : Bool) → T (a && b) → T a × T b
-first_of true b h = (tt, h)
-first_of false b h = absurd h
-
 below : (key : Cells) (es : Marked) → T (below_all key_cmp key es) → All (λ other. key_cmp key other ≡ Less) (firsts es) × (list_any (same_cells key) (firsts es) ≡ false)
 below key [] h = (All-nil (λ other. key_cmp key other ≡ Less), refl)
 below key (e ∷ es) h =
-    let parts = first_of (is_lt (key_cmp key e.0)) (below_all key_cmp key es) h in
-    let here : key_cmp key e.0 ≡ Less = less (key_cmp key e.0) parts.0 in
-    let rest = below key es parts.1 in
+    let here : key_cmp key e.0 ≡ Less = less_is (key_cmp key e.0) (first_of_both (is_lt (key_cmp key e.0)) (below_all key_cmp key es) h) in
+    let rest = below key es (second_of_both (is_lt (key_cmp key e.0)) (below_all key_cmp key es) h) in
     let apart : same_cells key e.0 ≡ false = tied_keys key e.0 ∙ ap is_eq here in
     (All-cons (λ other. key_cmp key other ≡ Less) e.0 (firsts es) here rest.0, ap (λ b. b || list_any (same_cells key) (firsts es)) apart ∙ rest.1)
 
 in_order : (es : Marked) → T (is_sorted key_cmp es) → AllPairs (λ a b. key_cmp a b ≡ Less) (firsts es) × AreApart same_cells (firsts es)
 in_order [] h = (λ i j d p q. absurd (omega arith), tt)
 in_order (e ∷ es) h =
-    let parts = first_of (below_all key_cmp e.0 es) (is_sorted key_cmp es) h in
-    let here = below e.0 es parts.0 in
-    let rest = in_order es parts.1 in
+    let here = below e.0 es (first_of_both (below_all key_cmp e.0 es) (is_sorted key_cmp es) h) in
+    let rest = in_order es (second_of_both (below_all key_cmp e.0 es) (is_sorted key_cmp es) h) in
     (AllPairs-cons (λ a b. key_cmp a b ≡ Less) e.0 (firsts es) here.0 rest.0, (here.1, rest.1))
 
 pub keys_ascend : (by : List ℕ) (rows : List Cells) → AllPairs (λ a b. key_cmp a b ≡ Less) (finite.keys (keys_in by rows)) × AreApart same_cells (finite.keys (keys_in by rows))

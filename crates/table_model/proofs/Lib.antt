@@ -12,6 +12,7 @@ pub mod Operations
 pub mod OrMemory
 pub mod OwnTable
 pub mod Parts
+pub mod Passed
 pub mod Predicates
 pub mod Rearranged
 pub mod SameMembers

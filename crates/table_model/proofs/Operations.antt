@@ -3,7 +3,7 @@ use Rattle.std.specs.Prelude.{◌≡◌, List, [], ◌∷◌, ◌++◌, map, Opt
 use Rattle.std.proofs.Common.{refl, sym, ap, subst, ◌∙◌, inl, inr, Less, Equal, Greater}
 use Rattle.std.specs.List.{list_any}
 use Rattle.std.specs.Ordering.{eq_by_cmp, is_eq, is_lt}
-use Rattle.std.specs.Cmp.{Equal-is, tied_itself}
+use Rattle.std.specs.Cmp.{Equal-is, tied_itself, both_ways}
 use Rattle.std.specs.FinMap as map
 use Rattle.std.specs.FinSet as set
 use Rattle.std.specs.FinMap.Entries.{below_all, is_sorted}
@@ -14,6 +14,7 @@ use Rattle.table_model.specs.declared.names.BatchName.{BatchName}
 use Rattle.table_model.specs.declared.names.RowName.{RowName}
 use Rattle.table_model.proofs.NameOrder.{names_total, row_names_total, exact_names, exact_row_names}
 use Rattle.table_model.proofs.Joins.{same_states, same_maps}
+use Rattle.table_model.proofs.Passed.{first_of_both, second_of_both}
 
 abbrev in_names : BatchName → List (BatchName × Batch) → Option Batch
 in_names = map.find name_cmp
@@ -101,11 +102,6 @@ any-Among (Insert n rows ∷ ops) q (inr h) = any-Among ops q h
 any-Among (Delete r ∷ ops) q (inl e) = ap (λ b. b || has_row q (deletes_of ops)) (subst (λ (x : RowName). eq_by_cmp row_name_cmp q x ≡ true) (delete_part q r e) (row_itself q))
 any-Among (Delete r ∷ ops) q (inr h) = ap (λ b. eq_by_cmp row_name_cmp q r || b) (any-Among ops q h) ∙ or-true _
 
-same_bools : (a b : Bool) → (a ≡ true → b ≡ true) → (b ≡ true → a ≡ true) → a ≡ b
-same_bools true b to from = sym (to refl)
-same_bools false true to from = from refl
-same_bools false false to from = refl
-
 -- the state depends on the members alone
 pub state_of-same : (ops others : List Operation) → AreAgreeing ops → SameOperations ops others → state_of ops ≡ state_of others
 unfolding state_of
@@ -113,7 +109,7 @@ state_of-same ops others agree same = same_states _ _
     (same_maps _ _ (λ q. map.get-from_entries names_total (inserts_of ops) q ∙ same_found ops others agree same q ∙ sym (map.get-from_entries names_total (inserts_of others) q)))
     (set.same_set row_names_total exact_row_names _ _ (λ q.
     set.contains-from_list row_names_total (deletes_of ops) q
-    ∙ same_bools (has_row q (deletes_of ops)) (has_row q (deletes_of others))
+    ∙ both_ways (has_row q (deletes_of ops)) (has_row q (deletes_of others))
     (λ e. any-Among others q ((same (Delete q)).0 (Among-any ops q e)))
     (λ e. any-Among ops q ((same (Delete q)).1 (Among-any others q e)))
     ∙ sym (set.contains-from_list row_names_total (deletes_of others) q)))
@@ -153,14 +149,6 @@ below_missed x (e ∷ es) h =
       | Equal ↦ λ none. absurd none
       | Greater ↦ λ none. absurd none
     ] h
-
-pub first_of_both : (a b : Bool) → T (a && b) → T a
-first_of_both true b h = tt
-first_of_both false b h = h
-
-pub second_of_both : (a b : Bool) → T (a && b) → T b
-second_of_both true b h = h
-second_of_both false b h = absurd h
 
 -- an entry of a list in order is what a search for its name finds
 among_entries : (es : List (BatchName × Batch)) (ds : List RowName) (q : BatchName) (b : Batch) → T (is_sorted name_cmp es) → Among (Insert q b) (map insert_of es ++ map Delete ds) → in_names q es ≡ Some b

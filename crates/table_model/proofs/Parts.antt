@@ -3,13 +3,8 @@ use Rattle.std.specs.Prelude.{◌≡◌, Bool, true, false, cond, not, ◌&&◌,
 use Rattle.std.specs.List.{flat_map, list_any, list_all}
 use Rattle.std.specs.List.Sorted.{IsPermutation}
 use Rattle.std.proofs.Common.{refl, sym, ap, subst, ◌∙◌}
-use Rattle.std.proofs.lemmas.Bool.{and_parts, false≢true}
+use Rattle.std.proofs.lemmas.Bool.{and_parts, or_parts, false≢true}
 use Rattle.std.proofs.lemmas.List.Sorted.{IsPermutation-refl, IsPermutation-filter_both, IsPermutation-append_right, IsPermutation-trans}
-
--- where neither of two tests passes
-pub neither : (a b : Bool) → (a || b) ≡ false → (a ≡ false) × (b ≡ false)
-neither true b e = absurd (false≢true (sym e))
-neither false b e = (refl, e)
 
 -- no key comes again
 abbrev pub AreApart : {K : Type 0} → (K → K → Bool) → List K → Type 0
@@ -58,7 +53,7 @@ module _ {X K : Type 0} (same : K → K → Bool) (one : (a b : K) → same a b 
   all_picked_other : (k : K) (ms : List K) (xs : List X) → list_any (same k) ms ≡ false → flat_map (λ m. picked m (other k xs)) ms ≡ flat_map (λ m. picked m xs) ms
   all_picked_other k [] xs apart = refl
   all_picked_other k (m ∷ ms) xs apart =
-      let parts = neither (same k m) (list_any (same k) ms) apart in
+      let parts = or_parts (same k m) (list_any (same k) ms) apart in
       λ i. picked_other k m xs parts.0 i ++ all_picked_other k ms xs parts.1 i
 
   pub picked_all : (ks : List K) (xs : List X) → AreApart same ks → list_all (among ks) xs ≡ true → IsPermutation xs (flat_map (λ k. picked k xs) ks)

@@ -29,7 +29,7 @@ never_both False = refl
 never_both Unknown = refl
 never_both True = refl
 
-both_known : (a b : Bool) → and_of (truth_of a) (truth_of b) ≡ truth_of (a && b)
+pub both_known : (a b : Bool) → and_of (truth_of a) (truth_of b) ≡ truth_of (a && b)
 both_known false b = refl
 both_known true b = refl
 

@@ -4,17 +4,13 @@ use Rattle.std.specs.List.{list_any}
 use Rattle.std.specs.Ordering.{int_eq}
 use Rattle.std.proofs.Common.{refl, sym, ap, subst, ◌∙◌}
 use Rattle.std.proofs.Math.Bool.{and-false}
-use Rattle.std.proofs.lemmas.Bool.{false≢true}
+use Rattle.std.proofs.lemmas.Bool.{or_parts, false≢true}
 use Rattle.std.proofs.lemmas.Bool.Decides.{Decides-int_eq}
+use Rattle.std.specs.Cmp.{both_ways}
 use Rattle.table_model.specs.Values.{distinct}
-use Rattle.table_model.proofs.Parts.{AreApart, neither}
+use Rattle.table_model.proofs.Parts.{AreApart}
 use Rattle.table_model.proofs.Rearranged.{Rearranged, none, kept, swapped, both, unmoved}
 use Rattle.table_model.proofs.ValueFacts.{members, distinct-apart}
-
-flipped : (a b : Bool) → (a ≡ true → b ≡ true) → (b ≡ true → a ≡ true) → a ≡ b
-flipped true b f g = sym (f refl)
-flipped false true f g = g refl
-flipped false false f g = refl
 
 taken_out : (c d l : Bool) → d ≡ c → (not c && l) ≡ (not c && (d || l))
 taken_out true d l e = refl
@@ -37,11 +33,11 @@ module _ {K : Type 0} (same : K → K → Bool) (one : (a b : K) → same a b �
   but_none : (x : K) (ys : List K) → list_any (same x) ys ≡ false → but x ys ≡ ys
   but_none x [] h = refl
   but_none x (y ∷ ys) h =
-      let parts = neither (same x y) (list_any (same x) ys) h in
+      let parts = or_parts (same x y) (list_any (same x) ys) h in
       ap (λ b. cond (not b) (y ∷ but x ys) (but x ys)) parts.0 ∙ ap (λ l. y ∷ l) (but_none x ys parts.1)
 
   swap_same : (x y : K) → same x y ≡ same y x
-  swap_same x y = flipped (same x y) (same y x) (λ e. ap (λ z. same y z) (one x y e) ∙ itself y) (λ e. ap (λ z. same x z) (one y x e) ∙ itself x)
+  swap_same x y = both_ways (same x y) (same y x) (λ e. ap (λ z. same y z) (one x y e) ∙ itself y) (λ e. ap (λ z. same x z) (one y x e) ∙ itself x)
 
   -- a member may stand first
   first_if : (x y : K) (ys : List K) (b : Bool) → same x y ≡ b → list_any (same y) ys ≡ false → (list_any (same x) ys ≡ true → Rearranged (x ∷ but x ys) ys) → (b || list_any (same x) ys) ≡ true → Rearranged (x ∷ cond (not b) (y ∷ but x ys) (but x ys)) (y ∷ ys)

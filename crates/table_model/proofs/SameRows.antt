@@ -10,12 +10,6 @@ use Rattle.std.proofs.lemmas.Bool.{and_parts}
 use Rattle.std.proofs.lemmas.Bool.Decides.{Decides-int_eq}
 use Rattle.table_model.specs.State.{Cells, Batch, same_cell, same_cells, same_rows}
 
-pub same_cells-lengths : (xs ys : Cells) → length xs ≢ length ys → same_cells xs ys ≡ false
-same_cells-lengths [] [] apart = absurd (apart refl)
-same_cells-lengths [] (y ∷ ys) apart = refl
-same_cells-lengths (x ∷ xs) [] apart = refl
-same_cells-lengths (x ∷ xs) (y ∷ ys) apart = ap (λ b. same_cell x y && b) (same_cells-lengths xs ys (λ e. apart (ap suc e))) ∙ and-false _
-
 pub same_rows-lengths : (xs ys : Batch) → length xs ≢ length ys → same_rows xs ys ≡ false
 same_rows-lengths [] [] apart = absurd (apart refl)
 same_rows-lengths [] (y ∷ ys) apart = refl

@@ -4,13 +4,13 @@ use Rattle.std.specs.Int.{int_min, int_max}
 use Rattle.std.specs.List.{list_any}
 use Rattle.std.specs.Ordering.{int_eq}
 use Rattle.std.proofs.Common.{refl, sym, ap, subst, ◌∙◌, arith}
-use Rattle.std.proofs.lemmas.Bool.{false≢true}
+use Rattle.std.proofs.lemmas.Bool.{or_parts, false≢true}
 use Rattle.std.proofs.lemmas.Bool.Decides.{Decides-int_eq}
 use Rattle.std.proofs.lemmas.Int.{ints}
 use Rattle.std.proofs.lemmas.List.Elements.{All-nil, All-cons, All-weaker, Contains-append_left, Contains-append_right}
 use Rattle.std.proofs.lemmas.List.Kept.{AllPairs-cons}
 use Rattle.table_model.specs.Values.{ValueLaws, distinct, lesser, greater, least, greatest}
-use Rattle.table_model.proofs.Parts.{AreApart, neither}
+use Rattle.table_model.proofs.Parts.{AreApart}
 
 absorbed : (a c : Bool) → (a ≡ true → c ≡ true) → (a || c) ≡ c
 absorbed true c h = sym (h refl)
@@ -38,7 +38,7 @@ distinct-apart (x ∷ xs) = apart_after x xs (list_any (int_eq x) xs) refl (dist
 differs : (x : ℤ) (ys : List ℤ) → list_any (int_eq x) ys ≡ false → All (λ y. x ≢ y) ys
 differs x [] h = All-nil (λ y. x ≢ y)
 differs x (y ∷ ys) h =
-    let parts = neither (int_eq x y) (list_any (int_eq x) ys) h in
+    let parts = or_parts (int_eq x y) (list_any (int_eq x) ys) h in
     All-cons (λ y. x ≢ y) y ys (λ same. false≢true (sym parts.0 ∙ (Decides-int_eq x y).1 same)) (differs x ys parts.1)
 
 apart_pairs : (zs : List ℤ) → AreApart int_eq zs → AllPairs (λ x y. x ≢ y) zs

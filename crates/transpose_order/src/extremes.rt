@@ -1,5 +1,5 @@
-//! The lesser and the greater of two numbers of which the second may not count.
-ghost use Rattle.std.specs.Prelude.{◌≡◌, cond};
+//! What least values, greatest values and sums take of a number that may not count.
+ghost use Rattle.std.specs.Prelude.{◌≡◌, cond, ◌^◌, pos, ◌+ℤ◌};
 ghost use Rattle.std.specs.Int.{int_min, int_max};
 
 /// The lesser of two numbers where the second is taken, else the first.
@@ -19,5 +19,17 @@ pub fn greater_if(taken: bool, greatest: i64, number: i64) -> i64
         greatest.max(number)
     } else {
         greatest
+    }
+}
+
+/// How far a number is above the least of 64 bits where it is taken, else 0.
+#[inline(always)]
+pub fn raised_if(taken: bool, number: i64) -> u64
+    ensures { pos result ≡ cond taken (number +ℤ pos (2 ^ 63)) (pos 0) }
+{
+    if taken {
+        number.cast_unsigned().wrapping_add(1 << 63)
+    } else {
+        0
     }
 }

@@ -1,22 +1,15 @@
 -- The loads are words of sixteen neighbouring lanes, so each lane's part is its packed value.
-use Rattle.std.proofs.Common.{◌≡◌, ℕ, ◌+◌, ◌*◌, ◌<◌, ◌≤◌, ◌/◌, ◌^◌, ◌-◌, ◌%◌, bit_or, map, length, sym, ap, subst, ◌∙◌, arith}
+use Rattle.std.proofs.Common.{◌≡◌, ℕ, ◌+◌, ◌*◌, ◌<◌, ◌/◌, ◌^◌, ◌-◌, ◌%◌, bit_or, map, length, sym, ap, subst, ◌∙◌, arith}
 use Rattle.std.specs.Simd.Lanes.{Each1, zip2, chunk}
-use Rattle.std.proofs.lemmas.Nat.{row_fits}
 use Rattle.transpose_order.specs.Place.{IsLaneWidth}
 use Rattle.bit_interleave.specs.Packing.{sixteen_of, packed_value}
 use Rattle.bit_interleave.proofs.SixteenLemmas.{loaded}
-use Rattle.bit_interleave.proofs.StepLemmas.{step_within, step_across, step_of_nothing, step_fits, next_word_is_there, word_is_there, positive_width, narrow_width}
+use Rattle.bit_interleave.proofs.StepLemmas.{step_within, step_across, step_of_nothing, step_fits, next_word_is_there, word_is_there, positive_width, narrow_width, bits_within}
 use Rattle.bit_interleave.proofs.unpacking.step_at.Goals as goal
 
 pub returns-then-width-eq0-clause-values : goal.returns-then-width-eq0-clause-values
 returns-then-width-eq0-clause-values g c =
     step_of_nothing g.U.LaneWord.BITS c.args.width (map g.U.LaneWord.number c.args.words.now) c.args.group c.args.step c.if-width-eq0.true
-
--- a value's bits lie among its lane's
-bits_within : (t w step : ℕ) → 0 < w → step < t → (step * w + w ≤ t * w) × (step * w < t * w)
-bits_within t w step positive h =
-    let all = row_fits step w t w h (omega arith) in
-    (all, omega arith)
 
 pub returns-then-shift-width-clause-values : goal.returns-then-shift-width-clause-values
 returns-then-shift-width-clause-values g c =

@@ -1,22 +1,15 @@
 -- The words read are those of the value's lane, so their bits joined are the packed value.
-use Rattle.std.proofs.Common.{◌≡◌, ℕ, ◌+◌, ◌-◌, ◌*◌, ◌/◌, ◌%◌, ◌<◌, ◌≤◌, ◌^◌, map, length, get_or, bit_and, bit_or, sym, ap, subst, ◌∙◌, arith}
-use Rattle.std.proofs.lemmas.Nat.{row_fits}
+use Rattle.std.proofs.Common.{◌≡◌, ℕ, ◌+◌, ◌-◌, ◌*◌, ◌/◌, ◌%◌, ◌<◌, ◌^◌, map, length, get_or, bit_and, bit_or, sym, ap, subst, ◌∙◌, arith}
 use Rattle.transpose_order.specs.Place.{IsLaneWidth}
 use Rattle.bit_interleave.specs.Packing.{packed_value}
 use Rattle.bit_interleave.proofs.BitLemmas.{low_ones}
 use Rattle.bit_interleave.proofs.PackLemmas.{value_read}
-use Rattle.bit_interleave.proofs.StepLemmas.{within_one_word, across_two_words, value_of_nothing, packed_value-below, word_of_lane_is_there, next_word_of_lane_is_there, positive_width, narrow_width}
+use Rattle.bit_interleave.proofs.StepLemmas.{within_one_word, across_two_words, value_of_nothing, packed_value-below, word_of_lane_is_there, next_word_of_lane_is_there, positive_width, narrow_width, bits_within}
 use Rattle.bit_interleave.proofs.unpacking.value_at.Goals as goal
 
 pub returns-then-width-eq0-clause-value : goal.returns-then-width-eq0-clause-value
 returns-then-width-eq0-clause-value g c =
     value_of_nothing g.U.LaneWord.BITS c.args.width (map g.U.LaneWord.number c.args.words.now) c.args.lane c.args.step c.if-width-eq0.true
-
--- a value's bits lie among its lane's
-bits_within : (t w step : ℕ) → 0 < w → step < t → (step * w + w ≤ t * w) × (step * w < t * w)
-bits_within t w step positive h =
-    let all = row_fits step w t w h (omega arith) in
-    (all, omega arith)
 
 pub returns-then-shift-width-clause-value : goal.returns-then-shift-width-clause-value
 returns-then-shift-width-clause-value g c =

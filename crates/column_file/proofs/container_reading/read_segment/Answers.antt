@@ -1,7 +1,8 @@
 use Rattle.std.proofs.Common.{◌∙◌, length, sym, ap, subst}
+use Rattle.segment_core.proofs.SegmentLemmas.{length-batch_of}
 use Rattle.table_model.specs.State.{Batch}
 use Rattle.table_model.specs.Table.{IsBatch}
-use Rattle.column_file.proofs.FitLemmas.{length-batch_of, segment_fits}
+use Rattle.column_file.proofs.FitLemmas.{segment_fits}
 use Rattle.column_file.proofs.container_reading.read_segment.Goals as goal
 
 pub returns-clause-count : goal.returns-clause-count

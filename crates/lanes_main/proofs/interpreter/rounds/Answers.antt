@@ -1,8 +1,7 @@
-use Rattle.std.proofs.Common.{◌∙◌, ◌+◌, arith, inr, refl, sym, subst, List, ℕ, None}
+use Rattle.std.proofs.Common.{◌∙◌, ◌+◌, arith, inr, refl}
 use Rattle.std.proofs.lemmas.Result.{err_from_is_err_and}
 use Rattle.table_model.specs.Faults.{GaveMore}
 use Rattle.lanes_main.specs.Script.{parts_in}
-use Rattle.lanes_main.specs.Told.{Sofar}
 use Rattle.lanes_main.proofs.Tellings.{told_start, told_front, told_reached, gave_within, gave_more, failed_since}
 use Rattle.lanes_main.proofs.interpreter.rounds.Goals as goal
 

@@ -1,5 +1,5 @@
 -- The text of an answer is written; before that nothing is.
-use Rattle.std.proofs.Common.{◌≡◌, ◌∙◌, ap}
+use Rattle.std.proofs.Common.{◌∙◌}
 use Rattle.std.proofs.lemmas.Result.{err_from_is_err_and}
 use Rattle.store_view.specs.Asked.{query_answer}
 use Rattle.lanes_main.specs.FileReport.{answer_report, no_report}

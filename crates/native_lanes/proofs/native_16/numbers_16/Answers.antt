@@ -1,21 +1,14 @@
 -- Each lane's bits are in one word or go on into the next.
-use Rattle.std.proofs.Common.{◌≡◌, ℕ, ◌+◌, ◌-◌, ◌*◌, ◌/◌, ◌%◌, ◌^◌, ◌<◌, List, length, set, get_or, bit_or, ap, ◌∙◌, arith, below_more}
-use Rattle.std.proofs.lemmas.List.{get_or-set_same, get_or-set_other, length-set}
+use Rattle.std.proofs.Common.{◌≡◌, ◌+◌, ◌-◌, ◌*◌, ◌/◌, ◌%◌, ◌^◌, length, get_or, bit_or, ap, ◌∙◌, arith}
+use Rattle.std.proofs.lemmas.List.{length-set}
 use Rattle.std.proofs.lemmas.Simd.{get_or-replicate}
 use Rattle.bit_interleave.specs.Packing.{packed_value}
-use Rattle.bit_interleave.proofs.StepLemmas.{within_one_word, across_native}
-use Rattle.native_lanes.proofs.NativeLemmas.{nothing_packed}
+use Rattle.bit_interleave.proofs.StepLemmas.{within_one_word, across_native, value_of_nothing}
 use Rattle.native_lanes.proofs.native_16.numbers_16.Goals as goal
+use Rattle.native_lanes.proofs.ListLemmas.{set_more}
 
 pub returns-then-width-eq0 : goal.returns-then-width-eq0
-returns-then-width-eq0 c = λ lane h. get_or-replicate 64 lane 0 0 h ∙ nothing_packed 16 c.args.width c.args.words.now lane c.args.step c.if-width-eq0.true
-
--- one more lane is written
-one_more : (f : ℕ → ℕ) (old : List ℕ) (i x : ℕ) → i < length old → ((k : ℕ) → k < i → get_or old k 0 ≡ f k) → x ≡ f i → (k : ℕ) → k < i + 1 → get_or (set old i x) k 0 ≡ f k
-one_more f old i x h done is =
-    below_more (λ (k : ℕ). get_or (set old i x) k 0 ≡ f k) i
-    (λ k before. get_or-set_other old i k x 0 (λ e. omega (arith, e)) ∙ done k before)
-    (get_or-set_same old i x 0 h ∙ is)
+returns-then-width-eq0 c = λ lane h. get_or-replicate 64 lane 0 0 h ∙ value_of_nothing 16 c.args.width c.args.words.now lane c.args.step c.if-width-eq0.true
 
 pub loop-i-preserved : goal.loop-i-preserved
 loop-i-preserved c =
@@ -23,7 +16,7 @@ loop-i-preserved c =
     let x = c.within_word.result in
     record {
       long = length-set c.loop-i.numbers i x ∙ c.loop-i.invariant.long;
-      done = one_more (λ k. packed_value 16 c.args.width c.args.words.now k c.args.step) c.loop-i.numbers i x (omega (arith, c.loop-i.invariant.long, c.loop-i-test.true)) c.loop-i.invariant.done
+      done = set_more (λ k. packed_value 16 c.args.width c.args.words.now k c.args.step) c.loop-i.numbers i x (omega (arith, c.loop-i.invariant.long, c.loop-i-test.true)) c.loop-i.invariant.done
           (c.within_word.ensures ∙ within_one_word 16 c.args.width c.args.words.now i c.args.step (omega arith) c.if-shift-width-le16.true);
     }
 
@@ -36,7 +29,7 @@ loop-i-2-preserved c =
     let next : bit / 16 * 64 + 64 + i ≡ bit / 16 * 64 + i + 64 = omega arith in
     record {
       long = length-set c.loop-i-2.numbers i x ∙ c.loop-i-2.invariant.long;
-      done = one_more (λ k. packed_value 16 c.args.width words k c.args.step) c.loop-i-2.numbers i x (omega (arith, c.loop-i-2.invariant.long, c.loop-i-2-test.true)) c.loop-i-2.invariant.done
+      done = set_more (λ k. packed_value 16 c.args.width words k c.args.step) c.loop-i-2.numbers i x (omega (arith, c.loop-i-2.invariant.long, c.loop-i-2-test.true)) c.loop-i-2.invariant.done
           (c.across_words.ensures
           ∙ ap (λ k. bit_or (get_or words (bit / 16 * 64 + i) 0 / 2 ^ (bit % 16)) (get_or words k 0 * 2 ^ (16 - bit % 16) % 2 ^ 16) % 2 ^ c.args.width) next
           ∙ across_native 16 c.args.width words i c.args.step (omega arith) (omega arith) c.requires.width (c.type_inv.words (bit / 16 * 64 + i)).fits);

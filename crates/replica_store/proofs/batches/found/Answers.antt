@@ -1,16 +1,13 @@
 -- A name is found exactly at its place.
-use Rattle.std.proofs.Common.{rules, arith, ap, ◌∙◌, ◌≡◌, drop, ℕ, List}
+use Rattle.std.proofs.Common.{rules, arith}
 use Rattle.table_model.specs.Name.{name_cmp}
 use Rattle.table_model.proofs.NameOrder.{names_total}
-use Rattle.replica_store.specs.Segments.{Entry}
 use Rattle.replica_store.proofs.Places.{count_below-le, find-none, find-first, find-other}
 use Rattle.replica_store.proofs.batches.found.Goals as goal
+use Rattle.replica_store.proofs.Recodes.{from_place}
 
 pub split_at-requires : goal.split_at-requires
 split_at-requires c = omega (arith, count_below-le name_cmp c.args.name c.args.entries.now)
-
-from_place : (entries rest : List Entry) (i n : ℕ) → rest ≡ drop i entries → i ≡ n → rest ≡ drop n entries
-from_place entries rest i n is at = is ∙ ap (λ k. drop k entries) at
 
 pub returns-in-None : goal.returns-in-None
 returns-in-None c =

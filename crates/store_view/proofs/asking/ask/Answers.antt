@@ -1,11 +1,8 @@
 -- A refusal of the text, and one of its names, is that of the query's answer.
-use Rattle.std.proofs.Common.{◌≡◌, inl, inr, Ok, Err, Result, sym, ap, ◌∙◌, subst}
+use Rattle.std.proofs.Common.{inl, inr, Ok, sym, ap, ◌∙◌, subst}
 use Rattle.std.proofs.lemmas.Result.{err_from_is_err_and}
 use Rattle.table_model.specs.Meaning.{answer_of}
-use Rattle.table_model.specs.Query.{QueryShape}
 use Rattle.table_model.specs.Table.{Table}
-use Rattle.table_model.specs.declared.refusal.Refusal.{Refusal}
-use Rattle.query_parser.specs.Descent.{query_of}
 use Rattle.query_parser.specs.Resolve.{resolved}
 use Rattle.store_view.specs.View.{ViewForm}
 use Rattle.store_view.specs.Asked.{query_answer, answer_where, unless_refused}

@@ -1,5 +1,5 @@
 -- Each byte stands above the bytes before it.
-use Rattle.std.proofs.Common.{◌≡◌, ℕ, ◌+◌, ◌*◌, ◌^◌, ◌<◌, slice_index, sym, ap, subst, ◌∙◌, arith}
+use Rattle.std.proofs.Common.{ℕ, ◌+◌, ◌*◌, ◌^◌, ◌<◌, sym, ap, subst, ◌∙◌, arith}
 use Rattle.transpose_order.specs.Mask.{number_of_bits}
 use Rattle.transpose_order.specs.MaskWords.{number_of_bits-zero, number_of_bits-below}
 use Rattle.transpose_order.specs.Bytes.{bit_of_bytes}

@@ -1,6 +1,5 @@
 -- A byte of a number is a shift and a mask.
-use Rattle.std.proofs.Common.{◌≡◌, ◌≢◌, ℕ, ◌+◌, ◌*◌, ◌/◌, ◌%◌, ◌^◌, ◌<◌, ◌≤◌, ◌⊎◌, inl, inr, length, get_or, bit_and, sym, ap, ◌∙◌, below_more, get_or-set_same, get_or-set_other, arith}
-use Rattle.std.specs.Int.{bit_at}
+use Rattle.std.proofs.Common.{◌≢◌, ℕ, ◌+◌, ◌*◌, ◌/◌, ◌^◌, ◌<◌, ◌≤◌, ◌⊎◌, inl, inr, length, get_or, ◌∙◌, below_more, get_or-set_same, get_or-set_other, arith}
 use Rattle.std.proofs.lemmas.Nat.{and_mask}
 use Rattle.transpose_order.specs.Bytes.{byte_of}
 use Rattle.transpose_order.proofs.ByteLemmas.{byte_of-bit_at}

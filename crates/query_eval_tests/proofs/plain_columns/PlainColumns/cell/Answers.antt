@@ -1,5 +1,5 @@
 -- A value of a batch of the table has 64 bits.
-use Rattle.std.proofs.Common.{◌≡◌, Some, ℤ, FitsSigned, w64, rules, sym, ap, subst, ◌∙◌}
+use Rattle.std.proofs.Common.{Some, ℤ, FitsSigned, w64, rules, sym, ap, subst, ◌∙◌}
 use Rattle.std.specs.Int.{w128}
 use Rattle.std.proofs.lemmas.Int.{to_z-of_z}
 use Rattle.table_model.specs.Table.{IsBatch}

@@ -1,8 +1,7 @@
 -- One row more.
-use Rattle.std.proofs.Common.{◌≡◌, ◌+◌, ℕ, Bool, true, false, List, refl, sym, ap, subst, ◌∙◌, arith}
+use Rattle.std.proofs.Common.{◌≡◌, ℕ, Bool, true, false, sym, ap, ◌∙◌, arith}
 use Rattle.table_model.specs.Answer.{whole}
 use Rattle.table_model.specs.Condition.{is_null}
-use Rattle.query_eval.specs.Below.{passing_below}
 use Rattle.query_eval_tests.specs.PlainRows.{plain_vector}
 use Rattle.query_eval.specs.Vector.{cell_at}
 use Rattle.query_eval.proofs.BelowLemmas.{none_below, passing_kept, passing_written}

@@ -1,5 +1,5 @@
 -- The row's cell; past the last row there is none.
-use Rattle.std.proofs.Common.{◌≡◌, length, None, ap, ◌∙◌, arith}
+use Rattle.std.proofs.Common.{◌≡◌, length, ap, ◌∙◌, arith}
 use Rattle.table_model.specs.State.{Batch}
 use Rattle.query_eval_tests.specs.PlainRows.{PlainForm}
 use Rattle.query_eval_tests.proofs.PlainLemmas.{cell_absent, cell_found, cell_past}

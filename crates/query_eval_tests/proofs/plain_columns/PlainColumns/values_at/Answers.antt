@@ -2,7 +2,6 @@
 use Rattle.std.proofs.Common.{◌≡◌, ◌+◌, ◌<◌, ◌∷◌, ◌++◌, [], true, false, cond, List, Option, Some, None, ℤ, length, length-set, set, take, FitsSigned, w64, rules, append-nil, sym, ap, ◌∙◌, arith}
 use Rattle.std.proofs.lemmas.Int.{to_z-of_z}
 use Rattle.std.proofs.lemmas.List.{take_more_set}
-use Rattle.transpose_order.specs.Mask.{has}
 use Rattle.query_eval_tests.specs.PlainRows.{plain_vector}
 use Rattle.query_eval.specs.Vector.{cell_at}
 use Rattle.query_eval_tests.proofs.PlainLemmas.{looked_all, looked_below, looked_more}

@@ -1,8 +1,7 @@
 -- One row more.
-use Rattle.std.proofs.Common.{◌≡◌, ◌+◌, ◌<◌, ℕ, ℤ, pos, Option, Some, None, length, get_or, set, FitsSigned, w64, rules, sym, ap, subst, ◌∙◌, arith}
+use Rattle.std.proofs.Common.{ℤ, set, FitsSigned, w64, rules, sym, ap, ◌∙◌, arith}
 use Rattle.std.proofs.lemmas.Int.{to_z-of_z}
 use Rattle.query_eval_tests.specs.PlainRows.{plain_vector}
-use Rattle.query_eval.specs.Vector.{cell_at}
 use Rattle.query_eval_tests.proofs.PlainLemmas.{values_written, values_left}
 use Rattle.query_eval_tests.proofs.plain_columns.PlainColumns.write_values.Goals as goal
 use Rattle.query_eval_tests.proofs.plain_columns.PlainColumns.write_values.Goals.{in-Some, in_default}

@@ -1,10 +1,9 @@
 -- The truth values of the decoded cells are those of the columns' cells.
-use Rattle.std.proofs.Common.{Option, Some, ℤ, sym, ap, ◌∙◌}
+use Rattle.std.proofs.Common.{Some, ℤ, sym, ap, ◌∙◌}
 use Rattle.std.specs.Int.{w128}
 use Rattle.std.proofs.lemmas.Int.{to_z-of_z}
 use Rattle.table_model.specs.Truth.{and_of, comparison}
 use Rattle.table_model.specs.declared.op.Op.TheVariants.{GreaterOrEqual, LessOrEqual}
-use Rattle.query_eval.specs.Decoded.{decoded_at}
 use Rattle.query_eval_tests.specs.PlainRows.{plain_state}
 use Rattle.query_eval.specs.Vector.{Vector, vector_at, cell_at}
 use Rattle.query_eval.proofs.DecodedLemmas.{between_same}

@@ -1,5 +1,5 @@
 -- As many values as were taken.
-use Rattle.std.proofs.Common.{List, ℤ, length, sym, ap, ◌∙◌}
+use Rattle.std.proofs.Common.{length, sym, ap, ◌∙◌}
 use Rattle.query_eval.specs.Vector.{Vector, looked_at}
 use Rattle.query_eval_tests.proofs.PlainLemmas.{count_taken, there_plain, vector_plain}
 use Rattle.query_eval_tests.proofs.plain_columns.PlainColumnsColumns.count.Goals as goal

@@ -4,11 +4,9 @@ use Rattle.std.proofs.Common.{◌∙◌, sym, ap, subst, arith}
 use Rattle.std.proofs.lemmas.Bool.Decides.{nat_tests}
 use Rattle.std.specs.FinMap as map
 use Rattle.table_model.specs.Outcome.{Acts}
-use Rattle.table_model.specs.Name.{name_cmp}
 use Rattle.table_model.specs.Table.{Table}
 use Rattle.table_model.specs.declared.names.BatchName.{BatchName}
 use Rattle.table_model.specs.declared.refusal.Refusal.{Refusal}
-use Rattle.segment_core.specs.Segment.{SegmentForm}
 use Rattle.segment_core.specs.declared.coding.Coding.{Coding}
 use Rattle.replica_store.specs.Parted.{AreKeptInParts}
 use Rattle.replica_store.specs.Segments.{Segments, BatchesForm, Entry, AreStored, RecodesEntries, rows_in, recoded_in}

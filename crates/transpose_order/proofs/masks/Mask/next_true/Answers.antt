@@ -1,5 +1,5 @@
 -- The rows of the list are those of the words.
-use Rattle.std.proofs.Common.{ap, ◌∙◌, arith}
+use Rattle.std.proofs.Common.{◌∙◌, arith}
 use Rattle.transpose_order.proofs.MaskLemmas.{has-words}
 use Rattle.transpose_order.proofs.masks.Mask.next_true.Goals as goal
 
