@@ -118,7 +118,7 @@ pub(crate) const THREE_ROWS: Change = (
 // The file of one row, of the row -32,768, and of one row that is null.
 pub(crate) const SAME: Change = (42, 42, &[]);
 
-pub(crate) const LEAST: Change = (32, 34, &[(b"\0\x80", 0)]);
+const LEAST: Change = (32, 34, &[(b"\0\x80", 0)]);
 
 const NULL: Change = (27, 34, &[(b"\x01\x01", 133)]);
 
@@ -479,7 +479,7 @@ fn the_first_fault_of_a_file_is_answered_at_its_place(rt: HostRuntime) -> Result
 }
 
 /// The row -32,768 as FOR of width 1: the packed value 1 above the reference 32,767, which wraps.
-pub(crate) const WRAPPING: Change = (29, 34, &[(b"\x01\0\0\xff\x7f\x01", 127)]);
+const WRAPPING: Change = (29, 34, &[(b"\x01\0\0\xff\x7f\x01", 127)]);
 
 // Other forms of one vector, the first place that isn't canonical, and the canonical file of its rows.
 const OFFERS: &[(Change, u64, Change)] = &[
@@ -520,7 +520,7 @@ fn store_from(alloc: Global, offer: &[u8]) -> Result<Store, Refusal> {
 }
 
 /// Whether a store has the file of one row with a change.
-pub(crate) fn has_file(alloc: Global, store: &Store, change: &Change) -> Result<bool, Refusal> {
+fn has_file(alloc: Global, store: &Store, change: &Change) -> Result<bool, Refusal> {
     let file = changed(alloc, change)?;
     is_export(alloc, store, &file)
 }

@@ -121,7 +121,7 @@ fn sent(alloc: Global, bytes: &[u8]) -> Result<Store, Refusal> {
 }
 
 /// The same for the file of one row with a change.
-pub(crate) fn sent_from(alloc: Global, change: &Change) -> Result<Store, Refusal> {
+fn sent_from(alloc: Global, change: &Change) -> Result<Store, Refusal> {
     let bytes = changed(alloc, change)?;
     sent(alloc, &bytes)
 }

@@ -2,7 +2,7 @@
 #![tactic(auto)]
 
 #[cfg(test)]
-mod answer_tests;
+mod coding_tests;
 #[cfg(test)]
 mod file_tests;
 #[cfg(test)]

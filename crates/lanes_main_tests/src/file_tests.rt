@@ -35,8 +35,8 @@ const EXPORTS: [(&str, &str, Parts); 6] = [
         ONE_ROW,
     ),
     (
-        "table 2 T A SMALLINT\nappend 1 (7)\nmerge 2 1\nrecode 2 1.1 0 0 DICT\nmerge 1 2\nmerge 2 1\nrecode 1 1.1 0 0 DELTA\nrecode 2 1.1 1 0 FOR\n",
-        "ok\nok 1.1\nok\nok\nok\nok\nok\nrefused NoSuchVector\n",
+        "table 2 T A SMALLINT\nappend 1 (7)\nmerge 2 1\nrecode 2 1.1 0 0 DICT\nmerge 1 2\nmerge 2 1\nrecode 1 1.1 0 0 DELTA\nrecode 2 1.1 1 0 FOR\nquery 1 SELECT COUNT(*) FROM T\nquery 2 SELECT COUNT(*) FROM T\n",
+        "ok\nok 1.1\nok\nok\nok\nok\nok\nrefused NoSuchVector\nok 1\nCOUNT(*)\n1\nok 1\nCOUNT(*)\n1\n",
         ONE_ROW,
     ),
     // A row deleted before it came and one past the batch's end: 198 bytes, that end with two ranges. Three runs take fewer

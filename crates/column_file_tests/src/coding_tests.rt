@@ -1,35 +1,11 @@
-//! Stores that hold vectors in other forms: these show in offers, and neither in files nor in answers.
-use crate::file_tests::{Change, IN_DELTAS, IN_DICTIONARY, LEAST, SAME, WRAPPING, has_file, tells};
-use crate::filling_tests::{NAME, new_store, row_of, sent_from};
-use query_eval::text;
+//! Stores whose vector is in another coding: it shows in their own offers, and in no file.
+use crate::file_tests::{Change, IN_DELTAS, IN_DICTIONARY, SAME, tells};
+use crate::filling_tests::{NAME, new_store, row_of};
 use replica_store::Store;
 use segment_core::Coding;
 use std::alloc::Global;
 use std::test::Fail;
-use store_view::ask;
 use table_model::{Origin, Refusal};
-
-/// Whether a query over a store has an answer of this text.
-fn answers(alloc: Global, store: &Store, query: &str, want: &[u8]) -> Result<bool, Refusal> {
-    let answer = ask(alloc, store, query)?;
-    let lines = text(alloc, &answer)?;
-    Ok(lines.as_slice() == want)
-}
-
-/// Whether a store has the file of the row -32,768, and answers it as the least value below 0.
-fn has_least(alloc: Global, store: &Store) -> Result<bool, Refusal> {
-    let query = "SELECT MIN(A) FROM T WHERE A < 0";
-    Ok(answers(alloc, store, query, b"MIN(A)\n-32768\n")? && has_file(alloc, store, &LEAST)?)
-}
-
-#[test]
-fn a_frame_that_wraps_is_applied_as_the_value_that_it_stands_for(
-    rt: HostRuntime,
-) -> Result<(), Fail> {
-    let store = sent_from(rt.alloc(), &WRAPPING)?;
-    assert!(rt; has_least(rt.alloc(), &store)?);
-    Ok(())
-}
 
 /// Appends the one row 7.
 fn append(alloc: Global, store: &mut Store) -> Result<(), Refusal> {
@@ -39,20 +15,15 @@ fn append(alloc: Global, store: &mut Store) -> Result<(), Refusal> {
     Ok(())
 }
 
-/// Whether a store has the file of one row, offers it so to a store that holds nothing, and counts that row.
-fn has_one_row(alloc: Global, store: &Store, offer: &Change) -> Result<bool, Refusal> {
-    let query = "SELECT COUNT(*) FROM T";
-    Ok(tells(alloc, store, &SAME, offer)? && answers(alloc, store, query, b"COUNT(*)\n1\n")?)
-}
-
-/// Whether that is so of two stores, of which the first offers the row in its canonical form.
+/// Whether two stores have the file of one row, and offer it to a store that holds nothing: the first in its canonical form, the
+/// second so.
 fn have_one_row(
     alloc: Global,
     first: &Store,
     second: &Store,
     offer: &Change,
 ) -> Result<bool, Refusal> {
-    Ok(has_one_row(alloc, first, &SAME)? && has_one_row(alloc, second, offer)?)
+    Ok(tells(alloc, first, &SAME, &SAME)? && tells(alloc, second, &SAME, offer)?)
 }
 
 /// Merges both ways.
@@ -61,7 +32,7 @@ fn exchange(alloc: Global, first: &mut Store, second: &mut Store) -> Result<(), 
     second.merge(alloc, first)
 }
 
-/// Whether two stores have the one row before they merge and after it, and the second offers it in its own form both times.
+/// Whether that is so before they merge and after it.
 fn keep_forms(
     alloc: Global,
     first: &mut Store,
