@@ -61,7 +61,7 @@ def first_run(trial):
     agree("standard output", run.out, wrote(trial, "query", "a file", given="given"))
     agree("crates that were proved", run.checked(), sorted(below))
     has("crates that were proved", run.checked(), "table_model", "column_file", "lanes_main", "command_line")
-    agree("crates of tests that were proved", [name for name in run.checked() if name.endswith("_tests") or name in ("expectations", "column_patterns")], [])
+    agree("crates of tests that were proved", [name for name in run.checked() if name.endswith("_tests") or name == "test_support"], [])
     ends = {call.crate: call.end for call in run.calls}
     for call in run.calls:
         for library in below if call.crate == "lanes" else below & set(uses[call.crate]):

@@ -5,9 +5,9 @@ ghost use Rattle.std.specs.Prelude.{◌≤◌, ◌^◌, ◌<◌};
 ghost use Rattle.transpose_order.specs.Place.{IsLaneWidth};
 
 use bit_interleave::{Values, Words};
-use expectations::growth_refused;
 use std::alloc::{AllocError, Global};
 use std::test::Fail;
+use test_support::growth_refused;
 
 /// The numbers of these tests' words, which fit 8 bits.
 const NUMBERS: [u64; 4] = [1, 255, 0, 128];

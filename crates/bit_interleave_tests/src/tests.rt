@@ -13,12 +13,12 @@ use bit_interleave::{
     words_and_bytes_come_back, wrap, wrap_lanes, wrapping_difference, wrapping_sum,
     wrapping_sum_with,
 };
-use expectations::{agree, agree_at};
 use std::alloc::Global;
 use std::fmt::Debug;
 use std::process::Abort;
 use std::simd::prelude::*;
 use std::test::Fail;
+use test_support::{agree, agree_at};
 
 /// The numbers 0 to 7 with their three bits in reverse.
 const REVERSED: [usize; 8] = [0, 4, 2, 6, 1, 5, 3, 7];

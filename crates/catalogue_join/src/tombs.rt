@@ -1,6 +1,8 @@
 //! Deleted rows: a set of row names, kept as its maximal ranges.
 ghost use Rattle.std.specs.Prelude.{◌≡◌, ◌≤◌, ◌<◌, ◌+◌, ◌&&◌, not, nat_le, nat_lt, OnOk, OnErr, IfOk, IsOk, IsTrue, List};
 ghost use Rattle.std.specs.FinSet as set;
+ghost use Rattle.std.specs.List.{All, list_all};
+ghost use Rattle.table_model.specs.declared.names.RowName.{RowName};
 ghost use Rattle.table_model.specs.Table.{row_limit};
 ghost use Rattle.table_model.specs.Name.{is_proper_name};
 ghost use Rattle.transpose_order.specs.Mask.{rows_of, has};
@@ -49,6 +51,39 @@ impl Tombs {
         ensures { result ≡ set.contains self.now row }
     {
         self.ranges.find((row, row.ordinal)).is_some()
+    }
+
+    /// Whether each of some rows is in the set. It takes no memory.
+    pub fn holds_all(&self, rows: &[RowName]) -> bool
+        ensures { result ≡ list_all (set.contains self.now) rows.now }
+    {
+        rows.iter().all(|row| self.holds(*row))
+    }
+
+    /// The set of some rows, in whatever order and however often they come.
+    pub fn from_rows(alloc: Global, rows: &[RowName]) -> Result<Tombs, AllocError>
+        requires { All (λ (row : RowName). IsTrue (is_proper_name row.batch)) rows.now }
+        ensures { IfOk result (λ tombs. tombs ≡ set.from_list rows.now) }
+    {
+        if rows.is_sorted() {
+            return Tombs::of_each(alloc, rows);
+        }
+        let mut sorted = Vec::from_slice(alloc, rows)?;
+        sorted.sort_unstable();
+        Tombs::of_each(alloc, &sorted)
+    }
+
+    /// The set of some rows, which come in one after another: where they ascend each stands at the end.
+    fn of_each(alloc: Global, rows: &[RowName]) -> Result<Tombs, AllocError>
+        requires { All (λ (row : RowName). IsTrue (is_proper_name row.batch)) rows.now }
+        ensures { IfOk result (λ tombs. tombs ≡ set.from_list rows.now) }
+    {
+        let mut tombs = Tombs::new(alloc);
+        for index in 0..rows.len() {
+            let row = rows[index];
+            tombs.insert(row, row.ordinal)?;
+        }
+        Ok(tombs)
     }
 
     /// Adds the rows of a batch from `first` to the ordinal `last`. Where memory is refused the set is as before. Where the rows

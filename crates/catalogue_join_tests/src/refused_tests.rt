@@ -4,9 +4,9 @@
 //! `grows_nowhere` has none to refuse.
 use crate::tests::{batch, held_of, row};
 use catalogue_join::{Held, Tombs};
-use expectations::growth_refused;
 use std::alloc::{AllocError, Global};
 use std::test::Fail;
+use test_support::growth_refused;
 
 /// The numbers of a set's names of origin 1, so many that one more takes memory.
 const NAMES: [u32; 4] = [1, 3, 5, 7];

@@ -21,7 +21,7 @@ use Rattle.replica_store.specs.Segments.{Segments}
 use Rattle.cluster_history.specs.Segments.{ClusterSegments, ClusterForm}
 use Rattle.cluster_history.specs.declared.reply.Reply.{Reply}
 use Rattle.script_lines.specs.declared.step.Step.{Step}
-use Rattle.script_lines.specs.declared.step.Step.TheVariants.{Append, Insert, Delete, Merge, Ask, Serve, Take, Recode, Open, Export, Query}
+use Rattle.script_lines.specs.declared.step.Step.TheVariants.{Append, Insert, Delete, DeleteWhere, Merge, Ask, Serve, Take, Recode, Open, Export, Query}
 
 -- what some segments have is there in others as it was
 abbrev Keeps : Segments → Segments → Type 0
@@ -76,6 +76,7 @@ held_stay old (Append replica rows) reply new other after = put_stays old replic
 held_stay old (Insert replica name rows) reply new other (inl put) = put_stays old replica name rows new put.1
 held_stay old (Insert replica name rows) reply new other (inr same) = same_stay old.segments.stores new.stores (ap (λ (c : ClusterSegments). c.stores) same.1)
 held_stay old (Delete replica first last) reply new other after = same_stay old.segments.stores new.stores (ap (λ (c : ClusterSegments). c.stores) after)
+held_stay old (DeleteWhere replica text) reply new other after = same_stay old.segments.stores new.stores (ap (λ (c : ClusterSegments). c.stores) after)
 held_stay old (Merge replica from) reply new other after = joined_stay old replica after.0 new after.2
 held_stay old (Ask replica) reply new other after = same_stay old.segments.stores new.stores (ap (λ (c : ClusterSegments). c.stores) after)
 held_stay old (Serve replica message) reply new other after = same_stay old.segments.stores new.stores (ap (λ (c : ClusterSegments). c.stores) after.4)
@@ -96,6 +97,7 @@ sent_stay old (Append replica rows) reply new after = become_sent old.segments r
 sent_stay old (Insert replica name rows) reply new (inl put) = become_sent old.segments replica _ new put.1.5
 sent_stay old (Insert replica name rows) reply new (inr same) = same_stay old.segments.messages new.messages (ap (λ (c : ClusterSegments). c.messages) same.1)
 sent_stay old (Delete replica first last) reply new after = same_stay old.segments.messages new.messages (ap (λ (c : ClusterSegments). c.messages) after)
+sent_stay old (DeleteWhere replica text) reply new after = same_stay old.segments.messages new.messages (ap (λ (c : ClusterSegments). c.messages) after)
 sent_stay old (Merge replica from) reply new after = become_sent old.segments replica _ new after.2.2
 sent_stay old (Ask replica) reply new after = sent_one old.segments finite.empty new after
 sent_stay old (Serve replica message) reply new after = sent_one old.segments _ new after.4

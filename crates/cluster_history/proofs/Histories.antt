@@ -14,17 +14,17 @@ use Rattle.table_model.proofs.Operations.{state_of-same, state_of-operations, Ar
 use Rattle.replica_store.specs.Replica.{Replica, appended, inserted, deleted_rows, merged, rows_between, recoded_rows, recode_fault, unless_fault}
 use Rattle.column_file.specs.Files.{canonical_file, canonical_read}
 use Rattle.replica_store.specs.Exchange.{summary_of, offered, unlisted_state}
-use Rattle.cluster_history.specs.Cluster.{ClusterParts, new_cluster, new_replicas, place_of, at_replica, at_place, held_at, placed, done_reply, where_room, message_limit, with_message, numbered, ask_of, ask_step, offer_message, serve_of, serve_step, taking, take_step, opening, open_step, told, asked_of, asked_place, asked_at, export_reply, export_step, append_step, insert_step, delete_step, merge_step, recode_step, merge_places, merge_reply, merged_in, merged_pair, stored, query_step, query_reply, step_of}
+use Rattle.cluster_history.specs.Cluster.{ClusterParts, new_cluster, new_replicas, place_of, at_replica, at_place, held_at, placed, done_reply, where_room, message_limit, with_message, numbered, ask_of, ask_step, offer_message, serve_of, serve_step, taking, take_step, opening, open_step, told, asked_of, asked_place, asked_at, export_reply, export_step, append_step, insert_step, delete_step, deleting, delete_where_step, merge_step, recode_step, merge_places, merge_reply, merged_in, merged_pair, stored, query_step, query_reply, step_of}
 use Rattle.cluster_history.specs.Run.{Run, StepTo, answered}
-use Rattle.cluster_history.specs.History.{Brought, Names, Operations, Taken, names_in, lacking, brought_names, brought_operations, operations_held, ExportsAreCanonical, SameExport, or_empty, operations_by, message_of, AllBringOne, empty_sets, new_taken, set_at, taken_of, with_set, taken_after, taken_by, replica_of, replicas_of, cluster_of, EachAgrees, AllAgree, StartsEmpty, RepliesFollow, RefusedAddNothing, RunsJoin, ReadsLeaveAll, reading_at, reply_to, replica_numbered, AreAlike, SameAreAlike, SameInHistories, HistoryLaws}
+use Rattle.cluster_history.specs.History.{Brought, Names, Operations, Taken, names_in, lacking, brought_names, brought_operations, operations_held, deletes_where, ExportsAreCanonical, SameExport, or_empty, operations_by, message_of, AllBringOne, empty_sets, new_taken, set_at, taken_of, with_set, taken_after, taken_by, replica_of, replicas_of, cluster_of, EachAgrees, AllAgree, StartsEmpty, RepliesFollow, RefusedAddNothing, RunsJoin, ReadsLeaveAll, reading_at, reply_to, replica_numbered, AreAlike, SameAreAlike, SameInHistories, HistoryLaws}
 use Rattle.cluster_history.specs.declared.reply.Reply.{Reply}
-use Rattle.cluster_history.specs.declared.reply.Reply.TheVariants.{Done, Named, Put, Sent, File, Refused}
+use Rattle.cluster_history.specs.declared.reply.Reply.TheVariants.{Done, Named, Put, Deleted, Sent, File, Refused}
 use Rattle.script_lines.specs.declared.step.Step.{Step}
-use Rattle.script_lines.specs.declared.step.Step.TheVariants.{Append, Insert, Delete, Merge, Ask, Serve, Take, Recode, Open, Export, Query}
+use Rattle.script_lines.specs.declared.step.Step.TheVariants.{Append, Insert, Delete, DeleteWhere, Merge, Ask, Serve, Take, Recode, Open, Export, Query}
 use Rattle.cluster_history.specs.Message.{Carried, Listing, Offering, offering_in}
 use Rattle.cluster_history.proofs.Messages.{listing_of, offering_of, listing_at, offering_at, names-state_of, unlisted-state_of, lacking-agree, bring_one, bring_more, same_messages}
 use Rattle.cluster_history.proofs.Numbers.{messages_stay}
-use Rattle.cluster_history.proofs.Takes.{Takes, append-takes, insert-takes, delete-takes, merge-takes, again-agree, again-state}
+use Rattle.cluster_history.proofs.Takes.{Takes, append-takes, insert-takes, delete-takes, where-takes, merge-takes, again-agree, again-state}
 
 length-replicas : (table : Table) (first : ℕ) (sets : List (List Operation)) → length (replicas_of table first sets) ≡ length sets
 length-replicas table first [] = refl
@@ -70,15 +70,15 @@ kept_set table sets messages at ops new agree takes = (
 ok_same : (a b : Reply × ClusterParts) → ◌≡◌ {A = Result (Reply × ClusterParts) Refusal} (Ok a) (Ok b) → a ≡ b
 ok_same a b e = cc
 
--- what a call of one replica leaves
-step_at : {X : Type 0} (reply : X → Reply) (table : Table) (sets : List (List Operation)) (messages : List Carried) (replica : ℕ) (call : Replica → Result (X × Replica) Refusal) (done : Reply × ClusterParts) (ops : X → List Operation) →
+-- what a call of one replica leaves, whose operations are those of its answer and of what the replica took before
+step_at : {X : Type 0} (reply : X → Reply) (table : Table) (sets : List (List Operation)) (messages : List Carried) (replica : ℕ) (call : Replica → Result (X × Replica) Refusal) (done : Reply × ClusterParts) (ops : X → List Operation → List Operation) →
     EachAgrees sets →
-    ((own : ℕ) (before : List Operation) (x : X) (new : Replica) → AreAgreeing before → call (replica_of table own before) ≡ Ok (x, new) → Takes table own before (ops x) new) →
+    ((own : ℕ) (before : List Operation) (x : X) (new : Replica) → AreAgreeing before → call (replica_of table own before) ≡ Ok (x, new) → Takes table own before (ops x before) new) →
     at_replica reply (cluster_at table sets messages) replica call ≡ Ok done →
-    (x : X) × (done.0 ≡ reply x) × Kept table (with_set sets (place_of (length sets) replica) (ops x)) messages done.1
+    (x : X) × (done.0 ≡ reply x) × Kept table (with_set sets (place_of (length sets) replica) (ops x (set_at sets (place_of (length sets) replica)))) messages done.1
 step_at {X = X} reply table sets messages replica call done ops agree makes e =
     let c = cluster_at table sets messages in
-    let Goal : Option ℕ → Type 0 = λ o. (x : X) × (done.0 ≡ reply x) × Kept table (with_set sets o (ops x)) messages done.1 in
+    let Goal : Option ℕ → Type 0 = λ o. (x : X) × (done.0 ≡ reply x) × Kept table (with_set sets o (ops x (set_at sets o))) messages done.1 in
     let by_place : at_place reply c call (place_of (length sets) replica) ≡ Ok done = ap (λ n. at_place reply c call (place_of n replica)) (sym (length-replicas table 1 sets)) ∙ e in
     elim (place_of (length sets) replica) as (λ o. at_place reply c call o ≡ Ok done → Goal o) [
       | None ↦ λ f. let bad : ◌≡◌ {A = Result (Reply × ClusterParts) Refusal} (Err NoSuchReplica) (Ok done) = f in cc
@@ -91,9 +91,9 @@ step_at {X = X} reply table sets messages replica call done ops agree makes e =
                   | Err fault ↦ λ called h. let bad : ◌≡◌ {A = Result (Reply × ClusterParts) Refusal} (Err fault) (Ok done) = h in cc
                   | Ok d ↦ λ called h.
                       let takes = makes (1 + at) (slice_index_or sets at []) d.0 d.1 (agree_at sets at agree) (ap call (sym is) ∙ called) in
-                      let kept = kept_set table sets messages at (ops d.0) d.1 agree takes in
+                      let kept = kept_set table sets messages at (ops d.0 (slice_index_or sets at [])) d.1 agree takes in
                       let same = ok_same (reply d.0, record { schema = table; stores = slice_set (replicas_of table 1 sets) at d.1; messages = messages }) done h in
-                      (d.0, ap (λ (p : Reply × ClusterParts). p.0) (sym same), subst (λ (p : Reply × ClusterParts). Kept table (with_set sets (Some at) (ops d.0)) messages p.1) same kept)
+                      (d.0, ap (λ (p : Reply × ClusterParts). p.0) (sym same), subst (λ (p : Reply × ClusterParts). Kept table (with_set sets (Some at) (ops d.0 (slice_index_or sets at []))) messages p.1) same kept)
                 ] refl g
           ] refl f
     ] by_place
@@ -231,18 +231,18 @@ agree_numbered taken replica agree =
     ]
 
 -- what an ask makes
-asked : (table : Table) (taken : Taken) (replica : ℕ) (done : Reply × ClusterParts) → AllAgree taken → ask_step (cluster_of table taken) replica ≡ Ok done → Stays table (taken_after taken (Ask replica) done.0) done.1
+asked : (table : Table) (taken : Taken) (replica : ℕ) (done : Reply × ClusterParts) → AllAgree taken → ask_step (cluster_of table taken) replica ≡ Ok done → Stays table (taken_after table taken (Ask replica) done.0) done.1
 unfolding ask_step
 asked table taken replica done agree e =
     let c = cluster_of table taken in
-    elim (numbered c.stores replica) as (λ o. numbered c.stores replica ≡ o → ask_of c o ≡ Ok done → Stays table (taken_after taken (Ask replica) done.0) done.1) [
+    elim (numbered c.stores replica) as (λ o. numbered c.stores replica ≡ o → ask_of c o ≡ Ok done → Stays table (taken_after table taken (Ask replica) done.0) done.1) [
       | None ↦ λ has f. let bad : ◌≡◌ {A = Result (Reply × ClusterParts) Refusal} (Err NoSuchReplica) (Ok done) = f in cc
       | Some r ↦ λ has f.
           let ops = taken_of taken replica in
           let is = numbered_is table taken replica r has in
           let same = ok_same (with_message c (Listing (summary_of r))) done (room_made c (Ok (with_message c (Listing (summary_of r)))) done f) in
           let lists : summary_of r ≡ listing_of table (names_in ops) = ap summary_of is.1 ∙ names-state_of table (1 + is.0) ops in
-          subst (λ (p : Reply × ClusterParts). Stays table (taken_after taken (Ask replica) p.0) p.1) same
+          subst (λ (p : Reply × ClusterParts). Stays table (taken_after table taken (Ask replica) p.0) p.1) same
           (stays_more table taken (Names (names_in ops)) (Listing (summary_of r)) agree tt (ap Listing lists))
     ] refl e
 
@@ -264,7 +264,7 @@ offered_to table taken own ops names done agree here e =
 
 -- what a serve makes
 served : (table : Table) (taken : Taken) (replica message : ℕ) (done : Reply × ClusterParts) → AllAgree taken → serve_step (cluster_of table taken) replica message ≡ Ok done →
-    Stays table (taken_after taken (Serve replica message) done.0) done.1
+    Stays table (taken_after table taken (Serve replica message) done.0) done.1
 unfolding serve_step
 served table taken replica message done agree e =
     let c = cluster_of table taken in
@@ -284,7 +284,7 @@ served table taken replica message done agree e =
             (ap (λ (x : Replica). offer_message c x.schema (offered x (listing_of table names))) (sym is.1) ∙ offer)
       ] f
     ] refl by_names in
-    subst (λ (reply : Reply). Stays table (taken_after taken (Serve replica message) reply) done.1) (sym made.1) made.2
+    subst (λ (reply : Reply). Stays table (taken_after table taken (Serve replica message) reply) done.1) (sym made.1) made.2
 
 -- what a take makes of a replica
 take_takes : (table : Table) (taken : Taken) (message own : ℕ) (before : List Operation) (u : Unit {0}) (new : Replica) → AllAgree taken → AreAgreeing before →
@@ -309,37 +309,40 @@ open_takes table file own before u new here e =
     ] e
 
 -- a step that is answered adds what its reply says
-ok_step : (table : Table) (taken : Taken) (step : Step) (done : Reply × ClusterParts) → AllAgree taken → step_of (cluster_of table taken) step ≡ Ok done → Stays table (taken_after taken step done.0) done.1
-unfolding append_step insert_step delete_step merge_step take_step open_step export_step query_step
+ok_step : (table : Table) (taken : Taken) (step : Step) (done : Reply × ClusterParts) → AllAgree taken → step_of (cluster_of table taken) step ≡ Ok done → Stays table (taken_after table taken step done.0) done.1
+unfolding append_step insert_step delete_step delete_where_step merge_step take_step open_step export_step query_step
 ok_step table taken (Append replica rows) done agree e =
-    let s = step_at Named table taken.replicas (map (message_of table) taken.messages) replica (λ r. appended r rows) done (λ name. Inserts name rows ∷ []) agree.0 (λ own before name new a f. append-takes table own before rows name new a f) e in
-    subst (λ (reply : Reply). Stays table (taken_after taken (Append replica rows) reply) done.1) (sym s.1) (stays_with table taken (with_set taken.replicas (place_of (length taken.replicas) replica) (Inserts s.0 rows ∷ [])) done.1 agree s.2)
+    let s = step_at Named table taken.replicas (map (message_of table) taken.messages) replica (λ r. appended r rows) done (λ name before. Inserts name rows ∷ []) agree.0 (λ own before name new a f. append-takes table own before rows name new a f) e in
+    subst (λ (reply : Reply). Stays table (taken_after table taken (Append replica rows) reply) done.1) (sym s.1) (stays_with table taken (with_set taken.replicas (place_of (length taken.replicas) replica) (Inserts s.0 rows ∷ [])) done.1 agree s.2)
 ok_step table taken (Insert replica name rows) done agree e =
-    let s = step_at Put table taken.replicas (map (message_of table) taken.messages) replica (λ r. inserted r name rows) done (λ answer. Inserts name rows ∷ []) agree.0 (λ own before answer new a f. insert-takes table own before name rows answer new a f) e in
-    subst (λ (reply : Reply). Stays table (taken_after taken (Insert replica name rows) reply) done.1) (sym s.1) (stays_with table taken (with_set taken.replicas (place_of (length taken.replicas) replica) (Inserts name rows ∷ [])) done.1 agree s.2)
+    let s = step_at Put table taken.replicas (map (message_of table) taken.messages) replica (λ r. inserted r name rows) done (λ answer before. Inserts name rows ∷ []) agree.0 (λ own before answer new a f. insert-takes table own before name rows answer new a f) e in
+    subst (λ (reply : Reply). Stays table (taken_after table taken (Insert replica name rows) reply) done.1) (sym s.1) (stays_with table taken (with_set taken.replicas (place_of (length taken.replicas) replica) (Inserts name rows ∷ [])) done.1 agree s.2)
 ok_step table taken (Delete replica first last) done agree e =
-    let s = step_at done_reply table taken.replicas (map (message_of table) taken.messages) replica (λ r. deleted_rows r first last) done (λ u. map Deletes (rows_between first last)) agree.0 (λ own before u new a f. delete-takes table own before first last u new a f) e in
-    subst (λ (reply : Reply). Stays table (taken_after taken (Delete replica first last) reply) done.1) (sym s.1) (stays_with table taken (with_set taken.replicas (place_of (length taken.replicas) replica) (map Deletes (rows_between first last))) done.1 agree s.2)
+    let s = step_at done_reply table taken.replicas (map (message_of table) taken.messages) replica (λ r. deleted_rows r first last) done (λ u before. map Deletes (rows_between first last)) agree.0 (λ own before u new a f. delete-takes table own before first last u new a f) e in
+    subst (λ (reply : Reply). Stays table (taken_after table taken (Delete replica first last) reply) done.1) (sym s.1) (stays_with table taken (with_set taken.replicas (place_of (length taken.replicas) replica) (map Deletes (rows_between first last))) done.1 agree s.2)
+ok_step table taken (DeleteWhere replica text) done agree e =
+    let s = step_at Deleted table taken.replicas (map (message_of table) taken.messages) replica (deleting text) done (λ count before. deletes_where table text before) agree.0 (λ own before count new a f. where-takes table own before text count new a f) e in
+    subst (λ (reply : Reply). Stays table (taken_after table taken (DeleteWhere replica text) reply) done.1) (sym s.1) (stays_with table taken (with_set taken.replicas (place_of (length taken.replicas) replica) (deletes_where table text (taken_of taken replica))) done.1 agree s.2)
 ok_step table taken (Merge replica other) done agree e =
     let count = length taken.replicas in
     let places : merge_places (cluster_of table taken) (place_of count replica) (place_of count other) ≡ Ok (done.0, done.1) =
     ap (λ n. merge_places (cluster_of table taken) (place_of n replica) (place_of n other)) (sym (length-replicas table 1 taken.replicas)) ∙ e in
     let s = merge_kept table taken.replicas (map (message_of table) taken.messages) (place_of count replica) (place_of count other) done.0 done.1 agree.0 places in
-    subst (λ (reply : Reply). Stays table (taken_after taken (Merge replica other) reply) done.1) s.0 (stays_with table taken (with_set taken.replicas (place_of count replica) (taken_of taken other)) done.1 agree s.1)
+    subst (λ (reply : Reply). Stays table (taken_after table taken (Merge replica other) reply) done.1) s.0 (stays_with table taken (with_set taken.replicas (place_of count replica) (taken_of taken other)) done.1 agree s.1)
 ok_step table taken (Ask replica) done agree e = asked table taken replica done agree e
 ok_step table taken (Serve replica message) done agree e = served table taken replica message done agree e
 ok_step table taken (Take replica message) done agree e =
     let c = cluster_of table taken in
-    let s = step_at done_reply table taken.replicas c.messages replica (taking (offering_in (numbered c.messages message))) done (λ u. operations_by taken message) agree.0 (λ own before u new a f. take_takes table taken message own before u new agree a f) e in
-    subst (λ (reply : Reply). Stays table (taken_after taken (Take replica message) reply) done.1) (sym s.1)
+    let s = step_at done_reply table taken.replicas c.messages replica (taking (offering_in (numbered c.messages message))) done (λ u before. operations_by taken message) agree.0 (λ own before u new a f. take_takes table taken message own before u new agree a f) e in
+    subst (λ (reply : Reply). Stays table (taken_after table taken (Take replica message) reply) done.1) (sym s.1)
     (stays_with table taken (with_set taken.replicas (place_of (length taken.replicas) replica) (operations_by taken message)) done.1 agree s.2)
 ok_step table taken (Recode replica name column vector coding) done agree e =
     let c = cluster_of table taken in
     (answered_ok c (recode_step c replica name column vector) done e (recode_leaves c replica name column vector), agree)
 ok_step table taken (Open replica file) done agree e =
     let c = cluster_of table taken in
-    let s = step_at done_reply table taken.replicas c.messages replica (opening (canonical_read file)) done (λ u. operations_held (canonical_read file)) agree.0 (λ own before u new a f. open_takes table file own before u new a f) e in
-    subst (λ (reply : Reply). Stays table (taken_after taken (Open replica file) reply) done.1) (sym s.1)
+    let s = step_at done_reply table taken.replicas c.messages replica (opening (canonical_read file)) done (λ u before. operations_held (canonical_read file)) agree.0 (λ own before u new a f. open_takes table file own before u new a f) e in
+    subst (λ (reply : Reply). Stays table (taken_after table taken (Open replica file) reply) done.1) (sym s.1)
     (stays_with table taken (with_set taken.replicas (place_of (length taken.replicas) replica) (operations_held (canonical_read file))) done.1 agree s.2)
 ok_step table taken (Export replica) done agree e =
     let c = cluster_of table taken in
@@ -349,41 +352,42 @@ ok_step table taken (Query replica sql) done agree e =
     (answered_ok c (query_step c replica sql) done e (asked_leaves c (query_reply sql) (place_of (length c.stores) replica)), agree)
 
 refused : RefusedAddNothing
-refused taken (Append replica rows) e = refl
-refused taken (Insert replica name rows) e = refl
-refused taken (Delete replica first last) e = refl
-refused taken (Merge replica other) e = refl
-refused taken (Ask replica) e = refl
-refused taken (Serve replica message) e = refl
-refused taken (Take replica message) e = refl
-refused taken (Recode replica name column vector coding) e = refl
-refused taken (Open replica file) e = refl
-refused taken (Export replica) e = refl
-refused taken (Query replica sql) e = refl
+refused table taken (Append replica rows) e = refl
+refused table taken (Insert replica name rows) e = refl
+refused table taken (Delete replica first last) e = refl
+refused table taken (DeleteWhere replica text) e = refl
+refused table taken (Merge replica other) e = refl
+refused table taken (Ask replica) e = refl
+refused table taken (Serve replica message) e = refl
+refused table taken (Take replica message) e = refl
+refused table taken (Recode replica name column vector coding) e = refl
+refused table taken (Open replica file) e = refl
+refused table taken (Export replica) e = refl
+refused table taken (Query replica sql) e = refl
 
-refused_keeps : (table : Table) (taken : Taken) (step : Step) (e : Refusal) (reply : Reply) (new : ClusterParts) → AllAgree taken → Refused e ≡ reply → cluster_of table taken ≡ new → Stays table (taken_after taken step reply) new
+refused_keeps : (table : Table) (taken : Taken) (step : Step) (e : Refusal) (reply : Reply) (new : ClusterParts) → AllAgree taken → Refused e ≡ reply → cluster_of table taken ≡ new → Stays table (taken_after table taken step reply) new
 refused_keeps table taken step e reply new agree is same =
-    let adds : taken_after taken step reply ≡ taken = ap (taken_after taken step) (sym is) ∙ refused taken step e in
+    let adds : taken_after table taken step reply ≡ taken = ap (taken_after table taken step) (sym is) ∙ refused table taken step e in
     subst (λ (t : Taken). Stays table t new) (sym adds) (sym same, agree)
 
-step_keeps : (table : Table) (taken : Taken) (step : Step) (reply : Reply) (new : ClusterParts) → AllAgree taken → StepTo (cluster_of table taken) step reply new → Stays table (taken_after taken step reply) new
+step_keeps : (table : Table) (taken : Taken) (step : Step) (reply : Reply) (new : ClusterParts) → AllAgree taken → StepTo (cluster_of table taken) step reply new → Stays table (taken_after table taken step reply) new
 step_keeps table taken step reply new agree (inr lacked) = refused_keeps table taken step Memory reply new agree (sym lacked.0) (sym lacked.1)
 step_keeps table taken step reply new agree (inl is) =
     let c = cluster_of table taken in
-    elim (step_of c step) as (λ o. step_of c step ≡ o → answered o c ≡ (reply, new) → Stays table (taken_after taken step reply) new) [
+    elim (step_of c step) as (λ o. step_of c step ≡ o → answered o c ≡ (reply, new) → Stays table (taken_after table taken step reply) new) [
       | Err e ↦ λ made f. refused_keeps table taken step e reply new agree (ap (λ (p : Reply × ClusterParts). p.0) f) (ap (λ (p : Reply × ClusterParts). p.1) f)
       | Ok done ↦ λ made f.
           let kept = ok_step table taken step done agree made in
-          subst (λ (p : Reply × ClusterParts). Stays table (taken_after taken step p.0) p.1) f kept
+          subst (λ (p : Reply × ClusterParts). Stays table (taken_after table taken step p.0) p.1) f kept
     ] refl is
 
-run_keeps : (table : Table) (taken : Taken) (steps : List Step) (replies : List Reply) (new : ClusterParts) → AllAgree taken → Run (cluster_of table taken) steps replies new → Stays table (taken_by taken steps replies) new
+run_keeps : (table : Table) (taken : Taken) (steps : List Step) (replies : List Reply) (new : ClusterParts) → AllAgree taken → Run (cluster_of table taken) steps replies new → Stays table (taken_by table taken steps replies) new
 run_keeps table taken [] [] new agree r = (r, agree)
 run_keeps table taken [] (reply ∷ replies) new agree r = absurd r
 run_keeps table taken (step ∷ steps) [] new agree r = absurd r
 run_keeps table taken (step ∷ steps) (reply ∷ replies) new agree r =
     let kept = step_keeps table taken step reply r.0 agree r.1 in
-    run_keeps table (taken_after taken step reply) steps replies new kept.1 (subst (λ (c : ClusterParts). Run c steps replies new) kept.0 r.2)
+    run_keeps table (taken_after table taken step reply) steps replies new kept.1 (subst (λ (c : ClusterParts). Run c steps replies new) kept.0 r.2)
 
 new_is : (table : Table) (first count : ℕ) → new_replicas table first count ≡ replicas_of table first (empty_sets count)
 unfolding state_of
@@ -398,7 +402,7 @@ start : StartsEmpty
 unfolding new_cluster
 start table count = (ap (λ (stores : List Replica). record { schema = table; stores = stores; messages = [] }) (new_is table 1 count), (new_agree count, tt))
 
-from_new : (table : Table) (count : ℕ) (steps : List Step) (replies : List Reply) (new : ClusterParts) → Run (new_cluster table count) steps replies new → Stays table (taken_by (new_taken count) steps replies) new
+from_new : (table : Table) (count : ℕ) (steps : List Step) (replies : List Reply) (new : ClusterParts) → Run (new_cluster table count) steps replies new → Stays table (taken_by table (new_taken count) steps replies) new
 from_new table count steps replies new r =
     let is = start table count in
     run_keeps table (new_taken count) steps replies new is.1 (subst (λ (c : ClusterParts). Run c steps replies new) is.0 r)
@@ -415,7 +419,7 @@ follow table taken [] later (reply ∷ replies) later_replies new agree same r =
 follow table taken (step ∷ steps) later [] later_replies new agree same r = absurd (omega arith)
 follow table taken (step ∷ steps) later (reply ∷ replies) later_replies new agree same r =
     let kept = step_keeps table taken step reply r.0 agree r.1 in
-    follow table (taken_after taken step reply) steps later replies later_replies new kept.1 (omega arith)
+    follow table (taken_after table taken step reply) steps later replies later_replies new kept.1 (omega arith)
     (subst (λ (c : ClusterParts). Run c (steps ++ later) (replies ++ later_replies) new) kept.0 r.2)
 
 some_step : (a b : Step) → Some a ≡ Some b → a ≡ b
@@ -423,20 +427,21 @@ some_step a b e = cc
 
 reads : ReadsLeaveAll
 unfolding export_step query_step
-reads c taken replica (Append r rows) asked reply e = cc
-reads c taken replica (Insert r name rows) asked reply e = cc
-reads c taken replica (Delete r first last) asked reply e = cc
-reads c taken replica (Merge r other) asked reply e = cc
-reads c taken replica (Ask r) asked reply e = cc
-reads c taken replica (Serve r message) asked reply e = cc
-reads c taken replica (Take r message) asked reply e = cc
-reads c taken replica (Recode r name column vector coding) asked reply e = cc
-reads c taken replica (Open r file) asked reply e = cc
-reads c taken replica (Export r) asked reply e =
-    subst (λ (step : Step). ((answered (step_of c step) c).1 ≡ c) × (taken_after taken step reply ≡ taken)) (some_step (Export replica) asked e)
+reads c table taken replica (Append r rows) asked reply e = cc
+reads c table taken replica (Insert r name rows) asked reply e = cc
+reads c table taken replica (Delete r first last) asked reply e = cc
+reads c table taken replica (DeleteWhere r text) asked reply e = cc
+reads c table taken replica (Merge r other) asked reply e = cc
+reads c table taken replica (Ask r) asked reply e = cc
+reads c table taken replica (Serve r message) asked reply e = cc
+reads c table taken replica (Take r message) asked reply e = cc
+reads c table taken replica (Recode r name column vector coding) asked reply e = cc
+reads c table taken replica (Open r file) asked reply e = cc
+reads c table taken replica (Export r) asked reply e =
+    subst (λ (step : Step). ((answered (step_of c step) c).1 ≡ c) × (taken_after table taken step reply ≡ taken)) (some_step (Export replica) asked e)
     (asked_leaves c export_reply (place_of (length c.stores) replica), refl)
-reads c taken replica (Query r sql) asked reply e =
-    subst (λ (step : Step). ((answered (step_of c step) c).1 ≡ c) × (taken_after taken step reply ≡ taken)) (some_step (Query replica sql) asked e)
+reads c table taken replica (Query r sql) asked reply e =
+    subst (λ (step : Step). ((answered (step_of c step) c).1 ≡ c) × (taken_after table taken step reply ≡ taken)) (some_step (Query replica sql) asked e)
     (asked_leaves c (query_reply sql) (place_of (length c.stores) replica), refl)
 
 asked_numbered : (c : ClusterParts) (replica : ℕ) (question : Table → State → Result Reply Refusal) → asked_at c replica question ≡ asked_of c question (replica_numbered c replica)
@@ -474,6 +479,7 @@ same_replies : (c d : ClusterParts) (replica other : ℕ) (r s : Replica) (step 
 same_replies c d replica other r s (Append q rows) asked other_asked schemas here there states e f = cc
 same_replies c d replica other r s (Insert q name rows) asked other_asked schemas here there states e f = cc
 same_replies c d replica other r s (Delete q first last) asked other_asked schemas here there states e f = cc
+same_replies c d replica other r s (DeleteWhere q text) asked other_asked schemas here there states e f = cc
 same_replies c d replica other r s (Merge q from) asked other_asked schemas here there states e f = cc
 same_replies c d replica other r s (Ask q) asked other_asked schemas here there states e f = cc
 same_replies c d replica other r s (Serve q message) asked other_asked schemas here there states e f = cc
@@ -518,8 +524,8 @@ pub in_histories : SameInHistories
 in_histories table count other_count steps other_steps replies other_replies new other_new replica other run other_run here there same =
     let kept = from_new table count steps replies new run in
     let other_kept = from_new table other_count other_steps other_replies other_new other_run in
-    let taken = taken_by (new_taken count) steps replies in
-    let other_taken = taken_by (new_taken other_count) other_steps other_replies in
+    let taken = taken_by table (new_taken count) steps replies in
+    let other_taken = taken_by table (new_taken other_count) other_steps other_replies in
     let P : ClusterParts → Type 0 = λ c. IsSome (replica_numbered c replica) in
     let Q : ClusterParts → Type 0 = λ c. IsSome (replica_numbered c other) in
     let R : ClusterParts → Type 0 = λ c. AreAlike c replica (cluster_of table other_taken) other in
@@ -537,7 +543,7 @@ canonical table taken replica here =
 exported : SameExport
 exported table count other_count steps other_steps replies other_replies new other_new replica other run other_run here there same =
     let kept = from_new table count steps replies new run in
-    let taken = taken_by (new_taken count) steps replies in
+    let taken = taken_by table (new_taken count) steps replies in
     let bytes = canonical_file table (state_of (taken_of taken replica)) in
     let P : ClusterParts → Type 0 = λ c. IsSome (replica_numbered c replica) in
     let Q : ClusterParts → Type 0 = λ c. reply_to c (Export replica) ≡ File bytes in

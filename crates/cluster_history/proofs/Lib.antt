@@ -2,6 +2,7 @@ pub mod Apart
 pub mod Asked
 pub mod CodingLaws
 pub mod Codings
+pub mod DeletedWhere
 pub mod Forms
 pub mod Histories
 pub mod Idle

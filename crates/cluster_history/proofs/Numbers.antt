@@ -9,14 +9,14 @@ use Rattle.table_model.specs.declared.refusal.Refusal.TheVariants.{Full}
 use Rattle.replica_store.specs.Replica.{Replica, appended, inserted, deleted_rows, recoded_rows}
 use Rattle.column_file.specs.Files.{canonical_read}
 use Rattle.replica_store.specs.Exchange.{SummaryForm, summary_of, offered}
-use Rattle.cluster_history.specs.Cluster.{ClusterParts, place_of, at_replica, at_place, held_at, placed, done_reply, numbered, message_limit, where_room, with_message, ask_of, ask_step, offer_message, serve_of, serve_step, taking, take_step, opening, open_step, told, asked_of, asked_place, export_reply, export_step, append_step, insert_step, delete_step, recode_step, merge_step, merge_places, merge_reply, merged_in, query_step, query_reply, step_of}
+use Rattle.cluster_history.specs.Cluster.{ClusterParts, place_of, at_replica, at_place, held_at, placed, done_reply, numbered, message_limit, where_room, with_message, ask_of, ask_step, offer_message, serve_of, serve_step, taking, take_step, opening, open_step, told, asked_of, asked_place, export_reply, export_step, append_step, insert_step, delete_step, deleting, delete_where_step, recode_step, merge_step, merge_places, merge_reply, merged_in, query_step, query_reply, step_of}
 use Rattle.cluster_history.specs.Message.{Carried, Listing, Offering, listing_in, offering_in}
 use Rattle.cluster_history.specs.Run.{StepTo, answered}
 use Rattle.cluster_history.specs.History.{MessagesStay}
 use Rattle.cluster_history.specs.declared.reply.Reply.{Reply}
-use Rattle.cluster_history.specs.declared.reply.Reply.TheVariants.{Done, Named, Put}
+use Rattle.cluster_history.specs.declared.reply.Reply.TheVariants.{Done, Named, Put, Deleted}
 use Rattle.script_lines.specs.declared.step.Step.{Step}
-use Rattle.script_lines.specs.declared.step.Step.TheVariants.{Append, Insert, Delete, Merge, Ask, Serve, Take, Recode, Open, Export, Query}
+use Rattle.script_lines.specs.declared.step.Step.TheVariants.{Append, Insert, Delete, DeleteWhere, Merge, Ask, Serve, Take, Recode, Open, Export, Query}
 
 -- what is made, if it is, has the same messages, or more
 abbrev Grows : ClusterParts → Result (Reply × ClusterParts) Refusal → Type 0
@@ -85,10 +85,11 @@ asked_grows c question (Some at) =
     ]
 
 step_grows : (c : ClusterParts) (step : Step) → Grows c (step_of c step)
-unfolding append_step insert_step delete_step recode_step merge_step ask_step serve_step take_step open_step export_step query_step
+unfolding append_step insert_step delete_step delete_where_step recode_step merge_step ask_step serve_step take_step open_step export_step query_step
 step_grows c (Append replica rows) = at_replica_grows Named c replica (λ r. appended r rows)
 step_grows c (Insert replica name rows) = at_replica_grows Put c replica (λ r. inserted r name rows)
 step_grows c (Delete replica first last) = at_replica_grows done_reply c replica (λ r. deleted_rows r first last)
+step_grows c (DeleteWhere replica text) = at_replica_grows Deleted c replica (deleting text)
 step_grows c (Merge replica other) = merge_grows c (place_of (length c.stores) replica) (place_of (length c.stores) other)
 step_grows c (Ask replica) = ask_grows c (numbered c.stores replica)
 step_grows c (Serve replica message) = serve_grows c (numbered c.stores replica) (listing_in (numbered c.messages message))

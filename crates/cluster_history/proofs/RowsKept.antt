@@ -27,19 +27,20 @@ use Rattle.replica_store.proofs.Offers.{rows_in-unlisted}
 use Rattle.replica_store.proofs.RowsIn.{entries-rows_in, get-rows_in, rows_in-empty, rows_in-insert, rows_in-union}
 use Rattle.column_file.specs.Files.{AreCanonicalOf, canonical_read}
 use Rattle.column_file.proofs.FileLaws.{rows_back}
-use Rattle.cluster_history.specs.Cluster.{ClusterParts, new_cluster, new_replicas, place_of, numbered, with_store, placed, held_at, at_place, at_replica, done_reply, append_step, insert_step, delete_step, recode_step, stored, merged_pair, merged_in, merge_reply, merge_places, merge_step, with_message, ask_of, ask_step, offer_message, serve_of, serve_step, taking, take_step, opening, open_step, export_reply, export_step, query_reply, query_step, step_of}
+use Rattle.store_view.specs.Asked.{condition_names}
+use Rattle.cluster_history.specs.Cluster.{ClusterParts, new_cluster, new_replicas, place_of, numbered, with_store, placed, held_at, at_place, at_replica, done_reply, append_step, insert_step, delete_step, then_deleted, deleting, delete_where_step, recode_step, stored, merged_pair, merged_in, merge_reply, merge_places, merge_step, with_message, ask_of, ask_step, offer_message, serve_of, serve_step, taking, take_step, opening, open_step, export_reply, export_step, query_reply, query_step, step_of}
 use Rattle.cluster_history.specs.Codings.{Become, AreJoined, IsSent, SegmentsAfter}
 use Rattle.cluster_history.specs.Message.{Carried, Listing, Offering, offering_in}
 use Rattle.cluster_history.specs.Rows.{batches_held, batches_carried, SegmentsHaveRows, NewHaveRows, StepsKeepRows, RunsKeepRows, RowLaws}
 use Rattle.cluster_history.specs.Segments.{ClusterSegments, ClusterForm}
 use Rattle.cluster_history.specs.declared.reply.Reply.{Reply}
-use Rattle.cluster_history.specs.declared.reply.Reply.TheVariants.{Done, Named, Put}
+use Rattle.cluster_history.specs.declared.reply.Reply.TheVariants.{Done, Named, Put, Deleted}
 use Rattle.cluster_history.proofs.Codings.{union-self}
 use Rattle.cluster_history.proofs.Histories.{room_made, asked_leaves, answered_ok}
 use Rattle.cluster_history.proofs.Messages.{numbered-map}
 use Rattle.cluster_history.proofs.Takes.{ok_parts, insert_again}
 use Rattle.script_lines.specs.declared.step.Step.{Step}
-use Rattle.script_lines.specs.declared.step.Step.TheVariants.{Append, Insert, Delete, Merge, Ask, Serve, Take, Recode, Open, Export, Query}
+use Rattle.script_lines.specs.declared.step.Step.TheVariants.{Append, Insert, Delete, DeleteWhere, Merge, Ask, Serve, Take, Recode, Open, Export, Query}
 
 abbrev Batches : Type 0
 Batches = finite.FinMap name_cmp Batch
@@ -233,6 +234,10 @@ deleted_leaves r next first last u e =
     let met = ok_unless (delete_fault first last) (Ok (tt, made)) (u, next) e in
     ap batches_held (sym (made_of tt u made next met.1))
 
+found_leaves : (r next : Replica) (found : Result (List RowName) Refusal) (count : ℕ) → then_deleted r found ≡ Ok (count, next) → batches_held next ≡ batches_held r
+found_leaves r next (Ok names) count e = ap batches_held (sym (made_of (length names) count (with_deleted r names) next e))
+found_leaves r next (Err fault) count e = let bad : ◌≡◌ {A = Result (ℕ × Replica) Refusal} (Err fault) (Ok (count, next)) = e in cc
+
 recoded_leaves : (r next : Replica) (name : BatchName) (column vector : ℕ) (u : Unit {0}) → recoded_rows r name column vector ≡ Ok (u, next) → batches_held r ≡ batches_held next
 recoded_leaves r next name column vector u e =
     let met = ok_unless (recode_fault r name column vector) (Ok (tt, r)) (u, next) e in
@@ -374,7 +379,7 @@ serve_alike old new replica message answer before e after =
 
 -- a step that is answered
 done_keeps : (old new : ClusterForm) (step : Step) (answer : Reply) → SegmentsHaveRows old → step_of old.parts step ≡ Ok (answer, new.parts) → SegmentsAfter old step answer new.segments → SegmentsHaveRows new
-unfolding append_step insert_step delete_step merge_step take_step recode_step open_step export_step query_step
+unfolding append_step insert_step delete_step delete_where_step merge_step take_step recode_step open_step export_step query_step
 done_keeps old new (Append replica rows) answer before e after =
     let put = after.2 in
     call_sets Named old new replica (λ r. appended r rows) answer put.1 (finite.insert put.1 after.0 (canonical_segment put.0.schema rows)) before e put.3 put.5
@@ -394,6 +399,8 @@ done_keeps old new (Insert replica name rows) answer before e (inr held) =
     (λ r next a called replied. kept_batches r next name rows (place_for r name rows) (answer_as a Already r next name rows called (put_is a Already (replied ∙ held.0))))
 done_keeps old new (Delete replica first last) answer before e after =
     call_leaves done_reply old new replica (λ r. deleted_rows r first last) answer before e after (λ r next u called replied. deleted_leaves r next first last u called)
+done_keeps old new (DeleteWhere replica text) answer before e after =
+    call_leaves Deleted old new replica (deleting text) answer before e after (λ r next count called replied. found_leaves r next (condition_names text r.schema r.state) count called)
 done_keeps old new (Merge replica other) answer before e after =
     merged_alike old new replica other after.0 before after.1 after.2 (places_merged old.parts new.parts (place_of (length old.parts.stores) replica) (place_of (length old.parts.stores) other) answer e)
 done_keeps old new (Ask replica) answer before e after = ask_alike old new replica answer before e after

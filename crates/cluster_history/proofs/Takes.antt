@@ -1,5 +1,5 @@
 -- What each call makes of a replica that is the state of what it took: the state of that and what it takes besides.
-use Rattle.std.specs.Prelude.{◌≡◌, ◌⊎◌, ℕ, Bool, true, false, cond, not, ◌||◌, nat_lt, List, [], ◌∷◌, ◌++◌, map, Option, Some, None, Result, Ok, Err}
+use Rattle.std.specs.Prelude.{◌≡◌, ◌⊎◌, ℕ, Bool, true, false, cond, not, ◌||◌, nat_lt, List, [], ◌∷◌, ◌++◌, map, length, Option, Some, None, Result, Ok, Err}
 use Rattle.std.proofs.Common.{refl, sym, ap, ◌∙◌, inl, inr}
 use Rattle.std.specs.List.{list_any}
 use Rattle.std.specs.Ordering.{eq_by_cmp}
@@ -22,7 +22,9 @@ use Rattle.replica_store.specs.declared.inserted.Inserted.{Inserted}
 use Rattle.replica_store.specs.declared.inserted.Inserted.TheVariants.{New, Already}
 use Rattle.replica_store.specs.Replica.{Replica, appended, then_added, next_name, inserted, then_placed, place_for, place_beside, unless_fault, with_batch, with_deleted, with_join, deleted_rows, delete_fault, rows_between, differs, conflict_with, conflict_or_full, merge_fault, merged, entries_of, batch_limit}
 use Rattle.replica_store.proofs.Limits.{IsFree-next_name, IsFree-place_for}
-use Rattle.cluster_history.specs.History.{replica_of}
+use Rattle.store_view.specs.Asked.{condition_names}
+use Rattle.cluster_history.specs.Cluster.{then_deleted, deleting}
+use Rattle.cluster_history.specs.History.{replica_of, names_found, deletes_where}
 
 -- a call made this replica of one that took ops before, and takes more besides
 pub record Takes (table : Table) (own : ℕ) (ops more : List Operation) (new : Replica) : Type 0 where
@@ -183,6 +185,20 @@ delete-takes table own ops first last done new agree e =
             agree = λ n a b g h. agree n a b (among-deletes (rows_between first last) ops n a g) (among-deletes (rows_between first last) ops n b h);
           }
     ] refl e
+
+-- rows that a condition found are deletes more
+pub where-takes : (table : Table) (own : ℕ) (ops : List Operation) (text : List ℕ) (count : ℕ) (new : Replica) → AreAgreeing ops → deleting text (replica_of table own ops) ≡ Ok (count, new) → Takes table own ops (deletes_where table text ops) new
+where-takes table own ops text count new agree e =
+    let r = replica_of table own ops in
+    elim (condition_names text table (state_of ops)) as (λ x. then_deleted r x ≡ Ok (count, new) → Takes table own ops (map Deletes (names_found x)) new) [
+      | Err fault ↦ λ made. let bad : ◌≡◌ {A = Result (ℕ × Replica) Refusal} (Err fault) (Ok (count, new)) = made in cc
+      | Ok names ↦ λ made.
+          let parts = ok_parts (length names) count (with_deleted r names) new made in
+          record {
+            same = sym parts.1 ∙ with_deleted-is table own ops names;
+            agree = λ n a b g h. agree n a b (among-deletes names ops n a g) (among-deletes names ops n b h);
+          }
+    ] e
 
 inserts-append : (ops more : List Operation) → inserts_of (ops ++ more) ≡ inserts_of ops ++ inserts_of more
 inserts-append [] more = refl

@@ -8,16 +8,16 @@ use Rattle.table_model.specs.declared.names.BatchName.{BatchName}
 use Rattle.table_model.specs.declared.names.RowName.{RowName}
 use Rattle.table_model.specs.declared.refusal.Refusal.{Refusal}
 use Rattle.table_model.specs.declared.refusal.Refusal.TheVariants.{NoSuchReplica, NoSuchMessage, Full}
-use Rattle.replica_store.specs.Replica.{Replica, coded_replica, appended, inserted, deleted_rows, merged, recoded_rows}
+use Rattle.replica_store.specs.Replica.{Replica, coded_replica, appended, inserted, deleted_rows, with_deleted, merged, recoded_rows}
 use Rattle.replica_store.specs.Segments.{StoreForm}
-use Rattle.store_view.specs.Asked.{query_answer}
+use Rattle.store_view.specs.Asked.{query_answer, condition_names}
 use Rattle.replica_store.specs.Exchange.{SummaryForm, OfferForm, summary_of, offered, applied}
 use Rattle.column_file.specs.Files.{canonical_file, canonical_read}
 use Rattle.cluster_history.specs.Message.{Carried, Listing, Offering, coded_message, listing_in, offering_in}
 use Rattle.cluster_history.specs.declared.reply.Reply.{Reply}
-use Rattle.cluster_history.specs.declared.reply.Reply.TheVariants.{Done, Named, Put, Sent, File, Answered}
+use Rattle.cluster_history.specs.declared.reply.Reply.TheVariants.{Done, Named, Put, Deleted, Sent, File, Answered}
 use Rattle.script_lines.specs.declared.step.Step.{Step}
-use Rattle.script_lines.specs.declared.step.Step.TheVariants.{Append, Insert, Delete, Merge, Ask, Serve, Take, Recode, Open, Export, Query}
+use Rattle.script_lines.specs.declared.step.Step.TheVariants.{Append, Insert, Delete, DeleteWhere, Merge, Ask, Serve, Take, Recode, Open, Export, Query}
 
 -- a table's schema, its replicas and the messages between them, the first of each number 1
 pub record ClusterParts : Type 0 where
@@ -90,6 +90,19 @@ insert_step c replica name rows = at_replica Put c replica (λ r. inserted r nam
 -- delete at a replica
 unfoldable pub delete_step : ClusterParts → ℕ → RowName → ℕ → Result (Reply × ClusterParts) Refusal
 delete_step c replica first last = at_replica done_reply c replica (λ r. deleted_rows r first last)
+
+-- how many rows were found, and the replica with them deleted
+abbrev pub then_deleted : Replica → Result (List RowName) Refusal → Result (ℕ × Replica) Refusal
+then_deleted r (Ok names) = Ok (length names, with_deleted r names)
+then_deleted r (Err e) = Err e
+
+-- what a delete by the condition that a text is makes of a replica: the rows that aren't deleted and at which it is true are deleted
+abbrev pub deleting : List ℕ → Replica → Result (ℕ × Replica) Refusal
+deleting text r = then_deleted r (condition_names text r.schema r.state)
+
+-- delete at a replica by the condition that a text is
+unfoldable pub delete_where_step : ClusterParts → ℕ → List ℕ → Result (Reply × ClusterParts) Refusal
+delete_where_step c replica text = at_replica Deleted c replica (deleting text)
 
 -- to put a vector of a batch at a replica into another coding leaves the replica
 unfoldable pub recode_step : ClusterParts → ℕ → BatchName → ℕ → ℕ → Result (Reply × ClusterParts) Refusal
@@ -228,6 +241,7 @@ abbrev pub step_of : ClusterParts → Step → Result (Reply × ClusterParts) Re
 step_of c (Append replica rows) = append_step c replica rows
 step_of c (Insert replica name rows) = insert_step c replica name rows
 step_of c (Delete replica first last) = delete_step c replica first last
+step_of c (DeleteWhere replica text) = delete_where_step c replica text
 step_of c (Merge replica other) = merge_step c replica other
 step_of c (Ask replica) = ask_step c replica
 step_of c (Serve replica message) = serve_step c replica message

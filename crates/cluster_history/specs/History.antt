@@ -6,19 +6,21 @@ use Rattle.std.specs.Ordering.{eq_by_cmp}
 use Rattle.table_model.specs.Name.{name_cmp}
 use Rattle.table_model.specs.Operation.{Operation, Insert as Inserts, Delete as Deletes, AreAgreeing, SameOperations, inserts_of, state_of, operations_of}
 use Rattle.table_model.specs.declared.names.BatchName.{BatchName}
+use Rattle.table_model.specs.declared.names.RowName.{RowName}
 use Rattle.table_model.specs.State.{Batch}
 use Rattle.table_model.specs.Table.{Table}
 use Rattle.column_file.specs.Files.{canonical_file, canonical_read}
 use Rattle.replica_store.specs.Exchange.{OfferForm}
 use Rattle.table_model.specs.declared.refusal.Refusal.{Refusal}
 use Rattle.replica_store.specs.Replica.{Replica, rows_between}
+use Rattle.store_view.specs.Asked.{condition_names}
 use Rattle.cluster_history.specs.Cluster.{ClusterParts, new_cluster, place_of, numbered, step_of}
 use Rattle.cluster_history.specs.Message.{Carried, Listing, Offering}
 use Rattle.cluster_history.specs.Run.{Run, answered}
 use Rattle.cluster_history.specs.declared.reply.Reply.{Reply}
-use Rattle.cluster_history.specs.declared.reply.Reply.TheVariants.{Done, Named, Put, Sent, File, Refused}
+use Rattle.cluster_history.specs.declared.reply.Reply.TheVariants.{Done, Named, Put, Deleted, Sent, File, Refused}
 use Rattle.script_lines.specs.declared.step.Step.{Step}
-use Rattle.script_lines.specs.declared.step.Step.TheVariants.{Append, Insert, Delete, Merge, Ask, Serve, Take, Open, Export, Query}
+use Rattle.script_lines.specs.declared.step.Step.TheVariants.{Append, Insert, Delete, DeleteWhere, Merge, Ask, Serve, Take, Open, Export, Query}
 
 -- What a message brings, by the history alone: names of batches, or operations. These too are sets, as lists of which only the members matter.
 pub data Brought : Type 0 where
@@ -92,23 +94,33 @@ abbrev pub operations_held : Result OfferForm Refusal → List Operation
 operations_held (Ok held) = operations_of held.state
 operations_held (Err e) = []
 
+-- the names of the rows that a condition found; none where it was refused
+abbrev pub names_found : Result (List RowName) Refusal → List RowName
+names_found (Ok names) = names
+names_found (Err e) = []
+
+-- one delete for each row of the state of what was taken that isn't deleted there and at which the condition that a text is is true
+abbrev pub deletes_where : Table → List ℕ → List Operation → List Operation
+deletes_where table text ops = map Deletes (names_found (condition_names text table (state_of ops)))
+
 -- what a step adds to what was taken: nothing, or to one replica these operations, or one more message
 pub data Addition : Type 0 where
   Nothing : Addition
   ToReplica : ℕ → List Operation → Addition
   OneMessage : Brought → Addition
 
--- what a step adds that has this reply: nothing, but for the steps that are named here
-abbrev pub added : Taken → Step → Reply → Addition
-added taken (Append replica rows) (Named name) = ToReplica replica (Inserts name rows ∷ [])
-added taken (Insert replica name rows) (Put answer) = ToReplica replica (Inserts name rows ∷ [])
-added taken (Delete replica first last) Done = ToReplica replica (map Deletes (rows_between first last))
-added taken (Merge replica other) Done = ToReplica replica (taken_of taken other)
-added taken (Ask replica) (Sent number) = OneMessage (Names (names_in (taken_of taken replica)))
-added taken (Serve replica message) (Sent number) = OneMessage (Operations (lacking (names_by taken message) (taken_of taken replica)))
-added taken (Take replica message) Done = ToReplica replica (operations_by taken message)
-added taken (Open replica file) Done = ToReplica replica (operations_held (canonical_read file))
-added taken step reply = Nothing
+-- what a step of a table adds that has this reply: nothing, but for the steps that are named here
+abbrev pub added : Table → Taken → Step → Reply → Addition
+added table taken (Append replica rows) (Named name) = ToReplica replica (Inserts name rows ∷ [])
+added table taken (Insert replica name rows) (Put answer) = ToReplica replica (Inserts name rows ∷ [])
+added table taken (Delete replica first last) Done = ToReplica replica (map Deletes (rows_between first last))
+added table taken (DeleteWhere replica text) (Deleted count) = ToReplica replica (deletes_where table text (taken_of taken replica))
+added table taken (Merge replica other) Done = ToReplica replica (taken_of taken other)
+added table taken (Ask replica) (Sent number) = OneMessage (Names (names_in (taken_of taken replica)))
+added table taken (Serve replica message) (Sent number) = OneMessage (Operations (lacking (names_by taken message) (taken_of taken replica)))
+added table taken (Take replica message) Done = ToReplica replica (operations_by taken message)
+added table taken (Open replica file) Done = ToReplica replica (operations_held (canonical_read file))
+added table taken step reply = Nothing
 
 -- the sets with more operations in the one at a place
 abbrev pub with_set : List (List Operation) → Option ℕ → List Operation → List (List Operation)
@@ -122,14 +134,14 @@ with_added taken (OneMessage message) = record taken { messages = taken.messages
 with_added taken (ToReplica replica ops) = record taken { replicas = with_set taken.replicas (place_of (length taken.replicas) replica) ops }
 
 -- what is taken once a step has its reply
-abbrev pub taken_after : Taken → Step → Reply → Taken
-taken_after taken step reply = with_added taken (added taken step reply)
+abbrev pub taken_after : Table → Taken → Step → Reply → Taken
+taken_after table taken step reply = with_added taken (added table taken step reply)
 
 -- what is taken in the end of a history
-abbrev pub taken_by : Taken → List Step → List Reply → Taken
-taken_by taken (step ∷ steps) (reply ∷ replies) = taken_by (taken_after taken step reply) steps replies
-taken_by taken (step ∷ steps) [] = taken
-taken_by taken [] replies = taken
+abbrev pub taken_by : Table → Taken → List Step → List Reply → Taken
+taken_by table taken (step ∷ steps) (reply ∷ replies) = taken_by table (taken_after table taken step reply) steps replies
+taken_by table taken (step ∷ steps) [] = taken
+taken_by table taken [] replies = taken
 
 -- the replica that is its table's schema, its own origin and the state of what it took
 abbrev pub replica_of : Table → ℕ → List Operation → Replica
@@ -172,7 +184,7 @@ StartsEmpty = (table : Table) (count : ℕ) → (new_cluster table count ≡ clu
 abbrev pub GoesOnFrom : Type 0
 GoesOnFrom = (table : Table) (taken : Taken) (steps : List Step) (replies : List Reply) (new : ClusterParts) →
     AllAgree taken → Run (cluster_of table taken) steps replies new →
-    (new ≡ cluster_of table (taken_by taken steps replies)) × AllAgree (taken_by taken steps replies)
+    (new ≡ cluster_of table (taken_by table taken steps replies)) × AllAgree (taken_by table taken steps replies)
 
 -- once made, a message stays at its number
 abbrev pub MessagesStay : Type 0
@@ -191,7 +203,7 @@ SameMessagesAreEqual = (table : Table) (message other : Brought) → AllBringOne
 
 -- a refused step adds nothing
 abbrev pub RefusedAddNothing : Type 0
-RefusedAddNothing = (taken : Taken) (step : Step) (refusal : Refusal) → taken_after taken step (Refused refusal) ≡ taken
+RefusedAddNothing = (table : Table) (taken : Taken) (step : Step) (refusal : Refusal) → taken_after table taken step (Refused refusal) ≡ taken
 
 -- a run after a run is a run
 abbrev pub RunsJoin : Type 0
@@ -202,7 +214,7 @@ RunsJoin = (old mid new : ClusterParts) (steps later : List Step) (replies later
 abbrev pub RepliesFollow : Type 0
 RepliesFollow = (table : Table) (taken : Taken) (steps later : List Step) (replies later_replies : List Reply) (new : ClusterParts) →
     AllAgree taken → length steps ≡ length replies → Run (cluster_of table taken) (steps ++ later) (replies ++ later_replies) new →
-    Run (cluster_of table (taken_by taken steps replies)) later later_replies new
+    Run (cluster_of table (taken_by table taken steps replies)) later later_replies new
 
 -- a step that only reads, asked of the replica with this number instead; the steps that only read are those that are named here
 abbrev pub reading_at : ℕ → Step → Option Step
@@ -212,8 +224,8 @@ reading_at replica step = None
 
 -- a step that only reads leaves the cluster, and adds nothing
 abbrev pub ReadsLeaveAll : Type 0
-ReadsLeaveAll = (c : ClusterParts) (taken : Taken) (replica : ℕ) (step asked : Step) (reply : Reply) →
-    reading_at replica step ≡ Some asked → ((answered (step_of c asked) c).1 ≡ c) × (taken_after taken asked reply ≡ taken)
+ReadsLeaveAll = (c : ClusterParts) (table : Table) (taken : Taken) (replica : ℕ) (step asked : Step) (reply : Reply) →
+    reading_at replica step ≡ Some asked → ((answered (step_of c asked) c).1 ≡ c) × (taken_after table taken asked reply ≡ taken)
 
 -- the reply to a step
 abbrev pub reply_to : ClusterParts → Step → Reply
@@ -242,7 +254,7 @@ abbrev pub SameInHistories : Type 0
 SameInHistories = (table : Table) (count other_count : ℕ) (steps other_steps : List Step) (replies other_replies : List Reply) (new other_new : ClusterParts) (replica other : ℕ) →
     Run (new_cluster table count) steps replies new → Run (new_cluster table other_count) other_steps other_replies other_new →
     IsSome (replica_numbered new replica) → IsSome (replica_numbered other_new other) →
-    SameOperations (taken_of (taken_by (new_taken count) steps replies) replica) (taken_of (taken_by (new_taken other_count) other_steps other_replies) other) →
+    SameOperations (taken_of (taken_by table (new_taken count) steps replies) replica) (taken_of (taken_by table (new_taken other_count) other_steps other_replies) other) →
     AreAlike new replica other_new other
 
 -- the export of a replica is the canonical file of the state of what it took
@@ -255,8 +267,8 @@ abbrev pub SameExport : Type 0
 SameExport = (table : Table) (count other_count : ℕ) (steps other_steps : List Step) (replies other_replies : List Reply) (new other_new : ClusterParts) (replica other : ℕ) →
     Run (new_cluster table count) steps replies new → Run (new_cluster table other_count) other_steps other_replies other_new →
     IsSome (replica_numbered new replica) → IsSome (replica_numbered other_new other) →
-    SameOperations (taken_of (taken_by (new_taken count) steps replies) replica) (taken_of (taken_by (new_taken other_count) other_steps other_replies) other) →
-    (bytes : List ℕ) × (bytes ≡ canonical_file table (state_of (taken_of (taken_by (new_taken count) steps replies) replica))) ×
+    SameOperations (taken_of (taken_by table (new_taken count) steps replies) replica) (taken_of (taken_by table (new_taken other_count) other_steps other_replies) other) →
+    (bytes : List ℕ) × (bytes ≡ canonical_file table (state_of (taken_of (taken_by table (new_taken count) steps replies) replica))) ×
     (reply_to new (Export replica) ≡ File bytes) × (reply_to other_new (Export other) ≡ File bytes)
 
 -- what histories keep

@@ -9,17 +9,18 @@ use Rattle.cluster_history.specs.declared.reply.Reply.TheVariants.{Done, Refused
 use Rattle.cluster_history.specs.Codings.{SegmentsAfter, StayIn, AreNoRecodes, HeldStay, SentStay}
 use Rattle.cluster_history.specs.Segments.{ClusterForm}
 use Rattle.script_lines.specs.declared.step.Step.{Step}
-use Rattle.script_lines.specs.declared.step.Step.TheVariants.{Insert, Delete, Merge, Take, Open, Query}
+use Rattle.script_lines.specs.declared.step.Step.TheVariants.{Insert, Delete, DeleteWhere, Merge, Take, Open, Query}
 
 -- a refused step is answered by its refusal, and leaves the cluster
 abbrev pub answered : Result (Reply × ClusterParts) Refusal → ClusterParts → Reply × ClusterParts
 answered (Ok done) old = done
 answered (Err e) old = (Refused e, old)
 
--- where memory may lack for a step: for what it makes, but not at an insert of a batch that is held already nor at a delete, a merge or a take that changes nothing, which make nothing; and as a file and a query's text are taken in while they are read, there in the place of a refusal too, but not where the replica isn't there
+-- where memory may lack for a step: for what it makes, but not at an insert of a batch that is held already nor at a delete, a merge or a take that changes nothing, which make nothing; and as a file and the text of a query or a condition are taken in while they are read, there in the place of a refusal too, but not where the replica isn't there
 abbrev pub MayLack : ClusterParts → Step → Result (Reply × ClusterParts) Refusal → Type 0
 MayLack old (Open replica file) made = IsSome (numbered old.stores replica)
 MayLack old (Query replica sql) made = IsSome (numbered old.stores replica)
+MayLack old (DeleteWhere replica text) made = IsSome (numbered old.stores replica)
 MayLack old (Insert replica name rows) made = IsOk made × ((c : ClusterParts) → made ≢ Ok (Put Already, c))
 MayLack old (Delete replica first last) made = IsOk made × (made ≢ Ok (Done, old))
 MayLack old (Merge replica other) made = IsOk made × (made ≢ Ok (Done, old))

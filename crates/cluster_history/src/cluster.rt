@@ -18,7 +18,7 @@ use script_lines::Step;
 use segment_core::Coding;
 use std::alloc::Global;
 use std::marker::Model;
-use store_view::ask;
+use store_view::{ask, names_where};
 use table_model::{BatchName, Origin, Refusal, Row, RowName, Schema};
 
 /// How many messages a cluster has at most.
@@ -141,6 +141,22 @@ impl Cluster {
         Ok(Reply::Done)
     }
 
+    /// Deletes a replica's rows at which the condition that a text is is true; that there is no such replica is told before the
+    /// text is read.
+    fn delete_where(
+        &mut self,
+        alloc: Global,
+        replica: u32,
+        condition: &str,
+    ) -> Result<Reply, Refusal>
+        ensures { ActsOn self.old (Step.DeleteWhere replica condition.now) result self.new }
+    {
+        let place = self.place(replica)?;
+        let names = names_where(alloc, &self.stores[place], condition)?;
+        self.stores[place].delete_all(alloc, names.as_slice())?;
+        Ok(Reply::Deleted(names.len() as u64))
+    }
+
     /// Merges the other replica into a replica; with itself nothing changes. Where nothing changes it takes no memory.
     fn merge(&mut self, alloc: Global, replica: u32, other: u32) -> Result<Reply, Refusal>
         ensures { ActsOn self.old (Step.Merge replica other) result self.new }
@@ -259,7 +275,7 @@ impl Cluster {
     }
 
     /// The reply to a step, or its refusal; a refused step leaves the cluster as it was. `Memory` may come in the place of a
-    /// refusal of an open or a query, but never of `NoSuchReplica`.
+    /// refusal of an open, a query or a delete by a condition, but never of `NoSuchReplica`.
     pub fn act(&mut self, alloc: Global, step: &Step) -> Result<Reply, Refusal>
         ensures { ActsOn self.old step.now result self.new }
     {
@@ -275,6 +291,9 @@ impl Cluster {
                 first,
                 last,
             } => self.delete(alloc, *replica, *first, *last),
+            Step::DeleteWhere { replica, condition } => {
+                self.delete_where(alloc, *replica, condition.as_str())
+            }
             Step::Merge { replica, other } => self.merge(alloc, *replica, *other),
             Step::Ask { replica } => self.ask(alloc, *replica),
             Step::Serve { replica, message } => self.serve(alloc, *replica, *message),

@@ -13,6 +13,8 @@ pub enum Reply {
     Named(BatchName),
     /// A batch was put under the name that was given, or was held already.
     Put(Inserted),
+    /// So many rows were deleted that were not deleted before.
+    Deleted(u64),
     /// A message was made, with this number.
     Sent(u32),
     /// The canonical file of a replica.

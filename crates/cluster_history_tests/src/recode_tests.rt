@@ -2,13 +2,13 @@
 //! answered or refused, changes the codings of what is held. Contracts say so too; here it is seen of the coded vectors themselves.
 use crate::tests::{Want, is_wanted, name};
 use cluster_history::{Cluster, Reply};
-use expectations::agree;
 use replica_store::Store;
 use script_lines::{Command, Step, parse_line};
 use segment_core::{Coding, Segment};
 use std::alloc::Global;
 use std::test::Fail;
 use table_model::{ColType, Refusal, Row, Rows, Schema};
+use test_support::agree;
 
 const FOR: Coding = Coding::For;
 

@@ -4,13 +4,13 @@
 //! and counts those texts.
 use crate::tests::{Want, is_wanted, name};
 use cluster_history::{Cluster, Message, Reply, run};
-use expectations::growth_refused;
 use replica_store::Store;
-use script_lines::Step;
+use script_lines::{Sql, Step};
 use segment_core::{Coding, Segment};
 use std::alloc::Global;
 use std::test::Fail;
 use table_model::{ColType, Refusal, Row, Rows, Schema};
+use test_support::growth_refused;
 
 /// What came of a call.
 #[derive(Clone, Copy)]
@@ -289,4 +289,52 @@ fn came_of_steps(alloc: Global, steps: &[Step]) -> Result<Came, Refusal> {
 fn a_refused_step_of_a_run_leaves_the_cluster(rt: HostRuntime) -> Result<(), Fail> {
     let steps = steps(rt.alloc())?;
     end(came_of_steps(rt.alloc(), steps.as_slice())?)
+}
+
+/// A delete of the rows that are 7 at replica 1.
+fn delete_sevens(alloc: Global) -> Result<Step, Refusal> {
+    let condition = Sql::from_string(String::from_str(alloc, "A = 7")?);
+    Ok(Step::DeleteWhere {
+        replica: 1,
+        condition,
+    })
+}
+
+/// A cluster whose replica 1 has one row, 7.
+fn with_seven(alloc: Global) -> Result<Cluster, Refusal> {
+    let schema = schema(alloc)?;
+    let mut cluster = Cluster::new(alloc, &schema, 1)?;
+    let rows = seven(alloc)?;
+    let _ = cluster.act(alloc, &Step::Append { replica: 1, rows })?;
+    Ok(cluster)
+}
+
+/// How many ranges replica 1 has deleted.
+fn ranges(cluster: &Cluster) -> usize {
+    match cluster.stores().get(0) {
+        Some(store) => store.tombs().ranges().len(),
+        None => 0,
+    }
+}
+
+/// What came of the delete: one row is deleted by it, and none by it again.
+fn came_of_delete(alloc: Global, cluster: &mut Cluster, step: &Step) -> Came {
+    let reply = cluster.step(alloc, step);
+    if is_wanted(Some(&reply), MEMORY) {
+        let is_as_it_was = ranges(cluster) == 0;
+        let again = cluster.step(alloc, step);
+        return refused(is_as_it_was && is_wanted(Some(&again), Want::Deleted(1)));
+    }
+    if is_wanted(Some(&reply), Want::Deleted(1)) && ranges(cluster) == 1 {
+        Came::Done
+    } else {
+        Came::Changed
+    }
+}
+
+#[test]
+fn a_refused_delete_by_a_condition_deletes_nothing(rt: HostRuntime) -> Result<(), Fail> {
+    let mut cluster = with_seven(rt.alloc())?;
+    let step = delete_sevens(rt.alloc())?;
+    end(came_of_delete(rt.alloc(), &mut cluster, &step))
 }

@@ -18,6 +18,7 @@ pub(crate) fn name(origin: u32, number: u32) -> BatchName {
 pub(crate) enum Want {
     Done,
     Named(u32, u32),
+    Deleted(u64),
     Sent(u32),
     Refused(Refusal),
 }
@@ -27,6 +28,7 @@ pub(crate) fn is_wanted(reply: Option<&Reply>, want: Want) -> bool {
     match (reply, want) {
         (Some(Reply::Done), Want::Done) => true,
         (Some(Reply::Named(made)), Want::Named(origin, number)) => *made == name(origin, number),
+        (Some(Reply::Deleted(count)), Want::Deleted(wanted)) => *count == wanted,
         (Some(Reply::Sent(number)), Want::Sent(wanted)) => *number == wanted,
         (Some(Reply::Refused(refusal)), Want::Refused(wanted)) => *refusal == wanted,
         _ => false,

@@ -23,7 +23,7 @@ use Rattle.segment_core.specs.SegmentBytes.{column as segment_column, columns as
 use Rattle.replica_store.specs.Replica.{batch_limit}
 use Rattle.column_file.specs.Input.{is_fault_of_bytes, is_refusal_of_reading}
 use Rattle.column_file.specs.SchemaBytes.{text, is_name, name, is_type_tag, column_type, is_new, column, column_count, schema}
-use Rattle.column_file.specs.SummaryBytes.{format_version, version, head, any_name, proper_name, is_after, batch_name, name_count, names, summary, summary_read}
+use Rattle.column_file.specs.SummaryBytes.{is_version, version, has_version, head, any_name, proper_name, is_after, batch_name, name_count, names, summary, summary_read}
 use Rattle.column_file.specs.Files.{offer_read}
 use Rattle.column_file.specs.ContainerBytes.{row_count, Entry, name_of, batch, batches, Deleted, is_named, is_range, begins_after, range_parts, range, ranges, container}
 
@@ -205,45 +205,47 @@ name_judges : Judges name
 unfolding name
 name_judges = checked_judges text is_name (λ _. BadSchema) (λ n. refl) text_judges
 
-column_type_judges : Judges column_type
+column_type_judges : (version : ℕ) → Judges (column_type version)
 unfolding column_type
-column_type_judges =
-    let tag = checked (number 1) is_type_tag (λ _. BadSchema) in
-    let q = checked_judges (number 1) is_type_tag (λ _. BadSchema) (λ n. refl) (number_judges 1) in
+column_type_judges version =
+    let tag = checked (number 1) (is_type_tag version) (λ _. BadSchema) in
+    let q = checked_judges (number 1) (is_type_tag version) (λ _. BadSchema) (λ n. refl) (number_judges 1) in
     λ total bytes. then_judged (tag.read total bytes) _ (q total bytes) (λ x. tt)
 
-column_judges : (front : List ColumnShape) → Judges (column front)
+column_judges : (version : ℕ) (front : List ColumnShape) → Judges (column version front)
 unfolding column
-column_judges front =
-    let parts : Format (ColType × List ℕ) = before column_type (λ _. name) in
+column_judges version front =
+    let parts : Format (ColType × List ℕ) = before (column_type version) (λ _. name) in
     let made : ColType × List ℕ → ColumnShape = λ p. record { name = p.1; column_type = p.0 } in
     let shape = seen parts made (λ c. Some (c.column_type, c.name)) in
-    checked_judges shape (is_new front) (λ _. BadSchema) (λ n. refl) (seen_judges parts made (before_judges column_type (λ _. name) column_type_judges (λ _. name_judges)))
+    checked_judges shape (is_new front) (λ _. BadSchema) (λ n. refl) (seen_judges parts made (before_judges (column_type version) (λ _. name) (column_type_judges version) (λ _. name_judges)))
 
 column_count_judges : Judges column_count
 unfolding column_count
 column_count_judges = checked_judges (number 2) (λ (n : ℕ). leb 1 n && leb n column_limit) BadCount (λ n. refl) (number_judges 2)
 
-schema_judges : Judges schema
+schema_judges : (version : ℕ) → Judges (schema version)
 unfolding schema
-schema_judges =
-    let rest : ℕ → Format (List ℕ × List ColumnShape) = λ n. before name (λ _. all n column) in
-    let q = before_judges column_count rest column_count_judges (λ n. before_judges name (λ _. all n column) name_judges (λ _. all_judges n column column_judges)) in
+schema_judges version =
+    let rest : ℕ → Format (List ℕ × List ColumnShape) = λ n. before name (λ _. all n (column version)) in
+    let q = before_judges column_count rest column_count_judges (λ n. before_judges name (λ _. all n (column version)) name_judges (λ _. all_judges n (column version) (column_judges version))) in
     λ total bytes. then_judged ((before column_count rest).read total bytes) _ (q total bytes) (λ x. tt)
 
 -- ---- summaries
 
 version_judges : Judges version
 unfolding version
-version_judges = checked_judges (number 2) (λ (n : ℕ). eqb n format_version) (λ _. BadVersion) (λ n. refl) (number_judges 2)
+version_judges = checked_judges (number 2) is_version (λ _. BadVersion) (λ n. refl) (number_judges 2)
 
 head_judges : (magic : List ℕ) → Judges (head magic)
 unfolding head
 head_judges magic =
     let first = constant magic BadMagic in
-    let rest : List ℕ → Format (ℕ × Table) = λ _. before version (λ _. schema) in
-    let q = before_judges first rest (checked_judges (raw (length magic)) (same_text magic) (λ _. BadMagic) (λ n. refl) (raw_judges (length magic))) (λ _. before_judges version (λ _. schema) version_judges (λ _. schema_judges)) in
-    λ total bytes. then_judged ((before first rest).read total bytes) _ (q total bytes) (λ x. tt)
+    let rest : List ℕ → Format (ℕ × Table) = λ _. before version schema in
+    let parts = before first rest in
+    let q = before_judges first rest (checked_judges (raw (length magic)) (same_text magic) (λ _. BadMagic) (λ n. refl) (raw_judges (length magic))) (λ _. before_judges version schema version_judges schema_judges) in
+    let r = checked_judges parts has_version (λ _. BadVersion) (λ n. refl) q in
+    λ total bytes. then_judged ((checked parts has_version (λ _. BadVersion)).read total bytes) _ (r total bytes) (λ x. tt)
 
 any_name_judges : Judges any_name
 unfolding any_name

@@ -1,5 +1,5 @@
 -- A canonical file opens to its table and state, so no other has it.
-use Rattle.std.proofs.Common.{◌≡◌, ℕ, zero, suc, ◌+◌, ◌-◌, ◌≤◌, ◌<◌, Bool, true, false, ◌&&◌, ◌||◌, eqb, leb, ltb, T, All, List, [], ◌∷◌, ◌++◌, map, length, get_or, codes, Result, Ok, refl, sym, ap, subst, ◌∙◌, arith, lit<}
+use Rattle.std.proofs.Common.{◌≡◌, ℕ, zero, suc, ◌+◌, ◌-◌, ◌≤◌, ◌<◌, Bool, true, false, cond, ◌&&◌, ◌||◌, eqb, leb, ltb, T, All, List, [], ◌∷◌, ◌++◌, map, length, get_or, codes, Result, Ok, refl, sym, ap, subst, ◌∙◌, arith, lit<}
 use Rattle.std.specs.List.{AllByRecursion}
 use Rattle.std.specs.Ordering.{nat_cmp, ordering_then, is_lt, is_eq}
 use Rattle.std.specs.FinMap as finite
@@ -31,8 +31,8 @@ use Rattle.replica_store.specs.Replica.{AllFit, IsEntry, batch_limit}
 use Rattle.replica_store.specs.Segments.{Entry as Held, IsStored, rows_in, rows_entries}
 use Rattle.replica_store.specs.Exchange.{OfferForm}
 use Rattle.replica_store.proofs.RowsIn.{entries-rows_in}
-use Rattle.column_file.specs.SchemaBytes.{schema}
-use Rattle.column_file.specs.SummaryBytes.{version, head, any_name, proper_name, is_after, batch_name, name_count}
+use Rattle.column_file.specs.SchemaBytes.{schema, has_tiny, version_of}
+use Rattle.column_file.specs.SummaryBytes.{is_version, version, has_version, head, any_name, proper_name, is_after, batch_name, name_count}
 use Rattle.column_file.specs.ContainerBytes.{row_count, Entry, entry_of, name_of, batch, batches, Deleted, deleted_of, is_named, is_range, ends_before, begins_after, range_parts, range, ranges, container, IsFound}
 use Rattle.column_file.specs.Files.{range_of, segments_of, offer_held, offer_read, file_of, canonical_entry, canonical_file, judged, canonical_read, offer_bytes, IsNumbered, HasBatchBytes, HasFile, OpensTo, FilesOpen, FilesOpenToOne, SameFileSameState, OffersAreReadAgain}
 use Rattle.column_file.proofs.ContainerLaws.{container_is_lawful}
@@ -147,11 +147,17 @@ ranges_valid front (r ∷ rs) maximal starts =
 
 -- ---- the file
 
+version_valid : (tiny : Bool) → ((number 2).valid (cond tiny 2 1) && is_version (cond tiny 2 1)) ≡ true
+version_valid true = and_from ((number 2).valid 2) true (number_is_valid 2 2 (lit< tt)) refl
+version_valid false = and_from ((number 2).valid 1) true (number_is_valid 2 1 (lit< tt)) refl
+
 pub head_valid : (magic : List ℕ) (t : Table) → (constant magic BadMagic).valid magic ≡ true → IsTable t → (head magic).valid t ≡ true
 unfolding head version
 head_valid magic t first table =
-    let one = and_from ((number 2).valid 1) true (number_is_valid 2 1 (lit< tt)) refl in
-    and_from ((constant magic BadMagic).valid magic) (((number 2).valid 1 && true) && schema.valid t) first (and_from ((number 2).valid 1 && true) (schema.valid t) one (table_is_valid t table))
+    let v = version_of t in
+    let stands = and_from ((number 2).valid v && is_version v) ((schema v).valid t) (version_valid (has_tiny t)) (table_is_valid t table) in
+    and_from ((constant magic BadMagic).valid magic && (((number 2).valid v && is_version v) && (schema v).valid t)) (has_version (magic, (v, t)))
+    (and_from ((constant magic BadMagic).valid magic) (((number 2).valid v && is_version v) && (schema v).valid t) first stands) (eq-eqb v v refl)
 
 first_start : (es : List Held) → Starts [] es
 first_start [] = tt

@@ -1,12 +1,12 @@
 -- The rows of a segment in lanes as wide as a table's columns fit the table.
-use Rattle.std.proofs.Common.{◌≡◌, ℕ, suc, ◌/◌, ◌%◌, ◌<◌, Bool, true, false, cond, ℤ, pos, ◌≤ℤ◌, FitsSigned, List, [], ◌∷◌, map, length, slice_get, Option, Some, None, refl, sym, subst, ◌∙◌, arith}
+use Rattle.std.proofs.Common.{◌≡◌, ℕ, suc, ◌/◌, ◌%◌, ◌<◌, Bool, true, false, cond, ℤ, pos, ◌≤ℤ◌, FitsSigned, List, [], ◌∷◌, map, slice_get, Option, Some, None, refl, sym, subst, ◌∙◌, arith}
 use Rattle.std.specs.List.{range_with_len}
 use Rattle.std.proofs.lemmas.Int.{ints}
 use Rattle.std.proofs.lemmas.List.Elements.{All-get_or}
 use Rattle.bit_interleave.specs.Arithmetic.{integer_width}
 use Rattle.table_model.specs.Table.{Table, ColumnShape, bits_of, least_of, greatest_of, Fits, IsRow, AreRows, IsBatch}
 use Rattle.table_model.specs.declared.schema.ColType.{ColType}
-use Rattle.table_model.specs.declared.schema.ColType.TheVariants.{SmallInt, Integer, BigInt}
+use Rattle.table_model.specs.declared.schema.ColType.TheVariants.{TinyInt, SmallInt, Integer, BigInt}
 use Rattle.segment_core.specs.Coded.{value_in, values_of, lane_width_of}
 use Rattle.segment_core.specs.CodedVector.{VectorForm, IsVector, is_null}
 use Rattle.segment_core.specs.Segment.{cell_of, column_cell, row_of, batch_of, IsColumn, IsSegment, width_in, widths_in, widths_of}
@@ -15,6 +15,7 @@ use Rattle.segment_core.proofs.CellLemmas.{width_of_vector}
 use Rattle.segment_core.proofs.SegmentLemmas.{length-batch_of}
 
 value_fits : (t : ColType) (z : ℤ) → FitsSigned (integer_width (bits_of t)) z → (least_of t ≤ℤ z) × (z ≤ℤ greatest_of t)
+value_fits TinyInt z h = (omega (arith, ints), omega (arith, ints))
 value_fits SmallInt z h = (omega (arith, ints), omega (arith, ints))
 value_fits Integer z h = (omega (arith, ints), omega (arith, ints))
 value_fits BigInt z h = (omega (arith, ints), omega (arith, ints))

@@ -16,6 +16,7 @@ pub mod OfferReading
 pub mod CanonicalWriting
 pub mod Openings
 pub mod FileLaws
+pub mod FirstLaws
 pub mod SummaryAgain
 pub mod HasFiles
 pub mod Comparisons

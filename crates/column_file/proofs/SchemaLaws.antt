@@ -1,19 +1,19 @@
 -- The laws of a schema in bytes.
-use Rattle.std.proofs.Common.{◌≡◌, ℕ, zero, suc, Bool, true, false, not, ◌&&◌, ◌||◌, eqb, leb, List, [], ◌∷◌, ◌++◌, map, length, Some, Ok, refl, sym, ap, ◌∙◌, append_assoc, arith}
+use Rattle.std.proofs.Common.{◌≡◌, ℕ, zero, suc, Bool, true, false, cond, not, ◌&&◌, ◌||◌, eqb, leb, List, [], ◌∷◌, ◌++◌, map, length, Some, Ok, refl, sym, ap, ◌∙◌, append_assoc, arith}
 use Rattle.std.specs.List.{list_all, list_any}
-use Rattle.std.proofs.lemmas.Bool.{eqb-true, leb-true, and_parts, and_from, or_parts, or_from}
+use Rattle.std.proofs.lemmas.Bool.{eqb-true, leb-true, and_parts, and_from, or_parts, or_from, or_right}
 use Rattle.std.proofs.lemmas.Bool.Decides.{nat_tests}
 use Rattle.std.proofs.lemmas.List.{append-nil, length-map}
 use Rattle.table_model.specs.Identifier.{folded, word_limit, is_identifier}
 use Rattle.table_model.specs.Table.{Table, ColumnShape, IsTable, column_limit, has_name, are_distinct, is_named, name_of, asked_of, column_of, is_schema, folded_table}
 use Rattle.table_model.specs.declared.schema.ColType.{ColType}
-use Rattle.table_model.specs.declared.schema.ColType.TheVariants.{SmallInt, Integer, BigInt}
+use Rattle.table_model.specs.declared.schema.ColType.TheVariants.{TinyInt, SmallInt, Integer, BigInt}
 use Rattle.table_model.specs.declared.refusal.Refusal.TheVariants.{BadCount, BadSchema}
 use Rattle.segment_core.specs.Format.{Format, IsLawful, is_byte, raw, number, seen, checked, before, all, valid_all}
 use Rattle.segment_core.proofs.FormatLaws.{raw_is_lawful, seen_is_lawful, checked_is_lawful, before_is_lawful, all_is_lawful}
 use Rattle.segment_core.proofs.NumberLaws.{number_is_lawful}
 use Rattle.segment_core.proofs.VectorLaws.{some_is}
-use Rattle.column_file.specs.SchemaBytes.{text, is_name, name, tag_of, is_type_tag, type_tagged, column_type, is_upper, is_new, column, column_count, schema}
+use Rattle.column_file.specs.SchemaBytes.{text, is_name, name, tag_of, first_tag, is_type_tag, type_tagged, column_type, is_upper, is_new, column, column_count, schema}
 
 -- ---- names
 
@@ -36,45 +36,51 @@ name_is_lawful = checked_is_lawful text is_name (λ _. BadSchema) text_is_lawful
 
 -- ---- types
 
-tag_is : (tag : ℕ) → is_type_tag tag ≡ true → tag_of (type_tagged tag) ≡ tag
-tag_is zero e = absurd cc
-tag_is (suc zero) e = absurd cc
-tag_is (suc (suc zero)) e = refl
-tag_is (suc (suc (suc zero))) e = absurd cc
-tag_is (suc (suc (suc (suc zero)))) e = refl
-tag_is (suc (suc (suc (suc (suc zero))))) e = absurd cc
-tag_is (suc (suc (suc (suc (suc (suc zero)))))) e = absurd cc
-tag_is (suc (suc (suc (suc (suc (suc (suc zero))))))) e = absurd cc
-tag_is (suc (suc (suc (suc (suc (suc (suc (suc zero)))))))) e = refl
-tag_is (suc (suc (suc (suc (suc (suc (suc (suc (suc n))))))))) e =
+tag_known : (tag : ℕ) → (eqb tag 1 || first_tag tag) ≡ true → tag_of (type_tagged tag) ≡ tag
+tag_known zero e = absurd cc
+tag_known (suc zero) e = refl
+tag_known (suc (suc zero)) e = refl
+tag_known (suc (suc (suc zero))) e = absurd cc
+tag_known (suc (suc (suc (suc zero)))) e = refl
+tag_known (suc (suc (suc (suc (suc zero))))) e = absurd cc
+tag_known (suc (suc (suc (suc (suc (suc zero)))))) e = absurd cc
+tag_known (suc (suc (suc (suc (suc (suc (suc zero))))))) e = absurd cc
+tag_known (suc (suc (suc (suc (suc (suc (suc (suc zero)))))))) e = refl
+tag_known (suc (suc (suc (suc (suc (suc (suc (suc (suc n))))))))) e =
+    let o : eqb (suc (suc (suc (suc (suc (suc (suc (suc (suc n))))))))) 1 ≡ false = grind (arith, nat_tests) in
     let a : eqb (suc (suc (suc (suc (suc (suc (suc (suc (suc n))))))))) 2 ≡ false = grind (arith, nat_tests) in
     let b : eqb (suc (suc (suc (suc (suc (suc (suc (suc (suc n))))))))) 4 ≡ false = grind (arith, nat_tests) in
     let c : eqb (suc (suc (suc (suc (suc (suc (suc (suc (suc n))))))))) 8 ≡ false = grind (arith, nat_tests) in
-    let none : (false || (false || false)) ≡ true = rw (a, b, c) at e in
+    let none : (false || (false || (false || false))) ≡ true = rw (o, a, b, c) at e in
     absurd cc
 
+tag_is : (two : Bool) (tag : ℕ) → cond two (eqb tag 1 || first_tag tag) (first_tag tag) ≡ true → tag_of (type_tagged tag) ≡ tag
+tag_is true tag e = tag_known tag e
+tag_is false tag e = tag_known tag (or_right (eqb tag 1) (first_tag tag) e)
+
 tag_gives_back : (t : ColType) → type_tagged (tag_of t) ≡ t
+tag_gives_back TinyInt = refl
 tag_gives_back SmallInt = refl
 tag_gives_back Integer = refl
 tag_gives_back BigInt = refl
 
-pub column_type_is_lawful : IsLawful column_type
+pub column_type_is_lawful : (version : ℕ) → IsLawful (column_type version)
 unfolding column_type
-column_type_is_lawful =
-    seen_is_lawful (checked (number 1) is_type_tag (λ _. BadSchema)) type_tagged (λ t. Some (tag_of t)) (checked_is_lawful (number 1) is_type_tag (λ _. BadSchema) (number_is_lawful 1))
-    (λ tag valid. ap Some (tag_is tag (and_parts ((number 1).valid tag) (is_type_tag tag) valid).1))
+column_type_is_lawful version =
+    seen_is_lawful (checked (number 1) (is_type_tag version) (λ _. BadSchema)) type_tagged (λ t. Some (tag_of t)) (checked_is_lawful (number 1) (is_type_tag version) (λ _. BadSchema) (number_is_lawful 1))
+    (λ tag valid. ap Some (tag_is (eqb version 2) tag (and_parts ((number 1).valid tag) (is_type_tag version tag) valid).1))
     (λ tag t e. ap type_tagged (sym (some_is (tag_of t) tag e)) ∙ tag_gives_back t)
 
 -- ---- columns and schemas
 
-pub column_is_lawful : (front : List ColumnShape) → IsLawful (column front)
+pub column_is_lawful : (version : ℕ) (front : List ColumnShape) → IsLawful (column version front)
 unfolding column
-column_is_lawful front =
-    let parts = before column_type (λ _. name) in
+column_is_lawful version front =
+    let parts = before (column_type version) (λ _. name) in
     let made : ColType × List ℕ → ColumnShape = λ p. record { name = p.1; column_type = p.0 } in
     let shape = seen parts made (λ c. Some (c.column_type, c.name)) in
     checked_is_lawful shape (is_new front) (λ _. BadSchema)
-    (seen_is_lawful parts made (λ c. Some (c.column_type, c.name)) (before_is_lawful column_type (λ _. name) column_type_is_lawful (λ t valid. name_is_lawful))
+    (seen_is_lawful parts made (λ c. Some (c.column_type, c.name)) (before_is_lawful (column_type version) (λ _. name) (column_type_is_lawful version) (λ t valid. name_is_lawful))
     (λ p valid. refl)
     (λ p c e. ap made (sym (some_is {A = ColType × List ℕ} (c.column_type, c.name) p e))))
 
@@ -82,17 +88,17 @@ pub column_count_is_lawful : IsLawful column_count
 unfolding column_count
 column_count_is_lawful = checked_is_lawful (number 2) (λ n. leb 1 n && leb n column_limit) BadCount (number_is_lawful 2)
 
-pub schema_is_lawful : IsLawful schema
+pub schema_is_lawful : (version : ℕ) → IsLawful (schema version)
 unfolding schema
-schema_is_lawful =
-    let rest : ℕ → Format (List ℕ × List ColumnShape) = λ n. before name (λ _. all n column) in
+schema_is_lawful version =
+    let rest : ℕ → Format (List ℕ × List ColumnShape) = λ n. before name (λ _. all n (column version)) in
     let made : ℕ × (List ℕ × List ColumnShape) → Table = λ p. record { name = p.1.0; columns = p.1.1 } in
     seen_is_lawful (before column_count rest) made (λ t. Some (length t.columns, (t.name, t.columns)))
-    (before_is_lawful column_count rest column_count_is_lawful (λ n valid. before_is_lawful name (λ _. all n column) name_is_lawful (λ t v. all_is_lawful n column (λ front below. column_is_lawful front))))
+    (before_is_lawful column_count rest column_count_is_lawful (λ n valid. before_is_lawful name (λ _. all n (column version)) name_is_lawful (λ t v. all_is_lawful n (column version) (λ front below. column_is_lawful version front))))
     (λ p valid.
     let v = and_parts (column_count.valid p.0) ((rest p.0).valid p.1) valid in
-    let w = and_parts (name.valid p.1.0) ((all p.0 column).valid p.1.1) v.1 in
-    let long : length p.1.1 ≡ p.0 = eqb-true _ _ (and_parts (eqb (length p.1.1) p.0) (valid_all column [] p.1.1) w.1).0 in
+    let w = and_parts (name.valid p.1.0) ((all p.0 (column version)).valid p.1.1) v.1 in
+    let long : length p.1.1 ≡ p.0 = eqb-true _ _ (and_parts (eqb (length p.1.1) p.0) (valid_all (column version) [] p.1.1) w.1).0 in
     ap (λ (n : ℕ). Some (n, (p.1.0, p.1.1))) long)
     (λ p t e. ap made (sym (some_is {A = ℕ × (List ℕ × List ColumnShape)} (length t.columns, (t.name, t.columns)) p e)))
 
@@ -121,11 +127,11 @@ distinct_push (d ∷ front) c e f =
     and_from (not (list_any (has_name d.name) (named (front ++ c ∷ [])))) (are_distinct (named (front ++ c ∷ []))) (ap not none) (distinct_push front c v.1 w.1)
 
 -- the parts of a valid column
-column_parts : (front : List ColumnShape) (c : ColumnShape) → (column front).valid c ≡ true → (is_name c.name ≡ true) × (is_new front c ≡ true)
+column_parts : (version : ℕ) (front : List ColumnShape) (c : ColumnShape) → (column version front).valid c ≡ true → (is_name c.name ≡ true) × (is_new front c ≡ true)
 unfolding column name
-column_parts front c valid =
-    let v = and_parts (column_type.valid c.column_type && (text.valid c.name && is_name c.name)) (is_new front c) valid in
-    let w = and_parts (column_type.valid c.column_type) (text.valid c.name && is_name c.name) v.0 in
+column_parts version front c valid =
+    let v = and_parts ((column_type version).valid c.column_type && (text.valid c.name && is_name c.name)) (is_new front c) valid in
+    let w = and_parts ((column_type version).valid c.column_type) (text.valid c.name && is_name c.name) v.0 in
     ((and_parts (text.valid c.name) (is_name c.name) w.1).1, v.1)
 
 upper_is_folded : (t : List ℕ) → list_all is_upper t ≡ true → folded t ≡ t
@@ -136,54 +142,54 @@ upper_is_folded (c ∷ t) e =
     let rest = upper_is_folded t v.1 in
     λ i. here i ∷ rest i
 
-columns_distinct : (front cs : List ColumnShape) → valid_all column front cs ≡ true → are_distinct (named front) ≡ true → are_distinct (named (front ++ cs)) ≡ true
+columns_distinct : (version : ℕ) (front cs : List ColumnShape) → valid_all (column version) front cs ≡ true → are_distinct (named front) ≡ true → are_distinct (named (front ++ cs)) ≡ true
 unfolding valid_all
-columns_distinct front [] valid e = ap (λ (xs : List ColumnShape). are_distinct (named xs)) (append-nil front) ∙ e
-columns_distinct front (c ∷ cs) valid e =
-    let v = and_parts ((column front).valid c) (valid_all column (front ++ c ∷ []) cs) valid in
-    let new = not_true (list_any (λ (d : ColumnShape). has_name d.name c.name) front) (column_parts front c v.0).1 in
-    ap (λ (xs : List ColumnShape). are_distinct (named xs)) (sym (append_assoc front (c ∷ []) cs)) ∙ columns_distinct (front ++ c ∷ []) cs v.1 (distinct_push front c e new)
+columns_distinct version front [] valid e = ap (λ (xs : List ColumnShape). are_distinct (named xs)) (append-nil front) ∙ e
+columns_distinct version front (c ∷ cs) valid e =
+    let v = and_parts ((column version front).valid c) (valid_all (column version) (front ++ c ∷ []) cs) valid in
+    let new = not_true (list_any (λ (d : ColumnShape). has_name d.name c.name) front) (column_parts version front c v.0).1 in
+    ap (λ (xs : List ColumnShape). are_distinct (named xs)) (sym (append_assoc front (c ∷ []) cs)) ∙ columns_distinct version (front ++ c ∷ []) cs v.1 (distinct_push front c e new)
 
-columns_named : (front cs : List ColumnShape) → valid_all column front cs ≡ true → (list_all is_named (map asked_of cs) ≡ true) × (map column_of (map asked_of cs) ≡ cs)
+columns_named : (version : ℕ) (front cs : List ColumnShape) → valid_all (column version) front cs ≡ true → (list_all is_named (map asked_of cs) ≡ true) × (map column_of (map asked_of cs) ≡ cs)
 unfolding valid_all
-columns_named front [] valid = (refl, refl)
-columns_named front (c ∷ cs) valid =
-    let v = and_parts ((column front).valid c) (valid_all column (front ++ c ∷ []) cs) valid in
-    let n = and_parts (is_identifier c.name) (list_all is_upper c.name) (column_parts front c v.0).0 in
-    let rest = columns_named (front ++ c ∷ []) cs v.1 in
+columns_named version front [] valid = (refl, refl)
+columns_named version front (c ∷ cs) valid =
+    let v = and_parts ((column version front).valid c) (valid_all (column version) (front ++ c ∷ []) cs) valid in
+    let n = and_parts (is_identifier c.name) (list_all is_upper c.name) (column_parts version front c v.0).0 in
+    let rest = columns_named version (front ++ c ∷ []) cs v.1 in
     let same = upper_is_folded c.name n.1 in
     (and_from (is_identifier c.name) (list_all is_named (map asked_of cs)) n.0 rest.0, λ i. record { name = same i; column_type = c.column_type } ∷ rest.1 i)
 
 -- the parts of a valid schema
-schema_parts : (t : Table) → schema.valid t ≡ true
-    → ((leb 1 (length t.columns) ≡ true) × (leb (length t.columns) column_limit ≡ true)) × ((is_name t.name ≡ true) × (valid_all column [] t.columns ≡ true))
+schema_parts : (version : ℕ) (t : Table) → (schema version).valid t ≡ true
+    → ((leb 1 (length t.columns) ≡ true) × (leb (length t.columns) column_limit ≡ true)) × ((is_name t.name ≡ true) × (valid_all (column version) [] t.columns ≡ true))
 unfolding schema column_count name
-schema_parts t valid =
+schema_parts version t valid =
     let n = length t.columns in
-    let v = and_parts ((number 2).valid n && (leb 1 n && leb n column_limit)) ((text.valid t.name && is_name t.name) && (eqb n n && valid_all column [] t.columns)) valid in
+    let v = and_parts ((number 2).valid n && (leb 1 n && leb n column_limit)) ((text.valid t.name && is_name t.name) && (eqb n n && valid_all (column version) [] t.columns)) valid in
     let w = and_parts ((number 2).valid n) (leb 1 n && leb n column_limit) v.0 in
-    let x = and_parts (text.valid t.name && is_name t.name) (eqb n n && valid_all column [] t.columns) v.1 in
-    (and_parts (leb 1 n) (leb n column_limit) w.1, ((and_parts (text.valid t.name) (is_name t.name) x.0).1, (and_parts (eqb n n) (valid_all column [] t.columns) x.1).1))
+    let x = and_parts (text.valid t.name && is_name t.name) (eqb n n && valid_all (column version) [] t.columns) v.1 in
+    (and_parts (leb 1 n) (leb n column_limit) w.1, ((and_parts (text.valid t.name) (is_name t.name) x.0).1, (and_parts (eqb n n) (valid_all (column version) [] t.columns) x.1).1))
 
-valid_is_asked : (t : Table) → schema.valid t ≡ true → is_schema t.name (map asked_of t.columns) ≡ true
+valid_is_asked : (version : ℕ) (t : Table) → (schema version).valid t ≡ true → is_schema t.name (map asked_of t.columns) ≡ true
 unfolding is_schema
-valid_is_asked t valid =
-    let p = schema_parts t valid in
+valid_is_asked version t valid =
+    let p = schema_parts version t valid in
     let long : length (map asked_of t.columns) ≡ length t.columns = length-map t.columns asked_of in
     let n = and_parts (is_identifier t.name) (list_all is_upper t.name) p.1.0 in
-    let c = columns_named [] t.columns p.1.1 in
-    let d = columns_distinct [] t.columns p.1.1 refl in
+    let c = columns_named version [] t.columns p.1.1 in
+    let d = columns_distinct version [] t.columns p.1.1 refl in
     rw (long, n.0, p.0.0, p.0.1, c.0, d) refl
 
-pub valid_is_table : (t : Table) → schema.valid t ≡ true → IsTable t
-valid_is_table t valid =
-    let p = schema_parts t valid in
+pub valid_is_table : (version : ℕ) (t : Table) → (schema version).valid t ≡ true → IsTable t
+valid_is_table version t valid =
+    let p = schema_parts version t valid in
     let n = and_parts (is_identifier t.name) (list_all is_upper t.name) p.1.0 in
     let name_same = upper_is_folded t.name n.1 in
-    let columns_same = (columns_named [] t.columns p.1.1).1 in
+    let columns_same = (columns_named version [] t.columns p.1.1).1 in
     let same : folded_table t.name (map asked_of t.columns) ≡ t = λ i. record { name = name_same i; columns = columns_same i } in
     record {
       some = leb-true _ _ p.0.0;
       limit = leb-true _ _ p.0.1;
-      itself = rw (valid_is_asked t valid) (ap Ok same);
+      itself = rw (valid_is_asked version t valid) (ap Ok same);
     }

@@ -55,15 +55,15 @@ asked c = (c.0.now, c.1)
 pub new_name : (front : List Asked) (n : List ℕ) (t : ColType) (b : Bool) → b ≡ list_any (λ (c : Asked). has_name c.0.now n) front → is_new (map shape front) (shape_of (n, t)) ≡ not b
 new_name front n t b e = ap not (list_any-map (λ (d : ColumnShape). has_name d.name n) shape front ∙ sym e)
 
-pub column_good : (front : List ColumnShape) (total : ℕ) (bytes : List ℕ) (t : ColType) (after : List ℕ) (n rest : List ℕ) → column_type.read total bytes ≡ Ok (t, after) → name.read total after ≡ Ok (n, rest)
-    → is_new front (shape_of (n, t)) ≡ true → (column front).read total bytes ≡ Ok (shape_of (n, t), rest)
+pub column_good : (version : ℕ) (front : List ColumnShape) (total : ℕ) (bytes : List ℕ) (t : ColType) (after : List ℕ) (n rest : List ℕ) → (column_type version).read total bytes ≡ Ok (t, after) → name.read total after ≡ Ok (n, rest)
+    → is_new front (shape_of (n, t)) ≡ true → (column version front).read total bytes ≡ Ok (shape_of (n, t), rest)
 unfolding column
-column_good front total bytes t after n rest h k new = rw (h, k, new) refl
+column_good version front total bytes t after n rest h k new = rw (h, k, new) refl
 
-pub column_bad : (front : List ColumnShape) (total : ℕ) (bytes : List ℕ) (t : ColType) (after : List ℕ) (n rest : List ℕ) → column_type.read total bytes ≡ Ok (t, after) → name.read total after ≡ Ok (n, rest)
-    → is_new front (shape_of (n, t)) ≡ false → (column front).read total bytes ≡ Err BadSchema
+pub column_bad : (version : ℕ) (front : List ColumnShape) (total : ℕ) (bytes : List ℕ) (t : ColType) (after : List ℕ) (n rest : List ℕ) → (column_type version).read total bytes ≡ Ok (t, after) → name.read total after ≡ Ok (n, rest)
+    → is_new front (shape_of (n, t)) ≡ false → (column version front).read total bytes ≡ Err BadSchema
 unfolding column
-column_bad front total bytes t after n rest h k new = rw (h, k, new) refl
+column_bad version front total bytes t after n rest h k new = rw (h, k, new) refl
 
 -- ---- the schema
 
@@ -75,16 +75,16 @@ asked_shapes (c ∷ items) = let rest = asked_shapes items in λ i. asked c ∷ 
 abbrev pub table_of : List ℕ → List ColumnShape → Table
 table_of n cs = record { name = n; columns = cs }
 
-pub schema_read : (total : ℕ) (bytes : List ℕ) (count : ℕ) (a : List ℕ) (n b : List ℕ) (cs : List ColumnShape) (rest : List ℕ) → column_count.read total bytes ≡ Ok (count, a) → name.read total a ≡ Ok (n, b) → (all count column).read total b ≡ Ok (cs, rest)
-    → schema.read total bytes ≡ Ok (table_of n cs, rest)
+pub schema_read : (version total : ℕ) (bytes : List ℕ) (count : ℕ) (a : List ℕ) (n b : List ℕ) (cs : List ColumnShape) (rest : List ℕ) → column_count.read total bytes ≡ Ok (count, a) → name.read total a ≡ Ok (n, b) → (all count (column version)).read total b ≡ Ok (cs, rest)
+    → (schema version).read total bytes ≡ Ok (table_of n cs, rest)
 unfolding schema
-schema_read total bytes count a n b cs rest h k l = rw (h, k, l) refl
+schema_read version total bytes count a n b cs rest h k l = rw (h, k, l) refl
 
 -- the schema of what was read
-pub asked_is : (total : ℕ) (bytes : List ℕ) (n : List ℕ) (items : List Asked) (rest : List ℕ) → AreBytes bytes → schema.read total bytes ≡ Ok (table_of n (map shape items), rest) → schema_of n (map asked items) ≡ Ok (table_of n (map shape items))
-asked_is total bytes n items rest fit e =
+pub asked_is : (version total : ℕ) (bytes : List ℕ) (n : List ℕ) (items : List Asked) (rest : List ℕ) → AreBytes bytes → (schema version).read total bytes ≡ Ok (table_of n (map shape items), rest) → schema_of n (map asked items) ≡ Ok (table_of n (map shape items))
+asked_is version total bytes n items rest fit e =
     let t = table_of n (map shape items) in
-    let proper = valid_is_table t (schema_is_lawful.takes total bytes t rest fit e).1 in
+    let proper = valid_is_table version t ((schema_is_lawful version).takes total bytes t rest fit e).1 in
     ap (schema_of n) (sym (asked_shapes items)) ∙ proper.itself
 
 abbrev ok_table : Table → Result Table Refusal

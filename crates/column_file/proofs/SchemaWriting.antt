@@ -1,18 +1,18 @@
 -- What a schema is has bytes, and which bytes these are.
-use Rattle.std.proofs.Common.{◌≡◌, ℕ, ◌≤◌, Bool, true, false, not, ◌&&◌, eqb, leb, ltb, ◌<◌, List, [], ◌∷◌, ◌++◌, map, length, All, refl, ap, ◌∙◌, append_assoc, arith, lit<}
+use Rattle.std.proofs.Common.{◌≡◌, ℕ, ◌≤◌, Bool, true, false, cond, ◌⊎◌, inl, inr, not, ◌&&◌, eqb, leb, ltb, ◌<◌, List, [], ◌∷◌, ◌++◌, map, length, All, refl, ap, ◌∙◌, append_assoc, arith, lit<}
 use Rattle.std.specs.Char.{to_ascii_uppercase}
 use Rattle.std.specs.List.{list_all, list_any, AllByRecursion}
 use Rattle.std.proofs.lemmas.Bool.{eq-eqb, le-leb, ltb-true, and_parts, and_from, or_parts}
 use Rattle.std.proofs.lemmas.List.Elements.{All-from_recursion}
 use Rattle.table_model.specs.Identifier.{folded, word_limit, is_word, is_word_byte, is_keyword, is_identifier}
-use Rattle.table_model.specs.Table.{Table, ColumnShape, IsTable, column_limit, has_name, are_distinct, is_named, name_of, asked_of, column_of, is_schema, folded_table}
+use Rattle.table_model.specs.Table.{Table, ColumnShape, IsTable, column_limit, has_name, are_distinct, is_named, name_of, asked_of, column_of, is_schema, folded_table, bits_of}
 use Rattle.table_model.specs.declared.schema.ColType.{ColType}
-use Rattle.table_model.specs.declared.schema.ColType.TheVariants.{SmallInt, Integer, BigInt}
+use Rattle.table_model.specs.declared.schema.ColType.TheVariants.{TinyInt, SmallInt, Integer, BigInt}
 use Rattle.table_model.specs.declared.refusal.Refusal.TheVariants.{BadSchema}
-use Rattle.segment_core.specs.Format.{is_byte, AreBytes, number, all, valid_all}
+use Rattle.segment_core.specs.Format.{Format, is_byte, AreBytes, number, all, valid_all}
 use Rattle.segment_core.proofs.FormatLaws.{bytes_at, guard_ok}
 use Rattle.segment_core.proofs.NumberLaws.{number_is_valid}
-use Rattle.column_file.specs.SchemaBytes.{text, is_upper, is_name, name, tag_of, column_type, is_new, column, column_count, schema}
+use Rattle.column_file.specs.SchemaBytes.{text, is_upper, is_name, name, tag_of, is_type_tag, column_type, is_new, column, column_count, schema, is_tiny, has_tiny, version_of}
 use Rattle.column_file.proofs.SchemaReading.{word_below}
 
 -- ---- the bytes
@@ -21,13 +21,13 @@ pub name_spelled : (t : List ℕ) → name.spell t ≡ (number 1).spell (length 
 unfolding name text
 name_spelled t = refl
 
-pub column_spelled : (front : List ColumnShape) (c : ColumnShape) → (column front).spell c ≡ (number 1).spell (tag_of c.column_type) ++ name.spell c.name
+pub column_spelled : (version : ℕ) (front : List ColumnShape) (c : ColumnShape) → (column version front).spell c ≡ (number 1).spell (tag_of c.column_type) ++ name.spell c.name
 unfolding column column_type
-column_spelled front c = refl
+column_spelled version front c = refl
 
-pub schema_spelled : (t : Table) → schema.spell t ≡ (number 2).spell (length t.columns) ++ (name.spell t.name ++ (all (length t.columns) column).spell t.columns)
+pub schema_spelled : (version : ℕ) (t : Table) → (schema version).spell t ≡ (number 2).spell (length t.columns) ++ (name.spell t.name ++ (all (length t.columns) (column version)).spell t.columns)
 unfolding schema column_count
-schema_spelled t = refl
+schema_spelled version t = refl
 
 -- ---- names
 
@@ -70,11 +70,34 @@ folded_is_upper (c ∷ t) e =
 abbrev named : List ColumnShape → List (List ℕ)
 named columns = map name_of (map asked_of columns)
 
-type_is_valid : (t : ColType) → column_type.valid t ≡ true
+either : (b : Bool) → cond b true true ≡ true
+either true = refl
+either false = refl
+
+-- each type stands in version 2, and in each version those that don't have 8 bits
+type_is_valid : (version : ℕ) (t : ColType) → (eqb version 2 ≡ true) ⊎ (eqb (bits_of t) 8 ≡ false) → (column_type version).valid t ≡ true
 unfolding column_type
-type_is_valid SmallInt = and_from ((number 1).valid 2) true (number_is_valid 1 2 (lit< tt)) refl
-type_is_valid Integer = and_from ((number 1).valid 4) true (number_is_valid 1 4 (lit< tt)) refl
-type_is_valid BigInt = and_from ((number 1).valid 8) true (number_is_valid 1 8 (lit< tt)) refl
+type_is_valid version TinyInt (inl two) = and_from ((number 1).valid 1) (is_type_tag version 1) (number_is_valid 1 1 (lit< tt)) (rw two refl)
+type_is_valid version TinyInt (inr wide) = absurd cc
+type_is_valid version SmallInt stands = and_from ((number 1).valid 2) (is_type_tag version 2) (number_is_valid 1 2 (lit< tt)) (either (eqb version 2))
+type_is_valid version Integer stands = and_from ((number 1).valid 4) (is_type_tag version 4) (number_is_valid 1 4 (lit< tt)) (either (eqb version 2))
+type_is_valid version BigInt stands = and_from ((number 1).valid 8) (is_type_tag version 8) (number_is_valid 1 8 (lit< tt)) (either (eqb version 2))
+
+-- columns stand in a version: it is 2, or none of them has 8 bits
+abbrev Stand : ℕ → List ColumnShape → Type 0
+Stand version columns = (eqb version 2 ≡ true) ⊎ (list_any is_tiny columns ≡ false)
+
+stands_first : (version : ℕ) (c : ColumnShape) (cs : List ColumnShape) → Stand version (c ∷ cs) → (eqb version 2 ≡ true) ⊎ (is_tiny c ≡ false)
+stands_first version c cs (inl two) = inl two
+stands_first version c cs (inr none) = inr (or_parts (is_tiny c) (list_any is_tiny cs) none).0
+
+stand_later : (version : ℕ) (c : ColumnShape) (cs : List ColumnShape) → Stand version (c ∷ cs) → Stand version cs
+stand_later version c cs (inl two) = inl two
+stand_later version c cs (inr none) = inr (or_parts (is_tiny c) (list_any is_tiny cs) none).1
+
+version_stands : (tiny : Bool) → (eqb (cond tiny 2 1) 2 ≡ true) ⊎ (tiny ≡ false)
+version_stands true = inl refl
+version_stands false = inr refl
 
 not_true : (b : Bool) → not b ≡ true → b ≡ false
 not_true true e = absurd cc
@@ -106,16 +129,16 @@ columns_named (c ∷ cs) e f =
     let same : folded c.name ≡ c.name = ap (λ (d : ColumnShape). d.name) first in
     (and_from (is_identifier c.name) (list_all is_upper c.name) v.0 (folded_is_upper c.name same), columns_named cs v.1 rest)
 
-columns_valid : (front cs : List ColumnShape) → AreNamed cs → are_distinct (named (front ++ cs)) ≡ true → valid_all column front cs ≡ true
+columns_valid : (version : ℕ) (front cs : List ColumnShape) → AreNamed cs → are_distinct (named (front ++ cs)) ≡ true → Stand version cs → valid_all (column version) front cs ≡ true
 unfolding valid_all column
-columns_valid front [] names distinct = refl
-columns_valid front (c ∷ cs) names distinct =
+columns_valid version front [] names distinct stand = refl
+columns_valid version front (c ∷ cs) names distinct stand =
     let new : is_new front c ≡ true = ap not (none_before front c cs distinct) in
-    let shape = and_from (column_type.valid c.column_type) (name.valid c.name) (type_is_valid c.column_type) (name_is_valid c.name names.0) in
+    let shape = and_from ((column_type version).valid c.column_type) (name.valid c.name) (type_is_valid version c.column_type (stands_first version c cs stand)) (name_is_valid c.name names.0) in
     let next : are_distinct (named ((front ++ c ∷ []) ++ cs)) ≡ true = ap (λ (xs : List ColumnShape). are_distinct (named xs)) (append_assoc front (c ∷ []) cs) ∙ distinct in
-    and_from ((column_type.valid c.column_type && name.valid c.name) && is_new front c) (valid_all column (front ++ c ∷ []) cs)
-    (and_from (column_type.valid c.column_type && name.valid c.name) (is_new front c) shape new)
-    (columns_valid (front ++ c ∷ []) cs names.1 next)
+    and_from (((column_type version).valid c.column_type && name.valid c.name) && is_new front c) (valid_all (column version) (front ++ c ∷ []) cs)
+    (and_from ((column_type version).valid c.column_type && name.valid c.name) (is_new front c) shape new)
+    (columns_valid version (front ++ c ∷ []) cs names.1 next (stand_later version c cs stand))
 
 -- ---- schemas
 
@@ -145,16 +168,17 @@ table_parts t table =
       distinct = d.1;
     }
 
--- what a schema is has bytes
-pub table_is_valid : (t : Table) → IsTable t → schema.valid t ≡ true
+-- what a schema is has bytes, in its version
+pub table_is_valid : (t : Table) → IsTable t → (schema (version_of t)).valid t ≡ true
 unfolding schema column_count
 table_is_valid t table =
     let p = table_parts t table in
     let n = length t.columns in
     let count = and_from ((number 2).valid n) (leb 1 n && leb n column_limit) (number_is_valid 2 n (let small = p.limit in omega arith)) (and_from (leb 1 n) (leb n column_limit) (le-leb _ _ p.some) (le-leb _ _ p.limit)) in
-    let columns = and_from (eqb n n) (valid_all column [] t.columns) (eq-eqb _ _ refl) (columns_valid [] t.columns p.columns p.distinct) in
-    and_from ((number 2).valid n && (leb 1 n && leb n column_limit)) (name.valid t.name && (eqb n n && valid_all column [] t.columns)) count
-    (and_from (name.valid t.name) (eqb n n && valid_all column [] t.columns) (name_is_valid t.name p.proper) columns)
+    let item : List ColumnShape → Format ColumnShape = column (version_of t) in
+    let columns = and_from (eqb n n) (valid_all item [] t.columns) (eq-eqb _ _ refl) (columns_valid (version_of t) [] t.columns p.columns p.distinct (version_stands (has_tiny t))) in
+    and_from ((number 2).valid n && (leb 1 n && leb n column_limit)) (name.valid t.name && (eqb n n && valid_all item [] t.columns)) count
+    (and_from (name.valid t.name) (eqb n n && valid_all item [] t.columns) (name_is_valid t.name p.proper) columns)
 
 -- ---- short names
 

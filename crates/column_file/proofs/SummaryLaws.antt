@@ -1,44 +1,42 @@
 -- The laws of a summary in bytes.
-use Rattle.std.proofs.Common.{◌≡◌, ◌≤◌, ℕ, true, false, eqb, leb, ltb, List, [], length, take, drop, codes, Some, Result, Ok, refl, sym, ap, ◌∙◌}
+use Rattle.std.proofs.Common.{◌≡◌, ◌≤◌, ℕ, true, false, ◌&&◌, eqb, leb, ltb, List, [], length, take, drop, codes, Some, Result, Ok, refl, sym, ap, ◌∙◌}
 use Rattle.std.proofs.lemmas.Bool.{eqb-true, le-ltb, and_parts}
 use Rattle.table_model.specs.Name.{is_proper_name}
 use Rattle.table_model.specs.Table.{Table}
 use Rattle.table_model.specs.declared.names.BatchName.{BatchName}
 use Rattle.table_model.specs.declared.refusal.Refusal.{Refusal}
 use Rattle.table_model.specs.declared.refusal.Refusal.TheVariants.{BadMagic, BadVersion, BadName, BadOrder, BadCount}
-use Rattle.segment_core.specs.Format.{Format, IsLawful, raw, number, before, all, valid_all, constant}
+use Rattle.segment_core.specs.Format.{Format, IsLawful, raw, number, checked, before, all, valid_all, constant}
 use Rattle.table_model.specs.Identifier.{same_text}
 use Rattle.table_model.proofs.SameTable.{one_text}
 use Rattle.segment_core.proofs.FormatLaws.{raw_is_lawful, seen_is_lawful, checked_is_lawful, before_is_lawful, all_is_lawful}
 use Rattle.segment_core.proofs.NumberLaws.{number_is_lawful}
 use Rattle.segment_core.proofs.VectorLaws.{some_is}
 use Rattle.replica_store.specs.Replica.{batch_limit}
-use Rattle.column_file.specs.SchemaBytes.{schema}
-use Rattle.column_file.specs.SummaryBytes.{format_version, version, head, any_name, proper_name, is_after, batch_name, name_count, names, summary}
+use Rattle.column_file.specs.SchemaBytes.{schema, version_of}
+use Rattle.column_file.specs.SummaryBytes.{is_version, version, has_version, head, any_name, proper_name, is_after, batch_name, name_count, names, summary}
 use Rattle.column_file.proofs.SchemaLaws.{schema_is_lawful}
 
 version_is_lawful : IsLawful version
 unfolding version
-version_is_lawful = checked_is_lawful (number 2) (λ n. eqb n format_version) (λ _. BadVersion) (number_is_lawful 2)
-
-version_is : (n : ℕ) → version.valid n ≡ true → n ≡ format_version
-unfolding version
-version_is n valid = eqb-true n format_version (and_parts ((number 2).valid n) (eqb n format_version) valid).1
+version_is_lawful = checked_is_lawful (number 2) is_version (λ _. BadVersion) (number_is_lawful 2)
 
 pub head_is_lawful : (magic : List ℕ) → IsLawful (head magic)
 unfolding head
 head_is_lawful magic =
     let first = constant magic BadMagic in
-    let rest : List ℕ → Format (ℕ × Table) = λ _. before version (λ _. schema) in
+    let rest : List ℕ → Format (ℕ × Table) = λ _. before version schema in
     let made : List ℕ × (ℕ × Table) → Table = λ p. p.1.1 in
-    seen_is_lawful (before first rest) made (λ t. Some (magic, (format_version, t)))
-    (before_is_lawful first rest (checked_is_lawful (raw (length magic)) (same_text magic) (λ _. BadMagic) (raw_is_lawful (length magic))) (λ x valid. before_is_lawful version (λ _. schema) version_is_lawful (λ n v. schema_is_lawful)))
+    seen_is_lawful (checked (before first rest) has_version (λ _. BadVersion)) made (λ t. Some (magic, (version_of t, t)))
+    (checked_is_lawful (before first rest) has_version (λ _. BadVersion)
+    (before_is_lawful first rest (checked_is_lawful (raw (length magic)) (same_text magic) (λ _. BadMagic) (raw_is_lawful (length magic))) (λ x valid. before_is_lawful version schema version_is_lawful (λ n v. schema_is_lawful n))))
     (λ p valid.
-    let v = and_parts (first.valid p.0) ((rest p.0).valid p.1) valid in
+    let u = and_parts (first.valid p.0 && (rest p.0).valid p.1) (has_version p) valid in
+    let v = and_parts (first.valid p.0) ((rest p.0).valid p.1) u.0 in
     let same : magic ≡ p.0 = one_text magic p.0 (and_parts ((raw (length magic)).valid p.0) (same_text magic p.0) v.0).1 in
-    let one : p.1.0 ≡ format_version = version_is p.1.0 (and_parts (version.valid p.1.0) (schema.valid p.1.1) v.1).0 in
-    λ i. Some (same i, (sym one i, p.1.1)))
-    (λ p t e. sym (ap made (some_is {A = List ℕ × (ℕ × Table)} (magic, (format_version, t)) p e)))
+    let stands : p.1.0 ≡ version_of p.1.1 = eqb-true _ _ u.1 in
+    λ i. Some (same i, (sym stands i, p.1.1)))
+    (λ p t e. sym (ap made (some_is {A = List ℕ × (ℕ × Table)} (magic, (version_of t, t)) p e)))
 
 pub any_name_is_lawful : IsLawful any_name
 unfolding any_name

@@ -13,14 +13,14 @@ use Rattle.segment_core.proofs.FormatLaws.{bind_ok, guard_ok}
 use Rattle.replica_store.specs.Exchange.{AreListable}
 use Rattle.replica_store.specs.Replica.{batch_limit}
 use Rattle.replica_store.proofs.Summaries.{len-from_list}
-use Rattle.column_file.specs.SchemaBytes.{schema}
+use Rattle.column_file.specs.SchemaBytes.{schema, version_of}
 use Rattle.column_file.specs.SummaryBytes.{version, head, any_name, proper_name, is_after, batch_name, name_count, names, summary}
 use Rattle.column_file.proofs.SummaryLaws.{summary_is_lawful}
 use Rattle.column_file.proofs.OrderedLists.{proper-from_list}
 
 -- ---- the bytes
 
-pub head_spelled : (magic : List ℕ) (t : Table) → (head magic).spell t ≡ magic ++ ((number 2).spell 1 ++ schema.spell t)
+pub head_spelled : (magic : List ℕ) (t : Table) → (head magic).spell t ≡ magic ++ ((number 2).spell (version_of t) ++ (schema (version_of t)).spell t)
 unfolding head version
 head_spelled magic t = refl
 

@@ -4,5 +4,6 @@ pub mod ContainerBytes
 pub mod Input
 pub mod Ordered
 pub mod Files
+pub mod FirstVersion
 pub mod Comparing
 pub mod Differing

@@ -11,19 +11,25 @@ use Rattle.table_model.specs.declared.refusal.Refusal.TheVariants.{BadMagic, Bad
 use Rattle.table_model.specs.Reading.{◌>>=◌}
 use Rattle.segment_core.specs.Format.{Format, IsLawful, seen, checked, before, all, number, constant, read_whole}
 use Rattle.replica_store.specs.Exchange.{SummaryForm}
-use Rattle.column_file.specs.SchemaBytes.{schema}
+use Rattle.column_file.specs.SchemaBytes.{schema, version_of}
 
--- the number of the version of all formats
-abbrev pub format_version : ℕ
-format_version = 1
+-- whether a number is one of the versions of all formats
+abbrev pub is_version : ℕ → Bool
+is_version n = n == 1 || n == 2
 
 -- the version of all formats
 unfoldable pub version : Format ℕ
-version = checked (number 2) (λ n. n == format_version) (λ _. BadVersion)
+version = checked (number 2) is_version (λ _. BadVersion)
 
--- what each format begins with: its own four bytes, the version and a schema
+-- whether what stands before and after a version fits: the table stands in that version
+abbrev pub has_version : List ℕ × (ℕ × Table) → Bool
+has_version p = p.1.0 == version_of p.1.1
+
+-- What each format begins with: its own four bytes, the version and a schema in it. Whether the table stands in that version is judged
+-- once the schema is there.
 unfoldable pub head : List ℕ → Format Table
-head magic = seen (before (constant magic BadMagic) (λ _. before version (λ _. schema))) (λ p. p.1.1) (λ t. Some (magic, (format_version, t)))
+head magic =
+    seen (checked (before (constant magic BadMagic) (λ _. before version schema)) has_version (λ _. BadVersion)) (λ p. p.1.1) (λ t. Some (magic, (version_of t, t)))
 
 -- an origin and a number
 unfoldable pub any_name : Format BatchName
@@ -45,7 +51,7 @@ is_after front name = length front == 0 || precedes (slice_index_or front (lengt
 unfoldable pub batch_name : List BatchName → Format BatchName
 batch_name front = checked proper_name (is_after front) BadOrder
 
--- how many names there are: at most 65,536
+-- how many names there are: at most batch_limit
 unfoldable pub name_count : Format ℕ
 name_count = checked (number 4) (λ n. nat_le n batch_limit) BadCount
 

@@ -75,7 +75,7 @@ fn write_canonical_list<W: Write>(
     Ok(())
 }
 
-/// Writes how many batches of a table there are, at most 65,536, and these in their canonical forms. They come in two parts, each with
+/// Writes how many batches of a table there are, at most 1,048,576, and these in their canonical forms. They come in two parts, each with
 /// the copies that were made of its segments.
 fn write_canonical_batches<W: Write>(
     writer: &mut Counted<W>,
@@ -99,7 +99,7 @@ fn write_canonical_batches<W: Write>(
     write_canonical_list(writer, schema, second, second_made)
 }
 
-/// Writes a container of a table's batches, at most 65,536 in two parts, in their canonical forms, and ranges of deleted rows.
+/// Writes a container of a table's batches, at most 1,048,576 in two parts, in their canonical forms, and ranges of deleted rows.
 fn write_canonical<W: Write>(
     writer: &mut Counted<W>,
     schema: &Schema,
@@ -140,7 +140,7 @@ pub fn export<W: Write>(
     // What was written opens to the store's schema and state.
     ensures opens { OnOk result (OpensTo (canonical_file store.now.replica.schema store.now.replica.state) store.now.replica.schema store.now.replica.state) }
 {
-    // `batches` ensures that there are at most 65,536, within the limits, and `column_list` that the schema is a table's.
+    // `batches` ensures that there are at most 1,048,576, within the limits, and `column_list` that the schema is a table's.
     let _count = store.batches();
     let schema = store.schema();
     let _columns = schema.column_list();

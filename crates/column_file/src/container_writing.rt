@@ -54,7 +54,7 @@ fn write_batch_list<W: Write>(
     Ok(())
 }
 
-/// Writes how many batches of a table there are, at most 65,536, and these.
+/// Writes how many batches of a table there are, at most 1,048,576, and these.
 fn write_batches<W: Write>(
     writer: &mut Counted<W>,
     schema: &Schema,
@@ -103,7 +103,7 @@ pub(crate) fn write_ranges<W: Write>(
     write_range_list(writer, deleted)
 }
 
-/// Writes a container of a table's batches, at most 65,536, in their present codings, and ranges of deleted rows.
+/// Writes a container of a table's batches, at most 1,048,576, in their present codings, and ranges of deleted rows.
 pub(crate) fn write_container<W: Write>(
     writer: &mut Counted<W>,
     schema: &Schema,

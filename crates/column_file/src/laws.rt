@@ -1,6 +1,7 @@
 //! The laws of the formats of files and messages.
 ghost use Rattle.column_file.specs.ContainerBytes.{ContainersComeBack};
 ghost use Rattle.column_file.specs.Files.{FilesOpen, FilesOpenToOne, OffersAreReadAgain, SameFileSameState, SummariesAreReadAgain};
+ghost use Rattle.column_file.specs.FirstVersion.{VersionsAreWritten, FirstFilesStay, FirstFilesHold, FirstFilesOpen, FirstOffersAreRead, FirstSummariesAreRead};
 ghost use Rattle.column_file.specs.SchemaBytes.{SchemasComeBack};
 ghost use Rattle.column_file.specs.SummaryBytes.{SummariesComeBack};
 
@@ -32,4 +33,15 @@ pub fn files_and_states_come_back()
 pub fn offers_and_summaries_are_read_again()
     ensures offers { OffersAreReadAgain }
     ensures summaries { SummariesAreReadAgain }
+{}
+
+/// The law of the two versions. The version that is written is 2 exactly where the table has a column of 8 bits. Without one a state's
+/// canonical file is byte for byte that of version 1. What version 1 accepted is read as the same: files, offers and summaries.
+pub fn first_version_is_kept()
+    ensures field { VersionsAreWritten }
+    ensures bytes { FirstFilesStay }
+    ensures files { FirstFilesHold }
+    ensures opened { FirstFilesOpen }
+    ensures offers { FirstOffersAreRead }
+    ensures summaries { FirstSummariesAreRead }
 {}

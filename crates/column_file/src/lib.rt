@@ -19,7 +19,7 @@ mod type_tags;
 
 pub use canonical_writing::export;
 pub use laws::{
-    containers_and_bytes_come_back, files_and_states_come_back,
+    containers_and_bytes_come_back, files_and_states_come_back, first_version_is_kept,
     offers_and_summaries_are_read_again, schemas_and_bytes_come_back,
     summaries_and_bytes_come_back,
 };

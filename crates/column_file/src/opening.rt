@@ -9,6 +9,7 @@ ghost use Rattle.replica_store.specs.Replica.{batch_limit};
 ghost use Rattle.column_file.specs.ContainerBytes.{entry_of, deleted_of, container};
 ghost use Rattle.column_file.specs.Differing.{matched};
 ghost use Rattle.column_file.specs.Files.{AreCanonicalOf, is_same_range, canonical_read, opened_from, checked_from};
+ghost use Rattle.column_file.specs.FirstVersion.{KeepsFirst, opened_from_1};
 ghost use Rattle.column_file.specs.Input.{Judges, ComesOfWhole, is_refusal_of_reading};
 
 use crate::comparing::Comparison;
@@ -26,7 +27,7 @@ use table_model::{BatchName, Counted, Origin, Refusal, RowName, Schema};
 /// What a canonical file has.
 #[derive(Clone, Copy, Debug, PartialEq, Eq)]
 pub struct Checked {
-    /// How many batches, at most 65,536.
+    /// How many batches, at most 1,048,576.
     pub batches: u32,
     /// How many maximal ranges of deleted rows.
     pub ranges: u64,
@@ -58,7 +59,7 @@ fn are_same_pairs(a: &[(RowName, u16)], b: &[(RowName, u16)]) -> bool
         .all(|(range, other)| same_range(*range, *other))
 }
 
-/// Refuses bytes that aren't a container of a table's batches, at most 65,536, in their present codings, and of ranges of deleted
+/// Refuses bytes that aren't a container of a table's batches, at most 1,048,576, in their present codings, and of ranges of deleted
 /// rows: `NotCanonical` with the first place that differs. The container is compared as it is written, and stands nowhere.
 fn compared(
     bytes: &[u8],
@@ -102,6 +103,9 @@ fn canonical_in(alloc: Global, bytes: &[u8]) -> Result<Offer, Refusal>
 /// input stands for. It grows as it reads, so `Memory` may come in the place of any of them but the first.
 pub fn open<R: Read>(alloc: Global, reader: &mut Counted<R>, own: Origin) -> Result<Store, Refusal>
     ensures read { Judges (λ store. store.replica) result (R.remaining reader.old.0) (opened_from own) }
+
+    // What version 1 opened is opened to the same replica.
+    ensures first { KeepsFirst (λ store. store.replica) result (R.remaining reader.old.0) (opened_from_1 own) }
     ensures segments { IfOk result (λ store. AreCanonicalOf store.replica.schema store.replica.state.batches store.segments) }
     ensures own { own.0 ≡ 0 → (result ≡ Err Refusal.BadName) × (reader.new ≡ reader.old) }
     ensures refused { IfErr result (λ e. IsTrue (is_refusal_of_reading e)) }

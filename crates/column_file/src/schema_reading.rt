@@ -59,14 +59,14 @@ fn read_name(total: usize, bytes: &[u8]) -> Result<(&str, &[u8]), Refusal>
     Ok((name, rest))
 }
 
-/// The column type at the front, and what stands after it.
+/// The column type at the front, in a version, and what stands after it.
 #[tactic(auto, unfolding(crate::specs::SchemaBytes::column_type))]
-fn read_column_type(total: usize, bytes: &[u8]) -> Result<(ColType, &[u8]), Refusal>
-    ensures read { Reads (λ x. (x.0, x.1.now)) result (column_type.read total bytes.now) }
+fn read_column_type(version: u64, total: usize, bytes: &[u8]) -> Result<(ColType, &[u8]), Refusal>
+    ensures read { Reads (λ x. (x.0, x.1.now)) result ((column_type version).read total bytes.now) }
     ensures fault { IfErr result (λ e. IsTrue (is_fault_of_bytes e)) }
 {
     let (tag, rest) = read_number(total, bytes, 1)?;
-    match tagged(tag) {
+    match tagged(version, tag) {
         Some(column_type) => Ok((column_type, rest)),
         None => Err(Refusal::BadSchema),
     }
@@ -84,14 +84,15 @@ fn is_name_among(columns: &[(&str, ColType)], name: &str) -> bool
 /// The column at the front, which must not have the name of one before it, and what stands after it.
 #[tactic(auto, unfolding(crate::specs::SchemaBytes::column))]
 fn read_column<'a>(
+    version: u64,
     total: usize,
     bytes: &'a [u8],
     front: &[(&str, ColType)],
 ) -> Result<(&'a str, ColType, &'a [u8]), Refusal>
-    ensures read { Reads (λ x. (shape_of (x.0.now, x.1), x.2.now)) result ((column (map (λ c. shape_of (c.0.now, c.1)) front.now)).read total bytes.now) }
+    ensures read { Reads (λ x. (shape_of (x.0.now, x.1), x.2.now)) result ((column version (map (λ c. shape_of (c.0.now, c.1)) front.now)).read total bytes.now) }
     ensures fault { IfErr result (λ e. IsTrue (is_fault_of_bytes e)) }
 {
-    let (column_type, rest) = read_column_type(total, bytes)?;
+    let (column_type, rest) = read_column_type(version, total, bytes)?;
     let (name, rest) = read_name(total, rest)?;
     if is_name_among(front, name) {
         return Err(Refusal::BadSchema);
@@ -102,16 +103,17 @@ fn read_column<'a>(
 /// So many columns at the front, and what stands after them.
 fn read_columns<'a>(
     alloc: Global,
+    version: u64,
     total: usize,
     bytes: &'a [u8],
     count: usize,
 ) -> Result<(Vec<(&'a str, ColType)>, &'a [u8]), Refusal>
-    ensures { Reads (λ x. (map (λ c. shape_of (c.0.now, c.1)) x.0.items, x.1.now)) result ((all count column).read total bytes.now) }
+    ensures { Reads (λ x. (map (λ c. shape_of (c.0.now, c.1)) x.0.items, x.1.now)) result ((all count (column version)).read total bytes.now) }
 {
     let mut columns = Vec::new(alloc);
     let mut rest = bytes;
     for _ in 0..count {
-        let (name, column_type, after) = read_column(total, rest, columns.as_slice())?;
+        let (name, column_type, after) = read_column(version, total, rest, columns.as_slice())?;
         columns.push((name, column_type))?;
         rest = after;
     }
@@ -131,15 +133,20 @@ fn read_column_count(total: usize, bytes: &[u8]) -> Result<(usize, &[u8]), Refus
     Ok((count as usize, rest))
 }
 
-/// The schema at the front of what is left of an input of `total` bytes, and what stands after it. Refused is the first fault:
+/// The schema in a version at the front of what is left of an input of `total` bytes, and what stands after it. Refused is the first fault:
 /// `Truncated`, `BadCount` at the count, or `BadSchema`. It grows as it reads, so `Memory` may come in the place of any of them.
 #[tactic(auto, unfolding(crate::specs::SchemaBytes::schema))]
-pub fn read_schema(alloc: Global, total: usize, bytes: &[u8]) -> Result<(Schema, &[u8]), Refusal>
-    ensures { Reads (λ x. (x.0, x.1.now)) result (schema.read total bytes.now) }
+pub fn read_schema(
+    alloc: Global,
+    version: u64,
+    total: usize,
+    bytes: &[u8],
+) -> Result<(Schema, &[u8]), Refusal>
+    ensures { Reads (λ x. (x.0, x.1.now)) result ((schema version).read total bytes.now) }
 {
     let (count, after_count) = read_column_count(total, bytes)?;
     let (table, after_table) = read_name(total, after_count)?;
-    let (columns, rest) = read_columns(alloc, total, after_table, count)?;
+    let (columns, rest) = read_columns(alloc, version, total, after_table, count)?;
     let schema = Schema::new(alloc, table, columns.as_slice())?;
     Ok((schema, rest))
 }

@@ -12,15 +12,13 @@ ghost use Rattle.column_file.specs.Input.{Judges, ComesOfWhole, is_fault_of_byte
 
 use crate::input::read_input;
 use crate::schema_reading::read_schema;
+use crate::type_tags::version_of;
 use catalogue_join::Held;
 use replica_store::{MAX_BATCHES, Summary};
 use segment_core::{place_of, read_number};
 use std::alloc::{AllocError, Global};
 use std::io::Read;
 use table_model::{BatchName, Counted, Number, Origin, Refusal, Schema, same_text};
-
-/// The version of all formats.
-pub(crate) const VERSION: u64 = 1;
 
 /// What a summary begins with.
 pub(crate) const SUMMARY: [u8; 4] = *b"FLSM";
@@ -40,20 +38,20 @@ fn read_magic<'a>(total: usize, bytes: &'a [u8], magic: &[u8]) -> Result<&'a [u8
     Ok(rest)
 }
 
-/// The version, and what stands after it.
+/// The version, 1 or 2, and what stands after it.
 #[tactic(auto, unfolding(crate::specs::SummaryBytes::version))]
 fn read_version(total: usize, bytes: &[u8]) -> Result<(u64, &[u8]), Refusal>
     ensures read { Reads (λ x. (x.0, x.1.now)) result (version.read total bytes.now) }
     ensures fault { IfErr result (λ e. IsTrue (is_fault_of_bytes e)) }
 {
     let (version, rest) = read_number(total, bytes, 2)?;
-    if version != VERSION {
+    if version != 1 && version != 2 {
         return Err(Refusal::BadVersion);
     }
     Ok((version, rest))
 }
 
-/// The schema that a format begins with, after its own bytes and the version, and what stands after it.
+/// The schema that a format begins with, after its own bytes and the version in which the schema stands, and what stands after it.
 #[tactic(auto, unfolding(crate::specs::SummaryBytes::head))]
 pub(crate) fn read_head<'a>(
     alloc: Global,
@@ -64,8 +62,12 @@ pub(crate) fn read_head<'a>(
     ensures { Reads (λ x. (x.0, x.1.now)) result ((head magic.now).read total bytes.now) }
 {
     let after_magic = read_magic(total, bytes, magic)?;
-    let (_, after_version) = read_version(total, after_magic)?;
-    read_schema(alloc, total, after_version)
+    let (version, after_version) = read_version(total, after_magic)?;
+    let (schema, rest) = read_schema(alloc, version, total, after_version)?;
+    if version != version_of(&schema) {
+        return Err(Refusal::BadVersion);
+    }
+    Ok((schema, rest))
 }
 
 /// The proper name at the front, and what stands after it.
@@ -136,7 +138,7 @@ fn read_batch_names(
     Ok((names, rest))
 }
 
-/// How many names there are, at most 65,536, and what stands after that.
+/// How many names there are, at most 1,048,576, and what stands after that.
 #[tactic(auto, unfolding(crate::specs::SummaryBytes::name_count))]
 pub(crate) fn read_name_count(total: usize, bytes: &[u8]) -> Result<(usize, &[u8]), Refusal>
     ensures read { Reads (λ x. (x.0, x.1.now)) result (name_count.read total bytes.now) }

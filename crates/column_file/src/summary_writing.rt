@@ -11,14 +11,15 @@ ghost use Rattle.column_file.specs.SummaryBytes.{head, batch_name, names, summar
 ghost use Rattle.column_file.specs.Files.{HasSummaryBytes};
 
 use crate::schema_writing::write_schema;
-use crate::summary_reading::{SUMMARY, VERSION};
+use crate::summary_reading::SUMMARY;
+use crate::type_tags::version_of;
 use catalogue_join::{Held, Run};
 use replica_store::Summary;
 use segment_core::{write_number, write_whole};
 use std::io::Write;
 use table_model::{BatchName, Counted, Number, Refusal, Schema};
 
-/// Writes what a format begins with: its own four bytes, the version and a schema.
+/// Writes what a format begins with: its own four bytes, the version in which a schema stands, and the schema.
 pub(crate) fn write_head<W: Write>(
     writer: &mut Counted<W>,
     magic: &[u8],
@@ -27,7 +28,7 @@ pub(crate) fn write_head<W: Write>(
     ensures { Writes result (W.contents writer.old.0) (W.contents writer.new.0) writer.old.1 writer.new.1 ((head magic.now).spell schema.now) }
 {
     write_whole(writer, magic)?;
-    write_number(writer, VERSION, 2)?;
+    write_number(writer, version_of(schema), 2)?;
     write_schema(writer, schema)
 }
 
@@ -67,7 +68,7 @@ fn write_name_list<W: Write>(writer: &mut Counted<W>, held: &Held) -> Result<(),
     Ok(())
 }
 
-/// Writes how many names a set has, at most 65,536, and these in ascending order.
+/// Writes how many names a set has, at most 1,048,576, and these in ascending order.
 fn write_names<W: Write>(writer: &mut Counted<W>, held: &Held) -> Result<(), Refusal>
     requires { set.len held.now ≤ batch_limit }
     ensures { Writes result (W.contents writer.old.0) (W.contents writer.new.0) writer.old.1 writer.new.1 (names.spell (in_order name_cmp held.now)) }

@@ -1,12 +1,13 @@
 //! Files and offers in bytes, at bytes and places worked out by hand from the formats.
+use crate::filling_tests::row_of;
 use column_file::{Checked, check, export, open, read_offer, write_offer};
-use expectations::agree;
 use replica_store::{Offer, Store, Summary};
 use segment_core::Coding;
 use std::alloc::{AllocError, Global};
 use std::process::Abort;
 use std::test::Fail;
-use table_model::{BatchName, Counted, Number, Origin, Refusal, Stop};
+use table_model::{BatchName, ColType, Counted, Number, Origin, Refusal, Row, Schema, Stop};
+use test_support::agree;
 
 /// The canonical file of T(A SMALLINT) with the one row 7 in batch 1.1: 42 bytes, of which 13 are the head, 4 say how many batches
 /// there are, 17 are the batch, and 8 say how many ranges there are.
@@ -305,6 +306,20 @@ const NO_BATCH: &[u8] = b"\0\0\0\0";
 const FAULTS: &[(Change, Refusal)] = &[
     ((0, 1, &[(b"\x47", 0)]), Refusal::BadMagic),
     ((4, 5, &[(b"\x03", 0)]), Refusal::BadVersion),
+    ((4, 5, &[(b"\0", 0)]), Refusal::BadVersion),
+    // Version 2, in which no table without a TINYINT column stands; and a TINYINT column in version 1.
+    ((4, 5, &[(b"\x02", 0)]), Refusal::BadVersion),
+    ((10, 11, &[(b"\x01", 0)]), Refusal::BadSchema),
+    // That version 2 isn't the table's is told once its schema is there: after a fault of the schema, and before one of the counts.
+    ((4, 7, &[(b"\x02\0\0", 0)]), Refusal::BadCount(6)),
+    (
+        (4, 12, &[(b"\x02\0\x01\0\x01T\x02\0", 0)]),
+        Refusal::BadSchema,
+    ),
+    (
+        (4, 17, &[(b"\x02\0\x01\0\x01T\x02\x01A\xff\xff\xff\xff", 0)]),
+        Refusal::BadVersion,
+    ),
     // The version 256, and 257, whose first byte is 1.
     ((4, 6, &[(b"\0\x01", 0)]), Refusal::BadVersion),
     ((5, 6, &[(b"\x01", 0)]), Refusal::BadVersion),
@@ -320,11 +335,11 @@ const FAULTS: &[(Change, Refusal)] = &[
         Refusal::BadSchema,
     ),
     ((13, 17, &[(b"\xff\xff\xff\xff", 0)]), Refusal::BadCount(13)),
-    ((13, 17, &[(b"\x01\0\x01\0", 0)]), Refusal::BadCount(13)),
+    ((13, 17, &[(b"\x01\0\x10\0", 0)]), Refusal::BadCount(13)),
     ((17, 18, &[(b"\0", 0)]), Refusal::BadName),
     ((21, 22, &[(b"\0", 0)]), Refusal::BadName),
     // As many batches as there may be, of which the second has the origin 0.
-    ((13, 17, &[(b"\0\0\x01\0", 0)]), Refusal::BadName),
+    ((13, 17, &[(b"\0\0\x10\0", 0)]), Refusal::BadName),
     // The batch twice; and a second batch with a lesser number, and with a lesser origin.
     (
         (
@@ -705,4 +720,56 @@ fn an_own_origin_of_0_is_refused_before_anything_is_read(rt: HostRuntime) -> Res
     });
     let fault = open(rt.alloc(), &mut reader, Origin(0)).err();
     agree((fault, reader.failures()), (Some(Refusal::BadName), 0))
+}
+
+/// The canonical file of T(A TINYINT) with the one row 7 in batch 1.1: 41 bytes, of which 13 are the head, and byte 32 is the 7.
+const ONE_TINY_ROW: &[u8] =
+    b"FLCF\x02\0\x01\0\x01T\x01\x01A\x01\0\0\0\x01\0\0\0\x01\0\0\0\0\0\0\0\0\0\0\x07\0\0\0\0\0\0\0\0";
+
+/// The store of origin 1 of T(A TINYINT) to which the row 7 was appended.
+fn tiny_store(alloc: Global) -> Result<Store, Refusal> {
+    let schema = Schema::new(alloc, "T", &[("A", ColType::TinyInt)])?;
+    let mut store = Store::new(alloc, &schema, Origin(1))?;
+    let mut rows: Vec<Row> = Vec::with_capacity(alloc, 1)?;
+    rows.push(row_of(alloc, Some(7))?)?;
+    let _ = store.append(alloc, &rows)?;
+    Ok(store)
+}
+
+#[test]
+fn a_table_with_a_tinyint_column_stands_in_version_2(rt: HostRuntime) -> Result<(), Fail> {
+    let store = tiny_store(rt.alloc())?;
+    agree(ONE_TINY_ROW.len(), 41)?;
+    assert!(rt; is_export(rt.alloc(), &store, ONE_TINY_ROW)?);
+    assert!(rt; is_offered(rt.alloc(), &store, ONE_TINY_ROW)?);
+    let again = opened(rt.alloc(), ONE_TINY_ROW)?;
+    assert!(rt; is_export(rt.alloc(), &again, ONE_TINY_ROW)?);
+    Ok(())
+}
+
+#[test]
+fn each_proper_front_of_a_file_in_version_2_is_truncated(rt: HostRuntime) -> Result<(), Fail> {
+    see_fronts_truncated(&rt, rt.alloc(), ONE_TINY_ROW);
+    Ok(())
+}
+
+#[test]
+fn no_table_stands_in_the_other_version(rt: HostRuntime) -> Result<(), Fail> {
+    let cases: &[(&[u8], Refusal)] = &[
+        (
+            b"FLCF\x01\0\x01\0\x01T\x01\x01A\x01\0\0\0\x01\0\0\0\x01\0\0\0\0\0\0\0\0\0\0\x07\0\0\0\0\0\0\0\0",
+            Refusal::BadSchema,
+        ),
+        (
+            b"FLCF\x02\0\x01\0\x01T\x02\x01A\x01\0\0\0\x01\0\0\0\x01\0\0\0\0\0\0\0\0\0\0\x07\0\0\0\0\0\0\0\0\0",
+            Refusal::BadVersion,
+        ),
+        // The first 12 bytes of that file, and its first 13.
+        (b"FLCF\x02\0\x01\0\x01T\x02\x01", Refusal::Truncated(12)),
+        (b"FLCF\x02\0\x01\0\x01T\x02\x01A", Refusal::BadVersion),
+    ];
+    for (bytes, fault) in cases {
+        assert!(rt; is_no_offer(rt.alloc(), bytes, *fault), "{bytes:?}");
+    }
+    Ok(())
 }

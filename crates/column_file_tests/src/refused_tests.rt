@@ -5,13 +5,13 @@
 use crate::file_tests::{THREE_ROWS, ZEROS, changed, offer_from, opened};
 use crate::tests::TWO_NAMES;
 use column_file::{check, export, open, read_offer, read_summary, write_offer, write_summary};
-use expectations::growth_refused;
 use replica_store::{Offer, Store};
 use segment_core::Coding;
 use std::alloc::Global;
 use std::process::Abort;
 use std::test::Fail;
 use table_model::{BatchName, Counted, Number, Origin, Refusal};
+use test_support::growth_refused;
 
 /// The most bytes that a call of these tests writes.
 const ROOM: usize = 256;

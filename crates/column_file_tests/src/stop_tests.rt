@@ -2,10 +2,10 @@
 use crate::file_tests::{ONE_ROW, offer_from, opened};
 use crate::tests::TWO_NAMES;
 use column_file::{check, export, open, read_offer, read_summary, write_offer, write_summary};
-use expectations::{agree, agree_at};
 use std::alloc::Global;
 use std::test::Fail;
 use table_model::{Counted, Origin, Refusal, Stop};
+use test_support::{agree, agree_at};
 
 /// The calls that read.
 #[derive(Clone, Copy)]

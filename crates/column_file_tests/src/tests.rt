@@ -1,11 +1,11 @@
 //! Summaries in bytes, at bytes and places worked out by hand from the format.
 use crate::filling_tests::{new_store, row_of};
 use column_file::{read_summary, read_summary_bytes, write_summary};
-use expectations::{agree, agree_at};
 use replica_store::{Store, Summary};
 use std::alloc::{AllocError, Global};
 use std::test::Fail;
 use table_model::{BatchName, Counted, Number, Origin, Refusal};
+use test_support::{agree, agree_at};
 
 /// The summary of T(A SMALLINT) with the names 1.1 and 1.3, between which one is lacked: 33 bytes.
 pub(crate) const TWO_NAMES: &[u8] =
@@ -38,7 +38,11 @@ fn the_first_fault_of_a_summary_is_answered_at_its_place(rt: HostRuntime) -> Res
         (b"", Refusal::Truncated(0)),
         (b"FLC", Refusal::Truncated(3)),
         (b"FLCF", Refusal::BadMagic),
-        (b"FLSM\x02\0", Refusal::BadVersion),
+        (b"FLSM\x02\0", Refusal::Truncated(6)),
+        (b"FLSM\x03\0", Refusal::BadVersion),
+        (b"FLSM\x02\0\x01\0\x01T\x02\x01", Refusal::Truncated(12)),
+        (b"FLSM\x02\0\x01\0\x01T\x02\x01A", Refusal::BadVersion),
+        (b"FLSM\x01\0\x01\0\x01T\x01\x01A", Refusal::BadSchema),
         (b"FLSM\x01\x01", Refusal::BadVersion),
         (b"FLSM\x01\0\0\0", Refusal::BadCount(6)),
         (b"FLSM\x01\0\x21\0", Refusal::BadCount(6)),
@@ -51,7 +55,7 @@ fn the_first_fault_of_a_summary_is_answered_at_its_place(rt: HostRuntime) -> Res
             Refusal::BadSchema,
         ),
         (
-            b"FLSM\x01\0\x01\0\x01T\x02\x01A\x01\0\x01\0",
+            b"FLSM\x01\0\x01\0\x01T\x02\x01A\x01\0\x10\0",
             Refusal::BadCount(13),
         ),
         (HEAD, Refusal::Truncated(17)),
@@ -124,7 +128,7 @@ fn add_names_with_gaps(bytes: &mut Vec<u8>) -> Result<(), AllocError> {
     Ok(())
 }
 
-/// The summary of T(A SMALLINT) with as many names as there may be, 1.1, 1.3, 1.5 and so on: no two of them are one run.
+/// The summary of T(A SMALLINT) with 65,536 names, 1.1, 1.3, 1.5 and so on: no two of them are one run.
 fn names_with_gaps(alloc: Global) -> Result<Vec<u8>, AllocError> {
     let mut bytes = Vec::from_slice(alloc, b"FLSM\x01\0\x01\0\x01T\x02\x01A\0\0\x01\0")?;
     add_names_with_gaps(&mut bytes)?;
@@ -149,5 +153,14 @@ fn a_summary_of_65536_names_with_gaps_is_written_again(rt: HostRuntime) -> Resul
     let bytes = names_with_gaps(rt.alloc())?;
     agree(bytes.len(), 524_305)?;
     assert!(rt; is_written_again(rt.alloc(), &bytes)?);
+    Ok(())
+}
+
+#[test]
+fn a_summary_of_a_table_with_a_tinyint_column_stands_in_version_2(
+    rt: HostRuntime,
+) -> Result<(), Fail> {
+    let bytes = b"FLSM\x02\0\x01\0\x01T\x01\x01A\x01\0\0\0\x01\0\0\0\x01\0\0\0";
+    assert!(rt; is_written_again(rt.alloc(), bytes)?);
     Ok(())
 }

@@ -5,12 +5,11 @@ ghost use Rattle.transpose_order.specs.Place.{IsLaneWidth};
 ghost use Rattle.bit_interleave.specs.Range.{AreInRange};
 
 use bit_interleave::{Values, Words};
-use column_patterns::{Pattern, column};
-use expectations::agree;
 use frame_delta::{Delta, For};
 use std::alloc::Global;
 use std::simd::prelude::*;
 use std::test::Fail;
+use test_support::{Pattern, agree, column};
 
 /// Words of which the first is a number and the others are 0.
 fn first_then_zeros(first: u64) -> [u64; 64]

@@ -3,7 +3,6 @@ ghost use Rattle.std.specs.Prelude.{◌<◌, ◌^◌};
 ghost use Rattle.std.specs.List.{All};
 
 use bit_interleave::Words;
-use expectations::agree;
 use frame_delta::For;
 use fused_kernels::{
     Meter, VectorLanes, compare, compare_columns, compare_range, compare_vector, max, min,
@@ -13,6 +12,7 @@ use segment_core::{Boxed, Coded, CodedVector};
 use std::alloc::Global;
 use std::test::Fail;
 use table_model::Op;
+use test_support::agree;
 use transpose_order::Mask;
 
 /// 64 numbers of 16 bits: 1, and zeros after it. Packed at one bit, they are 1 at row 0 and 0 at each later row.

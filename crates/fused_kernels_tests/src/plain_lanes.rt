@@ -8,12 +8,12 @@ ghost use Rattle.bit_interleave.specs.Packing.{sixteen_of};
 ghost use Rattle.bit_interleave.specs.Range.{value_at};
 ghost use Rattle.fused_kernels.specs.Seen.{LanesSeen};
 
-use expectations::agree;
 use fused_kernels::{Lanes, compare, compare_range, decode_into, max, min, sum};
 use std::marker::Model;
 use std::simd::prelude::*;
 use std::test::Fail;
 use table_model::Op;
+use test_support::agree;
 use transpose_order::{Mask, place_in_word};
 
 /// 1024 values in row order, all covered and none null, given in the pieces of a lane width.

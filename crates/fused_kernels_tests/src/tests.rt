@@ -2,7 +2,6 @@
 //! 3 * 1023 * 1024 / 2, and rows 30 to 33 have 90, 93, 96 and 99.
 ghost use Rattle.std.specs.Prelude.{◌≤◌};
 
-use expectations::agree;
 use fused_kernels::{
     Meter, VectorLanes, compare, compare_columns, compare_range, count, max, min, sum,
 };
@@ -10,6 +9,7 @@ use segment_core::{Coded, CodedVector, Coding};
 use std::alloc::Global;
 use std::test::Fail;
 use table_model::Op;
+use test_support::agree;
 use transpose_order::Mask;
 
 /// The multiples of three from 0 on, in a coding.

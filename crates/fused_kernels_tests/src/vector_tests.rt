@@ -1,5 +1,4 @@
 //! The calls on coded vectors in each coding, at values worked out by hand.
-use expectations::agree;
 use fused_kernels::{
     Meter, VectorLanes, compare_columns, compare_vector, compare_vector_range, compare_vectors,
     count, decode_vector, vector_max, vector_min, vector_sum,
@@ -9,6 +8,7 @@ use std::alloc::{AllocError, Global};
 use std::process::Abort;
 use std::test::Fail;
 use table_model::{ColType, Op, Refusal, Row, Schema, check_rows};
+use test_support::agree;
 use transpose_order::Mask;
 
 const TYPES: [ColType; 3] = [ColType::SmallInt, ColType::Integer, ColType::BigInt];

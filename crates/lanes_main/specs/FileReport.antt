@@ -10,6 +10,7 @@ use Rattle.table_model.specs.declared.refusal.Refusal.{Refusal}
 use Rattle.table_model.specs.declared.refusal.Refusal.TheVariants.{Memory, ReadFault, WriteFault}
 use Rattle.replica_store.specs.Replica.{Replica}
 use Rattle.column_file.specs.Files.{checked_from, opened_from}
+use Rattle.column_file.specs.FirstVersion.{opened_from_1}
 use Rattle.column_file.specs.Input.{is_refusal_of_reading}
 use Rattle.store_view.specs.Asked.{query_answer, is_refusal_of_query}
 
@@ -60,6 +61,14 @@ opened_report queries (Err e) = refused e
 -- what queries are answered over a file's bytes; whose replica opens it is no matter
 abbrev pub queries_report : List (List ℕ) → List ℕ → Report
 queries_report queries input = opened_report queries (opened_from (record { 0 = 1 }) input)
+
+-- what version 1 answered queries over a file's bytes
+abbrev pub queries_report_1 : List (List ℕ) → List ℕ → Report
+queries_report_1 queries input = opened_report queries (opened_from_1 (record { 0 = 1 }) input)
+
+-- a file that version 1 accepted gives the answers that it gave
+abbrev pub FirstAnswersStay : Type 0
+FirstAnswersStay = (queries : List (List ℕ)) (input : List ℕ) (r : Replica) → opened_from_1 (record { 0 = 1 }) input ≡ Ok r → queries_report queries input ≡ queries_report_1 queries input
 
 -- the refusals that no input decides: memory lacks, a read fails, a write fails
 abbrev pub IsFromOutside : Refusal → Type 0

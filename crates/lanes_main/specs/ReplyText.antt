@@ -10,7 +10,7 @@ use Rattle.table_model.specs.declared.refusal.Refusal.{Refusal}
 use Rattle.replica_store.specs.declared.inserted.Inserted.{Inserted}
 use Rattle.replica_store.specs.declared.inserted.Inserted.TheVariants.{New, Already}
 use Rattle.cluster_history.specs.declared.reply.Reply.{Reply}
-use Rattle.cluster_history.specs.declared.reply.Reply.TheVariants.{Done, Named, Put, Sent, File, Answered, Refused}
+use Rattle.cluster_history.specs.declared.reply.Reply.TheVariants.{Done, Named, Put, Deleted, Sent, File, Answered, Refused}
 
 -- the name that a batch has got
 abbrev pub named_text : BatchName → List ℕ
@@ -21,9 +21,9 @@ abbrev pub put_text : Inserted → List ℕ
 put_text New = codes "ok new\n"
 put_text Already = codes "ok already\n"
 
--- the number of a message that was made
-abbrev pub sent_text : ℕ → List ℕ
-sent_text number = codes "ok " ++ (decimal number ++ codes "\n")
+-- a number: of a message that was made, or how many rows were deleted
+abbrev pub number_text : ℕ → List ℕ
+number_text number = codes "ok " ++ (decimal number ++ codes "\n")
 
 -- the bytes of a file, two hexadecimal digits for each, in lower case
 abbrev pub file_text : List ℕ → List ℕ
@@ -42,7 +42,8 @@ unfoldable pub reply_text_of : Reply → List ℕ
 reply_text_of Done = codes "ok\n"
 reply_text_of (Named name) = named_text name
 reply_text_of (Put inserted) = put_text inserted
-reply_text_of (Sent number) = sent_text number
+reply_text_of (Deleted count) = number_text count
+reply_text_of (Sent number) = number_text number
 reply_text_of (File bytes) = file_text bytes
 reply_text_of (Answered answer) = answered_text answer
 reply_text_of (Refused refusal) = refused_text refusal

@@ -86,7 +86,7 @@ EndsAsRun = (lines later : List (List ℕ)) (table : Table) (count : ℕ) → Ma
 
 -- what each replica took and each message brings once these lines came after the one that made the table
 abbrev pub taken_in : Table → ℕ → List (List ℕ) → Taken
-taken_in table count later = taken_by (new_taken count) (steps_of later) (replies_of (new_cluster table count) (steps_of later))
+taken_in table count later = taken_by table (new_taken count) (steps_of later) (replies_of (new_cluster table count) (steps_of later))
 
 -- in any two scripts of one table, replicas that took the same are alike
 abbrev pub SameInScripts : Type 0

@@ -1,4 +1,5 @@
 //! Laws of scripts, each the contract of a function that does nothing.
+ghost use Rattle.lanes_main.specs.FileReport.{FirstAnswersStay};
 ghost use Rattle.lanes_main.specs.ScriptRun.{ScriptLaws};
 
 /// A script is a history: once one of its lines has made the table, the steps that its later lines ask for are a run from the
@@ -7,4 +8,9 @@ ghost use Rattle.lanes_main.specs.ScriptRun.{ScriptLaws};
 /// table and the state of what they took.
 pub fn script_laws()
     ensures { ScriptLaws }
+{}
+
+/// Queries over a file that version 1 accepted are answered as version 1 answered them.
+pub fn first_answers_stay()
+    ensures { FirstAnswersStay }
 {}

@@ -2,7 +2,7 @@
 ghost use Rattle.std.specs.Prelude.{◌≡◌, ◌++◌, OnOk, IfOk, decimal};
 ghost use Rattle.table_model.specs.Name.{name_text};
 ghost use Rattle.table_model.specs.RefusalText.{refusal_text};
-ghost use Rattle.lanes_main.specs.ReplyText.{named_text, put_text, sent_text, file_text, answered_text, refused_text, reply_text_of};
+ghost use Rattle.lanes_main.specs.ReplyText.{named_text, put_text, number_text, file_text, answered_text, refused_text, reply_text_of};
 
 use cluster_history::Reply;
 use itoa::Buffer;
@@ -29,7 +29,8 @@ pub fn write_reply(alloc: Global, out: &mut Vec<u8>, reply: &Reply) -> Result<()
         Reply::Done => out.extend_from_slice(b"ok\n"),
         Reply::Named(name) => write_named(out, *name),
         Reply::Put(inserted) => write_put(out, *inserted),
-        Reply::Sent(number) => write_sent(out, *number),
+        Reply::Deleted(count) => write_ok_number(out, *count),
+        Reply::Sent(number) => write_ok_number(out, u64::from(*number)),
         Reply::File(file) => write_file(alloc, out, file.as_slice()),
         Reply::Answered(answer) => write_answered(out, answer),
         Reply::Refused(refusal) => write_refused(alloc, out, *refusal),
@@ -57,12 +58,12 @@ fn write_put(out: &mut Vec<u8>, inserted: Inserted) -> Result<(), AllocError>
     }
 }
 
-/// Writes the number of a message that was made.
-fn write_sent(out: &mut Vec<u8>, number: u32) -> Result<(), AllocError>
-    ensures { OnOk result (out.new.items ≡ out.old.items ++ sent_text number) }
+/// Writes the number of a message that was made, or how many rows were deleted.
+fn write_ok_number(out: &mut Vec<u8>, number: u64) -> Result<(), AllocError>
+    ensures { OnOk result (out.new.items ≡ out.old.items ++ number_text number) }
 {
     out.extend_from_slice(b"ok ")?;
-    write_number(out, u64::from(number))?;
+    write_number(out, number)?;
     out.extend_from_slice(b"\n")
 }
 

@@ -3,12 +3,12 @@
 //! with the text `REFUSED` or `CHANGED`; with none refused it passes. The command `tests/refused-memory` refuses each in turn and
 //! counts those texts.
 use crate::tests::ONE_ROW;
-use expectations::growth_refused;
 use lanes_main::{FileBytes, Reply, check_file, query_file, reply_text, script};
 use std::alloc::{AllocError, Global};
 use std::process::Abort;
 use std::test::Fail;
 use table_model::{Answer, AnswerRow, BatchName, Counted, Field, Number, Origin, Refusal};
+use test_support::growth_refused;
 
 /// The most bytes that a call of these tests writes.
 const ROOM: usize = 256;
@@ -55,12 +55,12 @@ const QUERY: Told = Told {
 
 /// A script whose last line no line feed ends: the replies to the others are written before it is answered.
 const LINES: &[u8] =
-    b"table 2 T A SMALLINT\nappend 1 (7)\nrecode 1 1.1 0 0 DICT\nmerge 2 1\nexport 2\nquery 2 SELECT COUNT(*) FROM T";
+    b"table 2 T A SMALLINT\nappend 1 (7)\ndelete where 1 A = 8\nrecode 1 1.1 0 0 DICT\nmerge 2 1\nexport 2\nquery 2 SELECT COUNT(*) FROM T";
 
 const SCRIPT: Told = Told {
     call: Call::Script,
-    first: "ok\nok 1.1\nok\nok\nok 464c43460100010001540201410100000001000000010000000000000000000007000000000000000000\n",
-    whole: "ok\nok 1.1\nok\nok\nok 464c43460100010001540201410100000001000000010000000000000000000007000000000000000000\nok 1\nCOUNT(*)\n1\n",
+    first: "ok\nok 1.1\nok 0\nok\nok\nok 464c43460100010001540201410100000001000000010000000000000000000007000000000000000000\n",
+    whole: "ok\nok 1.1\nok 0\nok\nok\nok 464c43460100010001540201410100000001000000010000000000000000000007000000000000000000\nok 1\nCOUNT(*)\n1\n",
 };
 
 /// Makes a call whose reader has these bytes and whose writer has this room: what it answers, and how often both failed.

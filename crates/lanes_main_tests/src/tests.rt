@@ -18,7 +18,17 @@ pub(crate) fn text_of(alloc: Global, input: &[u8]) -> Result<Vec<u8>, Refusal> {
     Ok(writer.into_inner())
 }
 
-const SCRIPTS: [(&str, &str); 26] = [
+const SCRIPTS: [(&str, &str); 28] = [
+    // A row that is deleted already isn't counted again, a NULL is neither, and rows that come later stay.
+    (
+        "table 2 T A SMALLINT\nappend 1 (1),(NULL),(3)\ndelete where 1 NOT A = 1\ndelete where 1 NOT A = 1\nmerge 2 1\nappend 2 (3)\nquery 2 SELECT COUNT(*),SUM(A) FROM T\n",
+        "ok\nok 1.1\nok 1\nok 0\nok\nok 2.1\nok 1\nCOUNT(*),SUM(A)\n3,4\n",
+    ),
+    // The order of the refusals of a delete by a condition: its form as a line, its replica, its text, its columns.
+    (
+        "table 2 T A SMALLINT\ndelete where 1 A =\ndelete where 1 COUNT(*) > 0\ndelete where 1 B = 1\ndelete where 3 A = 1\ndelete where 3 A =\ndelete where 3 \ndelete where 1 A = 1 \n",
+        "ok\nrefused Syntax 3\nrefused Syntax 0\nrefused NoSuchColumn 0\nrefused NoSuchReplica\nrefused NoSuchReplica\nrefused BadLine\nok 0\n",
+    ),
     (
         "table 2 T A SMALLINT\nappend 1 (7)\nmerge 2 1\nquery 2 SELECT COUNT(*) FROM T\nquery 2 SELECT COUNT(*) FROM U\n",
         "ok\nok 1.1\nok\nok 1\nCOUNT(*)\n1\nrefused NoSuchTable\n",
@@ -41,7 +51,7 @@ const SCRIPTS: [(&str, &str); 26] = [
     ),
     // Before a table each other line is BadLine; a refused table makes nothing; a second one is BadLine.
     (
-        "merge 1 1\ntable 65 T A SMALLINT\ntable 1 T A TINYINT\ntable 1 1T A SMALLINT\ntable 1 T A SMALLINT\ntable 1 T A SMALLINT\nmerge 1 1\n",
+        "merge 1 1\ntable 65 T A SMALLINT\ntable 1 T A FLOAT\ntable 1 1T A SMALLINT\ntable 1 T A SMALLINT\ntable 1 T A SMALLINT\nmerge 1 1\n",
         "refused BadLine\nrefused BadLine\nrefused BadLine\nrefused BadSchema\nok\nrefused BadLine\nok\n",
     ),
     // An empty line has no reply, and a last line without a line feed counts.
@@ -152,7 +162,7 @@ fn a_script_has_the_reply_to_each_line(rt: HostRuntime) -> Result<(), Fail> {
 const NOTED: [(&str, &str); 10] = [
     ("table 1 T A SMALLINT\nappend 1 (1)\n", ""),
     (
-        "merge 1 1\ntable 65 T A SMALLINT\ntable 1\ntable 1 T A TINYINT\ntable 1 1T A SMALLINT\n",
+        "merge 1 1\ntable 65 T A SMALLINT\ntable 1\ntable 1 T A FLOAT\ntable 1 1T A SMALLINT\n",
         "line 1: refused BadLine: the first line makes the table: table N NAME COL TYPE [COL TYPE]..\nline 2: refused BadLine: a table has 1 to 64 replicas\nline 3: refused BadLine: a table is written table N NAME COL TYPE [COL TYPE]..\nline 4: refused BadLine: a column is a name and SMALLINT, INTEGER or BIGINT\nline 5: refused BadSchema\n",
     ),
     // Empty lines count.
@@ -166,7 +176,7 @@ const NOTED: [(&str, &str); 10] = [
     ),
     (
         "table 1 T A SMALLINT\ndelete 1 1.1 0\ndelete 1 1.1 0 65536\ndelete 1 1.1 5 4\n",
-        "line 2: refused BadLine: a delete is written delete R O.N FIRST LAST\nline 3: refused BadLine: an ordinal is a number of 1 to 5 digits, at most 65535\nline 4: refused BadRange 0\n",
+        "line 2: refused BadLine: a delete is written delete R O.N FIRST LAST or delete where R COND\nline 3: refused BadLine: an ordinal is a number of 1 to 5 digits, at most 65535\nline 4: refused BadRange 0\n",
     ),
     (
         "table 1 T A SMALLINT\nmerge 1\nmerge 1 x\n",

@@ -15,10 +15,10 @@ small_parts : (xs : List ℤ) (z : ℤ) → AreSmall (xs ++ z ∷ []) → AreSma
 small_parts [] z h = (tt, h.0)
 small_parts (x ∷ xs) z h = let rest = small_parts xs z h.1 in ((h.0, rest.0), rest.1)
 
-within_fits : (n : ℕ) (z : ℤ) → n ≤ 2 ^ 33 → IsWithin (n * 2 ^ 63) z → FitsSigned w128 z
+within_fits : (n : ℕ) (z : ℤ) → n ≤ 2 ^ 37 → IsWithin (n * 2 ^ 63) z → FitsSigned w128 z
 within_fits n z le h = omega (arith, ints, h.0, h.1)
 
--- a sum of at most 2^33 values fits, and in millionths too
+-- a sum of at most 2^37 values fits, and in millionths too
 total-fits : (zs : List ℤ) → length zs ≤ state_row_limit → AreSmall zs → FitsSigned w128 (total zs)
 total-fits zs le small = within_fits (length zs) (total zs) (omega (arith, le)) (total-small zs small)
 

@@ -7,6 +7,7 @@ use Rattle.table_model.specs.Meaning.{at_row, is_kept}
 use Rattle.table_model.specs.State.{Cells, State, named_from, live_rows}
 use Rattle.table_model.specs.Table.{Table, AreRows}
 use Rattle.table_model.specs.Values.{present}
+use Rattle.table_model.specs.declared.names.BatchName.{BatchName}
 use Rattle.table_model.specs.declared.names.RowName.{RowName}
 use Rattle.transpose_order.specs.Mask.{rows_of, has, count_below}
 use Rattle.query_eval.specs.Mentions.{condition_mentions}
@@ -49,6 +50,18 @@ batch_alive s batch = map (λ (row : RowName × Cells). row.1) (filter (λ (row 
 -- the rows at which WHERE is true
 abbrev pub rows_kept : Table → Option Formula → List Cells → List Cells
 rows_kept table condition rows = filter (λ row. is_kept condition (at_row table.columns row)) rows
+
+-- a batch's rows that aren't deleted, with their names
+unfoldable pub batch_rows : State → ℕ → List (RowName × Cells)
+batch_rows s batch = filter (λ (row : RowName × Cells). not (set.contains s.deleted row.0)) (named_from (batch_at s batch).0 0 (batch_at s batch).1)
+
+-- the names of the rows at which WHERE is true
+abbrev pub names_kept : Table → Option Formula → List (RowName × Cells) → List RowName
+names_kept table condition rows = map (λ (row : RowName × Cells). row.0) (filter (λ (row : RowName × Cells). is_kept condition (at_row table.columns row.1)) rows)
+
+-- the names of the rows of a mask, in order, where the first place has this ordinal
+unfoldable pub names_at : BatchName → ℕ → List Bool → List RowName
+names_at name first mask = present (rows_of (λ n. cond (has mask n) (Some (record { batch = name; ordinal = first + n })) None))
 
 -- the rows of a mask in a vector, in order
 unfoldable pub rows_at : Vector → List Bool → List Cells

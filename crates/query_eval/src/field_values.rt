@@ -1,7 +1,7 @@
 //! Fields of set functions, from counts, sums and lists of values.
 ghost use Rattle.std.specs.Prelude.{◌≡◌, ◌≤◌, ◌*◌, ◌^◌, List, ℤ, length};
 ghost use Rattle.table_model.specs.Answer.{whole, millionths};
-ghost use Rattle.table_model.specs.Group.{IsWithin, state_row_limit};
+ghost use Rattle.table_model.specs.Group.{IsWithin, state_row_limit, sum_limit};
 ghost use Rattle.table_model.specs.Meaning.{fold_value};
 ghost use Rattle.table_model.specs.Values.{total, total_or_null, mean, least, greatest};
 
@@ -32,7 +32,7 @@ pub fn sum_field(count: u128, sum: i128) -> Field
 /// AVG of values of which there are so many, with this sum: in millionths, truncated toward zero.
 pub fn mean_field(count: u128, sum: i128) -> Field
     requires count { count ≤ 2 ^ 96 }
-    requires sum { IsWithin (2 ^ 95) sum }
+    requires sum { IsWithin sum_limit sum }
     ensures { (zs : List ℤ) → count ≡ length zs → sum ≡ total zs → result ≡ millionths (mean zs) }
 {
     if count == 0 {
@@ -46,7 +46,7 @@ pub fn mean_field(count: u128, sum: i128) -> Field
 pub(crate) fn sum_of(values: &[i64]) -> i128
     requires { length values.now ≤ state_row_limit }
     ensures value { result ≡ total values.now }
-    ensures within { IsWithin (2 ^ 95) result }
+    ensures within { IsWithin sum_limit result }
 {
     let mut sum = 0;
     for value in values {

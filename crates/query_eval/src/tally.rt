@@ -22,7 +22,7 @@ use table_model::{Field, Fold, MILLION};
 use transpose_order::Mask;
 
 /// How many values of a column a set function is exact of.
-const MOST: usize = 1 << 32;
+const MOST: usize = 1 << 36;
 
 /// What a set function keeps of a group's values.
 #[derive(Clone, Copy, Debug)]
@@ -43,7 +43,7 @@ pub struct Sums {
 
 /// A set function under way: of the values so far, what the function needs.
 ///
-/// It is exact of up to 2^32 values of a column; no sum wraps, whatever the values are.
+/// It is exact of up to 2^36 values of a column; no sum wraps, whatever the values are.
 #[derive(Drop)]
 pub enum Tally {
     /// How many values there are.

@@ -1,11 +1,11 @@
 //! Queries over plain rows: answers worked out by hand, and the passes that their mentions of columns allow.
 use crate::plain_columns::PlainColumns;
-use expectations::agree_at;
 use query_eval::{Columns, Decoded, Pair, among_rows, answer, between_rows, text};
 use query_parser::parse;
 use std::alloc::{AllocError, Global};
 use std::test::Fail;
 use table_model::{ColType, Query, Row, Rows, Schema};
+use test_support::agree_at;
 use transpose_order::Mask;
 
 /// A row of table T: its cells in columns A and B.

@@ -278,7 +278,7 @@ abbrev pub fault_in : {V : Type 0} → Result V Refusal → Option Refusal
 fault_in (Ok x) = None
 fault_in (Err e) = Some e
 
-whole_fault : {V : Type 0} (end : ℕ) (v : V) (ts : List Token) → first_fault end [] ts ≡ fault_in (whole end (v, ts))
+pub whole_fault : {V : Type 0} (end : ℕ) (v : V) (ts : List Token) → first_fault end [] ts ≡ fault_in (whole end (v, ts))
 unfolding first_fault after
 whole_fault end v [] = refl
 whole_fault end v (t ∷ ts) = let some : (length (t ∷ ts) == 0) ≡ false = grind (arith, nat_tests) in rw some refl

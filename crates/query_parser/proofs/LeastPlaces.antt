@@ -12,10 +12,10 @@ use Rattle.table_model.specs.declared.refusal.Refusal.TheVariants.{NoSuchTable}
 use Rattle.query_parser.specs.Resolve.{Named, Places, in_query, is_grouped, sooner, with_column, visited, places, verdict, resolved, is_missing, lacks_group, is_ungrouped, IsLeastPlace, IsJudged}
 
 -- the least place so far and those of the columns that pass a test
-abbrev one_more : (Named → Bool) → Option ℕ → Named → Option ℕ
+abbrev pub one_more : (Named → Bool) → Option ℕ → Named → Option ℕ
 one_more test found named = cond (test named) (sooner found named.0.at) found
 
-abbrev least : (Named → Bool) → Option ℕ → List Named → Option ℕ
+abbrev pub least : (Named → Bool) → Option ℕ → List Named → Option ℕ
 least test found [] = found
 least test found (n ∷ ns) = least test (one_more test found n) ns
 
@@ -28,7 +28,7 @@ step columns grouping found n = by_column (column_at columns n.0.name)
     by_column None = refl
     by_column (Some i) = refl
 
-places_least : (columns : List ColumnShape) (grouping : List ColumnMention) (found : Places) (all : List Named)
+pub places_least : (columns : List ColumnShape) (grouping : List ColumnMention) (found : Places) (all : List Named)
     → places columns grouping found all ≡ (least (is_missing columns) found.0 all, least (is_ungrouped columns grouping) found.1 all)
 unfolding places
 places_least columns grouping found [] = refl
@@ -94,7 +94,7 @@ none_left : (test : Named → Bool) (found : Option ℕ) → IsLeastFrom test fo
 none_left test None = All-nil (λ m. test m ≡ false)
 none_left test (Some first) = (inl refl, (omega arith, All-nil (NoSooner test first)))
 
-least_from : (test : Named → Bool) (found : Option ℕ) (all : List Named) → IsLeastFrom test found all (least test found all)
+pub least_from : (test : Named → Bool) (found : Option ℕ) (all : List Named) → IsLeastFrom test found all (least test found all)
 least_from test found [] = none_left test found
 least_from test found (n ∷ ns) = by_test (test n) refl (least_from test (cond (test n) (sooner found n.0.at) found) ns)
   where

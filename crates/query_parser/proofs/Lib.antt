@@ -15,3 +15,5 @@ pub mod Spelling
 pub mod Taking
 pub mod Visits
 pub mod Wholes
+pub mod WholeConditions
+pub mod WhereNames

@@ -162,7 +162,7 @@ plain_link : (P Q : Type 0) (s : Sign) (a b : List Token) → ((P × (a ≡ b)) 
 plain_link P Q s a b (inl h) = inl (h.0, ap plain h.1)
 plain_link P Q s a b (inr h) = inr (h.0, plain_sign s a b h.1)
 
-plain_formula : (c : Clause) (f : Formula) (from to : List Token) → IsFormula c f from to → IsFormula c f (plain from) (plain to)
+pub plain_formula : (c : Clause) (f : Formula) (from to : List Token) → IsFormula c f from to → IsFormula c f (plain from) (plain to)
 plain_formula c (says p) from to h = plain_predicate c p from to h
 plain_formula c (in_parentheses f) from to (r, (a, (b, (o, (h, cl))))) = (r, (plain a, (plain b, (plain_sign sign.OpenParen from a o, (plain_formula c f a b h, plain_sign sign.CloseParen b to cl)))))
 plain_formula c (is_truth f is) from to (r, (a, (h, i))) = (r, (plain a, (plain_formula c f from a h, plain_asked is a to i)))

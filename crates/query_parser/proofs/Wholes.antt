@@ -13,11 +13,11 @@ use Rattle.query_parser.specs.Grammar.{IsQuery}
 use Rattle.query_parser.specs.Limits.{depth_limit, depth_of, is_large_number, IsWithinLimits, TakesQueries, IsUnambiguous}
 use Rattle.query_parser.specs.declared.token.Token.{Token}
 
-all_fit : (ts : List Token) → All (λ t. is_large_number t.kind ≡ false) ts → Fits ⊥ ts
+pub all_fit : (ts : List Token) → All (λ t. is_large_number t.kind ≡ false) ts → Fits ⊥ ts
 all_fit [] h = tt
 all_fit (t ∷ ts) h = let head = All-head (λ t. is_large_number t.kind ≡ false) t ts h in (λ l. cc, all_fit ts (All-tail (λ t. is_large_number t.kind ≡ false) t ts h))
 
-any_fit : (ts : List Token) → Fits (Unit {0}) ts
+pub any_fit : (ts : List Token) → Fits (Unit {0}) ts
 any_fit [] = tt
 any_fit (t ∷ ts) = (λ l. tt, any_fit ts)
 
@@ -44,7 +44,7 @@ limited end ts q is = by_agreement (query_agrees (Unit {0}) depth_limit end q ts
     by_agreement (reads e d) = inl (rw e refl)
     by_agreement (stops x e h l) = inr (e, (rw h refl, l))
 
-limit_no_syntax : (at : ℕ) → IsLimit (Syntax at) → ⊥
+pub limit_no_syntax : (at : ℕ) → IsLimit (Syntax at) → ⊥
 limit_no_syntax at (inl h) = cc
 limit_no_syntax at (inr (n, h)) = cc
 
@@ -60,7 +60,7 @@ syntax_no_query end at ts (Err e) (inl h) r q is = by_limit (limited end ts q is
     by_limit (inl read) = cc
     by_limit (inr (f, (read, l))) = let fault : f ≡ Syntax at = cc in limit_no_syntax at (rw fault at l)
 
-one_answer : {V : Type 0} (r : Result V Refusal) (x y : V) → r ≡ Ok x → r ≡ Ok y → x ≡ y
+pub one_answer : {V : Type 0} (r : Result V Refusal) (x y : V) → r ≡ Ok x → r ≡ Ok y → x ≡ y
 one_answer r x y e f = cc
 
 pub unambiguous : IsUnambiguous

@@ -311,3 +311,11 @@ read_whole end ts = read_query depth_limit end ts >>= whole end
 -- the query that a text is, or its first fault
 unfoldable pub query_of : List ℕ → Result QueryShape Refusal
 query_of text = read_whole (length text) (tokens_of text)
+
+-- the condition of WHERE that tokens are, or their first fault
+unfoldable pub read_whole_condition : ℕ → List Token → Result Formula Refusal
+read_whole_condition end ts = read_condition Where depth_limit end ts >>= whole end
+
+-- the condition of WHERE that a text is, or its first fault
+unfoldable pub condition_of : List ℕ → Result Formula Refusal
+condition_of text = read_whole_condition (length text) (tokens_of text)

@@ -5,8 +5,9 @@ use Rattle.table_model.specs.Formula.{Formula, says, in_parentheses, is_truth, n
 use Rattle.table_model.specs.Query.{QueryShape}
 use Rattle.table_model.specs.declared.refusal.Refusal.{Refusal}
 use Rattle.table_model.specs.declared.refusal.Refusal.TheVariants.{Memory}
-use Rattle.query_parser.specs.Grammar.{IsQuery}
+use Rattle.query_parser.specs.Grammar.{IsQuery, IsCondition}
 use Rattle.query_parser.specs.Token.{is_large}
+use Rattle.query_parser.specs.declared.predicate.Clause.TheVariants.{Where}
 use Rattle.query_parser.specs.declared.token.Kind.{Kind}
 use Rattle.query_parser.specs.declared.token.Kind.TheVariants.{Identifier, Digits, Bad}
 use Rattle.query_parser.specs.declared.token.Kind.TheVariants as kind
@@ -56,3 +57,20 @@ IsNoQuery tokens = (q : QueryShape) → IsQuery q tokens [] → ⊥
 -- at most one query has the tokens
 abbrev pub IsUnambiguous : Type 0
 IsUnambiguous = (tokens : List Token) (p q : QueryShape) → IsQuery p tokens [] → IsQuery q tokens [] → p ≡ q
+
+-- at most depth_limit parentheses are open at once in a condition, and no literal has more than digit_limit digits after its leading zeros
+pub record IsConditionWithin (f : Formula) (tokens : List Token) : Type 0 where
+  pub levels : depth f ≤ depth_limit
+  pub literals : All (λ t. is_large_number t.kind ≡ false) tokens
+
+-- each condition of WHERE that is within the limits is answered, or Memory in its place
+abbrev pub TakesConditions : List Token → Result Formula Refusal → Type 0
+TakesConditions tokens result = (f : Formula) → IsCondition Where f tokens [] → IsConditionWithin f tokens → MatchResult result (λ answer. answer ≡ f) (λ fault. fault ≡ Memory)
+
+-- no condition of WHERE has the tokens
+abbrev pub IsNoCondition : List Token → Type 0
+IsNoCondition tokens = (f : Formula) → IsCondition Where f tokens [] → ⊥
+
+-- at most one condition of WHERE has the tokens
+abbrev pub ConditionsAreUnambiguous : Type 0
+ConditionsAreUnambiguous = (tokens : List Token) (f g : Formula) → IsCondition Where f tokens [] → IsCondition Where g tokens [] → f ≡ g

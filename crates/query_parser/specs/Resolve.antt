@@ -144,3 +144,13 @@ IsJudged table q (Err (NoSuchColumn at)) = (same_text q.table table.name ≡ tru
 IsJudged table q (Err (NotGrouped at)) =
     (same_text q.table table.name ≡ true) × (IsLeastPlace (is_missing table.columns) (in_query q) None × IsLeastPlace (is_ungrouped table.columns q.grouping) (in_query q) (Some at))
 IsJudged table q (Err other) = ⊥
+
+-- the first refusal of a condition's names: the least place of a column that the table has not
+abbrev pub resolved_condition : Table → Formula → Result (Unit {0}) Refusal
+resolved_condition table f = verdict (places table.columns [] (None, None) (in_formula false f))
+
+-- what a condition's names are to a table: refused is the least place of a column that the table has not, and nothing else
+abbrev pub IsConditionJudged : Table → Formula → Result (Unit {0}) Refusal → Type 0
+IsConditionJudged table f (Ok _) = IsLeastPlace (is_missing table.columns) (in_formula false f) None
+IsConditionJudged table f (Err (NoSuchColumn at)) = IsLeastPlace (is_missing table.columns) (in_formula false f) (Some at)
+IsConditionJudged table f (Err other) = ⊥

@@ -231,3 +231,7 @@ Finds (Err e) fault = (fault ≡ Some e) ⊎ (e ≡ Memory)
 -- the first fault of a text, as a whole query
 unfoldable pub text_fault : List ℕ → Option Refusal
 text_fault text = first_fault (length text) (a_query ∷ []) (tokens_of text)
+
+-- the first fault of a text that is to be a condition of WHERE, if it has one
+unfoldable pub condition_fault : List ℕ → Option Refusal
+condition_fault text = first_fault (length text) (a_condition Where ∷ []) (tokens_of text)

@@ -12,7 +12,9 @@ mod predicate;
 mod query;
 mod select;
 mod token;
+mod where_text;
 
-pub use laws::{keywords_are_reserved, texts_are_unambiguous};
-pub use names::resolve;
+pub use laws::{conditions_are_unambiguous, keywords_are_reserved, texts_are_unambiguous};
+pub use names::{resolve, resolve_condition};
 pub use query::parse;
+pub use where_text::parse_condition;

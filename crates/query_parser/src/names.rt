@@ -1,8 +1,8 @@
 //! Whether a query's names are those of a table.
-ghost use Rattle.std.specs.Prelude.{◌≡◌, ℕ, ◌<◌, ◌≤◌, length, None, slice_index_or, false};
+ghost use Rattle.std.specs.Prelude.{◌≡◌, ℕ, ◌<◌, ◌≤◌, length, None, slice_index_or, false, []};
 ghost use Rattle.table_model.specs.Query.{formula_of_term, formula_of_factor};
 ghost use Rattle.table_model.specs.Table.{column_limit};
-ghost use Rattle.query_parser.specs.Resolve.{places, sooner, visited, verdict, resolved, is_grouped, in_function, in_operand, in_predicate, in_formula, in_clause, in_items, in_value, in_grouping, in_query, IsJudged};
+ghost use Rattle.query_parser.specs.Resolve.{places, sooner, visited, verdict, resolved, is_grouped, in_function, in_operand, in_predicate, in_formula, in_clause, in_items, in_value, in_grouping, in_query, IsJudged, resolved_condition, IsConditionJudged};
 
 use table_model::{
     Column, ColumnMention, Condition, Factor, Item, ItemValue, MAX_COLUMNS, Operand, Predicate,
@@ -236,4 +236,22 @@ fn judge(query: &Query, schema: &Schema) -> Result<(), Refusal>
         return Err(Refusal::NoSuchTable);
     }
     verdict(in_query(query, schema.column_list()))
+}
+
+/// The places of all columns that a condition of WHERE names.
+fn in_where(condition: &Condition, columns: &[Column]) -> Places
+    requires { length columns.now ≤ column_limit }
+    ensures { result ≡ places columns.now [] (None, None) (in_formula false condition.now) }
+{
+    let names = Names::new(columns, &[]);
+    in_condition(&names, (None, None), condition, false)
+}
+
+/// Whether the names of a condition of WHERE are those of the table: `NoSuchColumn` has the least place of a column that the table
+/// has not. Names are compared as by [`resolve`]. It takes no memory.
+pub fn resolve_condition(condition: &Condition, schema: &Schema) -> Result<(), Refusal>
+    ensures resolved { result ≡ resolved_condition schema.now condition.now }
+    ensures judged { IsConditionJudged schema.now condition.now result }
+{
+    verdict(in_where(condition, schema.column_list()))
 }

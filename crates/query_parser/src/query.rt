@@ -17,7 +17,7 @@ use std::alloc::Global;
 use table_model::{ColumnMention, Condition, Item, Name, Query, Refusal};
 
 /// The most parentheses that may be open at once round conditions.
-const MAX_DEPTH: usize = 64;
+pub(crate) const MAX_DEPTH: usize = 64;
 
 /// The query that the text is, in a profile of the query specifications of ISO/IEC 9075:1992, clause 7.9.
 ///

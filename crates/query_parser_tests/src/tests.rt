@@ -1,9 +1,9 @@
 //! Queries and their faults, worked out by hand from the grammar.
-use expectations::{agree, agree_at};
 use query_parser::{parse, resolve};
 use std::alloc::{AllocError, Global};
 use std::test::Fail;
 use table_model::{ColType, ColumnMention, Item, ItemValue, Name, Query, Refusal, Schema};
+use test_support::{agree, agree_at};
 
 // Each production of the grammar, and each choice of it.
 const LONG: &str =

@@ -1,5 +1,5 @@
 -- No call takes anything from a replica: a batch comes under a free name, and deletions and other replicas' batches are added.
-use Rattle.std.specs.Prelude.{◌≡◌, ℕ, true, false, cond, ◌||◌, IsTrue, Some, None, Result, Ok, Err}
+use Rattle.std.specs.Prelude.{◌≡◌, List, ℕ, true, false, cond, ◌||◌, IsTrue, Some, None, Result, Ok, Err}
 use Rattle.std.proofs.Common.{refl, ap, subst, ◌∙◌}
 use Rattle.std.specs.Ordering.{eq_by_cmp}
 use Rattle.std.specs.FinMap as map
@@ -14,7 +14,7 @@ use Rattle.table_model.proofs.Joins.{or_else, get-union}
 use Rattle.table_model.proofs.Operations.{same_name}
 use Rattle.replica_store.specs.declared.inserted.Inserted.{Inserted}
 use Rattle.replica_store.specs.declared.inserted.Inserted.TheVariants.{New, Already}
-use Rattle.replica_store.specs.Replica.{Replica, with_batch, with_join, with_deleted, rows_between, next_name, place_for, then_added, then_placed, joined_with, deleted_rows, delete_fault}
+use Rattle.replica_store.specs.Replica.{Replica, with_batch, with_join, with_deleted, rows_between, next_name, place_for, then_added, then_placed, joined_with, deleted_rows, delete_fault, deleted_names, names_fault}
 use Rattle.replica_store.specs.MergeLaws.{Merges}
 use Rattle.replica_store.specs.Exchange.{offering}
 use Rattle.replica_store.specs.ExchangeLaws.{HasGrown, GrowthLaws}
@@ -59,11 +59,11 @@ grown_join r s = record {
   deletions = λ row has. in_first r.state.deleted s.deleted row has;
 }
 
-grown_deleted : (r : Replica) (first : RowName) (last : ℕ) → HasGrown r (with_deleted r (rows_between first last))
-grown_deleted r first last = record {
+grown_deleted : (r : Replica) (rows : List RowName) → HasGrown r (with_deleted r rows)
+grown_deleted r rows = record {
   schema = refl;
   batches = λ q held has. has;
-  deletions = λ row has. in_first r.state.deleted (set.from_list (rows_between first last)) row has;
+  deletions = λ row has. in_first r.state.deleted (set.from_list rows) row has;
 }
 
 added : (r new : Replica) (rows : Batch) (name : BatchName) (decided : Result BatchName Refusal) → next_name r rows ≡ decided → then_added r rows decided ≡ Ok (name, new) → HasGrown r new
@@ -79,7 +79,13 @@ deleted : (r new : Replica) (first : RowName) (last : ℕ) → deleted_rows r fi
 deleted r new first last is =
     let made = with_deleted r (rows_between first last) in
     let met = ok_unless (delete_fault first last) (Ok (tt, made)) (tt, new) is in
-    grown_as r made new (made_of tt tt made new met.1) (grown_deleted r first last)
+    grown_as r made new (made_of tt tt made new met.1) (grown_deleted r (rows_between first last))
+
+deleted_all : (r new : Replica) (rows : List RowName) → deleted_names r rows ≡ Ok (tt, new) → HasGrown r new
+deleted_all r new rows is =
+    let made = with_deleted r rows in
+    let met = ok_unless (names_fault rows) (Ok (tt, made)) (tt, new) is in
+    grown_as r made new (made_of tt tt made new met.1) (grown_deleted r rows)
 
 pub grown_merge : (r other new : Replica) → Merges r other new → HasGrown r new
 grown_merge r other new is = let done = is_merge r other new is in grown_as r (with_join r other) new done.made (grown_join r other.state)
@@ -91,6 +97,7 @@ growth_laws_hold = record {
   append = λ r new rows name is. added r new rows name (next_name r rows) refl is;
   insert = λ r new name rows answer is. placed r new name rows answer (place_for r name rows) refl is;
   delete = deleted;
+  delete_all = deleted_all;
   merge = grown_merge;
   apply = λ r new offer is. grown_merge r (offering r.own offer) new is;
 }

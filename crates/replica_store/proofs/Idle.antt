@@ -71,7 +71,7 @@ pub answer_same : (made : Result (Unit {0} × Replica) Refusal) (new old : Repli
 answer_same made new old is same = ap (λ (p : Unit {0} × Replica). p.1) (same_Ok (tt, new) (tt, old) (sym is ∙ same))
 
 -- a call that leaves the replica has no fault, and makes what it was
-no_fault : (o : Option Refusal) (new old : Replica) → unless_fault {X = Unit {0} × Replica} o (Ok (tt, new)) ≡ Ok (tt, old) → (o ≡ None) × (new ≡ old)
+pub no_fault : (o : Option Refusal) (new old : Replica) → unless_fault {X = Unit {0} × Replica} o (Ok (tt, new)) ≡ Ok (tt, old) → (o ≡ None) × (new ≡ old)
 no_fault None new old is = (refl, answer_same (Ok (tt, new)) new old refl is)
 no_fault (Some fault) new old is = absurd (no_answer {X = Unit {0} × Replica} (Err fault) fault (tt, old) refl is)
 

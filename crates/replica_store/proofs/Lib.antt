@@ -19,4 +19,5 @@ pub mod VectorPlaces
 pub mod ExchangeAnswers
 pub mod Growth
 pub mod Idle
+pub mod RowLists
 pub mod RecodeAnswers

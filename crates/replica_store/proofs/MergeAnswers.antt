@@ -1,5 +1,5 @@
 -- A merge that answers Ok makes the join of both states, so that its laws are those of join.
-use Rattle.std.specs.Prelude.{◌≡◌, ℕ, ◌≤◌, true, false, cond, nat_lt, Option, Some, None, Result, Ok, Err}
+use Rattle.std.specs.Prelude.{◌≡◌, List, ℕ, ◌≤◌, true, false, cond, nat_lt, Option, Some, None, Result, Ok, Err}
 use Rattle.std.proofs.Common.{refl, sym, ap, subst, ◌∙◌, arith}
 use Rattle.std.proofs.lemmas.Bool.Decides.{nat_tests}
 use Rattle.std.specs.FinMap as map
@@ -13,7 +13,7 @@ use Rattle.table_model.proofs.Joins.{join-commutative, join-associative, join-ag
 use Rattle.table_model.proofs.SameTable.{one_table, itself_table}
 use Rattle.replica_store.specs.declared.inserted.Inserted.{Inserted}
 use Rattle.replica_store.specs.declared.inserted.Inserted.TheVariants.{New, Already}
-use Rattle.replica_store.specs.Replica.{Replica, with_batch, with_join, with_deleted, rows_between, unless_fault, next_name, place_for, then_added, then_placed, deleted_rows, delete_fault, merge_fault, conflict_or_full, batch_limit}
+use Rattle.replica_store.specs.Replica.{Replica, with_batch, with_join, with_deleted, rows_between, unless_fault, next_name, place_for, then_added, then_placed, deleted_rows, delete_fault, deleted_names, names_fault, merge_fault, conflict_or_full, batch_limit}
 use Rattle.replica_store.specs.MergeLaws.{Merges, Keeps, with_state, conflict_of, MergeLaws, KeepingLaws}
 use Rattle.replica_store.proofs.Conflicts.{agree_without, none_agreeing, conflicts}
 use Rattle.replica_store.proofs.RecodeAnswers.{recode_laws_hold}
@@ -113,11 +113,18 @@ deleted r new first last e =
     let met = ok_unless (delete_fault first last) (Ok (tt, made)) (tt, new) e in
     kept r made new (made_of tt tt made new met.1) (record { schema = refl; own = refl })
 
+deleted_all : (r new : Replica) (rows : List RowName) → deleted_names r rows ≡ Ok (tt, new) → Keeps r new
+deleted_all r new rows e =
+    let made = with_deleted r rows in
+    let met = ok_unless (names_fault rows) (Ok (tt, made)) (tt, new) e in
+    kept r made new (made_of tt tt made new met.1) (record { schema = refl; own = refl })
+
 pub keeping_laws_hold : KeepingLaws
 keeping_laws_hold = record {
   append = λ r new rows name e. added r new rows name (next_name r rows) e;
   insert = λ r new name rows answer e. placed r new name rows answer (place_for r name rows) e;
   delete = deleted;
+  delete_all = deleted_all;
   merge = λ r other new e. kept r (with_join r other) new (is_merge r other new e).made (record { schema = refl; own = refl });
   recode = recode_laws_hold;
 }

@@ -1,12 +1,12 @@
 -- The law of late offers: what a replica has once an offer is applied, however late and however often it comes.
-use Rattle.std.specs.Prelude.{◌≡◌, ℕ, ◌≤◌, cond, IsTrue, Some, None, Ok}
+use Rattle.std.specs.Prelude.{◌≡◌, List, ℕ, ◌≤◌, cond, IsTrue, Some, None, Ok}
 use Rattle.std.specs.FinMap as map
 use Rattle.std.specs.FinSet as set
 use Rattle.table_model.specs.State.{Batch, Agree, union_of}
 use Rattle.table_model.specs.declared.names.BatchName.{BatchName}
 use Rattle.table_model.specs.declared.names.RowName.{RowName}
 use Rattle.replica_store.specs.declared.inserted.Inserted.{Inserted}
-use Rattle.replica_store.specs.Replica.{Replica, batch_limit, appended, inserted, deleted_rows, joined_with}
+use Rattle.replica_store.specs.Replica.{Replica, batch_limit, appended, inserted, deleted_rows, deleted_names, joined_with}
 use Rattle.replica_store.specs.MergeLaws.{Merges}
 use Rattle.replica_store.specs.Exchange.{SummaryForm, OfferForm, summary_of, offered, applied}
 
@@ -42,6 +42,7 @@ pub record GrowthLaws : Type 0 where
   pub append : (r new : Replica) (rows : Batch) (name : BatchName) → appended r rows ≡ Ok (name, new) → HasGrown r new
   pub insert : (r new : Replica) (name : BatchName) (rows : Batch) (answer : Inserted) → inserted r name rows ≡ Ok (answer, new) → HasGrown r new
   pub delete : (r new : Replica) (first : RowName) (last : ℕ) → deleted_rows r first last ≡ Ok (tt, new) → HasGrown r new
+  pub delete_all : (r new : Replica) (rows : List RowName) → deleted_names r rows ≡ Ok (tt, new) → HasGrown r new
   pub merge : (r other new : Replica) → Merges r other new → HasGrown r new
   pub apply : (r new : Replica) (offer : OfferForm) → Applies r offer new → HasGrown r new
 

@@ -1,5 +1,5 @@
 -- The laws of merge, and of what each call keeps, said of the replicas that calls make.
-use Rattle.std.specs.Prelude.{◌≡◌, ◌≢◌, ◌↔◌, ℕ, true, Option, Some, None, Ok}
+use Rattle.std.specs.Prelude.{◌≡◌, List, ◌≢◌, ◌↔◌, ℕ, true, Option, Some, None, Ok}
 use Rattle.std.specs.Ordering.{is_lt}
 use Rattle.std.specs.FinMap as map
 use Rattle.table_model.specs.Name.{name_cmp}
@@ -8,7 +8,7 @@ use Rattle.table_model.specs.declared.names.BatchName.{BatchName}
 use Rattle.table_model.specs.declared.names.RowName.{RowName}
 use Rattle.replica_store.specs.declared.inserted.Inserted.{Inserted}
 use Rattle.replica_store.specs.RecodeLaws.{RecodeLaws}
-use Rattle.replica_store.specs.Replica.{Replica, entries_of, conflict_with, appended, inserted, deleted_rows, merged}
+use Rattle.replica_store.specs.Replica.{Replica, entries_of, conflict_with, appended, inserted, deleted_rows, deleted_names, merged}
 
 -- the first of two names is the lesser one
 abbrev pub IsLesser : BatchName → BatchName → Type 0
@@ -62,5 +62,6 @@ pub record KeepingLaws : Type 0 where
   pub append : (r new : Replica) (rows : Batch) (name : BatchName) → appended r rows ≡ Ok (name, new) → Keeps r new
   pub insert : (r new : Replica) (name : BatchName) (rows : Batch) (answer : Inserted) → inserted r name rows ≡ Ok (answer, new) → Keeps r new
   pub delete : (r new : Replica) (first : RowName) (last : ℕ) → deleted_rows r first last ≡ Ok (tt, new) → Keeps r new
+  pub delete_all : (r new : Replica) (rows : List RowName) → deleted_names r rows ≡ Ok (tt, new) → Keeps r new
   pub merge : (r other new : Replica) → Merges r other new → Keeps r new
   pub recode : RecodeLaws

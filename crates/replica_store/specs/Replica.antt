@@ -3,6 +3,7 @@ use Rattle.std.specs.Prelude.{◌≡◌, ℕ, ◌+◌, ◌/◌, ◌≤◌, max, 
 use Rattle.std.specs.Coded.{Coded, code_by, coded×, coded_ℕ}
 use Rattle.std.specs.FinMap as map
 use Rattle.std.specs.FinSet as set
+use Rattle.std.specs.List.{list_all}
 use Rattle.table_model.specs.Name.{name_cmp, is_proper_name}
 use Rattle.table_model.specs.State.{State, Batch, coded_state, empty_state, union_of, join, same_rows}
 use Rattle.table_model.specs.Table.{Table, coded_table, rows_fault, same_table, IsBatch}
@@ -48,7 +49,7 @@ pub record AreKept {X : Type 0} (es : List (BatchName × X)) (held : set.FinSet 
 
 -- how many batches a replica may have
 abbrev pub batch_limit : ℕ
-batch_limit = 65536
+batch_limit = 1048576
 
 -- the replica with one more batch
 abbrev pub with_batch : Replica → BatchName → Batch → Replica
@@ -139,6 +140,14 @@ delete_fault first last = cond (is_proper_name first.batch) (cond (nat_lt last f
 -- delete: the ordinals of a batch from the first's to the last are deleted
 abbrev pub deleted_rows : Replica → RowName → ℕ → Result (Unit {0} × Replica) Refusal
 deleted_rows r first last = unless_fault (delete_fault first last) (Ok (tt, with_deleted r (rows_between first last)))
+
+-- why a delete of some rows is refused: the name of one's batch isn't proper
+unfoldable pub names_fault : List RowName → Option Refusal
+names_fault rows = cond (list_all (λ row. is_proper_name row.batch) rows) None (Some BadName)
+
+-- a delete of some rows, held or not: all of them are deleted
+abbrev pub deleted_names : Replica → List RowName → Result (Unit {0} × Replica) Refusal
+deleted_names r rows = unless_fault (names_fault rows) (Ok (tt, with_deleted r rows))
 
 -- how many vectors rows take
 abbrev pub vectors_of : Batch → ℕ

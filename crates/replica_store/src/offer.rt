@@ -42,7 +42,7 @@ impl Model for Offer {
 }
 
 impl Offer {
-    /// The offer of these batches, at most 65,536 in ascending order of name, and these deleted rows. It takes no memory.
+    /// The offer of these batches, at most 1,048,576 in ascending order of name, and these deleted rows. It takes no memory.
     pub fn from_parts(schema: Schema, entries: Vec<(BatchName, Segment)>, tombs: Tombs) -> Offer
         requires { AreOffered schema entries.items }
         ensures schema { result.schema ≡ schema }

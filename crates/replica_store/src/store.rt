@@ -2,7 +2,7 @@
 //! change.
 ghost use Rattle.std.specs.Prelude.{◌++◌, ◌≡◌, ◌<◌, ◌≤◌, slice_get, Some, None, Ok, Err, true, IsOk, IfOk, IfErr, OnOk, OnErr, IsTrue, T};
 ghost use Rattle.std.specs.FinMap as map;
-ghost use Rattle.std.specs.List.{All};
+ghost use Rattle.std.specs.List.{All, list_all};
 ghost use Rattle.table_model.specs.Name.{name_cmp, is_proper_name};
 ghost use Rattle.table_model.specs.Outcome.{Acts, Gives, unless};
 ghost use Rattle.table_model.specs.State.{union_of};
@@ -11,7 +11,7 @@ ghost use Rattle.segment_core.specs.Segment.{canonical_segment, widths_in, width
 ghost use Rattle.segment_core.specs.SegmentBytes.{HasBytesIn};
 ghost use Rattle.replica_store.specs.Exchange.{summary_of, offered, unlisted, applied, opened};
 ghost use Rattle.replica_store.specs.Parted.{AreParted};
-ghost use Rattle.replica_store.specs.Replica.{Replica, IsWithinLimits, new_replica, entries_of, names_of, appended, inserted, merged, merge_fault, next_name, place_for, replica_with, with_batch, joined_with, deleted_rows, delete_fault, recoded_rows, recode_fault, batch_limit};
+ghost use Rattle.replica_store.specs.Replica.{Replica, IsWithinLimits, new_replica, entries_of, names_of, appended, inserted, merged, merge_fault, next_name, place_for, replica_with, with_batch, joined_with, deleted_rows, delete_fault, deleted_names, names_fault, recoded_rows, recode_fault, batch_limit};
 ghost use Rattle.replica_store.specs.Segments.{rows_in, recoded_in, AreStored, IsStored, IsSoundStore, HasVector};
 ghost use Rattle.segment_core.specs.declared.coding.Coding.{Coding};
 ghost use Rattle.replica_store.specs.declared.inserted.Inserted.TheVariants.{New, Already};
@@ -28,7 +28,7 @@ use table_model::{BatchName, Number, Origin, Refusal, Row, RowName, Schema, chec
 use transpose_order::VECTOR_ROWS;
 
 /// How many batches a store may have.
-pub const MAX_BATCHES: usize = 65_536;
+pub const MAX_BATCHES: usize = 1_048_576;
 
 /// The greatest number that a batch may have.
 const LAST_NUMBER: u32 = u32::MAX;
@@ -152,7 +152,7 @@ impl Store {
     /// Puts the rows in as a batch of the own origin, with one more than the greatest number that is held of it, else 1.
     ///
     /// Refused are, in this order: the faults of [`check_rows`], `NumbersSpent` where 4,294,967,295 is held, `Full` where
-    /// 65,536 batches are held, `Memory`.
+    /// 1,048,576 batches are held, `Memory`.
     pub fn append(&mut self, alloc: Global, rows: &[Row]) -> Result<BatchName, Refusal>
         ensures acts { Acts (λ name. name) self.old.replica result self.new.replica (appended self.old.replica rows.now) }
         ensures segments { IfOk result (λ name. self.new.segments ≡ map.insert self.old.segments name (canonical_segment self.old.replica.schema rows.now)) }
@@ -166,7 +166,7 @@ impl Store {
     /// Puts the rows in as the batch of this name.
     ///
     /// Refused are, in this order: the faults of [`check_rows`], `BadName` where the origin or the number is 0, `Conflict`
-    /// where the name is held with other rows, `Full` where 65,536 batches are held, `Memory`. A name that is held with the
+    /// where the name is held with other rows, `Full` where 1,048,576 batches are held, `Memory`. A name that is held with the
     /// same rows is `Already`, also in a full store, and takes no memory.
     pub fn insert(
         &mut self,
@@ -204,10 +204,29 @@ impl Store {
         Ok(())
     }
 
+    /// Deletes some rows, held here or not, in whatever order and however often they come.
+    ///
+    /// Refused are, in this order: `BadName` where the origin or the number of a row's batch is 0, `Memory`. Where all of them are
+    /// deleted already it takes no memory.
+    pub fn delete_all(&mut self, alloc: Global, rows: &[RowName]) -> Result<(), Refusal>
+        ensures acts { Acts (λ done. done) self.old.replica result self.new.replica (deleted_names self.old.replica rows.now) }
+        ensures segments { self.new.segments ≡ self.old.segments }
+        ensures idle { deleted_names self.old.replica rows.now ≡ Ok (tt, self.old.replica) → IsOk result }
+        ensures refused { OnErr result (self.new ≡ self.old) }
+    {
+        names_fault(rows)?;
+        if self.tombs.holds_all(rows) {
+            return Ok(());
+        }
+        let more = Tombs::from_rows(alloc, rows)?;
+        self.tombs.join(&more)?;
+        Ok(())
+    }
+
     /// Takes in the other store's batches and deletions, so that the state becomes the join of both.
     ///
     /// Refused are, in this order: `SchemaDiffers`, `Conflict` with the least name that has two lists of rows, `Full` where
-    /// the union has more than 65,536 batches, `Memory`. The own origin stays. Where nothing is lacked it takes no memory.
+    /// the union has more than 1,048,576 batches, `Memory`. The own origin stays. Where nothing is lacked it takes no memory.
     pub fn merge(&mut self, alloc: Global, other: &Store) -> Result<(), Refusal>
         ensures acts { Acts (λ done. done) self.old.replica result self.new.replica (merged self.old.replica other.now.replica) }
         ensures segments { OnOk result (self.new.segments ≡ union_of self.old.segments other.now.segments) }
@@ -255,7 +274,7 @@ impl Store {
     /// and one that comes has those of the offer.
     ///
     /// Refused are, in this order: `SchemaDiffers`, `Conflict` with the least name that has two lists of rows, `Full` where
-    /// the union has more than 65,536 batches, `Memory`. The own origin stays. Where nothing is lacked it takes no memory.
+    /// the union has more than 1,048,576 batches, `Memory`. The own origin stays. Where nothing is lacked it takes no memory.
     pub fn apply(&mut self, alloc: Global, offer: &Offer) -> Result<(), Refusal>
         ensures acts { Acts (λ done. done) self.old.replica result self.new.replica (applied self.old.replica offer.now) }
         ensures segments { OnOk result (self.new.segments ≡ union_of self.old.segments offer.now.segments) }
@@ -434,6 +453,25 @@ fn has_vector(segment: &Segment, column: usize, vector: usize) -> bool
 {
     let vectors = segment.rows().div_ceil(VECTOR_ROWS);
     column < segment.columns() && vector < vectors
+}
+
+/// Whether the batches of all rows have proper names.
+fn are_proper(rows: &[RowName]) -> bool
+    ensures { result ≡ list_all (λ row. is_proper_name row.batch) rows.now }
+{
+    rows.iter().all(|row| row.batch.is_proper())
+}
+
+/// Why a delete of some rows is refused, if it is.
+#[tactic(auto, unfolding(crate::specs::Replica::names_fault))]
+fn names_fault(rows: &[RowName]) -> Result<(), Refusal>
+    ensures { result ≡ unless (names_fault rows.now) }
+{
+    if are_proper(rows) {
+        Ok(())
+    } else {
+        Err(Refusal::BadName)
+    }
 }
 
 /// Why a delete is refused, if it is.

@@ -8,7 +8,7 @@ use std::alloc::Global;
 use std::marker::Model;
 use table_model::{Refusal, Schema};
 
-/// The names of the batches that a replica of a table has, at most 65,536, by which another replica tells what to offer.
+/// The names of the batches that a replica of a table has, at most 1,048,576, by which another replica tells what to offer.
 /// Contracts see the schema and the set of the names.
 #[derive(Drop)]
 pub struct Summary {
@@ -40,7 +40,7 @@ impl Summary {
         })
     }
 
-    /// The summary of a table with these names, at most 65,536, all of them proper. It takes no memory.
+    /// The summary of a table with these names, at most 1,048,576, all of them proper. It takes no memory.
     pub fn from_parts(schema: Schema, names: Held) -> Summary
         requires { AreListable names }
         ensures { result ≡ record { schema = schema; names = names } }
@@ -55,7 +55,7 @@ impl Summary {
         &self.schema
     }
 
-    /// The names, at most 65,536, all of them proper.
+    /// The names, at most 1,048,576, all of them proper.
     pub fn names(&self) -> &Held
         ensures value { result.now ≡ self.now.names }
         ensures listable { AreListable result.now }

@@ -7,12 +7,12 @@
 //! only lent, and what the call needs is made by one function for all calls that need the same.
 use crate::exchange_tests::{offer_after, summary_after};
 use crate::tests::{Deleted, OneColumn, Told, is_state, name, row_name, rows_of, told_store};
-use expectations::growth_refused;
 use replica_store::{Offer, Store, Summary};
 use segment_core::Coding;
 use std::alloc::Global;
 use std::test::Fail;
 use table_model::{ColType, Origin, Refusal, Row, Schema};
+use test_support::growth_refused;
 
 /// What the store of these tests holds.
 const HELD: &[Told] = &[Told::Batch(1, 1, &[10, 11]), Told::Deletion(1, 1, 0, 0)];

@@ -1,11 +1,10 @@
 //! Calls that grow, each with a growth refused. A test's own growths are counted from 1: with the Nth refused, a test fails by an
 //! `AllocError` of its set-up, or, where it was a growth of the call that it is of, as `growth_refused` says; with none refused
 //! it passes. The command `tests/refused-memory` refuses each in turn and counts those texts.
-use column_patterns::{Pattern, column};
-use expectations::{agree, growth_refused};
 use run_dictionary::{Dict, Runs};
 use std::alloc::{AllocError, Global};
 use std::test::Fail;
+use test_support::{Pattern, agree, column, growth_refused};
 
 /// A vector of two values, so that a dictionary has packed codes of it.
 const TWO_PARTS: Pattern = Pattern::ChangedAt(500, 0, 9);

@@ -4,11 +4,10 @@ ghost use Rattle.transpose_order.specs.Place.{IsLaneWidth};
 ghost use Rattle.bit_interleave.specs.Range.{AreInRange};
 
 use bit_interleave::{Values, Words};
-use column_patterns::{Pattern, column};
-use expectations::agree;
 use run_dictionary::{Dict, Runs};
 use std::alloc::Global;
 use std::test::Fail;
+use test_support::{Pattern, agree, column};
 use transpose_order::Mask;
 
 /// The runs at 16 bits have 0 up to row 499, and 32767 from row 500 on, which is bit 4 of byte 62, so bit 52 of word 7.

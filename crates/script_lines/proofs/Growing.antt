@@ -1,10 +1,11 @@
 -- The words of which further words are kept.
-use Rattle.std.specs.Prelude.{◌≡◌, ℕ, true, List, codes, Result, Ok, Err, IsTrue, IfErr}
+use Rattle.std.specs.Prelude.{◌≡◌, ℕ, true, List, codes, Some, is_some, Result, Ok, Err, IsTrue, IfErr}
+use Rattle.std.proofs.Common.{sym, ap}
 use Rattle.std.specs.Str.{bytes_eq}
 use Rattle.std.proofs.lemmas.Bool.{or_left, or_right}
 use Rattle.table_model.specs.declared.refusal.Refusal.{Refusal}
 use Rattle.table_model.specs.declared.refusal.Refusal.TheVariants.{Memory}
-use Rattle.script_lines.specs.Line.{grows}
+use Rattle.script_lines.specs.Line.{grows, may_grow, where_words}
 
 pub grows_table : (word : List ℕ) → bytes_eq word (codes "table") ≡ true → IsTrue (grows word)
 unfolding grows
@@ -32,3 +33,23 @@ grows_query word e =
 pub may_lack : {X : Type 0} (r : Result X Refusal) (word : List ℕ) → IsTrue (grows word) → IfErr r (λ e. e ≡ Memory → IsTrue (grows word))
 may_lack (Ok x) word h = tt
 may_lack (Err e) word h = λ _. h
+
+-- a word of which further words are kept, whatever these are
+grows_already : (word text : List ℕ) → IsTrue (grows word) → IsTrue (may_grow word text)
+unfolding may_grow
+grows_already word text h = or_left (grows word) _ h
+
+-- delete, where the second word is where
+pub grows_where : (word text rest : List ℕ) → Some rest ≡ where_words word text → IsTrue (may_grow word text)
+unfolding may_grow
+grows_where word text rest is = or_right (grows word) _ (ap is_some (sym is))
+
+-- memory that may lack for the first word alone may lack for it and the words that follow
+pub may_lack_more : {X : Type 0} (r : Result X Refusal) (word text : List ℕ) → IfErr r (λ e. e ≡ Memory → IsTrue (grows word)) → IfErr r (λ e. e ≡ Memory → IsTrue (may_grow word text))
+may_lack_more (Ok x) word text h = tt
+may_lack_more (Err e) word text h = λ lack. grows_already word text (h lack)
+
+-- whatever is answered, memory may lack where these words are kept
+pub may_lack_where : {X : Type 0} (r : Result X Refusal) (word text : List ℕ) → IsTrue (may_grow word text) → IfErr r (λ e. e ≡ Memory → IsTrue (may_grow word text))
+may_lack_where (Ok x) word text h = tt
+may_lack_where (Err e) word text h = λ _. h

@@ -1,5 +1,5 @@
 -- The lines of a script: which are commands, and which steps they ask for.
-use Rattle.std.specs.Prelude.{ℕ, suc, length, Bool, IsTrue, cond, ◌&&◌, ◌||◌, nat_le, List, [], ◌∷◌, codes, Option, Some, None, option_map}
+use Rattle.std.specs.Prelude.{ℕ, suc, length, Bool, IsTrue, cond, ◌&&◌, ◌||◌, nat_le, List, [], ◌∷◌, codes, Option, Some, None, is_some, option_map}
 use Rattle.std.specs.List.{list_all}
 use Rattle.std.specs.Option.{IsSomeAnd}
 use Rattle.std.specs.Str.{bytes_eq}
@@ -8,7 +8,7 @@ use Rattle.table_model.specs.declared.schema.ColType.{ColType}
 use Rattle.script_lines.specs.Word.{◌>>=◌, cut, pieces, number_of, number_digits, small_number, ordinal_of, name_of, rows_of, coding_of, some_text, file_of}
 use Rattle.script_lines.specs.TableWords.{replica_limit, TableWords}
 use Rattle.script_lines.specs.declared.step.Step.{Step}
-use Rattle.script_lines.specs.declared.step.Step.TheVariants.{Append, Insert, Delete, Merge, Ask, Serve, Take, Recode, Open, Export, Query}
+use Rattle.script_lines.specs.declared.step.Step.TheVariants.{Append, Insert, Delete, DeleteWhere, Merge, Ask, Serve, Take, Recode, Open, Export, Query}
 use Rattle.script_lines.specs.declared.command.Command.{Command}
 use Rattle.script_lines.specs.declared.command.Command.TheVariants.{Table, Act}
 
@@ -42,6 +42,17 @@ delete_words replica text = do
   first ← ordinal_of ordinals.0
   last ← ordinal_of ordinals.1
   Some (Delete replica (record { batch = batch; ordinal = first }) last)
+
+-- what follows the first word `delete` and the second word `where`, where the words begin so
+unfoldable pub where_words : List ℕ → List ℕ → Option (List ℕ)
+where_words word text = cond (bytes_eq word (codes "delete")) (cut 32 text >>= (λ parts. cond (bytes_eq parts.0 (codes "where")) (Some parts.1) None)) None
+
+-- delete where R COND, where COND is the rest of the line
+unfoldable pub delete_where_words : List ℕ → Option Step
+delete_where_words text = do
+  at ← addressed text
+  condition ← some_text at.1
+  Some (DeleteWhere at.0 condition)
 
 -- merge R Q
 unfoldable pub merge_words : ℕ → List ℕ → Option Step
@@ -116,11 +127,16 @@ longer_step word text = do
   at ← addressed text
   step_words word at.0 at.1
 
+-- the step of a line's first word and the words that follow it, which a delete's second word `where` may lead
+abbrev pub where_or_longer : List ℕ → List ℕ → Option (List ℕ) → Option Step
+where_or_longer word text (Some rest) = delete_where_words rest
+where_or_longer word text None = longer_step word text
+
 -- the step of a line's first word and the words that follow it
 unfoldable pub step_line : List ℕ → List ℕ → Option Step
 step_line word text =
     cond (bytes_eq word (codes "ask")) (ask_words text)
-    (cond (bytes_eq word (codes "export")) (export_words text) (longer_step word text))
+    (cond (bytes_eq word (codes "export")) (export_words text) (where_or_longer word text (where_words word text)))
 
 -- a column: a name that isn't empty, and a type
 abbrev pub column_of : List ℕ → List ℕ → Option (List ℕ × ColType)
@@ -184,6 +200,10 @@ grows word =
     bytes_eq word (codes "table")
     || (bytes_eq word (codes "append") || (bytes_eq word (codes "insert") || (bytes_eq word (codes "open") || bytes_eq word (codes "query"))))
 
--- a line of which memory may be taken to read it: it is printable, and its first word, which a space ends, is table, append, insert, open or query
+-- whether further words are kept as they are read after a first word: it is one of those, or delete, and where is the second word
+unfoldable pub may_grow : List ℕ → List ℕ → Bool
+may_grow word text = grows word || is_some (where_words word text)
+
+-- a line of which memory may be taken to read it: it is printable, and its first word, which a space ends, is table, append, insert, open or query, or it begins with delete and where, which spaces end
 abbrev pub MayGrow : List ℕ → Type 0
-MayGrow line = IsTrue (list_all is_printable line) × IsSomeAnd (cut 32 line) (λ parts. IsTrue (grows parts.0))
+MayGrow line = IsTrue (list_all is_printable line) × IsSomeAnd (cut 32 line) (λ parts. IsTrue (may_grow parts.0 parts.1))

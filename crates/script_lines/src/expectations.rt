@@ -22,7 +22,9 @@ const APPEND: &str = "an append is written append R (V,..),(V,..)";
 
 const INSERT: &str = "an insert is written insert R O.N (V,..),(V,..)";
 
-const DELETE: &str = "a delete is written delete R O.N FIRST LAST";
+const DELETE: &str = "a delete is written delete R O.N FIRST LAST or delete where R COND";
+
+const WHERE: &str = "a delete by a condition is written delete where R COND";
 
 const MERGE: &str = "a merge is written merge R Q";
 
@@ -58,6 +60,8 @@ const CODING: &str = "a coding is FOR, DELTA, RLE or DICT";
 const HEX: &str = "a file is an even number of hexadecimal digits, not zero of them";
 
 const SQL: &str = "the SQL of a query is not empty";
+
+const CONDITION: &str = "the condition of a delete is not empty";
 
 /// What was expected of a line that is no command, once there is a table or before.
 pub fn expected(line: &[u8], has_table: bool) -> &'static str {
@@ -156,6 +160,9 @@ fn of_insert(text: &str) -> &'static str {
 
 /// What was expected after `delete`.
 fn of_delete(text: &str) -> &'static str {
+    if let Some(("where", rest)) = cut(text, ' ') {
+        return of_where(rest);
+    }
     let ordinals = match after_batch(text, DELETE) {
         Err(wanted) => return wanted,
         Ok(rest) => rest,
@@ -163,6 +170,14 @@ fn of_delete(text: &str) -> &'static str {
     match cut(ordinals, ' ') {
         None => DELETE,
         Some(_) => ORDINALS,
+    }
+}
+
+/// What was expected after `delete where`.
+fn of_where(text: &str) -> &'static str {
+    match after_replica(text, WHERE) {
+        Err(wanted) => wanted,
+        Ok(_) => CONDITION,
     }
 }
 

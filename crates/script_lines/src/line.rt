@@ -2,7 +2,7 @@
 ghost use Rattle.std.specs.Prelude.{◌≡◌, ◌≤◌, option_map, IfSome, IfErr, IsTrue};
 ghost use Rattle.std.specs.List.{list_all};
 ghost use Rattle.script_lines.specs.Reading.{ReadsPart};
-ghost use Rattle.script_lines.specs.Line.{addressed, append_words, insert_words, delete_words, merge_words, ask_words, serve_words, take_words, recode_words, open_words, export_words, query_words, step_words, longer_step, step_line, replicas_of, table_words, table_line, words_of, is_printable, command_of, grows, MayGrow};
+ghost use Rattle.script_lines.specs.Line.{addressed, append_words, insert_words, delete_words, where_words, delete_where_words, merge_words, ask_words, serve_words, take_words, recode_words, open_words, export_words, query_words, step_words, longer_step, step_line, replicas_of, table_words, table_line, words_of, is_printable, command_of, grows, may_grow, MayGrow};
 ghost use Rattle.script_lines.specs.TableWords.{replica_limit};
 
 use crate::columns::columns;
@@ -21,7 +21,7 @@ const MAX_REPLICAS: u128 = 64;
 /// The command that a line is, without its line feed; `BadLine` where it is none.
 ///
 /// Where memory lacks, `Memory` may come in place of either, but only for a line of printable bytes that begins with `table `,
-/// `append `, `insert `, `open ` or `query `: to read any other line no memory is taken.
+/// `append `, `insert `, `delete where `, `open ` or `query `: to read any other line no memory is taken.
 #[tactic(auto, unfolding(crate::specs::Line::command_of))]
 pub fn parse_line<'a>(alloc: Global, line: &'a [u8]) -> Result<Command<'a>, Refusal>
     ensures command { ReadsPart (λ command. command) result (command_of line.now) }
@@ -50,7 +50,7 @@ pub(crate) fn is_printable(line: &[u8]) -> bool
 #[tactic(auto, unfolding(crate::specs::Line::words_of))]
 fn words<'a>(alloc: Global, word: &str, rest: &'a str) -> Result<Command<'a>, Refusal>
     ensures command { ReadsPart (λ command. command) result (words_of word.now rest.now) }
-    ensures memory { IfErr result (λ e. e ≡ Refusal.Memory → IsTrue (grows word.now)) }
+    ensures memory { IfErr result (λ e. e ≡ Refusal.Memory → IsTrue (may_grow word.now rest.now)) }
 {
     if word == "table" {
         let table = table_line(alloc, rest)?;
@@ -103,7 +103,7 @@ pub(crate) fn replicas(text: &str) -> Option<usize>
 #[tactic(auto, unfolding(crate::specs::Line::step_line))]
 fn step_line(alloc: Global, word: &str, text: &str) -> Result<Step, Refusal>
     ensures step { ReadsPart (λ step. step) result (step_line word.now text.now) }
-    ensures memory { IfErr result (λ e. e ≡ Refusal.Memory → IsTrue (grows word.now)) }
+    ensures memory { IfErr result (λ e. e ≡ Refusal.Memory → IsTrue (may_grow word.now text.now)) }
 {
     if word == "ask" {
         return required(ask_words(text));
@@ -111,7 +111,22 @@ fn step_line(alloc: Global, word: &str, text: &str) -> Result<Step, Refusal>
     if word == "export" {
         return required(export_words(text));
     }
-    longer_step(alloc, word, text)
+    match where_words(word, text) {
+        Some(rest) => delete_where_words(alloc, rest),
+        None => longer_step(alloc, word, text),
+    }
+}
+
+/// What follows the first word `delete` and the second word `where`, in a line that begins so.
+#[tactic(auto, unfolding(crate::specs::Line::where_words))]
+fn where_words<'a>(word: &str, text: &'a str) -> Option<&'a str>
+    ensures { option_map (λ rest. rest.now) result ≡ where_words word.now text.now }
+{
+    if word != "delete" {
+        return None;
+    }
+    let (second, rest) = cut(text, ' ')?;
+    if second == "where" { Some(rest) } else { None }
 }
 
 /// The step of a line's first word, a replica and further words.
@@ -228,6 +243,24 @@ fn delete_words(replica: u32, text: &str) -> Option<Step>
             ordinal: first,
         },
         last,
+    })
+}
+
+/// `R COND`, which follow `delete where`
+#[tactic(auto, unfolding(crate::specs::Line::delete_where_words))]
+fn delete_where_words(alloc: Global, text: &str) -> Result<Step, Refusal>
+    ensures { ReadsPart (λ step. step) result (delete_where_words text.now) }
+{
+    let Some((replica, rest)) = addressed(text) else {
+        return Err(Refusal::BadLine);
+    };
+    let Some(condition) = some_text(rest) else {
+        return Err(Refusal::BadLine);
+    };
+    let condition = String::from_str(alloc, condition)?;
+    Ok(Step::DeleteWhere {
+        replica,
+        condition: Sql::from_string(condition),
     })
 }
 

@@ -7,7 +7,7 @@ use segment_core::Coding;
 use std::marker::Model;
 use table_model::{BatchName, RowName, Rows};
 
-/// The text of a query. Contracts see it as its bytes.
+/// The text of a query or of a condition. Contracts see it as its bytes.
 #[derive(Drop)]
 pub struct Sql {
     text: String,
@@ -23,7 +23,7 @@ impl Model for Sql {
 }
 
 impl Sql {
-    /// The query of this text. It takes no memory.
+    /// The query or the condition of this text. It takes no memory.
     pub fn from_string(text: String) -> Sql
         ensures { result ≡ string_bytes text }
     {
@@ -57,6 +57,11 @@ pub enum Step {
         replica: u32,
         first: RowName,
         last: u16,
+    },
+    /// Deletes the replica's rows at which the condition is true.
+    DeleteWhere {
+        replica: u32,
+        condition: Sql,
     },
     /// Adds to the replica what the other one has.
     Merge {

@@ -1,7 +1,8 @@
 //! Lines and what they ask for, worked out by hand from the rules of lines.
 use script_lines::{Command, Step, expected, parse_line};
+use std::alloc::Global;
 use std::test::Fail;
-use table_model::ColType;
+use table_model::{ColType, Refusal};
 
 #[test]
 fn a_line_is_a_table_or_a_step(rt: HostRuntime) -> Result<(), Fail> {
@@ -21,6 +22,45 @@ fn a_line_is_a_table_or_a_step(rt: HostRuntime) -> Result<(), Fail> {
     Ok(())
 }
 
+/// Whether a line asks for a delete by this condition, which is the rest of the line, at this replica.
+fn is_delete_where(alloc: Global, line: &[u8], at: u32, text: &str) -> Result<bool, Refusal> {
+    match parse_line(alloc, line)? {
+        Command::Act(Step::DeleteWhere { replica, condition }) => {
+            Ok(replica == at && condition.as_str() == text)
+        }
+        _ => Ok(false),
+    }
+}
+
+/// Whether a line is no command.
+fn is_bad(alloc: Global, line: &[u8]) -> bool {
+    match parse_line(alloc, line) {
+        Err(refusal) => refusal == Refusal::BadLine,
+        Ok(_) => false,
+    }
+}
+
+/// Lines of which `where` is the second word, or isn't quite, and that are no commands.
+const NO_CONDITIONS: [&str; 6] = [
+    "delete where",
+    "delete where ",
+    "delete where 1",
+    "delete where 1 ",
+    "delete where x A = 1",
+    "delete WHERE 1 A = 1",
+];
+
+// Spaces are a condition's text too; what is wrong in it is for its parser to tell.
+#[test]
+fn a_delete_by_a_condition_has_the_rest_of_its_line(rt: HostRuntime) -> Result<(), Fail> {
+    assert!(rt; is_delete_where(rt.alloc(), b"delete where 7 NOT A = 1", 7, "NOT A = 1")?);
+    assert!(rt; is_delete_where(rt.alloc(), b"delete where 01  ", 1, " ")?);
+    for &line in &NO_CONDITIONS {
+        assert!(rt; is_bad(rt.alloc(), line.as_bytes()), "{line}");
+    }
+    Ok(())
+}
+
 #[test]
 fn what_was_expected_of_a_line_is_told(rt: HostRuntime) -> Result<(), Fail> {
     assert!(rt;
@@ -30,5 +70,10 @@ fn what_was_expected_of_a_line_is_told(rt: HostRuntime) -> Result<(), Fail> {
     assert!(rt; expected(b"append 1 7", true) == "rows are written (V,..),(V,..)");
     assert!(rt; expected(b"query 1", true) == "a query is written query R SQL");
     assert!(rt; expected(b"query 1 ", true) == "the SQL of a query is not empty");
+    assert!(rt;
+        expected(b"delete where 1", true)
+            == "a delete by a condition is written delete where R COND"
+    );
+    assert!(rt; expected(b"delete where 1 ", true) == "the condition of a delete is not empty");
     Ok(())
 }

@@ -8,7 +8,7 @@ use Rattle.transpose_order.specs.Place.{IsLaneWidth}
 use Rattle.bit_interleave.specs.Arithmetic.{integer_width}
 use Rattle.table_model.specs.State.{Cells, Batch}
 use Rattle.table_model.specs.declared.schema.ColType.{ColType}
-use Rattle.table_model.specs.declared.schema.ColType.TheVariants.{SmallInt, Integer, BigInt}
+use Rattle.table_model.specs.declared.schema.ColType.TheVariants.{TinyInt, SmallInt, Integer, BigInt}
 use Rattle.table_model.specs.Table.{Table, ColumnShape, bits_of, least_of, greatest_of, Fits, IsRow, AreRows, IsBatch, IsTable}
 use Rattle.table_model.proofs.Batches.{row_length}
 use Rattle.segment_core.specs.Fill.{AreCellsInRange}
@@ -82,6 +82,7 @@ row_at columns (row ∷ rows) zero h l = h.0
 row_at columns (row ∷ rows) (suc n) h l = row_at columns rows n h.1 (omega arith)
 
 value_fits : (t : ColType) (z : ℤ) → least_of t ≤ℤ z → z ≤ℤ greatest_of t → FitsSigned (integer_width (bits_of t)) z
+value_fits TinyInt z l h = search rules
 value_fits SmallInt z l h = search rules
 value_fits Integer z l h = search rules
 value_fits BigInt z l h = search rules

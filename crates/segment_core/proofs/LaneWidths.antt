@@ -4,9 +4,10 @@ use Rattle.std.specs.List.{AllByRecursion}
 use Rattle.transpose_order.specs.Place.{IsLaneWidth}
 use Rattle.table_model.specs.Table.{ColumnShape, bits_of}
 use Rattle.table_model.specs.declared.schema.ColType.{ColType}
-use Rattle.table_model.specs.declared.schema.ColType.TheVariants.{SmallInt, Integer, BigInt}
+use Rattle.table_model.specs.declared.schema.ColType.TheVariants.{TinyInt, SmallInt, Integer, BigInt}
 
 pub bits_are_lanes : (t : ColType) → IsLaneWidth (bits_of t)
+bits_are_lanes TinyInt = inl refl
 bits_are_lanes SmallInt = inr (inl refl)
 bits_are_lanes Integer = inr (inr (inl refl))
 bits_are_lanes BigInt = inr (inr (inr refl))

@@ -2,12 +2,12 @@
 ghost use Rattle.std.specs.Prelude.{◌≤◌, length};
 
 use crate::tests::{Pattern, first, rows_of, segment_of};
-use expectations::{agree, agree_at};
 use segment_core::{Coded, Segment};
 use std::alloc::{AllocError, Global};
 use std::process::Abort;
 use std::test::Fail;
 use table_model::{ColType, Counted, Refusal, Schema, Stop};
+use test_support::{agree, agree_at};
 
 /// The schema of one SMALLINT column.
 pub(crate) fn one_column(alloc: Global) -> Result<Schema, Refusal> {

@@ -3,12 +3,12 @@
 //! none refused it passes. The command `tests/refused-memory` refuses each in turn and counts those texts.
 use crate::bytes_tests::one_column;
 use crate::tests::{Pattern, first, rows_of, rows_with};
-use expectations::{agree, growth_refused};
 use segment_core::{CodedVector, Coding, Segment};
 use std::alloc::{AllocError, Global};
 use std::process::Abort;
 use std::test::Fail;
 use table_model::{Counted, Refusal, Row, check_rows};
+use test_support::{agree, growth_refused};
 
 /// The most bytes that a segment of these tests has.
 const ROOM: usize = 512;

@@ -1,10 +1,10 @@
 //! Segments at values worked out by hand from the definitions of the codings and of the fill.
-use expectations::agree;
 use segment_core::{Coded, CodedVector, Coding, Segment};
 use std::alloc::{AllocError, Global};
 use std::process::Abort;
 use std::test::Fail;
 use table_model::{ColType, Refusal, Row, Schema, check_rows};
+use test_support::agree;
 
 /// What a test's column holds.
 #[derive(Clone, Copy)]

@@ -1,26 +1,40 @@
 -- What a query is refused as: a fault of its text, or one of its names.
 use Rattle.std.proofs.Common.{◌≡◌, inl, inr, ℕ, ◌&&◌, Bool, true, false, cond, ltb, IsTrue, List, [], ◌∷◌, length, Option, Some, None, Result, Ok, Err, refl, ap, subst}
 use Rattle.std.specs.List.{list_all}
+use Rattle.table_model.specs.Formula.{Formula}
 use Rattle.table_model.specs.Identifier.{same_text}
 use Rattle.table_model.specs.Query.{QueryShape}
 use Rattle.table_model.specs.Table.{Table}
 use Rattle.table_model.specs.declared.refusal.Refusal.{Refusal}
-use Rattle.table_model.specs.declared.refusal.Refusal.TheVariants.{Syntax, NumberTooLarge, TooDeep, NoSuchTable}
+use Rattle.table_model.specs.declared.refusal.Refusal.TheVariants.{Syntax, NumberTooLarge, TooDeep, NoSuchTable, NoSuchColumn}
 use Rattle.query_parser.specs.Limits.{depth_limit}
-use Rattle.query_parser.specs.Resolve.{Places, places, verdict, in_query, resolved}
-use Rattle.query_parser.specs.Stack.{Symbol, a_query, may_be_empty, open_count, after, fault_of, first_fault, text_fault, Finds}
+use Rattle.query_parser.specs.Resolve.{Places, places, verdict, in_query, resolved, IsConditionJudged}
+use Rattle.query_parser.specs.Stack.{Symbol, a_query, condition_fault, may_be_empty, open_count, after, fault_of, first_fault, text_fault, Finds}
 use Rattle.query_parser.specs.Token.{choose, is_large, same_sign, tokens_of}
 use Rattle.query_parser.specs.declared.token.Kind.{Kind}
 use Rattle.query_parser.specs.declared.token.Kind.TheVariants.{Identifier, Digits, Bad}
 use Rattle.query_parser.specs.declared.token.Kind.TheVariants as kind
 use Rattle.query_parser.specs.declared.token.Sign.TheVariants as sign
 use Rattle.query_parser.specs.declared.token.Token.{Token}
-use Rattle.store_view.specs.Asked.{is_refusal_of_query}
+use Rattle.store_view.specs.Asked.{is_refusal_of_query, is_refusal_of_condition, is_fault_of_text}
 
--- a refusal, if there is one, is that of a query
+-- a refusal, if there is one, is a fault of a text
 abbrev pub IsListed : Option Refusal → Type 0
 IsListed None = Unit {0}
-IsListed (Some e) = is_refusal_of_query e ≡ true
+IsListed (Some e) = is_fault_of_text e ≡ true
+
+-- a fault of a text is one that a query may have, and a condition too
+of_query : (e : Refusal) → is_fault_of_text e ≡ true → is_refusal_of_query e ≡ true
+of_query (Syntax at) h = refl
+of_query (NumberTooLarge at) h = refl
+of_query TooDeep h = refl
+of_query other h = absurd cc
+
+of_condition : (e : Refusal) → is_fault_of_text e ≡ true → is_refusal_of_condition e ≡ true
+of_condition (Syntax at) h = refl
+of_condition (NumberTooLarge at) h = refl
+of_condition TooDeep h = refl
+of_condition other h = absurd cc
 
 open_listed : (b : Bool) → IsListed (cond b (Some TooDeep) None)
 open_listed true = refl
@@ -61,8 +75,22 @@ text_listed text = first_listed (length text) (tokens_of text) (a_query ∷ [])
 
 -- the fault that a text is refused as is one of a query's
 pub found_listed : (text : List ℕ) (e : Refusal) → Finds {X = QueryShape} (Err e) (text_fault text) → IsTrue (is_refusal_of_query e)
-found_listed text e (inl is) = subst IsListed is (text_listed text)
+found_listed text e (inl is) = of_query e (subst IsListed is (text_listed text))
 found_listed text e (inr lacks) = ap is_refusal_of_query lacks
+
+-- the fault that a text is refused as is one of a condition's
+pub condition_found : (text : List ℕ) (e : Refusal) → Finds {X = Formula} (Err e) (condition_fault text) → IsTrue (is_refusal_of_condition e)
+unfolding condition_fault
+condition_found text e (inl is) = of_condition e (subst IsListed is (first_listed (length text) (tokens_of text) _))
+condition_found text e (inr lacks) = ap is_refusal_of_condition lacks
+
+-- what a condition's names are refused as is one too
+pub condition_resolved : (t : Table) (f : Formula) (r : Result (Unit {0}) Refusal) (e : Refusal) → IsConditionJudged t f r → r ≡ Err e → IsTrue (is_refusal_of_condition e)
+condition_resolved t f r e judged is = of_judged e (subst (IsConditionJudged t f) is judged)
+  where
+    of_judged : (e : Refusal) → IsConditionJudged t f (Err e) → is_refusal_of_condition e ≡ true
+    of_judged (NoSuchColumn at) h = refl
+    of_judged other h = absurd h
 
 -- a result, where it is refused, is so as a query is
 abbrev pub IsRefusedAsQuery : Result (Unit {0}) Refusal → Type 0

@@ -1,14 +1,16 @@
 -- What the text of a query answers at a table's state.
 use Rattle.std.specs.Prelude.{ℕ, Bool, true, false, List, Result, Ok, Err}
 use Rattle.table_model.specs.Answer.{AnswerParts}
-use Rattle.table_model.specs.Meaning.{answer_of}
+use Rattle.table_model.specs.Meaning.{answer_of, names_where}
 use Rattle.table_model.specs.Query.{QueryShape}
+use Rattle.table_model.specs.Reading.{◌>>=◌}
 use Rattle.table_model.specs.State.{State}
+use Rattle.table_model.specs.declared.names.RowName.{RowName}
 use Rattle.table_model.specs.Table.{Table}
 use Rattle.table_model.specs.declared.refusal.Refusal.{Refusal}
 use Rattle.table_model.specs.declared.refusal.Refusal.TheVariants.{Memory, Syntax, NumberTooLarge, TooDeep, NoSuchTable, NoSuchColumn, NotGrouped}
-use Rattle.query_parser.specs.Descent.{query_of}
-use Rattle.query_parser.specs.Resolve.{resolved}
+use Rattle.query_parser.specs.Descent.{query_of, condition_of}
+use Rattle.query_parser.specs.Resolve.{resolved, resolved_condition}
 
 -- an answer, where nothing refuses it
 abbrev pub unless_refused : Result (Unit {0}) Refusal → AnswerParts → Result AnswerParts Refusal
@@ -34,3 +36,20 @@ is_refusal_of_query NoSuchTable = true
 is_refusal_of_query (NoSuchColumn at) = true
 is_refusal_of_query (NotGrouped at) = true
 is_refusal_of_query other = false
+
+-- the names of the rows that aren't deleted at which the condition that a text is is true, or its first refusal
+unfoldable pub condition_names : List ℕ → Table → State → Result (List RowName) Refusal
+condition_names text table state = condition_of text >>= λ f. resolved_condition table f >>= λ done. Ok (names_where table f state)
+
+-- whether a refusal is a fault of a text
+abbrev pub is_fault_of_text : Refusal → Bool
+is_fault_of_text (Syntax at) = true
+is_fault_of_text (NumberTooLarge at) = true
+is_fault_of_text TooDeep = true
+is_fault_of_text other = false
+
+-- whether a refusal is one that a condition may have: a fault of its text, a column that the table has not, or a want of memory
+abbrev pub is_refusal_of_condition : Refusal → Bool
+is_refusal_of_condition Memory = true
+is_refusal_of_condition (NoSuchColumn at) = true
+is_refusal_of_condition other = is_fault_of_text other

@@ -4,5 +4,5 @@
 mod asking;
 mod view;
 
-pub use asking::ask;
+pub use asking::{ask, names_where};
 pub use view::StoreView;

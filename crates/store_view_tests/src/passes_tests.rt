@@ -1,6 +1,5 @@
 //! Queries over a store: their answers, worked out by hand, and the passes that their mentions of columns allow: each at most one
 //! for each vector that has a live row.
-use expectations::agree_at;
 use query_eval::{Columns, answer, text};
 use query_parser::{parse, resolve};
 use replica_store::Store;
@@ -8,6 +7,7 @@ use std::alloc::{AllocError, Global};
 use std::test::Fail;
 use store_view::StoreView;
 use table_model::{BatchName, ColType, Number, Origin, Query, Refusal, Row, RowName, Schema};
+use test_support::agree_at;
 
 /// A query, its answer's lines, and how many passes it takes at most.
 type Asked = (&'static str, &'static str, u128);

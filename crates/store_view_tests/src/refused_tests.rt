@@ -1,7 +1,6 @@
 //! Queries over a store, each with a growth refused. A test's own growths are counted from 1: with the Nth refused, a test fails
 //! by an `AllocError` or `Memory` of its set-up, or, where it was a growth of the call that it is of, as `growth_refused` says;
 //! with none refused it passes. The command `tests/refused-memory` refuses each in turn and counts those texts.
-use expectations::growth_refused;
 use query_eval::{answer, text};
 use query_parser::{parse, resolve};
 use replica_store::Store;
@@ -9,6 +8,7 @@ use std::alloc::{AllocError, Global};
 use std::test::Fail;
 use store_view::{StoreView, ask};
 use table_model::{Answer, ColType, Origin, Query, Refusal, Row, Schema};
+use test_support::growth_refused;
 
 /// Groups, a null one among them, an alias, and set functions in HAVING.
 const QUERY: &str = "SELECT A N FROM T GROUP BY A HAVING AVG(A) >= 5 OR COUNT(A) = 0";

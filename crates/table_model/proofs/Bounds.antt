@@ -9,7 +9,7 @@ use Rattle.table_model.specs.State.{Cells}
 use Rattle.table_model.specs.Table.{ColumnShape, Fits, IsRow, AreRows, least_of, greatest_of}
 use Rattle.table_model.specs.Values.{distinct, total}
 use Rattle.table_model.specs.declared.schema.ColType.{ColType}
-use Rattle.table_model.specs.declared.schema.ColType.TheVariants.{SmallInt, Integer, BigInt}
+use Rattle.table_model.specs.declared.schema.ColType.TheVariants.{TinyInt, SmallInt, Integer, BigInt}
 
 -- a cell is null, or has magnitude at most 2^63
 abbrev IsSmallCell : Option ℤ → Type 0
@@ -22,6 +22,7 @@ AreSmall [] = Unit {0}
 AreSmall (z ∷ zs) = IsWithin (2 ^ 63) z × AreSmall zs
 
 small_of : (t : ColType) (z : ℤ) → least_of t ≤ℤ z → z ≤ℤ greatest_of t → IsWithin (2 ^ 63) z
+small_of TinyInt z low high = (omega (arith, ints), omega (arith, ints))
 small_of SmallInt z low high = (omega (arith, ints), omega (arith, ints))
 small_of Integer z low high = (omega (arith, ints), omega (arith, ints))
 small_of BigInt z low high = (omega (arith, ints), omega (arith, ints))

@@ -8,7 +8,7 @@ use Rattle.std.proofs.lemmas.Bool.Decides.{Decides-eqb}
 use Rattle.table_model.specs.Identifier.{same_text}
 use Rattle.table_model.specs.Table.{Table, ColumnShape, same_type, same_column, same_columns, same_table}
 use Rattle.table_model.specs.declared.schema.ColType.{ColType}
-use Rattle.table_model.specs.declared.schema.ColType.TheVariants.{SmallInt, Integer, BigInt}
+use Rattle.table_model.specs.declared.schema.ColType.TheVariants.{TinyInt, SmallInt, Integer, BigInt}
 
 pub same_columns-lengths : (xs ys : List ColumnShape) → length xs ≢ length ys → same_columns xs ys ≡ false
 same_columns-lengths [] [] apart = absurd (apart refl)
@@ -37,17 +37,25 @@ itself_text [] = refl
 itself_text (x ∷ xs) = ap (λ b. b && same_text xs xs) ((Decides-eqb x x).1 refl) ∙ itself_text xs
 
 one_type : (a b : ColType) → same_type a b ≡ true → a ≡ b
+one_type TinyInt TinyInt e = refl
+one_type TinyInt SmallInt e = cc
+one_type TinyInt Integer e = cc
+one_type TinyInt BigInt e = cc
+one_type SmallInt TinyInt e = cc
 one_type SmallInt SmallInt e = refl
 one_type SmallInt Integer e = cc
 one_type SmallInt BigInt e = cc
+one_type Integer TinyInt e = cc
 one_type Integer SmallInt e = cc
 one_type Integer Integer e = refl
 one_type Integer BigInt e = cc
+one_type BigInt TinyInt e = cc
 one_type BigInt SmallInt e = cc
 one_type BigInt Integer e = cc
 one_type BigInt BigInt e = refl
 
 itself_type : (a : ColType) → same_type a a ≡ true
+itself_type TinyInt = refl
 itself_type SmallInt = refl
 itself_type Integer = refl
 itself_type BigInt = refl

@@ -70,11 +70,15 @@ IsWithin n z = (neg_ℤ (pos n) ≤ℤ z) × (z ≤ℤ pos n)
 
 -- how many rows a state may have
 abbrev pub state_row_limit : ℕ
-state_row_limit = 2 ^ 32
+state_row_limit = 2 ^ 36
 
--- a sum over n rows of a table has magnitude at most n * 2^63, with DISTINCT too; so over as many rows as a state may have it is at most 2^95, and in millionths it fits 128 bits
+-- the greatest magnitude that a sum over a state's rows may have
+abbrev pub sum_limit : ℕ
+sum_limit = 2 ^ 99
+
+-- a sum over n rows of a table has magnitude at most n * 2^63, with DISTINCT too; so over as many rows as a state may have it is at most 2^99, and in millionths it fits 128 bits
 pub record SumBounds : Type 0 where
   pub sums : (columns : List ColumnShape) (rows : List Cells) (column : ℕ) → AreRows columns rows → IsWithin (length rows * 2 ^ 63) (total (values_in column rows))
   pub once : (columns : List ColumnShape) (rows : List Cells) (column : ℕ) → AreRows columns rows → IsWithin (length rows * 2 ^ 63) (total (distinct (values_in column rows)))
-  pub limit : (n : ℕ) (z : ℤ) → n ≤ state_row_limit → IsWithin (n * 2 ^ 63) z → IsWithin (2 ^ 95) z
-  pub millionths : (z : ℤ) → IsWithin (2 ^ 95) z → FitsSigned w128 (z *ℤ pos 1000000)
+  pub limit : (n : ℕ) (z : ℤ) → n ≤ state_row_limit → IsWithin (n * 2 ^ 63) z → IsWithin sum_limit z
+  pub millionths : (z : ℤ) → IsWithin sum_limit z → FitsSigned w128 (z *ℤ pos 1000000)

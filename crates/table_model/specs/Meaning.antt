@@ -85,6 +85,10 @@ grouping_of columns query = map (λ column. place_of columns column.name) query.
 unfoldable pub rows_where : List ColumnShape → QueryShape → List Cells → List Cells
 rows_where columns query rows = filter (λ row. is_kept query.filter (at_row columns row)) rows
 
+-- the names of a state's rows that aren't deleted and at which a condition is true, in ascending order
+unfoldable pub names_where : Table → Formula → State → List RowName
+names_where table condition state = map (λ row. row.0) (filter (λ row. is_kept (Some condition) (at_row table.columns row.1)) (live_rows state))
+
 -- the groups of these rows at which HAVING is true
 unfoldable pub groups_having : List ColumnShape → QueryShape → List Cells → List Group
 groups_having columns query rows =

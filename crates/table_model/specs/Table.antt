@@ -6,24 +6,27 @@ use Rattle.std.specs.Str.{bytes_eq}
 use Rattle.table_model.specs.Identifier.{folded, same_text, is_identifier}
 use Rattle.table_model.specs.State.{Cells, Batch}
 use Rattle.table_model.specs.declared.schema.ColType.{ColType}
-use Rattle.table_model.specs.declared.schema.ColType.TheVariants.{SmallInt, Integer, BigInt}
+use Rattle.table_model.specs.declared.schema.ColType.TheVariants.{TinyInt, SmallInt, Integer, BigInt}
 use Rattle.table_model.specs.declared.refusal.Refusal.{Refusal}
 use Rattle.table_model.specs.declared.refusal.Refusal.TheVariants.{EmptyBatch, BatchTooLong, WrongArity, OutOfType, BadSchema}
 
 -- how many bits a value of the type has
 abbrev pub bits_of : ColType → ℕ
+bits_of TinyInt = 8
 bits_of SmallInt = 16
 bits_of Integer = 32
 bits_of BigInt = 64
 
 -- the least value of the type
 abbrev pub least_of : ColType → ℤ
+least_of TinyInt = negsuc 127
 least_of SmallInt = negsuc 32767
 least_of Integer = negsuc 2147483647
 least_of BigInt = negsuc 9223372036854775807
 
 -- the greatest value of the type
 abbrev pub greatest_of : ColType → ℤ
+greatest_of TinyInt = pos 127
 greatest_of SmallInt = pos 32767
 greatest_of Integer = pos 2147483647
 greatest_of BigInt = pos 9223372036854775807
@@ -44,6 +47,7 @@ pub record Table : Type 0 where
 
 -- the type's name in SQL
 abbrev pub type_text : ColType → List ℕ
+type_text TinyInt = codes "TINYINT"
 type_text SmallInt = codes "SMALLINT"
 type_text Integer = codes "INTEGER"
 type_text BigInt = codes "BIGINT"
@@ -51,9 +55,10 @@ type_text BigInt = codes "BIGINT"
 -- the type of this name, in upper case
 abbrev pub type_named : List ℕ → Option ColType
 type_named text =
-    cond (bytes_eq text (type_text SmallInt)) (Some SmallInt)
+    cond (bytes_eq text (type_text TinyInt)) (Some TinyInt)
+    (cond (bytes_eq text (type_text SmallInt)) (Some SmallInt)
     (cond (bytes_eq text (type_text Integer)) (Some Integer)
-    (cond (bytes_eq text (type_text BigInt)) (Some BigInt) None))
+    (cond (bytes_eq text (type_text BigInt)) (Some BigInt) None)))
 
 -- whether two names are equal once folded
 abbrev pub has_name : List ℕ → List ℕ → Bool
@@ -165,10 +170,11 @@ pub record IsBatch (table : Table) (rows : Batch) : Type 0 where
 
 -- the type of so many bits
 abbrev pub type_of : ℕ → ColType
-type_of bits = cond (bits == 16) SmallInt (cond (bits == 32) Integer BigInt)
+type_of bits = cond (bits == 8) TinyInt (cond (bits == 16) SmallInt (cond (bits == 32) Integer BigInt))
 
 -- a type's bits give it back
 abbrev pub type_of-bits_of : (t : ColType) → type_of (bits_of t) ≡ t
+type_of-bits_of TinyInt = refl
 type_of-bits_of SmallInt = refl
 type_of-bits_of Integer = refl
 type_of-bits_of BigInt = refl

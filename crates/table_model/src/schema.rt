@@ -17,6 +17,8 @@ pub const MAX_COLUMNS: usize = 32;
 /// A column's type: signed, two's complement.
 #[derive(Clone, Copy, Debug, PartialEq, Eq)]
 pub enum ColType {
+    /// TINYINT, 8 bits.
+    TinyInt,
     /// SMALLINT, 16 bits.
     SmallInt,
     /// INTEGER, 32 bits.
@@ -31,6 +33,7 @@ impl ColType {
         ensures { result ≡ bits_of self }
     {
         match self {
+            ColType::TinyInt => 8,
             ColType::SmallInt => 16,
             ColType::Integer => 32,
             ColType::BigInt => 64,
@@ -42,6 +45,7 @@ impl ColType {
         ensures { result ≡ type_named text.now }
     {
         match text {
+            "TINYINT" => Some(ColType::TinyInt),
             "SMALLINT" => Some(ColType::SmallInt),
             "INTEGER" => Some(ColType::Integer),
             "BIGINT" => Some(ColType::BigInt),
@@ -54,6 +58,7 @@ impl ColType {
         ensures { result ≡ is_in_range self value }
     {
         match self {
+            ColType::TinyInt => i128::from(i8::MIN) <= value && value <= i128::from(i8::MAX),
             ColType::SmallInt => i128::from(i16::MIN) <= value && value <= i128::from(i16::MAX),
             ColType::Integer => i128::from(i32::MIN) <= value && value <= i128::from(i32::MAX),
             ColType::BigInt => i128::from(i64::MIN) <= value && value <= i128::from(i64::MAX),
@@ -70,6 +75,7 @@ impl fmt::Display for ColType {
 
     fn fmt<W: fmt::Write>(&self, f: &mut fmt::Formatter<W>) -> fmt::Result {
         match self {
+            ColType::TinyInt => write!(f, "TINYINT"),
             ColType::SmallInt => write!(f, "SMALLINT"),
             ColType::Integer => write!(f, "INTEGER"),
             ColType::BigInt => write!(f, "BIGINT"),

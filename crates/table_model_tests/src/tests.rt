@@ -1,5 +1,4 @@
 //! The model at values worked out by hand from the rules of names, schemas, batches, refusals and failures.
-use expectations::agree;
 use std::alloc::{AllocError, Global};
 use std::io;
 use std::io::{Read, Write};
@@ -9,6 +8,7 @@ use table_model::{
     Row, RowName, Rows, Schema, Stop, Truth, check_rows, column_at, is_identifier, is_keyword,
     is_word, is_word_byte, same_rows, same_word,
 };
+use test_support::agree;
 
 const A: &str = "A";
 

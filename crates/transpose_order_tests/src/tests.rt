@@ -1,6 +1,6 @@
 //! Places and masks at values worked out by hand from the order 0 4 2 6 1 5 3 7 and the bits of words.
-use expectations::agree;
 use std::test::Fail;
+use test_support::agree;
 use transpose_order::{
     Mask, counts_agree, every_place_is_a_row, masks_and_bytes_come_back,
     one_order_serves_every_width, ones_between, pieces_stand_in_words, place, place_in_word,
