@@ -275,6 +275,77 @@ def at_once(wanted, **machine):
     return case
 
 
+V2 = "cx16 popcnt ssse3 sse4_1 sse4_2"
+V3 = f"{V2} abm avx avx2 bmi1 bmi2 f16c fma movbe"
+
+
+def ran_released(trial, run, level):
+    """That a run called rt not at all, and ran the released program of this level."""
+    ran_only(trial, run, source=f"a release for {level}")
+
+
+def built_instead(trial, run, *said):
+    """That a run said why it takes no release, and built the program."""
+    built(trial, run)
+    has("standard error", run.err, *said, "lanes: building the program")
+
+
+def released_program(trial):
+    trial.machine(instructions=V3)
+    trial.release()
+    for _ in range(2):
+        ran_released(trial, trial.run(), "x86-64-v3")
+    trial.machine(instructions=V2)
+    ran_released(trial, trial.run(), "x86-64-v2")
+    # Without the toolchain the script sees the processor that there is.
+    agree("status", trial.run(has_rt=False).status, STATUS)
+
+
+def release_and_sources(trial):
+    trial.machine(instructions=V3)
+    trial.release(sources="another sum\n")
+    built(trial, trial.run())
+    # What is built of the sources as they are comes first.
+    trial.release()
+    ran_only(trial, trial.run())
+    trial.write("crates/lanes/src/main.rt", "second source")
+    built(trial, trial.run(), source="second source")
+    # A crate that the program doesn't stand on, and a comment, leave the sum as it is.
+    trial.release()
+    trial.remove("crates/lanes/out/lanes")
+    trial.write("crates/shed/src/lib.rt", "other text")
+    trial.write("crates.txt", "# A comment.\n\n" + HOUSE + "barn: shed\n")
+    ran_released(trial, trial.run(), "x86-64-v3")
+
+
+def damaged_release(trial):
+    trial.machine(instructions=V3)
+    trial.release()
+    ran_released(trial, trial.run(), "x86-64-v3")
+    # What was taken out is taken out again where it isn't what the release says.
+    trial.write("release/unpacked/lanes-x86-64-v3", "#!/bin/sh\necho another program\n")
+    ran_released(trial, trial.run(), "x86-64-v3")
+    trial.remove("release/unpacked/lanes-x86-64-v3")
+    trial.write("release/SHA256SUMS", f"{'0' * 64}  lanes-x86-64-v3\n")
+    built_instead(trial, trial.run(), "lanes: release/lanes-x86-64-v3.gz is not what release/SHA256SUMS says\n")
+    agree("whether something was left of it", os.listdir(os.path.join(trial.top, "release/unpacked")), [])
+
+
+def processor_without_release(trial):
+    trial.release()
+    trial.machine(kind="aarch64")
+    built_instead(trial, trial.run(), "lanes: the released programs are for x86-64 processors, and this one is aarch64\n")
+    trial.remove("crates/lanes/out/lanes")
+    trial.machine(instructions="sse2 cx16 popcnt ssse3 sse4_1 avx2")
+    built_instead(trial, trial.run(), "lanes: the released programs need a processor of the level x86-64-v2, and this one lacks sse4_2\n")
+
+
+def release_that_does_not_start(trial):
+    trial.machine(instructions=V3)
+    trial.release(program="#!/no/such/loader\n")
+    built_instead(trial, trial.run(), "lanes: the released program does not start here, since the C library of this system is too old for it or another one\n")
+
+
 CASES = [
     ("the first run proves what the program stands on and nothing else, from below, and builds and runs the program", REPOSITORY, first_run),
     ("for a processor without AVX2 the toolchain chooses", HOUSE, older_processor),
@@ -297,4 +368,9 @@ CASES = [
     ("with one processor there is one", FOUR, at_once(1, processors=1)),
     ("there are never more at once than the memory has 2 GiB for", FOUR, at_once(3, memory=7)),
     ("with little memory there is one", FOUR, at_once(1, memory=1.5)),
+    ("the released program of these sources is run at once, without the toolchain", HOUSE, released_program),
+    ("a release of other sources is not run, and what is built comes before a release", HOUSE, release_and_sources),
+    ("a release that is not what its sums say is not run", HOUSE, damaged_release),
+    ("a processor that no release is for is named", HOUSE, processor_without_release),
+    ("a release that does not start here is named", HOUSE, release_that_does_not_start),
 ]

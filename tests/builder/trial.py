@@ -4,6 +4,8 @@ Nothing is proved here: the command `rt` that the copy finds is the stub beside 
 the made-up machine, since the script asks them how much may be done at once, and for which processor.
 """
 
+import gzip
+import hashlib
 import os
 import select
 import shutil
@@ -23,6 +25,12 @@ echo "said by the program" >&2
 exit 7
 """
 STATUS = 7
+
+# A released program, which tells its level too.
+RELEASED = """#!/bin/sh
+if [ "$1" = --version ]; then exit 0; fi
+source="a release for LEVEL"
+""" + PROGRAM
 
 # A command as it is, but for what it reads of the machine and what the trial has it do before.
 OF_THE_MACHINE = """#!/bin/sh
@@ -109,6 +117,8 @@ class Trial:
             os.mkdir(folder)
         self.started = []
         shutil.copy(os.path.join(TOP, "lanes"), self.top)
+        os.mkdir(os.path.join(self.top, "release"))
+        shutil.copy(os.path.join(TOP, "release/sources"), os.path.join(self.top, "release"))
         os.mkfifo(self.at("silence"))
         self.write("crates.txt", crates)
         for name in libraries(crates):
@@ -142,9 +152,10 @@ class Trial:
             file.write(text)
         os.chmod(path, 0o755)
 
-    def machine(self, processors=4, memory=64, instructions="sse2 avx2"):
+    def machine(self, processors=4, memory=64, instructions="sse2 avx2", kind="x86_64"):
         """Says what the machine has; its memory is in GiB."""
         self.command("nproc", f"#!/bin/sh\necho {processors}\n")
+        self.command("uname", f"#!/bin/sh\necho {kind}\n")
         with open(self.at("proc/meminfo"), "w") as file:
             file.write(f"MemTotal: {128 << 20} kB\nMemFree: {96 << 20} kB\nMemAvailable: {int(memory * (1 << 20))} kB\n")
         with open(self.at("proc/cpuinfo"), "w") as file:
@@ -156,6 +167,18 @@ class Trial:
         os.makedirs(os.path.dirname(path), exist_ok=True)
         with open(path, "w") as file:
             file.write(text)
+
+    def release(self, sources=None, program=RELEASED):
+        """Releases a made-up program for each level of processors, of the sources as they are where no other sum is given."""
+        found = subprocess.run([os.path.join(self.top, "release/sources")], stdout=subprocess.PIPE, text=True, check=True).stdout
+        self.write("release/SOURCES", sources or found)
+        sums = ""
+        for level in ("x86-64-v2", "x86-64-v3"):
+            text = program.replace("LEVEL", level).encode()
+            sums += f"{hashlib.sha256(text).hexdigest()}  lanes-{level}\n"
+            with open(os.path.join(self.top, f"release/lanes-{level}.gz"), "wb") as file:
+                file.write(gzip.compress(text))
+        self.write("release/SHA256SUMS", sums)
 
     def remove(self, name):
         os.remove(os.path.join(self.top, name))

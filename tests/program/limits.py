@@ -5,7 +5,8 @@ What is wanted is worked out here from the input, by rules of its own, never fro
 
 from cases import SECOND_BATCH, Case, batch, file_of
 
-BATCHES = 65_536
+BATCHES = 1_048_576
+MESSAGES = 65_536
 LINE = 1_048_576
 
 
@@ -19,7 +20,7 @@ def full_replica():
     script = ["table 2 T A SMALLINT", *["append 1 (7)"] * BATCHES]
     script += ["append 1 (7)", "insert 1 9.1 (7)", "insert 1 1.5 (7)", "merge 2 1", "append 2 (7)", "delete 2 9.1 0 0", "query 2 SELECT COUNT(*),SUM(A) FROM T"]
     replies += ["refused Full", "refused Full", "ok already", "ok", "refused Full", "ok", "ok 1", "COUNT(*),SUM(A)", f"{BATCHES},{7 * BATCHES}"]
-    return Case("a replica holds 65,536 batches and no more", ["run"], 0, lines(*replies), input=lines(*script))
+    return Case("a replica holds 1,048,576 batches and no more", ["run"], 0, lines(*replies), input=lines(*script))
 
 
 def full_union():
@@ -27,12 +28,12 @@ def full_union():
     half = BATCHES // 2 + 1
     script = ["table 2 T A SMALLINT", *["append 1 (7)"] * half, *["append 2 (7)"] * half, "merge 1 2", "query 1 SELECT COUNT(*) FROM T"]
     replies = ["ok", *(f"ok 1.{number}" for number in range(1, half + 1)), *(f"ok 2.{number}" for number in range(1, half + 1)), "refused Full", "ok 1", "COUNT(*)", str(half)]
-    return Case("a merge past 65,536 batches is refused", ["run"], 0, lines(*replies), input=lines(*script))
+    return Case("a merge past 1,048,576 batches is refused", ["run"], 0, lines(*replies), input=lines(*script))
 
 
 def full_messages():
-    script = ["table 1 T A SMALLINT", *["ask 1"] * (BATCHES + 1), "serve 1 1", "take 1 1"]
-    replies = ["ok", *(f"ok {number}" for number in range(1, BATCHES + 1)), "refused Full", "refused Full", "refused NoSuchMessage"]
+    script = ["table 1 T A SMALLINT", *["ask 1"] * (MESSAGES + 1), "serve 1 1", "take 1 1"]
+    replies = ["ok", *(f"ok {number}" for number in range(1, MESSAGES + 1)), "refused Full", "refused Full", "refused NoSuchMessage"]
     return Case("65,536 messages are kept and no more", ["run"], 0, lines(*replies), input=lines(*script))
 
 
@@ -57,10 +58,10 @@ def many_ranges():
 
 
 def many_columns():
-    """32 columns of three types, with a null in each row and a column of nulls alone, grouped by all 32."""
-    types = ["SMALLINT", "INTEGER", "BIGINT"]
+    """32 columns of four types, with a null in each row and a column of nulls alone, grouped by all 32."""
+    types = ["TINYINT", "SMALLINT", "INTEGER", "BIGINT"]
     names = [f"C{column}" for column in range(32)]
-    table = " ".join(f"{name} {types[column % 3]}" for column, name in enumerate(names))
+    table = " ".join(f"{name} {types[column % 4]}" for column, name in enumerate(names))
 
     def cell(row, column):
         return "NULL" if column == 31 or (row + column) % 3 == 0 else str((row * 31 + column) % 100 - 50)
@@ -108,7 +109,7 @@ LIMIT_CASES = [
     many_groups(),
     long_where("a megabyte of OR is answered", "OR", 7, 2),
     long_where("a megabyte of AND is answered", "AND", 8, 0),
-    Case("a file of 65,536 batches and 10,000 ranges is checked", ["check", "t"], 0, b"ok batches=65536 ranges=10000\n", files={"t": FULL_FILE}),
+    Case("a file of 1,048,576 batches and 10,000 ranges is checked", ["check", "t"], 0, b"ok batches=1048576 ranges=10000\n", files={"t": FULL_FILE}),
     Case("it is merged with itself to the same bytes", ["merge", "out", "t", "t"], 0, b"ok\n", files={"t": FULL_FILE}, writes={"out": FULL_FILE}),
     Case("it is queried", ["query", "t", "SELECT COUNT(*),SUM(A) FROM T"], 0, f"COUNT(*),SUM(A)\n{BATCHES},{7 * BATCHES}\n".encode(), files={"t": FULL_FILE}),
     Case("one batch more is refused in a full file", ["merge", "out", "t", "u"], 1, err=b"refused Full\n", files={"t": FULL_FILE, "u": SECOND_BATCH}, writes={"out": None}),

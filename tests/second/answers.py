@@ -106,6 +106,12 @@ def answer(query, rows, columns):
     return lines
 
 
+def names_where(where, named, columns):
+    """The names of the rows, each given with its own, at which a condition is true."""
+    place = {name: at for at, name in enumerate(columns)}
+    return [name for name, row in named if condition(where, field_in_row(row, place)) == TRUE]
+
+
 def spelled(field):
     if field is None:
         return "NULL"

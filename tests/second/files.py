@@ -6,10 +6,10 @@ from dataclasses import dataclass, field
 from query_text import KEYWORDS, Fault
 from vectors import ROWS, Bytes, canonical, read_vector
 
-BITS = {"SMALLINT": 16, "INTEGER": 32, "BIGINT": 64}
-TYPE_BYTES = {2: "SMALLINT", 4: "INTEGER", 8: "BIGINT"}
+BITS = {"TINYINT": 8, "SMALLINT": 16, "INTEGER": 32, "BIGINT": 64}
+TYPE_BYTES = {1: "TINYINT", 2: "SMALLINT", 4: "INTEGER", 8: "BIGINT"}
 NAME = re.compile(rb"[A-Z][A-Z0-9_]*")
-MOST_BATCHES = 65_536
+MOST_BATCHES = 1_048_576
 
 
 @dataclass(frozen=True)
@@ -24,6 +24,10 @@ class Schema:
 
     def bits(self):
         return [BITS[kind] for _, kind in self.columns]
+
+    def version(self):
+        """The version of its files: 2 where a column is TINYINT, else 1."""
+        return 2 if 8 in self.bits() else 1
 
 
 @dataclass
@@ -43,8 +47,13 @@ class State:
                 found.append([(origin, number), ordinal, ordinal])
         return found
 
+    def live_named(self):
+        """The rows that aren't deleted, each with its name, in order."""
+        named = (((*name, at), row) for name, rows in sorted(self.batches.items()) for at, row in enumerate(rows))
+        return [(name, row) for name, row in named if name not in self.deleted]
+
     def live_rows(self):
-        return [row for name, rows in sorted(self.batches.items()) for at, row in enumerate(rows) if (*name, at) not in self.deleted]
+        return [row for _, row in self.live_named()]
 
 
 def number(size, value):
@@ -74,7 +83,7 @@ def file_bytes(schema, state, coded=canonical, ranges=None):
     ranges = state.ranges() if ranges is None else ranges
     batches = b"".join(batch_bytes(schema, name, rows, coded) for name, rows in sorted(state.batches.items()))
     deleted = b"".join(number(4, name[0]) + number(4, name[1]) + number(2, first) + number(2, last) for name, first, last in ranges)
-    return b"FLCF" + number(2, 1) + schema_bytes(schema) + number(4, len(state.batches)) + batches + number(8, len(ranges)) + deleted
+    return b"FLCF" + number(2, schema.version()) + schema_bytes(schema) + number(4, len(state.batches)) + batches + number(8, len(ranges)) + deleted
 
 
 # ---- reading
@@ -89,16 +98,28 @@ def read_name(source):
 
 
 def read_schema(source):
+    """The version and the schema, which have to fit each other."""
+    version = source.number(2)
+    if version not in (1, 2):
+        raise Fault("BadVersion")
+    schema = read_columns(source, [size for size in TYPE_BYTES if size > 1 or version == 2])
+    if version != schema.version():
+        raise Fault("BadVersion")
+    return schema
+
+
+def read_columns(source, sizes):
+    """The table's name and its columns, whose types have these numbers of bytes."""
     count = source.judged(2, "BadCount", lambda it: 1 <= it <= 32)
     table, columns = read_name(source), []
     for _ in range(count):
-        kind = TYPE_BYTES.get(source.number(1))
-        if kind is None:
+        size = source.number(1)
+        if size not in sizes:
             raise Fault("BadSchema")
         name = read_name(source)
         if name in [it for it, _ in columns]:
             raise Fault("BadSchema")
-        columns.append((name, kind))
+        columns.append((name, TYPE_BYTES[size]))
     return Schema(table, tuple(columns))
 
 
@@ -142,8 +163,6 @@ def read_container(data):
     source, state = Bytes(data), State()
     if source.field(4) != b"FLCF":
         raise Fault("BadMagic")
-    if source.number(2) != 1:
-        raise Fault("BadVersion")
     schema, last = read_schema(source), None
     for _ in range(source.judged(4, "BadCount", lambda it: it <= MOST_BATCHES)):
         last, rows = read_batch(source, schema, last)

@@ -231,17 +231,31 @@ class Reader:
         return Literal(-number if negative else number)
 
 
+def read_condition(text, columns):
+    """The condition of a text, as it stands behind WHERE, over a table with these columns."""
+    reader = Reader(text)
+    found = reader.condition(False)
+    reader.take("end")
+    judge_columns(reader.query, columns)
+    return found
+
+
 def not_where(negated, test):
     return Test("NOT", (test,)) if negated else test
+
+
+def judge_columns(query, columns):
+    """The fault of a column that the table has not, if there is one."""
+    lacking = [it.place for it in query.mentions if it.name not in columns]
+    if lacking:
+        raise Fault(f"NoSuchColumn {min(lacking)}")
 
 
 def judge_names(query, table, columns):
     """The fault of a query's names, if it has one."""
     if query.table != table:
         raise Fault("NoSuchTable")
-    lacking = [it.place for it in query.mentions if it.name not in columns]
-    if lacking:
-        raise Fault(f"NoSuchColumn {min(lacking)}")
+    judge_columns(query, columns)
     keys = {it.name for it in query.keys or []}
     ungrouped = [it.place for it in query.ungrouped if it.name not in keys]
     if ungrouped:

@@ -3,9 +3,9 @@
 import re
 from dataclasses import dataclass, field
 
-from answers import answer
+from answers import answer, names_where
 from files import BITS, MOST_BATCHES, Schema, State, file_bytes, read_file
-from query_text import KEYWORDS, Fault, read_query
+from query_text import KEYWORDS, Fault, read_condition, read_query
 from vectors import CODINGS, ROWS
 
 LONGEST_LINE, MOST_ROWS, MOST_MESSAGES, MOST_REPLICAS, MOST_COLUMNS = 1_048_576, 65_536, 65_536, 64, 32
@@ -142,6 +142,13 @@ class Replica:
         names = self.schema.names()
         return answer(read_query(text, self.schema.table, names), self.state.live_rows(), names)
 
+    def delete_where(self, text):
+        """Deletes the rows at which a condition is true, and answers how many."""
+        names = self.schema.names()
+        found = names_where(read_condition(text, names), self.state.live_named(), names)
+        self.state.deleted.update(found)
+        return len(found)
+
 
 # How the words after each command are read; `R` is a replica and `M` a message.
 WORDS = {
@@ -184,6 +191,8 @@ class Cluster:
             return self.table(rest.split(" "))
         if command == "query":
             return self.query(rest)
+        if command == "delete" and rest.startswith("where "):
+            return self.delete_where(rest.removeprefix("where "))
         return self.step(command, rest.split(" "))
 
     def table(self, words):
@@ -212,6 +221,13 @@ class Cluster:
             raise BadLine
         lines = self.replica(number).query(text)
         return "\n".join([f"ok {len(lines) - 1}", *lines])
+
+    def delete_where(self, rest):
+        word, _, text = rest.partition(" ")
+        number = whole_number(word)
+        if not text:
+            raise BadLine
+        return f"ok {self.replica(number).delete_where(text)}"
 
     def step(self, command, words):
         forms = WORDS.get(command)

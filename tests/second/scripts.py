@@ -45,8 +45,8 @@ class Maker:
         names = pick.sample(NAMES, pick.randint(1, 4))
         self.add(f"table {pick.randint(1, 3)} T " + " ".join(f"{name} {pick.choice(list(BITS))}" for name in names))
         self.schema = self.cluster.replicas[0].schema
-        steps = [self.append, self.insert, self.delete, self.merge, self.message, self.recode, self.open, self.export, self.query, self.stray]
-        weights = [16, 8, 8, 8, 8, 4, 8, 6, 40, 3]
+        steps = [self.append, self.insert, self.delete, self.delete_where, self.merge, self.message, self.recode, self.open, self.export, self.query, self.stray]
+        weights = [16, 8, 8, 6, 8, 8, 4, 8, 6, 40, 3]
         for step in pick.choices(steps, weights, k=count):
             self.add(step())
         return self
@@ -91,6 +91,12 @@ class Maker:
         last = self.pick.choice([first, first + 1, first + 3, 0, 1024])
         return f"delete {self.replica()} {spelled(self.some_name())} {first} {last}"
 
+    def delete_where(self):
+        tokens = self.condition(2, self.row_operand)
+        if self.pick.random() < 0.05:
+            tokens = self.function() + [self.pick.choice(SIGNS)] + self.literal()
+        return f"delete where {self.replica()} {self.text_of(self.changed(tokens))}"
+
     def merge(self):
         return f"merge {self.replica()} {self.replica()}"
 
@@ -114,7 +120,7 @@ class Maker:
         return f"open {self.replica()} {self.file().hex()}"
 
     def stray(self):
-        line = self.pick.choice([self.append, self.delete, self.message, self.query])()
+        line = self.pick.choice([self.append, self.delete, self.delete_where, self.message, self.query])()
         at = self.pick.randrange(len(line))
         return self.pick.choice([line[:at] + line[at + 1 :], line[:at] + self.pick.choice(" 0x(,.\x7f") + line[at:], "table 1 T A SMALLINT", "nothing 1"]) or "x"
 
@@ -131,7 +137,7 @@ class Maker:
         elif kind == "split":
             data = file_bytes(schema, state, ranges=[part for it in state.ranges() for part in split(pick, *it)])
         elif kind == "damaged":
-            data = self.damaged(data, pick.choice([60, len(data)]))
+            data = self.damaged(data, pick.choice([16, 60, len(data)]))
         elif kind == "cut":
             data = data[: pick.randrange(1, len(data))]
         elif kind == "longer":
