@@ -1,5 +1,6 @@
 #!/usr/bin/env python3
-"""Writes docs/DEFINITIONS.md anew: each public definition of the crates' specs, with the comment above it."""
+"""Writes docs/DEFINITIONS.md anew: each public definition of the crates' specs, with the comment above it. With --check it only tells
+whether the page is fresh, by its status."""
 import pathlib, re, sys
 
 TOP = pathlib.Path(__file__).resolve().parent.parent
@@ -57,7 +58,10 @@ def section(crate):
 def main():
     crates = [line.split(":")[0].split()[0] for line in (TOP / "crates.txt").read_text().splitlines() if line and line[0] != "#"]
     page = HEAD + "\n".join(line for crate in crates for line in section(crate)) + "\n"
-    (TOP / "docs" / "DEFINITIONS.md").write_text(page)
+    path = TOP / "docs" / "DEFINITIONS.md"
+    if "--check" in sys.argv:
+        sys.exit(0 if path.read_text() == page else "docs/DEFINITIONS.md is stale: run docs/definitions.py")
+    path.write_text(page)
 
 
 if __name__ == "__main__":
