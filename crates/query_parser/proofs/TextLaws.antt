@@ -89,7 +89,8 @@ queries_read = record {
   first = query_first;
   faults = query_known;
   takes = query_taken;
-  syntax = query_syntax }
+  syntax = query_syntax;
+}
 
 -- ---- conditions
 
@@ -123,4 +124,5 @@ conditions_read = record {
   first = formula_first;
   faults = formula_known;
   takes = formula_taken;
-  syntax = formula_syntax }
+  syntax = formula_syntax;
+}

@@ -116,7 +116,7 @@ fn test<'t, 'a>(
 fn truth_test<'t, 'a>(primary: Primary, tokens: &'t [Token<'a>], end: u64) -> Read<'t, 'a, Test>
     ensures reads { Reads (λ r. (formula_of_test r.0, r.1.now)) result (read_is (formula_of_primary primary) end tokens.now) }
     ensures shorter { IfOk result (λ r. length r.1.now ≤ length tokens.now) }
-    ensures spared { IfErr result (λ e. e ≢ Refusal.Memory) }
+    ensures grows_nothing { IfErr result (λ e. e ≢ Refusal.Memory) }
 {
     match after(tokens, Sign::Is) {
         Some(rest) => {
@@ -162,7 +162,7 @@ fn primary<'t, 'a>(
 fn asked<'t, 'a>(tokens: &'t [Token<'a>], end: u64) -> Read<'t, 'a, IsTruth>
     ensures reads { Reads (λ r. (r.0, r.1.now)) result (read_asked end tokens.now) }
     ensures shorter { IfOk result (λ r. length r.1.now < length tokens.now) }
-    ensures spared { IfErr result (λ e. e ≢ Refusal.Memory) }
+    ensures grows_nothing { IfErr result (λ e. e ≢ Refusal.Memory) }
 {
     match after(tokens, Sign::Not) {
         Some(rest) => truth_word(true, rest, end),
@@ -175,7 +175,7 @@ fn asked<'t, 'a>(tokens: &'t [Token<'a>], end: u64) -> Read<'t, 'a, IsTruth>
 fn truth_word<'t, 'a>(negated: bool, tokens: &'t [Token<'a>], end: u64) -> Read<'t, 'a, IsTruth>
     ensures reads { Reads (λ r. (r.0, r.1.now)) result (read_truth_word negated end tokens.now) }
     ensures shorter { IfOk result (λ r. length r.1.now < length tokens.now) }
-    ensures spared { IfErr result (λ e. e ≢ Refusal.Memory) }
+    ensures grows_nothing { IfErr result (λ e. e ≢ Refusal.Memory) }
 {
     if let Some(rest) = after(tokens, Sign::True) {
         let truth = Truth::True;

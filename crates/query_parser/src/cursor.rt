@@ -44,7 +44,7 @@ pub(crate) fn expect<'t, 'a>(
 ) -> Result<&'t [Token<'a>], Refusal>
     ensures reads { Reads (λ rest. rest.now) result (read_sign sign end tokens.now) }
     ensures shorter { IfOk result (λ rest. length rest.now < length tokens.now) }
-    ensures spared { IfErr result (λ e. e ≢ Refusal.Memory) }
+    ensures grows_nothing { IfErr result (λ e. e ≢ Refusal.Memory) }
 {
     match after(tokens, sign) {
         Some(rest) => Ok(rest),

@@ -16,7 +16,7 @@ const MAX_DIGITS: usize = 30;
 pub(crate) fn literal<'t, 'a>(tokens: &'t [Token<'a>], end: u64) -> Read<'t, 'a, i128>
     ensures reads { Reads (λ r. (r.0, r.1.now)) result (read_literal end tokens.now) }
     ensures shorter { IfOk result (λ r. length r.1.now < length tokens.now) }
-    ensures spared { IfErr result (λ e. e ≢ Refusal.Memory) }
+    ensures grows_nothing { IfErr result (λ e. e ≢ Refusal.Memory) }
 {
     if let Some(rest) = after(tokens, Sign::Plus) {
         return digits(rest, end, false);
@@ -32,7 +32,7 @@ pub(crate) fn literal<'t, 'a>(tokens: &'t [Token<'a>], end: u64) -> Read<'t, 'a,
 fn digits<'t, 'a>(tokens: &'t [Token<'a>], end: u64, negative: bool) -> Read<'t, 'a, i128>
     ensures reads { Reads (λ r. (r.0, r.1.now)) result (read_digits negative end tokens.now) }
     ensures shorter { IfOk result (λ r. length r.1.now < length tokens.now) }
-    ensures spared { IfErr result (λ e. e ≢ Refusal.Memory) }
+    ensures grows_nothing { IfErr result (λ e. e ≢ Refusal.Memory) }
 {
     match tokens.split_first() {
         Some(

@@ -79,7 +79,13 @@ const LIMITS: [(&str, &str, usize, &str, Option<Refusal>); 9] = [
     ("", "(", 64, "A IN(1)", Some(Refusal::Syntax(71))),
     ("A < ", "1", 30, "", None),
     ("A < ", "1", 31, "", Some(Refusal::NumberTooLarge(4))),
-    ("A IN (1,- ", "9", 31, ")", Some(Refusal::NumberTooLarge(10))),
+    (
+        "A IN (1,- ",
+        "9",
+        31,
+        ")",
+        Some(Refusal::NumberTooLarge(10)),
+    ),
     ("A = 00", "1", 30, "", None),
     ("A ", "1", 31, "", Some(Refusal::Syntax(2))),
     (" ", " ", 1_000_000, "", Some(Refusal::Syntax(1_000_001))),
@@ -136,9 +142,7 @@ fn names_of_a_lone_condition_are_those_of_the_table(rt: HostRuntime) -> Result<(
 
 // Reading and resolving take one pass each.
 #[test]
-fn a_long_lone_condition_is_read_in_time_linear_in_its_length(
-    rt: HostRuntime,
-) -> Result<(), Fail> {
+fn a_long_lone_condition_is_read_in_time_linear_in_its_length(rt: HostRuntime) -> Result<(), Fail> {
     let schema = Schema::new(rt.alloc(), "T", &[("A", ColType::TinyInt)])?;
     let text = repeated(rt.alloc(), "", "A=1 OR ", 150_000, "B=1")?;
     let outcome = resolved(rt.alloc(), text.as_str(), &schema);
