@@ -92,12 +92,7 @@ const COMPARED: [(Op, i128); 6] = [
 fn compared(vector: &CodedVector, op: Op, literal: i128, mask: &Mask) -> [(Mask, Mask); 2] {
     let mut meter = Meter::new();
     [
-        compare(
-            &mut VectorLanes::new(vector, &mut meter),
-            op,
-            literal,
-            mask,
-        ),
+        compare(&mut VectorLanes::new(vector, &mut meter), op, literal, mask),
         compare_vector(vector, op, literal, mask, &mut meter),
     ]
 }
@@ -126,7 +121,12 @@ fn in_range(vector: &CodedVector, mask: &Mask) -> [(Mask, Mask); 2] {
 fn check_range(vector: &CodedVector, cells: Pattern, mask: &Mask) -> Result<(), Fail> {
     let [by_lanes, by_coding] = in_range(vector, mask);
     for row in 0..1024 {
-        let (from, below) = parts_of(mask.get(row), Op::GreaterOrEqual, cell_of(cells, row), Some(-3));
+        let (from, below) = parts_of(
+            mask.get(row),
+            Op::GreaterOrEqual,
+            cell_of(cells, row),
+            Some(-3),
+        );
         let (upto, above) = parts_of(mask.get(row), Op::LessOrEqual, cell_of(cells, row), Some(2));
         let expected = (from && upto, below || above);
         agree((by_lanes.0.get(row), by_lanes.1.get(row)), expected)?;
@@ -138,7 +138,10 @@ fn check_range(vector: &CodedVector, cells: Pattern, mask: &Mask) -> Result<(), 
 /// The values by the lanes and by the coding.
 fn check_decoded(vector: &CodedVector, cells: Pattern) -> Result<(), Fail> {
     let mut by_lanes = [0; 1024];
-    decode_into(&mut VectorLanes::new(vector, &mut Meter::new()), &mut by_lanes);
+    decode_into(
+        &mut VectorLanes::new(vector, &mut Meter::new()),
+        &mut by_lanes,
+    );
     let by_coding = decoded(vector)?;
     for row in 0..1024 {
         if let Some(cell) = cell_of(cells, row) {

@@ -122,7 +122,12 @@ pub(crate) fn holds(op: Op, left: i128, right: i128) -> bool {
 }
 
 /// Whether the comparison of a row's two cells holds and whether it doesn't: neither where one is null or the row isn't looked at.
-pub(crate) fn parts_of(looked_at: bool, op: Op, left: Option<i128>, right: Option<i128>) -> (bool, bool) {
+pub(crate) fn parts_of(
+    looked_at: bool,
+    op: Op,
+    left: Option<i128>,
+    right: Option<i128>,
+) -> (bool, bool) {
     match (left, right) {
         (Some(left), Some(right)) => (
             looked_at && holds(op, left, right),

@@ -22,7 +22,6 @@ const TYPES: [ColType; 4] = [
 /// The column types that have the number of each row.
 const LONG_TYPES: [ColType; 3] = [ColType::SmallInt, ColType::Integer, ColType::BigInt];
 
-
 /// The sum, the least and the greatest value of the rows looked at, and how many they are.
 pub(crate) type Folds = (i128, Option<i64>, Option<i64>, u32);
 
