@@ -226,27 +226,57 @@ fn is_recoded(
 
 #[test]
 fn a_refused_recoding_to_for_changes_nothing(rt: HostRuntime) -> Result<(), Fail> {
-    is_recoded(&rt, rt.alloc(), ColType::SmallInt, &dictionary_bytes(), Coding::For)
+    is_recoded(
+        &rt,
+        rt.alloc(),
+        ColType::SmallInt,
+        &dictionary_bytes(),
+        Coding::For,
+    )
 }
 
 #[test]
 fn a_refused_recoding_to_delta_changes_nothing(rt: HostRuntime) -> Result<(), Fail> {
-    is_recoded(&rt, rt.alloc(), ColType::SmallInt, &dictionary_bytes(), Coding::Delta)
+    is_recoded(
+        &rt,
+        rt.alloc(),
+        ColType::SmallInt,
+        &dictionary_bytes(),
+        Coding::Delta,
+    )
 }
 
 #[test]
 fn a_refused_recoding_to_runs_changes_nothing(rt: HostRuntime) -> Result<(), Fail> {
-    is_recoded(&rt, rt.alloc(), ColType::SmallInt, &dictionary_bytes(), Coding::Runs)
+    is_recoded(
+        &rt,
+        rt.alloc(),
+        ColType::SmallInt,
+        &dictionary_bytes(),
+        Coding::Runs,
+    )
 }
 
 #[test]
 fn a_refused_recoding_to_dict_changes_nothing(rt: HostRuntime) -> Result<(), Fail> {
-    is_recoded(&rt, rt.alloc(), ColType::SmallInt, &dictionary_bytes(), Coding::Dict)
+    is_recoded(
+        &rt,
+        rt.alloc(),
+        ColType::SmallInt,
+        &dictionary_bytes(),
+        Coding::Dict,
+    )
 }
 
 #[test]
 fn a_refused_recoding_of_8_bits_changes_nothing(rt: HostRuntime) -> Result<(), Fail> {
-    is_recoded(&rt, rt.alloc(), ColType::TinyInt, &tiny_bytes(), Coding::Delta)
+    is_recoded(
+        &rt,
+        rt.alloc(),
+        ColType::TinyInt,
+        &tiny_bytes(),
+        Coding::Delta,
+    )
 }
 
 /// Whether a segment was built, and has the rows.
@@ -292,44 +322,78 @@ fn a_refused_build_of_one_value_gives_no_segment(rt: HostRuntime) -> Result<(), 
 #[test]
 fn a_refused_build_of_a_frame_gives_no_segment(rt: HostRuntime) -> Result<(), Fail> {
     let rows = rows_with(rt.alloc(), &[Some(7), None, Some(8)])?;
-    is_built(&rt, rt.alloc(), ColType::SmallInt, &rows, (Coding::For, 130))
+    is_built(
+        &rt,
+        rt.alloc(),
+        ColType::SmallInt,
+        &rows,
+        (Coding::For, 130),
+    )
 }
 
 // 0 to 65, then 65: the differences are 1 and 0. A least delta, 64 bases and a bit a row are 258 bytes, a mask and 66 values 260.
 #[test]
 fn a_refused_build_of_deltas_gives_no_segment(rt: HostRuntime) -> Result<(), Fail> {
     let rows = rows_of(rt.alloc(), 66, Pattern::Counting)?;
-    is_built(&rt, rt.alloc(), ColType::SmallInt, &rows, (Coding::Delta, 258))
+    is_built(
+        &rt,
+        rt.alloc(),
+        ColType::SmallInt,
+        &rows,
+        (Coding::Delta, 258),
+    )
 }
 
 // 7, 7, 9, 9, ..: a mask and two values are 132 bytes, and so are two values and a bit a row, which come later.
 #[test]
 fn a_refused_build_of_runs_gives_no_segment(rt: HostRuntime) -> Result<(), Fail> {
     let rows = rows_with(rt.alloc(), &[Some(7), None, Some(9)])?;
-    is_built(&rt, rt.alloc(), ColType::SmallInt, &rows, (Coding::Runs, 132))
+    is_built(
+        &rt,
+        rt.alloc(),
+        ColType::SmallInt,
+        &rows,
+        (Coding::Runs, 132),
+    )
 }
 
 // 7, 7, 9, 7, 7, ..: two values and a bit a row are 132 bytes, a mask and three values 134.
 #[test]
 fn a_refused_build_of_a_dictionary_gives_no_segment(rt: HostRuntime) -> Result<(), Fail> {
     let rows = rows_with(rt.alloc(), &[Some(7), None, Some(9), Some(7)])?;
-    is_built(&rt, rt.alloc(), ColType::SmallInt, &rows, (Coding::Dict, 132))
+    is_built(
+        &rt,
+        rt.alloc(),
+        ColType::SmallInt,
+        &rows,
+        (Coding::Dict, 132),
+    )
 }
 
 // 0 to 127 in turn: a least delta and 128 bases of one byte each.
 #[test]
 fn a_refused_build_of_deltas_of_8_bits_gives_no_segment(rt: HostRuntime) -> Result<(), Fail> {
     let rows = rows_of(rt.alloc(), 1024, CYCLE)?;
-    is_built(&rt, rt.alloc(), ColType::TinyInt, &rows, (Coding::Delta, 129))
+    is_built(
+        &rt,
+        rt.alloc(),
+        ColType::TinyInt,
+        &rows,
+        (Coding::Delta, 129),
+    )
 }
 
 // -128 and 127 in turn: two values of one byte each, and a bit a row.
 #[test]
-fn a_refused_build_of_a_dictionary_of_8_bits_gives_no_segment(
-    rt: HostRuntime,
-) -> Result<(), Fail> {
+fn a_refused_build_of_a_dictionary_of_8_bits_gives_no_segment(rt: HostRuntime) -> Result<(), Fail> {
     let rows = rows_of(rt.alloc(), 1024, ENDS)?;
-    is_built(&rt, rt.alloc(), ColType::TinyInt, &rows, (Coding::Dict, 130))
+    is_built(
+        &rt,
+        rt.alloc(),
+        ColType::TinyInt,
+        &rows,
+        (Coding::Dict, 130),
+    )
 }
 
 /// Whether a vector stands for the two rows of these tests, 7 and null, in a coding.

@@ -115,7 +115,10 @@ fn recoding_keeps_numbers_of_8_bits(rt: HostRuntime) -> Result<(), Fail> {
     for &(coding, bytes) in &RECODED {
         segment.recode(rt.alloc(), 0, 0, coding)?;
         let vector = first(&rt, &segment);
-        agree((vector.coding(), vector.coded().bytes_len()), (coding, bytes))?;
+        agree(
+            (vector.coding(), vector.coded().bytes_len()),
+            (coding, bytes),
+        )?;
         assert!(rt; segment.has_rows(&rows));
     }
     assert!(rt; segment.canonical());
