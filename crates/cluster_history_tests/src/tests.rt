@@ -1,7 +1,6 @@
 //! Clusters that are told steps; the replies are worked out by hand from the rules of steps.
-use cluster_history::{Cluster, Reply, run};
+use cluster_history::{Cluster, Reply, Step, run};
 use replica_store::Store;
-use script_lines::Step;
 use std::alloc::Global;
 use std::test::Fail;
 use table_model::{BatchName, ColType, Number, Origin, Refusal, Schema};

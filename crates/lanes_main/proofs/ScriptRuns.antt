@@ -16,7 +16,7 @@ use Rattle.script_lines.specs.declared.command.Command.{Command}
 use Rattle.script_lines.specs.declared.command.Command.TheVariants as commands
 use Rattle.cluster_history.specs.declared.reply.Reply.{Reply}
 use Rattle.cluster_history.specs.declared.reply.Reply.TheVariants.{Done, Refused}
-use Rattle.script_lines.specs.declared.step.Step.{Step}
+use Rattle.cluster_history.specs.declared.step.Step.{Step}
 use Rattle.cluster_history.proofs.Histories.{in_histories, histories}
 
 steps_run : StepsRun

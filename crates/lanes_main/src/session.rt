@@ -10,8 +10,8 @@ ghost use Rattle.lanes_main.specs.Script.{parts_in, founded, first_answer, later
 use crate::line_part::{LINE_LIMIT, LinePart};
 use crate::notes::Notes;
 use crate::reply_format::write_reply;
-use cluster_history::{Cluster, Reply};
-use script_lines::{Command, Step, TableCommand, parse_line};
+use cluster_history::{Cluster, Reply, Step};
+use script_lines::{Command, TableCommand, parse_line};
 use std::alloc::Global;
 use std::io::Write;
 use table_model::{Refusal, Schema};

@@ -6,9 +6,10 @@ use Rattle.std.specs.Str.{bytes_eq}
 use Rattle.table_model.specs.Table.{type_named}
 use Rattle.table_model.specs.declared.schema.ColType.{ColType}
 use Rattle.script_lines.specs.Word.{◌>>=◌, cut, pieces, number_of, number_digits, small_number, ordinal_of, name_of, rows_of, coding_of, some_text, file_of}
-use Rattle.script_lines.specs.TableWords.{replica_limit, TableWords}
-use Rattle.script_lines.specs.declared.step.Step.{Step}
-use Rattle.script_lines.specs.declared.step.Step.TheVariants.{Append, Insert, Delete, DeleteWhere, Merge, Ask, Serve, Take, Recode, Open, Export, Query}
+use Rattle.script_lines.specs.TableWords.{TableWords}
+use Rattle.cluster_history.specs.Cluster.{replica_limit}
+use Rattle.cluster_history.specs.declared.step.Step.{Step}
+use Rattle.cluster_history.specs.declared.step.Step.TheVariants.{Append, Insert, Delete, DeleteWhere, Merge, Ask, Serve, Take, Recode, Open, Export, Query}
 use Rattle.script_lines.specs.declared.command.Command.{Command}
 use Rattle.script_lines.specs.declared.command.Command.TheVariants.{Table, Act}
 

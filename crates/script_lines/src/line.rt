@@ -3,20 +3,17 @@ ghost use Rattle.std.specs.Prelude.{◌≡◌, ◌≤◌, option_map, IfSome, If
 ghost use Rattle.std.specs.List.{list_all};
 ghost use Rattle.script_lines.specs.Reading.{ReadsPart};
 ghost use Rattle.script_lines.specs.Line.{addressed, append_words, insert_words, delete_words, where_words, delete_where_words, merge_words, ask_words, serve_words, take_words, recode_words, open_words, export_words, query_words, step_words, longer_step, step_line, replicas_of, table_words, table_line, words_of, is_printable, command_of, grows, may_grow, MayGrow};
-ghost use Rattle.script_lines.specs.TableWords.{replica_limit};
+ghost use Rattle.cluster_history.specs.Cluster.{replica_limit};
 
 use crate::columns::columns;
 use crate::command::{Command, TableCommand};
 use crate::rows::rows;
-use crate::step::{Sql, Step};
 use crate::words::{
     NUMBER_DIGITS, batch_name, coding, cut, file, number, ordinal, small_number, some_text,
 };
+use cluster_history::{REPLICA_LIMIT, Sql, Step};
 use std::alloc::Global;
 use table_model::{Refusal, RowName};
-
-/// How many replicas a table has at most.
-const MAX_REPLICAS: u128 = 64;
 
 /// The command that a line is, without its line feed; `BadLine` where it is none.
 ///
@@ -91,7 +88,7 @@ pub(crate) fn replicas(text: &str) -> Option<usize>
     ensures value { result ≡ replicas_of text.now }
     ensures bound { IfSome result (λ n. (1 ≤ n) × (n ≤ replica_limit)) }
 {
-    let count = number(text, NUMBER_DIGITS, MAX_REPLICAS)?;
+    let count = number(text, NUMBER_DIGITS, REPLICA_LIMIT as u128)?;
     if 1 <= count {
         Some(count as usize)
     } else {

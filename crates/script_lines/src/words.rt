@@ -6,7 +6,7 @@ ghost use Rattle.std.specs.Str.Parse.{digits_value};
 ghost use Rattle.script_lines.specs.Reading.{ReadsPart};
 ghost use Rattle.script_lines.specs.Word.{cut, without, is_numeral, number_of, small_number, ordinal_of, name_of, value_digits, magnitude_of, integer_of, cell_of, coding_of, some_text, file_of};
 
-use crate::file_bytes::FileBytes;
+use cluster_history::FileBytes;
 use hex::FromHexError;
 use segment_core::Coding;
 use std::alloc::Global;

@@ -1,5 +1,6 @@
 //! Lines and what they ask for, worked out by hand from the rules of lines.
-use script_lines::{Command, Step, expected, parse_line};
+use cluster_history::Step;
+use script_lines::{Command, expected, parse_line};
 use std::alloc::Global;
 use std::test::Fail;
 use table_model::{ColType, Refusal};
