@@ -70,7 +70,7 @@ fn replicas_are_numbered_from_1(rt: HostRuntime) -> Result<(), Fail> {
 
 /// A step that exchanges messages: of which replica, and of which message or with which other replica.
 #[derive(Clone, Copy)]
-enum Told {
+pub(crate) enum Told {
     Ask(u32),
     Serve(u32, u32),
     Take(u32, u32),
@@ -78,7 +78,7 @@ enum Told {
 }
 
 /// The step itself.
-fn step_of(told: Told) -> Step {
+pub(crate) fn step_of(told: Told) -> Step {
     match told {
         Told::Ask(replica) => Step::Ask { replica },
         Told::Serve(replica, message) => Step::Serve { replica, message },

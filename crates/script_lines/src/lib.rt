@@ -6,7 +6,9 @@ mod command;
 mod expectations;
 mod laws;
 mod line;
+mod operand;
 mod rows;
+mod verb;
 mod words;
 
 pub use command::{Command, TableCommand};

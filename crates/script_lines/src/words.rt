@@ -1,5 +1,5 @@
 //! Words of a line: numbers, names of batches, values and rows.
-ghost use Rattle.std.specs.Prelude.{◌≡◌, ◌<◌, ◌≤◌, ◌^◌, length, option_map, IfSome, true, pos, ◌≤ℤ◌};
+ghost use Rattle.std.specs.Prelude.{◌≡◌, ◌<◌, ◌≤◌, ◌^◌, ◌%◌, length, option_map, IfSome, Err, true, pos, ◌≤ℤ◌};
 ghost use Rattle.std.specs.List.{list_all};
 ghost use Rattle.std.specs.Char.{is_ascii_digit};
 ghost use Rattle.std.specs.Str.Parse.{digits_value};
@@ -178,7 +178,8 @@ pub fn some_text(text: &str) -> Option<&str>
 
 /// The bytes that hexadecimal digits write, in either case: at least one.
 pub fn file(alloc: Global, text: &str) -> Result<FileBytes, Refusal>
-    ensures { ReadsPart (λ file. file) result (file_of text.now) }
+    ensures file { ReadsPart (λ file. file) result (file_of text.now) }
+    ensures odd { length text.now % 2 ≡ 1 → result ≡ Err Refusal.BadLine }
 {
     let Some(digits) = some_text(text) else {
         return Err(Refusal::BadLine);
