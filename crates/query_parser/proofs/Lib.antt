@@ -13,6 +13,7 @@ pub mod Productions
 pub mod Simulation
 pub mod Spelling
 pub mod Taking
+pub mod TextLaws
 pub mod Visits
 pub mod Wholes
 pub mod WholeConditions

@@ -22,7 +22,7 @@ use Rattle.query_parser.proofs.Wholes.{all_fit, any_fit, limit_no_syntax, one_an
 
 -- ---- the first fault
 
-whole_condition_law : (end : ℕ) (ts : List Token) → first_fault end (a_condition Where ∷ []) ts ≡ fault_in (read_whole_condition end ts)
+pub whole_condition_law : (end : ℕ) (ts : List Token) → first_fault end (a_condition Where ∷ []) ts ≡ fault_in (read_whole_condition end ts)
 unfolding read_whole_condition
 whole_condition_law end ts = by_result (read_condition Where depth_limit end ts) (condition_law Where depth_limit end ts [] refl)
   where
@@ -37,7 +37,7 @@ finds_condition end ts (Err e) (inr h) = inr h
 
 -- ---- the grammar
 
-condition_spelled : (end : ℕ) (ts : List Token) (f : Formula) → read_whole_condition end ts ≡ Ok f → IsCondition Where f ts []
+pub condition_spelled : (end : ℕ) (ts : List Token) (f : Formula) → read_whole_condition end ts ≡ Ok f → IsCondition Where f ts []
 unfolding read_whole_condition
 condition_spelled end ts f h = by_result (read_condition Where depth_limit end ts) (condition_sound Where depth_limit end ts) h
   where
@@ -58,7 +58,7 @@ answers_condition end ts (Err e) h = tt
 
 -- ---- each condition within the limits
 
-within : (end : ℕ) (ts : List Token) (f : Formula) → IsCondition Where f ts [] → IsConditionWithin f ts → read_whole_condition end ts ≡ Ok f
+pub within : (end : ℕ) (ts : List Token) (f : Formula) → IsCondition Where f ts [] → IsConditionWithin f ts → read_whole_condition end ts ≡ Ok f
 unfolding read_whole_condition taken
 within end ts f is limits = by_agreement (condition_agrees ⊥ Where depth_limit end f ts [] is (all_fit ts limits.literals) (inl limits.levels) refl refl refl)
   where

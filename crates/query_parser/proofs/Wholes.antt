@@ -22,7 +22,7 @@ any_fit [] = tt
 any_fit (t ∷ ts) = (λ l. tt, any_fit ts)
 
 -- a query within the limits is read
-within : (end : ℕ) (ts : List Token) (q : QueryShape) → IsQuery q ts [] → IsWithinLimits q ts → read_whole end ts ≡ Ok q
+pub within : (end : ℕ) (ts : List Token) (q : QueryShape) → IsQuery q ts [] → IsWithinLimits q ts → read_whole end ts ≡ Ok q
 unfolding read_whole
 within end ts q is limits = by_agreement (query_agrees ⊥ depth_limit end q ts is (all_fit ts limits.literals) (inl limits.filter) (inl limits.having))
   where

@@ -3,4 +3,5 @@ pub mod Grammar
 pub mod Limits
 pub mod Resolve
 pub mod Stack
+pub mod Texts
 pub mod Token

@@ -1,5 +1,5 @@
 //! Conditions: predicates under AND, OR, NOT, IS TRUE and the like, and parentheses.
-ghost use Rattle.std.specs.Prelude.{◌<◌, ◌≤◌, length, IfOk};
+ghost use Rattle.std.specs.Prelude.{◌<◌, ◌≤◌, ◌≢◌, length, IfOk, IfErr};
 ghost use Rattle.table_model.specs.Query.{formula_of_primary, formula_of_test, formula_of_factor, formula_of_term};
 ghost use Rattle.table_model.specs.Reading.{Reads};
 ghost use Rattle.query_parser.specs.Descent.{read_condition, read_term, read_factor, read_test, read_is, read_primary, read_asked, read_truth_word, nested};
@@ -116,6 +116,7 @@ fn test<'t, 'a>(
 fn truth_test<'t, 'a>(primary: Primary, tokens: &'t [Token<'a>], end: u64) -> Read<'t, 'a, Test>
     ensures reads { Reads (λ r. (formula_of_test r.0, r.1.now)) result (read_is (formula_of_primary primary) end tokens.now) }
     ensures shorter { IfOk result (λ r. length r.1.now ≤ length tokens.now) }
+    ensures grows_nothing { IfErr result (λ e. e ≢ Refusal.Memory) }
 {
     match after(tokens, Sign::Is) {
         Some(rest) => {
@@ -161,6 +162,7 @@ fn primary<'t, 'a>(
 fn asked<'t, 'a>(tokens: &'t [Token<'a>], end: u64) -> Read<'t, 'a, IsTruth>
     ensures reads { Reads (λ r. (r.0, r.1.now)) result (read_asked end tokens.now) }
     ensures shorter { IfOk result (λ r. length r.1.now < length tokens.now) }
+    ensures grows_nothing { IfErr result (λ e. e ≢ Refusal.Memory) }
 {
     match after(tokens, Sign::Not) {
         Some(rest) => truth_word(true, rest, end),
@@ -173,6 +175,7 @@ fn asked<'t, 'a>(tokens: &'t [Token<'a>], end: u64) -> Read<'t, 'a, IsTruth>
 fn truth_word<'t, 'a>(negated: bool, tokens: &'t [Token<'a>], end: u64) -> Read<'t, 'a, IsTruth>
     ensures reads { Reads (λ r. (r.0, r.1.now)) result (read_truth_word negated end tokens.now) }
     ensures shorter { IfOk result (λ r. length r.1.now < length tokens.now) }
+    ensures grows_nothing { IfErr result (λ e. e ≢ Refusal.Memory) }
 {
     if let Some(rest) = after(tokens, Sign::True) {
         let truth = Truth::True;

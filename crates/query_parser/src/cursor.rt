@@ -1,5 +1,5 @@
 //! What the tokens that are left begin with.
-ghost use Rattle.std.specs.Prelude.{◌≡◌, MatchOption, IfOk, Some, None, ◌<◌, length, IfSome};
+ghost use Rattle.std.specs.Prelude.{◌≡◌, ◌≢◌, MatchOption, IfOk, IfErr, Some, None, ◌<◌, length, IfSome};
 ghost use Rattle.table_model.specs.Identifier.{folded};
 ghost use Rattle.table_model.specs.Reading.{Reads};
 ghost use Rattle.query_parser.specs.Descent.{read_sign, read_name, begins_with_name};
@@ -44,6 +44,7 @@ pub(crate) fn expect<'t, 'a>(
 ) -> Result<&'t [Token<'a>], Refusal>
     ensures reads { Reads (λ rest. rest.now) result (read_sign sign end tokens.now) }
     ensures shorter { IfOk result (λ rest. length rest.now < length tokens.now) }
+    ensures grows_nothing { IfErr result (λ e. e ≢ Refusal.Memory) }
 {
     match after(tokens, sign) {
         Some(rest) => Ok(rest),

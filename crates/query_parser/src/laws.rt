@@ -1,5 +1,6 @@
 //! Laws of the grammar, each the contract of a function that does nothing.
 ghost use Rattle.query_parser.specs.Limits.{IsUnambiguous, ConditionsAreUnambiguous};
+ghost use Rattle.query_parser.specs.Texts.{QueriesAreRead, ConditionsAreRead};
 ghost use Rattle.query_parser.specs.Token.{KeywordsAreReserved};
 
 /// At most one query has a text's tokens, whatever its depth and its literals.
@@ -15,4 +16,15 @@ pub fn keywords_are_reserved()
 /// At most one condition of WHERE has a text's tokens, whatever its depth and its literals.
 pub fn conditions_are_unambiguous()
     ensures { ConditionsAreUnambiguous }
+{}
+
+/// What a text is read as, whatever memory does, is what the grammar says of it: the query that has its tokens, where it has no
+/// fault, and else its first fault. Each query within the limits is read, and where `Syntax` is the fault no query has the tokens.
+pub fn queries_are_read()
+    ensures { QueriesAreRead }
+{}
+
+/// The same of what a text is read as behind WHERE: the condition that has its tokens, or its first fault as a condition.
+pub fn conditions_are_read()
+    ensures { ConditionsAreRead }
 {}

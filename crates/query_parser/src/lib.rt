@@ -14,7 +14,10 @@ mod select;
 mod token;
 mod where_text;
 
-pub use laws::{conditions_are_unambiguous, keywords_are_reserved, texts_are_unambiguous};
+pub use laws::{
+    conditions_are_read, conditions_are_unambiguous, keywords_are_reserved, queries_are_read,
+    texts_are_unambiguous,
+};
 pub use names::{resolve, resolve_condition};
 pub use query::parse;
 pub use where_text::parse_condition;

@@ -1,5 +1,5 @@
 //! Literals: digits with or without a sign.
-ghost use Rattle.std.specs.Prelude.{◌≡◌, pos, length, ◌≤◌, ◌<◌, IfOk};
+ghost use Rattle.std.specs.Prelude.{◌≡◌, ◌≢◌, pos, length, ◌≤◌, ◌<◌, IfOk, IfErr};
 ghost use Rattle.table_model.specs.Reading.{Reads};
 ghost use Rattle.query_parser.specs.Descent.{read_literal, read_digits};
 ghost use Rattle.query_parser.specs.Token.{significant, digit_limit, value_of};
@@ -16,6 +16,7 @@ const MAX_DIGITS: usize = 30;
 pub(crate) fn literal<'t, 'a>(tokens: &'t [Token<'a>], end: u64) -> Read<'t, 'a, i128>
     ensures reads { Reads (λ r. (r.0, r.1.now)) result (read_literal end tokens.now) }
     ensures shorter { IfOk result (λ r. length r.1.now < length tokens.now) }
+    ensures grows_nothing { IfErr result (λ e. e ≢ Refusal.Memory) }
 {
     if let Some(rest) = after(tokens, Sign::Plus) {
         return digits(rest, end, false);
@@ -31,6 +32,7 @@ pub(crate) fn literal<'t, 'a>(tokens: &'t [Token<'a>], end: u64) -> Read<'t, 'a,
 fn digits<'t, 'a>(tokens: &'t [Token<'a>], end: u64, negative: bool) -> Read<'t, 'a, i128>
     ensures reads { Reads (λ r. (r.0, r.1.now)) result (read_digits negative end tokens.now) }
     ensures shorter { IfOk result (λ r. length r.1.now < length tokens.now) }
+    ensures grows_nothing { IfErr result (λ e. e ≢ Refusal.Memory) }
 {
     match tokens.split_first() {
         Some(

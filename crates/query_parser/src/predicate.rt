@@ -1,6 +1,7 @@
 //! Predicates: comparisons, BETWEEN, IN and IS NULL.
-ghost use Rattle.std.specs.Prelude.{◌≡◌, MatchOption, Some, None, ◌<◌, length, IfOk, IfSome};
+ghost use Rattle.std.specs.Prelude.{◌≡◌, ◌≢◌, MatchOption, Some, None, ◌<◌, length, IfOk, IfErr, IfSome};
 ghost use Rattle.table_model.specs.Reading.{Reads};
+ghost use Rattle.table_model.specs.declared.refusal.Refusal.TheVariants.{Memory};
 ghost use Rattle.query_parser.specs.Descent.{read_predicate, read_after_operand, read_range_or_list, read_range, read_list, read_literals, read_is_null, read_operand, comparison_word};
 ghost use Rattle.query_parser.specs.Grammar.{takes_functions};
 
@@ -191,6 +192,7 @@ fn literals<'t, 'a>(alloc: Global, tokens: &'t [Token<'a>], end: u64) -> Read<'t
 fn is_null<'t, 'a>(operand: Operand, tokens: &'t [Token<'a>], end: u64) -> Read<'t, 'a, Predicate>
     ensures reads { Reads (λ r. (r.0, r.1.now)) result (read_is_null operand end tokens.now) }
     ensures shorter { IfOk result (λ r. length r.1.now < length tokens.now) }
+    ensures grows_nothing { IfErr result (λ e. e ≢ Memory) }
 {
     match after(tokens, Sign::Not) {
         Some(rest) => {

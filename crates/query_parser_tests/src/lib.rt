@@ -1,5 +1,9 @@
-//! Tests of query_parser: queries and their faults, and whether names are those of a table.
+//! Tests of query_parser: queries, conditions and their faults, whether names are those of a table, and where a growth is refused.
 #![tactic(auto)]
 
 #[cfg(test)]
+mod refused_tests;
+#[cfg(test)]
 mod tests;
+#[cfg(test)]
+mod where_tests;

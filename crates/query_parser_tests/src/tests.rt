@@ -69,7 +69,7 @@ const FAULTS: [(&str, Option<Refusal>); 38] = [
 ];
 
 // The same of conditions.
-const CONDITIONS: [(&str, Option<Refusal>); 63] = [
+pub(crate) const CONDITIONS: [(&str, Option<Refusal>); 63] = [
     ("SELECT A FROM T WHERE A", Some(Refusal::Syntax(23))),
     ("SELECT A FROM T WHERE A=", Some(Refusal::Syntax(24))),
     ("SELECT A FROM T WHERE A==1", Some(Refusal::Syntax(24))),
@@ -194,7 +194,7 @@ fn the_first_token_that_no_condition_has_is_named(rt: HostRuntime) -> Result<(),
 }
 
 /// The text with a piece repeated in its middle.
-fn repeated(
+pub(crate) fn repeated(
     alloc: Global,
     front: &str,
     piece: &str,
@@ -531,7 +531,7 @@ fn each_production_is_read_in_any_case(rt: HostRuntime) -> Result<(), Fail> {
 }
 
 /// A predicate in so many pairs of parentheses, behind a front.
-fn wrapped(
+pub(crate) fn wrapped(
     alloc: Global,
     front: &str,
     predicate: &str,

@@ -8,7 +8,7 @@ use table_model::{
     Row, RowName, Rows, Schema, Stop, Truth, check_rows, column_at, is_identifier, is_keyword,
     is_word, is_word_byte, same_rows, same_word,
 };
-use test_support::agree;
+use test_support::{agree, agree_at};
 
 const A: &str = "A";
 
@@ -122,6 +122,25 @@ fn the_first_fault_of_a_batch_is_named(rt: HostRuntime) -> Result<(), Fail> {
     Ok(())
 }
 
+// TINYINT is signed, of 8 bits.
+const TINY: [(i128, Result<(), Refusal>); 4] = [
+    (-129, Err(Refusal::OutOfType { row: 0, column: 0 })),
+    (-128, Ok(())),
+    (127, Ok(())),
+    (128, Err(Refusal::OutOfType { row: 0, column: 0 })),
+];
+
+#[test]
+fn a_tinyint_is_from_minus_128_to_127(rt: HostRuntime) -> Result<(), Fail> {
+    let schema = Schema::new(rt.alloc(), "T", &[(A, ColType::TinyInt)])?;
+    for &(cell, want) in &TINY {
+        let rows = rows_of(rt.alloc(), &[&[Some(cell)]])?;
+        agree_at(cell, check_rows(&schema, rows.as_slice()), want)?;
+        agree_at(cell, ColType::TinyInt.holds(cell), want.is_ok())?;
+    }
+    Ok(())
+}
+
 // The limit comes before any look at a row: the last one has no cell.
 #[test]
 fn a_batch_has_at_most_65536_rows(rt: HostRuntime) -> Result<(), Fail> {
@@ -187,9 +206,11 @@ fn a_table_has_1_to_32_columns_with_names_of_their_own(rt: HostRuntime) -> Resul
 #[test]
 fn a_type_is_found_by_its_name_in_upper_case() -> Result<(), Fail> {
     let cases = [
+        ("TINYINT", Some(ColType::TinyInt)),
         ("SMALLINT", Some(ColType::SmallInt)),
         ("INTEGER", Some(ColType::Integer)),
         ("BIGINT", Some(ColType::BigInt)),
+        ("TinyInt", None),
         ("Integer", None),
         ("INT", None),
         ("BIGINT ", None),
@@ -197,6 +218,22 @@ fn a_type_is_found_by_its_name_in_upper_case() -> Result<(), Fail> {
     ];
     for (name, wanted) in cases {
         agree(ColType::named(name), wanted)?;
+    }
+    Ok(())
+}
+
+const TYPES: [(ColType, &str, usize); 4] = [
+    (ColType::TinyInt, "TINYINT", 8),
+    (ColType::SmallInt, "SMALLINT", 16),
+    (ColType::Integer, "INTEGER", 32),
+    (ColType::BigInt, "BIGINT", 64),
+];
+
+#[test]
+fn a_type_is_shown_by_its_name_and_has_its_bits(rt: HostRuntime) -> Result<(), Fail> {
+    for &(column_type, name, bits) in &TYPES {
+        let shown = format!(in rt.alloc(); "{column_type}")?;
+        agree((shown.as_str(), column_type.bits()), (name, bits))?;
     }
     Ok(())
 }
@@ -381,8 +418,6 @@ fn refusals_have_their_numbers_and_texts(rt: HostRuntime) -> Result<(), Fail> {
         text.push_str(format!(in rt.alloc(); "{number} {refusal}\n")?.as_str())?;
     }
     assert!(rt; text.as_str() == REFUSALS);
-    let column_type = ColType::SmallInt;
-    assert!(rt; format!(in rt.alloc(); "{column_type}")?.as_str() == "SMALLINT");
     Ok(())
 }
 
