@@ -4,4 +4,6 @@
 #[cfg(test)]
 mod refused_tests;
 #[cfg(test)]
+mod row_list_tests;
+#[cfg(test)]
 mod tests;

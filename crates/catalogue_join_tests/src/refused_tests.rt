@@ -2,10 +2,17 @@
 //! `AllocError` of its set-up, or, where it was a growth of the call that it is of, as `growth_refused` says; with none refused
 //! it passes. The command `tests/refused-memory` refuses each in turn and counts those texts. A call whose test's name ends in
 //! `grows_nowhere` has none to refuse.
+ghost use Rattle.std.specs.Prelude.{IsTrue};
+ghost use Rattle.std.specs.List.{All};
+ghost use Rattle.table_model.specs.Name.{is_proper_name};
+ghost use Rattle.table_model.specs.declared.names.RowName.{RowName};
+
+use crate::row_list_tests::rows_at;
 use crate::tests::{batch, held_of, row};
 use catalogue_join::{Held, Tombs};
 use std::alloc::{AllocError, Global};
 use std::test::Fail;
+use table_model::RowName;
 use test_support::growth_refused;
 
 /// The numbers of a set's names of origin 1, so many that one more takes memory.
@@ -229,4 +236,35 @@ fn copy_rows(alloc: Global, tombs: &Tombs) -> Result<(), Fail> {
 fn a_refused_copy_leaves_its_rows(rt: HostRuntime) -> Result<(), Fail> {
     let tombs = tombs_with(rt.alloc(), &RANGES)?;
     copy_rows(rt.alloc(), &tombs)
+}
+
+/// Rows of batch 1.1 in no order, so many apart that the set of them grows twice.
+const SCATTERED: [(u32, u16); 7] = [(1, 9), (1, 1), (1, 3), (1, 1), (1, 7), (1, 5), (1, 11)];
+
+/// The ranges of their set.
+const SCATTERED_RANGES: [(u16, u16); 6] = [(1, 1), (3, 3), (5, 5), (7, 7), (9, 9), (11, 11)];
+
+/// Whether a set was made, with those ranges.
+fn is_scattered(made: &Result<Tombs, AllocError>) -> bool {
+    match made {
+        Ok(tombs) => has_ranges(tombs, &SCATTERED_RANGES),
+        Err(AllocError) => false,
+    }
+}
+
+/// Makes the set of those rows.
+fn make_of_rows(alloc: Global, rows: &[RowName]) -> Result<(), Fail>
+    requires { All (λ (row : RowName). IsTrue (is_proper_name row.batch)) rows.now }
+{
+    let made = Tombs::from_rows(alloc, rows);
+    if is_scattered(&made) {
+        return Ok(());
+    }
+    growth_refused(made.is_err() && is_scattered(&Tombs::from_rows(alloc, rows)))
+}
+
+#[test]
+fn a_refused_set_of_rows_leaves_the_rows(rt: HostRuntime) -> Result<(), Fail> {
+    let rows = rows_at(rt.alloc(), &SCATTERED)?;
+    make_of_rows(rt.alloc(), &rows)
 }

@@ -255,6 +255,7 @@ impl Delta {
         ensures value { result.now ≡ record { lane_width = self.now.lane_width; values = self.now.bases } }
         ensures count { length self.now.bases ≡ 1024 / self.now.lane_width }
         ensures fit { AreInRange self.now.lane_width self.now.bases }
+        ensures form { IsDeltaForm self.now }
     {
         &self.bases
     }
@@ -263,6 +264,7 @@ impl Delta {
     pub fn words(&self) -> &Words
         ensures value { result.now ≡ self.now.words }
         ensures width { HasWidth result.now self.now.width }
+        ensures form { IsDeltaForm self.now }
     {
         &self.words
     }

@@ -194,6 +194,7 @@ impl For {
     pub fn reference(&self) -> i64
         ensures value { result ≡ self.now.reference }
         ensures fits { FitsSigned (integer_width self.now.lane_width) result }
+        ensures form { IsFrameForm self.now }
     {
         self.reference
     }
@@ -202,6 +203,7 @@ impl For {
     pub fn words(&self) -> &Words
         ensures value { result.now ≡ self.now.words }
         ensures width { HasWidth result.now self.now.width }
+        ensures form { IsFrameForm self.now }
     {
         &self.words
     }

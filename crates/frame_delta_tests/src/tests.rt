@@ -1,5 +1,5 @@
 //! Coded vectors at values worked out by hand from the definitions.
-ghost use Rattle.std.specs.Prelude.{◌<◌, ◌^◌};
+ghost use Rattle.std.specs.Prelude.{◌<◌, ◌≤◌, ◌^◌};
 ghost use Rattle.std.specs.List.{All};
 ghost use Rattle.transpose_order.specs.Place.{IsLaneWidth};
 ghost use Rattle.bit_interleave.specs.Range.{AreInRange};
@@ -108,9 +108,11 @@ fn vectors_have_their_bytes(rt: HostRuntime) -> Result<(), Fail> {
 }
 
 /// The least value alone, the greatest alone, the two in turn, and 1024 neighbours. The range of the two is as wide as a lane,
-/// and their differences are -1 and 1 modulo a power of two, whose distance has two bits. The range of 1024 neighbours has ten.
-fn extremes_come_back(alloc: Global, lane_width: usize) -> Result<(), Fail>
-    requires { IsLaneWidth lane_width }
+/// and their differences are -1 and 1 modulo a power of two, whose distance has two bits. The range of 1024 neighbours has ten, or at
+/// 8 bits, which they go round, eight.
+fn extremes_come_back(alloc: Global, lane_width: usize, ramp_width: u16) -> Result<(), Fail>
+    requires lane_width { IsLaneWidth lane_width }
+    requires ramp_width { ramp_width ≤ 10 }
 {
     let least = 1 << (lane_width - 1);
     let greatest = least - 1;
@@ -119,7 +121,7 @@ fn extremes_come_back(alloc: Global, lane_width: usize) -> Result<(), Fail>
         (Pattern::All(least), 0, 0),
         (Pattern::All(greatest), 0, 0),
         (Pattern::Alternating(least, greatest), lane_width as u16, 2),
-        (Pattern::Ramp(1), 10, 0),
+        (Pattern::Ramp(1), ramp_width, 0),
     ] {
         let bytes = [one + 128 * frame_width, one + 128 + 128 * delta_width];
         comes_back(alloc, lane_width, pattern, bytes)?;
@@ -129,9 +131,10 @@ fn extremes_come_back(alloc: Global, lane_width: usize) -> Result<(), Fail>
 
 #[test]
 fn extreme_values_come_back(rt: HostRuntime) -> Result<(), Fail> {
-    extremes_come_back(rt.alloc(), 16)?;
-    extremes_come_back(rt.alloc(), 32)?;
-    extremes_come_back(rt.alloc(), 64)
+    extremes_come_back(rt.alloc(), 8, 8)?;
+    extremes_come_back(rt.alloc(), 16, 10)?;
+    extremes_come_back(rt.alloc(), 32, 10)?;
+    extremes_come_back(rt.alloc(), 64, 10)
 }
 
 /// The deltas of a ramp by 3 at 32 bits. Lane 0 begins at row 0, lane 1 at row 64, lane 16 at row 32: 0, 192 and 96, less the
@@ -150,6 +153,44 @@ fn has_bases_of_a_ramp(coded: &Delta) -> Result<(), Fail> {
 fn bases_stand_in_lane_order(rt: HostRuntime) -> Result<(), Fail> {
     let coded = Delta::encode(rt.alloc(), &column(32, Pattern::Ramp(3)), 32)?;
     has_bases_of_a_ramp(&coded)
+}
+
+/// The rows' numbers modulo 128.
+fn counting_to_128() -> [i64; 1024]
+    ensures { AreInRange 8 result }
+{
+    let mut values = [0; 1024];
+    for row in 0..1024 {
+        values[row] = (row % 128) as i64;
+    }
+    values
+}
+
+/// The deltas of the rows' numbers modulo 128, at 8 bits. Lane 0 begins at row 0, lane 1 at row 64, lane 16 at row 32, so their bases
+/// are -1, 63 and 31: the bytes FF, 3F and 1F. The payload is the byte of the least delta, 1, and the 128 bases.
+fn has_bases_of_bytes(coded: &Delta) -> Result<(), Fail> {
+    agree(
+        (coded.least(), coded.width(), coded.bytes_len()),
+        (1, 0, 129),
+    )?;
+    agree(coded.lane_width(), 8)?;
+    let bases = coded.bases();
+    if bases.lane_width() != 8 || bases.len() != 128 {
+        return agree((bases.lane_width(), bases.len()), (8, 128));
+    }
+    let bytes = bases.values_8();
+    agree(
+        [bytes[0], bytes[1], bytes[16]].map(i8::cast_unsigned),
+        [0xFF, 0x3F, 0x1F],
+    )
+}
+
+#[test]
+fn deltas_of_bytes_have_a_byte_for_each_base(rt: HostRuntime) -> Result<(), Fail> {
+    let values = counting_to_128();
+    let coded = Delta::encode(rt.alloc(), &values, 8)?;
+    has_bases_of_bytes(&coded)?;
+    delta_holds(&coded, &values, 129)
 }
 
 // At 16 bits piece 17 is step 1 of the second sixteen lanes, whose rows begin at 32 of each 64: rows 33, 97 and so on.

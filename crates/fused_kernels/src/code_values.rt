@@ -39,8 +39,6 @@ fn put_step(values: &[i64], codes: &[u16; 64], step: usize, rows: &mut [i64; 102
 pub(crate) fn decode_codes(form: &Dict, rows: &mut [i64; 1024])
     ensures { rows.new ≡ dict_values form.now }
 {
-    // `lane_width` ensures that the form keeps its rule.
-    let _ = form.lane_width();
     let width = form.width();
     let words = form.codes().words_16();
     let mut room = [0; 1024];

@@ -17,8 +17,6 @@ use transpose_order::{Mask, raised_if};
 fn walk_of_codes(form: &Dict) -> Walk16<'_>
     ensures { (n : ℕ) → n < 1024 → number_of_row result n ≡ code_at form.now n }
 {
-    // `lane_width` ensures that the form keeps its rule.
-    let _ = form.lane_width();
     Walk16::new(form.width(), form.codes().words_16(), false, [0; 64], 0)
 }
 
@@ -26,26 +24,24 @@ fn walk_of_codes(form: &Dict) -> Walk16<'_>
 pub(crate) fn greatest_of_codes(form: &Dict, rows: &Mask) -> Option<i64>
     ensures { result ≡ fold_to greater None 1024 (λ n. cond (has rows.now n) (Some (dict_value form.now n)) None) }
 {
-    // `lane_width` ensures that the form keeps its rule.
-    let _ = form.lane_width();
+    let values = form.values();
     if rows.count_below(1024) == 0 {
         return None;
     }
     let code = walk_of_codes(form).greatest(false, rows);
-    Some(form.values().get(usize::from(code)))
+    Some(values.get(usize::from(code)))
 }
 
 /// The least value of a mask's rows, none over none. It is that of the least code, since a dictionary's values ascend.
 pub(crate) fn least_of_codes(form: &Dict, rows: &Mask) -> Option<i64>
     ensures { result ≡ fold_to lesser None 1024 (λ n. cond (has rows.now n) (Some (dict_value form.now n)) None) }
 {
-    // `lane_width` ensures that the form keeps its rule.
-    let _ = form.lane_width();
+    let values = form.values();
     if rows.count_below(1024) == 0 {
         return None;
     }
     let code = u16::MAX - walk_of_codes(form).greatest(true, rows);
-    Some(form.values().get(usize::from(code)))
+    Some(values.get(usize::from(code)))
 }
 
 /// How far the values of a step's codes are above the least of 64 bits, added up where the lane's bit of the step is set.
@@ -70,8 +66,6 @@ fn raised_sum_of_codes(form: &Dict, rows: &Mask) -> u128
     ensures sum { pos result ≡ fold_to ◌+ℤ◌ (pos 0) 1024 (λ n. cond (has rows.now n) (dict_value form.now n +ℤ pos (2 ^ 63)) (pos 0)) }
     ensures bound { result ≤ 2 ^ 64 * 1024 }
 {
-    // `lane_width` ensures that the form keeps its rule.
-    let _ = form.lane_width();
     let width = form.width();
     let words = form.codes().words_16();
     let mut room = [0; 1024];
@@ -95,8 +89,6 @@ const GREATEST_NARROW: i64 = 0x7FFF_FFFF;
 fn are_narrow(form: &Dict) -> bool
     ensures { IsTrue result ↔ AreInRange 32 form.now.values }
 {
-    // `lane_width` ensures that the form keeps its rule.
-    let _ = form.lane_width();
     let values = form.values();
     LEAST_NARROW <= values.get(0) && values.get(values.len() - 1) <= GREATEST_NARROW
 }
@@ -133,8 +125,6 @@ fn narrow_sum_of_codes(form: &Dict, rows: &Mask) -> i64
     requires { AreInRange 32 form.now.values }
     ensures { result ≡ fold_to ◌+ℤ◌ (pos 0) 1024 (λ n. cond (has rows.now n) (dict_value form.now n) (pos 0)) }
 {
-    // `lane_width` ensures that the form keeps its rule.
-    let _ = form.lane_width();
     let width = form.width();
     let words = form.codes().words_16();
     let mut room = [0; 1024];
@@ -162,8 +152,6 @@ pub(crate) fn sum_of_codes(form: &Dict, rows: &Mask) -> i128
 pub(crate) fn dict_between(form: &Dict, low: i64, high: i64) -> Mask
     ensures { result ≡ rows_of (λ n. between low high (dict_value form.now n)) }
 {
-    // `lane_width` ensures that the form keeps its rule.
-    let _ = form.lane_width();
     let (first, end) = form.places_between(low, high);
     if end <= first {
         return Mask::none();

@@ -6,7 +6,7 @@ ghost use Rattle.frame_delta.specs.Frame.{frame_value};
 ghost use Rattle.run_dictionary.specs.Runs.{RunForm};
 ghost use Rattle.run_dictionary.specs.Dict.{DictForm};
 ghost use Rattle.native_lanes.specs.Frames.{IsPlain, IsDecided};
-ghost use Rattle.segment_core.specs.Coded.{value_in, lane_width_of};
+ghost use Rattle.segment_core.specs.Coded.{IsCodedForm, value_in, lane_width_of};
 ghost use Rattle.segment_core.specs.declared.coded.Coded.TheVariants.{Runs as InRuns, Dict as InDict};
 ghost use Rattle.fused_kernels.specs.Seen.{looked_at, between};
 ghost use Rattle.fused_kernels.specs.VectorSeen.{vector_seen};
@@ -71,6 +71,7 @@ pub(crate) fn found_between(coded: &Coded, low: i128, high: i128) -> Option<Mask
     ensures wide { 8 < lane_width_of coded.now → IsSome result }
     ensures runs { (form : RunForm) → coded.now ≡ InRuns form → IsSome result }
     ensures dict { (form : DictForm) → coded.now ≡ InDict form → IsSome result }
+    ensures form { IsCodedForm coded.now }
 {
     // `lane_width` ensures that the form keeps its rule.
     let _ = coded.lane_width();
@@ -99,8 +100,6 @@ pub(crate) fn found_by_literal(coded: &Coded, op: Op, literal: i128) -> Option<M
     ensures runs { (form : RunForm) → coded.now ≡ InRuns form → IsSome result }
     ensures dict { (form : DictForm) → coded.now ≡ InDict form → IsSome result }
 {
-    // `lane_width` ensures that the form keeps its rule.
-    let _ = coded.lane_width();
     let (low, high, inside) = range_of(op, literal);
     match found_between(coded, low, high) {
         None => None,

@@ -19,7 +19,8 @@ pub trait Lanes {
 
     /// How many rows are covered, at most 1024.
     fn rows(&self) -> usize
-        ensures { result ≡ (seen self.now).rows };
+        ensures value { result ≡ (seen self.now).rows }
+        ensures form { AreLanes (seen self.now) };
 
     /// The rows that are null.
     fn nulls(&self) -> Mask
@@ -61,9 +62,8 @@ pub(crate) fn rows_among(rows: usize, nulls: &Mask, mask: &Mask) -> Mask
 
 /// The rows that a kernel looks at: those covered that the mask has and that aren't null.
 pub(crate) fn rows_to_look_at<L: Lanes>(lanes: &L, mask: &Mask) -> Mask
-    ensures { result ≡ rows_of (looked_at (L.seen lanes.now) mask.now) }
+    ensures rows { result ≡ rows_of (looked_at (L.seen lanes.now) mask.now) }
+    ensures form { AreLanes (L.seen lanes.now) }
 {
-    // `lane_width` ensures what holds of all lanes.
-    let _ = lanes.lane_width();
     rows_among(lanes.rows(), &lanes.nulls(), mask)
 }

@@ -17,8 +17,6 @@ fn reference_alone(form: &For) -> Option<i64>
     ensures value { IfSome result (λ value. (n : ℕ) → frame_value form.now n ≡ value) }
     ensures answers { form.now.width ≡ 0 → IsSome result }
 {
-    // `lane_width` ensures that the form keeps its rule.
-    let _ = form.lane_width();
     if form.width() == 0 {
         return Some(form.reference());
     }

@@ -82,8 +82,6 @@ pub fn compare_range<L: Lanes>(lanes: &mut L, low: i128, high: i128, mask: &Mask
     ensures form { AreLanes (L.seen lanes.old) }
     ensures only_read { AreOnlyRead (L.seen lanes.old) (L.seen lanes.new) }
 {
-    // `lane_width` ensures what holds of all lanes.
-    let _ = lanes.lane_width();
     let rows = rows_to_look_at(lanes, mask);
     if i128::from(i64::MAX) < low || high < i128::from(i64::MIN) {
         return (Mask::none(), rows);

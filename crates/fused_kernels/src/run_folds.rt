@@ -17,8 +17,6 @@ use transpose_order::{Mask, greater_if, lesser_if};
 pub(crate) fn sum_of_runs(form: &Runs, rows: &Mask) -> i128
     ensures { result ≡ fold_to ◌+ℤ◌ (pos 0) 1024 (λ n. cond (has rows.now n) (run_value form.now n) (pos 0)) }
 {
-    // `lane_width` ensures that the form keeps its rule.
-    let _ = form.lane_width();
     let words = rows.words();
     let before_words = rows_before_words(words);
     let mut sum = 0;
@@ -61,8 +59,6 @@ fn greatest_of_all(values: &Values) -> i64
 fn least_of_rows(form: &Runs, rows: &Mask) -> Option<i64>
     ensures { result ≡ fold_to lesser None 1024 (λ n. cond (has rows.now n) (Some (run_value form.now n)) None) }
 {
-    // `lane_width` ensures that the form keeps its rule.
-    let _ = form.lane_width();
     let words = rows.words();
     let before_words = rows_before_words(words);
     let mut least = i64::MAX;
@@ -86,8 +82,6 @@ fn least_of_rows(form: &Runs, rows: &Mask) -> Option<i64>
 fn greatest_of_rows(form: &Runs, rows: &Mask) -> Option<i64>
     ensures { result ≡ fold_to greater None 1024 (λ n. cond (has rows.now n) (Some (run_value form.now n)) None) }
 {
-    // `lane_width` ensures that the form keeps its rule.
-    let _ = form.lane_width();
     let words = rows.words();
     let before_words = rows_before_words(words);
     let mut greatest = i64::MIN;
@@ -111,8 +105,6 @@ fn greatest_of_rows(form: &Runs, rows: &Mask) -> Option<i64>
 pub(crate) fn least_of_runs(form: &Runs, rows: &Mask) -> Option<i64>
     ensures { result ≡ fold_to lesser None 1024 (λ n. cond (has rows.now n) (Some (run_value form.now n)) None) }
 {
-    // `lane_width` ensures that the form keeps its rule.
-    let _ = form.lane_width();
     if rows.is_all() {
         return Some(least_of_all(form.values()));
     }
@@ -123,8 +115,6 @@ pub(crate) fn least_of_runs(form: &Runs, rows: &Mask) -> Option<i64>
 pub(crate) fn greatest_of_runs(form: &Runs, rows: &Mask) -> Option<i64>
     ensures { result ≡ fold_to greater None 1024 (λ n. cond (has rows.now n) (Some (run_value form.now n)) None) }
 {
-    // `lane_width` ensures that the form keeps its rule.
-    let _ = form.lane_width();
     if rows.is_all() {
         return Some(greatest_of_all(form.values()));
     }

@@ -51,8 +51,6 @@ fn is_one_between(values: &Values, low: i64, high: i64) -> bool
 pub(crate) fn runs_between(form: &Runs, low: i64, high: i64) -> Mask
     ensures { result ≡ rows_of (λ n. between low high (run_value form.now n)) }
 {
-    // `lane_width` ensures that the form keeps its rule.
-    let _ = form.lane_width();
     let values = form.values();
     if !is_one_between(values, low, high) {
         return Mask::none();

@@ -75,8 +75,6 @@ fn run_after(form: &Runs, row: usize, known: bool, before: u64) -> usize
     ensures run { result ≡ run_of form.now.starts row }
     ensures within { result < length form.now.values }
 {
-    // `lane_width` ensures that the form keeps its rule.
-    let _ = form.lane_width();
     if known {
         before as usize + usize::from(form.starts().get(row))
     } else {

@@ -87,8 +87,6 @@ pub fn frame_between(form: &For, low: i64, high: i64) -> Option<Mask>
     ensures answers { IsPlain form.now → (form.now.lane_width ≡ 16) ⊎ (form.now.lane_width ≡ 32) → IsSome result }
     ensures decided { IsPlain form.now → IsDecided form.now low high → IsSome result }
 {
-    // `lane_width` ensures that the form keeps its rule.
-    let _ = form.lane_width();
     let reference = form.reference();
     let top = top_of(form)?;
     if high < reference || top < low || high < low {

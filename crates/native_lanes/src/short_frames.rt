@@ -48,8 +48,6 @@ pub(crate) fn sum_of_frame_32(form: &For, rows: &Mask) -> i128
     requires { form.now.lane_width ≡ 32 }
     ensures { result ≡ fold_to ◌+ℤ◌ (pos 0) 1024 (λ n. cond (has rows.now n) (frame_value form.now n) (pos 0)) }
 {
-    // `lane_width` ensures that the form keeps its rule.
-    let _ = form.lane_width();
     if is_short(form, 27) {
         let numbers = sum_of_numbers_32(form.width(), form.words().words_32(), rows);
         return sum_above(form.reference(), u128::from(numbers), rows);
@@ -63,8 +61,6 @@ pub(crate) fn sum_of_frame_64(form: &For, rows: &Mask) -> i128
     requires { form.now.lane_width ≡ 64 }
     ensures { result ≡ fold_to ◌+ℤ◌ (pos 0) 1024 (λ n. cond (has rows.now n) (frame_value form.now n) (pos 0)) }
 {
-    // `lane_width` ensures that the form keeps its rule.
-    let _ = form.lane_width();
     if is_short(form, 58) {
         let numbers = sum_of_numbers_64(form.width(), form.words().words_64(), rows);
         return sum_above(form.reference(), numbers, rows);

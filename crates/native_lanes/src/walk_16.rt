@@ -392,8 +392,6 @@ pub(crate) fn walk_of_frame_16(form: &For) -> Walk16<'_>
     requires { form.now.lane_width ≡ 16 }
     ensures { (n : ℕ) → n < 1024 → pos (number_of_row result n) ≡ frame_value form.now n +ℤ pos (2 ^ 15) }
 {
-    // `lane_width` ensures that the form keeps its rule.
-    let _ = form.lane_width();
     let added = raised(form.reference());
     Walk16::new(form.width(), form.words().words_16(), false, [0; 64], added)
 }
@@ -404,8 +402,6 @@ pub(crate) fn walk_of_deltas_16(form: &Delta) -> Walk16<'_>
     requires { form.now.lane_width ≡ 16 }
     ensures { (n : ℕ) → n < 1024 → pos (number_of_row result n) ≡ delta_value form.now n +ℤ pos (2 ^ 15) }
 {
-    // `lane_width` ensures that the form keeps its rule.
-    let _ = form.lane_width();
     let starts = all_raised(form.bases().values_16());
     let added = bits(form.least());
     Walk16::new(form.width(), form.words().words_16(), true, starts, added)

@@ -385,8 +385,6 @@ pub(crate) fn walk_of_frame_32(form: &For) -> Walk32<'_>
     requires { form.now.lane_width ≡ 32 }
     ensures { (n : ℕ) → n < 1024 → pos (number_of_row result n) ≡ frame_value form.now n +ℤ pos (2 ^ 31) }
 {
-    // `lane_width` ensures that the form keeps its rule.
-    let _ = form.lane_width();
     let added = raised(form.reference());
     Walk32::new(form.width(), form.words().words_32(), false, [0; 32], added)
 }
@@ -397,8 +395,6 @@ pub(crate) fn walk_of_deltas_32(form: &Delta) -> Walk32<'_>
     requires { form.now.lane_width ≡ 32 }
     ensures { (n : ℕ) → n < 1024 → pos (number_of_row result n) ≡ delta_value form.now n +ℤ pos (2 ^ 31) }
 {
-    // `lane_width` ensures that the form keeps its rule.
-    let _ = form.lane_width();
     let starts = all_raised(form.bases().values_32());
     let added = bits(form.least());
     Walk32::new(form.width(), form.words().words_32(), true, starts, added)

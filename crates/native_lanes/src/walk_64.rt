@@ -650,8 +650,6 @@ pub(crate) fn walk_of_frame_64(form: &For) -> Walk64<'_>
     requires { form.now.lane_width ≡ 64 }
     ensures { (n : ℕ) → n < 1024 → pos (number_of_row result n) ≡ frame_value form.now n +ℤ pos (2 ^ 63) }
 {
-    // `lane_width` ensures that the form keeps its rule.
-    let _ = form.lane_width();
     let added = raised(form.reference());
     Walk64::new(form.width(), form.words().words_64(), false, [0; 16], added)
 }
@@ -662,8 +660,6 @@ pub(crate) fn walk_of_deltas_64(form: &Delta) -> Walk64<'_>
     requires { form.now.lane_width ≡ 64 }
     ensures { (n : ℕ) → n < 1024 → pos (number_of_row result n) ≡ delta_value form.now n +ℤ pos (2 ^ 63) }
 {
-    // `lane_width` ensures that the form keeps its rule.
-    let _ = form.lane_width();
     let starts = all_raised(form.bases().values_64());
     let added = bits(form.least());
     Walk64::new(form.width(), form.words().words_64(), true, starts, added)

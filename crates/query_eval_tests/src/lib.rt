@@ -2,6 +2,8 @@
 #![tactic(auto)]
 
 #[cfg(test)]
+mod matching_tests;
+#[cfg(test)]
 mod plain_columns;
 #[cfg(test)]
 mod tests;

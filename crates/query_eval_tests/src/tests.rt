@@ -9,7 +9,7 @@ use test_support::agree_at;
 use transpose_order::Mask;
 
 /// A row of table T: its cells in columns A and B.
-type Cells = [Option<i128>; 2];
+pub(crate) type Cells = [Option<i128>; 2];
 
 /// A query, the text of its answer, and the greatest number of passes that it may take.
 type Case = (&'static str, &'static str, u128);
@@ -24,7 +24,7 @@ fn rows_of(alloc: Global, cells: &[Cells]) -> Result<Rows, AllocError> {
 }
 
 /// Plain columns A and B of 64 bits with these rows.
-fn columns_of(alloc: Global, cells: &[Cells]) -> Result<PlainColumns, Fail> {
+pub(crate) fn columns_of(alloc: Global, cells: &[Cells]) -> Result<PlainColumns, Fail> {
     let rows = rows_of(alloc, cells)?;
     let columns = [("A", ColType::BigInt), ("B", ColType::BigInt)];
     Ok(PlainColumns::new(Schema::new(alloc, "T", &columns)?, rows)?)

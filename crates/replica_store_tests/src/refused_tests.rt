@@ -70,6 +70,7 @@ enum Call {
     Append,
     Insert(u32, u32),
     Delete,
+    DeleteAll,
     Summary,
     Recode,
 }
@@ -97,6 +98,7 @@ fn made(alloc: Global, store: &mut Store, call: Call, rows: &[Row]) -> Result<()
         Call::Append => store.append(alloc, rows).map(|_| ()),
         Call::Insert(origin, number) => insert(alloc, store, (origin, number), rows),
         Call::Delete => store.delete(alloc, row_name(4, 4, 3), 9),
+        Call::DeleteAll => store.delete_all(alloc, &[row_name(4, 4, 9), row_name(4, 4, 3)]),
         Call::Summary => summary(alloc, store),
         Call::Recode => store.recode(alloc, name(1, 1), 0, 0, Coding::Dict),
     }
@@ -154,19 +156,35 @@ fn a_refused_recode_leaves_the_store(rt: HostRuntime) -> Result<(), Fail> {
 }
 
 /// What came of a delete of a store that was told the batch and these deletions.
-fn deleted(alloc: Global, told: &[Told], ranges: &[Deleted], live: usize) -> Result<Came, Refusal> {
+fn deleted(
+    alloc: Global,
+    call: Call,
+    told: &[Told],
+    ranges: &[Deleted],
+    live: usize,
+) -> Result<Came, Refusal> {
     let mut store = told_store(alloc, 1, told)?;
-    Ok(came_of(alloc, &mut store, Call::Delete, &[], ranges, live))
+    Ok(came_of(alloc, &mut store, call, &[], ranges, live))
 }
 
 #[test]
 fn a_refused_delete_leaves_the_store(rt: HostRuntime) -> Result<(), Fail> {
-    end(deleted(rt.alloc(), UNDELETED, &[], 2)?)
+    end(deleted(rt.alloc(), Call::Delete, UNDELETED, &[], 2)?)
 }
 
 #[test]
 fn a_delete_of_deleted_rows_grows_nowhere(rt: HostRuntime) -> Result<(), Fail> {
-    end(deleted(rt.alloc(), DELETED, DELETED_RANGES, 1)?)
+    end(deleted(rt.alloc(), Call::Delete, DELETED, DELETED_RANGES, 1)?)
+}
+
+#[test]
+fn a_refused_delete_of_listed_rows_leaves_the_store(rt: HostRuntime) -> Result<(), Fail> {
+    end(deleted(rt.alloc(), Call::DeleteAll, UNDELETED, &[], 2)?)
+}
+
+#[test]
+fn a_delete_of_listed_rows_that_are_deleted_grows_nowhere(rt: HostRuntime) -> Result<(), Fail> {
+    end(deleted(rt.alloc(), Call::DeleteAll, DELETED, DELETED_RANGES, 1)?)
 }
 
 /// Whether a store is as it was before the call.

@@ -361,7 +361,6 @@ fn see_appends(rt: &impl Abort, alloc: Global, store: &mut Store) {
     }
 }
 
-// A name that is held is answered before the limit of 65,536 batches; one more batch under a new name is too many.
 // Rows are refused before a name is given; the longest batch is named, and the store is as before after a refusal.
 #[test]
 fn an_append_has_1_to_65_536_rows(rt: HostRuntime) -> Result<(), Fail> {

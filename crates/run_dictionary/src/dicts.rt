@@ -215,6 +215,7 @@ impl Dict {
         ensures some { 0 < length self.now.values }
         ensures many { length self.now.values ≤ 1024 }
         ensures fit { AreInRange self.now.lane_width self.now.values }
+        ensures form { IsDictForm self.now }
     {
         &self.values
     }
@@ -224,6 +225,7 @@ impl Dict {
         ensures words { result.now ≡ self.now.codes }
         ensures lanes { result.now.lane_width ≡ 16 }
         ensures width { HasWidth result.now self.now.width }
+        ensures form { IsDictForm self.now }
     {
         &self.codes
     }

@@ -146,7 +146,8 @@ impl Runs {
 
     /// The rows after row 0 where a run starts.
     pub fn starts(&self) -> &Mask
-        ensures { result.now ≡ self.now.starts }
+        ensures value { result.now ≡ self.now.starts }
+        ensures form { IsRunForm self.now }
     {
         &self.starts
     }
@@ -157,6 +158,7 @@ impl Runs {
         ensures some { 0 < length self.now.values }
         ensures many { length self.now.values ≤ 1024 }
         ensures fit { AreInRange self.now.lane_width self.now.values }
+        ensures form { IsRunForm self.now }
     {
         &self.values
     }

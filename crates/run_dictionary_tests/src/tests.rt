@@ -65,6 +65,28 @@ fn alternating_values_take_codes_of_one_bit(rt: HostRuntime) -> Result<(), Fail>
     alternates(&dict)
 }
 
+/// The dictionary of -128 and 127 by turns has the bytes 80 and 7F at 8 bits, and 128 bytes AA of codes.
+fn has_bytes_by_turns(dict: &Dict) -> Result<(), Fail> {
+    agree(
+        (dict.lane_width(), dict.width(), dict.bytes_len()),
+        (8, 1, 130),
+    )?;
+    let values = dict.values();
+    if values.lane_width() != 8 || values.len() != 2 {
+        return agree((values.lane_width(), values.len()), (8, 2));
+    }
+    let bytes = values.values_8();
+    agree([bytes[0], bytes[1]].map(i8::cast_unsigned), [0x80, 0x7F])?;
+    agree(dict.codes().words_16(), [0xAAAA; 64].as_slice())
+}
+
+#[test]
+fn bytes_by_turns_take_codes_of_one_bit(rt: HostRuntime) -> Result<(), Fail> {
+    let values = column(8, Pattern::Alternating(0x80, 0x7F));
+    let dict = Dict::encode(rt.alloc(), &values, 8)?;
+    has_bytes_by_turns(&dict)
+}
+
 /// Runs have another's parts and decode to the vector.
 fn are_alike(found: &Runs, runs: &Runs, values: &[i64; 1024]) -> Result<(), Fail> {
     agree(found.lane_width(), runs.lane_width())?;
@@ -186,10 +208,13 @@ fn vectors_have_their_bytes(rt: HostRuntime) -> Result<(), Fail> {
     Ok(())
 }
 
-// One run or 1024; one value, two or 1024, of which the codes have no bit, one or ten.
+// One run or 1024; one value, two or 1024, of which the codes have no bit, one or ten. At 8 bits 1024 neighbours have 256 values, of
+// which the codes have eight bits.
 #[test]
 fn extreme_values_come_back(rt: HostRuntime) -> Result<(), Fail> {
     let alloc = rt.alloc();
+    let bytes = [[129, 1], [129, 1], [1152, 130], [1152, 1280]];
+    extremes_come_back(alloc, 8, bytes)?;
     let bytes = [[130, 2], [130, 2], [2176, 132], [2176, 3328]];
     extremes_come_back(alloc, 16, bytes)?;
     let bytes = [[132, 4], [132, 4], [4224, 136], [4224, 5376]];

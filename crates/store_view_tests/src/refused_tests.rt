@@ -1,13 +1,13 @@
 //! Queries over a store, each with a growth refused. A test's own growths are counted from 1: with the Nth refused, a test fails
 //! by an `AllocError` or `Memory` of its set-up, or, where it was a growth of the call that it is of, as `growth_refused` says;
 //! with none refused it passes. The command `tests/refused-memory` refuses each in turn and counts those texts.
-use query_eval::{answer, text};
-use query_parser::{parse, resolve};
+use query_eval::{answer, matching, text};
+use query_parser::{parse, parse_condition, resolve};
 use replica_store::Store;
 use std::alloc::{AllocError, Global};
 use std::test::Fail;
-use store_view::{StoreView, ask};
-use table_model::{Answer, ColType, Origin, Query, Refusal, Row, Schema};
+use store_view::{StoreView, ask, names_where};
+use table_model::{Answer, ColType, Condition, Origin, Query, Refusal, Row, RowName, Schema};
 use test_support::growth_refused;
 
 /// Groups, a null one among them, an alias, and set functions in HAVING.
@@ -109,4 +109,51 @@ fn a_refused_text_leaves_the_answer(rt: HostRuntime) -> Result<(), Fail> {
         Err(_) => return growth_refused(is_answer(alloc, &found)?),
     }
     Ok(())
+}
+
+/// A condition that is true at all of those rows.
+const CONDITION: &str = "A IN (2,5) OR A IS NULL";
+
+/// Whether these are the names of all of those rows, in order.
+fn are_all(names: &[RowName]) -> bool {
+    for (ordinal, name) in names.iter().enumerate() {
+        if usize::from(name.ordinal) != ordinal {
+            return false;
+        }
+    }
+    names.len() == 4
+}
+
+/// Whether the condition has its rows over a store.
+fn are_named(alloc: Global, store: &Store) -> Result<bool, Refusal> {
+    let names = names_where(alloc, store, CONDITION)?;
+    Ok(are_all(&names))
+}
+
+/// Finds the rows of a store that match the condition.
+fn find_matching(alloc: Global, store: &Store, condition: &Condition) -> Result<(), Fail> {
+    match matching(alloc, &mut StoreView::new(store), condition) {
+        Ok(_) => Ok(()),
+        Err(_) => growth_refused(are_named(alloc, store)?),
+    }
+}
+
+#[test]
+fn a_refused_match_leaves_the_store(rt: HostRuntime) -> Result<(), Fail> {
+    let condition = parse_condition(rt.alloc(), CONDITION)?;
+    let store = filled_store(rt.alloc())?;
+    find_matching(rt.alloc(), &store, &condition)
+}
+
+#[test]
+fn a_refused_list_of_names_leaves_the_store(rt: HostRuntime) -> Result<(), Fail> {
+    let alloc = rt.alloc();
+    let store = filled_store(alloc)?;
+    match names_where(alloc, &store, CONDITION) {
+        Ok(_) => Ok(()),
+        Err(fault) => {
+            let is_same = are_named(alloc, &store)?;
+            growth_refused(fault == Refusal::Memory && is_same)
+        }
+    }
 }

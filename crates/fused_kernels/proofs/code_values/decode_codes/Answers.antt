@@ -20,7 +20,7 @@ loop-step-init c = record { long = c.told-rows; written = λ n h l. absurd (omeg
 pub put_step-requires-clause-codes : goal.put_step-requires-clause-codes
 put_step-requires-clause-codes c = λ lane h.
     let form : DictForm = c.args.form.now in
-    let is : IsDictForm form = c.lane_width.ensures.form in
+    let is : IsDictForm form = c.codes.ensures.form in
     let step = c.loop-step.step in
     let code : slice_index c.numbers_16-codes.result lane ≡ code_at form (row_at 16 lane step) =
     c.numbers_16-codes.ensures lane h

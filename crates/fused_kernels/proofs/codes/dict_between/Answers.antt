@@ -30,7 +30,7 @@ returns-then-end-len c =
     c.all.ensures
     ∙ rows_of-like (λ _. true) (λ n. between c.args.low c.args.high (dict_value form n))
     (λ n h.
-    let below : code_at form n < c.places_between-first.result.1 = subst (λ (k : ℕ). code_at form n < k) (sym end) (c.lane_width.ensures.form.codes n h) in
+    let below : code_at form n < c.places_between-first.result.1 = subst (λ (k : ℕ). code_at form n < k) (sym end) (c.values.ensures.form.codes n h) in
     sym (sym (passed_between c.args.low c.args.high (dict_value form n) c.ranges.low c.ranges.high) ∙ each_code low high (dict_value form n) c.places_between-first.result.0 c.places_between-first.result.1 (code_at form n) c.if-first-eq0.true below (c.places_between-first.ensures.rows n h)))
 
 pub returns : goal.returns

@@ -27,7 +27,7 @@ pub narrow_sum_of_step-sum-requires-clause-codes : goal.narrow_sum_of_step-sum-r
 narrow_sum_of_step-sum-requires-clause-codes c = λ lane h.
     let form : DictForm = c.args.form.now in
     let code = number_is_code form c.width-width.result c.words_16-words.result.now (slice_index c.numbers_16-codes.result lane) lane c.loop-step.step h c.loop-step-test.true (c.numbers_16-codes.ensures lane h) c.width-width.ensures.value (c.words_16-words.ensures ∙ ap (λ (x : PackedWords). x.numbers) c.codes.ensures.words) in
-    subst (λ (xs : List ℤ). slice_index c.numbers_16-codes.result lane < length xs) (sym (c.in_room-values.ensures.values ∙ ap (λ (x : LaneValues). x.values) c.values.ensures.value)) (number_below form (slice_index c.numbers_16-codes.result lane) lane c.loop-step.step c.lane_width.ensures.form h c.loop-step-test.true code)
+    subst (λ (xs : List ℤ). slice_index c.numbers_16-codes.result lane < length xs) (sym (c.in_room-values.ensures.values ∙ ap (λ (x : LaneValues). x.values) c.values.ensures.value)) (number_below form (slice_index c.numbers_16-codes.result lane) lane c.loop-step.step c.codes.ensures.form h c.loop-step-test.true code)
 
 pub narrow_sum_of_step-sum-requires-clause-narrow : goal.narrow_sum_of_step-sum-requires-clause-narrow
 narrow_sum_of_step-sum-requires-clause-narrow c = subst (λ (xs : List ℤ). AreInRange 32 xs) (sym (c.in_room-values.ensures.values ∙ ap (λ (x : LaneValues). x.values) c.values.ensures.value)) c.requires

@@ -15,5 +15,5 @@ returns c = λ n h.
     c.new.ensures ∙ ap (λ w. made w c.words_16.result.now) c.width.ensures.value
     ∙ ap (made form.width) (c.words_16.ensures ∙ ap (λ (x : PackedWords). x.numbers) c.codes.ensures.words) in
     ap (λ (w : Walk). number_of_row w n) is
-    ∙ plain_number form.width form.codes.numbers (replicate 64 0) n (code_width form c.lane_width.ensures.form)
+    ∙ plain_number form.width form.codes.numbers (replicate 64 0) n (code_width form c.codes.ensures.form)
     ∙ code_is form.width form.codes n

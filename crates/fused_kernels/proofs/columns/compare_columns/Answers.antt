@@ -18,7 +18,7 @@ found_here g c = λ n h.
 both_here : (g : given.Over) (c : goal.After-and_not g) → c.and-rows.result ≡ rows_of (λ n. looked_at (g.A.Lanes.seen c.args.left.now) c.args.mask.now n && looked_at (g.B.Lanes.seen c.args.right.now) c.args.mask.now n)
 both_here g c =
     c.and-rows.ensures
-    ∙ both_masks (looked_at (g.A.Lanes.seen c.args.left.now) c.args.mask.now) (looked_at (g.B.Lanes.seen c.args.right.now) c.args.mask.now) c.rows_to_look_at.result c.rows_to_look_at-2.result c.rows_to_look_at.ensures c.rows_to_look_at-2.ensures
+    ∙ both_masks (looked_at (g.A.Lanes.seen c.args.left.now) c.args.mask.now) (looked_at (g.B.Lanes.seen c.args.right.now) c.args.mask.now) c.rows_to_look_at.result c.rows_to_look_at-2.result c.rows_to_look_at.ensures.rows c.rows_to_look_at-2.ensures.rows
 
 pub returns-clause-yes : goal.returns-clause-yes
 returns-clause-yes g c =

@@ -58,7 +58,7 @@ loop-piece-preserved g c =
 pub returns-then-count-eq0-clause-value : goal.returns-then-count-eq0-clause-value
 returns-then-count-eq0-clause-value g c =
     let s : LanesSeen = g.L.Lanes.seen c.args.lanes.now in
-    let counted : c.count.result ≡ count_below (looked_at s c.args.mask.now) 1024 = c.count.ensures ∙ ap (count_by (λ row. row)) c.rows_to_look_at-rows.ensures ∙ count_by-rows_of (looked_at s c.args.mask.now) in
+    let counted : c.count.result ≡ count_below (looked_at s c.args.mask.now) 1024 = c.count.ensures ∙ ap (count_by (λ row. row)) c.rows_to_look_at-rows.ensures.rows ∙ count_by-rows_of (looked_at s c.args.mask.now) in
     sym (least_of_none (values_looked_at s c.args.mask.now) (omega (arith, counted, length-looked_at s c.args.mask.now, c.if-count-eq0.true)))
 
 pub returns-clause-value : goal.returns-clause-value
@@ -66,12 +66,12 @@ returns-clause-value g c =
     let s : LanesSeen = g.L.Lanes.seen c.args.lanes.now in
     let t = c.lane_width-lane_width.result in
     let rows = c.rows_to_look_at-rows.result in
-    let counted : c.count.result ≡ count_below (looked_at s c.args.mask.now) 1024 = c.count.ensures ∙ ap (count_by (λ row. row)) c.rows_to_look_at-rows.ensures ∙ count_by-rows_of (looked_at s c.args.mask.now) in
+    let counted : c.count.result ≡ count_below (looked_at s c.args.mask.now) 1024 = c.count.ensures ∙ ap (count_by (λ row. row)) c.rows_to_look_at-rows.ensures.rows ∙ count_by-rows_of (looked_at s c.args.mask.now) in
     let all : c.loop-piece.piece ≡ 64 = omega arith in
     let result : FitsSigned w64 c.least_of.result = search rules in
     let found : c.least_of.result ≡ or_else (pos (2 ^ 63 - 1)) (least (values_looked_at s c.args.mask.now)) =
     c.least_of.ensures
-    ∙ least_by_lanes s c.args.mask.now rows t (value_at c.loop-piece.leasts) (width_of s t c.lane_width-lane_width.ensures.form c.lane_width-lane_width.ensures.value) c.rows_to_look_at-rows.ensures c.lane_width-lane_width.ensures.form
+    ∙ least_by_lanes s c.args.mask.now rows t (value_at c.loop-piece.leasts) (width_of s t c.lane_width-lane_width.ensures.form c.lane_width-lane_width.ensures.value) c.rows_to_look_at-rows.ensures.rows c.lane_width-lane_width.ensures.form
     (λ i h. c.loop-piece.invariant.leasts i h ∙ ap (λ n. or_else (pos (2 ^ 63 - 1)) (fold_to lesser None n (λ q. cond (has rows (64 * i + place_of t q)) (Some (value_at s.values (64 * i + place_of t q))) None))) all) in
     ap Some (to_z-of_z w64 c.least_of.result result ∙ found)
     ∙ sym (least_of_some (values_looked_at s c.args.mask.now) (pos (2 ^ 63 - 1)) (omega (arith, counted, length-looked_at s c.args.mask.now, c.if-count-eq0.false)))

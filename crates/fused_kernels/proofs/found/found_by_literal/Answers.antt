@@ -23,4 +23,4 @@ returns-in-Some-clause-rows c =
     sym (has-rows_of (λ n. if inside then has c.in-Some.found n else not (has c.in-Some.found n)) n h)
     ∙ held_where (rows_of (λ n. if inside then has c.in-Some.found n else not (has c.in-Some.found n))) c.in-Some.found inside c.args.op c.args.literal low high (value_in coded n) n refl h
     (found_where c.in-Some.found low high coded coded n fl fh refl c.in-Some.ensures.rows h) c.ranges.literal
-    (c.range_of-low.ensures (value_in coded n) (value_in_fits coded n c.lane_width.ensures.form h)))
+    (c.range_of-low.ensures (value_in coded n) (value_in_fits coded n c.found_between.ensures.form h)))

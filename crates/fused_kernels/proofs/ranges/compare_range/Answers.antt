@@ -20,8 +20,8 @@ returns-then-from-low-clause-no g c =
       | then-from-low-via-then-from-low w ↦ λ value fits. let past : int_lt (pos (2 ^ 63 - 1)) c.args.low ≡ true = grind (arith, ints, to_z-of_z, w.if-from-low.true, c.from.ensures) in past_greatest c.args.low c.args.high value past fits
       | then-from-low-via-else-from-low+then-high-from w ↦ λ value fits. let before : int_lt c.args.high (negsuc (2 ^ 63 - 1)) ≡ true = grind (arith, ints, to_z-of_z, w.if-high-from.true, w.from-else-from-low.ensures) in before_least c.args.low c.args.high value before fits
     ] in
-    c.rows_to_look_at-rows.ensures
-    ∙ each_row (looked_at s c.args.mask.now) (λ n. between c.args.low c.args.high (value_at s.values n)) (λ n h. outside (value_at s.values n) (value_fits s n c.lane_width.ensures.form h))
+    c.rows_to_look_at-rows.ensures.rows
+    ∙ each_row (looked_at s c.args.mask.now) (λ n. between c.args.low c.args.high (value_at s.values n)) (λ n h. outside (value_at s.values n) (value_fits s n c.rows_to_look_at-rows.ensures.form h))
 
 pub returns-then-from-low-clause-only_read : goal.returns-then-from-low-clause-only_read
 returns-then-from-low-clause-only_read g c =
@@ -42,7 +42,7 @@ found_here g c =
     let last : ℤ = to_z w64 (of_z w64 c.last_up_to.result) in
     let first_fits : FitsSigned w64 c.first_from.result = search rules in
     let last_fits : FitsSigned w64 c.last_up_to.result = search rules in
-    found_where s c.args.low c.args.high first last c.rows_between-found.result c.rows_between-found.ensures.rows (λ n h. value_fits s n c.lane_width.ensures.form h)
+    found_where s c.args.low c.args.high first last c.rows_between-found.result c.rows_between-found.ensures.rows (λ n h. value_fits s n c.rows_to_look_at-rows.ensures.form h)
     (λ value fits. ap (λ x. int_le x value) (to_z-of_z w64 c.first_from.result first_fits) ∙ c.first_from.ensures value fits ∙ ap (λ x. int_le x value) (to_z-of_z w128 c.args.low c.ranges.low))
     (λ value fits. ap (λ x. int_le value x) (to_z-of_z w64 c.last_up_to.result last_fits) ∙ c.last_up_to.ensures value fits ∙ ap (λ x. int_le value x) (to_z-of_z w128 c.args.high c.ranges.high))
 
@@ -50,10 +50,10 @@ pub returns-clause-yes : goal.returns-clause-yes
 returns-clause-yes g c =
     let s : LanesSeen = g.L.Lanes.seen c.args.lanes.now in
     c.and.ensures
-    ∙ rows_and (looked_at s c.args.mask.now) (λ n. between c.args.low c.args.high (value_at s.values n)) c.rows_to_look_at-rows.result c.rows_between-found.result c.rows_to_look_at-rows.ensures (found_here g c)
+    ∙ rows_and (looked_at s c.args.mask.now) (λ n. between c.args.low c.args.high (value_at s.values n)) c.rows_to_look_at-rows.result c.rows_between-found.result c.rows_to_look_at-rows.ensures.rows (found_here g c)
 
 pub returns-clause-no : goal.returns-clause-no
 returns-clause-no g c =
     let s : LanesSeen = g.L.Lanes.seen c.args.lanes.now in
     c.and_not.ensures
-    ∙ rows_and_not (looked_at s c.args.mask.now) (λ n. between c.args.low c.args.high (value_at s.values n)) c.rows_to_look_at-rows.result c.rows_between-found.result c.rows_to_look_at-rows.ensures (found_here g c)
+    ∙ rows_and_not (looked_at s c.args.mask.now) (λ n. between c.args.low c.args.high (value_at s.values n)) c.rows_to_look_at-rows.result c.rows_between-found.result c.rows_to_look_at-rows.ensures.rows (found_here g c)

@@ -14,7 +14,7 @@ pub returns-then-is_all : goal.returns-then-is_all
 returns-then-is_all c =
     let form = c.args.form.now in
     let passed : FitsSigned w64 c.greatest_of_all.result = search rules in
-    let is = c.lane_width.ensures.form in
+    let is = c.values.ensures.form in
     let first : FitsSigned w64 (value_at form.values 0) = fits_wide form.lane_width (value_at form.values 0) is.lane_width (is.range 0 (pos 0) c.values.ensures.some) in
     ap Some (to_z-of_z w64 c.greatest_of_all.result passed ∙ c.greatest_of_all.ensures ∙ ap (λ (x : LaneValues). fold_to int_max (negsuc (2 ^ 63 - 1)) (length x.values) (value_at x.values)) c.values.ensures.value)
-    ∙ greatest_of_all_rows form (has c.args.rows.now) c.lane_width.ensures.form first (c.is_all.ensures.all (search rules))
+    ∙ greatest_of_all_rows form (has c.args.rows.now) c.values.ensures.form first (c.is_all.ensures.all (search rules))

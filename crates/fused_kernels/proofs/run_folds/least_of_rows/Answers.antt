@@ -34,8 +34,8 @@ loop-run-preserved c =
     let is : value ≡ v = c.get.ensures.value ∙ ap (λ (x : LaneValues). slice_index_or x.values index (pos 0)) c.values-values.ensures.value in
     let left : index < length form.values = omega (arith, c.loop-run-test.true, c.len-run-end.ensures, ap (λ (x : LaneValues). length x.values) c.values-values.ensures.value) in
     let fits : FitsSigned w64 value = search rules in
-    let none : (i : ℕ) → row + 1 ≤ i → i < end → has form.starts i ≡ false = subst (λ (m : List Bool). (i : ℕ) → row + 1 ≤ i → i < end → has m i ≡ false) c.starts.ensures c.next_true-end.ensures.none in
-    let start : end < 1024 → has form.starts end ≡ true = subst (λ (m : List Bool). end < 1024 → has m end ≡ true) c.starts.ensures c.next_true-end.ensures.here in
+    let none : (i : ℕ) → row + 1 ≤ i → i < end → has form.starts i ≡ false = subst (λ (m : List Bool). (i : ℕ) → row + 1 ≤ i → i < end → has m i ≡ false) c.starts.ensures.value c.next_true-end.ensures.none in
+    let start : end < 1024 → has form.starts end ≡ true = subst (λ (m : List Bool). end < 1024 → has m end ≡ true) c.starts.ensures.value c.next_true-end.ensures.here in
     let order : row ≤ end = omega (arith, c.next_true-end.ensures.order) in
     let f : ℕ → Option ℤ = λ n. cond (b n) (Some (run_value form n)) None in
     let upto : c.rows_below-upto.result ≡ count_below b end = c.rows_below-upto.ensures ∙ counted_in_words c.words-words.result.now c.args.rows.now end (sym c.words-words.ensures) c.next_true-end.ensures.within in
@@ -44,7 +44,7 @@ loop-run-preserved c =
     let so_far = to_z w64 c.loop-run.least-bits in
     let after : FitsSigned w64 c.lesser_if-least.result = search rules in
     record {
-      begins = next_run form row end index c.lane_width.ensures.form c.loop-run.invariant.begins left c.next_true-end.ensures.order c.next_true-end.ensures.within none start;
+      begins = next_run form row end index c.values-values.ensures.form c.loop-run.invariant.begins left c.next_true-end.ensures.order c.next_true-end.ensures.within none start;
       before = upto;
       least =
           to_z-of_z w64 c.lesser_if-least.result after ∙ c.lesser_if-least.ensures
@@ -60,7 +60,7 @@ returns-then-before-eq0 c =
     let form = c.args.form.now in
     let b : ℕ → Bool = has c.args.rows.now in
     let done : length form.values ≤ c.loop-run.run = omega (arith, c.loop-run-test.false, c.len-run-end.ensures, ap (λ (x : LaneValues). length x.values) c.values-values.ensures.value) in
-    let all : c.loop-run.row ≡ 1024 = all_runs form c.loop-run.row c.loop-run.run c.lane_width.ensures.form c.loop-run.invariant.begins done in
+    let all : c.loop-run.row ≡ 1024 = all_runs form c.loop-run.row c.loop-run.run c.values-values.ensures.form c.loop-run.invariant.begins done in
     let none : count_below b 1024 ≡ 0 = ap (count_below b) (sym all) ∙ sym c.loop-run.invariant.before ∙ c.if-before-eq0.true in
     tells_none (count_below b 1024) (fold_to lesser None 1024 (λ n. cond (b n) (Some (run_value form n)) None)) (least_tells b (run_value form) 1024) none
 
@@ -69,7 +69,7 @@ returns c =
     let form = c.args.form.now in
     let b : ℕ → Bool = has c.args.rows.now in
     let done : length form.values ≤ c.loop-run.run = omega (arith, c.loop-run-test.false, c.len-run-end.ensures, ap (λ (x : LaneValues). length x.values) c.values-values.ensures.value) in
-    let all : c.loop-run.row ≡ 1024 = all_runs form c.loop-run.row c.loop-run.run c.lane_width.ensures.form c.loop-run.invariant.begins done in
+    let all : c.loop-run.row ≡ 1024 = all_runs form c.loop-run.row c.loop-run.run c.values-values.ensures.form c.loop-run.invariant.begins done in
     let count : c.loop-run.before ≡ count_below b 1024 = c.loop-run.invariant.before ∙ ap (count_below b) all in
     let some : count_below b 1024 ≢ 0 = (λ e. c.if-before-eq0.false (count ∙ e)) in
     let f : ℕ → Option ℤ = λ n. cond (b n) (Some (run_value form n)) None in

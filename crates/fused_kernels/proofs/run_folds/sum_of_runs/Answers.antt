@@ -45,7 +45,7 @@ summed c =
     let left : index < length form.values = omega (arith, c.loop-run-test.true, c.len-run-end.ensures, ap (λ (x : LaneValues). length x.values) c.values-values.ensures.value) in
     let fits : FitsSigned w64 value = search rules in
     let wide : FitsSigned w128 c.times-sum.result = search rules in
-    let none : (i : ℕ) → row + 1 ≤ i → i < end → has form.starts i ≡ false = subst (λ (m : List Bool). (i : ℕ) → row + 1 ≤ i → i < end → has m i ≡ false) c.starts.ensures c.next_true-end.ensures.none in
+    let none : (i : ℕ) → row + 1 ≤ i → i < end → has form.starts i ≡ false = subst (λ (m : List Bool). (i : ℕ) → row + 1 ≤ i → i < end → has m i ≡ false) c.starts.ensures.value c.next_true-end.ensures.none in
     let order : row ≤ end = omega (arith, c.next_true-end.ensures.order) in
     let f : ℕ → ℤ = λ n. cond (b n) (run_value form n) (pos 0) in
     ap (λ z. z +ℤ to_z w128 (of_z w128 c.times-sum.result)) c.loop-run.invariant.sum
@@ -59,7 +59,7 @@ pub overflow_add-sum : goal.overflow_add-sum
 overflow_add-sum c =
     let form = c.args.form.now in
     subst (λ z. FitsSigned w128 z) (sym (summed c))
-    (sum_fits (run_value form) (has c.args.rows.now) c.next_true-end.result c.next_true-end.ensures.within (λ i l. value_in_fits (Runs form) i c.lane_width.ensures.form (omega (arith, l, c.next_true-end.ensures.within))))
+    (sum_fits (run_value form) (has c.args.rows.now) c.next_true-end.result c.next_true-end.ensures.within (λ i l. value_in_fits (Runs form) i c.values-values.ensures.form (omega (arith, l, c.next_true-end.ensures.within))))
 
 pub loop-run-preserved : goal.loop-run-preserved
 loop-run-preserved c =
@@ -68,10 +68,10 @@ loop-run-preserved c =
     let end = c.next_true-end.result in
     let index = c.loop-run.run in
     let left : index < length form.values = omega (arith, c.loop-run-test.true, c.len-run-end.ensures, ap (λ (x : LaneValues). length x.values) c.values-values.ensures.value) in
-    let none : (i : ℕ) → row + 1 ≤ i → i < end → has form.starts i ≡ false = subst (λ (m : List Bool). (i : ℕ) → row + 1 ≤ i → i < end → has m i ≡ false) c.starts.ensures c.next_true-end.ensures.none in
-    let start : end < 1024 → has form.starts end ≡ true = subst (λ (m : List Bool). end < 1024 → has m end ≡ true) c.starts.ensures c.next_true-end.ensures.here in
+    let none : (i : ℕ) → row + 1 ≤ i → i < end → has form.starts i ≡ false = subst (λ (m : List Bool). (i : ℕ) → row + 1 ≤ i → i < end → has m i ≡ false) c.starts.ensures.value c.next_true-end.ensures.none in
+    let start : end < 1024 → has form.starts end ≡ true = subst (λ (m : List Bool). end < 1024 → has m end ≡ true) c.starts.ensures.value c.next_true-end.ensures.here in
     record {
-      begins = next_run form row end index c.lane_width.ensures.form c.loop-run.invariant.begins left c.next_true-end.ensures.order c.next_true-end.ensures.within none start;
+      begins = next_run form row end index c.values-values.ensures.form c.loop-run.invariant.begins left c.next_true-end.ensures.order c.next_true-end.ensures.within none start;
       before = (c.rows_below-upto.ensures ∙ counted_in_words c.words-words.result.now c.args.rows.now c.next_true-end.result (sym c.words-words.ensures) c.next_true-end.ensures.within);
       sum = to_z-of_z w128 _ (overflow_add-sum c) ∙ summed c;
     }
@@ -80,5 +80,5 @@ pub returns : goal.returns
 returns c =
     let form = c.args.form.now in
     let done : length form.values ≤ c.loop-run.run = omega (arith, c.loop-run-test.false, c.len-run-end.ensures, ap (λ (x : LaneValues). length x.values) c.values-values.ensures.value) in
-    let all : c.loop-run.row ≡ 1024 = all_runs form c.loop-run.row c.loop-run.run c.lane_width.ensures.form c.loop-run.invariant.begins done in
+    let all : c.loop-run.row ≡ 1024 = all_runs form c.loop-run.row c.loop-run.run c.values-values.ensures.form c.loop-run.invariant.begins done in
     c.loop-run.invariant.sum ∙ ap (λ (k : ℕ). fold_to ◌+ℤ◌ (pos 0) k (λ n. cond (has c.args.rows.now n) (run_value form n) (pos 0))) all

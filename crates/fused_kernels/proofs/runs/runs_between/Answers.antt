@@ -21,7 +21,7 @@ returns-then-not-is_one_between c =
     let none : list_any (between low high) form.values ≡ false = subst (λ (x : LaneValues). list_any (between low high) x.values ≡ false) c.values-values.ensures.value (sym c.is_one_between.ensures ∙ c.if-not-is_one_between.true) in
     c.none.ensures
     ∙ rows_of-like (λ _. false) (λ n. between c.args.low c.args.high (run_value form n))
-    (λ n h. sym (sym (passed_between c.args.low c.args.high (run_value form n) c.ranges.low c.ranges.high) ∙ no_run form (between low high) n c.lane_width.ensures.form h none))
+    (λ n h. sym (sym (passed_between c.args.low c.args.high (run_value form n) c.ranges.low c.ranges.high) ∙ no_run form (between low high) n c.values-values.ensures.form h none))
 
 pub loop-run-init : goal.loop-run-init
 loop-run-init c = record {
@@ -41,10 +41,10 @@ loop-run-preserved c =
     let is : value ≡ slice_index_or form.values index (pos 0) = c.get.ensures.value ∙ ap (λ (x : LaneValues). slice_index_or x.values index (pos 0)) c.values-values.ensures.value in
     let left : index < length form.values = omega (arith, c.loop-run-test.true, c.len-run-end.ensures, ap (λ (x : LaneValues). length x.values) c.values-values.ensures.value) in
     let fits : FitsSigned w64 value = search rules in
-    let none : (i : ℕ) → row + 1 ≤ i → i < end → has form.starts i ≡ false = subst (λ (m : List Bool). (i : ℕ) → row + 1 ≤ i → i < end → has m i ≡ false) c.starts.ensures c.next_true-end.ensures.none in
-    let start : end < 1024 → has form.starts end ≡ true = subst (λ (m : List Bool). end < 1024 → has m end ≡ true) c.starts.ensures c.next_true-end.ensures.here in
+    let none : (i : ℕ) → row + 1 ≤ i → i < end → has form.starts i ≡ false = subst (λ (m : List Bool). (i : ℕ) → row + 1 ≤ i → i < end → has m i ≡ false) c.starts.ensures.value c.next_true-end.ensures.none in
+    let start : end < 1024 → has form.starts end ≡ true = subst (λ (m : List Bool). end < 1024 → has m end ≡ true) c.starts.ensures.value c.next_true-end.ensures.here in
     record {
-      begins = next_run form row end index c.lane_width.ensures.form c.loop-run.invariant.begins left c.next_true-end.ensures.order c.next_true-end.ensures.within none start;
+      begins = next_run form row end index c.values-values.ensures.form c.loop-run.invariant.begins left c.next_true-end.ensures.order c.next_true-end.ensures.within none start;
       found = λ n h.
           c.set_run_if.ensures n h
           ∙ ap (λ b. (nat_le row n && nat_lt n end && b) || truth_at c.loop-run.found n) (c.is_between.ensures ∙ ap (between low high) (to_z-of_z w64 value fits ∙ is))
@@ -58,7 +58,7 @@ returns c =
     let low = to_z w64 (of_z w64 c.args.low) in
     let high = to_z w64 (of_z w64 c.args.high) in
     let done : length form.values ≤ c.loop-run.run = omega (arith, c.loop-run-test.false, c.len-run-end.ensures, ap (λ (x : LaneValues). length x.values) c.values-values.ensures.value) in
-    let all : c.loop-run.row ≡ 1024 = all_runs form c.loop-run.row c.loop-run.run c.lane_width.ensures.form c.loop-run.invariant.begins done in
+    let all : c.loop-run.row ≡ 1024 = all_runs form c.loop-run.row c.loop-run.run c.values-values.ensures.form c.loop-run.invariant.begins done in
     c.from_words.ensures
     ∙ rows_of-like (truth_at c.loop-run.found) (λ n. between c.args.low c.args.high (run_value form n))
     (λ n h.

@@ -69,11 +69,11 @@ returns-clause-value g c =
     let all : c.loop-piece.piece ≡ 64 = omega arith in
     let width = width_of s t c.lane_width-lane_width.ensures.form c.lane_width-lane_width.ensures.value in
     let sums : pos (fold_to ◌+◌ 0 16 (slice_index c.loop-piece.low) + 2 ^ 32 * fold_to ◌+◌ 0 16 (slice_index c.loop-piece.high)) ≡ total (values_looked_at s c.args.mask.now) +ℤ pos (2 ^ 63 * c.count.result) =
-    sum_by_lanes s c.args.mask.now rows t c.count.result (slice_index c.loop-piece.low) (slice_index c.loop-piece.high) width c.rows_to_look_at-rows.ensures c.count.ensures
+    sum_by_lanes s c.args.mask.now rows t c.count.result (slice_index c.loop-piece.low) (slice_index c.loop-piece.high) width c.rows_to_look_at-rows.ensures.rows c.count.ensures
     (λ i h. c.loop-piece.invariant.sums i h ∙ ap (λ n. fold_to ◌+ℤ◌ (pos 0) n (λ q. cond (has rows (64 * i + place_of t q)) (value_at s.values (64 * i + place_of t q) +ℤ pos (2 ^ 63)) (pos 0))) all) in
     let low : c.from.result ≡ pos (fold_to ◌+◌ 0 16 (slice_index c.loop-piece.low)) = c.from.ensures ∙ ap pos c.sum_of_lanes.ensures.sum in
     let high : c.from-2.result ≡ pos (fold_to ◌+◌ 0 16 (slice_index c.loop-piece.high)) = c.from-2.ensures ∙ ap pos c.sum_of_lanes-2.ensures.sum in
-    let counted : c.count.result ≡ count_below (looked_at s c.args.mask.now) 1024 = c.count.ensures ∙ ap (count_by (λ row. row)) c.rows_to_look_at-rows.ensures ∙ count_by-rows_of (looked_at s c.args.mask.now) in
+    let counted : c.count.result ≡ count_below (looked_at s c.args.mask.now) 1024 = c.count.ensures ∙ ap (count_by (λ row. row)) c.rows_to_look_at-rows.ensures.rows ∙ count_by-rows_of (looked_at s c.args.mask.now) in
     let few : c.count.result ≤ 1024 = omega (arith, counted, count_below-le (looked_at s c.args.mask.now) 1024) in
     omega (arith, ints, sums, low, high, few)
 

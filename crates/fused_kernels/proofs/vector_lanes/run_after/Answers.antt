@@ -21,14 +21,14 @@ run_next starts row before n b some was is here =
 pub returns-then-known-clause-run : goal.returns-then-known-clause-run
 returns-then-known-clause-run c =
     let known = c.requires.before c.if-known.true in
-    run_next c.args.form.now.starts c.args.row c.args.before c.from.result c.get.result known.0 known.1 c.from.ensures (c.get.ensures ∙ ap (λ m. has m c.args.row) c.starts.ensures)
+    run_next c.args.form.now.starts c.args.row c.args.before c.from.result c.get.result known.0 known.1 c.from.ensures (c.get.ensures ∙ ap (λ m. has m c.args.row) c.starts.ensures.value)
 
 pub returns-then-known-clause-within : goal.returns-then-known-clause-within
 returns-then-known-clause-within c =
-    subst (λ (n : ℕ). n < length c.args.form.now.values) (sym (returns-then-known-clause-run c)) (run_of-within c.args.form.now c.lane_width.ensures.form c.args.row c.requires.row)
+    subst (λ (n : ℕ). n < length c.args.form.now.values) (sym (returns-then-known-clause-run c)) (run_of-within c.args.form.now c.starts.ensures.form c.args.row c.requires.row)
 
 pub overflow_add-result : goal.overflow_add-result
 overflow_add-result c =
     let known = c.requires.before c.if-known.true in
-    let run = run_next c.args.form.now.starts c.args.row c.args.before c.from.result c.get.result known.0 known.1 c.from.ensures (c.get.ensures ∙ ap (λ m. has m c.args.row) c.starts.ensures) in
-    omega (arith, run, run_of-within c.args.form.now c.lane_width.ensures.form c.args.row c.requires.row, run_of-bound c.args.form.now c.lane_width.ensures.form)
+    let run = run_next c.args.form.now.starts c.args.row c.args.before c.from.result c.get.result known.0 known.1 c.from.ensures (c.get.ensures ∙ ap (λ m. has m c.args.row) c.starts.ensures.value) in
+    omega (arith, run, run_of-within c.args.form.now c.starts.ensures.form c.args.row c.requires.row, run_of-bound c.args.form.now c.starts.ensures.form)

@@ -144,7 +144,7 @@ returns-clause-rows c =
     c.in_ok-found.ensures.rows
     ∙ ap (λ (x : PackedWords). rows_of (λ n. nat_le first (packed_value x.lane_width c.width.result x.numbers (lane_of x.lane_width n) (step_of x.lane_width n)) && nat_le (packed_value x.lane_width c.width.result x.numbers (lane_of x.lane_width n) (step_of x.lane_width n)) last)) c.words.ensures.value
     ∙ ap (λ (w : ℕ). rows_of (λ n. nat_le first (packed_value form.words.lane_width w form.words.numbers (lane_of form.words.lane_width n) (step_of form.words.lane_width n)) && nat_le (packed_value form.words.lane_width w form.words.numbers (lane_of form.words.lane_width n) (step_of form.words.lane_width n)) last)) c.width.ensures.value
-    ∙ ap (λ (t : ℕ). rows_of (λ n. nat_le first (packed_value t form.width form.words.numbers (lane_of t n) (step_of t n)) && nat_le (packed_value t form.width form.words.numbers (lane_of t n) (step_of t n)) last)) c.lane_width.ensures.form.words
+    ∙ ap (λ (t : ℕ). rows_of (λ n. nat_le first (packed_value t form.width form.words.numbers (lane_of t n) (step_of t n)) && nat_le (packed_value t form.width form.words.numbers (lane_of t n) (step_of t n)) last)) c.words.ensures.form.words
     ∙ rows_of-like (λ n. nat_le first (number n) && nat_le (number n) last) (λ n. between c.args.low c.args.high (frame_value form n))
     (λ n h.
     let below = packed_value-below form.lane_width form.width form.words.numbers (lane_of form.lane_width n) (step_of form.lane_width n) in

@@ -13,7 +13,7 @@ use Rattle.native_lanes.proofs.ShortLemmas.{sum_of_values}
 use Rattle.native_lanes.proofs.short_frames.sum_of_frame_32.Goals as goal
 
 lanes : (c : goal.After-words) → c.words.result.now.lane_width ≡ 32
-lanes c = ap (λ (x : PackedWords). x.lane_width) c.words.ensures.value ∙ c.lane_width.ensures.form.words ∙ c.requires
+lanes c = ap (λ (x : PackedWords). x.lane_width) c.words.ensures.value ∙ c.words.ensures.form.words ∙ c.requires
 
 pub words_32-requires : goal.words_32-requires
 words_32-requires c = lanes c
@@ -21,7 +21,7 @@ words_32-requires c = lanes c
 pub sum_of_numbers_32-numbers-requires-clause-words : goal.sum_of_numbers_32-numbers-requires-clause-words
 sum_of_numbers_32-numbers-requires-clause-words c =
     ap (λ (xs : List ℕ). length xs) c.words_32.ensures ∙ c.words.ensures.width.count
-    ∙ ap (λ (t : ℕ). c.args.form.now.width * (1024 / t)) (ap (λ (x : PackedWords). x.lane_width) c.words.ensures.value ∙ c.lane_width.ensures.form.words ∙ c.requires)
+    ∙ ap (λ (t : ℕ). c.args.form.now.width * (1024 / t)) (ap (λ (x : PackedWords). x.lane_width) c.words.ensures.value ∙ c.words.ensures.form.words ∙ c.requires)
     ∙ ap (λ (w : ℕ). w * 32) (sym c.width.ensures.value)
 
 pub returns-then-is_short : goal.returns-then-is_short

@@ -28,5 +28,5 @@ returns c = λ n h.
     ∙ ap (λ (t : ℕ). cond (int_lt form.least (pos 0)) (form.least +ℤ pos (2 ^ t)) form.least) (sym c.requires) in
     let more = bits_raised (int_lt form.least (pos 0)) form.least added (2 ^ form.lane_width) bits in
     ap (λ (w : Walk). pos (number_of_row w n)) is
-    ∙ delta_raised form starts added more.0 n c.lane_width.ensures.form start more.1 h
+    ∙ delta_raised form starts added more.0 n c.words.ensures.form start more.1 h
     ∙ ap (λ z. delta_value form n +ℤ z) (sym half)

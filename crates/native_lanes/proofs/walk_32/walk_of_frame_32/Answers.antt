@@ -19,5 +19,5 @@ returns c = λ n h.
     ∙ ap (made 32 form.width) (c.words_32.ensures ∙ ap (λ (x : PackedWords). x.numbers) c.words.ensures.value) ∙ ap (λ t. made t form.width form.words.numbers) (sym c.requires) in
     let half : pos (2 ^ 31) ≡ pos (2 ^ (form.lane_width - 1)) = ap (λ (t : ℕ). pos (2 ^ (t - 1))) (sym c.requires) in
     ap (λ (w : Walk). pos (number_of_row w n)) is
-    ∙ frame_raised form (replicate 32 0) added n c.lane_width.ensures.form.lane_width (c.raised-added.ensures ∙ ap (λ z. z +ℤ pos (2 ^ 31)) (passed c.reference.result form.reference fits c.reference.ensures.value) ∙ ap (λ z. form.reference +ℤ z) half)
+    ∙ frame_raised form (replicate 32 0) added n c.words.ensures.form.lane_width (c.raised-added.ensures ∙ ap (λ z. z +ℤ pos (2 ^ 31)) (passed c.reference.result form.reference fits c.reference.ensures.value) ∙ ap (λ z. form.reference +ℤ z) half)
     ∙ ap (λ z. frame_value form n +ℤ z) (sym half)

@@ -1,5 +1,0 @@
-use Rattle.segment_core.proofs.ValidLemmas.{columns_valid}
-use Rattle.segment_core.proofs.bytes_laws.segments_have_bytes.Goals as goal
-
-pub returns : goal.returns
-returns c = columns_valid
