@@ -5,7 +5,7 @@ use Rattle.table_model.specs.Formula.{Formula}
 use Rattle.table_model.specs.Query.{QueryShape}
 use Rattle.table_model.specs.declared.refusal.Refusal.{Refusal}
 use Rattle.table_model.specs.declared.refusal.Refusal.TheVariants.{Syntax, NumberTooLarge, TooDeep}
-use Rattle.query_parser.specs.Descent.{query_of, condition_of}
+use Rattle.query_parser.specs.Descent.{query_of, condition_of, read_whole, read_whole_condition}
 use Rattle.query_parser.specs.Grammar.{IsQuery, IsCondition}
 use Rattle.query_parser.specs.Limits.{depth_limit, IsWithinLimits, IsNoQuery, IsConditionWithin, IsNoCondition}
 use Rattle.query_parser.specs.Stack.{Symbol, open_count, may_be_empty, after, fault_of, first_fault, text_fault, condition_fault}

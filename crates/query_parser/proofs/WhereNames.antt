@@ -1,5 +1,5 @@
 -- GROUP BY has to name no column of WHERE, so a condition's names are judged by the columns alone.
-use Rattle.std.proofs.Common.{◌≡◌, ℕ, false, Option, Some, None, List, [], ◌∷◌, ◌++◌, refl}
+use Rattle.std.proofs.Common.{◌≡◌, ℕ, Bool, true, false, cond, Option, Some, None, Err, List, [], ◌∷◌, ◌++◌, refl, ap, ◌∙◌}
 use Rattle.table_model.specs.Meaning.{column_at}
 use Rattle.table_model.specs.Formula.{Formula, says, in_parentheses, is_truth, negation, no_factor, both, no_term, either}
 use Rattle.table_model.specs.Table.{Table, ColumnShape}
@@ -9,7 +9,7 @@ use Rattle.table_model.specs.declared.query.Predicate.{Predicate}
 use Rattle.table_model.specs.declared.query.Predicate.TheVariants.{Compare, Between, In, IsNull}
 use Rattle.table_model.specs.declared.query.SetFunction.{SetFunction}
 use Rattle.table_model.specs.declared.query.SetFunction.TheVariants.{CountRows, Of}
-use Rattle.query_parser.specs.Resolve.{Named, in_function, in_operand, in_predicate, in_formula, verdict, is_missing, is_grouped, lacks_group, is_ungrouped, IsLeastPlace, IsConditionJudged, resolved_condition}
+use Rattle.query_parser.specs.Resolve.{Named, in_function, in_operand, in_predicate, in_formula, places, verdict, is_missing, is_grouped, lacks_group, is_ungrouped, IsLeastPlace, IsConditionJudged, resolved_condition}
 use Rattle.query_parser.proofs.LeastPlaces.{least, least_from, places_least}
 
 -- GROUP BY has to name none of them

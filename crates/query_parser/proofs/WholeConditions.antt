@@ -1,5 +1,5 @@
 -- What is read of a whole text as a condition: the stack's first fault or what the grammar has, at most one, and each within the limits.
-use Rattle.std.proofs.Common.{◌≡◌, ◌==◌, ◌≤◌, ◌+◌, ℕ, false, Result, Ok, Err, IfOk, List, [], ◌∷◌, length, refl, ap, ◌∙◌, ◌⊎◌, inl, inr, arith}
+use Rattle.std.proofs.Common.{◌≡◌, ◌==◌, ◌≤◌, ◌+◌, ℕ, false, Result, Ok, Err, IfOk, Option, None, List, [], ◌∷◌, length, refl, ap, ◌∙◌, ◌⊎◌, inl, inr, arith}
 use Rattle.std.proofs.lemmas.Bool.Decides.{nat_tests}
 use Rattle.table_model.specs.Formula.{Formula}
 use Rattle.table_model.specs.Reading.{Reads, ◌>>=◌}
