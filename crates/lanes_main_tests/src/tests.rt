@@ -168,12 +168,12 @@ const NOTED: [(&str, &str); 13] = [
     ("table 1 T A SMALLINT\nappend 1 (1)\n", ""),
     (
         "merge 1 1\ntable 65 T A SMALLINT\ntable 1\ntable 1 T A FLOAT\ntable 1 1T A SMALLINT\n",
-        "line 1: refused BadLine: the first line makes the table: table N NAME COL TYPE [COL TYPE]..\nline 2: refused BadLine: a table has 1 to 64 replicas\nline 3: refused BadLine: a table is written table N NAME COL TYPE [COL TYPE]..\nline 4: refused BadLine: a column is a name and TINYINT, SMALLINT, INTEGER or BIGINT\nline 5: refused BadSchema\n",
+        "line 1: refused BadLine: the first line makes the table: table N NAME COL TYPE [COL TYPE]..\nline 2: refused BadLine: a table has 1 to 64 replicas\nline 3: refused BadLine: a table is written table N NAME COL TYPE [COL TYPE]..\nline 4: refused BadLine: a column is a name and TINYINT, SMALLINT, INTEGER or BIGINT\nline 5: refused BadSchema: a table has a name and 1 to 32 columns of different names, each a letter and up to 63 letters, digits or _, and no keyword\n",
     ),
     // Empty lines count.
     (
         "table 1 T A SMALLINT\n\nappend 2 (1)\nappend 1 7\nappend 1\nappend x (7)",
-        "line 3: refused NoSuchReplica\nline 4: refused BadLine: rows are written (V,..),(V,..)\nline 5: refused BadLine: an append is written append R (V,..),(V,..)\nline 6: refused BadLine: a replica is a number of 1 to 10 digits, at most 4294967295\n",
+        "line 3: refused NoSuchReplica: there is no such replica\nline 4: refused BadLine: rows are written (V,..),(V,..)\nline 5: refused BadLine: an append is written append R (V,..),(V,..)\nline 6: refused BadLine: a replica is a number of 1 to 10 digits, at most 4294967295\n",
     ),
     (
         "table 1 T A SMALLINT\ninsert 1 1.1\ninsert 1 11 (1)\ninsert 1 1.1 1\n",
@@ -181,7 +181,7 @@ const NOTED: [(&str, &str); 13] = [
     ),
     (
         "table 1 T A SMALLINT\ndelete 1 1.1 0\ndelete 1 1.1 0 65536\ndelete 1 1.1 5 4\n",
-        "line 2: refused BadLine: a delete is written delete R O.N FIRST LAST or delete where R COND\nline 3: refused BadLine: an ordinal is a number of 1 to 5 digits, at most 65535\nline 4: refused BadRange 0\n",
+        "line 2: refused BadLine: a delete is written delete R O.N FIRST LAST or delete where R COND\nline 3: refused BadLine: an ordinal is a number of 1 to 5 digits, at most 65535\nline 4: refused BadRange 0: the range ends before it starts\n",
     ),
     (
         "table 1 T A SMALLINT\nmerge 1\nmerge 1 x\n",
@@ -189,11 +189,11 @@ const NOTED: [(&str, &str); 13] = [
     ),
     (
         "table 1 T A SMALLINT\nask 1 1\nserve 1\nserve 1 x\ntake 1\ntake 1 -1\ntake 1 1\n",
-        "line 2: refused BadLine: an ask is written ask R, R being a replica's number\nline 3: refused BadLine: a serve is written serve R M\nline 4: refused BadLine: a message is a number of 1 to 10 digits, at most 4294967295\nline 5: refused BadLine: a take is written take R M\nline 6: refused BadLine: a message is a number of 1 to 10 digits, at most 4294967295\nline 7: refused NoSuchMessage\n",
+        "line 2: refused BadLine: an ask is written ask R, R being a replica's number\nline 3: refused BadLine: a serve is written serve R M\nline 4: refused BadLine: a message is a number of 1 to 10 digits, at most 4294967295\nline 5: refused BadLine: a take is written take R M\nline 6: refused BadLine: a message is a number of 1 to 10 digits, at most 4294967295\nline 7: refused NoSuchMessage: there is no such message\n",
     ),
     (
         "table 1 T A SMALLINT\nquery 1\nquery 1 SELECT A FROM T\n",
-        "line 2: refused BadLine: a query is written query R SQL\nline 3: refused NotGrouped 7\n",
+        "line 2: refused BadLine: a query is written query R SQL\nline 3: refused NotGrouped 7: GROUP BY does not name this column\n",
     ),
     (
         "table 1 T A SMALLINT\nrecode 1 1.1 0 0\nrecode 1 11 0 0 FOR\nrecode 1 1.1 x 0 FOR\nrecode 1 1.1 0 x FOR\nrecode 1 1.1 0 0 for\nrecode 1 1.1 0 0 FOR RLE\n",
