@@ -44,12 +44,12 @@ pub fn walk<U: Native>(width: usize) -> [i64; 1024] {
 }
 
 /// Runs of so many values each on average.
-pub fn runs(length: u64) -> [i64; 1024] {
+pub fn runs<U: Native>(length: u64) -> [i64; 1024] {
     let mut numbers = Numbers::new();
     let mut value = 0;
     std::array::from_fn(|_| {
         if numbers.below(length) == 0 {
-            value = numbers.below(1000) as i64;
+            value = fitted::<U>(numbers.below(1000));
         }
         value
     })

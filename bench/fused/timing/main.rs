@@ -18,6 +18,7 @@ mod times;
 mod word;
 
 fn main() {
+    times::time_all::<u8, 128>();
     times::time_all::<u16, 64>();
     times::time_all::<u32, 32>();
     times::time_all::<u64, 16>();

@@ -59,6 +59,7 @@ macro_rules! native {
 }
 
 native! {
+    u8, i8, i16;
     u16, i16, i32;
     u32, i32, i64;
     u64, i64, i128;

@@ -76,7 +76,7 @@ pub fn time_all<U: Native, const LANES: usize>() {
         time_vector(&format!("DELTA, width {width}"), 1, &values, deltas_of::<U, LANES>);
     }
     for length in [4, 64] {
-        let values = runs(length);
+        let values = runs::<U>(length);
         time_vector(&format!("RLE, about {length} rows a run"), 2, &values, runs_of::<U, LANES>);
     }
     for count in [16, 500] {

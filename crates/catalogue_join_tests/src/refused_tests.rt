@@ -2,12 +2,7 @@
 //! `AllocError` of its set-up, or, where it was a growth of the call that it is of, as `growth_refused` says; with none refused
 //! it passes. The command `tests/refused-memory` refuses each in turn and counts those texts. A call whose test's name ends in
 //! `grows_nowhere` has none to refuse.
-ghost use Rattle.std.specs.Prelude.{IsTrue};
-ghost use Rattle.std.specs.List.{All};
-ghost use Rattle.table_model.specs.Name.{is_proper_name};
-ghost use Rattle.table_model.specs.declared.names.RowName.{RowName};
-
-use crate::row_list_tests::rows_at;
+use crate::row_list_tests::{rows_at, set_of};
 use crate::tests::{batch, held_of, row};
 use catalogue_join::{Held, Tombs};
 use std::alloc::{AllocError, Global};
@@ -253,14 +248,12 @@ fn is_scattered(made: &Result<Tombs, AllocError>) -> bool {
 }
 
 /// Makes the set of those rows.
-fn make_of_rows(alloc: Global, rows: &[RowName]) -> Result<(), Fail>
-    requires { All (λ (row : RowName). IsTrue (is_proper_name row.batch)) rows.now }
-{
-    let made = Tombs::from_rows(alloc, rows);
+fn make_of_rows(alloc: Global, rows: &[RowName]) -> Result<(), Fail> {
+    let made = set_of(alloc, rows);
     if is_scattered(&made) {
         return Ok(());
     }
-    growth_refused(made.is_err() && is_scattered(&Tombs::from_rows(alloc, rows)))
+    growth_refused(made.is_err() && is_scattered(&set_of(alloc, rows)))
 }
 
 #[test]

@@ -1,8 +1,7 @@
 //! Sets of rows made of lists of rows, in whatever order and however often a row comes, at values worked out by hand.
-ghost use Rattle.std.specs.Prelude.{IfOk, IsTrue};
-ghost use Rattle.std.specs.List.{All};
+ghost use Rattle.std.specs.Prelude.{◌≡◌};
+ghost use Rattle.std.specs.List.{list_all};
 ghost use Rattle.table_model.specs.Name.{is_proper_name};
-ghost use Rattle.table_model.specs.declared.names.RowName.{RowName};
 
 use crate::tests::row;
 use catalogue_join::Tombs;
@@ -17,23 +16,35 @@ type Place = (u32, u16);
 /// A range of rows of origin 1: its batch's number, and the first and the last ordinal.
 type Range = (u32, u16, u16);
 
-/// The rows at these places, of numbers from 1 on.
-pub(crate) fn rows_at(alloc: Global, places: &[Place]) -> Result<Vec<RowName>, AllocError>
-    ensures { IfOk result (λ rows. All (λ (row : RowName). IsTrue (is_proper_name row.batch)) rows.items) }
-{
-    let mut rows = Vec::new(alloc);
+/// The rows at these places.
+pub(crate) fn rows_at(alloc: Global, places: &[Place]) -> Result<Vec<RowName>, AllocError> {
+    let mut rows = Vec::with_capacity(alloc, places.len())?;
     for &(number, ordinal) in places {
-        if number > 0 {
-            rows.push(row(number, ordinal))?;
-        }
+        rows.push(row(number, ordinal))?;
     }
     Ok(rows)
+}
+
+/// Whether the batches of all rows have proper names.
+fn are_proper(rows: &[RowName]) -> bool
+    ensures { result ≡ list_all (λ row. is_proper_name row.batch) rows.now }
+{
+    rows.iter().all(|row| row.batch.is_proper())
+}
+
+/// The set of some rows, of batches with proper names.
+pub(crate) fn set_of(alloc: Global, rows: &[RowName]) -> Result<Tombs, AllocError> {
+    if are_proper(rows) {
+        Tombs::from_rows(alloc, rows)
+    } else {
+        Ok(Tombs::new(alloc))
+    }
 }
 
 /// The set of the rows at these places.
 fn set_at(alloc: Global, places: &[Place]) -> Result<Tombs, AllocError> {
     let rows = rows_at(alloc, places)?;
-    Tombs::from_rows(alloc, &rows)
+    set_of(alloc, &rows)
 }
 
 /// A set's ranges by number, first and last ordinal.

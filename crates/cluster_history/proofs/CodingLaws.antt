@@ -20,8 +20,8 @@ use Rattle.cluster_history.specs.Run.{CodedStepTo, RunsKeep, CodingLaws}
 use Rattle.replica_store.specs.Segments.{Segments}
 use Rattle.cluster_history.specs.Segments.{ClusterSegments, ClusterForm}
 use Rattle.cluster_history.specs.declared.reply.Reply.{Reply}
-use Rattle.script_lines.specs.declared.step.Step.{Step}
-use Rattle.script_lines.specs.declared.step.Step.TheVariants.{Append, Insert, Delete, DeleteWhere, Merge, Ask, Serve, Take, Recode, Open, Export, Query}
+use Rattle.cluster_history.specs.declared.step.Step.{Step}
+use Rattle.cluster_history.specs.declared.step.Step.TheVariants.{Append, Insert, Delete, DeleteWhere, Merge, Ask, Serve, Take, Recode, Open, Export, Query}
 
 -- what some segments have is there in others as it was
 abbrev Keeps : Segments → Segments → Type 0

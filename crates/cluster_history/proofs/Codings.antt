@@ -33,7 +33,7 @@ use Rattle.cluster_history.proofs.Opened.{opened_held}
 use Rattle.cluster_history.proofs.Recodes.{refilled, there_is}
 use Rattle.cluster_history.proofs.Takes.{ok_parts}
 use Rattle.cluster_history.proofs.Placed.{length-replicas_in, same_store, store_there, found_in}
-use Rattle.script_lines.specs.declared.step.Step.TheVariants.{Insert, Merge, Recode, Open}
+use Rattle.cluster_history.specs.declared.step.Step.TheVariants.{Insert, Merge, Recode, Open}
 
 -- a replica's number finds what is seen of its store
 numbered_in : {X : Type 0} (seen : StoreForm → X) (stores : List StoreForm) (replica at : ℕ) (s : StoreForm) → Some at ≡ place_of (length stores) replica → at < length stores → s ≡ get_or stores at s → numbered (map seen stores) replica ≡ Some (seen s)

@@ -12,7 +12,7 @@ use Rattle.cluster_history.specs.declared.message.Message.{Message}
 use Rattle.cluster_history.specs.declared.reply.Reply.{Reply}
 use Rattle.cluster_history.proofs.Apart.{refill}
 use Rattle.cluster_history.proofs.Placed.{same_store}
-use Rattle.script_lines.specs.declared.step.Step.{Step}
+use Rattle.cluster_history.specs.declared.step.Step.{Step}
 
 -- clusters that are the same have the same parts
 pub parts_same : {c d : ClusterForm} → c ≡ d → c.parts ≡ d.parts

@@ -19,8 +19,8 @@ use Rattle.cluster_history.specs.Run.{Run, StepTo, answered}
 use Rattle.cluster_history.specs.History.{Brought, Names, Operations, Taken, names_in, lacking, brought_names, brought_operations, operations_held, deletes_where, ExportsAreCanonical, SameExport, or_empty, operations_by, message_of, AllBringOne, empty_sets, new_taken, set_at, taken_of, with_set, taken_after, taken_by, replica_of, replicas_of, cluster_of, EachAgrees, AllAgree, StartsEmpty, RepliesFollow, RefusedAddNothing, RunsJoin, ReadsLeaveAll, reading_at, reply_to, replica_numbered, AreAlike, SameAreAlike, SameInHistories, HistoryLaws}
 use Rattle.cluster_history.specs.declared.reply.Reply.{Reply}
 use Rattle.cluster_history.specs.declared.reply.Reply.TheVariants.{Done, Named, Put, Deleted, Sent, File, Refused}
-use Rattle.script_lines.specs.declared.step.Step.{Step}
-use Rattle.script_lines.specs.declared.step.Step.TheVariants.{Append, Insert, Delete, DeleteWhere, Merge, Ask, Serve, Take, Recode, Open, Export, Query}
+use Rattle.cluster_history.specs.declared.step.Step.{Step}
+use Rattle.cluster_history.specs.declared.step.Step.TheVariants.{Append, Insert, Delete, DeleteWhere, Merge, Ask, Serve, Take, Recode, Open, Export, Query}
 use Rattle.cluster_history.specs.Message.{Carried, Listing, Offering, offering_in}
 use Rattle.cluster_history.proofs.Messages.{listing_of, offering_of, listing_at, offering_at, names-state_of, unlisted-state_of, lacking-agree, bring_one, bring_more, same_messages}
 use Rattle.cluster_history.proofs.Numbers.{messages_stay}

@@ -15,8 +15,8 @@ use Rattle.cluster_history.specs.Run.{StepTo, answered}
 use Rattle.cluster_history.specs.History.{MessagesStay}
 use Rattle.cluster_history.specs.declared.reply.Reply.{Reply}
 use Rattle.cluster_history.specs.declared.reply.Reply.TheVariants.{Done, Named, Put, Deleted}
-use Rattle.script_lines.specs.declared.step.Step.{Step}
-use Rattle.script_lines.specs.declared.step.Step.TheVariants.{Append, Insert, Delete, DeleteWhere, Merge, Ask, Serve, Take, Recode, Open, Export, Query}
+use Rattle.cluster_history.specs.declared.step.Step.{Step}
+use Rattle.cluster_history.specs.declared.step.Step.TheVariants.{Append, Insert, Delete, DeleteWhere, Merge, Ask, Serve, Take, Recode, Open, Export, Query}
 
 -- what is made, if it is, has the same messages, or more
 abbrev Grows : ClusterParts → Result (Reply × ClusterParts) Refusal → Type 0

@@ -39,8 +39,8 @@ use Rattle.cluster_history.proofs.Codings.{union-self}
 use Rattle.cluster_history.proofs.Histories.{room_made, asked_leaves, answered_ok}
 use Rattle.cluster_history.proofs.Messages.{numbered-map}
 use Rattle.cluster_history.proofs.Takes.{ok_parts, insert_again}
-use Rattle.script_lines.specs.declared.step.Step.{Step}
-use Rattle.script_lines.specs.declared.step.Step.TheVariants.{Append, Insert, Delete, DeleteWhere, Merge, Ask, Serve, Take, Recode, Open, Export, Query}
+use Rattle.cluster_history.specs.declared.step.Step.{Step}
+use Rattle.cluster_history.specs.declared.step.Step.TheVariants.{Append, Insert, Delete, DeleteWhere, Merge, Ask, Serve, Take, Recode, Open, Export, Query}
 
 abbrev Batches : Type 0
 Batches = finite.FinMap name_cmp Batch

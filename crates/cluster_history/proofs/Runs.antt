@@ -8,7 +8,7 @@ use Rattle.cluster_history.specs.Run.{CodedStepTo, StepTo, Leads, answered}
 use Rattle.cluster_history.specs.Segments.{ClusterForm}
 use Rattle.cluster_history.specs.declared.reply.Reply.{Reply}
 use Rattle.cluster_history.specs.declared.reply.Reply.TheVariants.{Refused}
-use Rattle.script_lines.specs.declared.step.Step.{Step}
+use Rattle.cluster_history.specs.declared.step.Step.{Step}
 
 -- a step that is answered or refused is one of a run, codings apart
 pub step_parts : (old new : ClusterForm) (step : Step) (reply : Reply) → CodedStepTo old step reply new → StepTo old.parts step reply new.parts

@@ -19,7 +19,7 @@ use Rattle.cluster_history.specs.Segments.{ClusterForm, brought_by}
 use Rattle.cluster_history.specs.declared.message.Message.{Message}
 use Rattle.cluster_history.specs.declared.reply.Reply.{Reply}
 use Rattle.cluster_history.proofs.Placed.{cluster_with, length-replicas_in, found, store_there}
-use Rattle.script_lines.specs.declared.step.Step.{Step}
+use Rattle.cluster_history.specs.declared.step.Step.{Step}
 
 -- what a message's sending made is what the step makes that sends it
 pub sent_as : (old new : ClusterForm) (step : Step) (result : Result Reply Refusal) (message : Message)

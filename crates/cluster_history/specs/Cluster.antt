@@ -16,8 +16,12 @@ use Rattle.column_file.specs.Files.{canonical_file, canonical_read}
 use Rattle.cluster_history.specs.Message.{Carried, Listing, Offering, coded_message, listing_in, offering_in}
 use Rattle.cluster_history.specs.declared.reply.Reply.{Reply}
 use Rattle.cluster_history.specs.declared.reply.Reply.TheVariants.{Done, Named, Put, Deleted, Sent, File, Answered}
-use Rattle.script_lines.specs.declared.step.Step.{Step}
-use Rattle.script_lines.specs.declared.step.Step.TheVariants.{Append, Insert, Delete, DeleteWhere, Merge, Ask, Serve, Take, Recode, Open, Export, Query}
+use Rattle.cluster_history.specs.declared.step.Step.{Step}
+use Rattle.cluster_history.specs.declared.step.Step.TheVariants.{Append, Insert, Delete, DeleteWhere, Merge, Ask, Serve, Take, Recode, Open, Export, Query}
+
+-- how many replicas a cluster has at most
+abbrev pub replica_limit : ℕ
+replica_limit = 64
 
 -- a table's schema, its replicas and the messages between them, the first of each number 1
 pub record ClusterParts : Type 0 where

@@ -14,8 +14,8 @@ use Rattle.cluster_history.specs.Message.{listing_in}
 use Rattle.cluster_history.specs.Segments.{ClusterSegments, ClusterForm}
 use Rattle.cluster_history.specs.declared.reply.Reply.{Reply}
 use Rattle.cluster_history.specs.declared.reply.Reply.TheVariants.{Named, Put}
-use Rattle.script_lines.specs.declared.step.Step.{Step}
-use Rattle.script_lines.specs.declared.step.Step.TheVariants.{Append, Insert, Merge, Ask, Serve, Take, Recode, Open}
+use Rattle.cluster_history.specs.declared.step.Step.{Step}
+use Rattle.cluster_history.specs.declared.step.Step.TheVariants.{Append, Insert, Merge, Ask, Serve, Take, Recode, Open}
 
 -- the segments of the replica with a number became these; those of the other replicas and of the messages stay
 abbrev pub Become : ClusterSegments → ℕ → Segments → ClusterSegments → Type 0

@@ -19,8 +19,8 @@ use Rattle.cluster_history.specs.Message.{Carried, Listing, Offering}
 use Rattle.cluster_history.specs.Run.{Run, answered}
 use Rattle.cluster_history.specs.declared.reply.Reply.{Reply}
 use Rattle.cluster_history.specs.declared.reply.Reply.TheVariants.{Done, Named, Put, Deleted, Sent, File, Refused}
-use Rattle.script_lines.specs.declared.step.Step.{Step}
-use Rattle.script_lines.specs.declared.step.Step.TheVariants.{Append, Insert, Delete, DeleteWhere, Merge, Ask, Serve, Take, Open, Export, Query}
+use Rattle.cluster_history.specs.declared.step.Step.{Step}
+use Rattle.cluster_history.specs.declared.step.Step.TheVariants.{Append, Insert, Delete, DeleteWhere, Merge, Ask, Serve, Take, Open, Export, Query}
 
 -- What a message brings, by the history alone: names of batches, or operations. These too are sets, as lists of which only the members matter.
 pub data Brought : Type 0 where

@@ -11,7 +11,7 @@ use Rattle.cluster_history.specs.Message.{Carried, Listing, Offering}
 use Rattle.cluster_history.specs.Run.{CodedStepTo, CodedRun}
 use Rattle.cluster_history.specs.Segments.{ClusterForm, new_segments}
 use Rattle.cluster_history.specs.declared.reply.Reply.{Reply}
-use Rattle.script_lines.specs.declared.step.Step.{Step}
+use Rattle.cluster_history.specs.declared.step.Step.{Step}
 
 -- the batches that a replica holds
 abbrev pub batches_held : Replica → finite.FinMap name_cmp Batch

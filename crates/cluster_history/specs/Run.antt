@@ -8,8 +8,8 @@ use Rattle.cluster_history.specs.declared.reply.Reply.{Reply}
 use Rattle.cluster_history.specs.declared.reply.Reply.TheVariants.{Done, Refused, Put}
 use Rattle.cluster_history.specs.Codings.{SegmentsAfter, StayIn, AreNoRecodes, HeldStay, SentStay}
 use Rattle.cluster_history.specs.Segments.{ClusterForm}
-use Rattle.script_lines.specs.declared.step.Step.{Step}
-use Rattle.script_lines.specs.declared.step.Step.TheVariants.{Insert, Delete, DeleteWhere, Merge, Take, Open, Query}
+use Rattle.cluster_history.specs.declared.step.Step.{Step}
+use Rattle.cluster_history.specs.declared.step.Step.TheVariants.{Insert, Delete, DeleteWhere, Merge, Take, Open, Query}
 
 -- a refused step is answered by its refusal, and leaves the cluster
 abbrev pub answered : Result (Reply × ClusterParts) Refusal → ClusterParts → Reply × ClusterParts

@@ -2,8 +2,7 @@
 ghost use Rattle.std.specs.Prelude.{◌≡◌, ◌≢◌, ◌<◌, ◌≤◌, length, IfSome, IfOk, IfErr, IsOk, OnOk, OnErr, Some, None, Ok};
 ghost use Rattle.std.specs.FinMap as map;
 ghost use Rattle.table_model.specs.Outcome.{Acts, Gives};
-ghost use Rattle.script_lines.specs.TableWords.{replica_limit};
-ghost use Rattle.cluster_history.specs.Cluster.{new_cluster, new_replicas, replicas_in, empty_replica, place_of, with_message, merged_in, message_limit};
+ghost use Rattle.cluster_history.specs.Cluster.{replica_limit, new_cluster, new_replicas, replicas_in, empty_replica, place_of, with_message, merged_in, message_limit};
 ghost use Rattle.cluster_history.specs.Message.{carried, messages_in};
 ghost use Rattle.cluster_history.specs.ChangedStores.{MergesAt, RecodesAt};
 ghost use Rattle.cluster_history.specs.Run.{ActsOn, CodedStepTo};
@@ -13,13 +12,16 @@ ghost use Rattle.cluster_history.specs.Codings.{IsSent};
 use crate::files::{exported, opened};
 use crate::message::{Message, offer_at, summary_at};
 use crate::reply::Reply;
+use crate::step::Step;
 use replica_store::Store;
-use script_lines::Step;
 use segment_core::Coding;
 use std::alloc::Global;
 use std::marker::Model;
 use store_view::{ask, names_where};
 use table_model::{BatchName, Origin, Refusal, Row, RowName, Schema};
+
+/// How many replicas a cluster has at most.
+pub const REPLICA_LIMIT: usize = 64;
 
 /// How many messages a cluster has at most.
 const MESSAGE_LIMIT: usize = 65_536;

@@ -3,9 +3,9 @@ ghost use Rattle.std.specs.Prelude.{◌≡◌, ◌≤◌, ◌⊎◌, Ok, Err, If
 ghost use Rattle.table_model.specs.Outcome.{Gives};
 ghost use Rattle.column_file.specs.Files.{AreCanonicalOf, canonical_file, opened_from};
 
+use crate::file_bytes::FileBytes;
 use column_file::{export, open};
 use replica_store::Store;
-use script_lines::FileBytes;
 use std::alloc::Global;
 use table_model::{Counted, Origin, Refusal};
 

@@ -1,7 +1,7 @@
 //! Replies to steps.
 
+use crate::file_bytes::FileBytes;
 use replica_store::Inserted;
-use script_lines::FileBytes;
 use table_model::{Answer, BatchName, Refusal};
 
 /// What a step is answered.

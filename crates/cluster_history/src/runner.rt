@@ -4,7 +4,7 @@ ghost use Rattle.cluster_history.specs.Run.{Run, CodedRun};
 
 use crate::cluster::Cluster;
 use crate::reply::Reply;
-use script_lines::Step;
+use crate::step::Step;
 use std::alloc::{AllocError, Global};
 
 /// The reply to each step, in order; each step finds what the earlier ones left.

@@ -3,9 +3,8 @@
 //! that it is of, as `growth_refused` says; with none refused it passes. The command `tests/refused-memory` refuses each in turn
 //! and counts those texts.
 use crate::tests::{Want, is_wanted, name};
-use cluster_history::{Cluster, Message, Reply, run};
+use cluster_history::{Cluster, Message, Reply, Sql, Step, run};
 use replica_store::Store;
-use script_lines::{Sql, Step};
 use segment_core::{Coding, Segment};
 use std::alloc::Global;
 use std::test::Fail;

@@ -1,7 +1,6 @@
 //! Clusters that are told steps; the replies are worked out by hand from the rules of steps.
-use cluster_history::{Cluster, Reply, run};
+use cluster_history::{Cluster, Reply, Step, run};
 use replica_store::Store;
-use script_lines::Step;
 use std::alloc::Global;
 use std::test::Fail;
 use table_model::{BatchName, ColType, Number, Origin, Refusal, Schema};
@@ -71,7 +70,7 @@ fn replicas_are_numbered_from_1(rt: HostRuntime) -> Result<(), Fail> {
 
 /// A step that exchanges messages: of which replica, and of which message or with which other replica.
 #[derive(Clone, Copy)]
-enum Told {
+pub(crate) enum Told {
     Ask(u32),
     Serve(u32, u32),
     Take(u32, u32),
@@ -79,7 +78,7 @@ enum Told {
 }
 
 /// The step itself.
-fn step_of(told: Told) -> Step {
+pub(crate) fn step_of(told: Told) -> Step {
     match told {
         Told::Ask(replica) => Step::Ask { replica },
         Told::Serve(replica, message) => Step::Serve { replica, message },

@@ -1,11 +1,11 @@
 -- What was read so far of a reader that is read to its end.
-use Rattle.std.proofs.Common.{◌≡◌, ℕ, ◌+◌, ◌<◌, ◌≤◌, List, [], ◌++◌, length, take, Option, Some, None, Result, Ok, Err, IfErr, IsTrue, inl, inr, refl, sym, ap, subst, ◌∙◌, append_assoc, arith}
+use Rattle.std.proofs.Common.{◌≡◌, ℕ, ◌+◌, ◌<◌, ◌≤◌, Bool, List, [], ◌++◌, length, take, Option, Some, None, Result, Ok, Err, IfErr, IsTrue, inl, inr, refl, sym, ap, subst, ◌∙◌, append_assoc, arith}
 use Rattle.std.specs.Io.KnownBytes.{Consumes, IsAtEnd}
 use Rattle.std.proofs.lemmas.List.{length-append, append-nil}
 use Rattle.table_model.specs.Faults.{IsWithin, GaveMore}
 use Rattle.table_model.specs.declared.refusal.Refusal.{Refusal}
 use Rattle.table_model.specs.Reading.{Reads}
-use Rattle.column_file.specs.Input.{Judges, IsUnread, ComesOfWhole, is_refusal_of_reading}
+use Rattle.column_file.specs.Input.{Judges, IsUnread, ComesOfWhole, unread_or}
 use Rattle.table_model.specs.declared.counted.TheConstants.{READ_LIMIT}
 
 -- nothing was read
@@ -64,9 +64,9 @@ pub unread : {X Y : Type 0} (view : X → Y) (e : Refusal) (old : Option (List �
 unread view e None meaning is = tt
 unread view e (Some a) meaning is = λ not_memory not_fault. elim is [ inl memory ↦ absurd (not_memory memory) | inr fault ↦ absurd (not_fault fault) ]
 
-pub unread_listed : (e : Refusal) → IsUnread e → IsTrue (is_refusal_of_reading e)
-unread_listed e (inl memory) = ap is_refusal_of_reading memory
-unread_listed e (inr fault) = ap is_refusal_of_reading fault
+pub unread_listed : (F : Refusal → Bool) (e : Refusal) → IsUnread e → IsTrue (unread_or F e)
+unread_listed F e (inl memory) = ap (unread_or F) memory
+unread_listed F e (inr fault) = ap (unread_or F) fault
 
 -- nor of the reader then
 pub unread_whole : (e : Refusal) (before after : Option (List ℕ)) → IsUnread e → ComesOfWhole e before after

@@ -23,7 +23,8 @@ use Rattle.column_file.specs.Comparing.{is_whole, has_differed, verdict, told}
 use Rattle.column_file.proofs.Comparisons.{more_after, told_apart, none_left, less_is_other}
 use Rattle.column_file.proofs.ContainerLaws.{container_is_lawful}
 use Rattle.column_file.proofs.CanonicalWriting.{canonical_spelled}
-use Rattle.column_file.proofs.FaultsOfBytes.{Judged, then_judged, offer_read_judged}
+use Rattle.column_file.proofs.FaultsOfBytes.{Judged, then_judged, judged_widest, offer_read_judged}
+use Rattle.column_file.specs.Input.{is_fault_of_file}
 use Rattle.column_file.proofs.SummaryWriting.{whole_read}
 
 -- ---- the first place that differs
@@ -148,15 +149,15 @@ canonical_was_read bytes o is = rw is refl
 
 -- ---- what a call is refused as
 
-judged_judged : (bytes : List ℕ) (o : OfferForm) → Judged (judged bytes o)
+judged_judged : (bytes : List ℕ) (o : OfferForm) → Judged is_fault_of_file (judged bytes o)
 judged_judged bytes o = go (same_text bytes (canonical_file o.schema o.state))
   where
-    go : (b : Bool) → Judged (cond b (Ok o) (Err (NotCanonical (first_difference bytes (canonical_file o.schema o.state)))))
+    go : (b : Bool) → Judged is_fault_of_file (cond b (Ok o) (Err (NotCanonical (first_difference bytes (canonical_file o.schema o.state)))))
     go true = tt
     go false = refl
 
-pub canonical_read_judged : (bytes : List ℕ) → Judged (canonical_read bytes)
-canonical_read_judged bytes = then_judged (offer_read bytes) (judged bytes) (offer_read_judged bytes) (judged_judged bytes)
+pub canonical_read_judged : (bytes : List ℕ) → Judged is_fault_of_file (canonical_read bytes)
+canonical_read_judged bytes = then_judged is_fault_of_file (offer_read bytes) (judged bytes) (judged_widest (offer_read bytes) (offer_read_judged bytes)) (judged_judged bytes)
 
 pub checked_is : (bytes : List ℕ) (o : OfferForm) (batches ranges : ℕ) → canonical_read bytes ≡ Ok o → batches ≡ finite.len o.state.batches → ranges ≡ length (ranges_of o.state.deleted) → checked_from bytes ≡ Ok (batches, ranges)
 checked_is bytes o batches ranges is count many = rw is (λ i. Ok (sym count i, sym many i))
@@ -229,6 +230,13 @@ verdict_matched bytes text start c (Err WriteFault) before after from written = 
     go true test = inl (front_matched bytes text c n front.0 front.1 front.2 came (ltb-true n (length c.1) test) refl)
     go false test = inr refl
 verdict_matched bytes text start c (Err other) before after from written = inr refl
+
+-- so is what it said
+pub said_matched : (bytes text : List ℕ) (start c : List ℕ × List ℕ) (outcome said : Result (Unit {0}) Refusal) (before after : ℕ) → start ≡ (bytes, []) → Writes outcome (Some (told start)) (Some (told c)) before after text → said ≡ verdict c outcome
+    → Reads (λ (done : Unit {0}). done) said (matched bytes text)
+said_matched bytes text start c outcome said before after from written is =
+    let Q : Result (Unit {0}) Refusal → Type 0 = λ r. Reads (λ (done : Unit {0}). done) r (matched bytes text) in
+    subst Q (sym is) (verdict_matched bytes text start c outcome before after from written)
 
 -- ---- texts that differ inside
 

@@ -21,27 +21,47 @@ IsUnread e = (e ≡ Memory) ⊎ (e ≡ ReadFault)
 abbrev pub ComesOfWhole : Refusal → Option (List ℕ) → Option (List ℕ) → Type 0
 ComesOfWhole e before after = (e ≡ Memory → ⊥) → (e ≡ ReadFault → ⊥) → IsWithin before × IsAtEnd after
 
--- whether a refusal is a fault that bytes may have
-abbrev pub is_fault_of_bytes : Refusal → Bool
-is_fault_of_bytes BadName = true
-is_fault_of_bytes BadSchema = true
-is_fault_of_bytes (Truncated at) = true
-is_fault_of_bytes BadMagic = true
-is_fault_of_bytes BadVersion = true
-is_fault_of_bytes (BadOrder at) = true
-is_fault_of_bytes (BadCount at) = true
-is_fault_of_bytes (BadWidth at) = true
-is_fault_of_bytes (BadTag at) = true
-is_fault_of_bytes (BadMask at) = true
-is_fault_of_bytes (BadDictionary at) = true
-is_fault_of_bytes (BadCode at) = true
-is_fault_of_bytes (BadRange at) = true
-is_fault_of_bytes (TrailingBytes at) = true
-is_fault_of_bytes (NotCanonical at) = true
-is_fault_of_bytes other = false
+-- whether a refusal is a fault that the bytes of a summary may have
+abbrev pub is_fault_of_summary : Refusal → Bool
+is_fault_of_summary (Truncated at) = true
+is_fault_of_summary BadMagic = true
+is_fault_of_summary BadVersion = true
+is_fault_of_summary BadSchema = true
+is_fault_of_summary (BadCount at) = true
+is_fault_of_summary BadName = true
+is_fault_of_summary (BadOrder at) = true
+is_fault_of_summary (TrailingBytes at) = true
+is_fault_of_summary other = false
 
--- each refusal of a call that reads bytes is one of their faults, a failed read or a want of memory
+-- whether a refusal is a fault that the bytes of a container may have: its vectors and ranges have more than a summary
+abbrev pub is_fault_of_container : Refusal → Bool
+is_fault_of_container (BadMask at) = true
+is_fault_of_container (BadTag at) = true
+is_fault_of_container (BadWidth at) = true
+is_fault_of_container (BadDictionary at) = true
+is_fault_of_container (BadCode at) = true
+is_fault_of_container (BadRange at) = true
+is_fault_of_container other = is_fault_of_summary other
+
+-- whether a refusal is a fault that the bytes of a canonical file may have
+abbrev pub is_fault_of_file : Refusal → Bool
+is_fault_of_file (NotCanonical at) = true
+is_fault_of_file other = is_fault_of_container other
+
+-- whether a refusal is a want of memory, a failed read or one of some faults
+abbrev pub unread_or : (Refusal → Bool) → Refusal → Bool
+unread_or is_fault Memory = true
+unread_or is_fault ReadFault = true
+unread_or is_fault other = is_fault other
+
+-- each refusal of a call that reads a summary
+abbrev pub is_refusal_of_summary : Refusal → Bool
+is_refusal_of_summary = unread_or is_fault_of_summary
+
+-- each refusal of a call that reads an offer
+abbrev pub is_refusal_of_offer : Refusal → Bool
+is_refusal_of_offer = unread_or is_fault_of_container
+
+-- each refusal of a call that reads a canonical file
 abbrev pub is_refusal_of_reading : Refusal → Bool
-is_refusal_of_reading Memory = true
-is_refusal_of_reading ReadFault = true
-is_refusal_of_reading other = is_fault_of_bytes other
+is_refusal_of_reading = unread_or is_fault_of_file

@@ -8,7 +8,7 @@ ghost use Rattle.segment_core.specs.Format.{Format, number, before, all, read_wh
 ghost use Rattle.segment_core.specs.Segment.{batch_of, widths_in, widths_of};
 ghost use Rattle.segment_core.specs.SegmentBytes.{batch_columns};
 ghost use Rattle.column_file.specs.SummaryBytes.{head, any_name, is_after, batch_name, name_count, precedes};
-ghost use Rattle.column_file.specs.Input.{is_fault_of_bytes};
+ghost use Rattle.column_file.specs.Input.{is_fault_of_summary, is_fault_of_container};
 ghost use Rattle.column_file.specs.ContainerBytes.{IsRest, IsFound, row_count, entry_of, name_of, batch, batches, deleted_of, is_named, is_range, ends_before, begins_after, range_parts, range, ranges, container};
 
 use crate::summary_reading::{precedes, read_head, read_name_count, read_proper_name};
@@ -25,7 +25,7 @@ fn read_row_count(total: usize, bytes: &[u8]) -> Result<(usize, &[u8]), Refusal>
     ensures read { Reads (λ x. (x.0, x.1.now)) result (row_count.read total bytes.now) }
     ensures some { IfOk result (λ x. 1 ≤ x.0) }
     ensures limit { IfOk result (λ x. x.0 ≤ row_limit) }
-    ensures fault { IfErr result (λ e. IsTrue (is_fault_of_bytes e)) }
+    ensures fault { IfErr result (λ e. IsTrue (is_fault_of_summary e)) }
 {
     let (less, rest) = read_number(total, bytes, 2)?;
     Ok((less as usize + 1, rest))
@@ -46,7 +46,7 @@ fn read_name_after<'a>(
     front: &[(BatchName, Segment)],
 ) -> Result<(BatchName, &'a [u8]), Refusal>
     ensures read { Reads (λ x. (x.0, x.1.now)) result ((batch_name (map name_of (map entry_of front.now))).read total bytes.now) }
-    ensures fault { IfErr result (λ e. IsTrue (is_fault_of_bytes e)) }
+    ensures fault { IfErr result (λ e. IsTrue (is_fault_of_summary e)) }
 {
     let (name, rest) = read_proper_name(total, bytes)?;
     if !is_after_batches(front, name) {
@@ -144,7 +144,7 @@ fn read_batches<'a>(
 #[tactic(auto, unfolding(crate::specs::ContainerBytes::range_parts, crate::specs::SummaryBytes::any_name))]
 fn read_range_parts(total: usize, bytes: &[u8]) -> Result<((RowName, u16), &[u8]), Refusal>
     ensures read { Reads (λ x. (deleted_of x.0, x.1.now)) result (range_parts.read total bytes.now) }
-    ensures fault { IfErr result (λ e. IsTrue (is_fault_of_bytes e)) }
+    ensures fault { IfErr result (λ e. IsTrue (is_fault_of_summary e)) }
 {
     let (origin, after_origin) = read_number(total, bytes, 4)?;
     let (number, after_name) = read_number(total, after_origin, 4)?;
@@ -186,7 +186,7 @@ fn read_range<'a>(
     front: &[(RowName, u16)],
 ) -> Result<((RowName, u16), &'a [u8]), Refusal>
     ensures read { Reads (λ x. (deleted_of x.0, x.1.now)) result ((range (map deleted_of front.now)).read total bytes.now) }
-    ensures fault { IfErr result (λ e. IsTrue (is_fault_of_bytes e)) }
+    ensures fault { IfErr result (λ e. IsTrue (is_fault_of_container e)) }
 {
     let (found, rest) = read_range_parts(total, bytes)?;
     if !found.0.batch.is_proper() {

@@ -7,7 +7,7 @@ ghost use Rattle.table_model.specs.Name.{is_proper_name};
 ghost use Rattle.catalogue_join.specs.RowRange.{RowRange, rows_in};
 ghost use Rattle.table_model.specs.Reading.{Reads};
 ghost use Rattle.column_file.specs.Files.{IsRangeGiven, offer_read};
-ghost use Rattle.column_file.specs.Input.{Judges, ComesOfWhole, is_refusal_of_reading};
+ghost use Rattle.column_file.specs.Input.{Judges, ComesOfWhole, is_refusal_of_offer};
 
 use crate::container_reading::read_container;
 use crate::input::read_input;
@@ -46,7 +46,7 @@ pub(crate) fn offer_in(alloc: Global, bytes: &[u8]) -> Result<Offer, Refusal>
 /// the bytes that are there.
 pub fn read_offer<R: Read>(alloc: Global, reader: &mut Counted<R>) -> Result<Offer, Refusal>
     ensures read { Judges (λ x. x) result (R.remaining reader.old.0) offer_read }
-    ensures refused { IfErr result (λ e. IsTrue (is_refusal_of_reading e)) }
+    ensures refused { IfErr result (λ e. IsTrue (is_refusal_of_offer e)) }
     ensures end { OnOk result (IsAtEnd (R.remaining reader.new.0)) }
     ensures within { OnOk result (IsWithin (R.remaining reader.old.0)) }
     ensures kept { OnOk result (reader.new.1 ≡ reader.old.1) }

@@ -59,26 +59,8 @@ fn are_same_pairs(a: &[(RowName, u16)], b: &[(RowName, u16)]) -> bool
         .all(|(range, other)| same_range(*range, *other))
 }
 
-/// Refuses bytes that aren't a container of a table's batches, at most 1,048,576, in their present codings, and of ranges of deleted
-/// rows: `NotCanonical` with the first place that differs. The container is compared as it is written, and stands nowhere.
-fn compared(
-    bytes: &[u8],
-    schema: &Schema,
-    entries: &[(BatchName, Segment)],
-    deleted: &[(RowName, u16)],
-) -> Result<(), Refusal>
-    requires limit { length entries.now ≤ batch_limit }
-    requires stored { All (IsStored schema.now) entries.now }
-    ensures { Reads (λ x. x) result (matched bytes.now (container.spell (schema.now, (map entry_of entries.now, map deleted_of deleted.now)))) }
-{
-    let mut writer = Counted::new(Comparison::new(bytes));
-    let outcome = write_container(&mut writer, schema, entries, deleted);
-    let found = writer.into_inner();
-    found.verdict(outcome)
-}
-
 /// The batches and deletions that a canonical file holds. Refused is the first fault of the bytes, then `NotCanonical`, or a want
-/// of memory, which may come in the place of any of them.
+/// of memory, which may come in the place of any of them. The canonical file is compared as it is written, and stands nowhere.
 fn canonical_in(alloc: Global, bytes: &[u8]) -> Result<Offer, Refusal>
     ensures read { Reads (λ x. x) result (canonical_read bytes.now) }
     ensures segments { IfOk result (λ o. AreCanonicalOf o.schema o.state.batches o.segments) }
@@ -92,7 +74,9 @@ fn canonical_in(alloc: Global, bytes: &[u8]) -> Result<Offer, Refusal>
     }
     // `column_list` ensures that it is a table's schema.
     let _columns = schema.column_list();
-    compared(bytes, &schema, batches.as_slice(), tombs.ranges())?;
+    let mut writer = Counted::new(Comparison::new(bytes));
+    let outcome = write_container(&mut writer, &schema, batches.as_slice(), tombs.ranges());
+    writer.into_inner().verdict(outcome)?;
     Ok(Offer::from_parts(schema, batches, tombs))
 }
 

@@ -4,7 +4,7 @@ ghost use Rattle.std.specs.List.{list_all, list_any};
 ghost use Rattle.table_model.specs.Table.{has_name, ColumnShape};
 ghost use Rattle.table_model.specs.Reading.{Reads};
 ghost use Rattle.segment_core.specs.Format.{Format, all};
-ghost use Rattle.column_file.specs.Input.{is_fault_of_bytes};
+ghost use Rattle.column_file.specs.Input.{is_fault_of_summary};
 ghost use Rattle.column_file.specs.SchemaBytes.{text, is_upper, is_name, name, column_type, shape_of, column, column_count, schema};
 
 use crate::type_tags::tagged;
@@ -16,7 +16,7 @@ use table_model::{ColType, MAX_COLUMNS, MAX_WORD, Refusal, Schema, is_identifier
 #[tactic(auto, unfolding(crate::specs::SchemaBytes::text))]
 fn read_text(total: usize, bytes: &[u8]) -> Result<(&[u8], &[u8]), Refusal>
     ensures read { Reads (λ x. (x.0.now, x.1.now)) result (text.read total bytes.now) }
-    ensures fault { IfErr result (λ e. IsTrue (is_fault_of_bytes e)) }
+    ensures fault { IfErr result (λ e. IsTrue (is_fault_of_summary e)) }
 {
     let (size, rest) = read_number(total, bytes, 1)?;
     if size < 1 || (MAX_WORD as u64) < size {
@@ -47,7 +47,7 @@ fn is_name(text: &[u8]) -> bool
 #[tactic(auto, unfolding(crate::specs::SchemaBytes::name))]
 fn read_name(total: usize, bytes: &[u8]) -> Result<(&str, &[u8]), Refusal>
     ensures read { Reads (λ x. (x.0.now, x.1.now)) result (name.read total bytes.now) }
-    ensures fault { IfErr result (λ e. IsTrue (is_fault_of_bytes e)) }
+    ensures fault { IfErr result (λ e. IsTrue (is_fault_of_summary e)) }
 {
     let (text, rest) = read_text(total, bytes)?;
     if !is_name(text) {
@@ -63,7 +63,7 @@ fn read_name(total: usize, bytes: &[u8]) -> Result<(&str, &[u8]), Refusal>
 #[tactic(auto, unfolding(crate::specs::SchemaBytes::column_type))]
 fn read_column_type(version: u64, total: usize, bytes: &[u8]) -> Result<(ColType, &[u8]), Refusal>
     ensures read { Reads (λ x. (x.0, x.1.now)) result ((column_type version).read total bytes.now) }
-    ensures fault { IfErr result (λ e. IsTrue (is_fault_of_bytes e)) }
+    ensures fault { IfErr result (λ e. IsTrue (is_fault_of_summary e)) }
 {
     let (tag, rest) = read_number(total, bytes, 1)?;
     match tagged(version, tag) {
@@ -90,7 +90,7 @@ fn read_column<'a>(
     front: &[(&str, ColType)],
 ) -> Result<(&'a str, ColType, &'a [u8]), Refusal>
     ensures read { Reads (λ x. (shape_of (x.0.now, x.1), x.2.now)) result ((column version (map (λ c. shape_of (c.0.now, c.1)) front.now)).read total bytes.now) }
-    ensures fault { IfErr result (λ e. IsTrue (is_fault_of_bytes e)) }
+    ensures fault { IfErr result (λ e. IsTrue (is_fault_of_summary e)) }
 {
     let (column_type, rest) = read_column_type(version, total, bytes)?;
     let (name, rest) = read_name(total, rest)?;
@@ -124,7 +124,7 @@ fn read_columns<'a>(
 #[tactic(auto, unfolding(crate::specs::SchemaBytes::column_count))]
 fn read_column_count(total: usize, bytes: &[u8]) -> Result<(usize, &[u8]), Refusal>
     ensures read { Reads (λ x. (x.0, x.1.now)) result (column_count.read total bytes.now) }
-    ensures fault { IfErr result (λ e. IsTrue (is_fault_of_bytes e)) }
+    ensures fault { IfErr result (λ e. IsTrue (is_fault_of_summary e)) }
 {
     let (count, rest) = read_number(total, bytes, 2)?;
     if count < 1 || (MAX_COLUMNS as u64) < count {
@@ -133,8 +133,9 @@ fn read_column_count(total: usize, bytes: &[u8]) -> Result<(usize, &[u8]), Refus
     Ok((count as usize, rest))
 }
 
-/// The schema in a version at the front of what is left of an input of `total` bytes, and what stands after it. Refused is the first fault:
-/// `Truncated`, `BadCount` at the count, or `BadSchema`. It grows as it reads, so `Memory` may come in the place of any of them.
+/// The schema in a version at the front of what is left of an input of `total` bytes, and what stands after it. Refused is the first
+/// fault: `Truncated`, `BadCount` at the count, or `BadSchema`. It grows as it reads, so `Memory` may come in the place of any of
+/// them.
 #[tactic(auto, unfolding(crate::specs::SchemaBytes::schema))]
 pub fn read_schema(
     alloc: Global,

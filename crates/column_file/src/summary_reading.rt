@@ -8,7 +8,7 @@ ghost use Rattle.table_model.specs.Name.{is_proper_name};
 ghost use Rattle.table_model.specs.Reading.{Reads};
 ghost use Rattle.segment_core.specs.Format.{Format, number, all, constant, read_whole};
 ghost use Rattle.column_file.specs.SummaryBytes.{version, head, proper_name, precedes, is_after, batch_name, name_count, names, summary, summary_read};
-ghost use Rattle.column_file.specs.Input.{Judges, ComesOfWhole, is_fault_of_bytes, is_refusal_of_reading};
+ghost use Rattle.column_file.specs.Input.{Judges, ComesOfWhole, is_fault_of_summary, is_refusal_of_summary};
 
 use crate::input::read_input;
 use crate::schema_reading::read_schema;
@@ -26,7 +26,7 @@ pub(crate) const SUMMARY: [u8; 4] = *b"FLSM";
 /// What stands after the bytes that a format begins with: `BadMagic` where they are others.
 fn read_magic<'a>(total: usize, bytes: &'a [u8], magic: &[u8]) -> Result<&'a [u8], Refusal>
     ensures read { Reads (λ x. (magic.now, x.now)) result ((constant magic.now Refusal.BadMagic).read total bytes.now) }
-    ensures fault { IfErr result (λ e. IsTrue (is_fault_of_bytes e)) }
+    ensures fault { IfErr result (λ e. IsTrue (is_fault_of_summary e)) }
 {
     if bytes.len() < magic.len() {
         return Err(Refusal::Truncated(total as u64));
@@ -42,7 +42,7 @@ fn read_magic<'a>(total: usize, bytes: &'a [u8], magic: &[u8]) -> Result<&'a [u8
 #[tactic(auto, unfolding(crate::specs::SummaryBytes::version))]
 fn read_version(total: usize, bytes: &[u8]) -> Result<(u64, &[u8]), Refusal>
     ensures read { Reads (λ x. (x.0, x.1.now)) result (version.read total bytes.now) }
-    ensures fault { IfErr result (λ e. IsTrue (is_fault_of_bytes e)) }
+    ensures fault { IfErr result (λ e. IsTrue (is_fault_of_summary e)) }
 {
     let (version, rest) = read_number(total, bytes, 2)?;
     if version != 1 && version != 2 {
@@ -74,7 +74,7 @@ pub(crate) fn read_head<'a>(
 #[tactic(auto, unfolding(crate::specs::SummaryBytes::proper_name, crate::specs::SummaryBytes::any_name))]
 pub(crate) fn read_proper_name(total: usize, bytes: &[u8]) -> Result<(BatchName, &[u8]), Refusal>
     ensures read { Reads (λ x. (x.0, x.1.now)) result (proper_name.read total bytes.now) }
-    ensures fault { IfErr result (λ e. IsTrue (is_fault_of_bytes e)) }
+    ensures fault { IfErr result (λ e. IsTrue (is_fault_of_summary e)) }
 {
     let (origin, after_origin) = read_number(total, bytes, 4)?;
     let (number, rest) = read_number(total, after_origin, 4)?;
@@ -110,7 +110,7 @@ fn read_batch_name<'a>(
     front: &[BatchName],
 ) -> Result<(BatchName, &'a [u8]), Refusal>
     ensures read { Reads (λ x. (x.0, x.1.now)) result ((batch_name front.now).read total bytes.now) }
-    ensures fault { IfErr result (λ e. IsTrue (is_fault_of_bytes e)) }
+    ensures fault { IfErr result (λ e. IsTrue (is_fault_of_summary e)) }
 {
     let (name, rest) = read_proper_name(total, bytes)?;
     if !is_after(front, name) {
@@ -142,7 +142,7 @@ fn read_batch_names(
 #[tactic(auto, unfolding(crate::specs::SummaryBytes::name_count))]
 pub(crate) fn read_name_count(total: usize, bytes: &[u8]) -> Result<(usize, &[u8]), Refusal>
     ensures read { Reads (λ x. (x.0, x.1.now)) result (name_count.read total bytes.now) }
-    ensures fault { IfErr result (λ e. IsTrue (is_fault_of_bytes e)) }
+    ensures fault { IfErr result (λ e. IsTrue (is_fault_of_summary e)) }
 {
     let (count, rest) = read_number(total, bytes, 4)?;
     if count > MAX_BATCHES as u64 {
@@ -204,7 +204,7 @@ fn summary_in(alloc: Global, bytes: &[u8]) -> Result<Summary, Refusal>
 /// may come in the place of any of them.
 pub fn read_summary<R: Read>(alloc: Global, reader: &mut Counted<R>) -> Result<Summary, Refusal>
     ensures read { Judges (λ x. x) result (R.remaining reader.old.0) summary_read }
-    ensures refused { IfErr result (λ e. IsTrue (is_refusal_of_reading e)) }
+    ensures refused { IfErr result (λ e. IsTrue (is_refusal_of_summary e)) }
     ensures end { OnOk result (IsAtEnd (R.remaining reader.new.0)) }
     ensures within { OnOk result (IsWithin (R.remaining reader.old.0)) }
     ensures kept { OnOk result (reader.new.1 ≡ reader.old.1) }

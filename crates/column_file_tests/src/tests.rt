@@ -42,6 +42,10 @@ fn the_first_fault_of_a_summary_is_answered_at_its_place(rt: HostRuntime) -> Res
         (b"FLSM\x03\0", Refusal::BadVersion),
         (b"FLSM\x02\0\x01\0\x01T\x02\x01", Refusal::Truncated(12)),
         (b"FLSM\x02\0\x01\0\x01T\x02\x01A", Refusal::BadVersion),
+        (
+            b"FLSM\x02\0\x01\0\x01T\x02\x01A\0\0\0\0",
+            Refusal::BadVersion,
+        ),
         (b"FLSM\x01\0\x01\0\x01T\x01\x01A", Refusal::BadSchema),
         (b"FLSM\x01\x01", Refusal::BadVersion),
         (b"FLSM\x01\0\0\0", Refusal::BadCount(6)),
@@ -57,6 +61,10 @@ fn the_first_fault_of_a_summary_is_answered_at_its_place(rt: HostRuntime) -> Res
         (
             b"FLSM\x01\0\x01\0\x01T\x02\x01A\x01\0\x10\0",
             Refusal::BadCount(13),
+        ),
+        (
+            b"FLSM\x01\0\x01\0\x01T\x02\x01A\0\0\x10\0",
+            Refusal::Truncated(17),
         ),
         (HEAD, Refusal::Truncated(17)),
         (

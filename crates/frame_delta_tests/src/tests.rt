@@ -1,5 +1,5 @@
 //! Coded vectors at values worked out by hand from the definitions.
-ghost use Rattle.std.specs.Prelude.{◌<◌, ◌^◌};
+ghost use Rattle.std.specs.Prelude.{◌<◌, ◌≤◌, ◌^◌};
 ghost use Rattle.std.specs.List.{All};
 ghost use Rattle.transpose_order.specs.Place.{IsLaneWidth};
 ghost use Rattle.bit_interleave.specs.Range.{AreInRange};
@@ -111,7 +111,8 @@ fn vectors_have_their_bytes(rt: HostRuntime) -> Result<(), Fail> {
 /// and their differences are -1 and 1 modulo a power of two, whose distance has two bits. The range of 1024 neighbours has ten, or at
 /// 8 bits, which they go round, eight.
 fn extremes_come_back(alloc: Global, lane_width: usize, ramp_width: u16) -> Result<(), Fail>
-    requires { IsLaneWidth lane_width }
+    requires lane_width { IsLaneWidth lane_width }
+    requires ramp_width { ramp_width ≤ 10 }
 {
     let least = 1 << (lane_width - 1);
     let greatest = least - 1;
@@ -168,7 +169,10 @@ fn counting_to_128() -> [i64; 1024]
 /// The deltas of the rows' numbers modulo 128, at 8 bits. Lane 0 begins at row 0, lane 1 at row 64, lane 16 at row 32, so their bases
 /// are -1, 63 and 31: the bytes FF, 3F and 1F. The payload is the byte of the least delta, 1, and the 128 bases.
 fn has_bases_of_bytes(coded: &Delta) -> Result<(), Fail> {
-    agree((coded.least(), coded.width(), coded.bytes_len()), (1, 0, 129))?;
+    agree(
+        (coded.least(), coded.width(), coded.bytes_len()),
+        (1, 0, 129),
+    )?;
     agree(coded.lane_width(), 8)?;
     let bases = coded.bases();
     if bases.lane_width() != 8 || bases.len() != 128 {

@@ -2,6 +2,10 @@
 #![tactic(auto)]
 
 #[cfg(test)]
+mod byte_tests;
+#[cfg(test)]
+mod cells;
+#[cfg(test)]
 mod edge_tests;
 #[cfg(test)]
 mod plain_lanes;

@@ -1,125 +1,32 @@
 //! The calls on coded vectors in each coding, at values worked out by hand.
+use crate::cells::{CODINGS, Pattern, cell_of, coded, parts_of, rows};
 use fused_kernels::{
     Meter, VectorLanes, compare_columns, compare_vector, compare_vector_range, compare_vectors,
     count, decode_vector, vector_max, vector_min, vector_sum,
 };
-use segment_core::{CodedVector, Coding, Segment};
-use std::alloc::{AllocError, Global};
+use segment_core::{CodedVector, Coding};
+use std::alloc::Global;
 use std::process::Abort;
 use std::test::Fail;
-use table_model::{ColType, Op, Refusal, Row, Schema, check_rows};
+use table_model::{ColType, Op};
 use test_support::agree;
 use transpose_order::Mask;
 
-const TYPES: [ColType; 3] = [ColType::SmallInt, ColType::Integer, ColType::BigInt];
+const TYPES: [ColType; 4] = [
+    ColType::TinyInt,
+    ColType::SmallInt,
+    ColType::Integer,
+    ColType::BigInt,
+];
 
-const CODINGS: [Coding; 4] = [Coding::For, Coding::Delta, Coding::Runs, Coding::Dict];
-
-/// What a test's column holds.
-#[derive(Clone, Copy)]
-enum Pattern {
-    All(i128),
-    Counting,
-    Alternating(i128, i128),
-    ThirdsNull,
-    /// The upper bits of a number mixed from the row, without so many of 64, less another number; each eleventh row is null. The
-    /// third part is joined to the row: with 1, each even row has the value of the odd row after it.
-    Mixed(usize, i64, usize),
-}
-
-/// A number mixed from a row, without so many of its lowest bits.
-fn mixed(row: usize, without: usize) -> u64 {
-    let number = (row as u64)
-        .wrapping_add(1)
-        .wrapping_mul(0x9e37_79b9_7f4a_7c15);
-    if without < 64 { number >> without } else { 0 }
-}
-
-fn cell_of(pattern: Pattern, row: usize) -> Option<i128> {
-    match pattern {
-        Pattern::All(value) => Some(value),
-        Pattern::Counting => Some(row as i128),
-        Pattern::Alternating(even, odd) => Some(if row % 2 == 0 { even } else { odd }),
-        Pattern::ThirdsNull => {
-            if row % 3 == 0 {
-                None
-            } else {
-                Some(row as i128)
-            }
-        }
-        Pattern::Mixed(without, less, joined) => {
-            if row % 11 == 5 {
-                None
-            } else {
-                Some(i128::from(mixed(row | joined, without)) - i128::from(less))
-            }
-        }
-    }
-}
-
-/// So many rows of one cell.
-fn rows_of(alloc: Global, count: usize, pattern: Pattern) -> Result<Vec<Row>, AllocError> {
-    let mut rows = Vec::with_capacity(alloc, count)?;
-    for row in 0..count {
-        rows.push(Row::from_cells(Vec::from_slice(alloc, &[cell_of(pattern, row)])?))?;
-    }
-    Ok(rows)
-}
-
-/// The segment of a table with one column.
-fn segment_of(alloc: Global, column_type: ColType, rows: &[Row]) -> Result<Segment, Refusal> {
-    let schema = Schema::new(alloc, "T", &[("A", column_type)])?;
-    check_rows(&schema, rows)?;
-    Ok(Segment::build(alloc, &schema, rows)?)
-}
-
-/// The first vector of a segment.
-fn first(rt: &impl Abort, alloc: Global, segment: &Segment) -> Result<CodedVector, AllocError> {
-    assert!(rt; segment.columns() > 0);
-    assert!(rt; segment.rows() > 0);
-    segment.vector(0, 0).copy(alloc)
-}
-
-/// The canonical vector of so many rows of a column, at least one.
-fn canonical(
-    rt: &impl Abort,
-    alloc: Global,
-    column_type: ColType,
-    count: usize,
-    pattern: Pattern,
-) -> Result<CodedVector, Fail> {
-    let rows = rows_of(alloc, count, pattern)?;
-    let segment = segment_of(alloc, column_type, &rows)?;
-    Ok(first(rt, alloc, &segment)?)
-}
-
-/// That column in a coding.
-fn coded(
-    rt: &impl Abort,
-    alloc: Global,
-    column_type: ColType,
-    count: usize,
-    pattern: Pattern,
-    coding: Coding,
-) -> Result<CodedVector, Fail> {
-    let vector = canonical(rt, alloc, column_type, count, pattern)?;
-    Ok(vector.recoded(alloc, coding)?)
-}
-
-/// The rows from `first` on, up to `end`, which is not included.
-fn rows(rt: &impl Abort, first: usize, end: usize) -> Mask {
-    assert!(rt; first <= end);
-    assert!(rt; end <= 1024);
-    let mut mask = Mask::none();
-    mask.set_range(first, end, true);
-    mask
-}
+/// The column types that have the number of each row.
+const LONG_TYPES: [ColType; 3] = [ColType::SmallInt, ColType::Integer, ColType::BigInt];
 
 /// The sum, the least and the greatest value of the rows looked at, and how many they are.
-type Folds = (i128, Option<i64>, Option<i64>, u32);
+pub(crate) type Folds = (i128, Option<i64>, Option<i64>, u32);
 
 /// What the calls answer of one vector, each counting one pass.
-fn folds(vector: &CodedVector, mask: &Mask) -> Result<Folds, Fail> {
+pub(crate) fn folds(vector: &CodedVector, mask: &Mask) -> Result<Folds, Fail> {
     let mut meter = Meter::new();
     let folds = (
         vector_sum(vector, mask, &mut meter),
@@ -187,7 +94,8 @@ fn check_ends_of(
 }
 
 /// The column types, and the least and the greatest number of each.
-const ENDS: [(ColType, i64, i64); 3] = [
+const ENDS: [(ColType, i64, i64); 4] = [
+    (ColType::TinyInt, i8::MIN as i64, i8::MAX as i64),
     (ColType::SmallInt, i16::MIN as i64, i16::MAX as i64),
     (ColType::Integer, i32::MIN as i64, i32::MAX as i64),
     (ColType::BigInt, i64::MIN, i64::MAX),
@@ -225,7 +133,7 @@ fn check_thirds(rt: &impl Abort, vector: &CodedVector) -> Result<(), Fail> {
 fn rows_past_the_end_null_or_out_of_the_mask_are_not_looked_at(
     rt: HostRuntime,
 ) -> Result<(), Fail> {
-    for &column_type in &TYPES {
+    for &column_type in &LONG_TYPES {
         for &coding in &CODINGS {
             let pattern = Pattern::ThirdsNull;
             let vector = coded(&rt, rt.alloc(), column_type, 1023, pattern, coding)?;
@@ -313,7 +221,7 @@ fn check_thirds_compared(rt: &impl Abort, vector: &CodedVector) -> Result<(), Fa
 // Of 10, 11, 13, 14, 16, 17 and 19, and at the ends of what numbers there are.
 #[test]
 fn a_comparison_parts_the_rows_looked_at_in_each_coding(rt: HostRuntime) -> Result<(), Fail> {
-    for &column_type in &TYPES {
+    for &column_type in &LONG_TYPES {
         for &coding in &CODINGS {
             let pattern = Pattern::ThirdsNull;
             let vector = coded(&rt, rt.alloc(), column_type, 1023, pattern, coding)?;
@@ -424,7 +332,7 @@ fn are_counting(values: &[i64; 1024]) -> bool {
 }
 
 /// The values of a vector, which counts one pass to decode.
-fn decoded(vector: &CodedVector) -> Result<[i64; 1024], Fail> {
+pub(crate) fn decoded(vector: &CodedVector) -> Result<[i64; 1024], Fail> {
     let mut values = [-1; 1024];
     let mut meter = Meter::new();
     decode_vector(vector, &mut values, &mut meter);
@@ -443,8 +351,13 @@ fn a_vector_is_decoded_in_row_order(rt: HostRuntime) -> Result<(), Fail> {
 }
 
 /// A column type, how many of 64 bits a column's numbers are without, and what is taken off them: their frames have the widths 0,
-/// 3, half of the type's bits, all but one of them, and at 16 and 32 bits all.
-const WIDTHS: [(ColType, usize, i64); 15] = [
+/// 3, half of the type's bits, all but one of them, and at 8, 16 and 32 bits all.
+const WIDTHS: [(ColType, usize, i64); 20] = [
+    (ColType::TinyInt, 64, 5),
+    (ColType::TinyInt, 61, 4),
+    (ColType::TinyInt, 60, 8),
+    (ColType::TinyInt, 57, 0x40),
+    (ColType::TinyInt, 56, 0x80),
     (ColType::SmallInt, 64, 5),
     (ColType::SmallInt, 61, 4),
     (ColType::SmallInt, 56, 0x80),
@@ -471,28 +384,6 @@ const BESIDE: [(Coding, Op, Coding); 6] = [
     (Coding::For, Op::Greater, Coding::For),
     (Coding::Delta, Op::GreaterOrEqual, Coding::Delta),
 ];
-
-fn holds(op: Op, left: i128, right: i128) -> bool {
-    match op {
-        Op::Equal => left == right,
-        Op::NotEqual => left != right,
-        Op::Less => left < right,
-        Op::LessOrEqual => left <= right,
-        Op::Greater => left > right,
-        Op::GreaterOrEqual => left >= right,
-    }
-}
-
-/// Whether the comparison of a row's two cells holds and whether it doesn't: neither where one is null or the row isn't looked at.
-fn parts_of(looked_at: bool, op: Op, left: Option<i128>, right: Option<i128>) -> (bool, bool) {
-    match (left, right) {
-        (Some(left), Some(right)) => (
-            looked_at && holds(op, left, right),
-            looked_at && !holds(op, left, right),
-        ),
-        _ => (false, false),
-    }
-}
 
 fn check_beside(
     (left, left_cells): (&CodedVector, Pattern),

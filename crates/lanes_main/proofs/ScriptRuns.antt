@@ -12,11 +12,12 @@ use Rattle.cluster_history.specs.Run.{Run, answered}
 use Rattle.lanes_main.specs.Script.{line_limit, founded, first_answer, later_answer, line_answer, line_text, after_line, lines_text, after_lines}
 use Rattle.lanes_main.specs.ScriptRun.{replies_of, cluster_after, step_in, steps_of, next_text, replies_text, MakesTable, MakesOneOrNone, StepsRun, WritesReplies, EndsAsRun, SameInScripts, SameInScriptsExport, ScriptLaws}
 use Rattle.script_lines.specs.TableWords.{TableWords}
+use Rattle.script_lines.specs.Verb.{leading}
 use Rattle.script_lines.specs.declared.command.Command.{Command}
 use Rattle.script_lines.specs.declared.command.Command.TheVariants as commands
 use Rattle.cluster_history.specs.declared.reply.Reply.{Reply}
 use Rattle.cluster_history.specs.declared.reply.Reply.TheVariants.{Done, Refused}
-use Rattle.script_lines.specs.declared.step.Step.{Step}
+use Rattle.cluster_history.specs.declared.step.Step.{Step}
 use Rattle.cluster_history.proofs.Histories.{in_histories, histories}
 
 steps_run : StepsRun
@@ -57,7 +58,7 @@ line_run c lines false (Some (commands.Act step)) rest =
     (ap (λ (t : List ℕ). reply_text_of p.0 ++ t) (rest p.1).0, (rest p.1).1)
 
 lines_run : (c : ClusterParts) (lines : List (List ℕ)) → IsRun c lines
-unfolding line_answer command_of
+unfolding line_answer command_of leading
 lines_run c [] = (refl, refl)
 lines_run c ([] ∷ lines) = lines_run c lines
 lines_run c ((b ∷ bs) ∷ lines) = line_run c lines (nat_lt line_limit (length (b ∷ bs))) (command_of (b ∷ bs)) (λ d. lines_run d lines)
@@ -123,7 +124,7 @@ one_or_none ((b ∷ bs) ∷ lines) =
 
 -- the line that makes the table is answered ok
 table_line : (line : List ℕ) (c : ClusterParts) → line_answer None line ≡ (Done, Some c) → (line_text None line ≡ codes "ok\n") × (after_line None line ≡ Some c)
-unfolding line_answer command_of reply_text_of
+unfolding line_answer command_of leading reply_text_of
 table_line [] c made = let bad : ◌≡◌ {A = Option ClusterParts} None (Some c) = ap (λ (p : Reply × Option ClusterParts). p.1) made in cc
 table_line (b ∷ bs) c made = (ap (λ (p : Reply × Option ClusterParts). reply_text_of p.0) made, ap (λ (p : Reply × Option ClusterParts). p.1) made)
 

@@ -103,8 +103,8 @@ pub fn script<R: Read, W: Write>(
     script_with_notes(alloc, reader, writer, &mut io::sink())
 }
 
-/// As [`script`], and tells a third writer of each line that is refused: its number, counted from 1, its reply, and for
-/// `BadLine` what was expected there. What that writer doesn't take is dropped.
+/// As [`script`], and tells a third writer of each line that is refused: its number, counted from 1, its reply, and what that
+/// means, or for `BadLine` what was expected there. What that writer doesn't take is dropped.
 pub fn script_with_notes<R: Read, W: Write, N: Write>(
     alloc: Global,
     reader: &mut Counted<R>,

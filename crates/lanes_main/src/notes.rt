@@ -1,12 +1,13 @@
 //! Notes on the lines and queries that were refused.
 
+use refusal_sentences::{CommandRefusal, Knowledge, Pointer, Sentence};
 use script_lines::expected;
 use std::alloc::{AllocError, Global};
 use std::io::Write;
 use table_model::Refusal;
 
-/// The notes on refused lines that nobody was told yet: for each its number, counted from 1, its reply, and where it is no
-/// command what was expected there.
+/// The notes on refused lines that nobody was told yet: for each its number, counted from 1, its reply, and what that means, or
+/// where it is no command what was expected there.
 #[derive(Drop)]
 pub struct Notes {
     lines: u64,
@@ -41,7 +42,10 @@ impl Notes {
                 "line {number}: refused {refusal}: {}\n",
                 expected(line, has_table)
             )?,
-            _ => format!(in alloc; "line {number}: refused {refusal}\n")?,
+            _ => format!(in alloc;
+                "line {number}: refused {refusal}: {}\n",
+                meaning_of(refusal)
+            )?,
         };
         self.text.extend_from_slice(note.as_bytes())
     }
@@ -53,40 +57,12 @@ impl Notes {
     }
 }
 
-/// The place in a query at which it is refused, in bytes from 0, where the refusal names one.
-fn place_in_query(refusal: Refusal) -> Option<u64> {
-    match refusal {
-        Refusal::Syntax(at) => Some(at),
-        Refusal::NoSuchColumn(at) => Some(at),
-        Refusal::NotGrouped(at) => Some(at),
-        Refusal::NumberTooLarge(at) => Some(at),
-        _ => None,
+/// What a refusal means, without its place, which stands among its values.
+fn meaning_of<'a>(refusal: Refusal) -> Sentence<'a> {
+    Sentence {
+        knowledge: Knowledge::Argument,
+        ..Sentence::new(CommandRefusal::from(refusal))
     }
-}
-
-/// What stands before a place and what stands after it, within the place's own line.
-fn line_at(text: &str, at: usize) -> Option<(&str, &str)> {
-    let before = text.get(..at)?;
-    let after = text.get(at..)?;
-    let before = match before.rsplit_once('\n') {
-        Some((_, rest)) => rest,
-        None => before,
-    };
-    let after = match after.split_once('\n') {
-        Some((rest, _)) => rest,
-        None => after,
-    };
-    Some((before, after))
-}
-
-/// The line of a place, of which so much stands before the place and so much after it, and a caret under the place.
-fn pointer(alloc: Global, before: &str, after: &str) -> Result<String, AllocError> {
-    let mut shown = format!(in alloc; "{before}{after}\n")?;
-    for letter in before.chars() {
-        shown.push(if letter == '\t' { '\t' } else { ' ' })?;
-    }
-    shown.push_str("^\n")?;
-    Ok(shown)
 }
 
 /// Shows where a query is refused, as far as the writer takes it: the line of the place, and a caret under the place. A refusal
@@ -97,11 +73,8 @@ pub fn point_at<N: Write>(
     refusal: Refusal,
     writer: &mut N,
 ) -> Result<(), AllocError> {
-    let Some(at) = place_in_query(refusal) else {
-        return Ok(());
-    };
-    if let Some((before, after)) = line_at(query, at as usize) {
-        let shown = pointer(alloc, before, after)?;
+    if let Some(pointer) = Pointer::new(query, refusal) {
+        let shown = format!(in alloc; "{pointer}")?;
         let _ = writer.write_all(shown.as_bytes());
     }
     Ok(())

@@ -1,7 +1,7 @@
 //! The lines of a script as they come, and their replies.
 ghost use Rattle.std.specs.Prelude.{◌≡◌, ◌≢◌, ◌<◌, ◌∷◌, ◌++◌, ◌==◌, [], List, ℕ, Some, position, IfOk, IfErr, IfSome, None, OnOk, length, option_map};
 ghost use Rattle.table_model.specs.Table.{schema_of};
-ghost use Rattle.script_lines.specs.Line.{command_of};
+ghost use Rattle.script_lines.specs.Line.{command_of, MayGrow};
 ghost use Rattle.cluster_history.specs.Run.{answered};
 ghost use Rattle.cluster_history.specs.Cluster.{step_of};
 ghost use Rattle.script_lines.specs.Word.{cut};
@@ -10,8 +10,8 @@ ghost use Rattle.lanes_main.specs.Script.{parts_in, founded, first_answer, later
 use crate::line_part::{LINE_LIMIT, LinePart};
 use crate::notes::Notes;
 use crate::reply_format::write_reply;
-use cluster_history::{Cluster, Reply};
-use script_lines::{Command, Step, TableCommand, parse_line};
+use cluster_history::{Cluster, Reply, Step};
+use script_lines::{Command, TableCommand, parse_line};
 use std::alloc::Global;
 use std::io::Write;
 use table_model::{Refusal, Schema};
@@ -90,6 +90,7 @@ impl Session {
 fn unless_memory(refusal: Refusal) -> Result<Reply, Refusal>
     ensures ok { IfOk result (λ reply. (reply ≡ Reply.Refused refusal) × (refusal ≢ Refusal.Memory)) }
     ensures memory { IfErr result (λ e. e ≡ Refusal.Memory) }
+    ensures lacked { IfErr result (λ _. refusal ≡ Refusal.Memory) }
 {
     match refusal {
         Refusal::Memory => Err(Refusal::Memory),
@@ -101,6 +102,7 @@ fn unless_memory(refusal: Refusal) -> Result<Reply, Refusal>
 fn command<'a>(alloc: Global, line: &'a [u8]) -> Result<Option<Command<'a>>, Refusal>
     ensures ok { IfOk result (λ command. command_of line.now ≡ command) }
     ensures memory { IfErr result (λ e. e ≡ Refusal.Memory) }
+    ensures grows { IfErr result (λ _. MayGrow line.now) }
 {
     match parse_line(alloc, line) {
         Ok(command) => Ok(Some(command)),

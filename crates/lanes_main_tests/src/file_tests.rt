@@ -386,7 +386,7 @@ const REFUSED_QUERIES: [(&[&str], Refusal, &str, &str); 7] = [
         &["SELECT COUNT(*)\nFROM T WHERE\tA = B AND\n1 = 1"],
         Refusal::NoSuchColumn(33),
         "",
-        "FROM T WHERE\tA = B AND\n            \t    ^\n",
+        "FROM T WHERE A = B AND\n                 ^\n",
     ),
     (
         &["SELECT é FROM T"],

@@ -18,7 +18,12 @@ pub(crate) fn text_of(alloc: Global, input: &[u8]) -> Result<Vec<u8>, Refusal> {
     Ok(writer.into_inner())
 }
 
-const SCRIPTS: [(&str, &str); 28] = [
+const SCRIPTS: [(&str, &str); 29] = [
+    // One row of 8 bits: the file of 41 bytes, of version 2; a file of version 1 has no column of 8 bits.
+    (
+        "table 2 T A TINYINT\nappend 1 (7)\nexport 1\nopen 2 464C434601000100015401014101000000010000000100000000000000000000070000000000000000\nappend 1 (128)\n",
+        "ok\nok 1.1\nok 464c434602000100015401014101000000010000000100000000000000000000070000000000000000\nrefused BadSchema\nrefused OutOfType 0 0\n",
+    ),
     // A row that is deleted already isn't counted again, a NULL is neither, and rows that come later stay.
     (
         "table 2 T A SMALLINT\nappend 1 (1),(NULL),(3)\ndelete where 1 NOT A = 1\ndelete where 1 NOT A = 1\nmerge 2 1\nappend 2 (3)\nquery 2 SELECT COUNT(*),SUM(A) FROM T\n",
@@ -26,8 +31,8 @@ const SCRIPTS: [(&str, &str); 28] = [
     ),
     // The order of the refusals of a delete by a condition: its form as a line, its replica, its text, its columns.
     (
-        "table 2 T A SMALLINT\ndelete where 1 A =\ndelete where 1 COUNT(*) > 0\ndelete where 1 B = 1\ndelete where 3 A = 1\ndelete where 3 A =\ndelete where 3 \ndelete where 1 A = 1 \n",
-        "ok\nrefused Syntax 3\nrefused Syntax 0\nrefused NoSuchColumn 0\nrefused NoSuchReplica\nrefused NoSuchReplica\nrefused BadLine\nok 0\n",
+        "table 2 T A SMALLINT\ndelete where 1 A =\ndelete where 1 COUNT(*) > 0\ndelete where 1 B = 1\ndelete where 3 A = 1\ndelete where 3 A =\ndelete where 3 \ndelete where 1 \ndelete where 1  \ndelete where 1   \ndelete where 1 A = 1 \n",
+        "ok\nrefused Syntax 3\nrefused Syntax 0\nrefused NoSuchColumn 0\nrefused NoSuchReplica\nrefused NoSuchReplica\nrefused BadLine\nrefused BadLine\nrefused Syntax 1\nrefused Syntax 2\nok 0\n",
     ),
     (
         "table 2 T A SMALLINT\nappend 1 (7)\nmerge 2 1\nquery 2 SELECT COUNT(*) FROM T\nquery 2 SELECT COUNT(*) FROM U\n",
@@ -159,16 +164,16 @@ fn a_script_has_the_reply_to_each_line(rt: HostRuntime) -> Result<(), Fail> {
 }
 
 /// Scripts and the notes on their refused lines: the forms of lines are those of the page on the script language.
-const NOTED: [(&str, &str); 10] = [
+const NOTED: [(&str, &str); 13] = [
     ("table 1 T A SMALLINT\nappend 1 (1)\n", ""),
     (
         "merge 1 1\ntable 65 T A SMALLINT\ntable 1\ntable 1 T A FLOAT\ntable 1 1T A SMALLINT\n",
-        "line 1: refused BadLine: the first line makes the table: table N NAME COL TYPE [COL TYPE]..\nline 2: refused BadLine: a table has 1 to 64 replicas\nline 3: refused BadLine: a table is written table N NAME COL TYPE [COL TYPE]..\nline 4: refused BadLine: a column is a name and SMALLINT, INTEGER or BIGINT\nline 5: refused BadSchema\n",
+        "line 1: refused BadLine: the first line makes the table: table N NAME COL TYPE [COL TYPE]..\nline 2: refused BadLine: a table has 1 to 64 replicas\nline 3: refused BadLine: a table is written table N NAME COL TYPE [COL TYPE]..\nline 4: refused BadLine: a column is a name and TINYINT, SMALLINT, INTEGER or BIGINT\nline 5: refused BadSchema: a table has a name and 1 to 32 columns of different names, each a letter and up to 63 letters, digits or _, and no keyword\n",
     ),
     // Empty lines count.
     (
         "table 1 T A SMALLINT\n\nappend 2 (1)\nappend 1 7\nappend 1\nappend x (7)",
-        "line 3: refused NoSuchReplica\nline 4: refused BadLine: rows are written (V,..),(V,..)\nline 5: refused BadLine: an append is written append R (V,..),(V,..)\nline 6: refused BadLine: a replica is a number of 1 to 10 digits, at most 4294967295\n",
+        "line 3: refused NoSuchReplica: there is no such replica\nline 4: refused BadLine: rows are written (V,..),(V,..)\nline 5: refused BadLine: an append is written append R (V,..),(V,..)\nline 6: refused BadLine: a replica is a number of 1 to 10 digits, at most 4294967295\n",
     ),
     (
         "table 1 T A SMALLINT\ninsert 1 1.1\ninsert 1 11 (1)\ninsert 1 1.1 1\n",
@@ -176,7 +181,7 @@ const NOTED: [(&str, &str); 10] = [
     ),
     (
         "table 1 T A SMALLINT\ndelete 1 1.1 0\ndelete 1 1.1 0 65536\ndelete 1 1.1 5 4\n",
-        "line 2: refused BadLine: a delete is written delete R O.N FIRST LAST or delete where R COND\nline 3: refused BadLine: an ordinal is a number of 1 to 5 digits, at most 65535\nline 4: refused BadRange 0\n",
+        "line 2: refused BadLine: a delete is written delete R O.N FIRST LAST or delete where R COND\nline 3: refused BadLine: an ordinal is a number of 1 to 5 digits, at most 65535\nline 4: refused BadRange 0: the range ends before it starts\n",
     ),
     (
         "table 1 T A SMALLINT\nmerge 1\nmerge 1 x\n",
@@ -184,11 +189,23 @@ const NOTED: [(&str, &str); 10] = [
     ),
     (
         "table 1 T A SMALLINT\nask 1 1\nserve 1\nserve 1 x\ntake 1\ntake 1 -1\ntake 1 1\n",
-        "line 2: refused BadLine: an ask is written ask R, R being a replica's number\nline 3: refused BadLine: a serve is written serve R M\nline 4: refused BadLine: a message is a number of 1 to 10 digits, at most 4294967295\nline 5: refused BadLine: a take is written take R M\nline 6: refused BadLine: a message is a number of 1 to 10 digits, at most 4294967295\nline 7: refused NoSuchMessage\n",
+        "line 2: refused BadLine: an ask is written ask R, R being a replica's number\nline 3: refused BadLine: a serve is written serve R M\nline 4: refused BadLine: a message is a number of 1 to 10 digits, at most 4294967295\nline 5: refused BadLine: a take is written take R M\nline 6: refused BadLine: a message is a number of 1 to 10 digits, at most 4294967295\nline 7: refused NoSuchMessage: there is no such message\n",
     ),
     (
         "table 1 T A SMALLINT\nquery 1\nquery 1 SELECT A FROM T\n",
-        "line 2: refused BadLine: a query is written query R SQL\nline 3: refused NotGrouped 7\n",
+        "line 2: refused BadLine: a query is written query R SQL\nline 3: refused NotGrouped 7: GROUP BY does not name this column\n",
+    ),
+    (
+        "table 1 T A SMALLINT\nrecode 1 1.1 0 0\nrecode 1 11 0 0 FOR\nrecode 1 1.1 x 0 FOR\nrecode 1 1.1 0 x FOR\nrecode 1 1.1 0 0 for\nrecode 1 1.1 0 0 FOR RLE\n",
+        "line 2: refused BadLine: a recode is written recode R O.N COLUMN VECTOR CODING\nline 3: refused BadLine: a batch is named O.N, two numbers of 1 to 10 digits, each at most 4294967295\nline 4: refused BadLine: a column and a vector are numbers of 1 to 10 digits, at most 4294967295, counted from 0\nline 5: refused BadLine: a column and a vector are numbers of 1 to 10 digits, at most 4294967295, counted from 0\nline 6: refused BadLine: a coding is FOR, DELTA, RLE or DICT\nline 7: refused BadLine: a recode is written recode R O.N COLUMN VECTOR CODING\n",
+    ),
+    (
+        "table 1 T A SMALLINT\nopen\nopen 1\nopen x 46\nopen 1 464\nopen 1 4G\nexport\nexport x\nexport 1 1\n",
+        "line 2: refused BadLine: an open is written open R HEX\nline 3: refused BadLine: an open is written open R HEX\nline 4: refused BadLine: a replica is a number of 1 to 10 digits, at most 4294967295\nline 5: refused BadLine: a file is an even number of hexadecimal digits, not zero of them\nline 6: refused BadLine: a file is an even number of hexadecimal digits, not zero of them\nline 7: refused BadLine: an export is written export R, R being a replica's number\nline 8: refused BadLine: a replica is a number of 1 to 10 digits, at most 4294967295\nline 9: refused BadLine: an export is written export R, R being a replica's number\n",
+    ),
+    (
+        "table 1 T A SMALLINT\ndelete where\ndelete where 1\ndelete where x A = 1\ndelete where 1 \nmerge 1 1 1\n",
+        "line 2: refused BadLine: a delete is written delete R O.N FIRST LAST or delete where R COND\nline 3: refused BadLine: a delete by a condition is written delete where R COND\nline 4: refused BadLine: a replica is a number of 1 to 10 digits, at most 4294967295\nline 5: refused BadLine: the condition of a delete is not empty\nline 6: refused BadLine: a merge is written merge R Q\n",
     ),
     (
         "table 1 T A SMALLINT\nAPPEND 1 (1)\nmerge\t1 1\n",

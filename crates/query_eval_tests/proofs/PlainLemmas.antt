@@ -21,7 +21,7 @@ use Rattle.table_model.specs.Values.{present}
 use Rattle.table_model.specs.declared.op.Op.{Op}
 use Rattle.table_model.specs.declared.names.BatchName.{BatchName}
 use Rattle.table_model.specs.declared.schema.ColType.{ColType}
-use Rattle.table_model.specs.declared.schema.ColType.TheVariants.{SmallInt, Integer, BigInt}
+use Rattle.table_model.specs.declared.schema.ColType.TheVariants.{TinyInt, SmallInt, Integer, BigInt}
 use Rattle.transpose_order.specs.Mask.{rows_of, has}
 use Rattle.transpose_order.specs.MaskWords.{has-rows_of, rows_of-like}
 use Rattle.query_eval.proofs.TableLemmas.{length-named_from}
@@ -81,6 +81,7 @@ cell_here rows vector column n row l h is = ap (λ (r : Cells). cell r column) (
 
 -- ---- values of 64 bits
 type_fits : (t : ColType) (z : ℤ) → least_of t ≤ℤ z → z ≤ℤ greatest_of t → FitsSigned w64 z
+type_fits TinyInt z low high = omega (arith, ints, low, high)
 type_fits SmallInt z low high = omega (arith, ints, low, high)
 type_fits Integer z low high = omega (arith, ints, low, high)
 type_fits BigInt z low high = omega (arith, ints, low, high)

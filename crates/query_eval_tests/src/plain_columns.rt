@@ -1,8 +1,8 @@
 //! One batch of plain rows, none of them deleted, as the columns of a query.
-ghost use Rattle.std.specs.Prelude.{◌≡◌, ◌<◌, ◌≤◌, ◌+◌, ◌*◌, ◌^◌, ℕ, List, Bool, true, length, take, ℤ, pos, Some, slice_index_or, IfOk};
+ghost use Rattle.std.specs.Prelude.{◌≡◌, ◌<◌, ◌≤◌, ◌+◌, ◌*◌, ℕ, List, Bool, true, length, take, ℤ, pos, Some, slice_index_or, IfOk};
 ghost use Rattle.table_model.specs.Answer.{whole};
 ghost use Rattle.table_model.specs.Condition.{is_null};
-ghost use Rattle.table_model.specs.Group.{IsWithin, state_row_limit};
+ghost use Rattle.table_model.specs.Group.{IsWithin, state_row_limit, sum_limit};
 ghost use Rattle.table_model.specs.Passes.{raised};
 ghost use Rattle.table_model.specs.Truth.{and_of, comparison};
 ghost use Rattle.table_model.specs.Values.{total, least, greatest};
@@ -57,7 +57,7 @@ fn put(pair: &mut Pair, row: usize, truth: Truth)
 fn sum_of(values: &[i64]) -> i128
     requires { length values.now ≤ state_row_limit }
     ensures value { result ≡ total values.now }
-    ensures within { IsWithin (2 ^ 95) result }
+    ensures within { IsWithin sum_limit result }
 {
     let mut sum = 0;
     for value in values {

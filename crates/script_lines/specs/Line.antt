@@ -1,14 +1,17 @@
 -- The lines of a script: which are commands, and which steps they ask for.
-use Rattle.std.specs.Prelude.{ℕ, suc, length, Bool, IsTrue, cond, ◌&&◌, ◌||◌, nat_le, List, [], ◌∷◌, codes, Option, Some, None, is_some, option_map}
+use Rattle.std.specs.Prelude.{ℕ, suc, length, Bool, true, false, IsTrue, cond, ◌&&◌, nat_le, List, [], ◌∷◌, Option, Some, None, option_map}
 use Rattle.std.specs.List.{list_all}
 use Rattle.std.specs.Option.{IsSomeAnd}
-use Rattle.std.specs.Str.{bytes_eq}
 use Rattle.table_model.specs.Table.{type_named}
 use Rattle.table_model.specs.declared.schema.ColType.{ColType}
 use Rattle.script_lines.specs.Word.{◌>>=◌, cut, pieces, number_of, number_digits, small_number, ordinal_of, name_of, rows_of, coding_of, some_text, file_of}
-use Rattle.script_lines.specs.TableWords.{replica_limit, TableWords}
-use Rattle.script_lines.specs.declared.step.Step.{Step}
-use Rattle.script_lines.specs.declared.step.Step.TheVariants.{Append, Insert, Delete, DeleteWhere, Merge, Ask, Serve, Take, Recode, Open, Export, Query}
+use Rattle.script_lines.specs.TableWords.{TableWords}
+use Rattle.script_lines.specs.Verb.{leading}
+use Rattle.script_lines.specs.declared.verb.Verb.{Verb}
+use Rattle.script_lines.specs.declared.verb.Verb.TheVariants as verbs
+use Rattle.cluster_history.specs.Cluster.{replica_limit}
+use Rattle.cluster_history.specs.declared.step.Step.{Step}
+use Rattle.cluster_history.specs.declared.step.Step.TheVariants.{Append, Insert, Delete, DeleteWhere, Merge, Ask, Serve, Take, Recode, Open, Export, Query}
 use Rattle.script_lines.specs.declared.command.Command.{Command}
 use Rattle.script_lines.specs.declared.command.Command.TheVariants.{Table, Act}
 
@@ -20,32 +23,31 @@ addressed text = do
   Some (replica, parts.1)
 
 -- append R ROWS
-unfoldable pub append_words : ℕ → List ℕ → Option Step
-append_words replica text = do
-  rows ← rows_of text
-  Some (Append replica rows)
+unfoldable pub append_words : List ℕ → Option Step
+append_words text = do
+  at ← addressed text
+  rows ← rows_of at.1
+  Some (Append at.0 rows)
 
 -- insert R O.N ROWS
-unfoldable pub insert_words : ℕ → List ℕ → Option Step
-insert_words replica text = do
-  parts ← cut 32 text
+unfoldable pub insert_words : List ℕ → Option Step
+insert_words text = do
+  at ← addressed text
+  parts ← cut 32 at.1
   name ← name_of parts.0
   rows ← rows_of parts.1
-  Some (Insert replica name rows)
+  Some (Insert at.0 name rows)
 
 -- delete R O.N FIRST LAST
-unfoldable pub delete_words : ℕ → List ℕ → Option Step
-delete_words replica text = do
-  parts ← cut 32 text
+unfoldable pub delete_words : List ℕ → Option Step
+delete_words text = do
+  at ← addressed text
+  parts ← cut 32 at.1
   batch ← name_of parts.0
   ordinals ← cut 32 parts.1
   first ← ordinal_of ordinals.0
   last ← ordinal_of ordinals.1
-  Some (Delete replica (record { batch = batch; ordinal = first }) last)
-
--- what follows the first word `delete` and the second word `where`, where the words begin so
-unfoldable pub where_words : List ℕ → List ℕ → Option (List ℕ)
-where_words word text = cond (bytes_eq word (codes "delete")) (cut 32 text >>= (λ parts. cond (bytes_eq parts.0 (codes "where")) (Some parts.1) None)) None
+  Some (Delete at.0 (record { batch = batch; ordinal = first }) last)
 
 -- delete where R COND, where COND is the rest of the line
 unfoldable pub delete_where_words : List ℕ → Option Step
@@ -55,10 +57,11 @@ delete_where_words text = do
   Some (DeleteWhere at.0 condition)
 
 -- merge R Q
-unfoldable pub merge_words : ℕ → List ℕ → Option Step
-merge_words replica text = do
-  other ← small_number text
-  Some (Merge replica other)
+unfoldable pub merge_words : List ℕ → Option Step
+merge_words text = do
+  at ← addressed text
+  other ← small_number at.1
+  Some (Merge at.0 other)
 
 -- ask R
 unfoldable pub ask_words : List ℕ → Option Step
@@ -67,34 +70,38 @@ ask_words text = do
   Some (Ask replica)
 
 -- serve R M
-unfoldable pub serve_words : ℕ → List ℕ → Option Step
-serve_words replica text = do
-  message ← small_number text
-  Some (Serve replica message)
+unfoldable pub serve_words : List ℕ → Option Step
+serve_words text = do
+  at ← addressed text
+  message ← small_number at.1
+  Some (Serve at.0 message)
 
 -- take R M
-unfoldable pub take_words : ℕ → List ℕ → Option Step
-take_words replica text = do
-  message ← small_number text
-  Some (Take replica message)
+unfoldable pub take_words : List ℕ → Option Step
+take_words text = do
+  at ← addressed text
+  message ← small_number at.1
+  Some (Take at.0 message)
 
 -- recode R O.N COLUMN VECTOR CODING
-unfoldable pub recode_words : ℕ → List ℕ → Option Step
-recode_words replica text = do
-  batch ← cut 32 text
+unfoldable pub recode_words : List ℕ → Option Step
+recode_words text = do
+  at ← addressed text
+  batch ← cut 32 at.1
   name ← name_of batch.0
   columns ← cut 32 batch.1
   column ← small_number columns.0
   vectors ← cut 32 columns.1
   vector ← small_number vectors.0
   coding ← coding_of vectors.1
-  Some (Recode replica name column vector coding)
+  Some (Recode at.0 name column vector coding)
 
 -- open R HEX
-unfoldable pub open_words : ℕ → List ℕ → Option Step
-open_words replica text = do
-  file ← file_of text
-  Some (Open replica file)
+unfoldable pub open_words : List ℕ → Option Step
+open_words text = do
+  at ← addressed text
+  file ← file_of at.1
+  Some (Open at.0 file)
 
 -- export R
 unfoldable pub export_words : List ℕ → Option Step
@@ -103,40 +110,11 @@ export_words text = do
   Some (Export replica)
 
 -- query R SQL, where SQL is the rest of the line
-unfoldable pub query_words : ℕ → List ℕ → Option Step
-query_words replica text = do
-  sql ← some_text text
-  Some (Query replica sql)
-
--- the step of a line's first word and a replica, with the words that follow them
-unfoldable pub step_words : List ℕ → ℕ → List ℕ → Option Step
-step_words word replica text =
-    cond (bytes_eq word (codes "append")) (append_words replica text)
-    (cond (bytes_eq word (codes "insert")) (insert_words replica text)
-    (cond (bytes_eq word (codes "delete")) (delete_words replica text)
-    (cond (bytes_eq word (codes "merge")) (merge_words replica text)
-    (cond (bytes_eq word (codes "serve")) (serve_words replica text)
-    (cond (bytes_eq word (codes "take")) (take_words replica text)
-    (cond (bytes_eq word (codes "recode")) (recode_words replica text)
-    (cond (bytes_eq word (codes "open")) (open_words replica text)
-    (cond (bytes_eq word (codes "query")) (query_words replica text) None))))))))
-
--- the step of a line's first word, a replica and further words
-unfoldable pub longer_step : List ℕ → List ℕ → Option Step
-longer_step word text = do
+unfoldable pub query_words : List ℕ → Option Step
+query_words text = do
   at ← addressed text
-  step_words word at.0 at.1
-
--- the step of a line's first word and the words that follow it, which a delete's second word `where` may lead
-abbrev pub where_or_longer : List ℕ → List ℕ → Option (List ℕ) → Option Step
-where_or_longer word text (Some rest) = delete_where_words rest
-where_or_longer word text None = longer_step word text
-
--- the step of a line's first word and the words that follow it
-unfoldable pub step_line : List ℕ → List ℕ → Option Step
-step_line word text =
-    cond (bytes_eq word (codes "ask")) (ask_words text)
-    (cond (bytes_eq word (codes "export")) (export_words text) (where_or_longer word text (where_words word text)))
+  sql ← some_text at.1
+  Some (Query at.0 sql)
 
 -- a column: a name that isn't empty, and a type
 abbrev pub column_of : List ℕ → List ℕ → Option (List ℕ × ColType)
@@ -182,9 +160,21 @@ table_line text = do
   columns ← columns_of (pieces 32 words.2)
   Some (record { replicas = words.0; table = words.1; columns = columns })
 
--- what the first word of a line asks for, with the words that follow it
-unfoldable pub words_of : List ℕ → List ℕ → Option Command
-words_of word text = cond (bytes_eq word (codes "table")) (option_map Table (table_line text)) (option_map Act (step_line word text))
+-- what a verb asks for, with the words that follow it
+unfoldable pub words_of : Verb → List ℕ → Option Command
+words_of verbs.Table text = option_map Table (table_line text)
+words_of verbs.Append text = option_map Act (append_words text)
+words_of verbs.Insert text = option_map Act (insert_words text)
+words_of verbs.Delete text = option_map Act (delete_words text)
+words_of verbs.DeleteWhere text = option_map Act (delete_where_words text)
+words_of verbs.Merge text = option_map Act (merge_words text)
+words_of verbs.Ask text = option_map Act (ask_words text)
+words_of verbs.Serve text = option_map Act (serve_words text)
+words_of verbs.Take text = option_map Act (take_words text)
+words_of verbs.Recode text = option_map Act (recode_words text)
+words_of verbs.Open text = option_map Act (open_words text)
+words_of verbs.Export text = option_map Act (export_words text)
+words_of verbs.Query text = option_map Act (query_words text)
 
 -- from 20 to 7E, in hexadecimal
 abbrev pub is_printable : ℕ → Bool
@@ -192,18 +182,18 @@ is_printable c = nat_le 32 c && nat_le c 126
 
 -- the command that a line is, if it is one
 unfoldable pub command_of : List ℕ → Option Command
-command_of line = cond (list_all is_printable line) (cut 32 line >>= (λ parts. words_of parts.0 parts.1)) None
+command_of line = cond (list_all is_printable line) (leading line >>= (λ led. words_of led.0 led.1)) None
 
--- whether a word is one of which further words are kept as they are read: table, append, insert, open or query
-unfoldable pub grows : List ℕ → Bool
-grows word =
-    bytes_eq word (codes "table")
-    || (bytes_eq word (codes "append") || (bytes_eq word (codes "insert") || (bytes_eq word (codes "open") || bytes_eq word (codes "query"))))
+-- whether the words that follow a verb are kept as they are read
+abbrev pub keeps : Verb → Bool
+keeps verbs.Table = true
+keeps verbs.Append = true
+keeps verbs.Insert = true
+keeps verbs.DeleteWhere = true
+keeps verbs.Open = true
+keeps verbs.Query = true
+keeps verb = false
 
--- whether further words are kept as they are read after a first word: it is one of those, or delete, and where is the second word
-unfoldable pub may_grow : List ℕ → List ℕ → Bool
-may_grow word text = grows word || is_some (where_words word text)
-
--- a line of which memory may be taken to read it: it is printable, and its first word, which a space ends, is table, append, insert, open or query, or it begins with delete and where, which spaces end
+-- a line of which memory may be taken to read it: it is printable, and it begins with table, append, insert, delete where, open or query and a space
 abbrev pub MayGrow : List ℕ → Type 0
-MayGrow line = IsTrue (list_all is_printable line) × IsSomeAnd (cut 32 line) (λ parts. IsTrue (may_grow parts.0 parts.1))
+MayGrow line = IsTrue (list_all is_printable line) × IsSomeAnd (leading line) (λ led. IsTrue (keeps led.0))

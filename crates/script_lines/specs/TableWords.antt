@@ -2,10 +2,6 @@
 use Rattle.std.specs.Prelude.{ℕ, List}
 use Rattle.table_model.specs.declared.schema.ColType.{ColType}
 
--- how many replicas a table has at most
-abbrev pub replica_limit : ℕ
-replica_limit = 64
-
 -- how many replicas, the table's name, and its columns' names and types, as they were written
 pub record TableWords : Type 0 where
   pub replicas : ℕ

@@ -1,6 +1,6 @@
 //! Commands: what a line of a script asks for.
 
-use crate::step::Step;
+use cluster_history::Step;
 use std::marker::Model;
 use table_model::ColType;
 
@@ -14,7 +14,8 @@ pub struct TableCommand<'a> {
 
 impl<'a> Model for TableCommand<'a> {
     ghost use Rattle.std.specs.Prelude.{map, ◌≤◌};
-    ghost use Rattle.script_lines.specs.TableWords.{replica_limit, TableWords};
+    ghost use Rattle.cluster_history.specs.Cluster.{replica_limit};
+    ghost use Rattle.script_lines.specs.TableWords.{TableWords};
 
     ghost Value = { TableWords };
 
@@ -25,7 +26,7 @@ impl<'a> Model for TableCommand<'a> {
 
 impl<'a> TableCommand<'a> {
     ghost use Rattle.std.specs.Prelude.{◌≡◌, ◌≤◌, map};
-    ghost use Rattle.script_lines.specs.TableWords.{replica_limit};
+    ghost use Rattle.cluster_history.specs.Cluster.{replica_limit};
 
     /// The command with these words, for 1 to 64 replicas. It takes no memory.
     pub fn new(

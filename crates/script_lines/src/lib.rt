@@ -4,16 +4,14 @@
 mod columns;
 mod command;
 mod expectations;
-mod file_bytes;
 mod laws;
 mod line;
+mod operand;
 mod rows;
-mod step;
+mod verb;
 mod words;
 
 pub use command::{Command, TableCommand};
 pub use expectations::expected;
-pub use file_bytes::FileBytes;
 pub use laws::rows_are_read_as_spelled;
 pub use line::parse_line;
-pub use step::{Sql, Step};

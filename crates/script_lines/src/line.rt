@@ -2,21 +2,20 @@
 ghost use Rattle.std.specs.Prelude.{◌≡◌, ◌≤◌, option_map, IfSome, IfErr, IsTrue};
 ghost use Rattle.std.specs.List.{list_all};
 ghost use Rattle.script_lines.specs.Reading.{ReadsPart};
-ghost use Rattle.script_lines.specs.Line.{addressed, append_words, insert_words, delete_words, where_words, delete_where_words, merge_words, ask_words, serve_words, take_words, recode_words, open_words, export_words, query_words, step_words, longer_step, step_line, replicas_of, table_words, table_line, words_of, is_printable, command_of, grows, may_grow, MayGrow};
-ghost use Rattle.script_lines.specs.TableWords.{replica_limit};
+ghost use Rattle.script_lines.specs.Line.{addressed, append_words, insert_words, delete_words, delete_where_words, merge_words, ask_words, serve_words, take_words, recode_words, open_words, export_words, query_words, replicas_of, table_words, table_line, words_of, is_printable, command_of, keeps, MayGrow};
+ghost use Rattle.script_lines.specs.declared.command.Command.TheVariants.{Act};
+ghost use Rattle.cluster_history.specs.Cluster.{replica_limit};
 
 use crate::columns::columns;
 use crate::command::{Command, TableCommand};
 use crate::rows::rows;
-use crate::step::{Sql, Step};
+use crate::verb::{Verb, leading};
 use crate::words::{
     NUMBER_DIGITS, batch_name, coding, cut, file, number, ordinal, small_number, some_text,
 };
+use cluster_history::{REPLICA_LIMIT, Sql, Step};
 use std::alloc::Global;
 use table_model::{Refusal, RowName};
-
-/// How many replicas a table has at most.
-const MAX_REPLICAS: u128 = 64;
 
 /// The command that a line is, without its line feed; `BadLine` where it is none.
 ///
@@ -33,10 +32,10 @@ pub fn parse_line<'a>(alloc: Global, line: &'a [u8]) -> Result<Command<'a>, Refu
     let Ok(text) = str::from_utf8(line) else {
         return Err(Refusal::BadLine);
     };
-    let Some((word, rest)) = cut(text, ' ') else {
+    let Some((verb, rest)) = leading(text) else {
         return Err(Refusal::BadLine);
     };
-    words(alloc, word, rest)
+    words(alloc, verb, rest)
 }
 
 /// Whether each byte is from 20 to 7E, in hexadecimal.
@@ -46,18 +45,38 @@ pub(crate) fn is_printable(line: &[u8]) -> bool
     line.iter().all(|c| b' ' <= *c && *c <= b'~')
 }
 
-/// What the first word asks for, with the words that follow it.
+/// What a verb asks for, with the words that follow it.
 #[tactic(auto, unfolding(crate::specs::Line::words_of))]
-fn words<'a>(alloc: Global, word: &str, rest: &'a str) -> Result<Command<'a>, Refusal>
-    ensures command { ReadsPart (λ command. command) result (words_of word.now rest.now) }
-    ensures memory { IfErr result (λ e. e ≡ Refusal.Memory → IsTrue (may_grow word.now rest.now)) }
+fn words<'a>(alloc: Global, verb: Verb, text: &'a str) -> Result<Command<'a>, Refusal>
+    ensures command { ReadsPart (λ command. command) result (words_of verb text.now) }
+    ensures memory { IfErr result (λ e. e ≡ Refusal.Memory → IsTrue (keeps verb)) }
 {
-    if word == "table" {
-        let table = table_line(alloc, rest)?;
-        return Ok(Command::Table(table));
+    match verb {
+        Verb::Table => Ok(Command::Table(table_line(alloc, text)?)),
+        Verb::Append => Ok(Command::Act(append_words(alloc, text)?)),
+        Verb::Insert => Ok(Command::Act(insert_words(alloc, text)?)),
+        Verb::Delete => act(delete_words(text)),
+        Verb::DeleteWhere => Ok(Command::Act(delete_where_words(alloc, text)?)),
+        Verb::Merge => act(merge_words(text)),
+        Verb::Ask => act(ask_words(text)),
+        Verb::Serve => act(serve_words(text)),
+        Verb::Take => act(take_words(text)),
+        Verb::Recode => act(recode_words(text)),
+        Verb::Open => Ok(Command::Act(open_words(alloc, text)?)),
+        Verb::Export => act(export_words(text)),
+        Verb::Query => Ok(Command::Act(query_words(alloc, text)?)),
     }
-    let step = step_line(alloc, word, rest)?;
-    Ok(Command::Act(step))
+}
+
+/// The step as a command; it is missing only where the words are wrong.
+fn act<'a>(step: Option<Step>) -> Result<Command<'a>, Refusal>
+    ensures command { ReadsPart (λ command. command) result (option_map Act step) }
+    ensures refused { IfErr result (λ e. e ≡ Refusal.BadLine) }
+{
+    match step {
+        None => Err(Refusal::BadLine),
+        Some(step) => Ok(Command::Act(step)),
+    }
 }
 
 /// The line that makes a table: how many replicas, its name, and its columns.
@@ -91,54 +110,12 @@ pub(crate) fn replicas(text: &str) -> Option<usize>
     ensures value { result ≡ replicas_of text.now }
     ensures bound { IfSome result (λ n. (1 ≤ n) × (n ≤ replica_limit)) }
 {
-    let count = number(text, NUMBER_DIGITS, MAX_REPLICAS)?;
+    let count = number(text, NUMBER_DIGITS, REPLICA_LIMIT as u128)?;
     if 1 <= count {
         Some(count as usize)
     } else {
         None
     }
-}
-
-/// The step of a line's first word and the words that follow it.
-#[tactic(auto, unfolding(crate::specs::Line::step_line))]
-fn step_line(alloc: Global, word: &str, text: &str) -> Result<Step, Refusal>
-    ensures step { ReadsPart (λ step. step) result (step_line word.now text.now) }
-    ensures memory { IfErr result (λ e. e ≡ Refusal.Memory → IsTrue (may_grow word.now text.now)) }
-{
-    if word == "ask" {
-        return required(ask_words(text));
-    }
-    if word == "export" {
-        return required(export_words(text));
-    }
-    match where_words(word, text) {
-        Some(rest) => delete_where_words(alloc, rest),
-        None => longer_step(alloc, word, text),
-    }
-}
-
-/// What follows the first word `delete` and the second word `where`, in a line that begins so.
-#[tactic(auto, unfolding(crate::specs::Line::where_words))]
-fn where_words<'a>(word: &str, text: &'a str) -> Option<&'a str>
-    ensures { option_map (λ rest. rest.now) result ≡ where_words word.now text.now }
-{
-    if word != "delete" {
-        return None;
-    }
-    let (second, rest) = cut(text, ' ')?;
-    if second == "where" { Some(rest) } else { None }
-}
-
-/// The step of a line's first word, a replica and further words.
-#[tactic(auto, unfolding(crate::specs::Line::longer_step))]
-fn longer_step(alloc: Global, word: &str, text: &str) -> Result<Step, Refusal>
-    ensures step { ReadsPart (λ step. step) result (longer_step word.now text.now) }
-    ensures memory { IfErr result (λ e. e ≡ Refusal.Memory → IsTrue (grows word.now)) }
-{
-    let Some((replica, rest)) = addressed(text) else {
-        return Err(Refusal::BadLine);
-    };
-    step_words(alloc, word, replica, rest)
 }
 
 /// The replica that a step is asked of, and the words that follow it.
@@ -151,68 +128,27 @@ fn addressed(text: &str) -> Option<(u32, &str)>
     Some((replica, rest))
 }
 
-/// The step of a line's first word and a replica, with the words that follow them.
-#[tactic(auto, unfolding(crate::specs::Line::step_words))]
-fn step_words(alloc: Global, word: &str, replica: u32, text: &str) -> Result<Step, Refusal>
-    ensures step { ReadsPart (λ step. step) result (step_words word.now replica text.now) }
-    ensures memory { IfErr result (λ e. e ≡ Refusal.Memory → IsTrue (grows word.now)) }
-{
-    if word == "append" {
-        return append_words(alloc, replica, text);
-    }
-    if word == "insert" {
-        return insert_words(alloc, replica, text);
-    }
-    if word == "delete" {
-        return required(delete_words(replica, text));
-    }
-    if word == "merge" {
-        return required(merge_words(replica, text));
-    }
-    if word == "serve" {
-        return required(serve_words(replica, text));
-    }
-    if word == "take" {
-        return required(take_words(replica, text));
-    }
-    if word == "recode" {
-        return required(recode_words(replica, text));
-    }
-    if word == "open" {
-        return open_words(alloc, replica, text);
-    }
-    if word == "query" {
-        return query_words(alloc, replica, text);
-    }
-    Err(Refusal::BadLine)
-}
-
-/// The step, which is missing only where the words are wrong.
-fn required(step: Option<Step>) -> Result<Step, Refusal>
-    ensures step { ReadsPart (λ step. step) result step }
-    ensures refused { IfErr result (λ e. e ≡ Refusal.BadLine) }
-{
-    match step {
-        None => Err(Refusal::BadLine),
-        Some(step) => Ok(step),
-    }
-}
-
 /// `append R ROWS`
 #[tactic(auto, unfolding(crate::specs::Line::append_words))]
-fn append_words(alloc: Global, replica: u32, text: &str) -> Result<Step, Refusal>
-    ensures { ReadsPart (λ step. step) result (append_words replica text.now) }
+fn append_words(alloc: Global, text: &str) -> Result<Step, Refusal>
+    ensures { ReadsPart (λ step. step) result (append_words text.now) }
 {
-    let rows = rows(alloc, text)?;
+    let Some((replica, rest)) = addressed(text) else {
+        return Err(Refusal::BadLine);
+    };
+    let rows = rows(alloc, rest)?;
     Ok(Step::Append { replica, rows })
 }
 
 /// `insert R O.N ROWS`
 #[tactic(auto, unfolding(crate::specs::Line::insert_words))]
-fn insert_words(alloc: Global, replica: u32, text: &str) -> Result<Step, Refusal>
-    ensures { ReadsPart (λ step. step) result (insert_words replica text.now) }
+fn insert_words(alloc: Global, text: &str) -> Result<Step, Refusal>
+    ensures { ReadsPart (λ step. step) result (insert_words text.now) }
 {
-    let Some((name, rest)) = cut(text, ' ') else {
+    let Some((replica, rest)) = addressed(text) else {
+        return Err(Refusal::BadLine);
+    };
+    let Some((name, rest)) = cut(rest, ' ') else {
         return Err(Refusal::BadLine);
     };
     let Some(name) = batch_name(name) else {
@@ -228,10 +164,11 @@ fn insert_words(alloc: Global, replica: u32, text: &str) -> Result<Step, Refusal
 
 /// `delete R O.N FIRST LAST`
 #[tactic(auto, unfolding(crate::specs::Line::delete_words))]
-fn delete_words(replica: u32, text: &str) -> Option<Step>
-    ensures { result ≡ delete_words replica text.now }
+fn delete_words(text: &str) -> Option<Step>
+    ensures { result ≡ delete_words text.now }
 {
-    let (batch, ordinals) = cut(text, ' ')?;
+    let (replica, rest) = addressed(text)?;
+    let (batch, ordinals) = cut(rest, ' ')?;
     let batch = batch_name(batch)?;
     let (first, last) = cut(ordinals, ' ')?;
     let first = ordinal(first)?;
@@ -246,7 +183,7 @@ fn delete_words(replica: u32, text: &str) -> Option<Step>
     })
 }
 
-/// `R COND`, which follow `delete where`
+/// `delete where R COND`
 #[tactic(auto, unfolding(crate::specs::Line::delete_where_words))]
 fn delete_where_words(alloc: Global, text: &str) -> Result<Step, Refusal>
     ensures { ReadsPart (λ step. step) result (delete_where_words text.now) }
@@ -266,10 +203,11 @@ fn delete_where_words(alloc: Global, text: &str) -> Result<Step, Refusal>
 
 /// `merge R Q`
 #[tactic(auto, unfolding(crate::specs::Line::merge_words))]
-fn merge_words(replica: u32, text: &str) -> Option<Step>
-    ensures { result ≡ merge_words replica text.now }
+fn merge_words(text: &str) -> Option<Step>
+    ensures { result ≡ merge_words text.now }
 {
-    let other = small_number(text)?;
+    let (replica, rest) = addressed(text)?;
+    let other = small_number(rest)?;
     Some(Step::Merge { replica, other })
 }
 
@@ -284,28 +222,31 @@ fn ask_words(text: &str) -> Option<Step>
 
 /// `serve R M`
 #[tactic(auto, unfolding(crate::specs::Line::serve_words))]
-fn serve_words(replica: u32, text: &str) -> Option<Step>
-    ensures { result ≡ serve_words replica text.now }
+fn serve_words(text: &str) -> Option<Step>
+    ensures { result ≡ serve_words text.now }
 {
-    let message = small_number(text)?;
+    let (replica, rest) = addressed(text)?;
+    let message = small_number(rest)?;
     Some(Step::Serve { replica, message })
 }
 
 /// `take R M`
 #[tactic(auto, unfolding(crate::specs::Line::take_words))]
-fn take_words(replica: u32, text: &str) -> Option<Step>
-    ensures { result ≡ take_words replica text.now }
+fn take_words(text: &str) -> Option<Step>
+    ensures { result ≡ take_words text.now }
 {
-    let message = small_number(text)?;
+    let (replica, rest) = addressed(text)?;
+    let message = small_number(rest)?;
     Some(Step::Take { replica, message })
 }
 
 /// `recode R O.N COLUMN VECTOR CODING`
 #[tactic(auto, unfolding(crate::specs::Line::recode_words))]
-fn recode_words(replica: u32, text: &str) -> Option<Step>
-    ensures { result ≡ recode_words replica text.now }
+fn recode_words(text: &str) -> Option<Step>
+    ensures { result ≡ recode_words text.now }
 {
-    let (name, rest) = cut(text, ' ')?;
+    let (replica, rest) = addressed(text)?;
+    let (name, rest) = cut(rest, ' ')?;
     let name = batch_name(name)?;
     let (column, rest) = cut(rest, ' ')?;
     let column = small_number(column)?;
@@ -323,10 +264,13 @@ fn recode_words(replica: u32, text: &str) -> Option<Step>
 
 /// `open R HEX`
 #[tactic(auto, unfolding(crate::specs::Line::open_words))]
-fn open_words(alloc: Global, replica: u32, text: &str) -> Result<Step, Refusal>
-    ensures { ReadsPart (λ step. step) result (open_words replica text.now) }
+fn open_words(alloc: Global, text: &str) -> Result<Step, Refusal>
+    ensures { ReadsPart (λ step. step) result (open_words text.now) }
 {
-    let file = file(alloc, text)?;
+    let Some((replica, rest)) = addressed(text) else {
+        return Err(Refusal::BadLine);
+    };
+    let file = file(alloc, rest)?;
     Ok(Step::Open { replica, file })
 }
 
@@ -341,15 +285,18 @@ fn export_words(text: &str) -> Option<Step>
 
 /// `query R SQL`
 #[tactic(auto, unfolding(crate::specs::Line::query_words))]
-fn query_words(alloc: Global, replica: u32, text: &str) -> Result<Step, Refusal>
-    ensures { ReadsPart (λ step. step) result (query_words replica text.now) }
+fn query_words(alloc: Global, text: &str) -> Result<Step, Refusal>
+    ensures { ReadsPart (λ step. step) result (query_words text.now) }
 {
-    let Some(text) = some_text(text) else {
+    let Some((replica, rest)) = addressed(text) else {
         return Err(Refusal::BadLine);
     };
-    let text = String::from_str(alloc, text)?;
+    let Some(sql) = some_text(rest) else {
+        return Err(Refusal::BadLine);
+    };
+    let sql = String::from_str(alloc, sql)?;
     Ok(Step::Query {
         replica,
-        sql: Sql::from_string(text),
+        sql: Sql::from_string(sql),
     })
 }

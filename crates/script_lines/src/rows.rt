@@ -1,6 +1,7 @@
 //! Rows of a line: values in parentheses, joined by commas.
+ghost use Rattle.std.specs.Prelude.{◌≡◌, None, Err};
 ghost use Rattle.script_lines.specs.Reading.{ReadsPart};
-ghost use Rattle.script_lines.specs.Word.{cells_of, opened_cells, rows_of};
+ghost use Rattle.script_lines.specs.Word.{without, cells_of, opened_cells, rows_of};
 
 use crate::words::{cell, cut, without};
 use std::alloc::Global;
@@ -27,7 +28,8 @@ pub fn rows(alloc: Global, text: &str) -> Result<Rows, Refusal>
 
 /// The row of values that follow a parenthesis.
 fn opened_cells(alloc: Global, text: &str) -> Result<Row, Refusal>
-    ensures { ReadsPart (λ row. row) result (opened_cells text.now) }
+    ensures row { ReadsPart (λ row. row) result (opened_cells text.now) }
+    ensures unopened { without 40 text.now ≡ None → result ≡ Err Refusal.BadLine }
 {
     match without(text, '(') {
         None => Err(Refusal::BadLine),

@@ -1,12 +1,12 @@
 //! Words of a line: numbers, names of batches, values and rows.
-ghost use Rattle.std.specs.Prelude.{◌≡◌, ◌<◌, ◌≤◌, ◌^◌, length, option_map, IfSome, true, pos, ◌≤ℤ◌};
+ghost use Rattle.std.specs.Prelude.{◌≡◌, ◌<◌, ◌≤◌, ◌^◌, ◌%◌, length, option_map, IfSome, Err, true, pos, ◌≤ℤ◌};
 ghost use Rattle.std.specs.List.{list_all};
 ghost use Rattle.std.specs.Char.{is_ascii_digit};
 ghost use Rattle.std.specs.Str.Parse.{digits_value};
 ghost use Rattle.script_lines.specs.Reading.{ReadsPart};
 ghost use Rattle.script_lines.specs.Word.{cut, without, is_numeral, number_of, small_number, ordinal_of, name_of, value_digits, magnitude_of, integer_of, cell_of, coding_of, some_text, file_of};
 
-use crate::file_bytes::FileBytes;
+use cluster_history::FileBytes;
 use hex::FromHexError;
 use segment_core::Coding;
 use std::alloc::Global;
@@ -178,7 +178,8 @@ pub fn some_text(text: &str) -> Option<&str>
 
 /// The bytes that hexadecimal digits write, in either case: at least one.
 pub fn file(alloc: Global, text: &str) -> Result<FileBytes, Refusal>
-    ensures { ReadsPart (λ file. file) result (file_of text.now) }
+    ensures file { ReadsPart (λ file. file) result (file_of text.now) }
+    ensures odd { length text.now % 2 ≡ 1 → result ≡ Err Refusal.BadLine }
 {
     let Some(digits) = some_text(text) else {
         return Err(Refusal::BadLine);

@@ -1,5 +1,6 @@
 //! Lines and what they ask for, worked out by hand from the rules of lines.
-use script_lines::{Command, Step, expected, parse_line};
+use cluster_history::Step;
+use script_lines::{Command, expected, parse_line};
 use std::alloc::Global;
 use std::test::Fail;
 use table_model::{ColType, Refusal};
@@ -61,19 +62,77 @@ fn a_delete_by_a_condition_has_the_rest_of_its_line(rt: HostRuntime) -> Result<(
     Ok(())
 }
 
+/// Lines that are no commands once there is a table, and what is expected of each.
+const EXPECTED: [(&str, &str); 16] = [
+    (
+        "merge 1 x",
+        "a replica is a number of 1 to 10 digits, at most 4294967295",
+    ),
+    ("merge 1 1 1", "a merge is written merge R Q"),
+    ("append 1 7", "rows are written (V,..),(V,..)"),
+    ("append", "an append is written append R (V,..),(V,..)"),
+    (
+        "insert 1 1 (7)",
+        "a batch is named O.N, two numbers of 1 to 10 digits, each at most 4294967295",
+    ),
+    (
+        "delete 1 1.1 0",
+        "a delete is written delete R O.N FIRST LAST or delete where R COND",
+    ),
+    (
+        "delete 1 1.1 x 0",
+        "an ordinal is a number of 1 to 5 digits, at most 65535",
+    ),
+    ("query 1", "a query is written query R SQL"),
+    ("query 1 ", "the SQL of a query is not empty"),
+    (
+        "delete where 1",
+        "a delete by a condition is written delete where R COND",
+    ),
+    ("delete where 1 ", "the condition of a delete is not empty"),
+    (
+        "take 1 x",
+        "a message is a number of 1 to 10 digits, at most 4294967295",
+    ),
+    (
+        "recode 1 1.1 0 0 for",
+        "a coding is FOR, DELTA, RLE or DICT",
+    ),
+    (
+        "open 1 4",
+        "a file is an even number of hexadecimal digits, not zero of them",
+    ),
+    (
+        "export",
+        "an export is written export R, R being a replica's number",
+    ),
+    (
+        "table 1 T A SMALLINT",
+        "there is one table, and it is made already",
+    ),
+];
+
 #[test]
 fn what_was_expected_of_a_line_is_told(rt: HostRuntime) -> Result<(), Fail> {
-    assert!(rt;
-        expected(b"merge 1 x", true)
-            == "a replica is a number of 1 to 10 digits, at most 4294967295"
-    );
-    assert!(rt; expected(b"append 1 7", true) == "rows are written (V,..),(V,..)");
-    assert!(rt; expected(b"query 1", true) == "a query is written query R SQL");
-    assert!(rt; expected(b"query 1 ", true) == "the SQL of a query is not empty");
-    assert!(rt;
-        expected(b"delete where 1", true)
-            == "a delete by a condition is written delete where R COND"
-    );
-    assert!(rt; expected(b"delete where 1 ", true) == "the condition of a delete is not empty");
+    for &(line, wanted) in &EXPECTED {
+        assert!(rt; expected(line.as_bytes(), true) == wanted, "{line}");
+    }
+    Ok(())
+}
+
+/// The words that a line may begin with once there is a table.
+const VERBS: [&str; 11] = [
+    "append", "insert", "delete", "merge", "ask", "serve", "take", "recode", "open", "export",
+    "query",
+];
+
+// What is told of a line that begins otherwise names each of them.
+#[test]
+fn the_words_that_begin_a_line_are_told(rt: HostRuntime) -> Result<(), Fail> {
+    let told = expected(b"x", true);
+    for &verb in &VERBS {
+        assert!(rt; told.contains(verb), "{verb}");
+        assert!(rt; expected(verb.as_bytes(), true) != told, "{verb}");
+    }
     Ok(())
 }

@@ -4,7 +4,7 @@ use Rattle.std.proofs.lemmas.Bool.Decides.{nat_tests}
 use Rattle.transpose_order.specs.Place.{IsLaneWidth}
 use Rattle.run_dictionary.specs.Dict.{distinct}
 use Rattle.run_dictionary.proofs.DictLemmas.{some_distinct}
-use Rattle.segment_core.specs.Choice.{fewer, first_fewest, least_bytes, place_in_order, IsFirstFewest}
+use Rattle.segment_core.specs.Choice.{fewer, first_fewest, choice, least_bytes, place_in_order, IsFirstFewest}
 use Rattle.segment_core.specs.declared.coding.Coding.{Coding}
 use Rattle.segment_core.specs.declared.coding.Coding.TheVariants.{For, Delta, Runs, Dict}
 
@@ -99,6 +99,10 @@ first_of_four bytes =
 pub first_fewest_is : (bytes : Coding → ℕ) → IsFirstFewest bytes (first_fewest bytes)
 unfolding first_fewest
 first_fewest_is bytes = record { fewest = fewest_of bytes (of_four bytes) (bounds bytes); first = first_of_four bytes }
+
+pub choice_is_first_fewest : (t : ℕ) (values : List ℤ) → IsFirstFewest (least_bytes t values) (choice t values)
+unfolding choice
+choice_is_first_fewest t values = first_fewest_is (least_bytes t values)
 
 -- ---- a candidate with its bytes, compared with a later one
 pub record Holds (bytes : Coding → ℕ) (best : Coding) (count : ℕ) (wanted : Coding) : Type 0 where

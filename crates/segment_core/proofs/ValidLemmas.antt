@@ -228,6 +228,25 @@ head_valid (Dict d) is =
     let width : d.width ≤ 16 = same_width d.width d.codes 16 is.packed is.words in
     header_valid d.lane_width (header_of (Dict d)) (omega (arith, width)) (le-leb _ _ width) (omega (arith, is.many)) (and_from (leb 1 (length d.values)) (leb (length d.values) 1024) (le-leb _ _ (some_value d is)) (le-leb _ _ is.many))
 
+-- a width fits in one byte
+pub width_fits : (c : Coded) → IsCodedForm c → (header_of c).width < 256
+width_fits (For c) is =
+    let width : c.width ≤ c.lane_width = same_width c.width c.words c.lane_width is.packed is.words in omega (arith, width, lanes_small c.lane_width is.lane_width)
+width_fits (Delta c) is =
+    let width : c.width ≤ c.lane_width = same_width c.width c.words c.lane_width is.packed is.words in omega (arith, width, lanes_small c.lane_width is.lane_width)
+width_fits (Runs r) is = omega arith
+width_fits (Dict d) is = let width : d.width ≤ 16 = same_width d.width d.codes 16 is.packed is.words in omega (arith, width)
+
+-- a count fits in two
+pub count_fits : (c : Coded) → IsCodedForm c → (header_of c).count < 65536
+count_fits (For c) is = omega arith
+count_fits (Delta c) is = omega arith
+count_fits (Runs r) is =
+    let few : run_of r.starts 1023 ≤ 1023 = count_below-le (λ i. has r.starts (suc i)) 1023 in
+    let count : length r.values ≡ run_of r.starts 1023 + 1 = is.count in
+    omega arith
+count_fits (Dict d) is = omega (arith, is.many)
+
 payload_valid : (c : Coded) → IsCodedForm c → (payload (lane_width_of c) (header_of c)).valid c ≡ true
 payload_valid (For c) is = frame_valid c is
 payload_valid (Delta c) is = deltas_valid c is

@@ -3,8 +3,8 @@ use Rattle.std.specs.Prelude.{◌≡◌, ℕ, ◌<◌, ◌≤◌, Bool, true, fa
 use Rattle.std.specs.List.{range_with_len, list_any}
 use Rattle.transpose_order.specs.Mask.{rows_of, has}
 use Rattle.segment_core.specs.Fill.{filled}
-use Rattle.segment_core.specs.Coded.{value_in, lane_width_of, least_form, IsCodedForm}
-use Rattle.segment_core.specs.Choice.{canonical_form}
+use Rattle.segment_core.specs.Coded.{value_in, lane_width_of, coding_of, payload_bytes, least_form, IsCodedForm}
+use Rattle.segment_core.specs.Choice.{canonical_form, place_in_order}
 use Rattle.segment_core.specs.declared.coding.Coding.{Coding}
 use Rattle.segment_core.specs.declared.coded.Coded.{Coded}
 
@@ -81,3 +81,22 @@ pub record StandsFor (made v : VectorForm) : Type 0 where
   pub rows : made.rows ≡ v.rows
   pub lane_width : lane_width_of made.coded ≡ lane_width_of v.coded
   pub cells : (n : ℕ) → n < v.rows → vector_cell made n ≡ vector_cell v n
+
+-- ---- the canonical vector among the four least forms of the filled vector
+
+-- the values of the canonical vector of some cells, coded
+abbrev pub canonical_values : ℕ → List (Option ℤ) → Coded
+canonical_values t cells = (canonical_vector t cells).coded
+
+-- they are the least form that their coding has of the filled vector
+abbrev pub CanonicalIsLeastForm : Type 0
+CanonicalIsLeastForm = (t : ℕ) (cells : List (Option ℤ)) → canonical_values t cells ≡ least_form (coding_of (canonical_values t cells)) t (filled cells)
+
+-- no coding's least form of the filled vector takes fewer bytes
+abbrev pub CanonicalTakesFewest : Type 0
+CanonicalTakesFewest = (t : ℕ) (cells : List (Option ℤ)) (other : Coding) → payload_bytes (canonical_values t cells) ≤ payload_bytes (least_form other t (filled cells))
+
+-- the least form of each coding before theirs in the order FOR, DELTA, RLE, DICT takes more
+abbrev pub CanonicalIsFirst : Type 0
+CanonicalIsFirst =
+    (t : ℕ) (cells : List (Option ℤ)) (other : Coding) → place_in_order other < place_in_order (coding_of (canonical_values t cells)) → payload_bytes (canonical_values t cells) < payload_bytes (least_form other t (filled cells))

@@ -3,7 +3,7 @@ ghost use Rattle.std.specs.Prelude.{◌≡◌, ◌<◌, ◌↔◌, IsTrue, IfOk,
 ghost use Rattle.transpose_order.specs.Place.{IsLaneWidth};
 ghost use Rattle.bit_interleave.specs.Arithmetic.{integer_width};
 ghost use Rattle.bit_interleave.specs.Range.{AreInRange};
-ghost use Rattle.segment_core.specs.Coded.{value_in, values_of, lane_width_of, coding_of, payload_bytes, least_form, IsCodedForm, LeastFormGivesBack};
+ghost use Rattle.segment_core.specs.Coded.{value_in, values_of, lane_width_of, coding_of, payload_bytes, least_form, IsCodedForm};
 
 use crate::boxed::Boxed;
 use crate::coding::Coding;
@@ -146,8 +146,3 @@ impl Coded {
         }
     }
 }
-
-/// The law that the least form that a coding has of some values decodes to them.
-pub fn least_form_gives_back()
-    ensures { LeastFormGivesBack }
-{}

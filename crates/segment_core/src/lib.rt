@@ -3,7 +3,6 @@
 
 mod boxed;
 mod build;
-mod bytes_laws;
 mod choice;
 mod coded;
 mod coded_vector;
@@ -11,6 +10,7 @@ mod coding;
 mod cover;
 mod fill;
 mod formats;
+mod laws;
 mod same_form;
 mod segment;
 mod segment_bytes;
@@ -21,10 +21,13 @@ mod vectors;
 mod writing;
 
 pub use boxed::Boxed;
-pub use bytes_laws::{columns_and_bytes_come_back, segments_have_bytes};
-pub use coded::{Coded, least_form_gives_back};
+pub use coded::Coded;
 pub use coded_vector::CodedVector;
 pub use coding::Coding;
 pub use formats::{place_of, read_number};
-pub use segment::{Segment, forms_tell_rows};
+pub use laws::{
+    canonical_vector_takes_fewest_bytes, columns_and_bytes_come_back, forms_tell_rows,
+    least_form_gives_back, segments_have_bytes,
+};
+pub use segment::Segment;
 pub use writing::{write_number, write_value, write_whole};

@@ -4,7 +4,7 @@ ghost use Rattle.std.specs.Option.{option_map, option_copied};
 ghost use Rattle.table_model.specs.Outcome.{Acts, Gives};
 ghost use Rattle.table_model.specs.State.{same_rows};
 ghost use Rattle.table_model.specs.Table.{Table, IsBatch, IsTable, row_limit};
-ghost use Rattle.segment_core.specs.Segment.{batch_of, vector_at, vector_count, canonical_forms, canonical_segment, canonical_again, canonical_vectors, widths_of, widths_in, cell_at, column_cells, AreCanonical, HaveSameCells, HasCellsOf, recoded, recoded_found, with_vector, IsSegment, FormsTellRows};
+ghost use Rattle.segment_core.specs.Segment.{batch_of, vector_at, vector_count, canonical_forms, canonical_segment, canonical_again, canonical_vectors, widths_of, widths_in, cell_at, column_cells, AreCanonical, HaveSameCells, HasCellsOf, recoded, recoded_found, with_vector, IsSegment};
 ghost use Rattle.segment_core.specs.SegmentBytes.{HasBytesIn};
 ghost use Rattle.segment_core.specs.Coded.{coding_of};
 ghost use Rattle.segment_core.specs.CodedVector.{VectorForm, StandsFor};
@@ -346,8 +346,3 @@ fn have_cells(columns: &[Vectors], rows: &[Row]) -> bool
     }
     true
 }
-
-/// The law that segments with the same vectors have the same rows.
-pub fn forms_tell_rows()
-    ensures { FormsTellRows }
-{}

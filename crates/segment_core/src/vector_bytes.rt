@@ -1,5 +1,5 @@
 //! Reading a vector from bytes: its nulls, then its coding, width and count, and then the payload of that coding.
-ghost use Rattle.std.specs.Prelude.{◌≡◌, ℕ, ◌+◌, ◌-◌, ◌≤◌, ◌<◌, ◌↔◌, false, true, IsTrue, drop, length, IfOk, OnOk, FitsSigned};
+ghost use Rattle.std.specs.Prelude.{◌≡◌, ◌≢◌, ℕ, ◌+◌, ◌-◌, ◌≤◌, ◌<◌, ◌↔◌, false, true, IsTrue, drop, length, IfOk, IfErr, OnOk, FitsSigned};
 ghost use Rattle.transpose_order.specs.Mask.{has};
 ghost use Rattle.transpose_order.specs.Place.{IsLaneWidth};
 ghost use Rattle.bit_interleave.specs.PackedWords.{HasWidth};
@@ -40,6 +40,7 @@ fn read_mask(total: usize, bytes: &[u8]) -> Result<Mask, Refusal>
     ensures read { Reads (λ x. (x, drop 128 bytes.now)) result (mask.read total bytes.now) }
     ensures rows { IfOk result (λ x. length x ≡ 1024) }
     ensures long { OnOk result (128 ≤ length bytes.now) }
+    ensures fault { IfErr result (λ e. e ≡ Refusal.Truncated total) }
 {
     if bytes.len() < MASK_BYTES {
         return Err(Refusal::Truncated(total as u64));
@@ -74,6 +75,7 @@ fn read_null_mask(total: usize, bytes: &[u8], rows: usize) -> Result<Mask, Refus
     ensures read { Reads (λ x. (x, drop 128 bytes.now)) result ((checked mask (is_null_mask rows) Refusal.BadMask).read total bytes.now) }
     ensures long { OnOk result (128 ≤ length bytes.now) }
     ensures nulls { IfOk result (λ x. IsNullMask rows x) }
+    ensures fault { IfErr result (λ e. e ≢ Refusal.Memory) }
 {
     let nulls = read_mask(total, bytes)?;
     if !has_rows_within(&nulls, rows) {
@@ -108,7 +110,8 @@ fn read_nulls(
 /// The coding at the front, and what stands after it.
 #[tactic(auto, unfolding(crate::specs::VectorBytes::coding))]
 fn read_coding(total: usize, bytes: &[u8]) -> Result<(Coding, &[u8]), Refusal>
-    ensures { Reads (λ x. (x.0, x.1.now)) result (coding.read total bytes.now) }
+    ensures read { Reads (λ x. (x.0, x.1.now)) result (coding.read total bytes.now) }
+    ensures fault { IfErr result (λ e. e ≢ Refusal.Memory) }
 {
     let (tag, rest) = read_number(total, bytes, 1)?;
     if tag > Coding::GREATEST_TAG {
@@ -144,6 +147,7 @@ fn read_header(total: usize, bytes: &[u8], lane_width: usize) -> Result<(Header,
     ensures read { Reads (λ x. (x.0, x.1.now)) result ((header lane_width).read total bytes.now) }
     ensures width { IfOk result (λ x. is_width lane_width x.0.coding x.0.width ≡ true) }
     ensures count { IfOk result (λ x. is_count x.0.coding x.0.count ≡ true) }
+    ensures fault { IfErr result (λ e. e ≢ Refusal.Memory) }
 {
     let (coding, after_coding) = read_coding(total, bytes)?;
     let (width, after_width) = read_number(total, after_coding, 1)?;
@@ -212,6 +216,7 @@ fn read_starts(total: usize, bytes: &[u8], count: usize) -> Result<Mask, Refusal
     ensures long { OnOk result (128 ≤ length bytes.now) }
     ensures first { IfOk result (λ x. has x 0 ≡ false) }
     ensures count { IfOk result (λ x. run_of x 1023 + 1 ≡ count) }
+    ensures fault { IfErr result (λ e. e ≢ Refusal.Memory) }
 {
     let starts = read_mask(total, bytes)?;
     if starts.get(0) {

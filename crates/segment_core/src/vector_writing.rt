@@ -65,20 +65,14 @@ fn write_dict<W: Write>(writer: &mut Counted<W>, form: &Dict) -> Result<(), Refu
     ensures { Writes result (W.contents writer.old.0) (W.contents writer.new.0) writer.old.1 writer.new.1
         ((dict form.now.lane_width form.now.width (length form.now.values)).spell form.now) }
 {
-    // `lane_width` ensures that codes stand in lanes of 16 bits.
-    let _lane_width = form.lane_width();
     write_values(writer, form.values())?;
     write_words(writer, form.codes(), form.width())
 }
 
 /// The coding, width and count of coded values.
 fn head_of(form: &Coded) -> Header
-    ensures value { result ≡ header_of form.now }
-    ensures width { result.width < 256 }
-    ensures count { result.count < 65536 }
+    ensures { result ≡ header_of form.now }
 {
-    // `lane_width` ensures that no width is above 64.
-    let _lane_width = form.lane_width();
     match form {
         Coded::For(form) => Header {
             coding: Coding::For,

@@ -10,7 +10,7 @@ use table_model::{ColType, Counted, Refusal, Schema, Stop};
 use test_support::{agree, agree_at};
 
 /// The schema of one SMALLINT column.
-pub(crate) fn one_column(alloc: Global) -> Result<Schema, Refusal> {
+fn one_column(alloc: Global) -> Result<Schema, Refusal> {
     Schema::new(alloc, "T", &[("A", ColType::SmallInt)])
 }
 

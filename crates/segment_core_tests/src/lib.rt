@@ -7,3 +7,5 @@ mod bytes_tests;
 mod refused_tests;
 #[cfg(test)]
 mod tests;
+#[cfg(test)]
+mod tiny_tests;

@@ -1,13 +1,13 @@
 //! Calls that grow, each with a growth refused. A test's own growths are counted from 1: with the Nth refused, a test fails by an
 //! `AllocError` or `Memory` of its set-up, or, where it was a growth of the call that it is of, as `growth_refused` says; with
 //! none refused it passes. The command `tests/refused-memory` refuses each in turn and counts those texts.
-use crate::bytes_tests::one_column;
 use crate::tests::{Pattern, first, rows_of, rows_with};
+use crate::tiny_tests::{CYCLE, ENDS};
 use segment_core::{CodedVector, Coding, Segment};
 use std::alloc::{AllocError, Global};
 use std::process::Abort;
 use std::test::Fail;
-use table_model::{Counted, Refusal, Row, check_rows};
+use table_model::{ColType, Counted, Refusal, Row, Schema, check_rows};
 use test_support::{agree, growth_refused};
 
 /// The most bytes that a segment of these tests has.
@@ -62,6 +62,24 @@ fn dictionary_bytes() -> [u8; 265] {
     bytes
 }
 
+/// The bytes of two rows of TINYINT, 7 and null: the null mask, DICT of 7 and 8 with codes of one bit, all 0.
+fn tiny_bytes() -> [u8; 263] {
+    let mut bytes = [0; 263];
+    bytes[0] = 1;
+    bytes[1] = 2;
+    bytes[129] = 3;
+    bytes[130] = 1;
+    bytes[131] = 2;
+    bytes[133] = 7;
+    bytes[134] = 8;
+    bytes
+}
+
+/// The schema of one column.
+fn column_of(alloc: Global, column_type: ColType) -> Result<Schema, Refusal> {
+    Schema::new(alloc, "T", &[("A", column_type)])
+}
+
 /// A segment's bytes, from the first on.
 fn bytes_of(segment: &Segment) -> Result<[u8; ROOM], Refusal> {
     let mut room = [0; ROOM];
@@ -70,14 +88,18 @@ fn bytes_of(segment: &Segment) -> Result<[u8; ROOM], Refusal> {
 }
 
 /// The segment of two rows in such bytes, and the place after it.
-fn two_rows(alloc: Global, bytes: &[u8]) -> Result<(Segment, usize), Refusal> {
-    let schema = one_column(alloc)?;
+fn two_rows(
+    alloc: Global,
+    column_type: ColType,
+    bytes: &[u8],
+) -> Result<(Segment, usize), Refusal> {
+    let schema = column_of(alloc, column_type)?;
     Segment::read_bytes(alloc, &schema, 2, bytes, 0)
 }
 
 /// Two rows are read from their bytes, to the end, and where that is refused there is no segment.
-fn is_read(alloc: Global, bytes: &[u8]) -> Result<(), Fail> {
-    let schema = one_column(alloc)?;
+fn is_read(alloc: Global, column_type: ColType, bytes: &[u8]) -> Result<(), Fail> {
+    let schema = column_of(alloc, column_type)?;
     match Segment::read_bytes(alloc, &schema, 2, bytes, 0) {
         Ok((segment, next)) => agree((segment.rows(), next), (2, bytes.len()))?,
         Err(fault) => {
@@ -90,27 +112,32 @@ fn is_read(alloc: Global, bytes: &[u8]) -> Result<(), Fail> {
 
 #[test]
 fn a_refused_read_of_a_frame_gives_no_segment(rt: HostRuntime) -> Result<(), Fail> {
-    is_read(rt.alloc(), &frame_bytes())
+    is_read(rt.alloc(), ColType::SmallInt, &frame_bytes())
 }
 
 #[test]
 fn a_refused_read_of_deltas_gives_no_segment(rt: HostRuntime) -> Result<(), Fail> {
-    is_read(rt.alloc(), &delta_bytes())
+    is_read(rt.alloc(), ColType::SmallInt, &delta_bytes())
 }
 
 #[test]
 fn a_refused_read_of_runs_gives_no_segment(rt: HostRuntime) -> Result<(), Fail> {
-    is_read(rt.alloc(), &run_bytes())
+    is_read(rt.alloc(), ColType::SmallInt, &run_bytes())
 }
 
 #[test]
 fn a_refused_read_of_a_dictionary_gives_no_segment(rt: HostRuntime) -> Result<(), Fail> {
-    is_read(rt.alloc(), &dictionary_bytes())
+    is_read(rt.alloc(), ColType::SmallInt, &dictionary_bytes())
+}
+
+#[test]
+fn a_refused_read_of_8_bits_gives_no_segment(rt: HostRuntime) -> Result<(), Fail> {
+    is_read(rt.alloc(), ColType::TinyInt, &tiny_bytes())
 }
 
 /// Two rows that stood in bytes are copied, and left as they were where that is refused.
 fn is_copied(rt: &impl Abort, alloc: Global, bytes: &[u8]) -> Result<(), Fail> {
-    let (segment, _) = two_rows(alloc, bytes)?;
+    let (segment, _) = two_rows(alloc, ColType::SmallInt, bytes)?;
     let before = bytes_of(&segment)?;
     match segment.copy(alloc) {
         Ok(copy) => assert!(rt; bytes_of(&copy)? == before),
@@ -144,7 +171,7 @@ fn a_refused_copy_of_a_dictionary_leaves_its_source(rt: HostRuntime) -> Result<(
 
 /// Two rows that stood in bytes have a canonical copy, and are left as they were where that is refused.
 fn is_copied_canonically(rt: &impl Abort, alloc: Global, bytes: &[u8]) -> Result<(), Fail> {
-    let (segment, _) = two_rows(alloc, bytes)?;
+    let (segment, _) = two_rows(alloc, ColType::SmallInt, bytes)?;
     let before = bytes_of(&segment)?;
     match segment.canonical_copy(alloc) {
         Ok(copy) => assert!(rt; copy.canonical() && copy.same_rows(&segment)),
@@ -177,8 +204,14 @@ fn a_refused_canonical_copy_of_a_dictionary_leaves_its_source(rt: HostRuntime) -
 }
 
 /// A segment recoded, and what is left of it where that is refused.
-fn is_recoded(rt: &impl Abort, alloc: Global, coding: Coding) -> Result<(), Fail> {
-    let (mut segment, _) = two_rows(alloc, &dictionary_bytes())?;
+fn is_recoded(
+    rt: &impl Abort,
+    alloc: Global,
+    column_type: ColType,
+    bytes: &[u8],
+    coding: Coding,
+) -> Result<(), Fail> {
+    let (mut segment, _) = two_rows(alloc, column_type, bytes)?;
     let before = bytes_of(&segment)?;
     match segment.recode(alloc, 0, 0, coding) {
         Ok(()) => assert!(rt; segment.rows() == 2 && segment.coding(0, 0) == coding),
@@ -193,22 +226,57 @@ fn is_recoded(rt: &impl Abort, alloc: Global, coding: Coding) -> Result<(), Fail
 
 #[test]
 fn a_refused_recoding_to_for_changes_nothing(rt: HostRuntime) -> Result<(), Fail> {
-    is_recoded(&rt, rt.alloc(), Coding::For)
+    is_recoded(
+        &rt,
+        rt.alloc(),
+        ColType::SmallInt,
+        &dictionary_bytes(),
+        Coding::For,
+    )
 }
 
 #[test]
 fn a_refused_recoding_to_delta_changes_nothing(rt: HostRuntime) -> Result<(), Fail> {
-    is_recoded(&rt, rt.alloc(), Coding::Delta)
+    is_recoded(
+        &rt,
+        rt.alloc(),
+        ColType::SmallInt,
+        &dictionary_bytes(),
+        Coding::Delta,
+    )
 }
 
 #[test]
 fn a_refused_recoding_to_runs_changes_nothing(rt: HostRuntime) -> Result<(), Fail> {
-    is_recoded(&rt, rt.alloc(), Coding::Runs)
+    is_recoded(
+        &rt,
+        rt.alloc(),
+        ColType::SmallInt,
+        &dictionary_bytes(),
+        Coding::Runs,
+    )
 }
 
 #[test]
 fn a_refused_recoding_to_dict_changes_nothing(rt: HostRuntime) -> Result<(), Fail> {
-    is_recoded(&rt, rt.alloc(), Coding::Dict)
+    is_recoded(
+        &rt,
+        rt.alloc(),
+        ColType::SmallInt,
+        &dictionary_bytes(),
+        Coding::Dict,
+    )
+}
+
+#[test]
+fn a_refused_recoding_of_8_bits_changes_nothing(rt: HostRuntime) -> Result<(), Fail> {
+    is_recoded(
+        &rt,
+        rt.alloc(),
+        ColType::TinyInt,
+        &tiny_bytes(),
+        Coding::Delta,
+    )
 }
 
 /// Whether a segment was built, and has the rows.
@@ -220,8 +288,14 @@ fn has_built(built: &Result<Segment, AllocError>, rows: &[Row]) -> bool {
 }
 
 /// A segment is built of rows, whose first vector has a coding and so many bytes, and where that is refused there is none.
-fn is_built(rt: &impl Abort, alloc: Global, rows: &[Row], form: (Coding, u16)) -> Result<(), Fail> {
-    let schema = one_column(alloc)?;
+fn is_built(
+    rt: &impl Abort,
+    alloc: Global,
+    column_type: ColType,
+    rows: &[Row],
+    form: (Coding, u16),
+) -> Result<(), Fail> {
+    let schema = column_of(alloc, column_type)?;
     check_rows(&schema, rows)?;
     match Segment::build(alloc, &schema, rows) {
         Ok(segment) => {
@@ -241,35 +315,85 @@ fn is_built(rt: &impl Abort, alloc: Global, rows: &[Row], form: (Coding, u16)) -
 #[test]
 fn a_refused_build_of_one_value_gives_no_segment(rt: HostRuntime) -> Result<(), Fail> {
     let rows = rows_of(rt.alloc(), 2, Pattern::All(7))?;
-    is_built(&rt, rt.alloc(), &rows, (Coding::For, 2))
+    is_built(&rt, rt.alloc(), ColType::SmallInt, &rows, (Coding::For, 2))
 }
 
 // The filled vector is 7, 7, 8, 8, ..: a reference and a bit a row are 130 bytes, a mask and two values 132.
 #[test]
 fn a_refused_build_of_a_frame_gives_no_segment(rt: HostRuntime) -> Result<(), Fail> {
     let rows = rows_with(rt.alloc(), &[Some(7), None, Some(8)])?;
-    is_built(&rt, rt.alloc(), &rows, (Coding::For, 130))
+    is_built(
+        &rt,
+        rt.alloc(),
+        ColType::SmallInt,
+        &rows,
+        (Coding::For, 130),
+    )
 }
 
 // 0 to 65, then 65: the differences are 1 and 0. A least delta, 64 bases and a bit a row are 258 bytes, a mask and 66 values 260.
 #[test]
 fn a_refused_build_of_deltas_gives_no_segment(rt: HostRuntime) -> Result<(), Fail> {
     let rows = rows_of(rt.alloc(), 66, Pattern::Counting)?;
-    is_built(&rt, rt.alloc(), &rows, (Coding::Delta, 258))
+    is_built(
+        &rt,
+        rt.alloc(),
+        ColType::SmallInt,
+        &rows,
+        (Coding::Delta, 258),
+    )
 }
 
 // 7, 7, 9, 9, ..: a mask and two values are 132 bytes, and so are two values and a bit a row, which come later.
 #[test]
 fn a_refused_build_of_runs_gives_no_segment(rt: HostRuntime) -> Result<(), Fail> {
     let rows = rows_with(rt.alloc(), &[Some(7), None, Some(9)])?;
-    is_built(&rt, rt.alloc(), &rows, (Coding::Runs, 132))
+    is_built(
+        &rt,
+        rt.alloc(),
+        ColType::SmallInt,
+        &rows,
+        (Coding::Runs, 132),
+    )
 }
 
 // 7, 7, 9, 7, 7, ..: two values and a bit a row are 132 bytes, a mask and three values 134.
 #[test]
 fn a_refused_build_of_a_dictionary_gives_no_segment(rt: HostRuntime) -> Result<(), Fail> {
     let rows = rows_with(rt.alloc(), &[Some(7), None, Some(9), Some(7)])?;
-    is_built(&rt, rt.alloc(), &rows, (Coding::Dict, 132))
+    is_built(
+        &rt,
+        rt.alloc(),
+        ColType::SmallInt,
+        &rows,
+        (Coding::Dict, 132),
+    )
+}
+
+// 0 to 127 in turn: a least delta and 128 bases of one byte each.
+#[test]
+fn a_refused_build_of_deltas_of_8_bits_gives_no_segment(rt: HostRuntime) -> Result<(), Fail> {
+    let rows = rows_of(rt.alloc(), 1024, CYCLE)?;
+    is_built(
+        &rt,
+        rt.alloc(),
+        ColType::TinyInt,
+        &rows,
+        (Coding::Delta, 129),
+    )
+}
+
+// -128 and 127 in turn: two values of one byte each, and a bit a row.
+#[test]
+fn a_refused_build_of_a_dictionary_of_8_bits_gives_no_segment(rt: HostRuntime) -> Result<(), Fail> {
+    let rows = rows_of(rt.alloc(), 1024, ENDS)?;
+    is_built(
+        &rt,
+        rt.alloc(),
+        ColType::TinyInt,
+        &rows,
+        (Coding::Dict, 130),
+    )
 }
 
 /// Whether a vector stands for the two rows of these tests, 7 and null, in a coding.
@@ -295,7 +419,7 @@ fn is_vector_copied(
     bytes: &[u8],
     coding: Coding,
 ) -> Result<(), Fail> {
-    let (segment, _) = two_rows(alloc, bytes)?;
+    let (segment, _) = two_rows(alloc, ColType::SmallInt, bytes)?;
     let vector = first(rt, &segment);
     let copied = vector.copy(alloc);
     if has_copied(&copied, coding) {

@@ -11,6 +11,7 @@ use test_support::agree;
 pub(super) enum Pattern {
     All(i128),
     Counting,
+    Cycle(usize),
     Alternating(i128, i128),
     ChangedAt(usize, i128, i128),
     Nulls,
@@ -21,6 +22,7 @@ fn cell_of(pattern: Pattern, row: usize) -> Option<i128> {
     match pattern {
         Pattern::All(value) => Some(value),
         Pattern::Counting => Some(row as i128),
+        Pattern::Cycle(length) => Some((row % length.max(1)) as i128),
         Pattern::Alternating(even, odd) => Some(if row % 2 == 0 { even } else { odd }),
         Pattern::ChangedAt(change, before, after) => Some(if row < change {
             before

@@ -1,4 +1,4 @@
-use Rattle.std.proofs.Common.{◌≡◌, List, ℕ, Ok, Err, length, ap, sym, ◌∙◌, subst}
+use Rattle.std.proofs.Common.{◌≡◌, List, ℕ, Ok, Err, length, ap, sym, ◌∙◌, subst, refl}
 use Rattle.std.proofs.lemmas.Result.{err_from_is_err_and}
 use Rattle.table_model.specs.Faults.{GaveMore}
 use Rattle.replica_store.specs.Exchange.{OfferForm}
@@ -8,17 +8,18 @@ use Rattle.column_file.proofs.FaultsOfBytes.{counts_none, refusal_listed}
 use Rattle.column_file.proofs.Inputs.{judged}
 use Rattle.column_file.proofs.Openings.{canonical_read_judged, checked_is}
 use Rattle.column_file.proofs.RangeLists.{ranges_are}
+use Rattle.column_file.specs.Input.{is_fault_of_file}
 use Rattle.column_file.proofs.opening.check.Goals as goal
 
 pub returns-in_err-offer-clause-refused : goal.returns-in_err-offer-clause-refused
 returns-in_err-offer-clause-refused g c =
     let p = err_from_is_err_and c.from_residual-in_err-offer.result c.from_residual-in_err-offer.ensures.1 in
-    rw (p.1, p.2) (refusal_listed {X = OfferForm} (λ (x : OfferForm). x) (Err c.in_err-offer.field-0.0) (canonical_read c.as_slice.result.now) c.in_err-offer.ensures.read (canonical_read_judged c.as_slice.result.now))
+    rw (p.1, p.2) (refusal_listed is_fault_of_file {X = OfferForm} (λ (x : OfferForm). x) (Err c.in_err-offer.field-0.0) (canonical_read c.as_slice.result.now) c.in_err-offer.ensures.read (canonical_read_judged c.as_slice.result.now))
 
 pub returns-in_err-offer-clause-fault : goal.returns-in_err-offer-clause-fault
 returns-in_err-offer-clause-fault g c =
     let p = err_from_is_err_and c.from_residual-in_err-offer.result c.from_residual-in_err-offer.ensures.1 in
-    rw (p.1, p.2) (counts_none {X = OfferForm} (λ (x : OfferForm). x) (Err c.in_err-offer.field-0.0) (canonical_read c.as_slice.result.now) (GaveMore (g.R.Read.remaining c.args.reader.now.0) (g.R.Read.remaining c.read_input.new.reader.0)) c.args.reader.now.1 c.read_input.new.reader.1 c.in_err-offer.ensures.read (canonical_read_judged c.as_slice.result.now) c.in_ok-input.ensures.kept)
+    rw (p.1, p.2) (counts_none is_fault_of_file {X = OfferForm} (λ (x : OfferForm). x) (Err c.in_err-offer.field-0.0) (canonical_read c.as_slice.result.now) (GaveMore (g.R.Read.remaining c.args.reader.now.0) (g.R.Read.remaining c.read_input.new.reader.0)) c.args.reader.now.1 c.read_input.new.reader.1 refl c.in_err-offer.ensures.read (canonical_read_judged c.as_slice.result.now) c.in_ok-input.ensures.kept)
 
 pub returns-clause-read : goal.returns-clause-read
 returns-clause-read g c =

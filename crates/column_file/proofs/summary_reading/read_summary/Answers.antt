@@ -1,4 +1,4 @@
-use Rattle.std.proofs.Common.{List, ℕ, subst}
+use Rattle.std.proofs.Common.{List, ℕ, subst, refl}
 use Rattle.table_model.specs.Reading.{Reads}
 use Rattle.replica_store.specs.Exchange.{SummaryForm}
 use Rattle.column_file.specs.SummaryBytes.{summary_read}
@@ -6,6 +6,7 @@ use Rattle.std.proofs.lemmas.Result.{err_from_is_err_and}
 use Rattle.table_model.specs.Faults.{GaveMore}
 use Rattle.column_file.proofs.FaultsOfBytes.{counts_none, refusal_listed, summary_read_judged}
 use Rattle.column_file.proofs.Inputs.{judged, unread, unread_listed, unread_whole, was_whole}
+use Rattle.column_file.specs.Input.{is_fault_of_summary}
 use Rattle.column_file.proofs.summary_reading.read_summary.Goals as goal
 
 pub returns-clause-read : goal.returns-clause-read
@@ -15,11 +16,11 @@ returns-clause-read g c =
     (subst P c.as_slice.ensures.value c.summary_in.ensures)
 
 pub returns-clause-refused : goal.returns-clause-refused
-returns-clause-refused g c = refusal_listed (λ (x : SummaryForm). x) c.summary_in.result (summary_read c.as_slice.result.now) c.summary_in.ensures (summary_read_judged c.as_slice.result.now)
+returns-clause-refused g c = refusal_listed is_fault_of_summary (λ (x : SummaryForm). x) c.summary_in.result (summary_read c.as_slice.result.now) c.summary_in.ensures (summary_read_judged c.as_slice.result.now)
 
 pub returns-clause-fault : goal.returns-clause-fault
 returns-clause-fault g c =
-    counts_none (λ (x : SummaryForm). x) c.summary_in.result (summary_read c.as_slice.result.now) (GaveMore (g.R.Read.remaining c.args.reader.now.0) (g.R.Read.remaining c.read_input.new.reader.0)) c.args.reader.now.1 c.read_input.new.reader.1 c.summary_in.ensures (summary_read_judged c.as_slice.result.now) c.in_ok-input.ensures.kept
+    counts_none is_fault_of_summary (λ (x : SummaryForm). x) c.summary_in.result (summary_read c.as_slice.result.now) (GaveMore (g.R.Read.remaining c.args.reader.now.0) (g.R.Read.remaining c.read_input.new.reader.0)) c.args.reader.now.1 c.read_input.new.reader.1 refl c.summary_in.ensures (summary_read_judged c.as_slice.result.now) c.in_ok-input.ensures.kept
 
 pub returns-in_err-input-clause-read : goal.returns-in_err-input-clause-read
 returns-in_err-input-clause-read g c =
@@ -29,7 +30,7 @@ returns-in_err-input-clause-read g c =
 pub returns-in_err-input-clause-refused : goal.returns-in_err-input-clause-refused
 returns-in_err-input-clause-refused g c =
     let p = err_from_is_err_and c.from_residual.result c.from_residual.ensures.1 in
-    rw (p.1, p.2) (unread_listed c.in_err-input.field-0.0 c.in_err-input.ensures.refused)
+    rw (p.1, p.2) (unread_listed is_fault_of_summary c.in_err-input.field-0.0 c.in_err-input.ensures.refused)
 
 pub returns-clause-whole : goal.returns-clause-whole
 returns-clause-whole g c = was_whole c.summary_in.result (g.R.Read.remaining c.args.reader.now.0) (g.R.Read.remaining c.read_input.new.reader.0) c.in_ok-input.ensures.within c.in_ok-input.ensures.end

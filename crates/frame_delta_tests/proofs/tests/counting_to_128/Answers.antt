@@ -1,8 +1,8 @@
 -- Zero and each remainder by 128 have 8 bits.
-use Rattle.std.proofs.Common.{pos, replicate, arith}
+use Rattle.std.proofs.Common.{pos, arith}
 use Rattle.std.specs.Int.RustNames.{FitsSigned}
 use Rattle.std.proofs.lemmas.Int.{ints}
-use Rattle.std.proofs.lemmas.List.Elements.{All-set, All-replicate}
+use Rattle.std.proofs.lemmas.List.Elements.{All-replicate}
 use Rattle.bit_interleave.specs.Arithmetic.{integer_width}
 use Rattle.frame_delta_tests.proofs.tests.counting_to_128.Goals as goal
 

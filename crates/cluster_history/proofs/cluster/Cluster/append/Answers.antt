@@ -9,7 +9,7 @@ use Rattle.cluster_history.proofs.Codings.{append_at}
 use Rattle.cluster_history.proofs.Forms.{nowhere, parts_same, store_left}
 use Rattle.cluster_history.proofs.Opened.{one_store, within}
 use Rattle.cluster_history.proofs.Placed.{no_place, call_done, call_refused}
-use Rattle.script_lines.specs.declared.step.Step.TheVariants.{Append}
+use Rattle.cluster_history.specs.declared.step.Step.TheVariants.{Append}
 use Rattle.cluster_history.proofs.cluster.Cluster.append.Goals as goal
 
 pub returns-in_err-place : goal.returns-in_err-place

@@ -6,7 +6,7 @@ use Rattle.cluster_history.specs.Message.{messages_in}
 use Rattle.cluster_history.specs.declared.message.Message.TheVariants.{Summary}
 use Rattle.cluster_history.proofs.Forms.{nowhere, parts_same}
 use Rattle.cluster_history.proofs.Sent.{sent_as, ask_nowhere, ask_full, ask_lacks, ask_sends, some_numbered, numbered_store, has_room, is_full, same_ok, summary_sent}
-use Rattle.script_lines.specs.declared.step.Step.TheVariants.{Ask}
+use Rattle.cluster_history.specs.declared.step.Step.TheVariants.{Ask}
 use Rattle.cluster_history.proofs.cluster.Cluster.ask.Goals as goal
 
 pub returns-in_err-place : goal.returns-in_err-place

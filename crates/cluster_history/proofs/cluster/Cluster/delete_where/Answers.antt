@@ -11,7 +11,7 @@ use Rattle.cluster_history.proofs.DeletedWhere.{deleting_ok, only_memory, where_
 use Rattle.cluster_history.proofs.Forms.{nowhere, parts_same, store_left}
 use Rattle.cluster_history.proofs.Opened.{one_store, within}
 use Rattle.cluster_history.proofs.Placed.{no_place, call_done}
-use Rattle.script_lines.specs.declared.step.Step.TheVariants.{DeleteWhere}
+use Rattle.cluster_history.specs.declared.step.Step.TheVariants.{DeleteWhere}
 use Rattle.cluster_history.proofs.cluster.Cluster.delete_where.Goals as goal
 
 pub returns-in_err-place : goal.returns-in_err-place

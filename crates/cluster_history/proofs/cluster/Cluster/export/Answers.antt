@@ -3,7 +3,7 @@ use Rattle.std.proofs.lemmas.Result.{err_from_is_err_and}
 use Rattle.cluster_history.specs.Message.{messages_in}
 use Rattle.cluster_history.proofs.Asked.{export_nowhere, export_done, export_refused}
 use Rattle.cluster_history.proofs.Forms.{nowhere, parts_same}
-use Rattle.script_lines.specs.declared.step.Step.TheVariants.{Export}
+use Rattle.cluster_history.specs.declared.step.Step.TheVariants.{Export}
 use Rattle.cluster_history.proofs.cluster.Cluster.export.Goals as goal
 
 pub returns-in_err-place : goal.returns-in_err-place

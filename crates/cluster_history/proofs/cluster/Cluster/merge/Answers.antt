@@ -8,7 +8,7 @@ use Rattle.cluster_history.proofs.Codings.{itself_at, merged_at}
 use Rattle.cluster_history.proofs.Forms.{nowhere, parts_same, stores_left}
 use Rattle.cluster_history.proofs.Idle.{refused_where, merge_same}
 use Rattle.cluster_history.proofs.Apart.{merge_no_first, merge_no_second, merge_itself, merge_done, merge_refused}
-use Rattle.script_lines.specs.declared.step.Step.TheVariants.{Merge}
+use Rattle.cluster_history.specs.declared.step.Step.TheVariants.{Merge}
 use Rattle.cluster_history.proofs.cluster.Cluster.merge.Goals as goal
 
 pub returns-in_err-place : goal.returns-in_err-place

@@ -10,7 +10,7 @@ use Rattle.cluster_history.proofs.Forms.{nowhere, parts_same, store_left}
 use Rattle.cluster_history.proofs.Asked.{is_there}
 use Rattle.cluster_history.proofs.Placed.{no_place, call_done, call_refused}
 use Rattle.cluster_history.proofs.Opened.{opening_ok, opening_acts, one_store, within, open_refused}
-use Rattle.script_lines.specs.declared.step.Step.TheVariants.{Open}
+use Rattle.cluster_history.specs.declared.step.Step.TheVariants.{Open}
 use Rattle.cluster_history.proofs.cluster.Cluster.open.Goals as goal
 
 pub returns-in_err-place : goal.returns-in_err-place

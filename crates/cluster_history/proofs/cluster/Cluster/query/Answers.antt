@@ -3,7 +3,7 @@ use Rattle.std.proofs.lemmas.Result.{err_from_is_err_and}
 use Rattle.cluster_history.specs.Message.{messages_in}
 use Rattle.cluster_history.proofs.Forms.{nowhere, parts_same}
 use Rattle.cluster_history.proofs.Asked.{query_nowhere, query_done, query_refused}
-use Rattle.script_lines.specs.declared.step.Step.TheVariants.{Query}
+use Rattle.cluster_history.specs.declared.step.Step.TheVariants.{Query}
 use Rattle.cluster_history.proofs.cluster.Cluster.query.Goals as goal
 
 pub returns-in_err-place : goal.returns-in_err-place

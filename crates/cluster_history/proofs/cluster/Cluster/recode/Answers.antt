@@ -7,7 +7,7 @@ use Rattle.cluster_history.proofs.Codings.{recoded_at}
 use Rattle.cluster_history.proofs.Forms.{nowhere, parts_same, stores_left}
 use Rattle.cluster_history.proofs.Placed.{no_place}
 use Rattle.cluster_history.proofs.Recodes.{recode_done, recode_refused, recode_left}
-use Rattle.script_lines.specs.declared.step.Step.TheVariants.{Recode}
+use Rattle.cluster_history.specs.declared.step.Step.TheVariants.{Recode}
 use Rattle.cluster_history.proofs.cluster.Cluster.recode.Goals as goal
 
 pub returns-in_err-place : goal.returns-in_err-place

@@ -6,7 +6,7 @@ use Rattle.cluster_history.specs.declared.message.Message.TheVariants.{Offer}
 use Rattle.cluster_history.proofs.Codings.{served_at}
 use Rattle.cluster_history.proofs.Forms.{nowhere, parts_same}
 use Rattle.cluster_history.proofs.Sent.{sent_as, numbered_store, some_numbered, said_of, has_room, is_full, serve_nowhere, serve_none, serve_full, serve_refused, serve_sends}
-use Rattle.script_lines.specs.declared.step.Step.TheVariants.{Serve}
+use Rattle.cluster_history.specs.declared.step.Step.TheVariants.{Serve}
 use Rattle.cluster_history.proofs.cluster.Cluster.serve.Goals as goal
 
 pub returns-in_err-place : goal.returns-in_err-place

@@ -9,7 +9,7 @@ use Rattle.cluster_history.proofs.Forms.{nowhere, parts_same, store_left}
 use Rattle.cluster_history.proofs.Idle.{refused_where, call_same}
 use Rattle.cluster_history.proofs.Placed.{no_place, call_done, call_refused}
 use Rattle.cluster_history.proofs.Sent.{said_of, taking_is, taking_acts, take_none}
-use Rattle.script_lines.specs.declared.step.Step.TheVariants.{Take}
+use Rattle.cluster_history.specs.declared.step.Step.TheVariants.{Take}
 use Rattle.cluster_history.proofs.cluster.Cluster.take.Goals as goal
 
 pub returns-in_err-place : goal.returns-in_err-place
