@@ -81,7 +81,7 @@ CASES = [
         ["run", "--explain"],
         0,
         b"ok\nrefused OutOfType 0 0\nrefused BadLine\nok 1.1\n",
-        b"line 2: refused OutOfType 0 0\nline 4: refused BadLine: rows are written (V,..),(V,..)\n",
+        b"line 2: refused OutOfType 0 0: the number is outside its column's type\nline 4: refused BadLine: rows are written (V,..),(V,..)\n",
         input=b"table 1 T A SMALLINT\nappend 1 (32768)\n\nappend 1 7\nappend 1 (7)\n",
     ),
     Case(
