@@ -1,0 +1,12 @@
+mod Advances
+mod Begins
+mod Dumps
+mod KnownFacts
+mod LineFacts
+mod Marks
+mod Numerals
+mod Pieces
+mod Ranges
+mod RowFacts
+mod RowTexts
+mod Steps

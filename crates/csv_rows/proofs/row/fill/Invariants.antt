@@ -1,0 +1,11 @@
+use Rattle.std.proofs.Common.{◌≡◌, ◌+◌, drop, length, option_map}
+use Rattle.csv_rows.specs.Field.{fields_of, fields_left}
+use Rattle.csv_rows.specs.CsvText.{filled}
+use Rattle.csv_rows.proofs.row.fill.Given as goal
+
+abbrev pub invariant-loop-place : goal.invariant-loop-place
+invariant-loop-place l = record {
+  column : l.column ≡ l.place-index + 1;
+  long : length l.cells.items ≡ length l.columns;
+  row : filled l.columns l.column (drop l.place-index l.order) (fields_left (option_map (λ rest. rest.now) l.rest)) l.cells.items ≡ filled l.columns 1 l.order (fields_of l.line) l.initial.cells.items;
+}

@@ -1,0 +1,107 @@
+-- The rows of a text of comma-separated values, or its first fault.
+use Rattle.std.specs.Prelude.{ℕ, suc, Bool, true, false, ◌==◌, ◌&&◌, not, cond, nat_lt, List, [], ◌∷◌, ◌++◌, length, replicate, set, slice_get, Option, Some, None, option_and_then, Result, Ok, Err, ℤ, position}
+use Rattle.std.specs.List.{list_any, range_with_len}
+use Rattle.table_model.specs.State.{Cells, Batch}
+use Rattle.table_model.specs.Table.{Table, ColumnShape, has_name}
+use Rattle.csv_rows.specs.Line.{line_limit, lines_of, unmarked}
+use Rattle.csv_rows.specs.Field.{fields_of, unquoted, cell_in}
+use Rattle.csv_rows.specs.declared.error.CsvError.{CsvError}
+use Rattle.csv_rows.specs.declared.error.CsvError.TheVariants.{BadCsv, LineTooLong}
+
+infixl 10 ◌>>=◌
+-- what comes next, where there was no fault
+abbrev pub ◌>>=◌ : {X Y E : Type 0} → Result X E → (X → Result Y E) → Result Y E
+Ok x >>= next = next x
+Err e >>= next = Err e
+
+-- a fault in a field of a line, which is told by the field's column
+abbrev pub in_line : {X : Type 0} → ℕ → Result X ℕ → Result X CsvError
+in_line line (Ok x) = Ok x
+in_line line (Err column) = Err (BadCsv line column)
+
+-- the place of the column that a header's field names, in any case, quoted or not
+abbrev pub place_named : List ColumnShape → List ℕ → Option ℕ
+place_named columns field = position (λ column. has_name column.name (unquoted field)) columns
+
+-- the place of a column that isn't named yet; else the fault is in the field of that column of the text
+abbrev pub new_place : ℕ → List ℕ → Option ℕ → Result ℕ ℕ
+new_place at named None = Err at
+new_place at named (Some place) = cond (list_any (λ p. p == place) named) (Err at) (Ok place)
+
+-- the places of the columns that a header's fields name, after those that are named already, or the first field, counted from at, that
+-- names no column, or one for the second time
+abbrev pub order_from : List ColumnShape → ℕ → List ℕ → List (List ℕ) → Result (List ℕ) ℕ
+order_from columns at named [] = Ok named
+order_from columns at named (field ∷ fields) = new_place at named (place_named columns field) >>= (λ place. order_from columns (suc at) (named ++ (place ∷ [])) fields)
+
+-- whether a line has one field for each column
+abbrev pub has_each : List ColumnShape → List ℕ → Bool
+has_each columns line = length (fields_of line) == length columns
+
+-- the order of the columns that a header, the first line, gives
+unfoldable pub header_order : List ColumnShape → List ℕ → Result (List ℕ) CsvError
+header_order columns line =
+    cond (nat_lt line_limit (length line)) (Err (LineTooLong 1))
+    (cond (not (length line == 0) && has_each columns line) (in_line 1 (order_from columns 1 [] (fields_of line))) (Err (BadCsv 1 0)))
+
+-- what a field is below the column of this place
+abbrev pub cell_at : List ColumnShape → ℕ → List ℕ → Option (Option ℤ)
+cell_at columns place field = option_and_then (λ column. cell_in column field) (slice_get columns place)
+
+-- a cell, or the fault in the field of that column of the text
+abbrev pub or_at : ℕ → Option (Option ℤ) → Result (Option ℤ) ℕ
+or_at at None = Err at
+or_at at (Some cell) = Ok cell
+
+-- the row with the cell of each field put at its column's place, the columns standing in this order, or the first field at fault,
+-- counted from at
+abbrev pub filled : List ColumnShape → ℕ → List ℕ → List (List ℕ) → Cells → Result Cells ℕ
+filled columns at [] fields row = Ok row
+filled columns at (place ∷ order) [] row = Ok row
+filled columns at (place ∷ order) (field ∷ fields) row = or_at at (cell_at columns place field) >>= (λ cell. filled columns (suc at) order fields (set row place cell))
+
+-- a row of nulls
+abbrev pub null_row : List ColumnShape → Cells
+null_row columns = replicate (length columns) None
+
+-- the row of a line, the columns standing in this order
+abbrev pub row_of : List ColumnShape → List ℕ → List ℕ → Result Cells ℕ
+row_of columns order line = cond (has_each columns line) (filled columns 1 order (fields_of line) (null_row columns)) (Err 0)
+
+-- whether a line is passed over: it is empty, and the table has not one column alone
+abbrev pub is_passed : List ColumnShape → List ℕ → Bool
+is_passed columns line = (length line == 0) && not (length columns == 1)
+
+-- the rows that a line makes: one, or none where it is passed over
+unfoldable pub line_rows : List ColumnShape → List ℕ → ℕ → List ℕ → Result Batch CsvError
+line_rows columns order number line =
+    cond (nat_lt line_limit (length line)) (Err (LineTooLong number))
+    (cond (is_passed columns line) (Ok []) (in_line number (row_of columns order line) >>= (λ row. Ok (row ∷ []))))
+
+-- rows before those that follow them
+abbrev pub before_rows : Batch → Result Batch CsvError → Result Batch CsvError
+before_rows rows (Ok more) = Ok (rows ++ more)
+before_rows rows (Err e) = Err e
+
+-- the rows of lines, the first having this number, or the first fault
+abbrev pub rows_from : List ColumnShape → List ℕ → ℕ → List (List ℕ) → Result Batch CsvError
+rows_from columns order number [] = Ok []
+rows_from columns order number (line ∷ lines) = line_rows columns order number line >>= (λ rows. before_rows rows (rows_from columns order (suc number) lines))
+
+-- the order in which columns stand in the schema
+abbrev pub own_order : List ColumnShape → List ℕ
+own_order columns = range_with_len 0 (length columns)
+
+-- the rows of a header and the lines below it, or the first fault
+abbrev pub header_rows : List ColumnShape → List (List ℕ) → Result Batch CsvError
+header_rows columns [] = Err (BadCsv 1 0)
+header_rows columns (header ∷ lines) = header_order columns header >>= (λ order. rows_from columns order 2 lines)
+
+-- the rows of all lines, the first being a header if there is one
+abbrev pub lines_rows : Table → Bool → List (List ℕ) → Result Batch CsvError
+lines_rows table true lines = header_rows table.columns lines
+lines_rows table false lines = rows_from table.columns (own_order table.columns) 1 lines
+
+-- the rows of a text, or its first fault
+abbrev pub csv_rows : Table → Bool → List ℕ → Result Batch CsvError
+csv_rows table has_header text = lines_rows table has_header (lines_of (unmarked text))

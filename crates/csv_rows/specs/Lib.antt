@@ -1,0 +1,9 @@
+pub mod CsvText
+pub mod Field
+pub mod Line
+pub mod LineReading
+pub mod LinesForm
+pub mod Outcome
+pub mod Reading
+pub mod RowReading
+pub mod Written

@@ -1,0 +1,64 @@
+-- What a reader of comma-separated values has read, and what is still to come of the text, where the bytes are known.
+use Rattle.std.specs.Prelude.{◌≡◌, ◌⊎◌, ℕ, suc, ◌+◌, Bool, List, [], ◌++◌, length, Option, Some, None, Result, Ok, Err}
+use Rattle.table_model.specs.Counted.{one_more}
+use Rattle.table_model.specs.State.{Batch}
+use Rattle.table_model.specs.Table.{Table}
+use Rattle.table_model.specs.declared.refusal.Refusal.TheVariants.{Memory, ReadFault}
+use Rattle.csv_rows.specs.Line.{lines_of}
+use Rattle.csv_rows.specs.CsvText.{csv_rows, rows_from, before_rows}
+use Rattle.csv_rows.specs.declared.error.CsvError.{CsvError}
+use Rattle.csv_rows.specs.declared.error.CsvError.TheVariants.{Refused}
+
+-- A reader of CSV: the table, whether the first line is a header, the order of the text's columns once that is known, how many lines
+-- were read, the bytes that came and weren't taken yet, and how many bytes came in all.
+pub record Reading : Type 0 where
+  pub table : Table
+  pub has_header : Bool
+  pub order : Option (List ℕ)
+  pub number : ℕ
+  pub pending : List ℕ
+  pub given : ℕ
+
+-- a reader that has read nothing
+abbrev pub at_start : Table → Bool → Reading
+at_start table has_header = record { table = table; has_header = has_header; order = None; number = 0; pending = []; given = 0 }
+
+-- the rows that these bytes make, or the first fault, before the order of columns is known and after
+abbrev pub rows_after : Reading → Option (List ℕ) → List ℕ → Result Batch CsvError
+rows_after csv None bytes = csv_rows csv.table csv.has_header bytes
+rows_after csv (Some order) bytes = rows_from csv.table.columns order (suc csv.number) (lines_of bytes)
+
+-- the rows that are still to come, or the first fault, where the reader below has these bytes left
+abbrev pub to_come : Reading → List ℕ → Result Batch CsvError
+to_come csv bytes = rows_after csv csv.order (csv.pending ++ bytes)
+
+-- what holds of the bytes that a reader has before and after, where it tells them
+abbrev pub AsKnown : (List ℕ → List ℕ → Type 0) → Option (List ℕ) → Option (List ℕ) → Type 0
+AsKnown holds None after = Unit {0}
+AsKnown holds (Some bytes) None = ⊥
+AsKnown holds (Some bytes) (Some rest) = holds bytes rest
+
+-- these are the next rows
+abbrev pub Gave : Reading → Reading → Batch → Option (List ℕ) → Option (List ℕ) → Type 0
+Gave old new rows before after = AsKnown (λ bytes rest. to_come old bytes ≡ before_rows rows (to_come new rest)) before after
+
+-- no rows are to come any more, and no fault
+abbrev pub NothingToCome : Reading → Option (List ℕ) → Option (List ℕ) → Type 0
+NothingToCome new before after = AsKnown (λ bytes rest. to_come new rest ≡ Ok []) before after
+
+-- the text's first fault is this one; memory and the reader below are no fault of the text
+abbrev pub Refuses : Reading → CsvError → Option (List ℕ) → Type 0
+Refuses old (Refused refusal) before = Unit {0}
+Refuses old fault before = AsKnown (λ bytes rest. to_come old bytes ≡ Err fault) before before
+
+-- as many bytes came as are counted
+abbrev pub Came : ℕ → ℕ → Option (List ℕ) → Option (List ℕ) → Type 0
+Came given given' before after = AsKnown (λ bytes rest. given' + length rest ≡ given + length bytes) before after
+
+-- how often the reader below had failed before and after an error: once more with ReadFault, unless many is what made that; of the refusals
+-- only that one and Memory come
+abbrev pub Counts : Type 0 → CsvError → ℕ → ℕ → Type 0
+Counts many (Refused ReadFault) before after = (after ≡ one_more before) ⊎ (many × (after ≡ before))
+Counts many (Refused Memory) before after = after ≡ before
+Counts many (Refused other) before after = ⊥
+Counts many fault before after = after ≡ before

@@ -1,0 +1,17 @@
+//! Comma-separated values: the rows of a text with its first fault, and the text of rows.
+#![tactic(auto)]
+
+mod bytes;
+mod error;
+mod field;
+mod laws;
+mod lines;
+mod order;
+mod reader;
+mod row;
+mod writer;
+
+pub use error::CsvError;
+pub use laws::written_rows_are_read;
+pub use reader::CsvReader;
+pub use writer::CsvWriter;

@@ -1,0 +1,274 @@
+//! Rows of a text of comma-separated values, batch by batch.
+ghost use Rattle.std.specs.Prelude.{◌≡◌, ◌<◌, ◌≤◌, ◌+◌, ◌++◌, [], suc, length, Ok, Err, None, ◌-◌, slice_get, Some, IfSome, IfOk, IfErr, OnOk, OnErr, IsTrue, IsFalse, IsSome, Option, List, ℕ};
+ghost use Rattle.std.specs.Io.KnownBytes.{IsAtEnd};
+ghost use Rattle.table_model.specs.Faults.{read_limit};
+ghost use Rattle.table_model.specs.Table.{AreRows, row_limit};
+ghost use Rattle.csv_rows.specs.Reading.{at_start, to_come, AsKnown, Gave, NothingToCome, Refuses, Came, Counts};
+ghost use Rattle.csv_rows.specs.CsvText.{header_rows, rows_from};
+ghost use Rattle.csv_rows.specs.Line.{lines_of};
+ghost use Rattle.csv_rows.specs.RowReading.{ReadsOn, RefusesLines, RefusesHeader, NoLines};
+
+use crate::bytes::first_field;
+use crate::error::CsvError;
+use crate::lines::{Found, Lines};
+use crate::order::Order;
+use crate::row::push_row;
+use std::alloc::{AllocError, Global};
+use std::io::Read;
+use std::marker::Model;
+use table_model::{Column, Counted, READ_LIMIT, Refusal, Row, Rows, Schema};
+
+/// How many rows a batch has at most.
+const BATCH_ROWS: usize = 65_536;
+
+/// How many lines are read at most: each but the last has a byte at least.
+const TURNS: u64 = READ_LIMIT + 1;
+
+/// How much of a field is shown.
+const SHOWN: usize = 40;
+
+/// A reader of the rows of a text of comma-separated values. It keeps a line of the text, and a chunk of 65,536 bytes.
+#[derive(Drop)]
+pub struct CsvReader {
+    schema: Schema,
+    has_header: bool,
+    order: Option<Order>,
+    lines: Lines,
+}
+
+impl Model for CsvReader {
+    ghost use Rattle.std.specs.Prelude.{◌≡◌, ◌<◌, length, IfNone};
+    ghost use Rattle.csv_rows.specs.Reading.{Reading};
+
+    ghost Value = { Reading };
+
+    ghost view = { λ c. record { table = c.schema; has_header = c.has_header; order = c.order; number = c.lines.number; pending = c.lines.pending; given = c.lines.given } };
+
+    ghost invariant = { λ c. IfNone c.order ((c.lines.at ≡ 0) × (length c.lines.pending < 3) × (c.lines.number ≡ 0)) };
+}
+
+impl CsvReader {
+    /// A reader of rows of this schema, from the head of a text, whose first line names all columns if it is a header. It reads
+    /// nothing.
+    pub fn new(alloc: Global, schema: &Schema, has_header: bool) -> Result<CsvReader, AllocError>
+        ensures { IfOk result (λ csv. csv ≡ at_start schema.now has_header) }
+    {
+        let schema = schema.copy(alloc)?;
+        let lines = Lines::new(alloc)?;
+        Ok(CsvReader {
+            schema,
+            has_header,
+            order: None,
+            lines,
+        })
+    }
+
+    /// Reads the next rows: 65,536 of them, or fewer, maybe none, where they are the last.
+    ///
+    /// `BadCsv` and `LineTooLong` are the first fault of the text; `ReadFault` is answered only where the reader below failed or
+    /// gave more than 2^48 bytes. After an error only [`CsvReader::faulty_field`] is of use.
+    pub fn next_batch<R: Read>(
+        &mut self,
+        alloc: Global,
+        reader: &mut Counted<R>,
+    ) -> Result<Rows, CsvError>
+        ensures rows { IfOk result (λ rows. Gave self.old self.new rows (R.remaining reader.old.0) (R.remaining reader.new.0)) }
+        ensures fits { IfOk result (λ rows. AreRows self.old.table.columns rows) }
+        ensures limit { IfOk result (λ rows. length rows ≤ row_limit) }
+        ensures end { IfOk result (λ rows. length rows < row_limit → NothingToCome self.new (R.remaining reader.old.0) (R.remaining reader.new.0)) }
+        ensures further { IfOk result (λ rows. self.old.number + length rows ≤ self.new.number) }
+        ensures bound { OnOk result (self.new.number ≤ read_limit) }
+        ensures table { self.new.table ≡ self.old.table }
+        ensures fault { IfErr result (λ e. Refuses self.old e (R.remaining reader.old.0)) }
+        ensures came { Came self.old.given self.new.given (R.remaining reader.old.0) (R.remaining reader.new.0) }
+        ensures within { OnOk result (self.new.given ≤ read_limit) }
+        ensures kept { OnOk result (reader.new.1 ≡ reader.old.1) }
+        ensures counts { IfErr result (λ e. Counts (read_limit < self.new.given) e reader.old.1 reader.new.1) }
+    {
+        if self.lines.given() > READ_LIMIT {
+            return Err(CsvError::Refused(Refusal::ReadFault));
+        }
+        if self.order.is_none() {
+            self.begin(alloc, reader)?;
+        }
+        self.rows(alloc, reader)
+    }
+
+    /// The first 40 bytes of a field of the line that was read last, by its column, counted from 1: after `BadCsv` those of the
+    /// field at fault. There are none where the line has no such field.
+    pub fn faulty_field(&self, column: u64) -> &[u8]
+        ensures { length result.now ≤ 40 }
+    {
+        let field = field_at(self.lines.line(), column);
+        let (shown, _) = field.split_at(field.len().min(SHOWN));
+        shown
+    }
+
+    /// The place in the schema, from 0, of the column to which a field belongs, by the field's column in the text, counted from 1:
+    /// after `BadCsv` in a row that of the column which the faulty field stands below. None for a field of the header, and where a
+    /// line has no such field.
+    pub fn column_of(&self, column: u64) -> Option<usize>
+        ensures { IfSome result (λ place. IfSome self.now.order (λ order. slice_get order (column - 1) ≡ Some place)) }
+    {
+        if column == 0 || (self.has_header && self.lines.number() <= 1) {
+            return None;
+        }
+        match &self.order {
+            None => None,
+            Some(order) => order.places().get(column as usize - 1).copied(),
+        }
+    }
+
+    /// Passes over a byte order mark, and reads the header if there is one.
+    fn begin<R: Read>(&mut self, alloc: Global, reader: &mut Counted<R>) -> Result<(), CsvError>
+        requires { self.old.order ≡ None }
+        ensures begun { OnOk result (IsSome self.new.order) }
+        ensures rows { OnOk result (AsKnown (λ bytes rest. to_come self.old bytes ≡ to_come self.new rest) (R.remaining reader.old.0) (R.remaining reader.new.0)) }
+        ensures further { self.old.number ≤ self.new.number }
+        ensures table { self.new.table ≡ self.old.table }
+        ensures fault { IfErr result (λ e. Refuses self.old e (R.remaining reader.old.0)) }
+        ensures came { Came self.old.given self.new.given (R.remaining reader.old.0) (R.remaining reader.new.0) }
+        ensures within { OnOk result (self.old.given ≤ read_limit → self.new.given ≤ read_limit) }
+        ensures kept { OnOk result (reader.new.1 ≡ reader.old.1) }
+        ensures counts { IfErr result (λ e. Counts (read_limit < self.new.given) e reader.old.1 reader.new.1) }
+    {
+        let own = Order::own(alloc, self.schema.column_list())?;
+        self.lines.skip_mark(reader)?;
+        self.order = Some(own);
+        if !self.has_header {
+            return Ok(());
+        }
+        let order = read_order(alloc, self.schema.column_list(), &mut self.lines, reader)?;
+        self.order = Some(order);
+        Ok(())
+    }
+
+    /// Reads the next rows, once the order of the columns is known.
+    fn rows<R: Read>(&mut self, alloc: Global, reader: &mut Counted<R>) -> Result<Rows, CsvError>
+        requires begun { IsSome self.old.order }
+        requires within { self.old.given ≤ read_limit }
+        ensures rows { IfOk result (λ rows. Gave self.old self.new rows (R.remaining reader.old.0) (R.remaining reader.new.0)) }
+        ensures fits { IfOk result (λ rows. AreRows self.old.table.columns rows) }
+        ensures limit { IfOk result (λ rows. length rows ≤ row_limit) }
+        ensures end { IfOk result (λ rows. length rows < row_limit → NothingToCome self.new (R.remaining reader.old.0) (R.remaining reader.new.0)) }
+        ensures further { IfOk result (λ rows. self.old.number + length rows ≤ self.new.number) }
+        ensures bound { OnOk result (self.new.number ≤ read_limit) }
+        ensures table { self.new.table ≡ self.old.table }
+        ensures fault { IfErr result (λ e. Refuses self.old e (R.remaining reader.old.0)) }
+        ensures came { Came self.old.given self.new.given (R.remaining reader.old.0) (R.remaining reader.new.0) }
+        ensures within { OnOk result (self.new.given ≤ read_limit) }
+        ensures kept { OnOk result (reader.new.1 ≡ reader.old.1) }
+        ensures counts { IfErr result (λ e. Counts (read_limit < self.new.given) e reader.old.1 reader.new.1) }
+    {
+        let Some(order) = &self.order else {
+            return Ok(Rows::from_vec(Vec::new(alloc)));
+        };
+        let columns = self.schema.column_list();
+        let rows = read_rows(alloc, columns, order.places(), &mut self.lines, reader)?;
+        Ok(Rows::from_vec(rows))
+    }
+}
+
+/// The order of the columns that the first line, a header, gives.
+fn read_order<R: Read>(
+    alloc: Global,
+    columns: &[Column],
+    lines: &mut Lines,
+    reader: &mut Counted<R>,
+) -> Result<Order, CsvError>
+    ensures order { IfOk result (λ order. AsKnown (λ bytes rest. header_rows columns.now (lines_of (lines.old.pending ++ bytes)) ≡ rows_from columns.now order 2 (lines_of (lines.new.pending ++ rest))) (R.remaining reader.old.0) (R.remaining reader.new.0)) }
+    ensures number { IfOk result (λ _. lines.new.number ≡ suc lines.old.number) }
+    ensures further { lines.old.number ≤ lines.new.number }
+    ensures fault { IfErr result (λ e. RefusesHeader columns.now lines.old e (R.remaining reader.old.0)) }
+    ensures came { Came lines.old.given lines.new.given (R.remaining reader.old.0) (R.remaining reader.new.0) }
+    ensures within { OnOk result (lines.old.given ≤ read_limit → lines.new.given ≤ read_limit) }
+    ensures kept { OnOk result (reader.new.1 ≡ reader.old.1) }
+    ensures counts { IfErr result (λ e. Counts (read_limit < lines.new.given) e reader.old.1 reader.new.1) }
+{
+    match lines.advance(reader)? {
+        Found::Line => Order::of_header(alloc, columns, lines.line()),
+        Found::TooLong => Err(CsvError::LineTooLong { line: 1 }),
+        Found::End => Err(CsvError::BadCsv { line: 1, column: 0 }),
+    }
+}
+
+/// Reads a line, and puts its row behind the rows unless it is passed over; answers whether there was a line.
+fn read_line<R: Read>(
+    alloc: Global,
+    columns: &[Column],
+    order: &[usize],
+    lines: &mut Lines,
+    reader: &mut Counted<R>,
+    rows: &mut Vec<Row>,
+) -> Result<bool, CsvError>
+    requires { lines.old.given ≤ read_limit }
+    ensures rows { OnOk result (ReadsOn columns.now order.now lines.old lines.new rows.old.items rows.new.items (R.remaining reader.old.0) (R.remaining reader.new.0)) }
+    ensures fits { OnOk result (AreRows columns.now rows.old.items → AreRows columns.now rows.new.items) }
+    ensures len { OnOk result (length rows.new.items ≤ length rows.old.items + 1) }
+    ensures further { IfOk result (λ found. IsTrue found → (lines.new.number ≡ suc lines.old.number)) }
+    ensures end { IfOk result (λ found. IsFalse found → (rows.new.items ≡ rows.old.items) × (lines.new.number ≡ lines.old.number) × NoLines columns.now order.now lines.new (R.remaining reader.old.0) (R.remaining reader.new.0)) }
+    ensures fault { IfErr result (λ e. RefusesLines columns.now order.now lines.old e (R.remaining reader.old.0)) }
+    ensures bound { OnOk result (lines.new.number ≤ read_limit) }
+    ensures came { Came lines.old.given lines.new.given (R.remaining reader.old.0) (R.remaining reader.new.0) }
+    ensures within { OnOk result (lines.new.given ≤ read_limit) }
+    ensures kept { OnOk result (reader.new.1 ≡ reader.old.1) }
+    ensures counts { IfErr result (λ e. Counts (read_limit < lines.new.given) e reader.old.1 reader.new.1) }
+{
+    match lines.advance(reader)? {
+        Found::Line => {
+            push_row(alloc, columns, order, lines.number(), lines.line(), rows)?;
+            Ok(true)
+        }
+        Found::TooLong => Err(CsvError::LineTooLong {
+            line: lines.number() + 1,
+        }),
+        Found::End => Ok(false),
+    }
+}
+
+/// Reads rows until there are 65,536, or no more lines.
+fn read_rows<R: Read>(
+    alloc: Global,
+    columns: &[Column],
+    order: &[usize],
+    lines: &mut Lines,
+    reader: &mut Counted<R>,
+) -> Result<Vec<Row>, CsvError>
+    requires { lines.old.given ≤ read_limit }
+    ensures rows { IfOk result (λ rows. ReadsOn columns.now order.now lines.old lines.new [] rows.items (R.remaining reader.old.0) (R.remaining reader.new.0)) }
+    ensures fits { IfOk result (λ rows. AreRows columns.now rows.items) }
+    ensures limit { IfOk result (λ rows. length rows.items ≤ row_limit) }
+    ensures end { IfOk result (λ rows. length rows.items < row_limit → NoLines columns.now order.now lines.new (R.remaining reader.old.0) (R.remaining reader.new.0)) }
+    ensures further { IfOk result (λ rows. lines.old.number + length rows.items ≤ lines.new.number) }
+    ensures bound { OnOk result (lines.new.number ≤ read_limit) }
+    ensures fault { IfErr result (λ e. RefusesLines columns.now order.now lines.old e (R.remaining reader.old.0)) }
+    ensures came { Came lines.old.given lines.new.given (R.remaining reader.old.0) (R.remaining reader.new.0) }
+    ensures within { OnOk result (lines.new.given ≤ read_limit) }
+    ensures kept { OnOk result (reader.new.1 ≡ reader.old.1) }
+    ensures counts { IfErr result (λ e. Counts (read_limit < lines.new.given) e reader.old.1 reader.new.1) }
+{
+    let mut rows = Vec::new(alloc);
+    for _turn in 0..TURNS {
+        if !read_line(alloc, columns, order, lines, reader, &mut rows)? {
+            return Ok(rows);
+        }
+        if rows.len() >= BATCH_ROWS {
+            return Ok(rows);
+        }
+    }
+    Err(CsvError::Refused(Refusal::ReadFault))
+}
+
+/// A field of a line, by its column, counted from 1.
+fn field_at(line: &[u8], column: u64) -> &[u8] {
+    let mut at: u64 = 1;
+    let mut rest = line;
+    while let (field, Some(after)) = first_field(rest) {
+        if at >= column {
+            return field;
+        }
+        at += 1;
+        rest = after;
+    }
+    if at >= column { rest } else { b"" }
+}

@@ -1,0 +1,11 @@
+//! Tests of csv_rows: texts and their rows or first faults, worked out by hand, and where a reader, a writer or a growth fails.
+#![tactic(auto)]
+
+#[cfg(test)]
+mod limit_tests;
+#[cfg(test)]
+mod refused_tests;
+#[cfg(test)]
+mod stop_tests;
+#[cfg(test)]
+mod tests;

@@ -1,0 +1,10 @@
+pub mod CommandSteps
+pub mod CsvLoading
+pub mod DrawnNames
+pub mod DumpLines
+pub mod FileLaws
+pub mod FileMerges
+pub mod Imports
+pub mod LoadedBatches
+pub mod OperationSets
+pub mod StoreCommands

@@ -1,0 +1,242 @@
+-- What each command answers and makes of a store's replica, from what the store's calls answered.
+use Rattle.std.specs.Prelude.{◌≡◌, ◌≢◌, ◌⊎◌, ℕ, suc, ◌≤◌, ◌-◌, Bool, true, false, cond, not, ◌||◌, ◌==◌, nat_lt, List, [], ◌∷◌, length, Option, Some, None, Result, Ok, Err, IsTrue, IsOk, IfErr}
+use Rattle.std.proofs.Common.{refl, sym, ap, subst, ◌∙◌, inl, inr, arith, drop, get_or}
+use Rattle.std.proofs.lemmas.Bool.Decides.{nat_tests}
+use Rattle.std.proofs.lemmas.List.Sums.{list_all-from_AllPass}
+use Rattle.std.specs.List.{All, list_all}
+use Rattle.std.specs.FinMap as map
+use Rattle.std.specs.FinSet as set
+use Rattle.table_model.specs.Name.{name_cmp, row_name_cmp, is_proper_name}
+use Rattle.table_model.specs.Reading.{◌>>=◌}
+use Rattle.table_model.specs.State.{State, Batch, union_of, join}
+use Rattle.table_model.specs.Table.{same_table}
+use Rattle.table_model.specs.Outcome.{Acts}
+use Rattle.table_model.specs.declared.names.BatchName.{BatchName}
+use Rattle.table_model.specs.declared.names.RowName.{RowName}
+use Rattle.table_model.specs.declared.refusal.Refusal.{Refusal}
+use Rattle.table_model.specs.declared.refusal.Refusal.TheVariants.{Memory, ReadFault, WriteFault, BadName, BadRange, SchemaDiffers, Conflict, Full, NumbersSpent}
+use Rattle.table_model.proofs.NameOrder.{row_names_total, exact_row_names}
+use Rattle.replica_store.specs.Exchange.{OfferForm, applied, offering}
+use Rattle.replica_store.specs.Replica.{Replica, with_deleted, with_join, deleted_names, names_fault, deleted_rows, delete_fault, rows_between, unless_fault, merged, merge_fault, conflict_or_full, conflict_with, entries_of, batch_limit}
+use Rattle.replica_store.proofs.Limits.{ok_unless, same_Ok}
+use Rattle.replica_store.proofs.Idle.{absorbs}
+use Rattle.replica_store.proofs.MergeAnswers.{made_of, is_merge}
+use Rattle.replica_store.proofs.Merges.{union-same}
+use Rattle.store_view.specs.Asked.{condition_names, is_refusal_of_condition}
+use Rattle.column_file.specs.Files.{ranges_of}
+use Rattle.column_file.proofs.RangeLists.{ranges_are}
+use Rattle.catalogue_join.specs.RowRange.{RowRange, AreMaximal, rows_in}
+use Rattle.replica_files.specs.Commands.{Made, Makes, Deletes, deleting, applied_all, applying, is_uncounted}
+
+-- ---- deletes by a condition
+
+union_none : (s : set.FinSet row_name_cmp) → set.union s (set.from_list []) ≡ s
+union_none s = set.same_set row_names_total exact_row_names (set.union s (set.from_list [])) s (λ q.
+    set.contains-union row_names_total s (set.from_list []) q
+    ∙ ap (λ (b : Bool). set.contains s q || b) (set.contains-from_list row_names_total [] q)
+    ∙ or_none (set.contains s q))
+  where
+    or_none : (b : Bool) → (b || false) ≡ b
+    or_none true = refl
+    or_none false = refl
+
+none_of : (names : List RowName) (count : ℕ) → count ≡ length names → not (count == 0) ≡ false → names ≡ []
+none_of [] count is e = refl
+none_of (name ∷ names) count is e = absurd (some (length names) (subst (λ (n : ℕ). not (n == 0) ≡ false) is e))
+  where
+    some : (n : ℕ) → not (suc n == 0) ≡ false → ⊥
+    some n e =
+        let apart : (suc n == 0) ≡ false = grind (arith, nat_tests) in
+        let bad : true ≡ false = sym (ap not apart) ∙ e in cc
+
+-- rows that were found and deleted
+pub deletes_ok : {X : Type 0} (view : X → ℕ) (x : X) (text : List ℕ) (r new : Replica) (names slice : List RowName) (u : Unit {0}) → condition_names text r.schema r.state ≡ Ok names → slice ≡ names → view x ≡ length names
+    → deleted_names r slice ≡ Ok (u, new) → Makes view (λ (d : X). not (view d == 0)) r (Ok x) new (deleting text r)
+deletes_ok view x text r new names slice u finds same counted e =
+    let deleted : with_deleted r names ≡ new = ap (with_deleted r) (sym same) ∙ made_of tt u (with_deleted r slice) new (ok_unless (names_fault slice) (Ok (tt, with_deleted r slice)) (u, new) e).1 in (
+      ap (λ (found : Result (List RowName) Refusal). found >>= λ (rows : List RowName). let made : Made ℕ = Ok (length rows, with_deleted r rows) in made) finds
+          ∙ (λ i. let made : Made ℕ = Ok (sym counted i, deleted i) in made),
+      λ none. sym deleted ∙ ap (with_deleted r) (none_of names (view x) counted none) ∙ (λ i. record { schema = r.schema; own = r.own; state = record { batches = r.state.batches; deleted = union_none r.state.deleted i } }),
+    )
+
+-- a condition that was refused
+pub deletes_refused : {X : Type 0} (view : X → ℕ) (e : Refusal) (text : List ℕ) (r new : Replica) → (condition_names text r.schema r.state ≡ Err e) ⊎ (e ≡ Memory)
+    → Makes {X = X} view (λ (d : X). not (view d == 0)) r (Err e) new (deleting text r)
+deletes_refused view e text r new (inl refused) = inl (ap (λ (found : Result (List RowName) Refusal). found >>= λ (rows : List RowName). let made : Made ℕ = Ok (length rows, with_deleted r rows) in made) refused)
+deletes_refused view e text r new (inr lacks) = inr lacks
+
+-- a delete of rows that have proper names is refused for want of memory alone
+pub only_memory : (r : Replica) (names slice : List RowName) (e : Refusal) → All (λ (row : RowName). IsTrue (is_proper_name row.batch)) names → slice ≡ names
+    → (deleted_names r slice ≡ Err e) ⊎ ((e ≡ Memory) × IsOk (deleted_names r slice)) → e ≡ Memory
+unfolding names_fault
+only_memory r names slice e proper same (inr lack) = lack.0
+only_memory r names slice e proper same (inl refused) =
+    let all : list_all (λ (row : RowName). is_proper_name row.batch) names ≡ true = list_all-from_AllPass (λ (row : RowName). is_proper_name row.batch) names proper in
+    let bad : ◌≡◌ {A = Result (Unit {0} × Replica) Refusal} (Ok (tt, with_deleted r names)) (Err e) =
+    sym (ap (λ (b : Bool). unless_fault {X = Unit {0} × Replica} (cond b None (Some BadName)) (Ok (tt, with_deleted r names))) all) ∙ ap (deleted_names r) (sym same) ∙ refused in cc
+
+pub condition_uncounted : (e : Refusal) → IsTrue (is_refusal_of_condition e) → IsTrue (is_uncounted e)
+condition_uncounted ReadFault listed = listed
+condition_uncounted WriteFault listed = listed
+condition_uncounted other listed = refl
+
+pub memory_uncounted : (e : Refusal) → e ≡ Memory → IsTrue (is_uncounted e)
+memory_uncounted e is = ap is_uncounted is
+
+-- ---- deletes of ranges
+
+same_union : (xs : List RowName) → set.union set.empty (set.from_list xs) ≡ set.from_list {R = row_name_cmp} xs
+same_union xs = set.same_set row_names_total exact_row_names (set.union set.empty (set.from_list xs)) (set.from_list xs) (λ q.
+    set.contains-union row_names_total set.empty (set.from_list xs) q ∙ ap (λ (b : Bool). b || set.contains {R = row_name_cmp} (set.from_list xs) q) (set.contains-from_list row_names_total [] q))
+
+deletions_same : (ours theirs : set.FinSet row_name_cmp) → set.is_subset theirs ours ≡ true → set.union ours theirs ≡ ours
+deletions_same ours theirs within =
+    set.same_set row_names_total exact_row_names (set.union ours theirs) ours
+    (λ q. set.contains-union row_names_total ours theirs q ∙ absorbs (set.contains ours q) (set.contains theirs q) (set.is_subset-contains row_names_total theirs ours within q))
+
+not_not : (b : Bool) → not b ≡ false → b ≡ true
+not_not true e = refl
+not_not false e = cc
+
+-- rows all of which were deleted before
+pub brings_none : (deleted more : set.FinSet row_name_cmp) (first : RowName) (last : ℕ) (has : Bool) → more ≡ set.union set.empty (set.from_list (rows_between first last)) → has ≡ set.is_subset more deleted → Deletes deleted first last (not has)
+brings_none deleted more first last has is test none =
+    let within : set.is_subset more deleted ≡ true = sym test ∙ not_not has none in
+    let rows : set.is_subset (set.from_list (rows_between first last)) deleted ≡ true = ap (λ (s : set.FinSet row_name_cmp). set.is_subset s deleted) (sym (is ∙ same_union (rows_between first last))) ∙ within in
+    deletions_same deleted (set.from_list (rows_between first last)) rows
+
+pub brings_some : (deleted : set.FinSet row_name_cmp) (first : RowName) (last : ℕ) → Deletes deleted first last true
+brings_some deleted first last e = cc
+
+pub range_ok : {X : Type 0} (changed : X → Bool) (x : X) (r new : Replica) (first : RowName) (last : ℕ) (u : Unit {0}) → Deletes r.state.deleted first last (changed x) → deleted_rows r first last ≡ Ok (u, new)
+    → Makes {X = X} (λ done. tt) changed r (Ok x) new (deleted_rows r first last)
+range_ok changed x r new first last u idle e =
+    let met = ok_unless (delete_fault first last) (Ok (tt, with_deleted r (rows_between first last))) (u, new) e in
+    let made : with_deleted r (rows_between first last) ≡ new = made_of tt u (with_deleted r (rows_between first last)) new met.1 in
+    (e, λ none. sym made ∙ (λ i. record { schema = r.schema; own = r.own; state = record { batches = r.state.batches; deleted = idle none i } }))
+
+range_is : (first : RowName) (last : ℕ) (r : Replica) (o : Option Refusal) (e : Refusal) → unless_fault {X = Unit {0} × Replica} o (Ok (tt, r)) ≡ Err e → o ≡ Some e
+range_is first last r None e is = cc
+range_is first last r (Some fault) e is = cc
+
+range_fault : (a b : Bool) (e : Refusal) → cond a (cond b (Some (BadRange 0)) None) (Some BadName) ≡ Some e → IsTrue (is_uncounted e)
+range_fault true true e is = let same : BadRange 0 ≡ e = cc in ap is_uncounted (sym same)
+range_fault true false e is = cc
+range_fault false b e is = let same : BadName ≡ e = cc in ap is_uncounted (sym same)
+
+pub range_uncounted : (r new : Replica) (first : RowName) (last : ℕ) (e : Refusal) → (deleted_rows r first last ≡ Err e) ⊎ ((e ≡ Memory) × IsOk (deleted_rows r first last)) → IsTrue (is_uncounted e)
+unfolding delete_fault
+range_uncounted r new first last e (inl refused) =
+    range_fault (is_proper_name first.batch) (nat_lt last first.ordinal) e (range_is first last (with_deleted r (rows_between first last)) (delete_fault first last) e refused)
+range_uncounted r new first last e (inr lack) = memory_uncounted e lack.0
+
+-- a call that acts on a replica, refused
+pub acts_refused : {X Y : Type 0} (view : X → Y) (changed : X → Bool) (r new : Replica) (e : Refusal) (made : Made Y) → (made ≡ Err e) ⊎ ((e ≡ Memory) × IsOk made) → Makes {X = X} view changed r (Err e) new made
+acts_refused view changed r new e made (inl refused) = inl refused
+acts_refused view changed r new e made (inr lack) = inr lack.0
+
+-- ---- offers
+
+or_left : (a b : Bool) → (a || b) ≡ false → a ≡ false
+or_left true b e = cc
+or_left false b e = refl
+
+or_right : (a b : Bool) → (a || b) ≡ false → b ≡ false
+or_right true b e = cc
+or_right false b e = e
+
+not_more : (m n : ℕ) → nat_lt m n ≡ false → n ≤ m
+not_more m n e = grind (arith, nat_tests, e)
+
+-- a merge that brings no batch and no deletion leaves the replica
+merge_same : (r other new : Replica) (u : Unit {0}) → merged r other ≡ Ok (u, new) → nat_lt (map.len r.state.batches) (map.len new.state.batches) ≡ false → set.is_subset other.state.deleted r.state.deleted ≡ true → new ≡ r
+merge_same r other new u e few within =
+    let m = is_merge r other new e in
+    let count : map.len (union_of r.state.batches other.state.batches) ≤ map.len r.state.batches =
+    not_more (map.len r.state.batches) (map.len (union_of r.state.batches other.state.batches)) (ap (λ (x : Replica). nat_lt (map.len r.state.batches) (map.len x.state.batches)) m.made ∙ few) in
+    let batches = union-same r.state.batches other.state.batches count in
+    let deleted = deletions_same r.state.deleted other.state.deleted within in
+    sym m.made ∙ (λ i. record { schema = r.schema; own = r.own; state = record { batches = batches i; deleted = deleted i } })
+
+-- an offer that was applied, and had no deletion that was lacked
+pub offer_ok : (r new : Replica) (offer : OfferForm) (u : Unit {0}) (has : Bool) (before after : ℕ) → applied r offer ≡ Ok (u, new) → has ≡ set.is_subset offer.state.deleted r.state.deleted → not has ≡ false
+    → before ≡ map.len r.state.batches → after ≡ map.len new.state.batches → nat_lt before after ≡ false → new ≡ r
+offer_ok r new offer u has before after e test all count later few =
+    merge_same r (offering r.own offer) new u e (sym (λ i. nat_lt (count i) (later i)) ∙ few) (sym test ∙ not_not has all)
+
+merge_fault_of : (a : Bool) (r other : Replica) (o : Option BatchName) (e : Refusal) → cond a (conflict_or_full r other o) (Some SchemaDiffers) ≡ Some e → IsTrue (is_uncounted e)
+merge_fault_of false r other o e is = let same : SchemaDiffers ≡ e = cc in ap is_uncounted (sym same)
+merge_fault_of true r other (Some name) e is = let same : Conflict name ≡ e = cc in ap is_uncounted (sym same)
+merge_fault_of true r other None e is = full (nat_lt batch_limit (map.len (union_of r.state.batches other.state.batches))) is
+  where
+    full : (b : Bool) → cond b (Some Full) None ≡ Some e → IsTrue (is_uncounted e)
+    full true is = let same : Full ≡ e = cc in ap is_uncounted (sym same)
+    full false is = cc
+
+merged_fault : (o : Option Refusal) (r : Replica) (e : Refusal) → unless_fault {X = Unit {0} × Replica} o (Ok (tt, r)) ≡ Err e → o ≡ Some e
+merged_fault None r e is = cc
+merged_fault (Some fault) r e is = cc
+
+pub merge_uncounted : (r other : Replica) (e : Refusal) → (merged r other ≡ Err e) ⊎ ((e ≡ Memory) × IsOk (merged r other)) → IsTrue (is_uncounted e)
+unfolding merge_fault
+merge_uncounted r other e (inl refused) =
+    merge_fault_of (same_table r.schema other.schema) r other (conflict_with r.state.batches (entries_of other)) e (merged_fault (merge_fault r other) (with_join r other) e refused)
+merge_uncounted r other e (inr lack) = memory_uncounted e lack.0
+
+-- offers that were applied so far: the rest is applied to what they made
+pub record AppliedSoFar (start now : Replica) (all left : List OfferForm) (is_changed : Bool) : Type 0 where
+  pub rest : applied_all start all ≡ applied_all now left
+  pub same : is_changed ≡ false → now ≡ start
+
+pub applied_next : (start now next : Replica) (all left : List OfferForm) (offer : OfferForm) (was is both : Bool) → AppliedSoFar start now all (offer ∷ left) was
+    → Makes (λ is_changed. tt) (λ (is_changed : Bool). is_changed) now (Ok is) next (applied now offer) → both ≡ (was || is) → AppliedSoFar start next all left both
+applied_next start now next all left offer was is both so made joined = record {
+  rest = so.rest ∙ ap (λ (x : Made (Unit {0})). x >>= λ (done : Unit {0} × Replica). applied_all done.1 left) made.0;
+  same = λ none. let split : (was || is) ≡ false = sym joined ∙ none in made.1 (or_right was is split) ∙ so.same (or_left was is split);
+}
+
+pub applied_stops : (start now new : Replica) (all left : List OfferForm) (offer : OfferForm) (was : Bool) (e : Refusal) → AppliedSoFar start now all (offer ∷ left) was
+    → Makes {X = Bool} (λ is_changed. tt) (λ (is_changed : Bool). is_changed) now (Err e) new (applied now offer) → Makes {X = Bool} (λ is_changed. tt) (λ (is_changed : Bool). is_changed) start (Err e) new (applied_all start all)
+applied_stops start now new all left offer was e so (inl refused) = inl (so.rest ∙ ap (λ (x : Made (Unit {0})). x >>= λ (done : Unit {0} × Replica). applied_all done.1 left) refused)
+applied_stops start now new all left offer was e so (inr lack) = inr lack
+
+pub applied_whole : (start now : Replica) (all : List OfferForm) (is : Bool) → AppliedSoFar start now all [] is → Makes (λ is_changed. tt) (λ (is_changed : Bool). is_changed) start (Ok is) now (applied_all start all)
+applied_whole start now all is so = (so.rest, so.same)
+
+-- what is told once they were
+pub told_applied : (old new : Replica) (offers : List OfferForm) (is : Bool) (ranges : List RowRange) (count : ℕ)
+    → Makes (λ is_changed. tt) (λ (is_changed : Bool). is_changed) old (Ok is) new (applied_all old offers) → AreMaximal ranges → rows_in ranges ≡ new.state.deleted → count ≡ map.len new.state.batches
+    → applying offers old ≡ Ok ((count, length ranges), new)
+told_applied old new offers is ranges count made maximal rows batches =
+    ap (λ (m : Made (Unit {0})). m >>= λ (done : Unit {0} × Replica). let made : Made (ℕ × ℕ) = Ok ((map.len done.1.state.batches, length (ranges_of done.1.state.deleted)), done.1) in made) made.0
+    ∙ (λ i. let made : Made (ℕ × ℕ) = Ok ((sym batches i, length (ranges_are ranges new.state.deleted maximal rows i)), new) in made)
+
+pub untold_applied : {X : Type 0} (view : X → ℕ × ℕ) (changed : X → Bool) (old new : Replica) (offers : List OfferForm) (e : Refusal)
+    → Makes {X = Bool} (λ is_changed. tt) (λ (is_changed : Bool). is_changed) old (Err e) new (applied_all old offers) → Makes {X = X} view changed old (Err e) new (applying offers old)
+untold_applied view changed old new offers e (inl refused) = inl (ap (λ (m : Made (Unit {0})). m >>= λ (done : Unit {0} × Replica). let made : Made (ℕ × ℕ) = Ok ((map.len done.1.state.batches, length (ranges_of done.1.state.deleted)), done.1) in made) refused)
+untold_applied view changed old new offers e (inr lack) = inr lack
+
+-- ---- what a merge of files may be refused as
+
+not_write : (e : Refusal) → IsTrue (is_uncounted e) → e ≢ WriteFault
+not_write e listed is = let bad : false ≡ true = sym (ap is_uncounted is) ∙ listed in cc
+
+pub merge_unwritten : (r other new : Replica) (result : Result (Unit {0}) Refusal) → Acts (λ (done : Unit {0}). done) r result new (merged r other) → IfErr result (λ e. e ≢ WriteFault)
+merge_unwritten r other new (Ok done) acts = tt
+merge_unwritten r other new (Err e) acts = not_write e (merge_uncounted r other e acts.1)
+
+-- ---- a merge that brings no deletion
+
+none_within : (s : set.FinSet row_name_cmp) → set.is_subset set.empty s ≡ true
+none_within s = set.contains-is_subset row_names_total set.empty s (λ q one. let no : false ≡ true = sym (set.contains-from_list row_names_total [] q) ∙ one in absurd (clash no))
+  where
+    clash : false ≡ true → ⊥
+    clash e = cc
+
+no_new : (m n : ℕ) → not (n - m == 0) ≡ false → nat_lt m n ≡ false
+no_new m n e = grind (arith, nat_tests, e)
+
+-- where no batch is new either, the replica stays
+pub merge_kept : (r other new : Replica) (u : Unit {0}) → merged r other ≡ Ok (u, new) → other.state.deleted ≡ set.empty → not (map.len new.state.batches - map.len r.state.batches == 0) ≡ false → new ≡ r
+merge_kept r other new u e none few =
+    merge_same r other new u e (no_new (map.len r.state.batches) (map.len new.state.batches) few) (ap (λ (d : set.FinSet row_name_cmp). set.is_subset d r.state.deleted) none ∙ none_within r.state.deleted)

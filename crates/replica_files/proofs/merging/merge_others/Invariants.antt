@@ -1,0 +1,6 @@
+-- The files before this one are merged, and the readers from here on are as they were.
+use Rattle.replica_files.proofs.FileMerges.{MergedSoFar}
+use Rattle.replica_files.proofs.merging.merge_others.Given as goal
+
+abbrev pub invariant-loop-index : goal.invariant-loop-index
+invariant-loop-index g l = MergedSoFar g.R.Read.remaining l.initial.store.replica l.store.replica l.initial.readers l.readers l.index

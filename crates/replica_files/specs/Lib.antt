@@ -1,0 +1,5 @@
+pub mod Commands
+pub mod CsvLoads
+pub mod Dumps
+pub mod FileLaws
+pub mod Loads

@@ -1,0 +1,87 @@
+//! Applying offers to a replica in a file.
+ghost use Rattle.std.specs.Prelude.{◌≡◌, ◌≢◌, map, IsTrue, IfErr, OnOk};
+ghost use Rattle.std.specs.Io.KnownBytes.{IsAtEnd};
+ghost use Rattle.table_model.specs.Faults.{IsWithin, GaveMore, CountsBoth};
+ghost use Rattle.table_model.specs.declared.refusal.Refusal.TheVariants.{WriteFault};
+ghost use Rattle.replica_store.specs.Exchange.{applied};
+ghost use Rattle.replica_files.specs.Commands.{Changes, Makes, applied_all, applying, is_uncounted};
+
+use crate::file_writing::write_changed;
+use column_file::open;
+use replica_store::{Offer, Store};
+use std::alloc::Global;
+use std::io::{Read, Write};
+use table_model::{Counted, Origin, Refusal};
+
+/// What a file has once offers were applied to it.
+#[derive(Clone, Copy, Debug, PartialEq, Eq)]
+pub struct Applied {
+    /// How many batches, at most 1,048,576.
+    pub batches: u32,
+    /// How many maximal ranges of deleted rows.
+    pub ranges: u64,
+    /// Whether one of the offers had something that the file lacked, so that the file has changed.
+    pub is_changed: bool,
+}
+
+/// Applies an offer to a store; answers whether the store has changed.
+fn apply_one(alloc: Global, store: &mut Store, offer: &Offer) -> Result<bool, Refusal>
+    ensures makes { Makes (λ is_changed. tt) (λ is_changed. is_changed) store.old.replica result store.new.replica (applied store.old.replica offer.now) }
+    ensures uncounted { IfErr result (λ e. IsTrue (is_uncounted e)) }
+{
+    let batches = store.batches();
+    let deletes_more = !store.tombs().has_all(offer.tombs());
+    store.apply(alloc, offer)?;
+    Ok(deletes_more || batches < store.batches())
+}
+
+/// Applies offers to a store, one after another; answers whether the store has changed.
+fn apply_all(alloc: Global, store: &mut Store, offers: &[Offer]) -> Result<bool, Refusal>
+    ensures makes { Makes (λ is_changed. tt) (λ is_changed. is_changed) store.old.replica result store.new.replica (applied_all store.old.replica offers.now) }
+    ensures uncounted { IfErr result (λ e. IsTrue (is_uncounted e)) }
+{
+    let mut is_changed = false;
+    for offer in offers {
+        if apply_one(alloc, store, offer)? {
+            is_changed = true;
+        }
+    }
+    Ok(is_changed)
+}
+
+/// Applies offers to a store, one after another, and tells what the store has then.
+fn apply_offers(alloc: Global, store: &mut Store, offers: &[Offer]) -> Result<Applied, Refusal>
+    ensures makes { Makes (λ done. (done.batches, done.ranges)) (λ done. done.is_changed) store.old.replica result store.new.replica (applying offers.now store.old.replica) }
+    ensures uncounted { IfErr result (λ e. IsTrue (is_uncounted e)) }
+{
+    let is_changed = apply_all(alloc, store, offers)?;
+    Ok(Applied {
+        batches: store.batches() as u32,
+        ranges: store.tombs().ranges().len() as u64,
+        is_changed,
+    })
+}
+
+/// Applies offers to what a file holds, one after another, and writes the file anew where it changed: all of them, or none.
+///
+/// Refused are, in this order, what [`open`] refuses; and then offer by offer `SchemaDiffers`, `Conflict` with the least name that
+/// has two lists of rows, and `Full`; `Memory`, which may come in the place of any of them; `WriteFault`. Only with the last anything
+/// is written: a front.
+pub fn apply<R: Read, W: Write>(
+    alloc: Global,
+    reader: &mut Counted<R>,
+    offers: &[Offer],
+    writer: &mut Counted<W>,
+) -> Result<Applied, Refusal>
+    ensures made { Changes (λ done. (done.batches, done.ranges)) (λ done. done.is_changed) result (R.remaining reader.old.0) (W.contents writer.old.0) (W.contents writer.new.0) (applying offers.now) }
+    ensures unwritten { IfErr result (λ e. e ≢ WriteFault → W.contents writer.new.0 ≡ W.contents writer.old.0) }
+    ensures end { OnOk result (IsAtEnd (R.remaining reader.new.0)) }
+    ensures within { OnOk result (IsWithin (R.remaining reader.old.0)) }
+    ensures kept { OnOk result ((reader.new.1 ≡ reader.old.1) × (writer.new.1 ≡ writer.old.1)) }
+    ensures fault { IfErr result (λ e. CountsBoth (GaveMore (R.remaining reader.old.0) (R.remaining reader.new.0)) e reader.old.1 reader.new.1 writer.old.1 writer.new.1) }
+{
+    let mut store = open(alloc, reader, Origin(1))?;
+    let done = apply_offers(alloc, &mut store, offers)?;
+    write_changed(alloc, &store, done.is_changed, writer)?;
+    Ok(done)
+}

@@ -1,0 +1,53 @@
+//! Reading a text of comma-separated values into a load.
+ghost use Rattle.std.specs.Prelude.{◌≡◌, IfErr, OnOk};
+ghost use Rattle.replica_files.specs.CsvLoads.{LoadsRows, RefusesText, last_batch, with_batches, IsRefused};
+
+use crate::load::Load;
+use csv_rows::{CsvError, CsvReader};
+use std::alloc::Global;
+use std::io::Read;
+use table_model::{Counted, READ_LIMIT, Refusal, Rows};
+
+/// How many rows a batch has at most.
+const BATCH_ROWS: usize = 65_536;
+
+/// How many batches are read at most: each but the last has rows, and each row takes a byte at least.
+const ROUNDS: u64 = READ_LIMIT + 2;
+
+/// Adds rows to a load as one more batch, unless there are none.
+fn add_rows(alloc: Global, load: &mut Load, rows: &Rows) -> Result<(), CsvError>
+    ensures added { OnOk result (load.new ≡ with_batches load.old (last_batch rows.now)) }
+    ensures refused { IfErr result IsRefused }
+{
+    if rows.as_slice().is_empty() {
+        return Ok(());
+    }
+    match load.add(alloc, rows.as_slice()) {
+        Ok(()) => Ok(()),
+        Err(refusal) => Err(CsvError::Refused(refusal)),
+    }
+}
+
+/// Reads the rows of a text to its end, and adds them to a load as batches of 65,536 rows, the last one shorter, in the order of the
+/// lines.
+///
+/// Refused is the text's first fault; else, with `Refused`, `Full` where there are more than 1,048,576 batches, or what a batch of
+/// another table is refused as; a want of memory and a failed read.
+pub fn read_csv<R: Read>(
+    alloc: Global,
+    csv: &mut CsvReader,
+    reader: &mut Counted<R>,
+    load: &mut Load,
+) -> Result<(), CsvError>
+    ensures loaded { OnOk result (LoadsRows csv.old (R.remaining reader.old.0) load.old load.new) }
+    ensures fault { IfErr result (λ e. RefusesText csv.old e (R.remaining reader.old.0)) }
+{
+    for _round in 0..ROUNDS {
+        let rows = csv.next_batch(alloc, reader)?;
+        add_rows(alloc, load, &rows)?;
+        if rows.as_slice().len() < BATCH_ROWS {
+            return Ok(());
+        }
+    }
+    Err(CsvError::Refused(Refusal::ReadFault))
+}

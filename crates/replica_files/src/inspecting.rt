@@ -1,0 +1,182 @@
+//! Telling what a file holds: its counts, and a line a column.
+ghost use Rattle.std.specs.Prelude.{◌≡◌, ◌≢◌, ◌<◌, length, IfErr, OnOk};
+ghost use Rattle.std.specs.Io.KnownBytes.{IsAtEnd};
+ghost use Rattle.table_model.specs.Faults.{IsWithin};
+ghost use Rattle.table_model.specs.declared.refusal.Refusal.TheVariants.{WriteFault};
+
+use crate::columns_text::{Line, aligned};
+use crate::stored::{file_bytes, parts_of, stored_rows};
+use column_file::open;
+use replica_store::Store;
+use std::alloc::{AllocError, Global};
+use std::io::{Read, Write};
+use store_view::ask;
+use table_model::{Column, Counted, Field, Origin, Refusal};
+
+/// The headings of the lines of columns.
+const HEADINGS: [&str; 11] = [
+    "COLUMN", "TYPE", "NULLS", "VALUES", "LEAST", "GREATEST", "FOR", "DELTA", "RLE", "DICT", "BITS",
+];
+
+/// The figures of a column's live rows.
+#[derive(Drop)]
+struct LiveFigures {
+    fields: Vec<Field>,
+}
+
+impl LiveFigures {
+    /// What a query says of the column: how many live rows there are, how many of them aren't null there, the least and the greatest
+    /// value.
+    fn of(alloc: Global, store: &Store, column: &Column) -> Result<LiveFigures, Refusal> {
+        let name = column.name();
+        let table = store.schema().table();
+        let sql = format!(in alloc;
+            "SELECT COUNT(*),COUNT({name}),MIN({name}),MAX({name}) FROM {table}"
+        )?;
+        let answer = ask(alloc, store, sql.as_str())?;
+        let mut fields = Vec::new(alloc);
+        if let Some((row, _)) = answer.rows().split_first() {
+            fields.extend_from_slice(row.fields())?;
+        }
+        Ok(LiveFigures { fields })
+    }
+
+    /// A count, from the left and from 0.
+    fn count(&self, index: usize) -> i128 {
+        match self.fields.get(index) {
+            Some(Field::Whole(value)) => *value,
+            _ => 0,
+        }
+    }
+
+    /// A value as it is written, and `-` where there is none.
+    fn value(&self, alloc: Global, index: usize) -> Result<String, AllocError> {
+        match self.fields.get(index) {
+            Some(Field::Whole(value)) => format!(in alloc; "{value}"),
+            _ => String::from_str(alloc, "-"),
+        }
+    }
+}
+
+/// How many bits a stored value takes, with two decimals: the bytes of a column's vectors by the rows that are stored.
+fn bits_text(alloc: Global, bytes: u64, rows: u64) -> Result<String, AllocError> {
+    if rows == 0 {
+        return String::from_str(alloc, "-");
+    }
+    let hundredths = u128::from(bytes) * 800 / u128::from(rows);
+    let whole = hundredths / 100;
+    let part = hundredths % 100;
+    format!(in alloc; "{whole}.{part:02}")
+}
+
+/// Puts the name, the type and the live figures of a column behind cells.
+fn push_live(
+    alloc: Global,
+    cells: &mut Vec<String>,
+    store: &Store,
+    column: &Column,
+) -> Result<(), Refusal> {
+    let figures = LiveFigures::of(alloc, store, column)?;
+    let column_type = column.column_type();
+    let values = figures.count(1);
+    let nulls = figures.count(0).saturating_sub(values);
+    cells.push(String::from_str(alloc, column.name())?)?;
+    cells.push(format!(in alloc; "{column_type}")?)?;
+    cells.push(format!(in alloc; "{nulls}")?)?;
+    cells.push(format!(in alloc; "{values}")?)?;
+    cells.push(figures.value(alloc, 2)?)?;
+    cells.push(figures.value(alloc, 3)?)?;
+    Ok(())
+}
+
+/// The line of a column.
+fn column_line(alloc: Global, store: &Store, index: usize) -> Result<Line, Refusal>
+    requires { index < length store.now.replica.schema.columns }
+{
+    let mut cells = Vec::with_capacity(alloc, HEADINGS.len())?;
+    push_live(alloc, &mut cells, store, store.schema().column(index))?;
+    let parts = parts_of(store, index);
+    for count in [parts.frames, parts.deltas, parts.runs, parts.dictionaries] {
+        cells.push(format!(in alloc; "{count}")?)?;
+    }
+    cells.push(bits_text(alloc, parts.bytes, stored_rows(store))?)?;
+    Ok(Line::from_cells(cells))
+}
+
+/// The line of the headings.
+fn heading_line(alloc: Global) -> Result<Line, AllocError> {
+    let mut cells = Vec::with_capacity(alloc, HEADINGS.len())?;
+    for heading in HEADINGS {
+        cells.push(String::from_str(alloc, heading)?)?;
+    }
+    Ok(Line::from_cells(cells))
+}
+
+/// The lines of all columns, in the schema's order.
+fn column_lines(alloc: Global, store: &Store) -> Result<Vec<Line>, Refusal> {
+    let columns = store.schema().columns();
+    let mut lines = Vec::with_capacity(alloc, columns)?;
+    for index in 0..columns {
+        lines.push(column_line(alloc, store, index)?)?;
+    }
+    Ok(lines)
+}
+
+/// How many rows of a table are live.
+fn live_rows(alloc: Global, store: &Store) -> Result<i128, Refusal> {
+    let table = store.schema().table();
+    let sql = format!(in alloc; "SELECT COUNT(*) FROM {table}")?;
+    let answer = ask(alloc, store, sql.as_str())?;
+    match answer.rows().split_first() {
+        Some((row, _)) => Ok(count_in(row.fields())),
+        None => Ok(0),
+    }
+}
+
+/// The count that is the first field.
+fn count_in(fields: &[Field]) -> i128 {
+    match fields.get(0) {
+        Some(Field::Whole(value)) => *value,
+        _ => 0,
+    }
+}
+
+/// What is told of a store whose file has so many bytes.
+fn report(alloc: Global, store: &Store) -> Result<Vec<u8>, Refusal> {
+    let table = store.schema().table();
+    let batches = store.batches();
+    let rows = stored_rows(store);
+    let live = live_rows(alloc, store)?;
+    let ranges = store.tombs().ranges().len();
+    let bytes = file_bytes(alloc, store)?;
+    let counts = format!(in alloc;
+        "table {table}\nbatches {batches}\nrows {rows}\nlive {live}\nranges {ranges}\nbytes {bytes}\n\n"
+    )?;
+    let lines = column_lines(alloc, store)?;
+    let columns = aligned(alloc, &heading_line(alloc)?, lines.as_slice())?;
+    let mut out = counts.into_bytes();
+    out.extend_from_slice(columns.as_slice())?;
+    Ok(out)
+}
+
+/// Writes what a file holds: the table's name; how many batches, stored rows, live rows, ranges of deleted rows and bytes; and a line
+/// a column with its name, its type, how many live rows are null there and how many aren't, the least and the greatest live value,
+/// how many vectors have each coding, and how many bits a stored value takes, the bytes of headers and null masks with them. What
+/// isn't there is `-`.
+///
+/// Refused are, in this order, what [`open`] refuses; `Memory`, which may come in the place of any of it; `WriteFault`. Only with the
+/// last anything is written: a front.
+pub fn inspect<R: Read, W: Write>(
+    alloc: Global,
+    reader: &mut Counted<R>,
+    writer: &mut Counted<W>,
+) -> Result<(), Refusal>
+    ensures unwritten { IfErr result (λ e. e ≢ WriteFault → W.contents writer.new.0 ≡ W.contents writer.old.0) }
+    ensures end { OnOk result (IsAtEnd (R.remaining reader.new.0)) }
+    ensures within { OnOk result (IsWithin (R.remaining reader.old.0)) }
+    ensures kept { OnOk result ((reader.new.1 ≡ reader.old.1) × (writer.new.1 ≡ writer.old.1)) }
+{
+    let store = open(alloc, reader, Origin(1))?;
+    let text = report(alloc, &store)?;
+    writer.write_whole(text.as_slice())
+}

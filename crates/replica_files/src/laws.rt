@@ -1,0 +1,16 @@
+//! Laws of files and of imports, each the contract of a function that does nothing.
+ghost use Rattle.replica_files.specs.FileLaws.{FileLaws};
+ghost use Rattle.replica_files.specs.Loads.{DrawnNamesAreFree};
+
+/// What a file holds is a set of operations, and its bytes are the canonical file of the state that these make. A new file holds
+/// nothing; import, delete, delete-rows, apply and merge add to what a file holds what their steps add in a history, and an offer of
+/// a file's state brings what the file holds. So files that took the same have the same bytes, in whatever order, however often and
+/// by whatever messages it came.
+pub fn file_laws()
+    ensures { FileLaws }
+{}
+
+/// The names that an import draws from random words are proper and consecutive, and none of them is held or has a deleted row.
+pub fn drawn_names_are_free()
+    ensures { DrawnNamesAreFree }
+{}

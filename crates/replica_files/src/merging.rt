@@ -1,0 +1,63 @@
+//! Merging files into one.
+ghost use Rattle.std.specs.Prelude.{◌≡◌, ◌≢◌, map, List, ℕ, Some, IfErr, OnOk};
+ghost use Rattle.table_model.specs.Faults.{CountsWrites};
+ghost use Rattle.table_model.specs.declared.refusal.Refusal.TheVariants.{WriteFault};
+ghost use Rattle.replica_files.specs.Commands.{Merging, MergesAll, Merges};
+
+use crate::file_writing::write_changed;
+use column_file::open;
+use replica_store::Store;
+use std::alloc::Global;
+use std::io::{Read, Write};
+use table_model::{Counted, Origin, Refusal};
+
+/// Merges what a file holds into a store. The file's own store is let go before the call ends.
+fn merge_one<R: Read>(
+    alloc: Global,
+    store: &mut Store,
+    reader: &mut Counted<R>,
+) -> Result<(), Refusal>
+    ensures merged { Merging result (R.remaining reader.old.0) store.old.replica store.new.replica }
+    ensures unwritten { IfErr result (λ e. e ≢ WriteFault) }
+{
+    let other = open(alloc, reader, Origin(1))?;
+    store.merge(alloc, &other)
+}
+
+/// Merges what files hold into a store, file by file.
+fn merge_others<R: Read>(
+    alloc: Global,
+    store: &mut Store,
+    readers: &mut [Counted<R>],
+) -> Result<(), Refusal>
+    ensures merged { (inputs : List (List ℕ)) → map (λ reader. R.remaining reader.0) readers.old ≡ map Some inputs → MergesAll result store.old.replica store.new.replica inputs }
+    ensures unwritten { IfErr result (λ e. e ≢ WriteFault) }
+{
+    for index in 0..readers.len() {
+        merge_one(alloc, store, &mut readers[index])?;
+    }
+    Ok(())
+}
+
+/// Writes the canonical file of what all of some files hold. Each reader is read to its end, and its file merged, before the next
+/// one is read.
+///
+/// Refused are, file by file, what [`open`] refuses, and then `SchemaDiffers`, `Conflict` with the least name that has two lists of
+/// rows, and `Full`; `Memory`, which may come in the place of any of them; `WriteFault`. Only with the last anything is written: a
+/// front.
+pub fn merge<R: Read, W: Write>(
+    alloc: Global,
+    first: &mut Counted<R>,
+    others: &mut [Counted<R>],
+    writer: &mut Counted<W>,
+) -> Result<(), Refusal>
+    ensures made { (input : List ℕ) (inputs : List (List ℕ)) → R.remaining first.old.0 ≡ Some input → map (λ reader. R.remaining reader.0) others.old ≡ map Some inputs →
+        Merges result (W.contents writer.old.0) (W.contents writer.new.0) input inputs }
+    ensures unwritten { IfErr result (λ e. e ≢ WriteFault → W.contents writer.new.0 ≡ W.contents writer.old.0) }
+    ensures kept { OnOk result (writer.new.1 ≡ writer.old.1) }
+    ensures fault { IfErr result (λ e. CountsWrites e writer.old.1 writer.new.1) }
+{
+    let mut store = open(alloc, first, Origin(1))?;
+    merge_others(alloc, &mut store, others)?;
+    write_changed(alloc, &store, true, writer)
+}

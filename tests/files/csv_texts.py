@@ -1,0 +1,159 @@
+"""Comma-separated values as sqlite3, PostgreSQL's COPY and spreadsheets write them, and what is said of those that are at fault."""
+
+import shutil
+import subprocess
+
+from room import Lacking
+
+HEADER = b"A,B\n"
+ROWS = ((1, 10), (-2, None), (None, 2**62), (30_000, -(2**63)))
+
+
+def made(room, text, *options):
+    """The rows that a text is imported as."""
+    room.ok("create", "t", "T", "A", "SMALLINT", "B", "BIGINT")
+    room.ok("import", *options, "t", "-", given=text)
+    return room.ok("dump", "t")
+
+
+def dumped(rows):
+    return HEADER + b"".join(",".join("" if value is None else str(value) for value in row).encode() + b"\n" for row in rows)
+
+
+def postgres_copy_with_a_header(room):
+    # COPY t TO STDOUT (FORMAT csv, HEADER, NULL '\\N'), and with FORCE_QUOTE *, which leaves nulls unquoted.
+    text = b"a,b\n" + b"".join(",".join("\\N" if value is None else f'"{value}"' for value in row).encode() + b"\n" for row in ROWS)
+    assert made(room, text) == dumped(ROWS)
+
+
+def postgres_copy_without_a_header(room):
+    text = b"".join(",".join("" if value is None else str(value) for value in row).encode() + b"\n" for row in ROWS)
+    assert made(room, text, "--no-header") == dumped(ROWS)
+
+
+def a_spreadsheet_with_a_mark_and_carriage_returns(room):
+    text = b"\xef\xbb\xbf" + b'"B","A"\r\n' + b"".join(",".join("" if value is None else str(value) for value in row[::-1]).encode() + b"\r\n" for row in ROWS)
+    assert made(room, text) == dumped(ROWS)
+
+
+def nulls_in_each_form_and_a_last_line_without_its_end(room):
+    assert made(room, b"A,B\n,NULL\n\\N,\"NULL\"\n\"\\N\",7") == dumped(((None, None), (None, None), (None, 7)))
+
+
+def an_empty_line_is_a_row_of_a_table_of_one_column_alone(room):
+    room.ok("create", "one", "T", "A", "SMALLINT")
+    room.ok("import", "--batch", "1.1", "one", "-", given=b"A\n1\n\n2\n\n", prints=b"ok batches=1 new=1 rows=4 first=1.1\n")
+    room.ok("dump", "one", prints=b"A\n1\n\n2\n\n")
+    assert made(room, b"\n1,2\n\n3,4\n\n", "--no-header") == dumped(((1, 2), (3, 4)))
+
+
+def what_is_dumped_is_imported_as_the_same_rows(room):
+    text = dumped(ROWS)
+    assert made(room, text) == text
+    room.ok("create", "u", "T", "A", "SMALLINT", "B", "BIGINT")
+    room.ok("import", "u", "-", given=room.ok("dump", "t"))
+    assert room.ok("dump", "u") == text
+    named = room.ok("dump", "--names", "t").split(b"\n")
+    assert named[0] == b"BATCH,ORDINAL,A,B" and named[1].endswith(b",0,1,10") and named[4].endswith(b",3,30000,-9223372036854775808"), named
+
+
+def sqlite(room, *commands):
+    if shutil.which("sqlite3") is None:
+        raise Lacking("sqlite3 is not installed")
+    return subprocess.run(["sqlite3", "db", *commands], cwd=room.folder, check=True, capture_output=True, timeout=60).stdout
+
+
+def what_sqlite_writes_is_imported(room):
+    values = ",".join("(" + ",".join("NULL" if value is None else str(value) for value in row) + ")" for row in ROWS[:3])
+    sqlite(room, f"CREATE TABLE t(a,b); INSERT INTO t VALUES {values};")
+    for option in ([], [".nullvalue NULL"], [".nullvalue \\\\N"]):
+        text = sqlite(room, ".headers on", ".mode csv", *option, "SELECT * FROM t;")
+        room.ok("create", "t", "T", "A", "SMALLINT", "B", "BIGINT")
+        room.ok("import", "t", "-", given=text)
+        assert room.ok("dump", "t") == dumped(ROWS[:3]), f"{text!r} was not imported as it was meant"
+        subprocess.run(["rm", room.path("t")], check=True)
+
+
+def what_is_dumped_loads_into_sqlite_with_the_same_sums(room):
+    count = 5_000
+    text = b"A,B\n" + b"".join(f"{at % 7 if at % 11 else ''},{at * 1_000_003 - 10**9}\n".encode() for at in range(count))
+    room.ok("create", "t", "T", "A", "SMALLINT", "B", "BIGINT")
+    room.ok("import", "t", "-", given=text)
+    room.ok("delete", "t", "A = 3")
+    room.put("d.csv", room.ok("dump", "t"))
+    sqlite(room, "CREATE TABLE t(A INTEGER, B INTEGER);", ".mode csv", ".import --skip 1 d.csv t")
+    wanted = sqlite(room, ".mode csv", "SELECT COUNT(*),SUM(B),MIN(B),MAX(B) FROM t;").strip().replace(b"\r", b"")
+    found = room.ok("query", "t", "SELECT COUNT(*),SUM(B),MIN(B),MAX(B) FROM T").split(b"\n")[1]
+    assert found == wanted, f"{found!r}, and sqlite3 says {wanted!r}"
+    groups = sqlite(room, ".mode csv", "SELECT A,COUNT(*),SUM(B) FROM t WHERE A <> '' GROUP BY A;").replace(b"\r", b"")
+    found = room.ok("query", "--format", "csv", "t", "SELECT A,COUNT(*),SUM(B) FROM T WHERE A IS NOT NULL GROUP BY A")
+    assert found.split(b"\n", 1)[1] == groups, f"{found!r}, and sqlite3 says {groups!r}"
+
+
+# A text, its options, and the refusal and the sentence that it gets.
+FAULTS = (
+    (b"A,B\n1,2\n3,abc\n", [], "BadCsv 3 2", 'visits.csv, line 3, column B: "abc" is not a whole number'),
+    (b"B,A\nx,2\n", [], "BadCsv 2 1", 'visits.csv, line 2, column B: "x" is not a whole number'),
+    (b"A,B\n40000,2\n", [], "BadCsv 2 1", 'visits.csv, line 2, column A: "40000" is outside the type SMALLINT'),
+    (b'A,B\n"1.0",2\n', [], "BadCsv 2 1", 'visits.csv, line 2, column A: ""1.0"" is not a whole number'),
+    (b"A,B\n\x1b[2J\xff,2\n", [], "BadCsv 2 1", 'visits.csv, line 2, column A: "\\x1B[2J\\xFF" is not a whole number'),
+    (b"A,B\n" + b"7" * 50 + b",2\n", [], "BadCsv 2 1", 'visits.csv, line 2, column A: "' + "7" * 40 + '" is not a whole number'),
+    (b"A,B\n1\n", [], "BadCsv 2 0", "visits.csv, line 2: the line has not one field for each column"),
+    (b"A,B\n1,2,3\n", [], "BadCsv 2 0", None),
+    (b"", [], "BadCsv 1 0", None),
+    (b"\nA,B\n", [], "BadCsv 1 0", None),
+    (b"A,C\n", [], "BadCsv 1 2", 'visits.csv, line 1, field 2: "C" is no column\'s name, or names one for the second time'),
+    (b"A,a\n", [], "BadCsv 1 2", None),
+    (b"1,2\n+5,2\n", ["--no-header"], "BadCsv 2 1", None),
+    (b"1,2\n1, 5\n", ["--no-header"], "BadCsv 2 2", None),
+    (b"1,2\nnull,5\n", ["--no-header"], "BadCsv 2 1", None),
+    (b'1,2\n"",5\n', ["--no-header"], "BadCsv 2 1", None),
+    (b"1,2\n1e3,5\n", ["--no-header"], "BadCsv 2 1", None),
+    (b"1,2\n" + b"1" * 1_048_577 + b"\n", ["--no-header"], "LineTooLong", "visits.csv, line 2: a line has more than 1,048,576 bytes"),
+)
+
+
+def what_is_at_fault_is_said_with_its_place(room):
+    held = room.make()
+    for text, options, refusal, sentence in FAULTS:
+        room.put("visits.csv", text)
+        room.refused("import", *options, "t", "visits.csv", line=f"refused {refusal}", sentence=sentence)
+    room.refused("import", "t", "none.csv", line="refused ReadFault", sentence="none.csv: no such file or folder")
+    room.refused("import", "none", "none.csv", line="refused ReadFault", sentence="none: no such file or folder")
+    room.refused("import", "t", ".", line="refused ReadFault", sentence=".: this is a folder")
+    assert room.get("t") == held
+    room.only("t", "visits.csv")
+
+
+def batches_have_65536_rows_and_the_last_one_what_is_left(room):
+    room.ok("create", "t", "T", "A", "SMALLINT")
+    text = b"1\n" * 65_536 + b"2\n" * 65_536 + b"3\n"
+    room.ok("import", "--no-header", "--batch", "7.4294967293", "t", "-", given=text, prints=b"ok batches=3 new=3 rows=131073 first=7.4294967293\n")
+    room.ok("query", "t", "SELECT A,COUNT(*) FROM T GROUP BY A", prints=b"A,COUNT(*)\n1,65536\n2,65536\n3,1\n")
+    names = room.ok("dump", "--names", "t").split(b"\n")
+    assert names[65_537] == b"7.4294967294,0,2" and names[131_073] == b"7.4294967295,0,3", (names[65_537], names[131_073])
+
+
+def names_are_drawn_at_random(room):
+    firsts = set()
+    for at in range(20):
+        room.ok("create", f"t{at}", "T", "A", "SMALLINT")
+        firsts.add(room.ok("import", "--no-header", f"t{at}", "-", given=b"1\n").rsplit(b"=", 1)[1])
+    assert len(firsts) == 20, "two of twenty imports drew the same name"
+    origins = [int(first.split(b".")[0]) for first in firsts]
+    assert max(origins) > 2**28 and min(origins) >= 1
+
+
+TESTS = [
+    postgres_copy_with_a_header,
+    postgres_copy_without_a_header,
+    a_spreadsheet_with_a_mark_and_carriage_returns,
+    nulls_in_each_form_and_a_last_line_without_its_end,
+    an_empty_line_is_a_row_of_a_table_of_one_column_alone,
+    what_is_dumped_is_imported_as_the_same_rows,
+    what_sqlite_writes_is_imported,
+    what_is_dumped_loads_into_sqlite_with_the_same_sums,
+    what_is_at_fault_is_said_with_its_place,
+    batches_have_65536_rows_and_the_last_one_what_is_left,
+    names_are_drawn_at_random,
+]

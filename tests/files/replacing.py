@@ -1,0 +1,229 @@
+"""How a file is replaced: whole, with its mode, through links, in an order of system calls that no crash can spoil, or not at all."""
+
+import os
+import re
+import resource
+import shutil
+import signal
+import stat
+import subprocess
+
+from room import Lacking, rows_text
+
+LOCK = ".t.lanes-lock"
+NOBODY = 65_534
+
+
+def as_nobody(room):
+    """How a command is run without root's rights, from a copy of the program that anybody may run."""
+    if os.getuid() != 0:
+        return {}
+    shutil.copy(room.program, room.path("program"))
+    os.chmod(room.path("program"), 0o755)
+    room.program = room.path("program")
+    os.chown(room.folder, NOBODY, NOBODY)
+    return {"user": NOBODY, "group": NOBODY, "extra_groups": []}
+
+
+def a_change_that_changes_nothing_leaves_the_file_and_no_lock(room):
+    room.make()
+    before = os.stat(room.path("t"))
+    room.ok("delete", "t", "A = 7", prints=b"ok 0\n")
+    room.ok("import", "--no-header", "--batch", "1.1", "t", "-", given=b"1,10\n2,20\n,30\n", prints=b"ok batches=1 new=0 rows=3 first=1.1\n")
+    room.ok("import", "--no-header", "--batch", "0.0", "t", "-", prints=b"ok batches=0 new=0 rows=0\n")
+    room.ok("apply", "t", "t", prints=b"ok batches=1 ranges=0\n")
+    room.ok("delete-rows", "t", "5.5", "1", "2", prints=b"ok\n")
+    changed = os.stat(room.path("t"))
+    room.ok("delete-rows", "t", "5.5", "1", "2", prints=b"ok\n")
+    after = os.stat(room.path("t"))
+    assert before.st_ino != changed.st_ino and changed.st_ino == after.st_ino and changed.st_mtime_ns == after.st_mtime_ns
+    room.only("t")
+
+
+def a_refusal_leaves_the_file_and_no_lock(room):
+    held = room.make()
+    room.refused("delete", "t", "A = ", line="refused Syntax 4")
+    room.refused("delete-rows", "t", "1.1", "2", "1", line="refused BadRange 0", sentence="the range ends before it starts")
+    room.refused("import", "--no-header", "--batch", "1.1", "t", "-", given=b"1,10\n", line="refused Conflict 1.1", sentence="both have a batch 1.1, with different rows")
+    room.refused("import", "--no-header", "--batch", "0.1", "t", "-", given=b"1,10\n", line="refused BadName")
+    room.refused("import", "--no-header", "--batch", "1.4294967295", "t", "-", given=rows_text(65_537), line="refused NumbersSpent")
+    room.refused("apply", "t", "-", given=b"junk", line="refused BadMagic", sentence="standard input: the first four bytes are not those of this format")
+    room.refused("create", "t", "T", "A", "SMALLINT", line="refused Exists", sentence="t: there is a file of this name already")
+    assert room.get("t") == held
+    room.only("t")
+
+
+def a_refused_create_makes_nothing(room):
+    room.refused("create", "t", "1T", "A", "SMALLINT", line="refused BadSchema")
+    room.refused("create", "none/t", "T", "A", "SMALLINT", line="refused WriteFault", sentence="none/t: there is no such folder")
+    room.refused("create", "none/t", "SELECT", "A", "SMALLINT", line="refused BadSchema")
+    os.symlink("nowhere", room.path("link"))
+    room.refused("create", "link", "T", "A", "SMALLINT", line="refused Exists")
+    room.only("link")
+
+
+def the_mode_is_kept(room):
+    for mode in (0o600, 0o640, 0o664, 0o444):
+        room.make()
+        os.chmod(room.path("t"), mode)
+        room.ok("import", "--no-header", "t", "-", given=b"3,40\n")
+        found = stat.S_IMODE(os.stat(room.path("t")).st_mode)
+        assert found == mode, f"the mode is {found:o}, not {mode:o}"
+        os.remove(room.path("t"))
+
+
+def a_new_file_has_the_usual_mode(room):
+    room.ok("create", "t", "T", "A", "SMALLINT", umask=0o027)
+    assert stat.S_IMODE(os.stat(room.path("t")).st_mode) == 0o640
+
+
+def a_symbolic_link_stays_one(room):
+    os.mkdir(room.path("real"))
+    room.make("real/t")
+    os.symlink("real/t", room.path("link"))
+    room.ok("import", "--no-header", "link", "-", given=b"3,40\n")
+    assert os.readlink(room.path("link")) == "real/t" and os.listdir(room.path("real")) == ["t"]
+    room.ok("check", "real/t", prints=b"ok batches=2 ranges=0\n")
+    room.ok("merge", "link", "link", prints=b"ok\n")
+    assert os.path.islink(room.path("link"))
+    room.only("link", "real")
+
+
+def another_hard_link_keeps_the_old_file(room):
+    held = room.make()
+    os.link(room.path("t"), room.path("other"))
+    room.ok("import", "--no-header", "t", "-", given=b"3,40\n")
+    assert room.get("other") == held and room.get("t") != held
+
+
+def a_lock_that_a_crash_left_is_taken(room):
+    for left in (b"", b"x" * 3_000_000):
+        room.make()
+        room.put(LOCK, left)
+        room.ok("import", "--no-header", "--batch", "2.1", "t", "-", given=b"3,40\n", prints=b"ok batches=1 new=1 rows=1 first=2.1\n")
+        room.ok("check", "t", prints=b"ok batches=2 ranges=0\n")
+        room.only("t")
+        os.remove(room.path("t"))
+
+
+def a_lock_that_may_not_be_written_is_taken_too(room):
+    how = as_nobody(room)
+    room.ok("create", "t", "T", "A", "SMALLINT", **how)
+    room.put(LOCK, b"left")
+    if how:
+        os.chown(room.path(LOCK), NOBODY, NOBODY)
+    os.chmod(room.path(LOCK), 0o444)
+    room.ok("import", "--no-header", "t", "-", given=b"3\n", **how)
+    assert not os.path.exists(room.path(LOCK))
+
+
+def a_folder_without_the_right_to_write_is_a_failed_write(room):
+    how = as_nobody(room)
+    room.ok("create", "t", "T", "A", "SMALLINT", **how)
+    held = room.get("t")
+    os.chmod(room.folder, 0o555)
+    try:
+        room.refused("import", "--no-header", "t", "-", given=b"3\n", line="refused WriteFault", **how)
+        room.refused("import", "--no-header", "--batch", "0.1", "t", "-", given=b"3\n", line="refused BadName", **how)
+        room.refused("delete", "t", "A = 7", line="refused WriteFault", **how)
+        room.refused("delete", "t", "A", line="refused Syntax 1", **how)
+    finally:
+        os.chmod(room.folder, 0o755)
+    assert room.get("t") == held
+
+
+def a_file_that_may_not_be_read_is_a_failed_read(room):
+    how = as_nobody(room)
+    room.ok("create", "t", "T", "A", "SMALLINT", **how)
+    os.chmod(room.path("t"), 0)
+    room.refused("dump", "t", line="refused ReadFault", sentence="t: this may not be read", **how)
+
+
+def limited():
+    """A process that may write files of 64 KiB, and is told so by an error."""
+    signal.signal(signal.SIGXFSZ, signal.SIG_IGN)
+    resource.setrlimit(resource.RLIMIT_FSIZE, (65_536, 65_536))
+
+
+def a_file_that_has_no_room_leaves_the_old_one(room):
+    held = room.make()
+    room.refused("import", "--no-header", "t", "-", given=rows_text(200_000), line="refused WriteFault", sentence="t: this can't be written", preexec_fn=limited)
+    assert room.get("t") == held
+    room.only("t")
+
+
+def what_is_said_to_a_full_device_is_a_failed_write_and_the_file_is_replaced(room):
+    room.make()
+    with open("/dev/full", "wb") as full:
+        status = subprocess.run([room.program, "import", "--no-header", "--batch", "2.1", "t", "-"], input=b"3,40\n", stdout=full, stderr=subprocess.PIPE, cwd=room.folder, timeout=60)
+    assert status.returncode == 1 and status.stderr.startswith(b"refused WriteFault\nstandard output: "), f"it said {status.stderr!r}"
+    room.ok("check", "t", prints=b"ok batches=2 ranges=0\n")
+    with open("/dev/full", "wb") as full:
+        for words in (["dump", "t"], ["summary", "t"], ["inspect", "t"], ["offer", "t", "s"], ["query", "--format", "json", "t", "SELECT A FROM T"]):
+            room.put("s", room.ok("summary", "t"))
+            done = subprocess.run([room.program, *words], stdout=full, stderr=subprocess.PIPE, cwd=room.folder, timeout=60)
+            assert done.returncode == 1 and done.stderr.startswith(b"refused WriteFault\n"), f"{words} said {done.stderr!r}"
+
+
+def a_merge_into_a_device_is_written_in_place(room):
+    room.make()
+    room.ok("merge", "/dev/null", "t", prints=b"ok\n")
+    assert stat.S_ISCHR(os.stat("/dev/null").st_mode)
+    room.refused("merge", "/dev/full", "t", line="refused WriteFault")
+    os.mkfifo(room.path("pipe"))
+    with room.start("merge", "pipe", "t") as merging:
+        assert room.get("pipe") == room.get("t")
+        merging.communicate(timeout=60)
+        assert merging.returncode == 0
+    room.only("pipe", "t")
+
+
+def the_system_calls_stand_in_their_order(room):
+    if shutil.which("strace") is None:
+        raise Lacking("strace is not installed")
+    room.make()
+    calls = "openat,flock,ftruncate,fchmod,chmod,write,fsync,fdatasync,rename,renameat,renameat2,unlink,unlinkat"
+    words = ["strace", "-f", "-y", "-o", "trace", "-e", f"trace={calls}", room.program, "import", "--no-header", "t", "-"]
+    done = subprocess.run(words, input=b"3,40\n", cwd=room.folder, capture_output=True, timeout=60)
+    if done.returncode != 0 or not os.path.exists(room.path("trace")):
+        raise Lacking(f"strace can't trace: {done.stderr[-200:]!r}")
+    trace = room.get("trace").decode()
+    steps = (
+        r"openat\(.*t\", O_RDONLY",
+        r"openat\(.*\.t\.lanes-lock\", .*O_CREAT",
+        r"flock\(.*lanes-lock>, LOCK_EX\|LOCK_NB\) += 0",
+        r"ftruncate\(.*lanes-lock>, 0\)",
+        r"f?chmod\(.*lanes-lock",
+        r"openat\(.*t\", O_RDONLY",
+        r"write\(.*lanes-lock>",
+        r"fsync\(.*lanes-lock>\)",
+        r"rename.*\.t\.lanes-lock\".*t\"",
+        r"openat\(.*O_RDONLY",
+        r"fsync\(",
+        r"write\(1<.*ok batches=1",
+    )
+    place = 0
+    for step in steps:
+        found = re.compile(step).search(trace, place)
+        assert found, f"{step} doesn't stand in its place in\n{trace[-2000:]}"
+        place = found.end()
+    assert "unlink" not in trace
+
+
+TESTS = [
+    a_change_that_changes_nothing_leaves_the_file_and_no_lock,
+    a_refusal_leaves_the_file_and_no_lock,
+    a_refused_create_makes_nothing,
+    the_mode_is_kept,
+    a_new_file_has_the_usual_mode,
+    a_symbolic_link_stays_one,
+    another_hard_link_keeps_the_old_file,
+    a_lock_that_a_crash_left_is_taken,
+    a_lock_that_may_not_be_written_is_taken_too,
+    a_folder_without_the_right_to_write_is_a_failed_write,
+    a_file_that_may_not_be_read_is_a_failed_read,
+    a_file_that_has_no_room_leaves_the_old_one,
+    what_is_said_to_a_full_device_is_a_failed_write_and_the_file_is_replaced,
+    a_merge_into_a_device_is_written_in_place,
+    the_system_calls_stand_in_their_order,
+]
