@@ -25,6 +25,8 @@ ONE_ROW = file_of(b"T", batch(1, 1, 7))
 OTHER_ROW = file_of(b"T", batch(1, 1, 8))
 SECOND_BATCH = file_of(b"T", batch(2, 1, 7))
 BOTH = file_of(b"T", batch(1, 1, 7), batch(2, 1, 7))
+THIRD_BATCH = file_of(b"T", batch(3, 1, 7))
+ALL_THREE = file_of(b"T", batch(1, 1, 7), batch(2, 1, 7), batch(3, 1, 7))
 OTHER_TABLE = file_of(b"U", batch(1, 1, 7))
 
 # A folder d and the file in it.
@@ -108,6 +110,8 @@ CASES = [
     Case("a file merged with itself is the same file", ["merge", "out", "t", "t"], 0, b"ok\n", files={"t": ONE_ROW}, writes={"out": ONE_ROW}),
     Case("the file that is written may be one that is merged", ["merge", "t", "t", "u"], 0, b"ok\n", files={"t": ONE_ROW, "u": SECOND_BATCH}, writes={"t": BOTH, "u": SECOND_BATCH}),
     Case("two files in either order are the same file", ["merge", "out", "u", "t"], 0, b"ok\n", files={"t": ONE_ROW, "u": SECOND_BATCH}, writes={"out": BOTH}),
+    Case("of three files each is merged, the last too", ["merge", "out", "t", "u", "v"], 0, b"ok\n", files={"t": ONE_ROW, "u": SECOND_BATCH, "v": THIRD_BATCH}, writes={"out": ALL_THREE}),
+    Case("of three queries each is answered, the last too", ["query", "t", "SELECT SUM(A) FROM T", "SELECT COUNT(*) FROM T", "SELECT MIN(A) N FROM T"], 0, b"SUM(A)\n7\nCOUNT(*)\n1\nN\n7\n", files={"t": ONE_ROW}),
     Case("a conflict is refused and leaves the file that is there", ["merge", "out", "t", "u"], 1, err=b"refused Conflict 1.1\n", files={"t": ONE_ROW, "u": OTHER_ROW, "out": b"old"}, writes={"out": b"old"}),
     Case("another table is refused", ["merge", "out", "t", "u"], 1, err=b"refused SchemaDiffers\n", files={"t": ONE_ROW, "u": OTHER_TABLE}, writes={"out": None}),
     Case("a file that isn't there can't be merged", ["merge", "out", "t", "none"], 1, err=b"refused ReadFault\n", files={"t": ONE_ROW}, writes={"out": None}),
