@@ -1,8 +1,10 @@
 //! The rows that a query keeps: those that aren't deleted and at which WHERE is true.
-ghost use Rattle.std.specs.Prelude.{◌≡◌, ◌≢◌, ◌≤◌, ◌+◌, cond, count_by, false, IsTrue};
+ghost use Rattle.std.specs.Prelude.{◌≡◌, ◌≢◌, ◌≤◌, ◌+◌, cond, count_by, false, IsTrue, Some};
 ghost use Rattle.query_eval.specs.Kept.{where_mentions, kept_mask, has_live};
+ghost use Rattle.query_eval.specs.Mentions.{condition_mentions};
 ghost use Rattle.query_eval.specs.Vector.{IsThere, vector_at};
 
+use crate::bounds::may_be_true;
 use crate::columns::Columns;
 use crate::true_rows::condition_rows;
 use table_model::Condition;
@@ -26,6 +28,30 @@ pub(crate) fn has_rows(mask: &Mask) -> bool
     mask.next_true(0) < 1024
 }
 
+/// The rows of a vector that aren't deleted and at which a condition is true. Where what is known of all values of a column shows
+/// that there are none, the vector's rows aren't looked at. A vector without a live row takes no pass.
+pub(crate) fn true_mask<C: Columns>(
+    columns: &mut C,
+    batch: usize,
+    vector: usize,
+    condition: &Condition,
+) -> Mask
+    requires { IsThere (C.state columns.old) batch vector }
+    ensures value { result ≡ kept_mask (C.table columns.old) (Some condition.now) (vector_at (C.state columns.old) batch vector) }
+    ensures table { C.table columns.new ≡ C.table columns.old }
+    ensures state { C.state columns.new ≡ C.state columns.old }
+    ensures passes { C.passes columns.new ≤ C.passes columns.old + cond (has_live (vector_at (C.state columns.old) batch vector)) (condition_mentions condition.now) 0 }
+{
+    if !may_be_true(columns, batch, vector, condition) {
+        return Mask::none();
+    }
+    let live = columns.live(batch, vector);
+    if !has_rows(&live) {
+        return live;
+    }
+    condition_rows(columns, batch, vector, condition, &live)
+}
+
 /// The rows of a vector that aren't deleted and at which WHERE is true. A vector without a live row takes no pass.
 pub fn kept_mask<C: Columns>(
     columns: &mut C,
@@ -39,12 +65,8 @@ pub fn kept_mask<C: Columns>(
     ensures state { C.state columns.new ≡ C.state columns.old }
     ensures passes { C.passes columns.new ≤ C.passes columns.old + cond (has_live (vector_at (C.state columns.old) batch vector)) (where_mentions condition.now) 0 }
 {
-    let live = columns.live(batch, vector);
-    if !has_rows(&live) {
-        return live;
-    }
     match condition {
-        None => live,
-        Some(condition) => condition_rows(columns, batch, vector, condition, &live),
+        None => columns.live(batch, vector),
+        Some(condition) => true_mask(columns, batch, vector, condition),
     }
 }

@@ -1,36 +1,15 @@
 //! The rows at which a condition is true, by their names.
-ghost use Rattle.std.specs.Prelude.{◌≡◌, ◌<◌, ◌≤◌, ◌+◌, ◌*◌, ◌++◌, cond, Some, IfOk, OnOk};
+ghost use Rattle.std.specs.Prelude.{◌≡◌, ◌<◌, ◌≤◌, ◌+◌, ◌*◌, ◌++◌, Some, IfOk, OnOk};
 ghost use Rattle.table_model.specs.Meaning.{names_where};
-ghost use Rattle.query_eval.specs.Kept.{kept_mask, has_live, live_vectors_in, live_vectors, batch_rows, names_kept, names_at};
+ghost use Rattle.query_eval.specs.Kept.{live_vectors_in, live_vectors, batch_rows, names_kept, names_at};
 ghost use Rattle.query_eval.specs.Mentions.{condition_mentions};
-ghost use Rattle.query_eval.specs.Vector.{IsThere, vector_at, batch_at, batch_count};
+ghost use Rattle.query_eval.specs.Vector.{batch_at, batch_count};
 
 use crate::columns::Columns;
-use crate::kept::has_rows;
-use crate::true_rows::condition_rows;
+use crate::kept::true_mask;
 use std::alloc::{AllocError, Global};
 use table_model::{BatchName, Condition, RowName};
 use transpose_order::{Mask, VECTOR_ROWS};
-
-/// The rows of a vector that aren't deleted and at which a condition is true. A vector without a live row takes no pass.
-fn true_mask<C: Columns>(
-    columns: &mut C,
-    batch: usize,
-    vector: usize,
-    condition: &Condition,
-) -> Mask
-    requires { IsThere (C.state columns.old) batch vector }
-    ensures value { result ≡ kept_mask (C.table columns.old) (Some condition.now) (vector_at (C.state columns.old) batch vector) }
-    ensures table { C.table columns.new ≡ C.table columns.old }
-    ensures state { C.state columns.new ≡ C.state columns.old }
-    ensures passes { C.passes columns.new ≤ C.passes columns.old + cond (has_live (vector_at (C.state columns.old) batch vector)) (condition_mentions condition.now) 0 }
-{
-    let live = columns.live(batch, vector);
-    if !has_rows(&live) {
-        return live;
-    }
-    condition_rows(columns, batch, vector, condition, &live)
-}
 
 /// Adds the names of the rows of a vector's mask, where the vector's first row has the ordinal `first`.
 fn push_names(

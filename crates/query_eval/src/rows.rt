@@ -161,13 +161,3 @@ pub fn among_values(nulls: &Mask, values: &[i64; 1024], literals: &[i128], mask:
         None => among_by_row(nulls, values, literals, mask),
     }
 }
-
-/// IN at the rows of a mask.
-pub fn among_rows(operand: &Decoded, literals: &[i128], mask: &Mask) -> Pair
-    ensures { IsPair mask.now (λ n. is_among (whole (decoded_at operand.now n)) literals.now) result }
-{
-    match operand {
-        Decoded::Column { nulls, values } => among_values(nulls, values, literals, mask),
-        Decoded::Fixed(cell) => Pair::everywhere(among(*cell, literals), mask),
-    }
-}
