@@ -10,7 +10,7 @@ use Rattle.table_model.specs.declared.query.Operand.{Operand}
 use Rattle.table_model.specs.declared.truth.Truth.{Truth}
 use Rattle.query_eval.specs.Pairs.{yes_of, no_of}
 use Rattle.query_eval.specs.Vector.{Vector, row_at}
-use Rattle.query_eval.specs.declared.pair.Pair.{Pair}
+use Rattle.query_eval.specs.declared.filter.pair.Pair.{Pair}
 
 -- a pair has the rows of a mask where a truth value is true, and those where it is false
 pub record IsPair (mask : List Bool) (t : ℕ → Truth) (pair : Pair) : Type 0 where
