@@ -11,7 +11,7 @@ use Rattle.table_model.specs.Truth.{is_true, is_false}
 use Rattle.transpose_order.specs.Mask.{rows_of, has}
 use Rattle.transpose_order.specs.MaskWords.{has-rows_of, rows_of-like}
 use Rattle.query_eval.specs.Where.{IsPair}
-use Rattle.query_eval.specs.declared.pair.Pair.{Pair}
+use Rattle.query_eval.specs.declared.filter.pair.Pair.{Pair}
 use Rattle.query_eval.proofs.PairLemmas.{is_yes, is_no}
 
 -- one literal more

@@ -10,7 +10,7 @@ use Rattle.transpose_order.specs.Mask.{rows_of, has}
 use Rattle.transpose_order.specs.MaskWords.{has-rows_of, rows_of-like}
 use Rattle.query_eval.specs.Below.{passing_below, IsPairBelow}
 use Rattle.query_eval.specs.Where.{IsPair}
-use Rattle.query_eval.specs.declared.pair.Pair.{Pair}
+use Rattle.query_eval.specs.declared.filter.pair.Pair.{Pair}
 use Rattle.query_eval.proofs.PairLemmas.{is_yes, is_no}
 
 here_true : (k n : ℕ) → k ≤ n → n ≤ k → (nat_le k n && nat_lt n (k + 1)) ≡ true

@@ -31,8 +31,8 @@ use Rattle.table_model.specs.declared.query.SetFunction.TheVariants.{CountRows, 
 use Rattle.table_model.proofs.AnswerOrder.{map-chosen}
 use Rattle.query_eval.specs.Aggregate.{aggregate_of, aggregate_value, aggregates_of, condition_functions, functions_of, having_functions, item_functions, operand_functions, predicate_functions, same_aggregate}
 use Rattle.query_eval.specs.Finished.{PlanShape, finished_of, plan_of, seen_aggregate, seen_item, seen_operand}
-use Rattle.query_eval.specs.declared.aggregate.Aggregate.{Aggregate}
-use Rattle.query_eval.specs.declared.aggregate.Aggregate.TheVariants.{Rows, Folded}
+use Rattle.query_eval.specs.declared.tallies.aggregate.Aggregate.{Aggregate}
+use Rattle.query_eval.specs.declared.tallies.aggregate.Aggregate.TheVariants.{Rows, Folded}
 
 one_fold : (f g : Fold) → (fold_number f == fold_number g) ≡ true → f ≡ g
 one_fold f g e = sym (fold_of-fold_number f) ∙ ap fold_of ((Decides-eqb (fold_number f) (fold_number g)).0 e) ∙ fold_of-fold_number g

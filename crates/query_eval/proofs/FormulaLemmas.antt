@@ -10,7 +10,7 @@ use Rattle.table_model.specs.declared.query.Term.{Term}
 use Rattle.query_eval.specs.Pairs.{yes_of}
 use Rattle.query_eval.specs.Vector.{vector_at}
 use Rattle.query_eval.specs.Where.{IsPair, truth_in}
-use Rattle.query_eval.specs.declared.pair.Pair.{Pair}
+use Rattle.query_eval.specs.declared.filter.pair.Pair.{Pair}
 
 pub terms_more : (xs : List Term) (i : ℕ) (x : Term) → i < length xs → x ≡ get_or xs i x → formula_of_terms (take (i + 1) xs) ≡ either (formula_of_terms (take i xs)) (formula_of_term x)
 terms_more xs i x h e =

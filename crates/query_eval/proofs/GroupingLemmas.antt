@@ -22,8 +22,8 @@ use Rattle.query_eval.specs.Places.{IsIndex, rows_below, rows_placed}
 use Rattle.query_eval.specs.Slices.{IsSplit, rows_shared}
 use Rattle.query_eval.specs.Kept.{rows_at}
 use Rattle.query_eval.specs.Vector.{Vector, row_at}
-use Rattle.query_eval.specs.declared.places.Places.{Places}
-use Rattle.query_eval.specs.declared.split.Split.{Split}
+use Rattle.query_eval.specs.declared.grouping.places.Places.{Places}
+use Rattle.query_eval.specs.declared.grouping.split.Split.{Split}
 use Rattle.query_eval.proofs.Lifted.{shown_if}
 use Rattle.query_eval.proofs.SliceLemmas.{shared_with}
 use Rattle.query_eval.proofs.RowsBelow.{below_all, below_more, placed_more_rows}
@@ -31,10 +31,10 @@ use Rattle.transpose_order.specs.Mask.{has, rows_of, truth_at}
 use Rattle.transpose_order.specs.MaskWords.{has-rows_of}
 use Rattle.query_eval.specs.Tally.{IsTally, kind_of}
 use Rattle.query_eval.specs.TallyKinds.{aggregate_kind}
-use Rattle.query_eval.specs.declared.aggregate.Aggregate.{Aggregate}
-use Rattle.query_eval.specs.declared.aggregate.Aggregate.TheVariants.{Rows, Folded}
-use Rattle.query_eval.specs.declared.tally.Tally.{Tally}
-use Rattle.query_eval.specs.declared.tally.TallyKind.{TallyKind}
+use Rattle.query_eval.specs.declared.tallies.aggregate.Aggregate.{Aggregate}
+use Rattle.query_eval.specs.declared.tallies.aggregate.Aggregate.TheVariants.{Rows, Folded}
+use Rattle.query_eval.specs.declared.tallies.tally.Tally.{Tally}
+use Rattle.query_eval.specs.declared.tallies.tally.TallyKind.{TallyKind}
 
 -- over no rows there are no values
 pub none_values : (a : Aggregate) → aggregate_values a [] ≡ []

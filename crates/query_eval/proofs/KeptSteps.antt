@@ -9,7 +9,7 @@ use Rattle.query_eval.specs.Finished.{PlanShape}
 use Rattle.query_eval.specs.Kept.{kept_mask, has_live, live_vectors_in, live_vectors_below, rows_at, rows_kept, batch_alive}
 use Rattle.query_eval.specs.Taken.{AreTaken}
 use Rattle.query_eval.specs.Vector.{Vector, vector_at, row_at, is_live, batch_count, vector_count}
-use Rattle.query_eval.specs.declared.taken.Taken.{Taken}
+use Rattle.query_eval.specs.declared.answers.taken_rows.Taken.{Taken}
 use Rattle.query_eval.proofs.KeptLemmas.{no_true, kept-nowhere}
 use Rattle.query_eval.proofs.Lifted.{none_present, front_kept, front_kept-more, first_alive, first_alive-more, rows_kept-append}
 

@@ -34,9 +34,9 @@ use Rattle.query_eval.specs.Grouping.{AreGroups, IsHeld, aggregate_values}
 use Rattle.query_eval.specs.Kept.{AreFew}
 use Rattle.query_eval.specs.Tally.{IsTally, kind_of}
 use Rattle.query_eval.specs.TallyKinds.{fold_kind}
-use Rattle.query_eval.specs.declared.aggregate.Aggregate.{Aggregate}
-use Rattle.query_eval.specs.declared.aggregate.Aggregate.TheVariants.{Rows, Folded}
-use Rattle.query_eval.specs.declared.tally.Tally.{Tally}
+use Rattle.query_eval.specs.declared.tallies.aggregate.Aggregate.{Aggregate}
+use Rattle.query_eval.specs.declared.tallies.aggregate.Aggregate.TheVariants.{Rows, Folded}
+use Rattle.query_eval.specs.declared.tallies.tally.Tally.{Tally}
 
 zeros_small : (rows : List Cells) → AreSmall (map (λ _. pos 0) rows)
 zeros_small [] = tt

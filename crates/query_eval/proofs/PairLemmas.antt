@@ -11,7 +11,7 @@ use Rattle.transpose_order.specs.Mask.{rows_of, has}
 use Rattle.transpose_order.specs.MaskWords.{has-rows_of, rows_of-like}
 use Rattle.query_eval.specs.Pairs.{yes_of, no_of}
 use Rattle.query_eval.specs.Where.{IsPair}
-use Rattle.query_eval.specs.declared.pair.Pair.{Pair}
+use Rattle.query_eval.specs.declared.filter.pair.Pair.{Pair}
 
 pub is_yes : (mask : List Bool) (t : ℕ → Truth) (f : ℕ → Bool) → ((n : ℕ) → n < 1024 → f n ≡ (has mask n && is_true (t n))) → rows_of f ≡ yes_of mask t
 unfolding yes_of

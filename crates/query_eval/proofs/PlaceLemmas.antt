@@ -16,7 +16,7 @@ use Rattle.table_model.proofs.SameRows.{one_row, itself_row}
 use Rattle.transpose_order.specs.Mask.{has}
 use Rattle.query_eval.specs.Places.{ArePlaced, IsGrown, IsIndex, IsTakenIn, rows_below}
 use Rattle.query_eval.specs.Vector.{Vector, row_at}
-use Rattle.query_eval.specs.declared.places.Recent.{Recent}
+use Rattle.query_eval.specs.declared.grouping.places.Recent.{Recent}
 use Rattle.query_eval.proofs.RowsBelow.{below_more}
 
 or_known : (a b : Bool) → (b ≡ true → a ≡ true) → a ≡ (a || b)

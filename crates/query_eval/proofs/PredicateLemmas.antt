@@ -15,9 +15,9 @@ use Rattle.query_eval.specs.Pairs.{yes_of, no_of}
 use Rattle.query_eval.specs.Side.{side_at, StandsFor}
 use Rattle.query_eval.specs.Vector.{Vector, IsThere, vector_at}
 use Rattle.query_eval.specs.Where.{IsPair, operand_at}
-use Rattle.query_eval.specs.declared.decoded.Decoded.{Decoded}
-use Rattle.query_eval.specs.declared.pair.Pair.{Pair}
-use Rattle.query_eval.specs.declared.side.Side.{Side}
+use Rattle.query_eval.specs.declared.filter.decoded.Decoded.{Decoded}
+use Rattle.query_eval.specs.declared.filter.pair.Pair.{Pair}
+use Rattle.query_eval.specs.declared.filter.side.Side.{Side}
 use Rattle.query_eval.proofs.DecodedLemmas.{between_same}
 use Rattle.query_eval.proofs.PairLemmas.{pair_like, is_yes, is_no}
 

@@ -18,11 +18,11 @@ use Rattle.query_eval.specs.Places.{rows_placed}
 use Rattle.query_eval.specs.Slices.{rows_shared, rows_sliced, values_at}
 use Rattle.query_eval.specs.Tally.{IsTally, kind_of}
 use Rattle.query_eval.specs.Vector.{Vector, cell_at, row_at}
-use Rattle.query_eval.specs.declared.aggregate.Aggregate.{Aggregate}
-use Rattle.query_eval.specs.declared.aggregate.Aggregate.TheVariants.{Rows, Folded}
-use Rattle.query_eval.specs.declared.split.Slice.{Slice}
-use Rattle.query_eval.specs.declared.split.Split.{Split}
-use Rattle.query_eval.specs.declared.tally.Tally.{Tally}
+use Rattle.query_eval.specs.declared.tallies.aggregate.Aggregate.{Aggregate}
+use Rattle.query_eval.specs.declared.tallies.aggregate.Aggregate.TheVariants.{Rows, Folded}
+use Rattle.query_eval.specs.declared.grouping.split.Slice.{Slice}
+use Rattle.query_eval.specs.declared.grouping.split.Split.{Split}
+use Rattle.query_eval.specs.declared.tallies.tally.Tally.{Tally}
 use Rattle.query_eval.proofs.ColumnLemmas.{length-present, values-of}
 use Rattle.query_eval.proofs.GroupingLemmas.{held_without, none_values}
 use Rattle.query_eval.proofs.Lifted.{none_if, none_present, rows_of-alike, shown_if}

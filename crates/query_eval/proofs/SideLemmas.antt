@@ -11,8 +11,8 @@ use Rattle.table_model.specs.declared.query.Operand.{Operand}
 use Rattle.query_eval.specs.Side.{side_at, StandsFor}
 use Rattle.query_eval.specs.Vector.{IsThere, vector_at}
 use Rattle.query_eval.specs.Where.{IsPair, operand_at}
-use Rattle.query_eval.specs.declared.pair.Pair.{Pair}
-use Rattle.query_eval.specs.declared.side.Side.{Side}
+use Rattle.query_eval.specs.declared.filter.pair.Pair.{Pair}
+use Rattle.query_eval.specs.declared.filter.side.Side.{Side}
 use Rattle.query_eval.proofs.PairLemmas.{pair_like}
 
 pub operands_compared : (table : Table) (s : State) (batch vector : ℕ) (left right : Operand) (a b : Side) (op : Op) (mask : List Bool) (c : Pair) → IsThere s batch vector → StandsFor table s left a → StandsFor table s right b → IsPair mask (λ n. comparison op (side_at (vector_at s batch vector) a n) (side_at (vector_at s batch vector) b n)) c → IsPair mask (λ n. field_comparison op (operand_at table (vector_at s batch vector) left n) (operand_at table (vector_at s batch vector) right n)) c

@@ -20,9 +20,9 @@ use Rattle.query_eval.specs.Kept.{rows_at}
 use Rattle.query_eval.specs.Places.{ArePlaced, IsGrown, IsTakenIn, rows_placed}
 use Rattle.query_eval.specs.Slices.{AreParted, AreSliced, IsSlice, IsSplit, differs_at, occurs_in, rows_outside, rows_sliced}
 use Rattle.query_eval.specs.Vector.{Vector, row_at}
-use Rattle.query_eval.specs.declared.decoded.Decoded.{Decoded}
-use Rattle.query_eval.specs.declared.split.Slice.{Slice}
-use Rattle.query_eval.specs.declared.split.Split.{Split}
+use Rattle.query_eval.specs.declared.filter.decoded.Decoded.{Decoded}
+use Rattle.query_eval.specs.declared.grouping.split.Slice.{Slice}
+use Rattle.query_eval.specs.declared.grouping.split.Split.{Split}
 use Rattle.query_eval.proofs.Lifted.{rows_of-alike}
 use Rattle.query_eval.proofs.PlaceLemmas.{grown_more, grown_same, turned}
 use Rattle.query_eval.proofs.RowsBelow.{below_all}

@@ -15,7 +15,7 @@ use Rattle.query_eval.specs.Aggregate.{aggregate_value}
 use Rattle.query_eval.specs.Finished.{GroupFields, finished_groups}
 use Rattle.query_eval.specs.Kept.{AreFew, rows_alive, rows_kept}
 use Rattle.query_eval.specs.Vector.{IsWithin, batch_at}
-use Rattle.query_eval.specs.declared.aggregate.Aggregate.{Aggregate}
+use Rattle.query_eval.specs.declared.tallies.aggregate.Aggregate.{Aggregate}
 use Rattle.query_eval.proofs.Lifted.{keeps}
 
 -- ---- the one group

@@ -11,10 +11,10 @@ use Rattle.query_eval.specs.Grouping.{IsHeld, aggregate_values}
 use Rattle.query_eval.specs.Kept.{rows_at}
 use Rattle.query_eval.specs.Tally.{IsTally, kind_of}
 use Rattle.query_eval.specs.Vector.{Vector, cell_at, looked_at}
-use Rattle.query_eval.specs.declared.aggregate.Aggregate.{Aggregate}
-use Rattle.query_eval.specs.declared.aggregate.Aggregate.TheVariants.{Rows, Folded}
-use Rattle.query_eval.specs.declared.tally.Tally.{Tally}
-use Rattle.query_eval.specs.declared.tally.TallyKind.TheVariants as kinds
+use Rattle.query_eval.specs.declared.tallies.aggregate.Aggregate.{Aggregate}
+use Rattle.query_eval.specs.declared.tallies.aggregate.Aggregate.TheVariants.{Rows, Folded}
+use Rattle.query_eval.specs.declared.tallies.tally.Tally.{Tally}
+use Rattle.query_eval.specs.declared.tallies.tally.TallyKind.TheVariants as kinds
 use Rattle.query_eval.proofs.ColumnLemmas.{values-at}
 use Rattle.query_eval.proofs.Lifted.{none_if, none_present}
 

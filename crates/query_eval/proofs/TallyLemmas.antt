@@ -8,7 +8,7 @@ use Rattle.table_model.specs.Values.{total, lesser, greater, least, greatest}
 use Rattle.table_model.proofs.Appended.{total-append, least-append, greatest-append}
 use Rattle.table_model.proofs.Bounds.{AreSmall, total-small}
 use Rattle.query_eval.specs.Tally.{AreSums, AreTold}
-use Rattle.query_eval.specs.declared.tally.Sums.{Sums}
+use Rattle.query_eval.specs.declared.tallies.tally.Sums.{Sums}
 
 -- ---- bounds
 small_parts : (xs : List ℤ) (z : ℤ) → AreSmall (xs ++ z ∷ []) → AreSmall xs × IsWithin (2 ^ 63) z

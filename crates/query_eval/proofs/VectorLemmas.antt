@@ -7,10 +7,10 @@ use Rattle.query_eval.specs.Kept.{rows_at}
 use Rattle.query_eval.specs.Places.{IsIndex}
 use Rattle.query_eval.specs.Slices.{IsSplit}
 use Rattle.query_eval.specs.Vector.{Vector}
-use Rattle.query_eval.specs.declared.aggregate.Aggregate.{Aggregate}
-use Rattle.query_eval.specs.declared.places.Places.{Places}
-use Rattle.query_eval.specs.declared.split.Split.{Split}
-use Rattle.query_eval.specs.declared.tally.Tally.{Tally}
+use Rattle.query_eval.specs.declared.tallies.aggregate.Aggregate.{Aggregate}
+use Rattle.query_eval.specs.declared.grouping.places.Places.{Places}
+use Rattle.query_eval.specs.declared.grouping.split.Split.{Split}
+use Rattle.query_eval.specs.declared.tallies.tally.Tally.{Tally}
 use Rattle.query_eval.proofs.GroupingLemmas.{groups_more}
 
 pub vector_more : (by places : List ℕ) (named first : List Aggregate) (v w : Vector) (mask : List Bool) (before after : Places) (split : Split) (count : ℕ) (old new : List (Vec Tally)) → places ≡ by → first ≡ named → w ≡ v

@@ -19,8 +19,8 @@ use Rattle.table_model.specs.declared.query.Predicate.{Predicate}
 use Rattle.table_model.specs.declared.query.Predicate.TheVariants.{Compare, Between, In, IsNull}
 use Rattle.table_model.specs.declared.query.SetFunction.{SetFunction}
 use Rattle.table_model.specs.declared.query.SetFunction.TheVariants.{CountRows, Of}
-use Rattle.query_eval.specs.declared.aggregate.Aggregate.{Aggregate}
-use Rattle.query_eval.specs.declared.aggregate.Aggregate.TheVariants.{Rows, Folded}
+use Rattle.query_eval.specs.declared.tallies.aggregate.Aggregate.{Aggregate}
+use Rattle.query_eval.specs.declared.tallies.aggregate.Aggregate.TheVariants.{Rows, Folded}
 
 -- a set function with its column by its place
 abbrev pub aggregate_of : List ColumnShape → SetFunction → Aggregate

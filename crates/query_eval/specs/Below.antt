@@ -3,7 +3,7 @@ use Rattle.std.specs.Prelude.{◌≡◌, ℕ, Bool, ◌&&◌, nat_lt, List}
 use Rattle.table_model.specs.Truth.{is_true, is_false}
 use Rattle.table_model.specs.declared.truth.Truth.{Truth}
 use Rattle.transpose_order.specs.Mask.{rows_of, has}
-use Rattle.query_eval.specs.declared.pair.Pair.{Pair}
+use Rattle.query_eval.specs.declared.filter.pair.Pair.{Pair}
 
 -- the rows below k that pass a test
 unfoldable pub passing_below : ℕ → (ℕ → Bool) → List Bool

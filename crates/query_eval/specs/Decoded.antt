@@ -1,8 +1,8 @@
 -- Cells of decoded columns.
 use Rattle.std.specs.Prelude.{ℕ, cond, slice_index_or, Option, Some, None, ℤ, pos}
 use Rattle.transpose_order.specs.Mask.{has}
-use Rattle.query_eval.specs.declared.decoded.Decoded.{Decoded}
-use Rattle.query_eval.specs.declared.decoded.Decoded.TheVariants.{Column, Fixed}
+use Rattle.query_eval.specs.declared.filter.decoded.Decoded.{Decoded}
+use Rattle.query_eval.specs.declared.filter.decoded.Decoded.TheVariants.{Column, Fixed}
 
 -- the cell at a row
 abbrev pub decoded_at : Decoded → ℕ → Option ℤ

@@ -14,7 +14,7 @@ use Rattle.table_model.specs.declared.query.ItemValue.TheVariants.{Grouped, Comp
 use Rattle.table_model.specs.declared.query.Operand.{Operand}
 use Rattle.table_model.specs.declared.query.Operand.TheVariants.{Column, Literal, Function}
 use Rattle.query_eval.specs.Aggregate.{aggregate_of, aggregate_value, aggregates_of, same_aggregate}
-use Rattle.query_eval.specs.declared.aggregate.Aggregate.{Aggregate}
+use Rattle.query_eval.specs.declared.tallies.aggregate.Aggregate.{Aggregate}
 
 -- a finished group: its cells in the grouping columns, and a field for each of some aggregates
 pub record GroupFields : Type 0 where

@@ -14,12 +14,12 @@ use Rattle.query_eval.specs.Tally.{IsTally, kind_of}
 use Rattle.query_eval.specs.TallyKinds.{aggregate_kind}
 use Rattle.query_eval.specs.Vector.{Vector, row_at}
 use Rattle.transpose_order.specs.Mask.{has}
-use Rattle.query_eval.specs.declared.aggregate.Aggregate.{Aggregate}
-use Rattle.query_eval.specs.declared.aggregate.Aggregate.TheVariants.{Rows, Folded}
-use Rattle.query_eval.specs.declared.split.Split.{Split}
-use Rattle.query_eval.specs.declared.side.Side.{Side}
-use Rattle.query_eval.specs.declared.side.Side.TheVariants.{Column, Fixed}
-use Rattle.query_eval.specs.declared.tally.Tally.{Tally}
+use Rattle.query_eval.specs.declared.tallies.aggregate.Aggregate.{Aggregate}
+use Rattle.query_eval.specs.declared.tallies.aggregate.Aggregate.TheVariants.{Rows, Folded}
+use Rattle.query_eval.specs.declared.grouping.split.Split.{Split}
+use Rattle.query_eval.specs.declared.filter.side.Side.{Side}
+use Rattle.query_eval.specs.declared.filter.side.Side.TheVariants.{Column, Fixed}
+use Rattle.query_eval.specs.declared.tallies.tally.Tally.{Tally}
 
 -- the side of a column by its place; a table has no value past its last column
 abbrev pub place_side : Table → ℕ → Side

@@ -8,8 +8,8 @@ use Rattle.table_model.specs.State.{Cells, same_cells}
 use Rattle.table_model.specs.Values.{present}
 use Rattle.transpose_order.specs.Mask.{has}
 use Rattle.query_eval.specs.Vector.{Vector, row_at}
-use Rattle.query_eval.specs.declared.places.Places.{Places}
-use Rattle.query_eval.specs.declared.places.Recent.{Recent}
+use Rattle.query_eval.specs.declared.grouping.places.Places.{Places}
+use Rattle.query_eval.specs.declared.grouping.places.Recent.{Recent}
 
 -- the rows of a mask below k, in order
 abbrev pub rows_below : ℕ → Vector → List Bool → List Cells

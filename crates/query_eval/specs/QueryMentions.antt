@@ -11,8 +11,8 @@ use Rattle.table_model.specs.declared.query.Predicate.TheVariants.{Compare, Betw
 use Rattle.table_model.specs.declared.query.SetFunction.{SetFunction}
 use Rattle.table_model.specs.declared.query.SetFunction.TheVariants.{CountRows, Of}
 use Rattle.query_eval.specs.Kept.{where_mentions}
-use Rattle.query_eval.specs.declared.aggregate.Aggregate.{Aggregate}
-use Rattle.query_eval.specs.declared.aggregate.Aggregate.TheVariants.{Rows, Folded}
+use Rattle.query_eval.specs.declared.tallies.aggregate.Aggregate.{Aggregate}
+use Rattle.query_eval.specs.declared.tallies.aggregate.Aggregate.TheVariants.{Rows, Folded}
 
 -- an aggregate mentions its column, and COUNT(*) none
 abbrev pub aggregate_mentions : Aggregate → ℕ

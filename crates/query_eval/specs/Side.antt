@@ -6,8 +6,8 @@ use Rattle.table_model.specs.Table.{Table}
 use Rattle.table_model.specs.declared.query.Operand.{Operand}
 use Rattle.query_eval.specs.Vector.{Vector, IsThere, vector_at, cell_at}
 use Rattle.query_eval.specs.Where.{operand_at}
-use Rattle.query_eval.specs.declared.side.Side.{Side}
-use Rattle.query_eval.specs.declared.side.Side.TheVariants.{Column, Fixed}
+use Rattle.query_eval.specs.declared.filter.side.Side.{Side}
+use Rattle.query_eval.specs.declared.filter.side.Side.TheVariants.{Column, Fixed}
 
 -- a side's cell at a row of a vector
 abbrev pub side_at : Vector → Side → ℕ → Option ℤ

@@ -11,8 +11,8 @@ use Rattle.transpose_order.specs.Mask.{has, rows_of}
 use Rattle.query_eval.specs.Kept.{rows_at}
 use Rattle.query_eval.specs.Places.{IsGrown, rows_placed}
 use Rattle.query_eval.specs.Vector.{Vector, row_at}
-use Rattle.query_eval.specs.declared.split.Slice.{Slice}
-use Rattle.query_eval.specs.declared.split.Split.{Split}
+use Rattle.query_eval.specs.declared.grouping.split.Slice.{Slice}
+use Rattle.query_eval.specs.declared.grouping.split.Split.{Split}
 
 -- the values at the rows of a mask, in row order
 abbrev pub values_at : List Bool → List ℤ → List ℤ

@@ -4,10 +4,10 @@ use Rattle.table_model.specs.State.{Cells}
 use Rattle.query_eval.specs.Finished.{PlanShape}
 use Rattle.query_eval.specs.Grouping.{AreGroups, IsHeld}
 use Rattle.query_eval.specs.Places.{IsIndex}
-use Rattle.query_eval.specs.declared.aggregate.Aggregate.{Aggregate}
-use Rattle.query_eval.specs.declared.taken.Taken.{Taken}
-use Rattle.query_eval.specs.declared.taken.Taken.TheVariants.{Whole, Grouped}
-use Rattle.query_eval.specs.declared.tally.Tally.{Tally}
+use Rattle.query_eval.specs.declared.tallies.aggregate.Aggregate.{Aggregate}
+use Rattle.query_eval.specs.declared.answers.taken_rows.Taken.{Taken}
+use Rattle.query_eval.specs.declared.answers.taken_rows.Taken.TheVariants.{Whole, Grouped}
+use Rattle.query_eval.specs.declared.tallies.tally.Tally.{Tally}
 
 -- the tallies are those of some aggregates over the same rows, one each
 pub record AreTallied (aggregates : List Aggregate) (rows : List Cells) (tallies : List Tally) : Type 0 where

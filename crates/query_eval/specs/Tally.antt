@@ -5,11 +5,11 @@ use Rattle.std.specs.Ordering.{int_eq}
 use Rattle.table_model.specs.Group.{state_row_limit}
 use Rattle.table_model.specs.Values.{total, least, greatest}
 use Rattle.table_model.proofs.Bounds.{AreSmall}
-use Rattle.query_eval.specs.declared.tally.Sums.{Sums}
-use Rattle.query_eval.specs.declared.tally.Tally.{Tally}
-use Rattle.query_eval.specs.declared.tally.Tally.TheVariants.{Count, Sum, Least, Greatest, Distinct}
-use Rattle.query_eval.specs.declared.tally.TallyKind.{TallyKind}
-use Rattle.query_eval.specs.declared.tally.TallyKind.TheVariants as kinds
+use Rattle.query_eval.specs.declared.tallies.tally.Sums.{Sums}
+use Rattle.query_eval.specs.declared.tallies.tally.Tally.{Tally}
+use Rattle.query_eval.specs.declared.tallies.tally.Tally.TheVariants.{Count, Sum, Least, Greatest, Distinct}
+use Rattle.query_eval.specs.declared.tallies.tally.TallyKind.{TallyKind}
+use Rattle.query_eval.specs.declared.tallies.tally.TallyKind.TheVariants as kinds
 
 -- the number and the sum of some values
 pub record AreSums (values : List ℤ) (sums : Sums) : Type 0 where

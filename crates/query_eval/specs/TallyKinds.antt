@@ -2,10 +2,10 @@
 use Rattle.std.specs.Prelude.{Bool, true, false}
 use Rattle.table_model.specs.declared.query.Fold.{Fold}
 use Rattle.table_model.specs.declared.query.Fold.TheVariants.{Count, Sum, Avg, Min, Max}
-use Rattle.query_eval.specs.declared.aggregate.Aggregate.{Aggregate}
-use Rattle.query_eval.specs.declared.aggregate.Aggregate.TheVariants.{Rows, Folded}
-use Rattle.query_eval.specs.declared.tally.TallyKind.{TallyKind}
-use Rattle.query_eval.specs.declared.tally.TallyKind.TheVariants as kinds
+use Rattle.query_eval.specs.declared.tallies.aggregate.Aggregate.{Aggregate}
+use Rattle.query_eval.specs.declared.tallies.aggregate.Aggregate.TheVariants.{Rows, Folded}
+use Rattle.query_eval.specs.declared.tallies.tally.TallyKind.{TallyKind}
+use Rattle.query_eval.specs.declared.tallies.tally.TallyKind.TheVariants as kinds
 
 -- what a set function of a column keeps: under DISTINCT each value, else what it is made of
 abbrev pub fold_kind : Bool → Fold → TallyKind

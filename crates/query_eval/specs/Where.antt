@@ -1,20 +1,25 @@
 -- A condition of WHERE at the rows of a vector.
-use Rattle.std.specs.Prelude.{◌≡◌, ℕ, Bool, List}
+use Rattle.std.specs.Prelude.{◌≡◌, ℕ, ◌<◌, Bool, false, List}
 use Rattle.table_model.specs.Condition.{condition_truth}
 use Rattle.table_model.specs.Formula.{Formula}
 use Rattle.table_model.specs.Meaning.{at_row}
 use Rattle.table_model.specs.Table.{Table}
+use Rattle.table_model.specs.Truth.{is_true}
 use Rattle.table_model.specs.declared.answer.Field.{Field}
 use Rattle.table_model.specs.declared.query.Operand.{Operand}
 use Rattle.table_model.specs.declared.truth.Truth.{Truth}
 use Rattle.query_eval.specs.Pairs.{yes_of, no_of}
 use Rattle.query_eval.specs.Vector.{Vector, row_at}
-use Rattle.query_eval.specs.declared.pair.Pair.{Pair}
+use Rattle.query_eval.specs.declared.filter.pair.Pair.{Pair}
 
 -- a pair has the rows of a mask where a truth value is true, and those where it is false
 pub record IsPair (mask : List Bool) (t : ℕ → Truth) (pair : Pair) : Type 0 where
   pub yes : pair.yes ≡ yes_of mask t
   pub no : pair.no ≡ no_of mask t
+
+-- a truth value is true at no row of a vector
+pub record IsNowhere (t : ℕ → Truth) : Type 0 where
+  pub none : (n : ℕ) → n < 1024 → is_true (t n) ≡ false
 
 -- an operand at a row of a vector
 abbrev pub operand_at : Table → Vector → Operand → ℕ → Field

@@ -10,7 +10,7 @@ use transpose_order::Mask;
 /// that aren't null; a mask may have deleted rows and rows past the vector's end.
 pub trait Columns {
     ghost use Rattle.std.specs.Prelude.{◌≡◌, ◌<◌, ◌≤◌, ℕ, List, length, map, not, Some, ℤ, pos, int_le, slice_index_or};
-    ghost use Rattle.std.specs.Prelude.{◌&&◌};
+    ghost use Rattle.std.specs.Prelude.{◌&&◌, false};
     ghost use Rattle.table_model.specs.Condition.{is_null};
     ghost use Rattle.table_model.specs.Answer.{whole};
     ghost use Rattle.table_model.specs.State.{State};
@@ -21,6 +21,7 @@ pub trait Columns {
     ghost use Rattle.transpose_order.specs.Mask.{rows_of};
     ghost use Rattle.query_eval.specs.Pairs.{yes_of, no_of};
     ghost use Rattle.table_model.specs.Passes.{raised};
+    ghost use Rattle.query_eval.specs.Where.{IsNowhere};
     ghost use Rattle.query_eval.specs.Vector.{IsThere, IsWithin, batch_at, batch_count, vector_count, vector_at, is_live, cell_at, looked_at};
 
     ghost table: { Self → Table };
@@ -58,6 +59,13 @@ pub trait Columns {
         requires there { IsThere (state self.now) batch vector }
         requires column { column < length (table self.now).columns }
         ensures { result ≡ rows_of (λ n. is_null (whole (cell_at (vector_at (state self.now) batch vector) column n))) };
+
+    /// Whether a column may have a value in a vector that is neither below `low` nor above `high`, by what is known of all its
+    /// values together, as the bounds of a frame or the ends of a dictionary: no row's value is looked at, and no pass is made.
+    fn may_have(&self, batch: usize, column: usize, vector: usize, low: i128, high: i128) -> bool
+        requires there { IsThere (state self.now) batch vector }
+        requires column { column < length (table self.now).columns }
+        ensures { result ≡ false → IsNowhere (λ n. and_of (comparison GreaterOrEqual (cell_at (vector_at (state self.now) batch vector) column n) (Some low)) (comparison LessOrEqual (cell_at (vector_at (state self.now) batch vector) column n) (Some high))) };
 
     /// The rows of a mask at which the comparison of a column with a literal is true, and those at which it is false.
     fn compare(

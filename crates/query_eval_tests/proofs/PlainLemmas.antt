@@ -16,7 +16,7 @@ use Rattle.table_model.specs.Group.{cell}
 use Rattle.table_model.specs.Name.{name_cmp, row_name_cmp}
 use Rattle.table_model.specs.State.{Cells, Batch, named_from, named_rows}
 use Rattle.table_model.specs.Table.{Table, ColumnShape, IsRow, AreRows, IsBatch, least_of, greatest_of}
-use Rattle.table_model.specs.Truth.{comparison}
+use Rattle.table_model.specs.Truth.{comparison, is_true}
 use Rattle.table_model.specs.Values.{present}
 use Rattle.table_model.specs.declared.op.Op.{Op}
 use Rattle.table_model.specs.declared.names.BatchName.{BatchName}
@@ -27,7 +27,10 @@ use Rattle.transpose_order.specs.MaskWords.{has-rows_of, rows_of-like}
 use Rattle.query_eval.proofs.TableLemmas.{length-named_from}
 use Rattle.query_eval.specs.Below.{passing_below}
 use Rattle.query_eval.specs.Grouping.{as_list}
+use Rattle.query_eval.specs.Pairs.{yes_of}
 use Rattle.query_eval_tests.specs.PlainRows.{plain_name, plain_state, plain_vector}
+use Rattle.query_eval.specs.Where.{IsNowhere}
+use Rattle.table_model.specs.declared.truth.Truth.{Truth}
 use Rattle.query_eval.specs.Vector.{Vector, IsThere, IsWithin, batch_at, batch_count, vector_count, vector_at, row_at, cell_at, is_live, looked_at}
 
 -- ---- the state and its vectors
@@ -216,3 +219,12 @@ cell_at_fits table rows vector column n z h l e = one (cases_lt (1024 * vector +
 
 pub compared_same : (op : Op) (x y l m : Option ℤ) → x ≡ y → l ≡ m → comparison op x l ≡ comparison op y m
 compared_same op x y l m e f = ap (λ z. comparison op z l) e ∙ ap (comparison op y) f
+
+-- ---- bounds
+-- where a condition is true at no row of the whole mask, it is so nowhere
+pub nowhere_true : (all yes : List Bool) (t : ℕ → Truth) → all ≡ rows_of (λ _. true) → yes ≡ yes_of all t → ((n : ℕ) → n < 1024 → has yes n ≡ false) → IsNowhere t
+unfolding yes_of
+nowhere_true all yes t e y h = record {
+  none = λ n l. sym (ap (λ b. b && is_true (t n)) (ap (λ m. has m n) e ∙ has-rows_of (λ _. true) n l))
+      ∙ sym (has-rows_of (λ k. has all k && is_true (t k)) n l) ∙ ap (λ m. has m n) (sym y) ∙ h n l;
+}

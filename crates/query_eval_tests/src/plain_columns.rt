@@ -13,7 +13,7 @@ ghost use Rattle.query_eval.specs.Below.{IsPairBelow};
 ghost use Rattle.query_eval.specs.Decoded.{decoded_at};
 ghost use Rattle.query_eval_tests.specs.PlainRows.{plain_vector};
 ghost use Rattle.query_eval.specs.Vector.{cell_at, is_live, looked_at};
-ghost use Rattle.query_eval.specs.Where.{IsPair};
+ghost use Rattle.query_eval.specs.Where.{IsNowhere, IsPair};
 
 use query_eval::{Columns, Decoded, Pair, greater, lesser};
 use std::marker::Model;
@@ -281,6 +281,14 @@ impl Columns for PlainColumns {
 
     fn nulls(&self, _batch: usize, column: usize, vector: usize) -> Mask {
         self.nulls_at(column, vector)
+    }
+
+    fn may_have(&self, _batch: usize, column: usize, vector: usize, low: i128, high: i128) -> bool {
+        let cells = self.decoded(column, vector);
+        let lows = Decoded::Fixed(Some(low));
+        let highs = Decoded::Fixed(Some(high));
+        let pair = range_rows(&cells, &lows, &highs, &Mask::all());
+        pair.yes.next_true(0) < 1024
     }
 
     fn compare(

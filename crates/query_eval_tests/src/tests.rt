@@ -1,12 +1,11 @@
 //! Queries over plain rows: answers worked out by hand, and the passes that their mentions of columns allow.
 use crate::plain_columns::PlainColumns;
-use query_eval::{Columns, Decoded, Pair, among_rows, answer, between_rows, text};
+use query_eval::{Columns, answer, text};
 use query_parser::parse;
 use std::alloc::{AllocError, Global};
 use std::test::Fail;
 use table_model::{ColType, Query, Row, Rows, Schema};
 use test_support::agree_at;
-use transpose_order::Mask;
 
 /// A row of table T: its cells in columns A and B.
 pub(crate) type Cells = [Option<i128>; 2];
@@ -53,6 +52,14 @@ fn have_answers(alloc: Global, columns: &mut PlainColumns, cases: &[Case]) -> Re
     }
     Ok(())
 }
+
+const FIVE_ROWS: [Cells; 5] = [
+    [Some(1), Some(10)],
+    [Some(1), None],
+    [None, Some(5)],
+    [Some(2), Some(7)],
+    [Some(2), Some(7)],
+];
 
 // One vector: as many passes as columns are mentioned.
 const OF_FIVE_ROWS: [Case; 23] = [
@@ -143,14 +150,7 @@ const OF_FIVE_ROWS: [Case; 23] = [
 
 #[test]
 fn five_rows_with_nulls_and_twins(rt: HostRuntime) -> Result<(), Fail> {
-    let rows = [
-        [Some(1), Some(10)],
-        [Some(1), None],
-        [None, Some(5)],
-        [Some(2), Some(7)],
-        [Some(2), Some(7)],
-    ];
-    let mut columns = columns_of(rt.alloc(), &rows)?;
+    let mut columns = columns_of(rt.alloc(), &FIVE_ROWS)?;
     have_answers(rt.alloc(), &mut columns, &OF_FIVE_ROWS)
 }
 
@@ -377,43 +377,159 @@ fn groups_in_runs_of_rows(rt: HostRuntime) -> Result<(), Fail> {
     have_answers(rt.alloc(), &mut columns, &OF_RUNS)
 }
 
-/// Whether a pair says true at all rows of a mask, false at all of them, or neither at any row.
-fn is_everywhere(pair: &Pair, mask: &Mask, truth: Option<bool>) -> bool {
-    let none = Mask::none();
-    match truth {
-        Some(true) => pair.yes == *mask && pair.no == none,
-        Some(false) => pair.yes == none && pair.no == *mask,
-        None => pair.yes == none && pair.no == none,
-    }
+// A cell that is the same at each row is looked up among literals, and between two cells, at the rows of the mask alone.
+const OF_ONE_CELL: [Case; 6] = [
+    (
+        "SELECT COUNT(*) FROM T WHERE A = 1 AND 7 IN (6, 7)",
+        "COUNT(*)\n2\n",
+        1,
+    ),
+    (
+        "SELECT COUNT(*) FROM T WHERE A = 1 AND 8 IN (6, 7)",
+        "COUNT(*)\n0\n",
+        1,
+    ),
+    (
+        "SELECT COUNT(*) FROM T WHERE A = 1 AND 8 NOT IN (6, 7)",
+        "COUNT(*)\n2\n",
+        1,
+    ),
+    (
+        "SELECT COUNT(*) FROM T WHERE NOT (5 BETWEEN 6 AND B)",
+        "COUNT(*)\n5\n",
+        1,
+    ),
+    (
+        "SELECT COUNT(*) FROM T WHERE 6 BETWEEN 6 AND B",
+        "COUNT(*)\n3\n",
+        1,
+    ),
+    (
+        "SELECT COUNT(*) FROM T WHERE NOT (6 BETWEEN 6 AND B)",
+        "COUNT(*)\n1\n",
+        1,
+    ),
+];
+
+#[test]
+fn a_cell_is_judged_at_the_rows_of_the_mask(rt: HostRuntime) -> Result<(), Fail> {
+    let mut columns = columns_of(rt.alloc(), &FIVE_ROWS)?;
+    have_answers(rt.alloc(), &mut columns, &OF_ONE_CELL)
 }
 
-// A cell that is the same at each row is looked up among literals, and between two cells, at the rows of the mask alone.
+// Where no value is within what a condition asks for, it takes no pass. NOT and IS are looked into by values alone.
+const OF_BOUNDS: [Case; 14] = [
+    ("SELECT COUNT(*) FROM T WHERE B = 99", "COUNT(*)\n0\n", 0),
+    (
+        "SELECT COUNT(*) FROM T WHERE B IN (99, 98)",
+        "COUNT(*)\n0\n",
+        0,
+    ),
+    (
+        "SELECT COUNT(*) FROM T WHERE B IN (99, 7)",
+        "COUNT(*)\n2\n",
+        1,
+    ),
+    (
+        "SELECT COUNT(*) FROM T WHERE B BETWEEN 11 AND 20",
+        "COUNT(*)\n0\n",
+        0,
+    ),
+    (
+        "SELECT COUNT(*) FROM T WHERE B BETWEEN 10 AND 20",
+        "COUNT(*)\n1\n",
+        1,
+    ),
+    (
+        "SELECT COUNT(*) FROM T WHERE B BETWEEN 1 AND 5",
+        "COUNT(*)\n1\n",
+        1,
+    ),
+    (
+        "SELECT COUNT(*) FROM T WHERE A = 1 AND (B = 99 OR B = 98)",
+        "COUNT(*)\n0\n",
+        0,
+    ),
+    (
+        "SELECT COUNT(*) FROM T WHERE A = 1 OR B = 99",
+        "COUNT(*)\n2\n",
+        2,
+    ),
+    (
+        "SELECT COUNT(*) FROM T WHERE NOT B = 99",
+        "COUNT(*)\n4\n",
+        1,
+    ),
+    (
+        "SELECT COUNT(*) FROM T WHERE (B = 99) IS FALSE",
+        "COUNT(*)\n4\n",
+        1,
+    ),
+    (
+        "SELECT COUNT(*) FROM T WHERE (B = 99) IS UNKNOWN",
+        "COUNT(*)\n1\n",
+        1,
+    ),
+    (
+        "SELECT COUNT(*) FROM T WHERE B NOT IN (99)",
+        "COUNT(*)\n4\n",
+        1,
+    ),
+    (
+        "SELECT COUNT(*) FROM T WHERE B NOT BETWEEN 11 AND 20",
+        "COUNT(*)\n4\n",
+        1,
+    ),
+    (
+        "SELECT A, SUM(B) FROM T WHERE B = 99 GROUP BY A",
+        "A,SUM(B)\n",
+        0,
+    ),
+];
+
 #[test]
-fn a_cell_is_judged_at_the_rows_of_the_mask(rt: HostRuntime) {
-    let mut mask = Mask::none();
-    mask.set_range(5, 9, true);
-    for (cell, truth) in [(Some(7), Some(true)), (Some(8), Some(false)), (None, None)] {
-        let pair = among_rows(&Decoded::Fixed(cell), &[6, 7], &mask);
-        assert!(rt;
-            is_everywhere(&pair, &mask, truth),
-            "{cell:?} among 6 and 7"
-        );
+fn bounds_are_asked_first(rt: HostRuntime) -> Result<(), Fail> {
+    let mut columns = columns_of(rt.alloc(), &FIVE_ROWS)?;
+    have_answers(rt.alloc(), &mut columns, &OF_BOUNDS)
+}
+
+/// 1,100 rows: A is 0 or 1 by turns, and B stands by twos, as 0, 0, 1, 1, 2, 2, 0, 0 and so on, but for some nulls.
+fn rows_by_twos() -> [Cells; 1100] {
+    let mut rows = [[None, None]; 1100];
+    for n in 0..1100 {
+        let row = n as i128;
+        let cell = if n % 11 == 5 { None } else { Some(row / 2 % 3) };
+        rows[n] = [Some(row % 2), cell];
     }
-    for (cell, high, truth) in [
-        (Some(7), Some(7), Some(true)),
-        (Some(5), None, Some(false)),
-        (Some(6), None, None),
-        (None, Some(7), None),
-    ] {
-        let pair = between_rows(
-            &Decoded::Fixed(cell),
-            &Decoded::Fixed(Some(6)),
-            &Decoded::Fixed(high),
-            &mask,
-        );
-        assert!(rt;
-            is_everywhere(&pair, &mask, truth),
-            "{cell:?} from 6 to {high:?}"
-        );
-    }
+    rows
+}
+
+// A value comes again after others, after a null, after a row that isn't kept, and in the next vector.
+const OF_TWOS: [Case; 4] = [
+    (
+        "SELECT COUNT(DISTINCT B), SUM(DISTINCT B), MIN(DISTINCT B), MAX(DISTINCT B) FROM T",
+        "COUNT(DISTINCT B),SUM(DISTINCT B),MIN(DISTINCT B),MAX(DISTINCT B)\n3,3,0,2\n",
+        8,
+    ),
+    (
+        "SELECT COUNT(DISTINCT B) FROM T WHERE B <> 1",
+        "COUNT(DISTINCT B)\n2\n",
+        4,
+    ),
+    (
+        "SELECT COUNT(DISTINCT A), COUNT(DISTINCT B) FROM T WHERE A = 1 AND B = 2",
+        "COUNT(DISTINCT A),COUNT(DISTINCT B)\n1,1\n",
+        8,
+    ),
+    (
+        "SELECT A, COUNT(DISTINCT B) FROM T GROUP BY A",
+        "A,COUNT(DISTINCT B)\n0,3\n1,3\n",
+        4,
+    ),
+];
+
+#[test]
+fn distinct_values_that_come_again(rt: HostRuntime) -> Result<(), Fail> {
+    let mut columns = columns_of(rt.alloc(), &rows_by_twos())?;
+    have_answers(rt.alloc(), &mut columns, &OF_TWOS)
 }

@@ -114,6 +114,17 @@ impl<'a> Columns for StoreView<'a> {
         missing_rows(found)
     }
 
+    fn may_have(
+        &self,
+        _batch: usize,
+        _column: usize,
+        _vector: usize,
+        _low: i128,
+        _high: i128,
+    ) -> bool {
+        true
+    }
+
     fn compare(
         &mut self,
         batch: usize,

@@ -5,8 +5,8 @@ use Rattle.table_model.specs.declared.op.Op.TheVariants.{GreaterOrEqual, LessOrE
 use Rattle.table_model.specs.declared.truth.Truth.{Truth}
 use Rattle.query_eval.specs.Below.{IsPairBelow}
 use Rattle.query_eval.specs.Decoded.{decoded_at}
-use Rattle.query_eval.specs.declared.decoded.Decoded.{Decoded}
-use Rattle.query_eval.specs.declared.pair.Pair.{Pair}
+use Rattle.query_eval.specs.declared.filter.decoded.Decoded.{Decoded}
+use Rattle.query_eval.specs.declared.filter.pair.Pair.{Pair}
 use Rattle.query_eval.proofs.BelowLemmas.{pair_start, pair_skip, pair_end}
 use Rattle.query_eval.proofs.DecodedLemmas.{between_same}
 use Rattle.query_eval_tests.proofs.plain_columns.range_rows.Goals as goal

@@ -1,0 +1,23 @@
+-- Where the bounds leave no row, and without a live row, none is kept; else those at which the condition is true.
+use Rattle.std.proofs.Common.{Some, refl}
+use Rattle.query_eval.specs.Vector.{vector_at}
+use Rattle.query_eval.proofs.BoundsLemmas.{kept-outside}
+use Rattle.query_eval.proofs.KeptLemmas.{kept-nowhere, kept-where, live-some, passes-where}
+use Rattle.query_eval.proofs.filter.kept_rows.true_mask.Goals as goal
+
+pub returns-then-not-may_be_true-clause-value : goal.returns-then-not-may_be_true-clause-value
+returns-then-not-may_be_true-clause-value g c =
+    kept-outside (g.C.Columns.table c.args.columns.now) c.args.condition.now (vector_at (g.C.Columns.state c.args.columns.now) c.args.batch c.args.vector) c.none.result c.none.ensures (c.may_be_true.ensures c.if-not-may_be_true.true)
+
+pub returns-then-not-has_rows-clause-value : goal.returns-then-not-has_rows-clause-value
+returns-then-not-has_rows-clause-value g c =
+    kept-nowhere (g.C.Columns.table c.args.columns.now) (Some c.args.condition.now) (vector_at (g.C.Columns.state c.args.columns.now) c.args.batch c.args.vector) c.live-live.result c.live-live.ensures (c.has_rows.ensures.none c.if-not-has_rows.true)
+
+pub returns-clause-value : goal.returns-clause-value
+returns-clause-value g c =
+    kept-where (g.C.Columns.table c.args.columns.now) (Some c.args.condition.now) c.args.condition.now (vector_at (g.C.Columns.state c.args.columns.now) c.args.batch c.args.vector) c.live-live.result _ c.live-live.ensures refl c.condition_rows.ensures.value
+
+pub returns-clause-passes : goal.returns-clause-passes
+returns-clause-passes g c =
+    passes-where (vector_at (g.C.Columns.state c.args.columns.now) c.args.batch c.args.vector) (Some c.args.condition.now) c.args.condition.now _ _
+    (live-some (vector_at (g.C.Columns.state c.args.columns.now) c.args.batch c.args.vector) c.live-live.result _ c.live-live.ensures refl (c.has_rows.ensures.some c.if-not-has_rows.false)) refl c.condition_rows.ensures.passes

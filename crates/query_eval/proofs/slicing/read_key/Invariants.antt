@@ -1,7 +1,0 @@
--- The cells of the columns so far.
-use Rattle.std.proofs.Common.{◌≡◌, map, take}
-use Rattle.query_eval.specs.Decoded.{decoded_at}
-use Rattle.query_eval.proofs.slicing.read_key.Given as goal
-
-abbrev pub invariant-loop-column : goal.invariant-loop-column
-invariant-loop-column l = l.key ≡ map (λ column. decoded_at column l.row) (take l.column-index l.columns)

@@ -1,0 +1,33 @@
+-- One row more.
+use Rattle.std.proofs.Common.{rules, FitsSigned, w64, cond, pos, ◌≡◌, ◌==◌, ◌<◌, ◌++◌, ◌∷◌, [], ℕ, ℤ, List, length, get_or, refl, sym, subst, ◌∙◌, arith, append-nil}
+use Rattle.std.proofs.lemmas.Int.{to_z-of_z}
+use Rattle.table_model.specs.State.{Cells}
+use Rattle.query_eval.specs.Grouping.{IsHeld}
+use Rattle.query_eval.specs.Places.{rows_placed}
+use Rattle.query_eval.specs.Tally.{IsTally}
+use Rattle.query_eval.proofs.GroupingLemmas.{held_summed}
+use Rattle.query_eval.proofs.tallies.row_tallies.sum_rows.Goals as goal
+
+pub loop-row-init : goal.loop-row-init
+loop-row-init c = record { size = refl; held = λ a v mask kind shown g t taken l h. subst (λ (rows : List Cells). IsHeld rows a (get_or c.args.tallies.now.items g t)) (sym (append-nil taken)) h }
+
+pub loop-row-preserved : goal.loop-row-preserved
+loop-row-preserved c =
+    let inv = c.loop-row.invariant in
+    let values = c.args.values.now in
+    let row = c.loop-row.row in
+    let places = c.args.places.now in
+    let fits : FitsSigned w64 (get_or values row (pos 0)) = search rules in
+    record {
+      size = c.sum_value.ensures.size ∙ inv.size;
+      held = λ a v mask kind shown g t taken l h.
+          let inside : g < length c.loop-row.tallies.items = omega (arith, l, inv.size) in
+          let before = inv.held a v mask kind shown g t taken l h in
+          held_summed row v mask places g a taken c.args.rows.now values c.get.result (get_or c.loop-row.tallies.items g t) (get_or c.sum_value.new.tallies.items g t) c.loop-row-test.true shown c.get.ensures
+          (λ vs q. subst (λ (z : ℤ). IsTally (vs ++ cond (get_or places row 0 == g) (cond c.get.result (z ∷ []) []) []) (get_or c.sum_value.new.tallies.items g t)) (to_z-of_z w64 (get_or values row (pos 0)) fits) (c.sum_value.ensures.values g t vs inside (before.kind ∙ kind) q)) (c.sum_value.ensures.kind g t inside) before;
+    }
+
+pub returns-clause-held : goal.returns-clause-held
+returns-clause-held c = λ a v mask kind shown g t taken l h.
+    let e : c.loop-row.row ≡ 1024 = omega (arith, c.loop-row-test.false, c.loop-row.auto.row-end) in
+    subst (λ (k : ℕ). IsHeld (taken ++ rows_placed k v mask c.args.places.now g) a (get_or c.loop-row.tallies.items g t)) e (c.loop-row.invariant.held a v mask kind shown g t taken l h)

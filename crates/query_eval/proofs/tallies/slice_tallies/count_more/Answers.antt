@@ -1,0 +1,14 @@
+-- The values are counted in the tally at its place.
+use Rattle.std.proofs.Common.{rules, ◌≡◌, get_or, subst, sym, ap, set, refl, ◌∙◌, arith}
+use Rattle.query_eval.specs.Tally.{IsTally, kind_of}
+use Rattle.query_eval.specs.declared.tallies.tally.TallyKind.TheVariants as kinds
+use Rattle.query_eval.proofs.GroupingLemmas.{cell_values_of}
+use Rattle.query_eval.proofs.tallies.slice_tallies.count_more.Goals as goal
+
+pub returns-then-place-len-clause-values : goal.returns-then-place-len-clause-values
+returns-then-place-len-clause-values c = λ g t values added l is many h.
+    let now = c.args.tallies.now.items in
+    let place = c.args.place in
+    let at : c.index_mut.result.now ≡ get_or c.args.tallies.now.items c.args.place c.index_mut.result.now = search rules in
+    cell_values_of place now (set now place c.count_more.new.self) c.count_more.new.self c.index_mut.result.now (omega (arith, c.if-place-len.true, c.len.ensures)) refl kinds.Count added
+    (λ vs same held. c.count_more.ensures.values vs added (ap kind_of at ∙ same) many (subst (IsTally vs) (sym at) held)) g t values l is h

@@ -1,0 +1,73 @@
+//! Answers from finished groups.
+ghost use Rattle.std.specs.Prelude.{◌≡◌, List, IfOk, map, filter};
+ghost use Rattle.table_model.specs.Meaning.{answer_over, grouping_of, is_kept, rows_where};
+ghost use Rattle.table_model.specs.State.{Cells};
+ghost use Rattle.query_eval.specs.Aggregate.{aggregates_of};
+ghost use Rattle.query_eval.specs.Finished.{finished_groups, plan_of, seen_item, seen_operand};
+
+use crate::answers::finished_group::FinishedGroup;
+use crate::answers::having::{is_kept, item_at};
+use crate::answers::heading::heading;
+use crate::tallies::Plan;
+use std::alloc::{AllocError, Global};
+use table_model::{Answer, AnswerRow, Condition, Item, Query, Schema};
+
+/// The answer's row of a group: a field for each select item.
+fn row_of(
+    alloc: Global,
+    schema: &Schema,
+    plan: &Plan,
+    group: &FinishedGroup,
+    items: &[Item],
+) -> Result<AnswerRow, AllocError>
+    ensures { IfOk result (λ row. row ≡ map (λ item. seen_item schema.now.columns plan.now group.now item.value) items.now) }
+{
+    let mut fields = Vec::new(alloc);
+    for item in items {
+        fields.push(item_at(schema, plan, group, &item.value))?;
+    }
+    Ok(AnswerRow::from_fields(fields))
+}
+
+/// The rows of the groups that HAVING keeps, in the order of the groups.
+fn kept_rows(
+    alloc: Global,
+    schema: &Schema,
+    plan: &Plan,
+    groups: &[FinishedGroup],
+    items: &[Item],
+    having: &Option<Condition>,
+) -> Result<Vec<AnswerRow>, AllocError>
+    ensures { IfOk result (λ rows. rows.items ≡ map (λ group. map (λ item. seen_item schema.now.columns plan.now group item.value) items.now) (filter (λ group. is_kept having.now (seen_operand schema.now.columns plan.now group)) groups.now)) }
+{
+    let mut rows = Vec::new(alloc);
+    for group in groups {
+        if is_kept(schema, plan, group, having) {
+            rows.push(row_of(alloc, schema, plan, group, items)?)?;
+        }
+    }
+    Ok(rows)
+}
+
+/// The answer of a query whose groups are finished.
+pub fn finish(
+    alloc: Global,
+    schema: &Schema,
+    query: &Query,
+    plan: &Plan,
+    groups: &[FinishedGroup],
+) -> Result<Answer, AllocError>
+    requires { plan.now ≡ plan_of schema.now.columns query.now }
+    ensures { IfOk result (λ answer. (rows : List Cells) → groups.now ≡ finished_groups (aggregates_of schema.now.columns query.now) (grouping_of schema.now.columns query.now) (rows_where schema.now.columns query.now rows) → answer ≡ answer_over schema.now query.now rows) }
+{
+    let texts = heading(alloc, query.items.as_slice())?;
+    let rows = kept_rows(
+        alloc,
+        schema,
+        plan,
+        groups,
+        query.items.as_slice(),
+        &query.having,
+    )?;
+    Ok(Answer::new(texts, rows))
+}

@@ -1,0 +1,33 @@
+//! Answers of queries.
+ghost use Rattle.std.specs.Prelude.{◌≡◌, ◌≤◌, ◌+◌, ◌*◌, IfOk};
+ghost use Rattle.table_model.specs.Meaning.{answer_of};
+ghost use Rattle.query_eval.specs.Kept.{live_vectors};
+ghost use Rattle.query_eval.specs.QueryMentions.{query_mentions};
+
+use crate::answers::answer_rows::finish;
+use crate::answers::taken_rows::take_rows;
+use crate::columns::Columns;
+use crate::tallies::Plan;
+use std::alloc::{AllocError, Global};
+use table_model::{Answer, Query};
+
+/// The answer of a query: that of its meaning over the rows that aren't deleted. It changes the number of passes alone.
+///
+/// Each mention of a column in the query takes at most one pass over each of the column's vectors that has a live row. It is
+/// refused for want of memory alone, and may then have taken passes.
+pub fn answer<C: Columns>(
+    alloc: Global,
+    columns: &mut C,
+    query: &Query,
+) -> Result<Answer, AllocError>
+    ensures value { IfOk result (λ answer. answer ≡ answer_of (C.table columns.old) query.now (C.state columns.old)) }
+    ensures table { C.table columns.new ≡ C.table columns.old }
+    ensures state { C.state columns.new ≡ C.state columns.old }
+    ensures passes { IfOk result (λ _. C.passes columns.new ≤ C.passes columns.old + query_mentions query.now * live_vectors (C.state columns.old)) }
+{
+    let plan = Plan::of(alloc, columns.schema(), query)?;
+    let taken = take_rows(alloc, columns, &plan, &query.filter)?;
+    let finished = taken.finish(alloc, &plan)?;
+    let answer = finish(alloc, columns.schema(), query, &plan, finished.as_slice())?;
+    Ok(answer)
+}

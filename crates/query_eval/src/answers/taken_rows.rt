@@ -1,0 +1,151 @@
+//! What a query asks of its rows, taken in vector by vector: no list of the rows that are kept is made.
+ghost use Rattle.std.specs.Prelude.{◌≡◌, ◌<◌, ◌≤◌, ◌+◌, ◌*◌, ◌++◌, [], List, cond, IfOk, OnOk};
+ghost use Rattle.table_model.specs.State.{Cells};
+ghost use Rattle.table_model.specs.Table.{Table};
+ghost use Rattle.query_eval.specs.Finished.{finished_groups};
+ghost use Rattle.query_eval.specs.Grouping.{plan_mentions};
+ghost use Rattle.query_eval.specs.Kept.{where_mentions, kept_mask, has_live, live_vectors_in, live_vectors, rows_alive, batch_alive, rows_kept, rows_at, AreFew};
+ghost use Rattle.query_eval.specs.Taken.{AreTaken};
+ghost use Rattle.query_eval.specs.Vector.{IsThere, vector_at, batch_count};
+
+use crate::answers::finished_group::FinishedGroup;
+use crate::answers::grouped_table::grouped_table;
+use crate::columns::Columns;
+use crate::filter::{KeptVector, has_rows, kept_mask};
+use crate::grouping::{Groups, Room, group_vector};
+use crate::tallies::{Plan, Tally, no_tallies, tally_vector, whole_group};
+use std::alloc::{AllocError, Global};
+use table_model::Condition;
+
+/// What is known of the rows that were taken in.
+#[derive(Drop)]
+pub enum Taken {
+    /// Without GROUP BY: a tally of all rows for each aggregate.
+    Whole(Vec<Tally>),
+    /// With GROUP BY: the groups.
+    Grouped(Groups),
+}
+
+impl Taken {
+    /// What is known of no rows.
+    fn none(alloc: Global, plan: &Plan) -> Result<Taken, AllocError>
+        ensures { IfOk result (λ taken. AreTaken plan.now [] taken) }
+    {
+        if plan.grouping().is_empty() {
+            Ok(Taken::Whole(no_tallies(alloc, plan.aggregates())?))
+        } else {
+            Ok(Taken::Grouped(Groups::none(alloc, plan.aggregates())?))
+        }
+    }
+
+    /// Takes in the kept rows of a vector. Each mention of a column takes at most one pass.
+    fn take<C: Columns>(
+        &mut self,
+        alloc: Global,
+        columns: &mut C,
+        plan: &Plan,
+        kept: &KeptVector,
+        room: &mut Room,
+    ) -> Result<(), AllocError>
+        requires { IsThere (C.state columns.old) kept.now.batch kept.now.vector }
+        ensures taken { OnOk result ((rows : List Cells) → AreTaken plan.now rows self.old → AreTaken plan.now (rows ++ rows_at (vector_at (C.state columns.old) kept.now.batch kept.now.vector) kept.now.rows) self.new) }
+        ensures table { C.table columns.new ≡ C.table columns.old }
+        ensures state { C.state columns.new ≡ C.state columns.old }
+        ensures passes { OnOk result (C.passes columns.new ≤ C.passes columns.old + plan_mentions plan.now) }
+    {
+        match self {
+            Taken::Whole(tallies) => {
+                tally_vector(columns, kept, plan.aggregates(), tallies, &mut room.values)?;
+            }
+            Taken::Grouped(groups) => group_vector(alloc, columns, plan, groups, kept, room)?,
+        }
+        Ok(())
+    }
+
+    /// The groups of the rows that were taken in, when they are finished: one of all rows without GROUP BY.
+    pub fn finish(self, alloc: Global, plan: &Plan) -> Result<Vec<FinishedGroup>, AllocError>
+        ensures { IfOk result (λ groups. (table : Table) (rows : List Cells) → AreFew table rows → AreTaken plan.now rows self → groups.items ≡ finished_groups plan.now.aggregates plan.now.grouping rows) }
+    {
+        match self {
+            Taken::Whole(tallies) => whole_group(alloc, plan.aggregates(), tallies.as_slice()),
+            Taken::Grouped(groups) => grouped_table(alloc, plan, groups),
+        }
+    }
+}
+
+/// Takes in the rows of a vector that a query keeps. A vector without a live row takes no pass, and of one without a kept row
+/// nothing is taken in.
+fn take_vector<C: Columns>(
+    alloc: Global,
+    columns: &mut C,
+    plan: &Plan,
+    condition: &Option<Condition>,
+    batch: usize,
+    vector: usize,
+    taken: &mut Taken,
+    room: &mut Room,
+) -> Result<(), AllocError>
+    requires { IsThere (C.state columns.old) batch vector }
+    ensures taken { OnOk result ((rows : List Cells) → AreTaken plan.now rows taken.old → AreTaken plan.now (rows ++ rows_at (vector_at (C.state columns.old) batch vector) (kept_mask (C.table columns.old) condition.now (vector_at (C.state columns.old) batch vector))) taken.new) }
+    ensures table { C.table columns.new ≡ C.table columns.old }
+    ensures state { C.state columns.new ≡ C.state columns.old }
+    ensures passes { OnOk result (C.passes columns.new ≤ C.passes columns.old + cond (has_live (vector_at (C.state columns.old) batch vector)) (where_mentions condition.now + plan_mentions plan.now) 0) }
+{
+    let rows = kept_mask(columns, batch, vector, condition);
+    if !has_rows(&rows) {
+        return Ok(());
+    }
+    let kept = KeptVector {
+        batch,
+        vector,
+        rows,
+    };
+    taken.take(alloc, columns, plan, &kept, room)?;
+    Ok(())
+}
+
+/// Takes in the rows of a batch that a query keeps, vector by vector.
+fn take_batch<C: Columns>(
+    alloc: Global,
+    columns: &mut C,
+    plan: &Plan,
+    condition: &Option<Condition>,
+    batch: usize,
+    taken: &mut Taken,
+    room: &mut Room,
+) -> Result<(), AllocError>
+    requires { batch < batch_count (C.state columns.old) }
+    ensures taken { OnOk result ((rows : List Cells) → AreTaken plan.now rows taken.old → AreTaken plan.now (rows ++ rows_kept (C.table columns.old) condition.now (batch_alive (C.state columns.old) batch)) taken.new) }
+    ensures table { C.table columns.new ≡ C.table columns.old }
+    ensures state { C.state columns.new ≡ C.state columns.old }
+    ensures passes { OnOk result (C.passes columns.new ≤ C.passes columns.old + (where_mentions condition.now + plan_mentions plan.now) * live_vectors_in (C.state columns.old) batch) }
+{
+    for vector in 0..columns.vectors(batch) {
+        take_vector(alloc, columns, plan, condition, batch, vector, taken, room)?;
+    }
+    Ok(())
+}
+
+/// Takes in all rows that a query keeps, batch by batch. Each mention of a column takes at most one pass over each vector that
+/// has a live row.
+pub fn take_rows<C: Columns>(
+    alloc: Global,
+    columns: &mut C,
+    plan: &Plan,
+    condition: &Option<Condition>,
+) -> Result<Taken, AllocError>
+    ensures taken { IfOk result (λ taken. AreTaken plan.now (rows_kept (C.table columns.old) condition.now (rows_alive (C.state columns.old))) taken) }
+    ensures few { IfOk result (λ _. AreFew (C.table columns.old) (rows_kept (C.table columns.old) condition.now (rows_alive (C.state columns.old)))) }
+    ensures table { C.table columns.new ≡ C.table columns.old }
+    ensures state { C.state columns.new ≡ C.state columns.old }
+    ensures passes { IfOk result (λ _. C.passes columns.new ≤ C.passes columns.old + (where_mentions condition.now + plan_mentions plan.now) * live_vectors (C.state columns.old)) }
+{
+    let mut taken = Taken::none(alloc, plan)?;
+    let mut room = Room::new(alloc);
+    for batch in 0..columns.batches() {
+        take_batch(
+            alloc, columns, plan, condition, batch, &mut taken, &mut room,
+        )?;
+    }
+    Ok(taken)
+}

@@ -1,0 +1,92 @@
+//! Decoded columns: their rows one by one, for the predicates that no kernel answers, and the rows with one cell.
+ghost use Rattle.std.specs.Prelude.{◌≡◌, ◌<◌, ◌≤◌, ◌+◌, ℕ, false};
+ghost use Rattle.table_model.specs.State.{same_cell};
+ghost use Rattle.transpose_order.specs.Mask.{has};
+ghost use Rattle.query_eval.specs.Decoded.{decoded_at};
+ghost use Rattle.query_eval.specs.Side.{side_at, side_mentions, HasColumn};
+ghost use Rattle.query_eval.specs.Vector.{IsThere, vector_at};
+
+use crate::columns::Columns;
+use crate::filter::side::Side;
+use crate::tallies::{changed_rows, equal_rows};
+use transpose_order::Mask;
+
+/// The cells of a side at the rows of a vector: a column's nulls and values, or one cell that is the same at each row.
+#[derive(Drop)]
+pub enum Decoded {
+    Column { nulls: Mask, values: [i64; 1024] },
+    Fixed(Option<i128>),
+}
+
+impl Decoded {
+    /// The cell at a row.
+    pub fn at(&self, row: usize) -> Option<i128>
+        requires { row < 1024 }
+        ensures { result ≡ decoded_at self.now row }
+    {
+        match self {
+            Decoded::Column { nulls, values } => {
+                if nulls.get(row) {
+                    None
+                } else {
+                    Some(i128::from(values[row]))
+                }
+            }
+            Decoded::Fixed(cell) => *cell,
+        }
+    }
+
+    /// The rows with the same cell as a row: null is the same as null.
+    pub fn rows_like(&self, row: usize) -> Mask
+        requires { row < 1024 }
+        ensures { (n : ℕ) → n < 1024 → has result n ≡ same_cell (decoded_at self.now row) (decoded_at self.now n) }
+    {
+        match self {
+            Decoded::Column { nulls, values } => {
+                let null = nulls.get(row);
+                if null {
+                    *nulls
+                } else {
+                    equal_rows(values, values[row]).and_not(nulls)
+                }
+            }
+            Decoded::Fixed(_) => Mask::all(),
+        }
+    }
+
+    /// The rows where the cell may differ from that of the row before: in a column without nulls, where the value differs.
+    pub fn changes(&self) -> Mask
+        ensures { (n : ℕ) → n + 1 < 1024 → has result (n + 1) ≡ false → decoded_at self.now (n + 1) ≡ decoded_at self.now n }
+    {
+        match self {
+            Decoded::Column { nulls, values } => {
+                if nulls.next_true(0) == 1024 {
+                    changed_rows(values)
+                } else {
+                    Mask::all()
+                }
+            }
+            Decoded::Fixed(_) => Mask::none(),
+        }
+    }
+}
+
+/// A side's cells. A column takes one pass.
+pub fn decode<C: Columns>(columns: &mut C, batch: usize, vector: usize, side: Side) -> Decoded
+    requires there { IsThere (C.state columns.old) batch vector }
+    requires column { HasColumn (C.table columns.old) side }
+    ensures value { (n : ℕ) → n < 1024 → decoded_at result n ≡ side_at (vector_at (C.state columns.old) batch vector) side n }
+    ensures table { C.table columns.new ≡ C.table columns.old }
+    ensures state { C.state columns.new ≡ C.state columns.old }
+    ensures passes { C.passes columns.new ≤ C.passes columns.old + side_mentions side }
+{
+    match side {
+        Side::Fixed(cell) => Decoded::Fixed(cell),
+        Side::Column(column) => {
+            let nulls = columns.nulls(batch, column, vector);
+            let mut values = [0; 1024];
+            columns.decode_into(batch, column, vector, &mut values);
+            Decoded::Column { nulls, values }
+        }
+    }
+}

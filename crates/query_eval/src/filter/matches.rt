@@ -1,0 +1,77 @@
+//! The rows at which a condition is true, by their names.
+ghost use Rattle.std.specs.Prelude.{◌≡◌, ◌<◌, ◌≤◌, ◌+◌, ◌*◌, ◌++◌, Some, IfOk, OnOk};
+ghost use Rattle.table_model.specs.Meaning.{names_where};
+ghost use Rattle.query_eval.specs.Kept.{live_vectors_in, live_vectors, batch_rows, names_kept, names_at};
+ghost use Rattle.query_eval.specs.Mentions.{condition_mentions};
+ghost use Rattle.query_eval.specs.Vector.{batch_at, batch_count};
+
+use crate::columns::Columns;
+use crate::filter::kept_rows::true_mask;
+use std::alloc::{AllocError, Global};
+use table_model::{BatchName, Condition, RowName};
+use transpose_order::{Mask, VECTOR_ROWS};
+
+/// Adds the names of the rows of a vector's mask, where the vector's first row has the ordinal `first`.
+fn push_names(
+    names: &mut Vec<RowName>,
+    batch: BatchName,
+    first: usize,
+    rows: &Mask,
+) -> Result<(), AllocError>
+    requires { first + 1024 ≤ 65536 }
+    ensures { OnOk result (names.new.items ≡ names.old.items ++ names_at batch first rows.now) }
+{
+    for row in 0..VECTOR_ROWS {
+        if rows.get(row) {
+            names.push(RowName {
+                batch,
+                ordinal: (first + row) as u16,
+            })?;
+        }
+    }
+    Ok(())
+}
+
+/// Adds the names of a batch's rows at which the condition is true, vector by vector.
+fn match_batch<C: Columns>(
+    columns: &mut C,
+    condition: &Condition,
+    batch: usize,
+    names: &mut Vec<RowName>,
+) -> Result<(), AllocError>
+    requires { batch < batch_count (C.state columns.old) }
+    ensures names { OnOk result (names.new.items ≡ names.old.items ++ names_kept (C.table columns.old) (Some condition.now) (batch_rows (C.state columns.old) batch)) }
+    ensures table { C.table columns.new ≡ C.table columns.old }
+    ensures state { C.state columns.new ≡ C.state columns.old }
+    ensures passes { OnOk result (C.passes columns.new ≤ C.passes columns.old + condition_mentions condition.now * live_vectors_in (C.state columns.old) batch) }
+{
+    // `batches` ensures that the batch is within the limits.
+    let _batches = columns.batches();
+    let name = columns.name(batch);
+    for vector in 0..columns.vectors(batch) {
+        let rows = true_mask(columns, batch, vector, condition);
+        push_names(names, name, VECTOR_ROWS * vector, &rows)?;
+    }
+    Ok(())
+}
+
+/// The names of the rows that aren't deleted and at which a condition is true, in ascending order. It changes the number of passes
+/// alone.
+///
+/// Each mention of a column takes at most one pass over each of the column's vectors that has a live row.
+pub fn matching<C: Columns>(
+    alloc: Global,
+    columns: &mut C,
+    condition: &Condition,
+) -> Result<Vec<RowName>, AllocError>
+    ensures value { IfOk result (λ names. names.items ≡ names_where (C.table columns.old) condition.now (C.state columns.old)) }
+    ensures table { C.table columns.new ≡ C.table columns.old }
+    ensures state { C.state columns.new ≡ C.state columns.old }
+    ensures passes { IfOk result (λ _. C.passes columns.new ≤ C.passes columns.old + condition_mentions condition.now * live_vectors (C.state columns.old)) }
+{
+    let mut names = Vec::new(alloc);
+    for batch in 0..columns.batches() {
+        match_batch(columns, condition, batch, &mut names)?;
+    }
+    Ok(names)
+}

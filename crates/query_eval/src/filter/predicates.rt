@@ -1,0 +1,189 @@
+//! BETWEEN and IN of operands of WHERE over the rows of a vector, as pairs of masks.
+ghost use Rattle.std.specs.Prelude.{◌≡◌, ◌<◌, ◌≤◌, ◌+◌, length, Some};
+ghost use Rattle.table_model.specs.Answer.{whole};
+ghost use Rattle.table_model.specs.Condition.{between, is_among};
+ghost use Rattle.table_model.specs.Truth.{and_of, comparison};
+ghost use Rattle.table_model.specs.declared.op.Op.TheVariants.{GreaterOrEqual, LessOrEqual};
+ghost use Rattle.query_eval.specs.Mentions.{operand_mentions};
+ghost use Rattle.query_eval.specs.Pairs.{yes_of};
+ghost use Rattle.query_eval.specs.Side.{side_at, side_mentions, HasColumn};
+ghost use Rattle.query_eval.specs.Vector.{IsThere, cell_at, vector_at};
+ghost use Rattle.query_eval.specs.Where.{IsPair, operand_at};
+
+use crate::columns::Columns;
+use crate::filter::decoded::decode;
+use crate::filter::pair::Pair;
+use crate::filter::rows::{among, among_values, between, between_rows};
+use crate::filter::side::{Side, side_of};
+use table_model::{Literals, Operand};
+use transpose_order::Mask;
+
+/// BETWEEN of three sides at the rows of a mask: each column takes one pass. It stands apart from `between_sides`, and is never
+/// taken into it, since most conditions need no room for three decoded columns.
+#[inline(never)]
+fn between_decoded<C: Columns>(
+    columns: &mut C,
+    batch: usize,
+    vector: usize,
+    operand: Side,
+    low: Side,
+    high: Side,
+    mask: &Mask,
+) -> Pair
+    requires there { IsThere (C.state columns.old) batch vector }
+    requires operand { HasColumn (C.table columns.old) operand }
+    requires low { HasColumn (C.table columns.old) low }
+    requires high { HasColumn (C.table columns.old) high }
+    ensures value { IsPair mask.now (λ n. and_of (comparison GreaterOrEqual (side_at (vector_at (C.state columns.old) batch vector) operand n) (side_at (vector_at (C.state columns.old) batch vector) low n)) (comparison LessOrEqual (side_at (vector_at (C.state columns.old) batch vector) operand n) (side_at (vector_at (C.state columns.old) batch vector) high n))) result }
+    ensures table { C.table columns.new ≡ C.table columns.old }
+    ensures state { C.state columns.new ≡ C.state columns.old }
+    ensures passes { C.passes columns.new ≤ C.passes columns.old + (side_mentions operand + (side_mentions low + side_mentions high)) }
+{
+    let operand = decode(columns, batch, vector, operand);
+    let low = decode(columns, batch, vector, low);
+    let high = decode(columns, batch, vector, high);
+    between_rows(&operand, &low, &high, mask)
+}
+
+/// BETWEEN of three sides at the rows of a mask: a column between two literals takes one pass, and else each column one.
+fn between_sides<C: Columns>(
+    columns: &mut C,
+    batch: usize,
+    vector: usize,
+    operand: Side,
+    low: Side,
+    high: Side,
+    mask: &Mask,
+) -> Pair
+    requires there { IsThere (C.state columns.old) batch vector }
+    requires operand { HasColumn (C.table columns.old) operand }
+    requires low { HasColumn (C.table columns.old) low }
+    requires high { HasColumn (C.table columns.old) high }
+    ensures value { IsPair mask.now (λ n. and_of (comparison GreaterOrEqual (side_at (vector_at (C.state columns.old) batch vector) operand n) (side_at (vector_at (C.state columns.old) batch vector) low n)) (comparison LessOrEqual (side_at (vector_at (C.state columns.old) batch vector) operand n) (side_at (vector_at (C.state columns.old) batch vector) high n))) result }
+    ensures table { C.table columns.new ≡ C.table columns.old }
+    ensures state { C.state columns.new ≡ C.state columns.old }
+    ensures passes { C.passes columns.new ≤ C.passes columns.old + (side_mentions operand + (side_mentions low + side_mentions high)) }
+{
+    if let (Side::Column(column), Side::Fixed(Some(low)), Side::Fixed(Some(high))) = (
+        operand, low, high,
+    ) {
+        let (yes, no) = columns.compare_range(batch, column, vector, low, high, mask);
+        return Pair { yes, no };
+    }
+    between_decoded(columns, batch, vector, operand, low, high, mask)
+}
+
+/// The rows of a mask at which an operand is between two numbers. A column takes one pass, and no mask is made of the rows at which
+/// it isn't.
+pub fn range_rows<C: Columns>(
+    columns: &mut C,
+    batch: usize,
+    vector: usize,
+    operand: &Operand,
+    low: i128,
+    high: i128,
+    mask: &Mask,
+) -> Mask
+    requires there { IsThere (C.state columns.old) batch vector }
+    ensures value { result ≡ yes_of mask.now (λ n. between (operand_at (C.table columns.old) (vector_at (C.state columns.old) batch vector) operand.now n) (whole (Some low)) (whole (Some high))) }
+    ensures table { C.table columns.new ≡ C.table columns.old }
+    ensures state { C.state columns.new ≡ C.state columns.old }
+    ensures passes { C.passes columns.new ≤ C.passes columns.old + operand_mentions operand.now }
+{
+    match side_of(columns, operand) {
+        Side::Column(column) => {
+            let (yes, _no) = columns.compare_range(batch, column, vector, low, high, mask);
+            yes
+        }
+        Side::Fixed(cell) => {
+            let pair = Pair::everywhere(between(cell, Some(low), Some(high)), mask);
+            pair.yes
+        }
+    }
+}
+
+/// BETWEEN of three operands at the rows of a mask.
+pub fn between_operands<C: Columns>(
+    columns: &mut C,
+    batch: usize,
+    vector: usize,
+    operand: &Operand,
+    low: &Operand,
+    high: &Operand,
+    mask: &Mask,
+) -> Pair
+    requires there { IsThere (C.state columns.old) batch vector }
+    ensures value { IsPair mask.now (λ n. between (operand_at (C.table columns.old) (vector_at (C.state columns.old) batch vector) operand.now n) (operand_at (C.table columns.old) (vector_at (C.state columns.old) batch vector) low.now n) (operand_at (C.table columns.old) (vector_at (C.state columns.old) batch vector) high.now n)) result }
+    ensures table { C.table columns.new ≡ C.table columns.old }
+    ensures state { C.state columns.new ≡ C.state columns.old }
+    ensures passes { C.passes columns.new ≤ C.passes columns.old + (operand_mentions operand.now + (operand_mentions low.now + operand_mentions high.now)) }
+{
+    let operand = side_of(columns, operand);
+    let low = side_of(columns, low);
+    let high = side_of(columns, high);
+    between_sides(columns, batch, vector, operand, low, high, mask)
+}
+
+/// IN of a column at the rows of a mask, which takes one pass. Its room for the values is its own: most conditions need none.
+#[inline(never)]
+fn among_column<C: Columns>(
+    columns: &mut C,
+    batch: usize,
+    vector: usize,
+    column: usize,
+    literals: &[i128],
+    mask: &Mask,
+) -> Pair
+    requires there { IsThere (C.state columns.old) batch vector }
+    requires column { column < length (C.table columns.old).columns }
+    ensures value { IsPair mask.now (λ n. is_among (whole (cell_at (vector_at (C.state columns.old) batch vector) column n)) literals.now) result }
+    ensures table { C.table columns.new ≡ C.table columns.old }
+    ensures state { C.state columns.new ≡ C.state columns.old }
+    ensures passes { C.passes columns.new ≤ C.passes columns.old + 1 }
+{
+    let nulls = columns.nulls(batch, column, vector);
+    let mut values = [0; 1024];
+    columns.decode_into(batch, column, vector, &mut values);
+    among_values(&nulls, &values, literals, mask)
+}
+
+/// IN of a side at the rows of a mask.
+fn among_side<C: Columns>(
+    columns: &mut C,
+    batch: usize,
+    vector: usize,
+    side: Side,
+    literals: &[i128],
+    mask: &Mask,
+) -> Pair
+    requires there { IsThere (C.state columns.old) batch vector }
+    requires column { HasColumn (C.table columns.old) side }
+    ensures value { IsPair mask.now (λ n. is_among (whole (side_at (vector_at (C.state columns.old) batch vector) side n)) literals.now) result }
+    ensures table { C.table columns.new ≡ C.table columns.old }
+    ensures state { C.state columns.new ≡ C.state columns.old }
+    ensures passes { C.passes columns.new ≤ C.passes columns.old + side_mentions side }
+{
+    match side {
+        Side::Column(column) => among_column(columns, batch, vector, column, literals, mask),
+        Side::Fixed(cell) => Pair::everywhere(among(cell, literals), mask),
+    }
+}
+
+/// IN of an operand at the rows of a mask.
+pub fn among_operand<C: Columns>(
+    columns: &mut C,
+    batch: usize,
+    vector: usize,
+    operand: &Operand,
+    literals: &Literals,
+    mask: &Mask,
+) -> Pair
+    requires there { IsThere (C.state columns.old) batch vector }
+    ensures value { IsPair mask.now (λ n. is_among (operand_at (C.table columns.old) (vector_at (C.state columns.old) batch vector) operand.now n) literals.now) result }
+    ensures table { C.table columns.new ≡ C.table columns.old }
+    ensures state { C.state columns.new ≡ C.state columns.old }
+    ensures passes { C.passes columns.new ≤ C.passes columns.old + operand_mentions operand.now }
+{
+    let side = side_of(columns, operand);
+    among_side(columns, batch, vector, side, literals.as_slice(), mask)
+}

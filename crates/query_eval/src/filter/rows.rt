@@ -1,0 +1,163 @@
+//! BETWEEN over decoded cells row by row, and IN row by row or literal by literal.
+ghost use Rattle.std.specs.Prelude.{◌≡◌, ◌<◌, cond, FitsSigned, IfSome, IsSome, List, None, Some, ℤ, pos, slice_index_or};
+ghost use Rattle.std.specs.Int.{w64};
+ghost use Rattle.std.specs.List.{All, list_any};
+ghost use Rattle.std.specs.Ordering.{int_eq};
+ghost use Rattle.table_model.specs.Answer.{whole};
+ghost use Rattle.table_model.specs.Condition.{is_among};
+ghost use Rattle.table_model.specs.Truth.{and_of, comparison};
+ghost use Rattle.table_model.specs.declared.op.Op.TheVariants.{GreaterOrEqual, LessOrEqual};
+ghost use Rattle.transpose_order.specs.Mask.{has, rows_of};
+ghost use Rattle.query_eval.specs.Decoded.{decoded_at};
+ghost use Rattle.query_eval.specs.Where.{IsPair};
+
+use crate::filter::decoded::Decoded;
+use crate::filter::pair::Pair;
+use crate::tallies::equal_rows;
+use table_model::{Op, Truth};
+use transpose_order::Mask;
+
+/// So many literals are not gone through one by one over all values where few rows are looked at.
+const MANY_LITERALS: usize = 5;
+
+/// So many rows cost with one literal what a look at all values for it costs.
+const FEW_ROWS: usize = 256;
+
+/// BETWEEN of three cells.
+pub(crate) fn between(cell: Option<i128>, low: Option<i128>, high: Option<i128>) -> Truth
+    ensures { result ≡ and_of (comparison GreaterOrEqual cell low) (comparison LessOrEqual cell high) }
+{
+    Op::GreaterOrEqual
+        .compare(cell, low)
+        .and(Op::LessOrEqual.compare(cell, high))
+}
+
+/// BETWEEN at the rows of a mask.
+pub fn between_rows(operand: &Decoded, low: &Decoded, high: &Decoded, mask: &Mask) -> Pair
+    ensures { IsPair mask.now (λ n. and_of (comparison GreaterOrEqual (decoded_at operand.now n) (decoded_at low.now n)) (comparison LessOrEqual (decoded_at operand.now n) (decoded_at high.now n))) result }
+{
+    let mut pair = Pair {
+        yes: Mask::none(),
+        no: Mask::none(),
+    };
+    for row in 0..1024 {
+        if mask.get(row) {
+            pair.put(row, between(operand.at(row), low.at(row), high.at(row)));
+        }
+    }
+    pair
+}
+
+/// Whether a value is one of the literals.
+fn contains(literals: &[i128], value: i128) -> bool
+    ensures { result ≡ list_any (int_eq value) literals.now }
+{
+    literals.iter().any(|literal| value == *literal)
+}
+
+/// IN of a cell.
+pub(crate) fn among(cell: Option<i128>, literals: &[i128]) -> Truth
+    ensures { result ≡ is_among (whole cell) literals.now }
+{
+    match cell {
+        None => {
+            if literals.is_empty() {
+                Truth::False
+            } else {
+                Truth::Unknown
+            }
+        }
+        Some(value) => Truth::from_bool(contains(literals, value)),
+    }
+}
+
+/// The cell at a row of a column with these nulls and values.
+fn cell_of(nulls: &Mask, values: &[i64; 1024], row: usize) -> Option<i128>
+    requires { row < 1024 }
+    ensures { result ≡ cond (has nulls.now row) None (Some (slice_index_or values.now row (pos 0))) }
+{
+    if nulls.get(row) {
+        None
+    } else {
+        Some(i128::from(values[row]))
+    }
+}
+
+/// IN of a column's cells at the rows of a mask, row by row.
+fn among_by_row(nulls: &Mask, values: &[i64; 1024], literals: &[i128], mask: &Mask) -> Pair
+    ensures { IsPair mask.now (λ n. is_among (whole (cond (has nulls.now n) None (Some (slice_index_or values.now n (pos 0))))) literals.now) result }
+{
+    let mut pair = Pair {
+        yes: Mask::none(),
+        no: Mask::none(),
+    };
+    for row in 0..1024 {
+        if mask.get(row) {
+            pair.put(row, among(cell_of(nulls, values, row), literals));
+        }
+    }
+    pair
+}
+
+/// A literal as a value of 64 bits, or `None` where it isn't one.
+fn value_of(literal: i128) -> Option<i64>
+    ensures value { IfSome result (λ value. value ≡ literal) }
+    ensures answers { FitsSigned w64 literal → IsSome result }
+{
+    match i64::try_from(literal) {
+        Ok(value) => Some(value),
+        Err(_) => None,
+    }
+}
+
+/// The rows whose value is a literal, or `None` where it doesn't fit 64 bits.
+fn literal_rows(values: &[i64; 1024], literal: i128) -> Option<Mask>
+    ensures answers { FitsSigned w64 literal → IsSome result }
+    ensures rows { IfSome result (λ rows. rows ≡ rows_of (λ n. int_eq (slice_index_or values.now n (pos 0)) literal)) }
+{
+    let value = value_of(literal)?;
+    Some(equal_rows(values, value))
+}
+
+/// The rows whose value is one of the literals, or `None` where one of them doesn't fit 64 bits.
+fn values_among(values: &[i64; 1024], literals: &[i128]) -> Option<Mask>
+    ensures answers { All (FitsSigned w64) literals.now → IsSome result }
+    ensures rows { IfSome result (λ found. found ≡ rows_of (λ n. list_any (int_eq (slice_index_or values.now n (pos 0))) literals.now)) }
+{
+    let mut found = Mask::none();
+    for literal in literals {
+        let rows = literal_rows(values, *literal)?;
+        found = found.or(&rows);
+    }
+    Some(found)
+}
+
+/// IN of a column's cells at the rows of a mask, by the rows whose value is one of the literals: a null is unknown beside each
+/// literal, and false beside none.
+fn among_found(nulls: &Mask, found: &Mask, literals: &[i128], mask: &Mask) -> Pair
+    ensures { (values : List ℤ) → found.now ≡ rows_of (λ n. list_any (int_eq (slice_index_or values n (pos 0))) literals.now) → IsPair mask.now (λ n. is_among (whole (cond (has nulls.now n) None (Some (slice_index_or values n (pos 0))))) literals.now) result }
+{
+    let known = if literals.is_empty() {
+        *mask
+    } else {
+        mask.and_not(nulls)
+    };
+    Pair {
+        yes: known.and(found),
+        no: known.and_not(found),
+    }
+}
+
+/// IN of a column with these nulls and values at the rows of a mask. A look at the 1024 values for one literal costs what 256 rows
+/// cost with it, so that few rows and many literals go row by row, and so does a literal that doesn't fit 64 bits.
+pub fn among_values(nulls: &Mask, values: &[i64; 1024], literals: &[i128], mask: &Mask) -> Pair
+    ensures { IsPair mask.now (λ n. is_among (whole (cond (has nulls.now n) None (Some (slice_index_or values.now n (pos 0))))) literals.now) result }
+{
+    if literals.len() > MANY_LITERALS && mask.count() < FEW_ROWS {
+        return among_by_row(nulls, values, literals, mask);
+    }
+    match values_among(values, literals) {
+        Some(found) => among_found(nulls, &found, literals, mask),
+        None => among_by_row(nulls, values, literals, mask),
+    }
+}

@@ -1,0 +1,137 @@
+//! The sides of comparisons, and comparisons by masks.
+ghost use Rattle.std.specs.Prelude.{◌≡◌, ◌<◌, ◌≤◌, ◌+◌, ℕ, length};
+ghost use Rattle.table_model.specs.Answer.{whole};
+ghost use Rattle.table_model.specs.Condition.{is_null, field_comparison};
+ghost use Rattle.table_model.specs.Truth.{comparison, truth_of};
+ghost use Rattle.query_eval.specs.Mentions.{operand_mentions};
+ghost use Rattle.query_eval.specs.Side.{side_at, side_mentions, HasColumn, StandsFor};
+ghost use Rattle.query_eval.specs.Vector.{IsThere, vector_at};
+ghost use Rattle.query_eval.specs.Where.{IsPair, operand_at};
+
+use crate::columns::Columns;
+use crate::filter::column_places::place_of;
+use crate::filter::pair::Pair;
+use table_model::{Op, Operand, Truth};
+use transpose_order::Mask;
+
+/// A side of a comparison in WHERE: a column by its place, or a cell that is the same at each row.
+#[derive(Clone, Copy, Debug)]
+pub enum Side {
+    Column(usize),
+    Fixed(Option<i128>),
+}
+
+/// What an operand of WHERE stands for.
+pub fn side_of<C: Columns>(columns: &C, operand: &Operand) -> Side
+    ensures value { StandsFor (C.table columns.now) (C.state columns.now) operand.now result }
+    ensures column { HasColumn (C.table columns.now) result }
+    ensures mentions { side_mentions result ≤ operand_mentions operand.now }
+{
+    // `batches` ensures that the table and the state are within their limits.
+    let _batches = columns.batches();
+    match operand {
+        Operand::Column(column) => match place_of(columns.schema(), column) {
+            None => Side::Fixed(None),
+            Some(place) => Side::Column(place),
+        },
+        Operand::Literal(literal) => Side::Fixed(Some(*literal)),
+        Operand::Function(_) => Side::Fixed(None),
+    }
+}
+
+/// The comparison of two sides at the rows of a mask. A comparison without a column takes no pass.
+pub fn compare_sides<C: Columns>(
+    columns: &mut C,
+    batch: usize,
+    vector: usize,
+    left: Side,
+    op: Op,
+    right: Side,
+    mask: &Mask,
+) -> Pair
+    requires there { IsThere (C.state columns.old) batch vector }
+    requires left { HasColumn (C.table columns.old) left }
+    requires right { HasColumn (C.table columns.old) right }
+    ensures value { IsPair mask.now (λ n. comparison op (side_at (vector_at (C.state columns.old) batch vector) left n) (side_at (vector_at (C.state columns.old) batch vector) right n)) result }
+    ensures table { C.table columns.new ≡ C.table columns.old }
+    ensures state { C.state columns.new ≡ C.state columns.old }
+    ensures passes { C.passes columns.new ≤ C.passes columns.old + (side_mentions left + side_mentions right) }
+{
+    match (left, right) {
+        (Side::Column(column), Side::Fixed(Some(literal))) => {
+            let (yes, no) = columns.compare(batch, column, vector, op, literal, mask);
+            Pair { yes, no }
+        }
+        (Side::Fixed(Some(literal)), Side::Column(column)) => {
+            let (yes, no) = columns.compare(batch, column, vector, op.turned(), literal, mask);
+            Pair { yes, no }
+        }
+        (Side::Column(left), Side::Column(right)) => {
+            let (yes, no) = columns.compare_columns(batch, left, vector, op, right, mask);
+            Pair { yes, no }
+        }
+        (Side::Fixed(left), Side::Fixed(right)) => Pair::everywhere(op.compare(left, right), mask),
+        (Side::Column(_), Side::Fixed(None)) | (Side::Fixed(None), Side::Column(_)) => {
+            Pair::everywhere(Truth::Unknown, mask)
+        }
+    }
+}
+
+/// Where a side is null, at the rows of a mask.
+pub fn null_rows<C: Columns>(
+    columns: &C,
+    batch: usize,
+    vector: usize,
+    side: Side,
+    mask: &Mask,
+) -> Pair
+    requires there { IsThere (C.state columns.now) batch vector }
+    requires column { HasColumn (C.table columns.now) side }
+    ensures { IsPair mask.now (λ n. truth_of (is_null (whole (side_at (vector_at (C.state columns.now) batch vector) side n)))) result }
+{
+    match side {
+        Side::Column(column) => {
+            let nulls = columns.nulls(batch, column, vector);
+            let yes = mask.and(&nulls);
+            let no = mask.and_not(&yes);
+            Pair { yes, no }
+        }
+        Side::Fixed(cell) => Pair::everywhere(Truth::from_bool(cell.is_none()), mask),
+    }
+}
+
+/// The comparison of two operands of WHERE at the rows of a mask. A comparison of two literals takes no pass.
+pub fn compare_operands<C: Columns>(
+    columns: &mut C,
+    batch: usize,
+    vector: usize,
+    left: &Operand,
+    op: Op,
+    right: &Operand,
+    mask: &Mask,
+) -> Pair
+    requires there { IsThere (C.state columns.old) batch vector }
+    ensures value { IsPair mask.now (λ n. field_comparison op (operand_at (C.table columns.old) (vector_at (C.state columns.old) batch vector) left.now n) (operand_at (C.table columns.old) (vector_at (C.state columns.old) batch vector) right.now n)) result }
+    ensures table { C.table columns.new ≡ C.table columns.old }
+    ensures state { C.state columns.new ≡ C.state columns.old }
+    ensures passes { C.passes columns.new ≤ C.passes columns.old + (operand_mentions left.now + operand_mentions right.now) }
+{
+    let left = side_of(columns, left);
+    let right = side_of(columns, right);
+    compare_sides(columns, batch, vector, left, op, right, mask)
+}
+
+/// Where an operand of WHERE is null, at the rows of a mask. It takes no pass.
+pub fn null_operand<C: Columns>(
+    columns: &C,
+    batch: usize,
+    vector: usize,
+    operand: &Operand,
+    mask: &Mask,
+) -> Pair
+    requires { IsThere (C.state columns.now) batch vector }
+    ensures { IsPair mask.now (λ n. truth_of (is_null (operand_at (C.table columns.now) (vector_at (C.state columns.now) batch vector) operand.now n))) result }
+{
+    let side = side_of(columns, operand);
+    null_rows(columns, batch, vector, side, mask)
+}

@@ -1,0 +1,165 @@
+//! Conditions of WHERE over the rows of a vector, as pairs of masks.
+ghost use Rattle.std.specs.Prelude.{◌≡◌, ◌≤◌, ◌+◌};
+ghost use Rattle.table_model.specs.Condition.{predicate_truth};
+ghost use Rattle.table_model.specs.Meaning.{at_row};
+ghost use Rattle.table_model.specs.Query.{formula_of_factor, formula_of_primary, formula_of_term, formula_of_test};
+ghost use Rattle.query_eval.specs.Mentions.{condition_mentions, predicate_mentions};
+ghost use Rattle.query_eval.specs.Vector.{IsThere, row_at, vector_at};
+ghost use Rattle.query_eval.specs.Where.{IsPair, truth_in};
+
+use crate::columns::Columns;
+use crate::filter::pair::Pair;
+use crate::filter::predicates::{among_operand, between_operands};
+use crate::filter::side::{compare_operands, null_operand};
+use table_model::{Condition, Factor, Predicate, Primary, Term, Test, Truth};
+use transpose_order::Mask;
+
+/// A predicate of WHERE at the rows of a mask: each mention of a column takes at most one pass, and none over no rows.
+pub fn predicate_masks<C: Columns>(
+    columns: &mut C,
+    batch: usize,
+    vector: usize,
+    predicate: &Predicate,
+    mask: &Mask,
+) -> Pair
+    requires there { IsThere (C.state columns.old) batch vector }
+    ensures value { IsPair mask.now (λ n. predicate_truth (at_row (C.table columns.old).columns (row_at (vector_at (C.state columns.old) batch vector) n)) predicate.now) result }
+    ensures table { C.table columns.new ≡ C.table columns.old }
+    ensures state { C.state columns.new ≡ C.state columns.old }
+    ensures passes { C.passes columns.new ≤ C.passes columns.old + predicate_mentions predicate.now }
+{
+    if mask.next_true(0) == 1024 {
+        return Pair::everywhere(Truth::Unknown, mask);
+    }
+    match predicate {
+        Predicate::Compare { left, op, right } => compare_operands(
+            columns, batch, vector, left, *op, right, mask,
+        ),
+        Predicate::Between {
+            operand,
+            negated,
+            low,
+            high,
+        } => between_operands(columns, batch, vector, operand, low, high, mask).not_if(*negated),
+        Predicate::In {
+            operand,
+            negated,
+            literals,
+        } => among_operand(columns, batch, vector, operand, literals, mask).not_if(*negated),
+        Predicate::IsNull { operand, negated } => null_operand(
+            columns, batch, vector, operand, mask,
+        ).not_if(*negated),
+    }
+}
+
+/// A condition of WHERE at the rows of a mask: each mention of a column takes at most one pass, and none over no rows.
+#[cycle(masks)]
+pub fn condition_masks<C: Columns>(
+    columns: &mut C,
+    batch: usize,
+    vector: usize,
+    condition: &Condition,
+    mask: &Mask,
+) -> Pair
+    requires there { IsThere (C.state columns.old) batch vector }
+    ensures value { IsPair mask.now (truth_in (C.table columns.old) (vector_at (C.state columns.old) batch vector) condition.now) result }
+    ensures table { C.table columns.new ≡ C.table columns.old }
+    ensures state { C.state columns.new ≡ C.state columns.old }
+    ensures passes { C.passes columns.new ≤ C.passes columns.old + condition_mentions condition.now }
+{
+    if mask.next_true(0) == 1024 {
+        return Pair::everywhere(Truth::Unknown, mask);
+    }
+    let mut pair = Pair::everywhere(Truth::False, mask);
+    for term in &condition.terms {
+        let next = term_masks(columns, batch, vector, term, mask);
+        pair = pair.or(&next);
+    }
+    pair
+}
+
+/// A term at the rows of a mask.
+#[cycle(masks)]
+fn term_masks<C: Columns>(
+    columns: &mut C,
+    batch: usize,
+    vector: usize,
+    term: &Term,
+    mask: &Mask,
+) -> Pair
+    requires there { IsThere (C.state columns.old) batch vector }
+    ensures value { IsPair mask.now (truth_in (C.table columns.old) (vector_at (C.state columns.old) batch vector) (formula_of_term term.now)) result }
+    ensures table { C.table columns.new ≡ C.table columns.old }
+    ensures state { C.state columns.new ≡ C.state columns.old }
+    ensures passes { C.passes columns.new ≤ C.passes columns.old + condition_mentions (formula_of_term term.now) }
+{
+    let mut pair = Pair::everywhere(Truth::True, mask);
+    for factor in &term.factors {
+        let rest = mask.and_not(&pair.no);
+        let next = factor_masks(columns, batch, vector, factor, &rest);
+        pair = pair.and(&next);
+    }
+    pair
+}
+
+/// A factor at the rows of a mask.
+#[cycle(masks)]
+pub(crate) fn factor_masks<C: Columns>(
+    columns: &mut C,
+    batch: usize,
+    vector: usize,
+    factor: &Factor,
+    mask: &Mask,
+) -> Pair
+    requires there { IsThere (C.state columns.old) batch vector }
+    ensures value { IsPair mask.now (truth_in (C.table columns.old) (vector_at (C.state columns.old) batch vector) (formula_of_factor factor.now)) result }
+    ensures table { C.table columns.new ≡ C.table columns.old }
+    ensures state { C.state columns.new ≡ C.state columns.old }
+    ensures passes { C.passes columns.new ≤ C.passes columns.old + condition_mentions (formula_of_factor factor.now) }
+{
+    let pair = test_masks(columns, batch, vector, &factor.test, mask);
+    if factor.negated { pair.not() } else { pair }
+}
+
+/// A test at the rows of a mask.
+#[cycle(masks)]
+pub(crate) fn test_masks<C: Columns>(
+    columns: &mut C,
+    batch: usize,
+    vector: usize,
+    test: &Test,
+    mask: &Mask,
+) -> Pair
+    requires there { IsThere (C.state columns.old) batch vector }
+    ensures value { IsPair mask.now (truth_in (C.table columns.old) (vector_at (C.state columns.old) batch vector) (formula_of_test test.now)) result }
+    ensures table { C.table columns.new ≡ C.table columns.old }
+    ensures state { C.state columns.new ≡ C.state columns.old }
+    ensures passes { C.passes columns.new ≤ C.passes columns.old + condition_mentions (formula_of_test test.now) }
+{
+    let pair = primary_masks(columns, batch, vector, &test.primary, mask);
+    match test.is {
+        None => pair,
+        Some(is) => pair.asked(is, mask),
+    }
+}
+
+/// A predicate, or a condition in parentheses, at the rows of a mask.
+#[cycle(masks)]
+fn primary_masks<C: Columns>(
+    columns: &mut C,
+    batch: usize,
+    vector: usize,
+    primary: &Primary,
+    mask: &Mask,
+) -> Pair
+    requires there { IsThere (C.state columns.old) batch vector }
+    ensures value { IsPair mask.now (truth_in (C.table columns.old) (vector_at (C.state columns.old) batch vector) (formula_of_primary primary.now)) result }
+    ensures table { C.table columns.new ≡ C.table columns.old }
+    ensures state { C.state columns.new ≡ C.state columns.old }
+    ensures passes { C.passes columns.new ≤ C.passes columns.old + condition_mentions (formula_of_primary primary.now) }
+{
+    match primary {
+        Primary::Nested(condition) => condition_masks(columns, batch, vector, condition, mask),
+        Primary::Predicate(predicate) => predicate_masks(columns, batch, vector, predicate, mask),
+    }
+}

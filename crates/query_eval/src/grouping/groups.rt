@@ -1,0 +1,105 @@
+//! Groups under way, vector by vector.
+ghost use Rattle.std.specs.Prelude.{◌≡◌, ◌≤◌, ◌+◌, ◌++◌, [], ℕ, List, length, IfOk, OnOk};
+ghost use Rattle.table_model.specs.State.{Cells};
+ghost use Rattle.query_eval.specs.Grouping.{AreEmpty, AreGroups, plan_mentions};
+ghost use Rattle.query_eval.specs.Kept.{rows_at};
+ghost use Rattle.query_eval.specs.Places.{IsIndex};
+ghost use Rattle.query_eval.specs.Vector.{IsThere, vector_at};
+
+use crate::columns::Columns;
+use crate::filter::KeptVector;
+use crate::grouping::places::Places;
+use crate::grouping::row_places::place_rows;
+use crate::grouping::split::Split;
+use crate::tallies::{Aggregate, Plan, Tally, add_columns};
+use std::alloc::{AllocError, Global};
+use transpose_order::Mask;
+
+/// Groups under way: their places, and for each aggregate the groups' tallies by their places.
+#[derive(Drop)]
+pub struct Groups {
+    pub places: Places,
+    pub tallies: Vec<Vec<Tally>>,
+}
+
+/// Room for what is known of a vector's rows, one vector after another: a decoded column, and the rows split by their groups.
+#[derive(Drop)]
+pub struct Room {
+    pub values: [i64; 1024],
+    pub split: Split,
+}
+
+impl Room {
+    /// Room in which nothing is known. It takes no memory yet.
+    pub fn new(alloc: Global) -> Room {
+        Room {
+            values: [0; 1024],
+            split: Split {
+                slices: Vec::new(alloc),
+                left: Mask::none(),
+                places: [0; 1024],
+            },
+        }
+    }
+}
+
+/// No tallies yet, for each aggregate.
+fn no_tallies(alloc: Global, aggregates: &[Aggregate]) -> Result<Vec<Vec<Tally>>, AllocError>
+    ensures { IfOk result (λ tallies. AreEmpty (length aggregates.now) tallies.items) }
+{
+    let mut tallies = Vec::new(alloc);
+    for _ in aggregates {
+        tallies.push(Vec::new(alloc))?;
+    }
+    Ok(tallies)
+}
+
+impl Groups {
+    /// No groups.
+    pub fn none(alloc: Global, aggregates: &[Aggregate]) -> Result<Groups, AllocError>
+        ensures index { IfOk result (λ groups. IsIndex groups.places) }
+        ensures groups { IfOk result (λ groups. (by : List ℕ) → AreGroups by aggregates.now [] groups.places.index groups.tallies.items) }
+    {
+        let places = Places::new(alloc)?;
+        let tallies = no_tallies(alloc, aggregates)?;
+        Ok(Groups { places, tallies })
+    }
+}
+
+/// Takes a vector's kept rows into their groups. Each mention of a column takes at most one pass.
+pub fn group_vector<C: Columns>(
+    alloc: Global,
+    columns: &mut C,
+    plan: &Plan,
+    groups: &mut Groups,
+    kept: &KeptVector,
+    room: &mut Room,
+) -> Result<(), AllocError>
+    requires { IsThere (C.state columns.old) kept.now.batch kept.now.vector }
+    ensures index { OnOk result (IsIndex groups.old.places → IsIndex groups.new.places) }
+    ensures groups { OnOk result ((rows : List Cells) → IsIndex groups.old.places → AreGroups plan.now.grouping plan.now.aggregates rows groups.old.places.index groups.old.tallies.items → AreGroups plan.now.grouping plan.now.aggregates (rows ++ rows_at (vector_at (C.state columns.old) kept.now.batch kept.now.vector) kept.now.rows) groups.new.places.index groups.new.tallies.items) }
+    ensures table { C.table columns.new ≡ C.table columns.old }
+    ensures state { C.state columns.new ≡ C.state columns.old }
+    ensures passes { OnOk result (C.passes columns.new ≤ C.passes columns.old + plan_mentions plan.now) }
+{
+    place_rows(
+        alloc,
+        columns,
+        kept,
+        plan.grouping(),
+        &mut groups.places,
+        &mut room.split,
+    )?;
+    let count = groups.places.len();
+    add_columns(
+        alloc,
+        columns,
+        kept,
+        plan.aggregates(),
+        &mut groups.tallies,
+        count,
+        &room.split,
+        &mut room.values,
+    )?;
+    Ok(())
+}

@@ -1,0 +1,138 @@
+//! Places of groups by their keys, and of the rows of a vector by their groups.
+ghost use Rattle.std.specs.Prelude.{◌≡◌, ◌∷◌, [], ◌⊎◌, ℕ, cond, length, slice_index_or, None, Some, IfOk};
+ghost use Rattle.query_eval.specs.Places.{IsIndex, IsTakenIn};
+
+use crate::grouping::key::Key;
+use std::alloc::{AllocError, Global};
+use std::collections::BTreeMap;
+
+/// How many values are remembered with the places of their groups.
+const REMEMBERED: usize = 1024;
+
+/// A value in the one grouping column, and the place of its group.
+#[derive(Clone, Copy, Debug)]
+pub struct Recent {
+    value: i64,
+    place: usize,
+}
+
+/// The places of groups by their keys, from 0 on in the order in which the keys came.
+///
+/// Where one column groups, the places of values are also remembered by the values' low bits, and that of null, so that few
+/// rows need a search.
+#[derive(Drop)]
+pub struct Places {
+    index: BTreeMap<Key, usize>,
+    recent: Vec<Option<Recent>>,
+    null: Option<usize>,
+}
+
+/// Where a value's place is remembered, below 1024.
+fn slot_of(value: i64) -> usize {
+    let [low, high, ..] = value.to_le_bytes();
+    usize::from(low) + 256 * usize::from(high % 4)
+}
+
+/// Remembers a value's place in place of what was remembered there.
+fn remember(recent: &mut Vec<Option<Recent>>, slot: usize, entry: Recent)
+    ensures { (i : ℕ) (r : Recent) → slice_index_or recent.new.items i None ≡ Some r → (r ≡ entry) ⊎ (slice_index_or recent.old.items i None ≡ Some r) }
+{
+    if slot < recent.len() {
+        recent[slot] = Some(entry);
+    }
+}
+
+impl Places {
+    /// No places.
+    pub fn new(alloc: Global) -> Result<Places, AllocError>
+        ensures index { IfOk result (λ places. IsIndex places) }
+        ensures empty { IfOk result (λ places. places.index.entries ≡ []) }
+    {
+        Ok(Places {
+            index: BTreeMap::new(alloc),
+            recent: vec![in alloc; None; REMEMBERED]?,
+            null: None,
+        })
+    }
+
+    /// How many groups there are.
+    pub fn len(&self) -> usize
+        ensures { result ≡ length self.now.index.entries }
+    {
+        self.index.len()
+    }
+
+    /// The keys in ascending order, with their places.
+    pub fn into_index(self) -> BTreeMap<Key, usize>
+        ensures { result ≡ self.index }
+    {
+        self.index
+    }
+
+    /// The place of a key's group, a new one where the key hasn't come before.
+    pub fn of_key(&mut self, alloc: Global, key: &Key) -> Result<usize, AllocError>
+        ensures index { IfOk result (λ place. IsIndex self.old → IsIndex self.new) }
+        ensures taken { IfOk result (λ place. IsTakenIn key.now place self.old.index self.new.index) }
+    {
+        if let Some(place) = self.index.get(key).copied() {
+            return Ok(place);
+        }
+        let place = self.index.len();
+        self.index.insert(key.copy(alloc)?, place)?;
+        Ok(place)
+    }
+
+    /// The place of the group of a cell in the one grouping column, by a search.
+    #[inline(never)]
+    fn of_cell(&mut self, alloc: Global, cell: Option<i128>) -> Result<usize, AllocError>
+        ensures index { IfOk result (λ place. IsIndex self.old → IsIndex self.new) }
+        ensures taken { IfOk result (λ place. IsTakenIn (cell ∷ []) place self.old.index self.new.index) }
+    {
+        let mut key = Key::empty(alloc);
+        key.push(cell)?;
+        self.of_key(alloc, &key)
+    }
+
+    /// The place of the group of a value in the one grouping column, a new one where the value hasn't come before.
+    fn of_value(&mut self, alloc: Global, value: i64) -> Result<usize, AllocError>
+        ensures index { IfOk result (λ place. IsIndex self.old → IsIndex self.new) }
+        ensures taken { IfOk result (λ place. IsIndex self.old → IsTakenIn (Some value ∷ []) place self.old.index self.new.index) }
+    {
+        let slot = slot_of(value);
+        if let Some(Some(recent)) = self.recent.get(slot) {
+            if recent.value == value {
+                return Ok(recent.place);
+            }
+        }
+        let place = self.of_cell(alloc, Some(i128::from(value)))?;
+        remember(&mut self.recent, slot, Recent { value, place });
+        Ok(place)
+    }
+
+    /// The place of the group of null in the one grouping column, a new one where null hasn't come before.
+    fn of_null(&mut self, alloc: Global) -> Result<usize, AllocError>
+        ensures index { IfOk result (λ place. IsIndex self.old → IsIndex self.new) }
+        ensures taken { IfOk result (λ place. IsIndex self.old → IsTakenIn (None ∷ []) place self.old.index self.new.index) }
+    {
+        if let Some(place) = self.null {
+            return Ok(place);
+        }
+        let place = self.of_cell(alloc, None)?;
+        self.null = Some(place);
+        Ok(place)
+    }
+
+    /// The place of the group of a cell in the one grouping column, which is null or a value; a new one where the cell hasn't
+    /// come before.
+    pub fn of_row(&mut self, alloc: Global, null: bool, value: i64) -> Result<usize, AllocError>
+        ensures index { IfOk result (λ place. IsIndex self.old → IsIndex self.new) }
+        ensures taken { IfOk result (λ place. IsIndex self.old → IsTakenIn (cond null None (Some value) ∷ []) place self.old.index self.new.index) }
+    {
+        if null {
+            let place = self.of_null(alloc)?;
+            return Ok(place);
+        }
+        let place = self.of_value(alloc, value)?;
+        Ok(place)
+    }
+}

@@ -1,0 +1,209 @@
+//! What a query asks of its groups, by places in the table's schema.
+ghost use Rattle.std.specs.Prelude.{◌≡◌, ◌++◌, IfOk, OnOk, map};
+ghost use Rattle.std.specs.List.{flat_map};
+ghost use Rattle.table_model.specs.Meaning.{grouping_of, place_of};
+ghost use Rattle.table_model.specs.Query.{formula_of_factor, formula_of_primary, formula_of_term, formula_of_test};
+ghost use Rattle.query_eval.specs.Aggregate.{aggregate_of, aggregates_of, condition_functions, having_functions, item_functions, operand_functions, predicate_functions};
+ghost use Rattle.query_eval.specs.Finished.{plan_of};
+
+use crate::tallies::aggregate::{Aggregate, place_or_end};
+use std::alloc::{AllocError, Global};
+use std::marker::Model;
+use table_model::{
+    ColumnMention, Condition, Factor, Item, ItemValue, Operand, Predicate, Primary, Query, Schema,
+    Term, Test,
+};
+
+/// The places of a query's grouping columns, and the set functions that its select list and HAVING name.
+#[derive(Drop)]
+pub struct Plan {
+    grouping: Vec<usize>,
+    aggregates: Vec<Aggregate>,
+}
+
+impl Model for Plan {
+    ghost use Rattle.query_eval.specs.Finished.{PlanShape};
+
+    ghost Value = { PlanShape };
+
+    ghost view = { λ p. record { grouping = p.grouping.items; aggregates = p.aggregates.items } };
+}
+
+impl Plan {
+    /// What a query asks of its groups: an aggregate for each mention of a set function in the select list, and then in HAVING.
+    pub fn of(alloc: Global, schema: &Schema, query: &Query) -> Result<Plan, AllocError>
+        ensures { IfOk result (λ plan. plan ≡ plan_of schema.now.columns query.now) }
+    {
+        let mut grouping = Vec::new(alloc);
+        add_places(&mut grouping, schema, query.grouping.as_slice())?;
+        let mut aggregates = Vec::new(alloc);
+        add_items(&mut aggregates, schema, query.items.as_slice())?;
+        add_having(&mut aggregates, schema, &query.having)?;
+        Ok(Plan {
+            grouping,
+            aggregates,
+        })
+    }
+
+    /// The places of the grouping columns, in GROUP BY's order.
+    pub fn grouping(&self) -> &[usize]
+        ensures { result.now ≡ self.now.grouping }
+    {
+        self.grouping.as_slice()
+    }
+
+    /// The aggregates, a mention each.
+    pub fn aggregates(&self) -> &[Aggregate]
+        ensures { result.now ≡ self.now.aggregates }
+    {
+        self.aggregates.as_slice()
+    }
+}
+
+/// Adds the place of each column.
+fn add_places(
+    out: &mut Vec<usize>,
+    schema: &Schema,
+    columns: &[ColumnMention],
+) -> Result<(), AllocError>
+    ensures { OnOk result (out.new.items ≡ out.old.items ++ map (λ column. place_of schema.now.columns column.name) columns.now) }
+{
+    for column in columns {
+        out.push(place_or_end(schema, column))?;
+    }
+    Ok(())
+}
+
+/// Adds the set functions of the select items.
+fn add_items(out: &mut Vec<Aggregate>, schema: &Schema, items: &[Item]) -> Result<(), AllocError>
+    ensures { OnOk result (out.new.items ≡ out.old.items ++ map (aggregate_of schema.now.columns) (flat_map (λ item. item_functions item.value) items.now)) }
+{
+    for item in items {
+        add_item(out, schema, &item.value)?;
+    }
+    Ok(())
+}
+
+/// Adds the set function of a select item, if it has one.
+fn add_item(out: &mut Vec<Aggregate>, schema: &Schema, value: &ItemValue) -> Result<(), AllocError>
+    ensures { OnOk result (out.new.items ≡ out.old.items ++ map (aggregate_of schema.now.columns) (item_functions value.now)) }
+{
+    if let ItemValue::Computed(function) = value {
+        out.push(Aggregate::of(schema, function))?;
+    }
+    Ok(())
+}
+
+/// Adds the set functions of HAVING, if there is one.
+fn add_having(
+    out: &mut Vec<Aggregate>,
+    schema: &Schema,
+    having: &Option<Condition>,
+) -> Result<(), AllocError>
+    ensures { OnOk result (out.new.items ≡ out.old.items ++ map (aggregate_of schema.now.columns) (having_functions having.now)) }
+{
+    match having {
+        None => Ok(()),
+        Some(condition) => add_condition(out, schema, condition),
+    }
+}
+
+/// Adds the set functions of a condition, from the left.
+#[cycle(functions)]
+fn add_condition(
+    out: &mut Vec<Aggregate>,
+    schema: &Schema,
+    condition: &Condition,
+) -> Result<(), AllocError>
+    ensures { OnOk result (out.new.items ≡ out.old.items ++ map (aggregate_of schema.now.columns) (condition_functions condition.now)) }
+{
+    for term in &condition.terms {
+        add_term(out, schema, term)?;
+    }
+    Ok(())
+}
+
+/// Adds the set functions of a term.
+#[cycle(functions)]
+fn add_term(out: &mut Vec<Aggregate>, schema: &Schema, term: &Term) -> Result<(), AllocError>
+    ensures { OnOk result (out.new.items ≡ out.old.items ++ map (aggregate_of schema.now.columns) (condition_functions (formula_of_term term.now))) }
+{
+    for factor in &term.factors {
+        add_factor(out, schema, factor)?;
+    }
+    Ok(())
+}
+
+/// Adds the set functions of a factor.
+#[cycle(functions)]
+fn add_factor(out: &mut Vec<Aggregate>, schema: &Schema, factor: &Factor) -> Result<(), AllocError>
+    ensures { OnOk result (out.new.items ≡ out.old.items ++ map (aggregate_of schema.now.columns) (condition_functions (formula_of_factor factor.now))) }
+{
+    add_test(out, schema, &factor.test)
+}
+
+/// Adds the set functions of a test.
+#[cycle(functions)]
+fn add_test(out: &mut Vec<Aggregate>, schema: &Schema, test: &Test) -> Result<(), AllocError>
+    ensures { OnOk result (out.new.items ≡ out.old.items ++ map (aggregate_of schema.now.columns) (condition_functions (formula_of_test test.now))) }
+{
+    add_primary(out, schema, &test.primary)
+}
+
+/// Adds the set functions of a predicate, or of a condition in parentheses.
+#[cycle(functions)]
+fn add_primary(
+    out: &mut Vec<Aggregate>,
+    schema: &Schema,
+    primary: &Primary,
+) -> Result<(), AllocError>
+    ensures { OnOk result (out.new.items ≡ out.old.items ++ map (aggregate_of schema.now.columns) (condition_functions (formula_of_primary primary.now))) }
+{
+    match primary {
+        Primary::Nested(condition) => add_condition(out, schema, condition),
+        Primary::Predicate(predicate) => add_predicate(out, schema, predicate),
+    }
+}
+
+/// Adds the set functions of a predicate, from the left.
+fn add_predicate(
+    out: &mut Vec<Aggregate>,
+    schema: &Schema,
+    predicate: &Predicate,
+) -> Result<(), AllocError>
+    ensures { OnOk result (out.new.items ≡ out.old.items ++ map (aggregate_of schema.now.columns) (predicate_functions predicate.now)) }
+{
+    match predicate {
+        Predicate::Compare { left, right, .. } => {
+            add_operand(out, schema, left)?;
+            add_operand(out, schema, right)
+        }
+        Predicate::Between {
+            operand,
+            low,
+            high,
+            ..
+        } => {
+            add_operand(out, schema, operand)?;
+            add_operand(out, schema, low)?;
+            add_operand(out, schema, high)
+        }
+        Predicate::In { operand, .. } | Predicate::IsNull { operand, .. } => {
+            add_operand(out, schema, operand)
+        }
+    }
+}
+
+/// Adds the set function of an operand, if it is one.
+fn add_operand(
+    out: &mut Vec<Aggregate>,
+    schema: &Schema,
+    operand: &Operand,
+) -> Result<(), AllocError>
+    ensures { OnOk result (out.new.items ≡ out.old.items ++ map (aggregate_of schema.now.columns) (operand_functions operand.now)) }
+{
+    if let Operand::Function(function) = operand {
+        out.push(Aggregate::of(schema, function))?;
+    }
+    Ok(())
+}

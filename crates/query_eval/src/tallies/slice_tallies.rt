@@ -1,0 +1,77 @@
+//! Tallies, a group each, as the slices of a vector's rows come: one step a slice.
+ghost use Rattle.std.specs.Prelude.{◌≡◌, ◌==◌, ◌<◌, ◌++◌, [], ℕ, List, ℤ, cond, length, slice_index_or, true, OnOk};
+ghost use Rattle.table_model.specs.State.{Cells};
+ghost use Rattle.query_eval.specs.Grouping.{AreCells, AreNulls, IsHeld};
+ghost use Rattle.query_eval.specs.Slices.{AreShort, rows_sliced, values_at};
+ghost use Rattle.query_eval.specs.Tally.{IsTally, kind_of};
+ghost use Rattle.query_eval.specs.TallyKinds.{aggregate_kind};
+ghost use Rattle.query_eval.specs.Vector.{Vector};
+ghost use Rattle.query_eval.specs.declared.tallies.aggregate.Aggregate.{Aggregate as AnAggregate};
+ghost use Rattle.query_eval.specs.declared.tallies.tally.Tally.{Tally as ATally};
+ghost use Rattle.query_eval.specs.declared.tallies.tally.TallyKind.TheVariants as kinds;
+
+use crate::grouping::Slice;
+use crate::tallies::tally::Tally;
+use std::alloc::AllocError;
+use transpose_order::Mask;
+
+/// Counts so many values in the tally at a place. Tallies of another kind stay as they are.
+fn count_more(tallies: &mut Vec<Tally>, place: usize, more: usize)
+    ensures size { length tallies.new.items ≡ length tallies.old.items }
+    ensures values { (g : ℕ) (t : ATally) (values added : List ℤ) → g < length tallies.old.items → kind_of (slice_index_or tallies.old.items g t) ≡ kinds.Count → more ≡ length added → IsTally values (slice_index_or tallies.old.items g t) → IsTally (values ++ cond (place == g) added []) (slice_index_or tallies.new.items g t) }
+    ensures kind { (g : ℕ) (t : ATally) → g < length tallies.old.items → kind_of (slice_index_or tallies.new.items g t) ≡ kind_of (slice_index_or tallies.old.items g t) }
+{
+    if place < tallies.len() {
+        tallies[place].count_more(more);
+    }
+}
+
+/// Takes the values at the rows of a mask into the tally at a place. The values are short where `short` says so.
+fn add_slice(
+    tallies: &mut Vec<Tally>,
+    place: usize,
+    values: &[i64; 1024],
+    short: bool,
+    rows: &Mask,
+) -> Result<(), AllocError>
+    requires { short ≡ true → AreShort values.now }
+    ensures size { OnOk result (length tallies.new.items ≡ length tallies.old.items) }
+    ensures values { OnOk result ((g : ℕ) (t : ATally) (before : List ℤ) → g < length tallies.old.items → IsTally before (slice_index_or tallies.old.items g t) → IsTally (before ++ cond (place == g) (values_at rows.now values.now) []) (slice_index_or tallies.new.items g t)) }
+    ensures kind { OnOk result ((g : ℕ) (t : ATally) → g < length tallies.old.items → kind_of (slice_index_or tallies.new.items g t) ≡ kind_of (slice_index_or tallies.old.items g t)) }
+{
+    if place < tallies.len() {
+        tallies[place].add_rows(values, short, rows)?;
+    }
+    Ok(())
+}
+
+/// Counts the rows of slices, but for the nulls, in the tallies at their places.
+pub fn count_slices(tallies: &mut Vec<Tally>, slices: &[Slice], nulls: &Mask)
+    ensures size { length tallies.new.items ≡ length tallies.old.items }
+    ensures held { (a : AnAggregate) (v : Vector) → aggregate_kind a ≡ kinds.Count → AreNulls a v nulls.now → (g : ℕ) (t : ATally) (taken : List Cells) → g < length tallies.old.items → IsHeld taken a (slice_index_or tallies.old.items g t) → IsHeld (taken ++ rows_sliced v slices.now g) a (slice_index_or tallies.new.items g t) }
+{
+    for slice in slices {
+        let rows = slice.rows.and_not(nulls);
+        count_more(tallies, slice.place, rows.count());
+    }
+}
+
+/// Takes the values at the rows of slices, but for the nulls, into the tallies at their places, of any kind. The values are short
+/// where `short` says so.
+pub fn add_slices(
+    tallies: &mut Vec<Tally>,
+    values: &[i64; 1024],
+    short: bool,
+    slices: &[Slice],
+    nulls: &Mask,
+) -> Result<(), AllocError>
+    requires { short ≡ true → AreShort values.now }
+    ensures size { OnOk result (length tallies.new.items ≡ length tallies.old.items) }
+    ensures held { OnOk result ((a : AnAggregate) (v : Vector) → AreCells a v nulls.now values.now → (g : ℕ) (t : ATally) (taken : List Cells) → g < length tallies.old.items → IsHeld taken a (slice_index_or tallies.old.items g t) → IsHeld (taken ++ rows_sliced v slices.now g) a (slice_index_or tallies.new.items g t)) }
+{
+    for slice in slices {
+        let rows = slice.rows.and_not(nulls);
+        add_slice(tallies, slice.place, values, short, &rows)?;
+    }
+    Ok(())
+}

@@ -1,0 +1,297 @@
+//! Set functions of a group, value by value.
+ghost use Rattle.std.specs.Prelude.{◌≡◌, ◌≤◌, ◌^◌, ◌++◌, ◌∷◌, [], ◌+ℤ◌, ℤ, Bool, List, length, pos, IfOk, OnOk, FitsSigned, cond, false, true};
+ghost use Rattle.std.specs.List.{list_any};
+ghost use Rattle.std.specs.Ordering.{int_eq};
+ghost use Rattle.std.specs.Int.{w128};
+ghost use Rattle.table_model.specs.Group.{state_row_limit};
+ghost use Rattle.table_model.specs.Meaning.{fold_value, once_if};
+ghost use Rattle.table_model.specs.Values.{distinct, total, least as least_of, greatest as greatest_of};
+ghost use Rattle.table_model.proofs.Bounds.{AreSmall};
+ghost use Rattle.query_eval.specs.Slices.{AreShort, values_at};
+ghost use Rattle.query_eval.specs.Tally.{AreTold, IsTally, kind_of};
+ghost use Rattle.query_eval.specs.declared.tallies.tally.TallyKind.TheVariants as kinds;
+ghost use Rattle.query_eval.specs.TallyKinds.{fold_kind};
+
+use crate::answers::{sum_field, values_field, whole_field};
+use crate::tallies::distinct::{add_values, set_values};
+use crate::tallies::extremes::{greater, lesser};
+use crate::tallies::masked_folds::{count_at, greatest_at, least_at, sum_at};
+use std::alloc::{AllocError, Global};
+use std::collections::HashSet;
+use table_model::{Field, Fold, MILLION};
+use transpose_order::Mask;
+
+/// How many values of a column a set function is exact of.
+const MOST: usize = 1 << 36;
+
+/// What a set function keeps of a group's values.
+#[derive(Clone, Copy, Debug)]
+pub enum TallyKind {
+    Count,
+    Sum,
+    Least,
+    Greatest,
+    Distinct,
+}
+
+/// How many values there are, and their sum.
+#[derive(Clone, Copy, Debug)]
+pub struct Sums {
+    count: u64,
+    sum: i128,
+}
+
+/// A set function under way: of the values so far, what the function needs.
+///
+/// It is exact of up to 2^36 values of a column; no sum wraps, whatever the values are.
+#[derive(Drop)]
+pub enum Tally {
+    /// How many values there are.
+    Count(u64),
+    /// How many values there are and their sum, for SUM and AVG.
+    Sum(Sums),
+    /// The least value, `None` of no values.
+    Least(Option<i64>),
+    /// The greatest value, `None` of no values.
+    Greatest(Option<i64>),
+    /// The values, each once, under DISTINCT: on the heap, so that the other tallies stay small.
+    Distinct(Box<HashSet<i64>>),
+}
+
+/// The sum of two values where 128 bits hold it, else the first.
+fn added(a: i128, b: i128) -> i128
+    ensures { FitsSigned w128 (a +ℤ b) → result ≡ a +ℤ b }
+{
+    match a.checked_add(b) {
+        None => a,
+        Some(sum) => sum,
+    }
+}
+
+/// A value where one comes, else 0.
+fn value_or_zero(value: i64, comes: bool) -> i64
+    ensures { result ≡ cond comes value (pos 0) }
+{
+    if comes { value } else { 0 }
+}
+
+/// Adds a value to a set.
+fn insert(seen: &mut HashSet<i64>, value: i64) -> Result<(), AllocError>
+    ensures { OnOk result ((z : ℤ) → list_any (int_eq z) seen.new.keys ≡ cond (int_eq value z) true (list_any (int_eq z) seen.old.keys)) }
+{
+    // Whether the value is new doesn't matter.
+    let _added = seen.insert(value)?;
+    Ok(())
+}
+
+impl Sums {
+    /// Takes in one value more.
+    fn add(&mut self, value: i64)
+        ensures { (values : List ℤ) → AreTold values self.old → AreTold (values ++ value ∷ []) self.new }
+    {
+        self.count = self.count.saturating_add(1);
+        self.sum = added(self.sum, i128::from(value));
+    }
+
+    /// Takes in one value more where one comes. There is no branch on that, since at columns with nulls nothing foretells it.
+    fn add_where(&mut self, value: i64, comes: bool)
+        ensures { (values : List ℤ) → AreTold values self.old → AreTold (values ++ cond comes (value ∷ []) []) self.new }
+    {
+        let more = value_or_zero(value, comes);
+        self.count = self.count.saturating_add(u64::from(comes));
+        self.sum = added(self.sum, i128::from(more));
+    }
+
+    /// Takes in so many values more, which have this sum.
+    fn add_many(&mut self, count: usize, sum: i128)
+        ensures { (values more : List ℤ) → count ≡ length more → sum ≡ total more → AreTold values self.old → AreTold (values ++ more) self.new }
+    {
+        self.count = self.count.saturating_add(count as u64);
+        self.sum = added(self.sum, sum);
+    }
+
+    /// Takes in the values at the rows of a mask, which are short where `short` says so.
+    fn add_rows(&mut self, values: &[i64; 1024], short: bool, rows: &Mask)
+        requires { short ≡ true → AreShort values.now }
+        ensures { (before : List ℤ) → AreTold before self.old → AreTold (before ++ values_at rows.now values.now) self.new }
+    {
+        self.add_many(count_at(rows), sum_at(values, short, rows));
+    }
+
+    /// AVG of the values, where the fold is that, and else SUM.
+    fn field(self, fold: Fold) -> Field
+        ensures { (values : List ℤ) → length values ≤ state_row_limit → AreSmall values → AreTold values self → kinds.Sum ≡ fold_kind false fold → result ≡ fold_value fold values }
+    {
+        match fold {
+            Fold::Avg => self.mean(),
+            Fold::Count | Fold::Sum | Fold::Min | Fold::Max => {
+                sum_field(u128::from(self.count), self.sum)
+            }
+        }
+    }
+
+    /// The mean in millionths, truncated toward zero; null of no values.
+    fn mean(self) -> Field
+        ensures { (values : List ℤ) → length values ≤ state_row_limit → AreSmall values → AreTold values self → result ≡ fold_value Fold.Avg values }
+    {
+        if self.count == 0 {
+            return Field::Null;
+        }
+        match self.sum.checked_mul(MILLION) {
+            None => Field::Null,
+            Some(millionths) => Field::Millionths(millionths / i128::from(self.count)),
+        }
+    }
+}
+
+/// A set function of a set's values, which are at most 2^32.
+fn set_field(alloc: Global, fold: Fold, seen: &HashSet<i64>) -> Result<Field, AllocError>
+    ensures { IfOk result (λ field. (values : List ℤ) → length values ≤ state_row_limit → ((z : ℤ) → list_any (int_eq z) seen.now.keys ≡ list_any (int_eq z) values) → field ≡ fold_value fold (distinct values)) }
+{
+    let values = set_values(alloc, seen)?;
+    if values.len() > MOST {
+        return Ok(Field::Null);
+    }
+    Ok(values_field(fold, values.as_slice()))
+}
+
+impl Tally {
+    /// The set function of no values. DISTINCT alone takes memory, for its set's place.
+    pub fn new(alloc: Global, kind: TallyKind) -> Result<Tally, AllocError>
+        ensures values { IfOk result (λ tally. IsTally [] tally) }
+        ensures kind { IfOk result (λ tally. kind_of tally ≡ kind) }
+    {
+        match kind {
+            TallyKind::Count => Ok(Tally::Count(0)),
+            TallyKind::Sum => Ok(Tally::Sum(Sums { count: 0, sum: 0 })),
+            TallyKind::Least => Ok(Tally::Least(None)),
+            TallyKind::Greatest => Ok(Tally::Greatest(None)),
+            TallyKind::Distinct => {
+                let seen = Box::new(alloc, HashSet::new(alloc))?;
+                Ok(Tally::Distinct(seen))
+            }
+        }
+    }
+
+    /// Counts one value more where one comes. A tally of another kind stays as it is.
+    pub fn count_where(&mut self, comes: bool)
+        ensures values { (values : List ℤ) (z : ℤ) → kind_of self.old ≡ kinds.Count → IsTally values self.old → IsTally (values ++ cond comes (z ∷ []) []) self.new }
+        ensures kind { kind_of self.new ≡ kind_of self.old }
+    {
+        if let Tally::Count(count) = self {
+            *count = count.saturating_add(u64::from(comes));
+        }
+    }
+
+    /// Counts so many values more. A tally of another kind stays as it is.
+    pub fn count_more(&mut self, more: usize)
+        ensures values { (values added : List ℤ) → kind_of self.old ≡ kinds.Count → more ≡ length added → IsTally values self.old → IsTally (values ++ added) self.new }
+        ensures kind { kind_of self.new ≡ kind_of self.old }
+    {
+        if let Tally::Count(count) = self {
+            *count = count.saturating_add(more as u64);
+        }
+    }
+
+    /// What it keeps.
+    pub fn kind(&self) -> TallyKind
+        ensures { result ≡ kind_of self.now }
+    {
+        match self {
+            Tally::Count(_) => TallyKind::Count,
+            Tally::Sum(_) => TallyKind::Sum,
+            Tally::Least(_) => TallyKind::Least,
+            Tally::Greatest(_) => TallyKind::Greatest,
+            Tally::Distinct(_) => TallyKind::Distinct,
+        }
+    }
+
+    /// Takes so many values more, which have this sum, into a sum. A tally of another kind stays as it is.
+    pub fn sum_more(&mut self, count: usize, sum: i128)
+        ensures values { (values more : List ℤ) → kind_of self.old ≡ kinds.Sum → count ≡ length more → sum ≡ total more → IsTally values self.old → IsTally (values ++ more) self.new }
+        ensures kind { kind_of self.new ≡ kind_of self.old }
+    {
+        if let Tally::Sum(sums) = self {
+            sums.add_many(count, sum);
+        }
+    }
+
+    /// Takes values more, of which this is the least, into a least value. A tally of another kind stays as it is.
+    pub fn least_more(&mut self, least: Option<i64>)
+        ensures values { (values more : List ℤ) → kind_of self.old ≡ kinds.Least → least ≡ least_of more → IsTally values self.old → IsTally (values ++ more) self.new }
+        ensures kind { kind_of self.new ≡ kind_of self.old }
+    {
+        if let Tally::Least(before) = self {
+            *before = lesser(*before, least);
+        }
+    }
+
+    /// Takes values more, of which this is the greatest, into a greatest value. A tally of another kind stays as it is.
+    pub fn greatest_more(&mut self, greatest: Option<i64>)
+        ensures values { (values more : List ℤ) → kind_of self.old ≡ kinds.Greatest → greatest ≡ greatest_of more → IsTally values self.old → IsTally (values ++ more) self.new }
+        ensures kind { kind_of self.new ≡ kind_of self.old }
+    {
+        if let Tally::Greatest(before) = self {
+            *before = greater(*before, greatest);
+        }
+    }
+
+    /// Takes one value more into a sum where one comes. A tally of another kind stays as it is.
+    pub fn sum_where(&mut self, value: i64, comes: bool)
+        ensures values { (values : List ℤ) → kind_of self.old ≡ kinds.Sum → IsTally values self.old → IsTally (values ++ cond comes (value ∷ []) []) self.new }
+        ensures kind { kind_of self.new ≡ kind_of self.old }
+    {
+        if let Tally::Sum(sums) = self {
+            sums.add_where(value, comes);
+        }
+    }
+
+    /// Takes in one value more.
+    pub fn add(&mut self, value: i64) -> Result<(), AllocError>
+        ensures values { OnOk result ((values : List ℤ) → IsTally values self.old → IsTally (values ++ value ∷ []) self.new) }
+        ensures kind { kind_of self.new ≡ kind_of self.old }
+    {
+        match self {
+            Tally::Count(count) => *count = count.saturating_add(1),
+            Tally::Sum(sums) => sums.add(value),
+            Tally::Least(least) => *least = lesser(*least, Some(value)),
+            Tally::Greatest(greatest) => *greatest = greater(*greatest, Some(value)),
+            Tally::Distinct(seen) => insert(seen, value)?,
+        }
+        Ok(())
+    }
+
+    /// Takes in the values at the rows of a mask, which are short where `short` says so.
+    pub fn add_rows(
+        &mut self,
+        values: &[i64; 1024],
+        short: bool,
+        rows: &Mask,
+    ) -> Result<(), AllocError>
+        requires { short ≡ true → AreShort values.now }
+        ensures values { OnOk result ((before : List ℤ) → IsTally before self.old → IsTally (before ++ values_at rows.now values.now) self.new) }
+        ensures kind { kind_of self.new ≡ kind_of self.old }
+    {
+        match self {
+            Tally::Count(count) => *count = count.saturating_add(count_at(rows) as u64),
+            Tally::Sum(sums) => sums.add_rows(values, short, rows),
+            Tally::Least(least) => *least = lesser(*least, least_at(values, rows)),
+            Tally::Greatest(greatest) => *greatest = greater(*greatest, greatest_at(values, rows)),
+            Tally::Distinct(seen) => add_values(seen, rows, values)?,
+        }
+        Ok(())
+    }
+
+    /// The set function's value. DISTINCT takes memory for the values.
+    pub fn field(&self, alloc: Global, fold: Fold) -> Result<Field, AllocError>
+        ensures { IfOk result (λ field. (distinct : Bool) (values : List ℤ) → length values ≤ state_row_limit → AreSmall values → IsTally values self.now → kind_of self.now ≡ fold_kind distinct fold → field ≡ fold_value fold (once_if distinct values)) }
+    {
+        match self {
+            Tally::Count(count) => Ok(Field::Whole(i128::from(*count))),
+            Tally::Sum(sums) => Ok(sums.field(fold)),
+            Tally::Least(least) => Ok(whole_field(*least)),
+            Tally::Greatest(greatest) => Ok(whole_field(*greatest)),
+            Tally::Distinct(seen) => set_field(alloc, fold, seen),
+        }
+    }
+}

@@ -1,0 +1,152 @@
+//! The one group of a query without GROUP BY: tallies of all rows, vector by vector.
+ghost use Rattle.std.specs.Prelude.{◌≡◌, ◌<◌, ◌≤◌, ◌+◌, ◌++◌, [], List, ℤ, length, map, sum_by, IfOk, OnOk};
+ghost use Rattle.table_model.specs.State.{Cells};
+ghost use Rattle.table_model.specs.Table.{Table};
+ghost use Rattle.query_eval.specs.Aggregate.{aggregate_value};
+ghost use Rattle.query_eval.specs.Finished.{finished_groups};
+ghost use Rattle.query_eval.specs.Grouping.{IsHeld};
+ghost use Rattle.query_eval.specs.Kept.{rows_at, AreFew};
+ghost use Rattle.query_eval.specs.QueryMentions.{aggregate_mentions};
+ghost use Rattle.query_eval.specs.Taken.{AreTallied};
+ghost use Rattle.query_eval.specs.Tally.{IsTally, kind_of};
+ghost use Rattle.query_eval.specs.Vector.{IsThere, vector_at, looked_at};
+
+use crate::answers::{FinishedGroup, value_of};
+use crate::columns::Columns;
+use crate::filter::KeptVector;
+use crate::grouping::Key;
+use crate::tallies::aggregate::Aggregate;
+use crate::tallies::split_tallies::aggregate_kind;
+use crate::tallies::tally::{Tally, TallyKind};
+use std::alloc::{AllocError, Global};
+use table_model::Field;
+
+/// A tally of no rows for each aggregate.
+pub fn no_tallies(alloc: Global, aggregates: &[Aggregate]) -> Result<Vec<Tally>, AllocError>
+    ensures { IfOk result (λ tallies. AreTallied aggregates.now [] tallies.items) }
+{
+    let mut tallies = Vec::new(alloc);
+    for aggregate in aggregates {
+        tallies.push(Tally::new(alloc, aggregate_kind(*aggregate))?)?;
+    }
+    Ok(tallies)
+}
+
+/// Takes a column's values at the kept rows of a vector into a tally, in at most one pass: COUNT needs none. `values` is room
+/// for the decoded column.
+fn take_values<C: Columns>(
+    columns: &mut C,
+    kept: &KeptVector,
+    column: usize,
+    tally: &mut Tally,
+    values: &mut [i64; 1024],
+) -> Result<(), AllocError>
+    requires there { IsThere (C.state columns.old) kept.now.batch kept.now.vector }
+    requires column { column < length (C.table columns.old).columns }
+    ensures values { OnOk result ((before : List ℤ) → IsTally before tally.old → IsTally (before ++ looked_at (vector_at (C.state columns.old) kept.now.batch kept.now.vector) column kept.now.rows) tally.new) }
+    ensures kind { OnOk result (kind_of tally.new ≡ kind_of tally.old) }
+    ensures table { C.table columns.new ≡ C.table columns.old }
+    ensures state { C.state columns.new ≡ C.state columns.old }
+    ensures passes { C.passes columns.new ≤ C.passes columns.old + 1 }
+{
+    let (batch, vector) = (kept.batch, kept.vector);
+    match tally.kind() {
+        TallyKind::Count => tally.count_more(columns.count(batch, column, vector, &kept.rows)),
+        TallyKind::Sum => {
+            let count = columns.count(batch, column, vector, &kept.rows);
+            let sum = columns.sum(batch, column, vector, &kept.rows);
+            tally.sum_more(count, sum);
+        }
+        TallyKind::Least => tally.least_more(columns.min(batch, column, vector, &kept.rows)),
+        TallyKind::Greatest => tally.greatest_more(columns.max(batch, column, vector, &kept.rows)),
+        TallyKind::Distinct => {
+            let nulls = columns.nulls(batch, column, vector);
+            columns.decode_into(batch, column, vector, values);
+            let rows = kept.rows.and_not(&nulls);
+            tally.add_rows(values, false, &rows)?;
+        }
+    }
+    Ok(())
+}
+
+/// Takes the kept rows of a vector into the tally of an aggregate. Its mention of a column takes at most one pass; a place past
+/// the last column has no value.
+fn take_aggregate<C: Columns>(
+    columns: &mut C,
+    kept: &KeptVector,
+    aggregate: Aggregate,
+    tally: &mut Tally,
+    values: &mut [i64; 1024],
+) -> Result<(), AllocError>
+    requires { IsThere (C.state columns.old) kept.now.batch kept.now.vector }
+    ensures held { OnOk result ((rows : List Cells) → IsHeld rows aggregate tally.old → IsHeld (rows ++ rows_at (vector_at (C.state columns.old) kept.now.batch kept.now.vector) kept.now.rows) aggregate tally.new) }
+    ensures table { C.table columns.new ≡ C.table columns.old }
+    ensures state { C.state columns.new ≡ C.state columns.old }
+    ensures passes { C.passes columns.new ≤ C.passes columns.old + aggregate_mentions aggregate }
+{
+    // `batches` ensures that the table and the state are within their limits, and a mask's words that it has 1024 places.
+    let _batches = columns.batches();
+    let _words = kept.rows.words();
+    match aggregate {
+        Aggregate::Rows => tally.count_more(kept.rows.count()),
+        Aggregate::Folded { place, .. } => {
+            if place < columns.schema().column_list().len() {
+                take_values(columns, kept, place, tally, values)?;
+            }
+        }
+    }
+    Ok(())
+}
+
+/// Takes the kept rows of a vector into the tallies of some aggregates, one each. Each mention of a column takes at most one
+/// pass. `values` is room for a decoded column.
+pub fn tally_vector<C: Columns>(
+    columns: &mut C,
+    kept: &KeptVector,
+    aggregates: &[Aggregate],
+    tallies: &mut Vec<Tally>,
+    values: &mut [i64; 1024],
+) -> Result<(), AllocError>
+    requires { IsThere (C.state columns.old) kept.now.batch kept.now.vector }
+    ensures tallied { OnOk result ((rows : List Cells) → AreTallied aggregates.now rows tallies.old.items → AreTallied aggregates.now (rows ++ rows_at (vector_at (C.state columns.old) kept.now.batch kept.now.vector) kept.now.rows) tallies.new.items) }
+    ensures table { C.table columns.new ≡ C.table columns.old }
+    ensures state { C.state columns.new ≡ C.state columns.old }
+    ensures passes { C.passes columns.new ≤ C.passes columns.old + sum_by aggregate_mentions aggregates.now }
+{
+    let named = aggregates.len().min(tallies.len());
+    for i in 0..named {
+        take_aggregate(columns, kept, aggregates[i], &mut tallies[i], values)?;
+    }
+    Ok(())
+}
+
+/// The values of some aggregates by their tallies.
+fn tallied_fields(
+    alloc: Global,
+    aggregates: &[Aggregate],
+    tallies: &[Tally],
+) -> Result<Vec<Field>, AllocError>
+    ensures { IfOk result (λ fields. (table : Table) (rows : List Cells) → AreFew table rows → AreTallied aggregates.now rows tallies.now → fields.items ≡ map (λ a. aggregate_value a rows) aggregates.now) }
+{
+    let mut fields = Vec::new(alloc);
+    let named = aggregates.len().min(tallies.len());
+    for i in 0..named {
+        let field = value_of(alloc, aggregates[i], &tallies[i])?;
+        fields.push(field)?;
+    }
+    Ok(fields)
+}
+
+/// The one group of a query without GROUP BY, of all rows that were taken in, also of none.
+pub fn whole_group(
+    alloc: Global,
+    aggregates: &[Aggregate],
+    tallies: &[Tally],
+) -> Result<Vec<FinishedGroup>, AllocError>
+    ensures { IfOk result (λ groups. (table : Table) (rows : List Cells) → AreFew table rows → AreTallied aggregates.now rows tallies.now → groups.items ≡ finished_groups aggregates.now [] rows) }
+{
+    let fields = tallied_fields(alloc, aggregates, tallies)?;
+    let mut groups = Vec::new(alloc);
+    groups.push(FinishedGroup::new(Key::empty(alloc), fields))?;
+    Ok(groups)
+}
