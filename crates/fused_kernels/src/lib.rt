@@ -2,6 +2,7 @@
 #![tactic(auto)]
 
 mod beside;
+mod bounds;
 mod code_values;
 mod codes;
 mod columns;
@@ -21,6 +22,7 @@ mod runs;
 mod sums;
 mod vector_lanes;
 
+pub use bounds::vector_may_have;
 pub use columns::compare_columns;
 pub use comparisons::compare;
 pub use counts::count;

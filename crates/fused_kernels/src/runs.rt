@@ -36,7 +36,7 @@ fn set_run_if(words: &mut [u64; 16], first: usize, end: usize, set: bool)
 }
 
 /// Whether one of some values is neither below `low` nor above `high`.
-fn is_one_between(values: &Values, low: i64, high: i64) -> bool
+pub(crate) fn is_one_between(values: &Values, low: i64, high: i64) -> bool
     ensures { result ≡ list_any (between low high) values.now.values }
 {
     for i in 0..values.len() {

@@ -12,6 +12,7 @@ pub(crate) const CODINGS: [Coding; 4] = [Coding::For, Coding::Delta, Coding::Run
 /// What a test's column holds.
 #[derive(Clone, Copy)]
 pub(crate) enum Pattern {
+    Nulls,
     All(i128),
     Counting,
     Alternating(i128, i128),
@@ -31,6 +32,7 @@ fn mixed(row: usize, without: usize) -> u64 {
 
 pub(crate) fn cell_of(pattern: Pattern, row: usize) -> Option<i128> {
     match pattern {
+        Pattern::Nulls => None,
         Pattern::All(value) => Some(value),
         Pattern::Counting => Some(row as i128),
         Pattern::Alternating(even, odd) => Some(if row % 2 == 0 { even } else { odd }),

@@ -34,14 +34,14 @@ fn one_in_32() -> [u64; 32]
 }
 
 /// The frame of 16 bits of 32767 and, at row 0, one more, which wraps.
-fn wrapping_16(alloc: Global) -> Result<CodedVector, Fail> {
+pub(crate) fn wrapping_16(alloc: Global) -> Result<CodedVector, Fail> {
     let words = Words::from_numbers(alloc, 16, &one_in_64())?;
     let frame = For::from_parts(16, 1, 32767, words);
     Ok(CodedVector::from_parts(1024, None, Coded::For(Boxed::new(alloc, frame)?)))
 }
 
 /// The frame of 32 bits of 2147483647 and, at row 0, one more, which wraps.
-fn wrapping_32(alloc: Global) -> Result<CodedVector, Fail> {
+pub(crate) fn wrapping_32(alloc: Global) -> Result<CodedVector, Fail> {
     let words = Words::from_numbers(alloc, 32, &one_in_32())?;
     let frame = For::from_parts(32, 1, 2147483647, words);
     Ok(CodedVector::from_parts(1024, None, Coded::For(Boxed::new(alloc, frame)?)))

@@ -352,7 +352,7 @@ fn a_vector_is_decoded_in_row_order(rt: HostRuntime) -> Result<(), Fail> {
 
 /// A column type, how many of 64 bits a column's numbers are without, and what is taken off them: their frames have the widths 0,
 /// 3, half of the type's bits, all but one of them, and at 8, 16 and 32 bits all.
-const WIDTHS: [(ColType, usize, i64); 20] = [
+pub(crate) const WIDTHS: [(ColType, usize, i64); 20] = [
     (ColType::TinyInt, 64, 5),
     (ColType::TinyInt, 61, 4),
     (ColType::TinyInt, 60, 8),
