@@ -1,4 +1,5 @@
 pub mod Vector
+pub mod Read
 pub mod Pairs
 pub mod Mentions
 pub mod Where

@@ -8,6 +8,7 @@ use Rattle.table_model.specs.Table.{Table, IsBatch}
 use Rattle.table_model.specs.Values.{present}
 use Rattle.table_model.specs.declared.names.BatchName.{BatchName}
 use Rattle.transpose_order.specs.Mask.{rows_of, has}
+use Rattle.query_eval.specs.declared.vector_id.VectorId.{VectorId}
 
 -- a vector: up to 1024 rows, and which of their places are deleted
 pub record Vector : Type 0 where
@@ -48,6 +49,10 @@ vector_at s i v = record {
   rows = take 1024 (drop (1024 * v) (batch_at s i).1);
   deleted = λ n. set.contains s.deleted (record { batch = (batch_at s i).0; ordinal = 1024 * v + n });
 }
+
+-- a vector of a state by its batch and its place there
+abbrev pub vector_of : State → VectorId → Vector
+vector_of s id = vector_at s id.batch id.vector
 
 -- there is a vector with these indexes
 pub record IsThere (s : State) (batch vector : ℕ) : Type 0 where

@@ -1,6 +1,7 @@
 //! What the evaluator of queries sees of a store.
 ghost use Rattle.std.specs.Prelude.{◌≡◌};
 
+use crate::vector_id::VectorId;
 use table_model::{BatchName, Op, Schema};
 use transpose_order::Mask;
 
@@ -13,158 +14,135 @@ pub trait Columns {
     ghost use Rattle.std.specs.Prelude.{◌&&◌, false};
     ghost use Rattle.table_model.specs.Condition.{is_null};
     ghost use Rattle.table_model.specs.Answer.{whole};
-    ghost use Rattle.table_model.specs.State.{State};
-    ghost use Rattle.table_model.specs.Table.{Table};
+    ghost use Rattle.query_eval.specs.Read.{Seen, IsCounted};
     ghost use Rattle.table_model.specs.Truth.{comparison, and_of};
     ghost use Rattle.table_model.specs.Values.{total, least, greatest};
     ghost use Rattle.table_model.specs.declared.op.Op.TheVariants.{GreaterOrEqual, LessOrEqual};
     ghost use Rattle.transpose_order.specs.Mask.{rows_of};
     ghost use Rattle.query_eval.specs.Pairs.{yes_of, no_of};
-    ghost use Rattle.table_model.specs.Passes.{raised};
     ghost use Rattle.query_eval.specs.Where.{IsNowhere};
-    ghost use Rattle.query_eval.specs.Vector.{IsThere, IsWithin, batch_at, batch_count, vector_count, vector_at, is_live, cell_at, looked_at};
+    ghost use Rattle.query_eval.specs.Vector.{IsThere, IsWithin, batch_at, batch_count, vector_count, is_live, cell_at, looked_at, vector_of};
 
-    ghost table: { Self → Table };
-
-    ghost state: { Self → State };
-
-    ghost passes: { Self → ℕ };
+    ghost seen: { Self → Seen };
 
     /// The table's schema.
     fn schema(&self) -> &Schema
-        ensures { result.now ≡ table self.now };
+        ensures { result.now ≡ (seen self.now).table };
 
     /// How many batches there are.
     fn batches(&self) -> usize
-        ensures count { result ≡ batch_count (state self.now) }
-        ensures limits { IsWithin (table self.now) (state self.now) };
+        ensures count { result ≡ batch_count (seen self.now).state }
+        ensures limits { IsWithin (seen self.now).table (seen self.now).state };
 
     /// The name of a batch; batches stand in ascending order of name.
     fn name(&self, batch: usize) -> BatchName
-        requires { batch < batch_count (state self.now) }
-        ensures { result ≡ (batch_at (state self.now) batch).0 };
+        requires { batch < batch_count (seen self.now).state }
+        ensures { result ≡ (batch_at (seen self.now).state batch).0 };
 
     /// How many vectors a batch has.
     fn vectors(&self, batch: usize) -> usize
-        requires { batch < batch_count (state self.now) }
-        ensures { result ≡ vector_count (state self.now) batch };
+        requires { batch < batch_count (seen self.now).state }
+        ensures { result ≡ vector_count (seen self.now).state batch };
 
     /// The rows of a vector that aren't deleted.
-    fn live(&self, batch: usize, vector: usize) -> Mask
-        requires { IsThere (state self.now) batch vector }
-        ensures { result ≡ rows_of (is_live (vector_at (state self.now) batch vector)) };
+    fn live(&self, id: VectorId) -> Mask
+        requires { IsThere (seen self.now).state id.batch id.vector }
+        ensures { result ≡ rows_of (is_live (vector_of (seen self.now).state id)) };
 
     /// The rows of a vector at which a column is null; rows past the vector's end are so too.
-    fn nulls(&self, batch: usize, column: usize, vector: usize) -> Mask
-        requires there { IsThere (state self.now) batch vector }
-        requires column { column < length (table self.now).columns }
-        ensures { result ≡ rows_of (λ n. is_null (whole (cell_at (vector_at (state self.now) batch vector) column n))) };
+    fn nulls(&self, id: VectorId, column: usize) -> Mask
+        requires there { IsThere (seen self.now).state id.batch id.vector }
+        requires column { column < length (seen self.now).table.columns }
+        ensures { result ≡ rows_of (λ n. is_null (whole (cell_at (vector_of (seen self.now).state id) column n))) };
 
     /// Whether a column may have a value in a vector that is neither below `low` nor above `high`, by what is known of all its
     /// values together, as the bounds of a frame or the ends of a dictionary: no row's value is looked at, and no pass is made.
-    fn may_have(&self, batch: usize, column: usize, vector: usize, low: i128, high: i128) -> bool
-        requires there { IsThere (state self.now) batch vector }
-        requires column { column < length (table self.now).columns }
-        ensures { result ≡ false → IsNowhere (λ n. and_of (comparison GreaterOrEqual (cell_at (vector_at (state self.now) batch vector) column n) (Some low)) (comparison LessOrEqual (cell_at (vector_at (state self.now) batch vector) column n) (Some high))) };
+    fn may_have(&self, id: VectorId, column: usize, low: i128, high: i128) -> bool
+        requires there { IsThere (seen self.now).state id.batch id.vector }
+        requires column { column < length (seen self.now).table.columns }
+        ensures { result ≡ false → IsNowhere (λ n. and_of (comparison GreaterOrEqual (cell_at (vector_of (seen self.now).state id) column n) (Some low)) (comparison LessOrEqual (cell_at (vector_of (seen self.now).state id) column n) (Some high))) };
 
     /// The rows of a mask at which the comparison of a column with a literal is true, and those at which it is false.
     fn compare(
         &mut self,
-        batch: usize,
+        id: VectorId,
         column: usize,
-        vector: usize,
         op: Op,
         literal: i128,
         mask: &Mask,
     ) -> (Mask, Mask)
-        requires there { IsThere (state self.old) batch vector }
-        requires column { column < length (table self.old).columns }
-        ensures yes { result.0 ≡ yes_of mask.now (λ n. comparison op (cell_at (vector_at (state self.old) batch vector) column n) (Some literal)) }
-        ensures no { result.1 ≡ no_of mask.now (λ n. comparison op (cell_at (vector_at (state self.old) batch vector) column n) (Some literal)) }
-        ensures table { table self.new ≡ table self.old }
-        ensures state { state self.new ≡ state self.old }
-        ensures passes { passes self.new ≡ raised 1 (passes self.old) };
+        requires there { IsThere (seen self.old).state id.batch id.vector }
+        requires column { column < length (seen self.old).table.columns }
+        ensures yes { result.0 ≡ yes_of mask.now (λ n. comparison op (cell_at (vector_of (seen self.old).state id) column n) (Some literal)) }
+        ensures no { result.1 ≡ no_of mask.now (λ n. comparison op (cell_at (vector_of (seen self.old).state id) column n) (Some literal)) }
+        ensures read { IsCounted (seen self.old) (seen self.new) 1 };
 
     /// The rows of a mask at which a column's value is neither below `low` nor above `high`, and those at which it is.
     fn compare_range(
         &mut self,
-        batch: usize,
+        id: VectorId,
         column: usize,
-        vector: usize,
         low: i128,
         high: i128,
         mask: &Mask,
     ) -> (Mask, Mask)
-        requires there { IsThere (state self.old) batch vector }
-        requires column { column < length (table self.old).columns }
-        ensures yes { result.0 ≡ yes_of mask.now (λ n. and_of (comparison GreaterOrEqual (cell_at (vector_at (state self.old) batch vector) column n) (Some low)) (comparison LessOrEqual (cell_at (vector_at (state self.old) batch vector) column n) (Some high))) }
-        ensures no { result.1 ≡ no_of mask.now (λ n. and_of (comparison GreaterOrEqual (cell_at (vector_at (state self.old) batch vector) column n) (Some low)) (comparison LessOrEqual (cell_at (vector_at (state self.old) batch vector) column n) (Some high))) }
-        ensures table { table self.new ≡ table self.old }
-        ensures state { state self.new ≡ state self.old }
-        ensures passes { passes self.new ≡ raised 1 (passes self.old) };
+        requires there { IsThere (seen self.old).state id.batch id.vector }
+        requires column { column < length (seen self.old).table.columns }
+        ensures yes { result.0 ≡ yes_of mask.now (λ n. and_of (comparison GreaterOrEqual (cell_at (vector_of (seen self.old).state id) column n) (Some low)) (comparison LessOrEqual (cell_at (vector_of (seen self.old).state id) column n) (Some high))) }
+        ensures no { result.1 ≡ no_of mask.now (λ n. and_of (comparison GreaterOrEqual (cell_at (vector_of (seen self.old).state id) column n) (Some low)) (comparison LessOrEqual (cell_at (vector_of (seen self.old).state id) column n) (Some high))) }
+        ensures read { IsCounted (seen self.old) (seen self.new) 1 };
 
     /// The rows of a mask at which the comparison of two columns is true, and those at which it is false.
     fn compare_columns(
         &mut self,
-        batch: usize,
+        id: VectorId,
         left: usize,
-        vector: usize,
         op: Op,
         right: usize,
         mask: &Mask,
     ) -> (Mask, Mask)
-        requires there { IsThere (state self.old) batch vector }
-        requires left { left < length (table self.old).columns }
-        requires right { right < length (table self.old).columns }
-        ensures yes { result.0 ≡ yes_of mask.now (λ n. comparison op (cell_at (vector_at (state self.old) batch vector) left n) (cell_at (vector_at (state self.old) batch vector) right n)) }
-        ensures no { result.1 ≡ no_of mask.now (λ n. comparison op (cell_at (vector_at (state self.old) batch vector) left n) (cell_at (vector_at (state self.old) batch vector) right n)) }
-        ensures table { table self.new ≡ table self.old }
-        ensures state { state self.new ≡ state self.old }
-        ensures passes { passes self.new ≡ raised 2 (passes self.old) };
+        requires there { IsThere (seen self.old).state id.batch id.vector }
+        requires left { left < length (seen self.old).table.columns }
+        requires right { right < length (seen self.old).table.columns }
+        ensures yes { result.0 ≡ yes_of mask.now (λ n. comparison op (cell_at (vector_of (seen self.old).state id) left n) (cell_at (vector_of (seen self.old).state id) right n)) }
+        ensures no { result.1 ≡ no_of mask.now (λ n. comparison op (cell_at (vector_of (seen self.old).state id) left n) (cell_at (vector_of (seen self.old).state id) right n)) }
+        ensures read { IsCounted (seen self.old) (seen self.new) 2 };
 
     /// How many rows of a mask have a value in a column.
-    fn count(&self, batch: usize, column: usize, vector: usize, mask: &Mask) -> usize
-        requires there { IsThere (state self.now) batch vector }
-        requires column { column < length (table self.now).columns }
-        ensures { result ≡ length (looked_at (vector_at (state self.now) batch vector) column mask.now) };
+    fn count(&self, id: VectorId, column: usize, mask: &Mask) -> usize
+        requires there { IsThere (seen self.now).state id.batch id.vector }
+        requires column { column < length (seen self.now).table.columns }
+        ensures { result ≡ length (looked_at (vector_of (seen self.now).state id) column mask.now) };
 
     /// The sum of a column's values at the rows of a mask, 0 over none.
-    fn sum(&mut self, batch: usize, column: usize, vector: usize, mask: &Mask) -> i128
-        requires there { IsThere (state self.old) batch vector }
-        requires column { column < length (table self.old).columns }
-        ensures value { result ≡ total (looked_at (vector_at (state self.old) batch vector) column mask.now) }
-        ensures table { table self.new ≡ table self.old }
-        ensures state { state self.new ≡ state self.old }
-        ensures passes { passes self.new ≡ raised 1 (passes self.old) };
+    fn sum(&mut self, id: VectorId, column: usize, mask: &Mask) -> i128
+        requires there { IsThere (seen self.old).state id.batch id.vector }
+        requires column { column < length (seen self.old).table.columns }
+        ensures value { result ≡ total (looked_at (vector_of (seen self.old).state id) column mask.now) }
+        ensures read { IsCounted (seen self.old) (seen self.new) 1 };
 
     /// The least of a column's values at the rows of a mask, `None` over none.
-    fn min(&mut self, batch: usize, column: usize, vector: usize, mask: &Mask) -> Option<i64>
-        requires there { IsThere (state self.old) batch vector }
-        requires column { column < length (table self.old).columns }
-        ensures value { result ≡ least (looked_at (vector_at (state self.old) batch vector) column mask.now) }
-        ensures table { table self.new ≡ table self.old }
-        ensures state { state self.new ≡ state self.old }
-        ensures passes { passes self.new ≡ raised 1 (passes self.old) };
+    fn min(&mut self, id: VectorId, column: usize, mask: &Mask) -> Option<i64>
+        requires there { IsThere (seen self.old).state id.batch id.vector }
+        requires column { column < length (seen self.old).table.columns }
+        ensures value { result ≡ least (looked_at (vector_of (seen self.old).state id) column mask.now) }
+        ensures read { IsCounted (seen self.old) (seen self.new) 1 };
 
     /// The greatest of a column's values at the rows of a mask, `None` over none.
-    fn max(&mut self, batch: usize, column: usize, vector: usize, mask: &Mask) -> Option<i64>
-        requires there { IsThere (state self.old) batch vector }
-        requires column { column < length (table self.old).columns }
-        ensures value { result ≡ greatest (looked_at (vector_at (state self.old) batch vector) column mask.now) }
-        ensures table { table self.new ≡ table self.old }
-        ensures state { state self.new ≡ state self.old }
-        ensures passes { passes self.new ≡ raised 1 (passes self.old) };
+    fn max(&mut self, id: VectorId, column: usize, mask: &Mask) -> Option<i64>
+        requires there { IsThere (seen self.old).state id.batch id.vector }
+        requires column { column < length (seen self.old).table.columns }
+        ensures value { result ≡ greatest (looked_at (vector_of (seen self.old).state id) column mask.now) }
+        ensures read { IsCounted (seen self.old) (seen self.new) 1 };
 
     /// Writes a column's values in row order, with anything at the rows that are null or past the vector's end.
-    fn decode_into(&mut self, batch: usize, column: usize, vector: usize, values: &mut [i64; 1024])
-        requires there { IsThere (state self.old) batch vector }
-        requires column { column < length (table self.old).columns }
-        ensures values { (n : ℕ) (z : ℤ) → n < 1024 → cell_at (vector_at (state self.old) batch vector) column n ≡ Some z → slice_index_or values.new n (pos 0) ≡ z }
-        ensures table { table self.new ≡ table self.old }
-        ensures state { state self.new ≡ state self.old }
-        ensures passes { passes self.new ≡ raised 1 (passes self.old) };
+    fn decode_into(&mut self, id: VectorId, column: usize, values: &mut [i64; 1024])
+        requires there { IsThere (seen self.old).state id.batch id.vector }
+        requires column { column < length (seen self.old).table.columns }
+        ensures values { (n : ℕ) (z : ℤ) → n < 1024 → cell_at (vector_of (seen self.old).state id) column n ≡ Some z → slice_index_or values.new n (pos 0) ≡ z }
+        ensures read { IsCounted (seen self.old) (seen self.new) 1 };
 
     /// How many passes over vectors were made, or the greatest number where they were more.
     fn passes(&self) -> u128
-        ensures { result ≡ passes self.now };
+        ensures { result ≡ (seen self.now).passes };
 }

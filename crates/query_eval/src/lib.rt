@@ -6,8 +6,10 @@ mod columns;
 mod filter;
 mod grouping;
 mod tallies;
+mod vector_id;
 
 pub use answers::{answer, text, write_answer};
 pub use columns::Columns;
 pub use filter::{Decoded, Pair, matching};
 pub use tallies::{greater, lesser};
+pub use vector_id::VectorId;

@@ -15,7 +15,7 @@ ghost use Rattle.query_eval_tests.specs.PlainRows.{plain_vector};
 ghost use Rattle.query_eval.specs.Vector.{cell_at, is_live, looked_at};
 ghost use Rattle.query_eval.specs.Where.{IsNowhere, IsPair};
 
-use query_eval::{Columns, Decoded, Pair, greater, lesser};
+use query_eval::{Columns, Decoded, Pair, greater, lesser, VectorId};
 use std::marker::Model;
 use table_model::{BatchName, Number, Op, Origin, Refusal, Rows, Schema, Truth, check_rows};
 use transpose_order::{Mask, VECTOR_ROWS};
@@ -245,11 +245,7 @@ impl PlainColumns {
 impl Columns for PlainColumns {
     ghost use Rattle.query_eval_tests.specs.PlainRows.{plain_state};
 
-    ghost table = { λ c. c.table };
-
-    ghost state = { λ c. plain_state c.rows };
-
-    ghost passes = { λ c. c.passes };
+    ghost seen = { λ c. record { table = c.table; state = plain_state c.rows; passes = c.passes } };
 
     fn schema(&self) -> &Schema {
         &self.schema
@@ -271,20 +267,20 @@ impl Columns for PlainColumns {
         self.rows.as_slice().len().div_ceil(VECTOR_ROWS)
     }
 
-    fn live(&self, _batch: usize, vector: usize) -> Mask {
+    fn live(&self, id: VectorId) -> Mask {
         let mut live = Mask::none();
         let _schema = &self.schema;
-        let left = self.rows.as_slice().len() - VECTOR_ROWS * vector;
+        let left = self.rows.as_slice().len() - VECTOR_ROWS * id.vector;
         live.set_range(0, left.min(VECTOR_ROWS), true);
         live
     }
 
-    fn nulls(&self, _batch: usize, column: usize, vector: usize) -> Mask {
-        self.nulls_at(column, vector)
+    fn nulls(&self, id: VectorId, column: usize) -> Mask {
+        self.nulls_at(column, id.vector)
     }
 
-    fn may_have(&self, _batch: usize, column: usize, vector: usize, low: i128, high: i128) -> bool {
-        let cells = self.decoded(column, vector);
+    fn may_have(&self, id: VectorId, column: usize, low: i128, high: i128) -> bool {
+        let cells = self.decoded(column, id.vector);
         let lows = Decoded::Fixed(Some(low));
         let highs = Decoded::Fixed(Some(high));
         let pair = range_rows(&cells, &lows, &highs, &Mask::all());
@@ -293,14 +289,13 @@ impl Columns for PlainColumns {
 
     fn compare(
         &mut self,
-        _batch: usize,
+        id: VectorId,
         column: usize,
-        vector: usize,
         op: Op,
         literal: i128,
         mask: &Mask,
     ) -> (Mask, Mask) {
-        let cells = self.decoded(column, vector);
+        let cells = self.decoded(column, id.vector);
         let pair = compare_rows(&cells, op, &Decoded::Fixed(Some(literal)), mask);
         self.count_passes(1);
         (pair.yes, pair.no)
@@ -308,14 +303,13 @@ impl Columns for PlainColumns {
 
     fn compare_range(
         &mut self,
-        _batch: usize,
+        id: VectorId,
         column: usize,
-        vector: usize,
         low: i128,
         high: i128,
         mask: &Mask,
     ) -> (Mask, Mask) {
-        let cells = self.decoded(column, vector);
+        let cells = self.decoded(column, id.vector);
         let pair = range_rows(
             &cells,
             &Decoded::Fixed(Some(low)),
@@ -328,50 +322,48 @@ impl Columns for PlainColumns {
 
     fn compare_columns(
         &mut self,
-        _batch: usize,
+        id: VectorId,
         left: usize,
-        vector: usize,
         op: Op,
         right: usize,
         mask: &Mask,
     ) -> (Mask, Mask) {
-        let lefts = self.decoded(left, vector);
-        let rights = self.decoded(right, vector);
+        let lefts = self.decoded(left, id.vector);
+        let rights = self.decoded(right, id.vector);
         let pair = compare_rows(&lefts, op, &rights, mask);
         self.count_passes(2);
         (pair.yes, pair.no)
     }
 
-    fn count(&self, _batch: usize, column: usize, vector: usize, mask: &Mask) -> usize {
-        self.values_at(column, vector, mask).1
+    fn count(&self, id: VectorId, column: usize, mask: &Mask) -> usize {
+        self.values_at(column, id.vector, mask).1
     }
 
-    fn sum(&mut self, _batch: usize, column: usize, vector: usize, mask: &Mask) -> i128 {
-        let (values, count) = self.values_at(column, vector, mask);
+    fn sum(&mut self, id: VectorId, column: usize, mask: &Mask) -> i128 {
+        let (values, count) = self.values_at(column, id.vector, mask);
         self.count_passes(1);
         sum_of(&values[..count])
     }
 
-    fn min(&mut self, _batch: usize, column: usize, vector: usize, mask: &Mask) -> Option<i64> {
-        let (values, count) = self.values_at(column, vector, mask);
+    fn min(&mut self, id: VectorId, column: usize, mask: &Mask) -> Option<i64> {
+        let (values, count) = self.values_at(column, id.vector, mask);
         self.count_passes(1);
         least_of(&values[..count])
     }
 
-    fn max(&mut self, _batch: usize, column: usize, vector: usize, mask: &Mask) -> Option<i64> {
-        let (values, count) = self.values_at(column, vector, mask);
+    fn max(&mut self, id: VectorId, column: usize, mask: &Mask) -> Option<i64> {
+        let (values, count) = self.values_at(column, id.vector, mask);
         self.count_passes(1);
         greatest_of(&values[..count])
     }
 
     fn decode_into(
         &mut self,
-        _batch: usize,
+        id: VectorId,
         column: usize,
-        vector: usize,
         values: &mut [i64; 1024],
     ) {
-        self.write_values(column, vector, values);
+        self.write_values(column, id.vector, values);
         self.count_passes(1);
     }
 

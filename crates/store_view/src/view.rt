@@ -7,14 +7,14 @@ ghost use Rattle.table_model.specs.declared.op.Op.TheVariants.{GreaterOrEqual, L
 ghost use Rattle.table_model.specs.Values.{total, least, greatest};
 ghost use Rattle.query_eval.specs.Pairs.{yes_of, no_of};
 ghost use Rattle.table_model.specs.Passes.{raised};
-ghost use Rattle.query_eval.specs.Vector.{IsThere, vector_at, cell_at, looked_at};
+ghost use Rattle.query_eval.specs.Vector.{IsThere, vector_of, cell_at, looked_at};
 ghost use Rattle.store_view.specs.View.{HasCells};
 
 use fused_kernels::{
     Meter, compare_vector, compare_vector_range, compare_vectors, count, decode_vector, vector_max,
     vector_min, vector_sum,
 };
-use query_eval::Columns;
+use query_eval::{Columns, VectorId};
 use replica_store::Store;
 use segment_core::CodedVector;
 use std::marker::Model;
@@ -51,16 +51,16 @@ impl<'a> StoreView<'a> {
 }
 
 /// A column's vector of a batch.
-fn vector_in(store: &Store, batch: usize, column: usize, vector: usize) -> &CodedVector
-    requires there { IsThere store.now.replica.state batch vector }
+fn vector_in(store: &Store, id: VectorId, column: usize) -> &CodedVector
+    requires there { IsThere store.now.replica.state id.batch id.vector }
     requires column { column < length store.now.replica.schema.columns }
-    ensures { HasCells result.now (vector_at store.now.replica.state batch vector) column }
+    ensures { HasCells result.now (vector_of store.now.replica.state id) column }
 {
-    let (_, segment) = store.batch(batch);
+    let (_, segment) = store.batch(id.batch);
     // These tell which rows and columns the segment has, and how many rows the vector covers.
     let _rows = segment.rows();
     let _columns = segment.columns();
-    let found = segment.vector(column, vector);
+    let found = segment.vector(column, id.vector);
     let _covered = found.rows();
     found
 }
@@ -80,11 +80,7 @@ fn missing_rows(vector: &CodedVector) -> Mask
 }
 
 impl<'a> Columns for StoreView<'a> {
-    ghost table = { λ v. v.table };
-
-    ghost state = { λ v. v.state };
-
-    ghost passes = { λ v. v.passes };
+    ghost seen = { λ v. record { table = v.table; state = v.state; passes = v.passes } };
 
     fn schema(&self) -> &Schema {
         self.store.schema()
@@ -103,22 +99,21 @@ impl<'a> Columns for StoreView<'a> {
         segment.rows().div_ceil(VECTOR_ROWS)
     }
 
-    fn live(&self, batch: usize, vector: usize) -> Mask {
-        let (name, segment) = self.store.batch(batch);
-        let covered = (segment.rows() - VECTOR_ROWS * vector).min(VECTOR_ROWS);
-        self.store.tombs().live_mask(name, vector, covered)
+    fn live(&self, id: VectorId) -> Mask {
+        let (name, segment) = self.store.batch(id.batch);
+        let covered = (segment.rows() - VECTOR_ROWS * id.vector).min(VECTOR_ROWS);
+        self.store.tombs().live_mask(name, id.vector, covered)
     }
 
-    fn nulls(&self, batch: usize, column: usize, vector: usize) -> Mask {
-        let found = vector_in(self.store, batch, column, vector);
+    fn nulls(&self, id: VectorId, column: usize) -> Mask {
+        let found = vector_in(self.store, id, column);
         missing_rows(found)
     }
 
     fn may_have(
         &self,
-        _batch: usize,
+        id: VectorId,
         _column: usize,
-        _vector: usize,
         _low: i128,
         _high: i128,
     ) -> bool {
@@ -127,72 +122,68 @@ impl<'a> Columns for StoreView<'a> {
 
     fn compare(
         &mut self,
-        batch: usize,
+        id: VectorId,
         column: usize,
-        vector: usize,
         op: Op,
         literal: i128,
         mask: &Mask,
     ) -> (Mask, Mask) {
-        let found = vector_in(self.store, batch, column, vector);
+        let found = vector_in(self.store, id, column);
         compare_vector(found, op, literal, mask, &mut self.meter)
     }
 
     fn compare_range(
         &mut self,
-        batch: usize,
+        id: VectorId,
         column: usize,
-        vector: usize,
         low: i128,
         high: i128,
         mask: &Mask,
     ) -> (Mask, Mask) {
-        let found = vector_in(self.store, batch, column, vector);
+        let found = vector_in(self.store, id, column);
         compare_vector_range(found, low, high, mask, &mut self.meter)
     }
 
     fn compare_columns(
         &mut self,
-        batch: usize,
+        id: VectorId,
         left: usize,
-        vector: usize,
         op: Op,
         right: usize,
         mask: &Mask,
     ) -> (Mask, Mask) {
-        let left = vector_in(self.store, batch, left, vector);
-        let right = vector_in(self.store, batch, right, vector);
+        let left = vector_in(self.store, id, left);
+        let right = vector_in(self.store, id, right);
         compare_vectors(left, op, right, mask, &mut self.meter)
     }
 
-    fn count(&self, batch: usize, column: usize, vector: usize, mask: &Mask) -> usize {
-        let found = vector_in(self.store, batch, column, vector);
+    fn count(&self, id: VectorId, column: usize, mask: &Mask) -> usize {
+        let found = vector_in(self.store, id, column);
         count(found, mask) as usize
     }
 
-    fn sum(&mut self, batch: usize, column: usize, vector: usize, mask: &Mask) -> i128 {
-        let found = vector_in(self.store, batch, column, vector);
+    fn sum(&mut self, id: VectorId, column: usize, mask: &Mask) -> i128 {
+        let found = vector_in(self.store, id, column);
         vector_sum(found, mask, &mut self.meter)
     }
 
-    fn min(&mut self, batch: usize, column: usize, vector: usize, mask: &Mask) -> Option<i64> {
-        let found = vector_in(self.store, batch, column, vector);
+    fn min(&mut self, id: VectorId, column: usize, mask: &Mask) -> Option<i64> {
+        let found = vector_in(self.store, id, column);
         vector_min(found, mask, &mut self.meter)
     }
 
-    fn max(&mut self, batch: usize, column: usize, vector: usize, mask: &Mask) -> Option<i64> {
-        let found = vector_in(self.store, batch, column, vector);
+    fn max(&mut self, id: VectorId, column: usize, mask: &Mask) -> Option<i64> {
+        let found = vector_in(self.store, id, column);
         vector_max(found, mask, &mut self.meter)
     }
 
     fn decode_into(
         &mut self,
-        batch: usize,
+        id: VectorId,
         column: usize,
-        vector: usize,
         values: &mut [i64; 1024],
     ) {
-        let found = vector_in(self.store, batch, column, vector);
+        let found = vector_in(self.store, id, column);
         decode_vector(found, values, &mut self.meter);
     }
 

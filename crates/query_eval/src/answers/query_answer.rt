@@ -1,6 +1,7 @@
 //! Answers of queries.
 ghost use Rattle.std.specs.Prelude.{◌≡◌, ◌≤◌, ◌+◌, ◌*◌, IfOk};
 ghost use Rattle.table_model.specs.Meaning.{answer_of};
+ghost use Rattle.query_eval.specs.Read.{IsSame};
 ghost use Rattle.query_eval.specs.Kept.{live_vectors};
 ghost use Rattle.query_eval.specs.QueryMentions.{query_mentions};
 
@@ -20,10 +21,9 @@ pub fn answer<C: Columns>(
     columns: &mut C,
     query: &Query,
 ) -> Result<Answer, AllocError>
-    ensures value { IfOk result (λ answer. answer ≡ answer_of (C.table columns.old) query.now (C.state columns.old)) }
-    ensures table { C.table columns.new ≡ C.table columns.old }
-    ensures state { C.state columns.new ≡ C.state columns.old }
-    ensures passes { IfOk result (λ _. C.passes columns.new ≤ C.passes columns.old + query_mentions query.now * live_vectors (C.state columns.old)) }
+    ensures value { IfOk result (λ answer. answer ≡ answer_of (C.seen columns.old).table query.now (C.seen columns.old).state) }
+    ensures same { IsSame (C.seen columns.old) (C.seen columns.new) }
+    ensures passes { IfOk result (λ _. (C.seen columns.new).passes ≤ (C.seen columns.old).passes + query_mentions query.now * live_vectors (C.seen columns.old).state) }
 {
     let plan = Plan::of(alloc, columns.schema(), query)?;
     let taken = take_rows(alloc, columns, &plan, &query.filter)?;

@@ -2,11 +2,12 @@
 ghost use Rattle.std.specs.Prelude.{◌≡◌, ◌<◌, ◌≤◌, ◌+◌, ◌*◌, ◌++◌, [], List, cond, IfOk, OnOk};
 ghost use Rattle.table_model.specs.State.{Cells};
 ghost use Rattle.table_model.specs.Table.{Table};
+ghost use Rattle.query_eval.specs.Read.{IsSame};
 ghost use Rattle.query_eval.specs.Finished.{finished_groups};
 ghost use Rattle.query_eval.specs.Grouping.{plan_mentions};
 ghost use Rattle.query_eval.specs.Kept.{where_mentions, kept_mask, has_live, live_vectors_in, live_vectors, rows_alive, batch_alive, rows_kept, rows_at, AreFew};
 ghost use Rattle.query_eval.specs.Taken.{AreTaken};
-ghost use Rattle.query_eval.specs.Vector.{IsThere, vector_at, batch_count};
+ghost use Rattle.query_eval.specs.Vector.{IsThere, batch_count, vector_of};
 
 use crate::answers::finished_group::FinishedGroup;
 use crate::answers::grouped_table::grouped_table;
@@ -14,6 +15,7 @@ use crate::columns::Columns;
 use crate::filter::{KeptVector, has_rows, kept_mask};
 use crate::grouping::{Groups, Room, group_vector};
 use crate::tallies::{Plan, Tally, no_tallies, tally_vector, whole_group};
+use crate::vector_id::VectorId;
 use std::alloc::{AllocError, Global};
 use table_model::Condition;
 
@@ -47,11 +49,10 @@ impl Taken {
         kept: &KeptVector,
         room: &mut Room,
     ) -> Result<(), AllocError>
-        requires { IsThere (C.state columns.old) kept.now.batch kept.now.vector }
-        ensures taken { OnOk result ((rows : List Cells) → AreTaken plan.now rows self.old → AreTaken plan.now (rows ++ rows_at (vector_at (C.state columns.old) kept.now.batch kept.now.vector) kept.now.rows) self.new) }
-        ensures table { C.table columns.new ≡ C.table columns.old }
-        ensures state { C.state columns.new ≡ C.state columns.old }
-        ensures passes { OnOk result (C.passes columns.new ≤ C.passes columns.old + plan_mentions plan.now) }
+        requires { IsThere (C.seen columns.old).state kept.now.id.batch kept.now.id.vector }
+        ensures taken { OnOk result ((rows : List Cells) → AreTaken plan.now rows self.old → AreTaken plan.now (rows ++ rows_at (vector_of (C.seen columns.old).state kept.now.id) kept.now.rows) self.new) }
+        ensures same { IsSame (C.seen columns.old) (C.seen columns.new) }
+        ensures passes { OnOk result ((C.seen columns.new).passes ≤ (C.seen columns.old).passes + plan_mentions plan.now) }
     {
         match self {
             Taken::Whole(tallies) => {
@@ -80,26 +81,20 @@ fn take_vector<C: Columns>(
     columns: &mut C,
     plan: &Plan,
     condition: &Option<Condition>,
-    batch: usize,
-    vector: usize,
+    id: VectorId,
     taken: &mut Taken,
     room: &mut Room,
 ) -> Result<(), AllocError>
-    requires { IsThere (C.state columns.old) batch vector }
-    ensures taken { OnOk result ((rows : List Cells) → AreTaken plan.now rows taken.old → AreTaken plan.now (rows ++ rows_at (vector_at (C.state columns.old) batch vector) (kept_mask (C.table columns.old) condition.now (vector_at (C.state columns.old) batch vector))) taken.new) }
-    ensures table { C.table columns.new ≡ C.table columns.old }
-    ensures state { C.state columns.new ≡ C.state columns.old }
-    ensures passes { OnOk result (C.passes columns.new ≤ C.passes columns.old + cond (has_live (vector_at (C.state columns.old) batch vector)) (where_mentions condition.now + plan_mentions plan.now) 0) }
+    requires { IsThere (C.seen columns.old).state id.batch id.vector }
+    ensures taken { OnOk result ((rows : List Cells) → AreTaken plan.now rows taken.old → AreTaken plan.now (rows ++ rows_at (vector_of (C.seen columns.old).state id) (kept_mask (C.seen columns.old).table condition.now (vector_of (C.seen columns.old).state id))) taken.new) }
+    ensures same { IsSame (C.seen columns.old) (C.seen columns.new) }
+    ensures passes { OnOk result ((C.seen columns.new).passes ≤ (C.seen columns.old).passes + cond (has_live (vector_of (C.seen columns.old).state id)) (where_mentions condition.now + plan_mentions plan.now) 0) }
 {
-    let rows = kept_mask(columns, batch, vector, condition);
+    let rows = kept_mask(columns, id, condition);
     if !has_rows(&rows) {
         return Ok(());
     }
-    let kept = KeptVector {
-        batch,
-        vector,
-        rows,
-    };
+    let kept = KeptVector { id, rows };
     taken.take(alloc, columns, plan, &kept, room)?;
     Ok(())
 }
@@ -114,14 +109,21 @@ fn take_batch<C: Columns>(
     taken: &mut Taken,
     room: &mut Room,
 ) -> Result<(), AllocError>
-    requires { batch < batch_count (C.state columns.old) }
-    ensures taken { OnOk result ((rows : List Cells) → AreTaken plan.now rows taken.old → AreTaken plan.now (rows ++ rows_kept (C.table columns.old) condition.now (batch_alive (C.state columns.old) batch)) taken.new) }
-    ensures table { C.table columns.new ≡ C.table columns.old }
-    ensures state { C.state columns.new ≡ C.state columns.old }
-    ensures passes { OnOk result (C.passes columns.new ≤ C.passes columns.old + (where_mentions condition.now + plan_mentions plan.now) * live_vectors_in (C.state columns.old) batch) }
+    requires { batch < batch_count (C.seen columns.old).state }
+    ensures taken { OnOk result ((rows : List Cells) → AreTaken plan.now rows taken.old → AreTaken plan.now (rows ++ rows_kept (C.seen columns.old).table condition.now (batch_alive (C.seen columns.old).state batch)) taken.new) }
+    ensures same { IsSame (C.seen columns.old) (C.seen columns.new) }
+    ensures passes { OnOk result ((C.seen columns.new).passes ≤ (C.seen columns.old).passes + (where_mentions condition.now + plan_mentions plan.now) * live_vectors_in (C.seen columns.old).state batch) }
 {
     for vector in 0..columns.vectors(batch) {
-        take_vector(alloc, columns, plan, condition, batch, vector, taken, room)?;
+        take_vector(
+            alloc,
+            columns,
+            plan,
+            condition,
+            VectorId { batch, vector },
+            taken,
+            room,
+        )?;
     }
     Ok(())
 }
@@ -134,11 +136,10 @@ pub fn take_rows<C: Columns>(
     plan: &Plan,
     condition: &Option<Condition>,
 ) -> Result<Taken, AllocError>
-    ensures taken { IfOk result (λ taken. AreTaken plan.now (rows_kept (C.table columns.old) condition.now (rows_alive (C.state columns.old))) taken) }
-    ensures few { IfOk result (λ _. AreFew (C.table columns.old) (rows_kept (C.table columns.old) condition.now (rows_alive (C.state columns.old)))) }
-    ensures table { C.table columns.new ≡ C.table columns.old }
-    ensures state { C.state columns.new ≡ C.state columns.old }
-    ensures passes { IfOk result (λ _. C.passes columns.new ≤ C.passes columns.old + (where_mentions condition.now + plan_mentions plan.now) * live_vectors (C.state columns.old)) }
+    ensures taken { IfOk result (λ taken. AreTaken plan.now (rows_kept (C.seen columns.old).table condition.now (rows_alive (C.seen columns.old).state)) taken) }
+    ensures few { IfOk result (λ _. AreFew (C.seen columns.old).table (rows_kept (C.seen columns.old).table condition.now (rows_alive (C.seen columns.old).state))) }
+    ensures same { IsSame (C.seen columns.old) (C.seen columns.new) }
+    ensures passes { IfOk result (λ _. (C.seen columns.new).passes ≤ (C.seen columns.old).passes + (where_mentions condition.now + plan_mentions plan.now) * live_vectors (C.seen columns.old).state) }
 {
     let mut taken = Taken::none(alloc, plan)?;
     let mut room = Room::new(alloc);

@@ -2,13 +2,15 @@
 ghost use Rattle.std.specs.Prelude.{◌≡◌, ◌<◌, ◌≤◌, ◌+◌, ℕ, false};
 ghost use Rattle.table_model.specs.State.{same_cell};
 ghost use Rattle.transpose_order.specs.Mask.{has};
+ghost use Rattle.query_eval.specs.Read.{IsRead};
 ghost use Rattle.query_eval.specs.Decoded.{decoded_at};
 ghost use Rattle.query_eval.specs.Side.{side_at, side_mentions, HasColumn};
-ghost use Rattle.query_eval.specs.Vector.{IsThere, vector_at};
+ghost use Rattle.query_eval.specs.Vector.{IsThere, vector_of};
 
 use crate::columns::Columns;
 use crate::filter::side::Side;
 use crate::tallies::{changed_rows, equal_rows};
+use crate::vector_id::VectorId;
 use transpose_order::Mask;
 
 /// The cells of a side at the rows of a vector: a column's nulls and values, or one cell that is the same at each row.
@@ -72,20 +74,18 @@ impl Decoded {
 }
 
 /// A side's cells. A column takes one pass.
-pub fn decode<C: Columns>(columns: &mut C, batch: usize, vector: usize, side: Side) -> Decoded
-    requires there { IsThere (C.state columns.old) batch vector }
-    requires column { HasColumn (C.table columns.old) side }
-    ensures value { (n : ℕ) → n < 1024 → decoded_at result n ≡ side_at (vector_at (C.state columns.old) batch vector) side n }
-    ensures table { C.table columns.new ≡ C.table columns.old }
-    ensures state { C.state columns.new ≡ C.state columns.old }
-    ensures passes { C.passes columns.new ≤ C.passes columns.old + side_mentions side }
+pub fn decode<C: Columns>(columns: &mut C, id: VectorId, side: Side) -> Decoded
+    requires there { IsThere (C.seen columns.old).state id.batch id.vector }
+    requires column { HasColumn (C.seen columns.old).table side }
+    ensures value { (n : ℕ) → n < 1024 → decoded_at result n ≡ side_at (vector_of (C.seen columns.old).state id) side n }
+    ensures read { IsRead (C.seen columns.old) (C.seen columns.new) (side_mentions side) }
 {
     match side {
         Side::Fixed(cell) => Decoded::Fixed(cell),
         Side::Column(column) => {
-            let nulls = columns.nulls(batch, column, vector);
+            let nulls = columns.nulls(id, column);
             let mut values = [0; 1024];
-            columns.decode_into(batch, column, vector, &mut values);
+            columns.decode_into(id, column, &mut values);
             Decoded::Column { nulls, values }
         }
     }

@@ -1,20 +1,21 @@
 //! The rows that a query keeps: those that aren't deleted and at which WHERE is true.
 ghost use Rattle.std.specs.Prelude.{◌≡◌, ◌≢◌, ◌≤◌, ◌+◌, cond, count_by, false, IsTrue, Some};
+ghost use Rattle.query_eval.specs.Read.{IsRead};
 ghost use Rattle.query_eval.specs.Kept.{where_mentions, kept_mask, has_live};
 ghost use Rattle.query_eval.specs.Mentions.{condition_mentions};
-ghost use Rattle.query_eval.specs.Vector.{IsThere, vector_at};
+ghost use Rattle.query_eval.specs.Vector.{IsThere, vector_of};
 
 use crate::columns::Columns;
 use crate::filter::bounds::may_be_true;
 use crate::filter::true_rows::condition_rows;
+use crate::vector_id::VectorId;
 use table_model::Condition;
 use transpose_order::Mask;
 
-/// A vector in which rows are kept, by its indexes, and which rows.
+/// A vector in which rows are kept, and which rows.
 #[derive(Drop)]
 pub struct KeptVector {
-    pub batch: usize,
-    pub vector: usize,
+    pub id: VectorId,
     pub rows: Mask,
 }
 
@@ -30,43 +31,29 @@ pub(crate) fn has_rows(mask: &Mask) -> bool
 
 /// The rows of a vector that aren't deleted and at which a condition is true. Where what is known of all values of a column shows
 /// that there are none, the vector's rows aren't looked at. A vector without a live row takes no pass.
-pub(crate) fn true_mask<C: Columns>(
-    columns: &mut C,
-    batch: usize,
-    vector: usize,
-    condition: &Condition,
-) -> Mask
-    requires { IsThere (C.state columns.old) batch vector }
-    ensures value { result ≡ kept_mask (C.table columns.old) (Some condition.now) (vector_at (C.state columns.old) batch vector) }
-    ensures table { C.table columns.new ≡ C.table columns.old }
-    ensures state { C.state columns.new ≡ C.state columns.old }
-    ensures passes { C.passes columns.new ≤ C.passes columns.old + cond (has_live (vector_at (C.state columns.old) batch vector)) (condition_mentions condition.now) 0 }
+pub(crate) fn true_mask<C: Columns>(columns: &mut C, id: VectorId, condition: &Condition) -> Mask
+    requires { IsThere (C.seen columns.old).state id.batch id.vector }
+    ensures value { result ≡ kept_mask (C.seen columns.old).table (Some condition.now) (vector_of (C.seen columns.old).state id) }
+    ensures read { IsRead (C.seen columns.old) (C.seen columns.new) (cond (has_live (vector_of (C.seen columns.old).state id)) (condition_mentions condition.now) 0) }
 {
-    if !may_be_true(columns, batch, vector, condition) {
+    if !may_be_true(columns, id, condition) {
         return Mask::none();
     }
-    let live = columns.live(batch, vector);
+    let live = columns.live(id);
     if !has_rows(&live) {
         return live;
     }
-    condition_rows(columns, batch, vector, condition, &live)
+    condition_rows(columns, id, condition, &live)
 }
 
 /// The rows of a vector that aren't deleted and at which WHERE is true. A vector without a live row takes no pass.
-pub fn kept_mask<C: Columns>(
-    columns: &mut C,
-    batch: usize,
-    vector: usize,
-    condition: &Option<Condition>,
-) -> Mask
-    requires { IsThere (C.state columns.old) batch vector }
-    ensures value { result ≡ kept_mask (C.table columns.old) condition.now (vector_at (C.state columns.old) batch vector) }
-    ensures table { C.table columns.new ≡ C.table columns.old }
-    ensures state { C.state columns.new ≡ C.state columns.old }
-    ensures passes { C.passes columns.new ≤ C.passes columns.old + cond (has_live (vector_at (C.state columns.old) batch vector)) (where_mentions condition.now) 0 }
+pub fn kept_mask<C: Columns>(columns: &mut C, id: VectorId, condition: &Option<Condition>) -> Mask
+    requires { IsThere (C.seen columns.old).state id.batch id.vector }
+    ensures value { result ≡ kept_mask (C.seen columns.old).table condition.now (vector_of (C.seen columns.old).state id) }
+    ensures read { IsRead (C.seen columns.old) (C.seen columns.new) (cond (has_live (vector_of (C.seen columns.old).state id)) (where_mentions condition.now) 0) }
 {
     match condition {
-        None => columns.live(batch, vector),
-        Some(condition) => true_mask(columns, batch, vector, condition),
+        None => columns.live(id),
+        Some(condition) => true_mask(columns, id, condition),
     }
 }

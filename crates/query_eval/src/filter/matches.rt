@@ -1,12 +1,14 @@
 //! The rows at which a condition is true, by their names.
 ghost use Rattle.std.specs.Prelude.{◌≡◌, ◌<◌, ◌≤◌, ◌+◌, ◌*◌, ◌++◌, Some, IfOk, OnOk};
 ghost use Rattle.table_model.specs.Meaning.{names_where};
+ghost use Rattle.query_eval.specs.Read.{IsSame};
 ghost use Rattle.query_eval.specs.Kept.{live_vectors_in, live_vectors, batch_rows, names_kept, names_at};
 ghost use Rattle.query_eval.specs.Mentions.{condition_mentions};
 ghost use Rattle.query_eval.specs.Vector.{batch_at, batch_count};
 
 use crate::columns::Columns;
 use crate::filter::kept_rows::true_mask;
+use crate::vector_id::VectorId;
 use std::alloc::{AllocError, Global};
 use table_model::{BatchName, Condition, RowName};
 use transpose_order::{Mask, VECTOR_ROWS};
@@ -39,17 +41,16 @@ fn match_batch<C: Columns>(
     batch: usize,
     names: &mut Vec<RowName>,
 ) -> Result<(), AllocError>
-    requires { batch < batch_count (C.state columns.old) }
-    ensures names { OnOk result (names.new.items ≡ names.old.items ++ names_kept (C.table columns.old) (Some condition.now) (batch_rows (C.state columns.old) batch)) }
-    ensures table { C.table columns.new ≡ C.table columns.old }
-    ensures state { C.state columns.new ≡ C.state columns.old }
-    ensures passes { OnOk result (C.passes columns.new ≤ C.passes columns.old + condition_mentions condition.now * live_vectors_in (C.state columns.old) batch) }
+    requires { batch < batch_count (C.seen columns.old).state }
+    ensures names { OnOk result (names.new.items ≡ names.old.items ++ names_kept (C.seen columns.old).table (Some condition.now) (batch_rows (C.seen columns.old).state batch)) }
+    ensures same { IsSame (C.seen columns.old) (C.seen columns.new) }
+    ensures passes { OnOk result ((C.seen columns.new).passes ≤ (C.seen columns.old).passes + condition_mentions condition.now * live_vectors_in (C.seen columns.old).state batch) }
 {
     // `batches` ensures that the batch is within the limits.
     let _batches = columns.batches();
     let name = columns.name(batch);
     for vector in 0..columns.vectors(batch) {
-        let rows = true_mask(columns, batch, vector, condition);
+        let rows = true_mask(columns, VectorId { batch, vector }, condition);
         push_names(names, name, VECTOR_ROWS * vector, &rows)?;
     }
     Ok(())
@@ -64,10 +65,9 @@ pub fn matching<C: Columns>(
     columns: &mut C,
     condition: &Condition,
 ) -> Result<Vec<RowName>, AllocError>
-    ensures value { IfOk result (λ names. names.items ≡ names_where (C.table columns.old) condition.now (C.state columns.old)) }
-    ensures table { C.table columns.new ≡ C.table columns.old }
-    ensures state { C.state columns.new ≡ C.state columns.old }
-    ensures passes { IfOk result (λ _. C.passes columns.new ≤ C.passes columns.old + condition_mentions condition.now * live_vectors (C.state columns.old)) }
+    ensures value { IfOk result (λ names. names.items ≡ names_where (C.seen columns.old).table condition.now (C.seen columns.old).state) }
+    ensures same { IsSame (C.seen columns.old) (C.seen columns.new) }
+    ensures passes { IfOk result (λ _. (C.seen columns.new).passes ≤ (C.seen columns.old).passes + condition_mentions condition.now * live_vectors (C.seen columns.old).state) }
 {
     let mut names = Vec::new(alloc);
     for batch in 0..columns.batches() {

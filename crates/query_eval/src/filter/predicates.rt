@@ -4,10 +4,11 @@ ghost use Rattle.table_model.specs.Answer.{whole};
 ghost use Rattle.table_model.specs.Condition.{between, is_among};
 ghost use Rattle.table_model.specs.Truth.{and_of, comparison};
 ghost use Rattle.table_model.specs.declared.op.Op.TheVariants.{GreaterOrEqual, LessOrEqual};
+ghost use Rattle.query_eval.specs.Read.{IsRead};
 ghost use Rattle.query_eval.specs.Mentions.{operand_mentions};
 ghost use Rattle.query_eval.specs.Pairs.{yes_of};
 ghost use Rattle.query_eval.specs.Side.{side_at, side_mentions, HasColumn};
-ghost use Rattle.query_eval.specs.Vector.{IsThere, cell_at, vector_at};
+ghost use Rattle.query_eval.specs.Vector.{IsThere, cell_at, vector_of};
 ghost use Rattle.query_eval.specs.Where.{IsPair, operand_at};
 
 use crate::columns::Columns;
@@ -15,6 +16,7 @@ use crate::filter::decoded::decode;
 use crate::filter::pair::Pair;
 use crate::filter::rows::{among, among_values, between, between_rows};
 use crate::filter::side::{Side, side_of};
+use crate::vector_id::VectorId;
 use table_model::{Literals, Operand};
 use transpose_order::Mask;
 
@@ -23,76 +25,67 @@ use transpose_order::Mask;
 #[inline(never)]
 fn between_decoded<C: Columns>(
     columns: &mut C,
-    batch: usize,
-    vector: usize,
+    id: VectorId,
     operand: Side,
     low: Side,
     high: Side,
     mask: &Mask,
 ) -> Pair
-    requires there { IsThere (C.state columns.old) batch vector }
-    requires operand { HasColumn (C.table columns.old) operand }
-    requires low { HasColumn (C.table columns.old) low }
-    requires high { HasColumn (C.table columns.old) high }
-    ensures value { IsPair mask.now (λ n. and_of (comparison GreaterOrEqual (side_at (vector_at (C.state columns.old) batch vector) operand n) (side_at (vector_at (C.state columns.old) batch vector) low n)) (comparison LessOrEqual (side_at (vector_at (C.state columns.old) batch vector) operand n) (side_at (vector_at (C.state columns.old) batch vector) high n))) result }
-    ensures table { C.table columns.new ≡ C.table columns.old }
-    ensures state { C.state columns.new ≡ C.state columns.old }
-    ensures passes { C.passes columns.new ≤ C.passes columns.old + (side_mentions operand + (side_mentions low + side_mentions high)) }
+    requires there { IsThere (C.seen columns.old).state id.batch id.vector }
+    requires operand { HasColumn (C.seen columns.old).table operand }
+    requires low { HasColumn (C.seen columns.old).table low }
+    requires high { HasColumn (C.seen columns.old).table high }
+    ensures value { IsPair mask.now (λ n. and_of (comparison GreaterOrEqual (side_at (vector_of (C.seen columns.old).state id) operand n) (side_at (vector_of (C.seen columns.old).state id) low n)) (comparison LessOrEqual (side_at (vector_of (C.seen columns.old).state id) operand n) (side_at (vector_of (C.seen columns.old).state id) high n))) result }
+    ensures read { IsRead (C.seen columns.old) (C.seen columns.new) (side_mentions operand + (side_mentions low + side_mentions high)) }
 {
-    let operand = decode(columns, batch, vector, operand);
-    let low = decode(columns, batch, vector, low);
-    let high = decode(columns, batch, vector, high);
+    let operand = decode(columns, id, operand);
+    let low = decode(columns, id, low);
+    let high = decode(columns, id, high);
     between_rows(&operand, &low, &high, mask)
 }
 
 /// BETWEEN of three sides at the rows of a mask: a column between two literals takes one pass, and else each column one.
 fn between_sides<C: Columns>(
     columns: &mut C,
-    batch: usize,
-    vector: usize,
+    id: VectorId,
     operand: Side,
     low: Side,
     high: Side,
     mask: &Mask,
 ) -> Pair
-    requires there { IsThere (C.state columns.old) batch vector }
-    requires operand { HasColumn (C.table columns.old) operand }
-    requires low { HasColumn (C.table columns.old) low }
-    requires high { HasColumn (C.table columns.old) high }
-    ensures value { IsPair mask.now (λ n. and_of (comparison GreaterOrEqual (side_at (vector_at (C.state columns.old) batch vector) operand n) (side_at (vector_at (C.state columns.old) batch vector) low n)) (comparison LessOrEqual (side_at (vector_at (C.state columns.old) batch vector) operand n) (side_at (vector_at (C.state columns.old) batch vector) high n))) result }
-    ensures table { C.table columns.new ≡ C.table columns.old }
-    ensures state { C.state columns.new ≡ C.state columns.old }
-    ensures passes { C.passes columns.new ≤ C.passes columns.old + (side_mentions operand + (side_mentions low + side_mentions high)) }
+    requires there { IsThere (C.seen columns.old).state id.batch id.vector }
+    requires operand { HasColumn (C.seen columns.old).table operand }
+    requires low { HasColumn (C.seen columns.old).table low }
+    requires high { HasColumn (C.seen columns.old).table high }
+    ensures value { IsPair mask.now (λ n. and_of (comparison GreaterOrEqual (side_at (vector_of (C.seen columns.old).state id) operand n) (side_at (vector_of (C.seen columns.old).state id) low n)) (comparison LessOrEqual (side_at (vector_of (C.seen columns.old).state id) operand n) (side_at (vector_of (C.seen columns.old).state id) high n))) result }
+    ensures read { IsRead (C.seen columns.old) (C.seen columns.new) (side_mentions operand + (side_mentions low + side_mentions high)) }
 {
     if let (Side::Column(column), Side::Fixed(Some(low)), Side::Fixed(Some(high))) = (
         operand, low, high,
     ) {
-        let (yes, no) = columns.compare_range(batch, column, vector, low, high, mask);
+        let (yes, no) = columns.compare_range(id, column, low, high, mask);
         return Pair { yes, no };
     }
-    between_decoded(columns, batch, vector, operand, low, high, mask)
+    between_decoded(columns, id, operand, low, high, mask)
 }
 
 /// The rows of a mask at which an operand is between two numbers. A column takes one pass, and no mask is made of the rows at which
 /// it isn't.
 pub fn range_rows<C: Columns>(
     columns: &mut C,
-    batch: usize,
-    vector: usize,
+    id: VectorId,
     operand: &Operand,
     low: i128,
     high: i128,
     mask: &Mask,
 ) -> Mask
-    requires there { IsThere (C.state columns.old) batch vector }
-    ensures value { result ≡ yes_of mask.now (λ n. between (operand_at (C.table columns.old) (vector_at (C.state columns.old) batch vector) operand.now n) (whole (Some low)) (whole (Some high))) }
-    ensures table { C.table columns.new ≡ C.table columns.old }
-    ensures state { C.state columns.new ≡ C.state columns.old }
-    ensures passes { C.passes columns.new ≤ C.passes columns.old + operand_mentions operand.now }
+    requires there { IsThere (C.seen columns.old).state id.batch id.vector }
+    ensures value { result ≡ yes_of mask.now (λ n. between (operand_at (C.seen columns.old).table (vector_of (C.seen columns.old).state id) operand.now n) (whole (Some low)) (whole (Some high))) }
+    ensures read { IsRead (C.seen columns.old) (C.seen columns.new) (operand_mentions operand.now) }
 {
     match side_of(columns, operand) {
         Side::Column(column) => {
-            let (yes, _no) = columns.compare_range(batch, column, vector, low, high, mask);
+            let (yes, _no) = columns.compare_range(id, column, low, high, mask);
             yes
         }
         Side::Fixed(cell) => {
@@ -105,66 +98,57 @@ pub fn range_rows<C: Columns>(
 /// BETWEEN of three operands at the rows of a mask.
 pub fn between_operands<C: Columns>(
     columns: &mut C,
-    batch: usize,
-    vector: usize,
+    id: VectorId,
     operand: &Operand,
     low: &Operand,
     high: &Operand,
     mask: &Mask,
 ) -> Pair
-    requires there { IsThere (C.state columns.old) batch vector }
-    ensures value { IsPair mask.now (λ n. between (operand_at (C.table columns.old) (vector_at (C.state columns.old) batch vector) operand.now n) (operand_at (C.table columns.old) (vector_at (C.state columns.old) batch vector) low.now n) (operand_at (C.table columns.old) (vector_at (C.state columns.old) batch vector) high.now n)) result }
-    ensures table { C.table columns.new ≡ C.table columns.old }
-    ensures state { C.state columns.new ≡ C.state columns.old }
-    ensures passes { C.passes columns.new ≤ C.passes columns.old + (operand_mentions operand.now + (operand_mentions low.now + operand_mentions high.now)) }
+    requires there { IsThere (C.seen columns.old).state id.batch id.vector }
+    ensures value { IsPair mask.now (λ n. between (operand_at (C.seen columns.old).table (vector_of (C.seen columns.old).state id) operand.now n) (operand_at (C.seen columns.old).table (vector_of (C.seen columns.old).state id) low.now n) (operand_at (C.seen columns.old).table (vector_of (C.seen columns.old).state id) high.now n)) result }
+    ensures read { IsRead (C.seen columns.old) (C.seen columns.new) (operand_mentions operand.now + (operand_mentions low.now + operand_mentions high.now)) }
 {
     let operand = side_of(columns, operand);
     let low = side_of(columns, low);
     let high = side_of(columns, high);
-    between_sides(columns, batch, vector, operand, low, high, mask)
+    between_sides(columns, id, operand, low, high, mask)
 }
 
 /// IN of a column at the rows of a mask, which takes one pass. Its room for the values is its own: most conditions need none.
 #[inline(never)]
 fn among_column<C: Columns>(
     columns: &mut C,
-    batch: usize,
-    vector: usize,
+    id: VectorId,
     column: usize,
     literals: &[i128],
     mask: &Mask,
 ) -> Pair
-    requires there { IsThere (C.state columns.old) batch vector }
-    requires column { column < length (C.table columns.old).columns }
-    ensures value { IsPair mask.now (λ n. is_among (whole (cell_at (vector_at (C.state columns.old) batch vector) column n)) literals.now) result }
-    ensures table { C.table columns.new ≡ C.table columns.old }
-    ensures state { C.state columns.new ≡ C.state columns.old }
-    ensures passes { C.passes columns.new ≤ C.passes columns.old + 1 }
+    requires there { IsThere (C.seen columns.old).state id.batch id.vector }
+    requires column { column < length (C.seen columns.old).table.columns }
+    ensures value { IsPair mask.now (λ n. is_among (whole (cell_at (vector_of (C.seen columns.old).state id) column n)) literals.now) result }
+    ensures read { IsRead (C.seen columns.old) (C.seen columns.new) 1 }
 {
-    let nulls = columns.nulls(batch, column, vector);
+    let nulls = columns.nulls(id, column);
     let mut values = [0; 1024];
-    columns.decode_into(batch, column, vector, &mut values);
+    columns.decode_into(id, column, &mut values);
     among_values(&nulls, &values, literals, mask)
 }
 
 /// IN of a side at the rows of a mask.
 fn among_side<C: Columns>(
     columns: &mut C,
-    batch: usize,
-    vector: usize,
+    id: VectorId,
     side: Side,
     literals: &[i128],
     mask: &Mask,
 ) -> Pair
-    requires there { IsThere (C.state columns.old) batch vector }
-    requires column { HasColumn (C.table columns.old) side }
-    ensures value { IsPair mask.now (λ n. is_among (whole (side_at (vector_at (C.state columns.old) batch vector) side n)) literals.now) result }
-    ensures table { C.table columns.new ≡ C.table columns.old }
-    ensures state { C.state columns.new ≡ C.state columns.old }
-    ensures passes { C.passes columns.new ≤ C.passes columns.old + side_mentions side }
+    requires there { IsThere (C.seen columns.old).state id.batch id.vector }
+    requires column { HasColumn (C.seen columns.old).table side }
+    ensures value { IsPair mask.now (λ n. is_among (whole (side_at (vector_of (C.seen columns.old).state id) side n)) literals.now) result }
+    ensures read { IsRead (C.seen columns.old) (C.seen columns.new) (side_mentions side) }
 {
     match side {
-        Side::Column(column) => among_column(columns, batch, vector, column, literals, mask),
+        Side::Column(column) => among_column(columns, id, column, literals, mask),
         Side::Fixed(cell) => Pair::everywhere(among(cell, literals), mask),
     }
 }
@@ -172,18 +156,15 @@ fn among_side<C: Columns>(
 /// IN of an operand at the rows of a mask.
 pub fn among_operand<C: Columns>(
     columns: &mut C,
-    batch: usize,
-    vector: usize,
+    id: VectorId,
     operand: &Operand,
     literals: &Literals,
     mask: &Mask,
 ) -> Pair
-    requires there { IsThere (C.state columns.old) batch vector }
-    ensures value { IsPair mask.now (λ n. is_among (operand_at (C.table columns.old) (vector_at (C.state columns.old) batch vector) operand.now n) literals.now) result }
-    ensures table { C.table columns.new ≡ C.table columns.old }
-    ensures state { C.state columns.new ≡ C.state columns.old }
-    ensures passes { C.passes columns.new ≤ C.passes columns.old + operand_mentions operand.now }
+    requires there { IsThere (C.seen columns.old).state id.batch id.vector }
+    ensures value { IsPair mask.now (λ n. is_among (operand_at (C.seen columns.old).table (vector_of (C.seen columns.old).state id) operand.now n) literals.now) result }
+    ensures read { IsRead (C.seen columns.old) (C.seen columns.new) (operand_mentions operand.now) }
 {
     let side = side_of(columns, operand);
-    among_side(columns, batch, vector, side, literals.as_slice(), mask)
+    among_side(columns, id, side, literals.as_slice(), mask)
 }

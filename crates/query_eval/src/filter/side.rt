@@ -3,14 +3,16 @@ ghost use Rattle.std.specs.Prelude.{◌≡◌, ◌<◌, ◌≤◌, ◌+◌, ℕ,
 ghost use Rattle.table_model.specs.Answer.{whole};
 ghost use Rattle.table_model.specs.Condition.{is_null, field_comparison};
 ghost use Rattle.table_model.specs.Truth.{comparison, truth_of};
+ghost use Rattle.query_eval.specs.Read.{IsRead};
 ghost use Rattle.query_eval.specs.Mentions.{operand_mentions};
 ghost use Rattle.query_eval.specs.Side.{side_at, side_mentions, HasColumn, StandsFor};
-ghost use Rattle.query_eval.specs.Vector.{IsThere, vector_at};
+ghost use Rattle.query_eval.specs.Vector.{IsThere, vector_of};
 ghost use Rattle.query_eval.specs.Where.{IsPair, operand_at};
 
 use crate::columns::Columns;
 use crate::filter::column_places::place_of;
 use crate::filter::pair::Pair;
+use crate::vector_id::VectorId;
 use table_model::{Op, Operand, Truth};
 use transpose_order::Mask;
 
@@ -23,8 +25,8 @@ pub enum Side {
 
 /// What an operand of WHERE stands for.
 pub fn side_of<C: Columns>(columns: &C, operand: &Operand) -> Side
-    ensures value { StandsFor (C.table columns.now) (C.state columns.now) operand.now result }
-    ensures column { HasColumn (C.table columns.now) result }
+    ensures value { StandsFor (C.seen columns.now).table (C.seen columns.now).state operand.now result }
+    ensures column { HasColumn (C.seen columns.now).table result }
     ensures mentions { side_mentions result ≤ operand_mentions operand.now }
 {
     // `batches` ensures that the table and the state are within their limits.
@@ -42,32 +44,29 @@ pub fn side_of<C: Columns>(columns: &C, operand: &Operand) -> Side
 /// The comparison of two sides at the rows of a mask. A comparison without a column takes no pass.
 pub fn compare_sides<C: Columns>(
     columns: &mut C,
-    batch: usize,
-    vector: usize,
+    id: VectorId,
     left: Side,
     op: Op,
     right: Side,
     mask: &Mask,
 ) -> Pair
-    requires there { IsThere (C.state columns.old) batch vector }
-    requires left { HasColumn (C.table columns.old) left }
-    requires right { HasColumn (C.table columns.old) right }
-    ensures value { IsPair mask.now (λ n. comparison op (side_at (vector_at (C.state columns.old) batch vector) left n) (side_at (vector_at (C.state columns.old) batch vector) right n)) result }
-    ensures table { C.table columns.new ≡ C.table columns.old }
-    ensures state { C.state columns.new ≡ C.state columns.old }
-    ensures passes { C.passes columns.new ≤ C.passes columns.old + (side_mentions left + side_mentions right) }
+    requires there { IsThere (C.seen columns.old).state id.batch id.vector }
+    requires left { HasColumn (C.seen columns.old).table left }
+    requires right { HasColumn (C.seen columns.old).table right }
+    ensures value { IsPair mask.now (λ n. comparison op (side_at (vector_of (C.seen columns.old).state id) left n) (side_at (vector_of (C.seen columns.old).state id) right n)) result }
+    ensures read { IsRead (C.seen columns.old) (C.seen columns.new) (side_mentions left + side_mentions right) }
 {
     match (left, right) {
         (Side::Column(column), Side::Fixed(Some(literal))) => {
-            let (yes, no) = columns.compare(batch, column, vector, op, literal, mask);
+            let (yes, no) = columns.compare(id, column, op, literal, mask);
             Pair { yes, no }
         }
         (Side::Fixed(Some(literal)), Side::Column(column)) => {
-            let (yes, no) = columns.compare(batch, column, vector, op.turned(), literal, mask);
+            let (yes, no) = columns.compare(id, column, op.turned(), literal, mask);
             Pair { yes, no }
         }
         (Side::Column(left), Side::Column(right)) => {
-            let (yes, no) = columns.compare_columns(batch, left, vector, op, right, mask);
+            let (yes, no) = columns.compare_columns(id, left, op, right, mask);
             Pair { yes, no }
         }
         (Side::Fixed(left), Side::Fixed(right)) => Pair::everywhere(op.compare(left, right), mask),
@@ -78,20 +77,14 @@ pub fn compare_sides<C: Columns>(
 }
 
 /// Where a side is null, at the rows of a mask.
-pub fn null_rows<C: Columns>(
-    columns: &C,
-    batch: usize,
-    vector: usize,
-    side: Side,
-    mask: &Mask,
-) -> Pair
-    requires there { IsThere (C.state columns.now) batch vector }
-    requires column { HasColumn (C.table columns.now) side }
-    ensures { IsPair mask.now (λ n. truth_of (is_null (whole (side_at (vector_at (C.state columns.now) batch vector) side n)))) result }
+pub fn null_rows<C: Columns>(columns: &C, id: VectorId, side: Side, mask: &Mask) -> Pair
+    requires there { IsThere (C.seen columns.now).state id.batch id.vector }
+    requires column { HasColumn (C.seen columns.now).table side }
+    ensures { IsPair mask.now (λ n. truth_of (is_null (whole (side_at (vector_of (C.seen columns.now).state id) side n)))) result }
 {
     match side {
         Side::Column(column) => {
-            let nulls = columns.nulls(batch, column, vector);
+            let nulls = columns.nulls(id, column);
             let yes = mask.and(&nulls);
             let no = mask.and_not(&yes);
             Pair { yes, no }
@@ -103,35 +96,26 @@ pub fn null_rows<C: Columns>(
 /// The comparison of two operands of WHERE at the rows of a mask. A comparison of two literals takes no pass.
 pub fn compare_operands<C: Columns>(
     columns: &mut C,
-    batch: usize,
-    vector: usize,
+    id: VectorId,
     left: &Operand,
     op: Op,
     right: &Operand,
     mask: &Mask,
 ) -> Pair
-    requires there { IsThere (C.state columns.old) batch vector }
-    ensures value { IsPair mask.now (λ n. field_comparison op (operand_at (C.table columns.old) (vector_at (C.state columns.old) batch vector) left.now n) (operand_at (C.table columns.old) (vector_at (C.state columns.old) batch vector) right.now n)) result }
-    ensures table { C.table columns.new ≡ C.table columns.old }
-    ensures state { C.state columns.new ≡ C.state columns.old }
-    ensures passes { C.passes columns.new ≤ C.passes columns.old + (operand_mentions left.now + operand_mentions right.now) }
+    requires there { IsThere (C.seen columns.old).state id.batch id.vector }
+    ensures value { IsPair mask.now (λ n. field_comparison op (operand_at (C.seen columns.old).table (vector_of (C.seen columns.old).state id) left.now n) (operand_at (C.seen columns.old).table (vector_of (C.seen columns.old).state id) right.now n)) result }
+    ensures read { IsRead (C.seen columns.old) (C.seen columns.new) (operand_mentions left.now + operand_mentions right.now) }
 {
     let left = side_of(columns, left);
     let right = side_of(columns, right);
-    compare_sides(columns, batch, vector, left, op, right, mask)
+    compare_sides(columns, id, left, op, right, mask)
 }
 
 /// Where an operand of WHERE is null, at the rows of a mask. It takes no pass.
-pub fn null_operand<C: Columns>(
-    columns: &C,
-    batch: usize,
-    vector: usize,
-    operand: &Operand,
-    mask: &Mask,
-) -> Pair
-    requires { IsThere (C.state columns.now) batch vector }
-    ensures { IsPair mask.now (λ n. truth_of (is_null (operand_at (C.table columns.now) (vector_at (C.state columns.now) batch vector) operand.now n))) result }
+pub fn null_operand<C: Columns>(columns: &C, id: VectorId, operand: &Operand, mask: &Mask) -> Pair
+    requires { IsThere (C.seen columns.now).state id.batch id.vector }
+    ensures { IsPair mask.now (λ n. truth_of (is_null (operand_at (C.seen columns.now).table (vector_of (C.seen columns.now).state id) operand.now n))) result }
 {
     let side = side_of(columns, operand);
-    null_rows(columns, batch, vector, side, mask)
+    null_rows(columns, id, side, mask)
 }

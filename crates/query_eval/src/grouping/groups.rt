@@ -1,10 +1,11 @@
 //! Groups under way, vector by vector.
 ghost use Rattle.std.specs.Prelude.{◌≡◌, ◌≤◌, ◌+◌, ◌++◌, [], ℕ, List, length, IfOk, OnOk};
 ghost use Rattle.table_model.specs.State.{Cells};
+ghost use Rattle.query_eval.specs.Read.{IsSame};
 ghost use Rattle.query_eval.specs.Grouping.{AreEmpty, AreGroups, plan_mentions};
 ghost use Rattle.query_eval.specs.Kept.{rows_at};
 ghost use Rattle.query_eval.specs.Places.{IsIndex};
-ghost use Rattle.query_eval.specs.Vector.{IsThere, vector_at};
+ghost use Rattle.query_eval.specs.Vector.{IsThere, vector_of};
 
 use crate::columns::Columns;
 use crate::filter::KeptVector;
@@ -75,12 +76,11 @@ pub fn group_vector<C: Columns>(
     kept: &KeptVector,
     room: &mut Room,
 ) -> Result<(), AllocError>
-    requires { IsThere (C.state columns.old) kept.now.batch kept.now.vector }
+    requires { IsThere (C.seen columns.old).state kept.now.id.batch kept.now.id.vector }
     ensures index { OnOk result (IsIndex groups.old.places → IsIndex groups.new.places) }
-    ensures groups { OnOk result ((rows : List Cells) → IsIndex groups.old.places → AreGroups plan.now.grouping plan.now.aggregates rows groups.old.places.index groups.old.tallies.items → AreGroups plan.now.grouping plan.now.aggregates (rows ++ rows_at (vector_at (C.state columns.old) kept.now.batch kept.now.vector) kept.now.rows) groups.new.places.index groups.new.tallies.items) }
-    ensures table { C.table columns.new ≡ C.table columns.old }
-    ensures state { C.state columns.new ≡ C.state columns.old }
-    ensures passes { OnOk result (C.passes columns.new ≤ C.passes columns.old + plan_mentions plan.now) }
+    ensures groups { OnOk result ((rows : List Cells) → IsIndex groups.old.places → AreGroups plan.now.grouping plan.now.aggregates rows groups.old.places.index groups.old.tallies.items → AreGroups plan.now.grouping plan.now.aggregates (rows ++ rows_at (vector_of (C.seen columns.old).state kept.now.id) kept.now.rows) groups.new.places.index groups.new.tallies.items) }
+    ensures same { IsSame (C.seen columns.old) (C.seen columns.new) }
+    ensures passes { OnOk result ((C.seen columns.new).passes ≤ (C.seen columns.old).passes + plan_mentions plan.now) }
 {
     place_rows(
         alloc,

@@ -4,10 +4,11 @@ ghost use Rattle.std.specs.BTreeMap.{BTreeMap};
 ghost use Rattle.std.specs.Int.{bit_at};
 ghost use Rattle.table_model.specs.Group.{key_of};
 ghost use Rattle.table_model.specs.State.{Cells};
+ghost use Rattle.query_eval.specs.Read.{IsSame};
 ghost use Rattle.query_eval.specs.Decoded.{decoded_at};
 ghost use Rattle.query_eval.specs.Places.{IsIndex, ArePlaced};
 ghost use Rattle.query_eval.specs.Slices.{IsSplit};
-ghost use Rattle.query_eval.specs.Vector.{IsThere, Vector, row_at, vector_at};
+ghost use Rattle.query_eval.specs.Vector.{IsThere, Vector, row_at, vector_of};
 ghost use Rattle.transpose_order.specs.Mask.{has};
 
 use crate::columns::Columns;
@@ -131,14 +132,13 @@ pub fn place_rows<C: Columns>(
     places: &mut Places,
     split: &mut Split,
 ) -> Result<(), AllocError>
-    requires { IsThere (C.state columns.old) kept.now.batch kept.now.vector }
+    requires { IsThere (C.seen columns.old).state kept.now.id.batch kept.now.id.vector }
     ensures index { OnOk result (IsIndex places.old → IsIndex places.new) }
-    ensures placed { OnOk result (IsIndex places.old → IsSplit grouping.now (vector_at (C.state columns.old) kept.now.batch kept.now.vector) kept.now.rows places.old.index places.new.index split.new) }
-    ensures table { C.table columns.new ≡ C.table columns.old }
-    ensures state { C.state columns.new ≡ C.state columns.old }
-    ensures passes { OnOk result (C.passes columns.new ≤ C.passes columns.old + length grouping.now) }
+    ensures placed { OnOk result (IsIndex places.old → IsSplit grouping.now (vector_of (C.seen columns.old).state kept.now.id) kept.now.rows places.old.index places.new.index split.new) }
+    ensures same { IsSame (C.seen columns.old) (C.seen columns.new) }
+    ensures passes { OnOk result ((C.seen columns.new).passes ≤ (C.seen columns.old).passes + length grouping.now) }
 {
-    let keys = decode_keys(alloc, columns, kept.batch, kept.vector, grouping)?;
+    let keys = decode_keys(alloc, columns, kept.id, grouping)?;
     let left = slice_rows(
         alloc,
         places,

@@ -1,12 +1,13 @@
 //! The tallies of an aggregate, a group each, as the rows of a vector come.
 ghost use Rattle.std.specs.Prelude.{◌≡◌, ◌<◌, ◌≤◌, ◌+◌, ◌++◌, [], ℕ, List, Bool, length, slice_index_or, sum_by, true, OnOk};
 ghost use Rattle.std.specs.Global.{Vec as Items};
+ghost use Rattle.query_eval.specs.Read.{IsRead};
 ghost use Rattle.query_eval.specs.Grouping.{AreCells, AreNulls, IsHeld, IsTaken};
 ghost use Rattle.query_eval.specs.QueryMentions.{aggregate_mentions};
 ghost use Rattle.table_model.specs.State.{Cells};
 ghost use Rattle.query_eval.specs.Slices.{AreShort, rows_shared};
 ghost use Rattle.query_eval.specs.TallyKinds.{aggregate_kind, fold_kind};
-ghost use Rattle.query_eval.specs.Vector.{IsThere, Vector, vector_at};
+ghost use Rattle.query_eval.specs.Vector.{IsThere, Vector, vector_of};
 ghost use Rattle.query_eval.specs.declared.tallies.aggregate.Aggregate.{Aggregate as AnAggregate};
 ghost use Rattle.query_eval.specs.declared.tallies.aggregate.Aggregate.TheVariants.{Folded};
 ghost use Rattle.table_model.specs.declared.query.Fold.{Fold as AFold};
@@ -129,24 +130,22 @@ fn add_values<C: Columns>(
     split: &Split,
     values: &mut [i64; 1024],
 ) -> Result<(), AllocError>
-    requires { IsThere (C.state columns.old) kept.now.batch kept.now.vector }
+    requires { IsThere (C.seen columns.old).state kept.now.id.batch kept.now.id.vector }
     ensures size { OnOk result (length tallies.new.items ≡ length tallies.old.items) }
-    ensures held { OnOk result ((fold : AFold) (distinct : Bool) → kind ≡ fold_kind distinct fold → (g : ℕ) (t : ATally) (taken : List Cells) → g < length tallies.old.items → IsHeld taken (Folded fold distinct column) (slice_index_or tallies.old.items g t) → IsHeld (taken ++ rows_shared (vector_at (C.state columns.old) kept.now.batch kept.now.vector) split.now g) (Folded fold distinct column) (slice_index_or tallies.new.items g t)) }
-    ensures table { C.table columns.new ≡ C.table columns.old }
-    ensures state { C.state columns.new ≡ C.state columns.old }
-    ensures passes { C.passes columns.new ≤ C.passes columns.old + 1 }
+    ensures held { OnOk result ((fold : AFold) (distinct : Bool) → kind ≡ fold_kind distinct fold → (g : ℕ) (t : ATally) (taken : List Cells) → g < length tallies.old.items → IsHeld taken (Folded fold distinct column) (slice_index_or tallies.old.items g t) → IsHeld (taken ++ rows_shared (vector_of (C.seen columns.old).state kept.now.id) split.now g) (Folded fold distinct column) (slice_index_or tallies.new.items g t)) }
+    ensures read { IsRead (C.seen columns.old) (C.seen columns.new) 1 }
 {
     // `batches` ensures that the table and the state are within their limits.
     let _batches = columns.batches();
     if columns.schema().column_list().len() <= column {
         return Ok(());
     }
-    let nulls = columns.nulls(kept.batch, column, kept.vector);
+    let nulls = columns.nulls(kept.id, column);
     if let TallyKind::Count = kind {
         count_split(tallies, split, &nulls);
         return Ok(());
     }
-    columns.decode_into(kept.batch, column, kept.vector, values);
+    columns.decode_into(kept.id, column, values);
     add_split(tallies, kind, values, split, &nulls)?;
     Ok(())
 }
@@ -162,11 +161,9 @@ fn add_column<C: Columns>(
     split: &Split,
     values: &mut [i64; 1024],
 ) -> Result<(), AllocError>
-    requires { IsThere (C.state columns.old) kept.now.batch kept.now.vector }
-    ensures taken { OnOk result (IsTaken aggregate (vector_at (C.state columns.old) kept.now.batch kept.now.vector) split.now count tallies.old.items tallies.new.items) }
-    ensures table { C.table columns.new ≡ C.table columns.old }
-    ensures state { C.state columns.new ≡ C.state columns.old }
-    ensures passes { C.passes columns.new ≤ C.passes columns.old + aggregate_mentions aggregate }
+    requires { IsThere (C.seen columns.old).state kept.now.id.batch kept.now.id.vector }
+    ensures taken { OnOk result (IsTaken aggregate (vector_of (C.seen columns.old).state kept.now.id) split.now count tallies.old.items tallies.new.items) }
+    ensures read { IsRead (C.seen columns.old) (C.seen columns.new) (aggregate_mentions aggregate) }
 {
     add_groups(alloc, tallies, aggregate, count)?;
     match aggregate {
@@ -195,12 +192,10 @@ pub fn add_columns<C: Columns>(
     split: &Split,
     values: &mut [i64; 1024],
 ) -> Result<(), AllocError>
-    requires { IsThere (C.state columns.old) kept.now.batch kept.now.vector }
+    requires { IsThere (C.seen columns.old).state kept.now.id.batch kept.now.id.vector }
     ensures size { OnOk result (length tallies.new.items ≡ length tallies.old.items) }
-    ensures taken { OnOk result ((i : ℕ) (a : AnAggregate) (c : Items ATally) → i < length aggregates.now → i < length tallies.old.items → IsTaken (slice_index_or aggregates.now i a) (vector_at (C.state columns.old) kept.now.batch kept.now.vector) split.now count (slice_index_or tallies.old.items i c).items (slice_index_or tallies.new.items i c).items) }
-    ensures table { C.table columns.new ≡ C.table columns.old }
-    ensures state { C.state columns.new ≡ C.state columns.old }
-    ensures passes { C.passes columns.new ≤ C.passes columns.old + sum_by aggregate_mentions aggregates.now }
+    ensures taken { OnOk result ((i : ℕ) (a : AnAggregate) (c : Items ATally) → i < length aggregates.now → i < length tallies.old.items → IsTaken (slice_index_or aggregates.now i a) (vector_of (C.seen columns.old).state kept.now.id) split.now count (slice_index_or tallies.old.items i c).items (slice_index_or tallies.new.items i c).items) }
+    ensures read { IsRead (C.seen columns.old) (C.seen columns.new) (sum_by aggregate_mentions aggregates.now) }
 {
     let named = aggregates.len().min(tallies.len());
     for i in 0..named {

@@ -2,6 +2,7 @@
 ghost use Rattle.std.specs.Prelude.{◌≡◌, ◌<◌, ◌≤◌, ◌+◌, ◌++◌, [], List, ℤ, length, map, sum_by, IfOk, OnOk};
 ghost use Rattle.table_model.specs.State.{Cells};
 ghost use Rattle.table_model.specs.Table.{Table};
+ghost use Rattle.query_eval.specs.Read.{IsRead};
 ghost use Rattle.query_eval.specs.Aggregate.{aggregate_value};
 ghost use Rattle.query_eval.specs.Finished.{finished_groups};
 ghost use Rattle.query_eval.specs.Grouping.{IsHeld};
@@ -9,7 +10,7 @@ ghost use Rattle.query_eval.specs.Kept.{rows_at, AreFew};
 ghost use Rattle.query_eval.specs.QueryMentions.{aggregate_mentions};
 ghost use Rattle.query_eval.specs.Taken.{AreTallied};
 ghost use Rattle.query_eval.specs.Tally.{IsTally, kind_of};
-ghost use Rattle.query_eval.specs.Vector.{IsThere, vector_at, looked_at};
+ghost use Rattle.query_eval.specs.Vector.{IsThere, looked_at, vector_of};
 
 use crate::answers::{FinishedGroup, value_of};
 use crate::columns::Columns;
@@ -41,27 +42,24 @@ fn take_values<C: Columns>(
     tally: &mut Tally,
     values: &mut [i64; 1024],
 ) -> Result<(), AllocError>
-    requires there { IsThere (C.state columns.old) kept.now.batch kept.now.vector }
-    requires column { column < length (C.table columns.old).columns }
-    ensures values { OnOk result ((before : List ℤ) → IsTally before tally.old → IsTally (before ++ looked_at (vector_at (C.state columns.old) kept.now.batch kept.now.vector) column kept.now.rows) tally.new) }
+    requires there { IsThere (C.seen columns.old).state kept.now.id.batch kept.now.id.vector }
+    requires column { column < length (C.seen columns.old).table.columns }
+    ensures values { OnOk result ((before : List ℤ) → IsTally before tally.old → IsTally (before ++ looked_at (vector_of (C.seen columns.old).state kept.now.id) column kept.now.rows) tally.new) }
     ensures kind { OnOk result (kind_of tally.new ≡ kind_of tally.old) }
-    ensures table { C.table columns.new ≡ C.table columns.old }
-    ensures state { C.state columns.new ≡ C.state columns.old }
-    ensures passes { C.passes columns.new ≤ C.passes columns.old + 1 }
+    ensures read { IsRead (C.seen columns.old) (C.seen columns.new) 1 }
 {
-    let (batch, vector) = (kept.batch, kept.vector);
     match tally.kind() {
-        TallyKind::Count => tally.count_more(columns.count(batch, column, vector, &kept.rows)),
+        TallyKind::Count => tally.count_more(columns.count(kept.id, column, &kept.rows)),
         TallyKind::Sum => {
-            let count = columns.count(batch, column, vector, &kept.rows);
-            let sum = columns.sum(batch, column, vector, &kept.rows);
+            let count = columns.count(kept.id, column, &kept.rows);
+            let sum = columns.sum(kept.id, column, &kept.rows);
             tally.sum_more(count, sum);
         }
-        TallyKind::Least => tally.least_more(columns.min(batch, column, vector, &kept.rows)),
-        TallyKind::Greatest => tally.greatest_more(columns.max(batch, column, vector, &kept.rows)),
+        TallyKind::Least => tally.least_more(columns.min(kept.id, column, &kept.rows)),
+        TallyKind::Greatest => tally.greatest_more(columns.max(kept.id, column, &kept.rows)),
         TallyKind::Distinct => {
-            let nulls = columns.nulls(batch, column, vector);
-            columns.decode_into(batch, column, vector, values);
+            let nulls = columns.nulls(kept.id, column);
+            columns.decode_into(kept.id, column, values);
             let rows = kept.rows.and_not(&nulls);
             tally.add_rows(values, false, &rows)?;
         }
@@ -78,11 +76,9 @@ fn take_aggregate<C: Columns>(
     tally: &mut Tally,
     values: &mut [i64; 1024],
 ) -> Result<(), AllocError>
-    requires { IsThere (C.state columns.old) kept.now.batch kept.now.vector }
-    ensures held { OnOk result ((rows : List Cells) → IsHeld rows aggregate tally.old → IsHeld (rows ++ rows_at (vector_at (C.state columns.old) kept.now.batch kept.now.vector) kept.now.rows) aggregate tally.new) }
-    ensures table { C.table columns.new ≡ C.table columns.old }
-    ensures state { C.state columns.new ≡ C.state columns.old }
-    ensures passes { C.passes columns.new ≤ C.passes columns.old + aggregate_mentions aggregate }
+    requires { IsThere (C.seen columns.old).state kept.now.id.batch kept.now.id.vector }
+    ensures held { OnOk result ((rows : List Cells) → IsHeld rows aggregate tally.old → IsHeld (rows ++ rows_at (vector_of (C.seen columns.old).state kept.now.id) kept.now.rows) aggregate tally.new) }
+    ensures read { IsRead (C.seen columns.old) (C.seen columns.new) (aggregate_mentions aggregate) }
 {
     // `batches` ensures that the table and the state are within their limits, and a mask's words that it has 1024 places.
     let _batches = columns.batches();
@@ -107,11 +103,9 @@ pub fn tally_vector<C: Columns>(
     tallies: &mut Vec<Tally>,
     values: &mut [i64; 1024],
 ) -> Result<(), AllocError>
-    requires { IsThere (C.state columns.old) kept.now.batch kept.now.vector }
-    ensures tallied { OnOk result ((rows : List Cells) → AreTallied aggregates.now rows tallies.old.items → AreTallied aggregates.now (rows ++ rows_at (vector_at (C.state columns.old) kept.now.batch kept.now.vector) kept.now.rows) tallies.new.items) }
-    ensures table { C.table columns.new ≡ C.table columns.old }
-    ensures state { C.state columns.new ≡ C.state columns.old }
-    ensures passes { C.passes columns.new ≤ C.passes columns.old + sum_by aggregate_mentions aggregates.now }
+    requires { IsThere (C.seen columns.old).state kept.now.id.batch kept.now.id.vector }
+    ensures tallied { OnOk result ((rows : List Cells) → AreTallied aggregates.now rows tallies.old.items → AreTallied aggregates.now (rows ++ rows_at (vector_of (C.seen columns.old).state kept.now.id) kept.now.rows) tallies.new.items) }
+    ensures read { IsRead (C.seen columns.old) (C.seen columns.new) (sum_by aggregate_mentions aggregates.now) }
 {
     let named = aggregates.len().min(tallies.len());
     for i in 0..named {

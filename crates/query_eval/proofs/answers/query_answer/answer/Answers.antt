@@ -12,11 +12,11 @@ use Rattle.query_eval.proofs.answers.query_answer.answer.Goals as goal
 
 pub returns-clause-value : goal.returns-clause-value
 returns-clause-value g c =
-    let table = g.C.Columns.table c.args.columns.now in
-    let s = g.C.Columns.state c.args.columns.now in
+    let table = (g.C.Columns.seen c.args.columns.now).table in
+    let s = (g.C.Columns.seen c.args.columns.now).state in
     let query = c.args.query.now in
     let plan : c.in_ok-plan.plan ≡ plan_of table.columns query = c.in_ok-plan.ensures ∙ ap (λ (t : Table). plan_of t.columns query) c.schema.ensures in
-    let same_table = c.schema-2.ensures ∙ c.take_rows.ensures.table in
+    let same_table = c.schema-2.ensures ∙ c.take_rows.ensures.same.table in
     let same : c.query.inside.filter ≡ query.filter = cc (ap (λ (q : QueryShape). q.filter) c.query.view_is) in
     let rows : List Cells = rows_kept table c.query.inside.filter (rows_alive s) in
     let groups = c.in_ok-finished.ensures table rows c.in_ok-taken.ensures.few c.in_ok-taken.ensures.taken in
@@ -24,9 +24,9 @@ returns-clause-value g c =
 
 pub returns-clause-passes : goal.returns-clause-passes
 returns-clause-passes g c =
-    let table = g.C.Columns.table c.args.columns.now in
-    let s = g.C.Columns.state c.args.columns.now in
+    let table = (g.C.Columns.seen c.args.columns.now).table in
+    let s = (g.C.Columns.seen c.args.columns.now).state in
     let plan : c.in_ok-plan.plan ≡ plan_of table.columns c.args.query.now = c.in_ok-plan.ensures ∙ ap (λ (t : Table). plan_of t.columns c.args.query.now) c.schema.ensures in
     let same : c.query.inside.filter ≡ c.args.query.now.filter = cc (ap (λ (q : QueryShape). q.filter) c.query.view_is) in
-    let after = subst (λ (f : Option Formula). g.C.Columns.passes c.take_rows.new.columns ≤ g.C.Columns.passes c.args.columns.now + (where_mentions f + plan_mentions c.in_ok-plan.plan) * live_vectors s) same c.in_ok-taken.ensures.passes in
+    let after = subst (λ (f : Option Formula). (g.C.Columns.seen c.take_rows.new.columns).passes ≤ (g.C.Columns.seen c.args.columns.now).passes + (where_mentions f + plan_mentions c.in_ok-plan.plan) * live_vectors s) same c.in_ok-taken.ensures.passes in
     passes-answer table c.args.query.now c.in_ok-plan.plan (live_vectors s) _ _ plan after

@@ -11,11 +11,11 @@ use Rattle.query_eval.proofs.answers.taken_rows.take_batch.Given as goal
 
 abbrev pub invariant-loop-vector : goal.invariant-loop-vector
 invariant-loop-vector g l =
-    let s = g.C.Columns.state l.initial.columns in
-    let table = g.C.Columns.table l.initial.columns in
+    let s = (g.C.Columns.seen l.initial.columns).state in
+    let table = (g.C.Columns.seen l.initial.columns).table in
     record {
       taken : (rows : List Cells) → AreTaken l.plan rows l.initial.taken → AreTaken l.plan (rows ++ front_kept table l.condition s l.batch l.vector) l.taken;
-      table : g.C.Columns.table l.columns ≡ table;
-      state : g.C.Columns.state l.columns ≡ s;
-      passes : g.C.Columns.passes l.columns ≤ g.C.Columns.passes l.initial.columns + (where_mentions l.condition + plan_mentions l.plan) * count_below (λ vector. has_live (vector_at s l.batch vector)) l.vector;
+      table : (g.C.Columns.seen l.columns).table ≡ table;
+      state : (g.C.Columns.seen l.columns).state ≡ s;
+      passes : (g.C.Columns.seen l.columns).passes ≤ (g.C.Columns.seen l.initial.columns).passes + (where_mentions l.condition + plan_mentions l.plan) * count_below (λ vector. has_live (vector_at s l.batch vector)) l.vector;
     }

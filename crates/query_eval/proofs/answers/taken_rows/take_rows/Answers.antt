@@ -20,8 +20,8 @@ loop-batch-init g c = record {
 
 pub loop-batch-preserved : goal.loop-batch-preserved
 loop-batch-preserved g c =
-    let s = g.C.Columns.state c.args.columns.now in
-    let table = g.C.Columns.table c.args.columns.now in
+    let s = (g.C.Columns.seen c.args.columns.now).state in
+    let table = (g.C.Columns.seen c.args.columns.now).table in
     let condition = c.args.condition.now in
     let plan = c.args.plan.now in
     let i = c.loop-batch.batch in
@@ -29,16 +29,16 @@ loop-batch-preserved g c =
     let within : i < batch_count s = omega (arith, c.batches-batch-end.ensures.count) in
     record {
       taken = batch-more plan table _ condition s _ i c.take_batch.new.taken within inv.table inv.state (c.in_ok-take_batch.ensures.taken (rows_kept table condition (first_alive s i)) inv.taken);
-      table = c.take_batch.ensures.table ∙ inv.table;
-      state = c.take_batch.ensures.state ∙ inv.state;
+      table = c.take_batch.ensures.same.table ∙ inv.table;
+      state = c.take_batch.ensures.same.state ∙ inv.state;
       passes = passes-batch s _ i (where_mentions condition + plan_mentions plan) _ _ _ inv.state inv.passes c.in_ok-take_batch.ensures.passes;
     }
 
 pub returns-clause-taken : goal.returns-clause-taken
 returns-clause-taken g c =
-    let s = g.C.Columns.state c.args.columns.now in
-    let table = g.C.Columns.table c.args.columns.now in
+    let s = (g.C.Columns.seen c.args.columns.now).state in
+    let table = (g.C.Columns.seen c.args.columns.now).table in
     subst (λ (l : List Cells). AreTaken c.args.plan.now (rows_kept table c.args.condition.now l) c.loop-batch.taken) (first_alive-all s c.loop-batch.batch (omega (arith, c.batches-batch-end.ensures.count))) c.loop-batch.invariant.taken
 
 pub returns-clause-few : goal.returns-clause-few
-returns-clause-few g c = kept-few (g.C.Columns.table c.args.columns.now) c.args.condition.now (g.C.Columns.state c.args.columns.now) c.batches-batch-end.ensures.limits
+returns-clause-few g c = kept-few (g.C.Columns.seen c.args.columns.now).table c.args.condition.now (g.C.Columns.seen c.args.columns.now).state c.batches-batch-end.ensures.limits

@@ -12,8 +12,8 @@ use Rattle.query_eval.proofs.filter.bounds.+bounds.Goals.{term_may_be_true-then-
 
 pub may_be_true-loop-term-preserved : goal.may_be_true-loop-term-preserved
 may_be_true-loop-term-preserved g t c =
-    let table = g.C.Columns.table c.args.columns.now in
-    let v = vector_at (g.C.Columns.state c.args.columns.now) c.args.batch c.args.vector in
+    let table = (g.C.Columns.seen c.args.columns.now).table in
+    let v = vector_at (g.C.Columns.seen c.args.columns.now).state c.args.id.batch c.args.id.vector in
     let front : Formula = formula_of_terms (take c.loop-term.term-index c.deref-term-items.result.now) in
     let one : Formula = formula_of_term c.term-item.result in
     let e = terms_more c.deref-term-items.result.now c.loop-term.term-index c.term-item.result c.loop-term-test.true c.term-item.is in
@@ -21,8 +21,8 @@ may_be_true-loop-term-preserved g t c =
 
 pub term_may_be_true-loop-factor-preserved : goal.term_may_be_true-loop-factor-preserved
 term_may_be_true-loop-factor-preserved g t c =
-    let table = g.C.Columns.table c.args.columns.now in
-    let v = vector_at (g.C.Columns.state c.args.columns.now) c.args.batch c.args.vector in
+    let table = (g.C.Columns.seen c.args.columns.now).table in
+    let v = vector_at (g.C.Columns.seen c.args.columns.now).state c.args.id.batch c.args.id.vector in
     let front : Formula = formula_of_factors (take c.loop-factor.factor-index c.deref-factor-items.result.now) in
     let one : Formula = formula_of_factor c.factor-item.result in
     let e = factors_more c.deref-factor-items.result.now c.loop-factor.factor-index c.factor-item.result c.loop-factor-test.true c.factor-item.is in
@@ -33,7 +33,7 @@ term_may_be_true-loop-factor-preserved g t c =
 
 pub primary_may_be_true-returns-in-Nested : goal.primary_may_be_true-returns-in-Nested
 primary_may_be_true-returns-in-Nested g t c =
-    let table = g.C.Columns.table c.args.columns.now in
-    let v = vector_at (g.C.Columns.state c.args.columns.now) c.args.batch c.args.vector in
+    let table = (g.C.Columns.seen c.args.columns.now).table in
+    let v = vector_at (g.C.Columns.seen c.args.columns.now).state c.args.id.batch c.args.id.vector in
     λ no. subst (λ (p : Primary). IsNowhere (truth_in table v (formula_of_primary p))) (sym c.in-Nested.is)
     (subst (λ (f : Formula). IsNowhere (truth_in table v (in_parentheses f))) c.deref.ensures (c.may_be_true.ensures no))

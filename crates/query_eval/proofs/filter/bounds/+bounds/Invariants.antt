@@ -6,7 +6,7 @@ use Rattle.query_eval.specs.Where.{IsNowhere, truth_in}
 use Rattle.query_eval.proofs.filter.bounds.+bounds.Given as goal
 
 abbrev pub invariant-may_be_true-loop-term : goal.invariant-may_be_true-loop-term
-invariant-may_be_true-loop-term g l = IsNowhere (truth_in (g.C.Columns.table l.columns) (vector_at (g.C.Columns.state l.columns) l.batch l.vector) (formula_of_terms (take l.term-index l.term-items)))
+invariant-may_be_true-loop-term g l = IsNowhere (truth_in (g.C.Columns.seen l.columns).table (vector_at (g.C.Columns.seen l.columns).state l.id.batch l.id.vector) (formula_of_terms (take l.term-index l.term-items)))
 
 abbrev pub invariant-term_may_be_true-loop-factor : goal.invariant-term_may_be_true-loop-factor
-invariant-term_may_be_true-loop-factor g l = l.may ≡ false → IsNowhere (truth_in (g.C.Columns.table l.columns) (vector_at (g.C.Columns.state l.columns) l.batch l.vector) (formula_of_factors (take l.factor-index l.factor-items)))
+invariant-term_may_be_true-loop-factor g l = l.may ≡ false → IsNowhere (truth_in (g.C.Columns.seen l.columns).table (vector_at (g.C.Columns.seen l.columns).state l.id.batch l.id.vector) (formula_of_factors (take l.factor-index l.factor-items)))

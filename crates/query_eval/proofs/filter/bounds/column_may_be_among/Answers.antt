@@ -14,7 +14,7 @@ pub loop-literal-preserved : goal.loop-literal-preserved
 loop-literal-preserved g c =
     let i = c.loop-literal.literal-index in
     let literals = c.args.literals.now in
-    let cell : ℕ → Option ℤ = cell_at (vector_at (g.C.Columns.state c.args.columns.now) c.args.batch c.args.vector) c.args.column in
+    let cell : ℕ → Option ℤ = cell_at (vector_at (g.C.Columns.seen c.args.columns.now).state c.args.id.batch c.args.id.vector) c.args.column in
     let fits : FitsSigned w128 (get_or literals i (pos 0)) = search rules in
     let outside : IsNowhere (λ n. and_of (comparison GreaterOrEqual (cell n) (Some (get_or literals i (pos 0)))) (comparison LessOrEqual (cell n) (Some (get_or literals i (pos 0))))) =
     subst (λ (z : ℤ). IsNowhere (λ n. and_of (comparison GreaterOrEqual (cell n) (Some z)) (comparison LessOrEqual (cell n) (Some z)))) (to_z-of_z w128 (get_or literals i (pos 0)) fits) (c.may_have.ensures c.if-may_have.false) in
@@ -23,5 +23,5 @@ loop-literal-preserved g c =
 
 pub returns : goal.returns
 returns g c = λ _.
-    let cell : ℕ → Option ℤ = cell_at (vector_at (g.C.Columns.state c.args.columns.now) c.args.batch c.args.vector) c.args.column in
+    let cell : ℕ → Option ℤ = cell_at (vector_at (g.C.Columns.seen c.args.columns.now).state c.args.id.batch c.args.id.vector) c.args.column in
     nowhere_among cell c.args.literals.now (λ k h. c.loop-literal.invariant k (omega (arith, h)))

@@ -7,4 +7,4 @@ use Rattle.query_eval.specs.Where.{IsNowhere}
 use Rattle.query_eval.proofs.filter.bounds.column_may_be_among.Given as goal
 
 abbrev pub invariant-loop-literal : goal.invariant-loop-literal
-invariant-loop-literal g l = (k : ℕ) → k < l.literal-index → IsNowhere (λ n. comparison Equal (cell_at (vector_at (g.C.Columns.state l.columns) l.batch l.vector) l.column n) (Some (get_or l.literals k (pos 0))))
+invariant-loop-literal g l = (k : ℕ) → k < l.literal-index → IsNowhere (λ n. comparison Equal (cell_at (vector_at (g.C.Columns.seen l.columns).state l.id.batch l.id.vector) l.column n) (Some (get_or l.literals k (pos 0))))

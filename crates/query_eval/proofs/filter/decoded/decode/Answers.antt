@@ -8,5 +8,5 @@ use Rattle.query_eval.proofs.filter.decoded.decode.Goals as goal
 
 pub returns-in-Column-clause-value : goal.returns-in-Column-clause-value
 returns-in-Column-clause-value g c =
-    let v = vector_at (g.C.Columns.state c.args.columns.now) c.args.batch c.args.vector in
+    let v = vector_at (g.C.Columns.seen c.args.columns.now).state c.args.id.batch c.args.id.vector in
     λ n h. decoded_cell v c.in-Column.column _ _ c.nulls-nulls.ensures c.decode_into.ensures.values n h ∙ sym (ap (λ (s : Side). side_at v s n) c.in-Column.is)

@@ -7,17 +7,21 @@ use Rattle.query_eval.proofs.filter.kept_rows.true_mask.Goals as goal
 
 pub returns-then-not-may_be_true-clause-value : goal.returns-then-not-may_be_true-clause-value
 returns-then-not-may_be_true-clause-value g c =
-    kept-outside (g.C.Columns.table c.args.columns.now) c.args.condition.now (vector_at (g.C.Columns.state c.args.columns.now) c.args.batch c.args.vector) c.none.result c.none.ensures (c.may_be_true.ensures c.if-not-may_be_true.true)
+    kept-outside (g.C.Columns.seen c.args.columns.now).table c.args.condition.now (vector_at (g.C.Columns.seen c.args.columns.now).state c.args.id.batch c.args.id.vector) c.none.result c.none.ensures (c.may_be_true.ensures c.if-not-may_be_true.true)
 
 pub returns-then-not-has_rows-clause-value : goal.returns-then-not-has_rows-clause-value
 returns-then-not-has_rows-clause-value g c =
-    kept-nowhere (g.C.Columns.table c.args.columns.now) (Some c.args.condition.now) (vector_at (g.C.Columns.state c.args.columns.now) c.args.batch c.args.vector) c.live-live.result c.live-live.ensures (c.has_rows.ensures.none c.if-not-has_rows.true)
+    kept-nowhere (g.C.Columns.seen c.args.columns.now).table (Some c.args.condition.now) (vector_at (g.C.Columns.seen c.args.columns.now).state c.args.id.batch c.args.id.vector) c.live-live.result c.live-live.ensures (c.has_rows.ensures.none c.if-not-has_rows.true)
 
 pub returns-clause-value : goal.returns-clause-value
 returns-clause-value g c =
-    kept-where (g.C.Columns.table c.args.columns.now) (Some c.args.condition.now) c.args.condition.now (vector_at (g.C.Columns.state c.args.columns.now) c.args.batch c.args.vector) c.live-live.result _ c.live-live.ensures refl c.condition_rows.ensures.value
+    kept-where (g.C.Columns.seen c.args.columns.now).table (Some c.args.condition.now) c.args.condition.now (vector_at (g.C.Columns.seen c.args.columns.now).state c.args.id.batch c.args.id.vector) c.live-live.result _ c.live-live.ensures refl c.condition_rows.ensures.value
 
-pub returns-clause-passes : goal.returns-clause-passes
-returns-clause-passes g c =
-    passes-where (vector_at (g.C.Columns.state c.args.columns.now) c.args.batch c.args.vector) (Some c.args.condition.now) c.args.condition.now _ _
-    (live-some (vector_at (g.C.Columns.state c.args.columns.now) c.args.batch c.args.vector) c.live-live.result _ c.live-live.ensures refl (c.has_rows.ensures.some c.if-not-has_rows.false)) refl c.condition_rows.ensures.passes
+pub returns-clause-read : goal.returns-clause-read
+returns-clause-read g c = record {
+  table = c.condition_rows.ensures.read.table;
+  state = c.condition_rows.ensures.read.state;
+  passes =
+      passes-where (vector_at (g.C.Columns.seen c.args.columns.now).state c.args.id.batch c.args.id.vector) (Some c.args.condition.now) c.args.condition.now _ _
+      (live-some (vector_at (g.C.Columns.seen c.args.columns.now).state c.args.id.batch c.args.id.vector) c.live-live.result _ c.live-live.ensures refl (c.has_rows.ensures.some c.if-not-has_rows.false)) refl c.condition_rows.ensures.read.passes;
+}

@@ -12,8 +12,8 @@ use Rattle.query_eval.proofs.filter.matches.matching.Goals as goal
 
 pub loop-batch-preserved : goal.loop-batch-preserved
 loop-batch-preserved g c =
-    let s = g.C.Columns.state c.args.columns.now in
-    let table = g.C.Columns.table c.args.columns.now in
+    let s = (g.C.Columns.seen c.args.columns.now).state in
+    let table = (g.C.Columns.seen c.args.columns.now).table in
     let condition = c.args.condition.now in
     let i = c.loop-batch.batch in
     let inv = c.loop-batch.invariant in
@@ -21,20 +21,20 @@ loop-batch-preserved g c =
     record {
       names =
           c.in_ok-match_batch.ensures.names
-          ∙ ap (λ l. l ++ names_kept (g.C.Columns.table c.loop-batch.columns) (Some condition) (batch_rows (g.C.Columns.state c.loop-batch.columns) i)) inv.names
-          ∙ ap (λ (x : State). names_kept table (Some condition) (first_rows s i) ++ names_kept (g.C.Columns.table c.loop-batch.columns) (Some condition) (batch_rows x i)) inv.state
+          ∙ ap (λ l. l ++ names_kept (g.C.Columns.seen c.loop-batch.columns).table (Some condition) (batch_rows (g.C.Columns.seen c.loop-batch.columns).state i)) inv.names
+          ∙ ap (λ (x : State). names_kept table (Some condition) (first_rows s i) ++ names_kept (g.C.Columns.seen c.loop-batch.columns).table (Some condition) (batch_rows x i)) inv.state
           ∙ ap (λ (t : Table). names_kept table (Some condition) (first_rows s i) ++ names_kept t (Some condition) (batch_rows s i)) inv.table
           ∙ sym (names_kept-append table (Some condition) (first_rows s i) (batch_rows s i))
           ∙ ap (names_kept table (Some condition)) (sym (first_rows-more s i within));
-      table = c.match_batch.ensures.table ∙ inv.table;
-      state = c.match_batch.ensures.state ∙ inv.state;
+      table = c.match_batch.ensures.same.table ∙ inv.table;
+      state = c.match_batch.ensures.same.state ∙ inv.state;
       passes = passes-batch s _ i (condition_mentions condition) _ _ _ inv.state inv.passes c.in_ok-match_batch.ensures.passes;
     }
 
 pub returns-clause-value : goal.returns-clause-value
 unfolding names_where
 returns-clause-value g c =
-    let s = g.C.Columns.state c.args.columns.now in
-    let table = g.C.Columns.table c.args.columns.now in
+    let s = (g.C.Columns.seen c.args.columns.now).state in
+    let table = (g.C.Columns.seen c.args.columns.now).table in
     c.loop-batch.invariant.names
     ∙ ap (names_kept table (Some c.args.condition.now)) (first_rows-all s c.loop-batch.batch (omega (arith, c.batches-batch-end.ensures.count)))

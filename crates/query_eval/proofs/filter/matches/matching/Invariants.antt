@@ -7,11 +7,11 @@ use Rattle.query_eval.proofs.filter.matches.matching.Given as goal
 
 abbrev pub invariant-loop-batch : goal.invariant-loop-batch
 invariant-loop-batch g l =
-    let s = g.C.Columns.state l.initial.columns in
-    let table = g.C.Columns.table l.initial.columns in
+    let s = (g.C.Columns.seen l.initial.columns).state in
+    let table = (g.C.Columns.seen l.initial.columns).table in
     record {
       names : l.names.items ≡ names_kept table (Some l.condition) (first_rows s l.batch);
-      table : g.C.Columns.table l.columns ≡ table;
-      state : g.C.Columns.state l.columns ≡ s;
-      passes : g.C.Columns.passes l.columns ≤ g.C.Columns.passes l.initial.columns + condition_mentions l.condition * live_vectors_below s l.batch;
+      table : (g.C.Columns.seen l.columns).table ≡ table;
+      state : (g.C.Columns.seen l.columns).state ≡ s;
+      passes : (g.C.Columns.seen l.columns).passes ≤ (g.C.Columns.seen l.initial.columns).passes + condition_mentions l.condition * live_vectors_below s l.batch;
     }

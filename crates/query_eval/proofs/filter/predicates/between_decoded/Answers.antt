@@ -7,8 +7,8 @@ use Rattle.query_eval.proofs.filter.predicates.between_decoded.Goals as goal
 
 pub returns-clause-value : goal.returns-clause-value
 returns-clause-value g c =
-    decoded_between (vector_at (g.C.Columns.state c.args.columns.now) c.args.batch c.args.vector) _ _ c.args.operand c.args.low c.args.high c.decode-operand.result c.decode-low.result c.decode-high.result c.args.mask.now _
+    decoded_between (vector_at (g.C.Columns.seen c.args.columns.now).state c.args.id.batch c.args.id.vector) _ _ c.args.operand c.args.low c.args.high c.decode-operand.result c.decode-low.result c.decode-high.result c.args.mask.now _
     c.decode-operand.ensures.value c.decode-low.ensures.value c.decode-high.ensures.value
-    (ap (λ (s : State). vector_at s c.args.batch c.args.vector) c.decode-operand.ensures.state)
-    (ap (λ (s : State). vector_at s c.args.batch c.args.vector) (c.decode-low.ensures.state ∙ c.decode-operand.ensures.state))
+    (ap (λ (s : State). vector_at s c.args.id.batch c.args.id.vector) c.decode-operand.ensures.read.state)
+    (ap (λ (s : State). vector_at s c.args.id.batch c.args.id.vector) (c.decode-low.ensures.read.state ∙ c.decode-operand.ensures.read.state))
     c.between_rows.ensures

@@ -12,7 +12,7 @@ use Rattle.query_eval.proofs.filter.side.null_rows.Goals as goal
 
 pub returns-in-Column : goal.returns-in-Column
 returns-in-Column g c =
-    let v = vector_at (g.C.Columns.state c.args.columns.now) c.args.batch c.args.vector in
+    let v = vector_at (g.C.Columns.seen c.args.columns.now).state c.args.id.batch c.args.id.vector in
     let test : ℕ → Bool = λ n. is_null (whole (cell_at v c.in-Column.column n)) in
     let held = masked c.args.mask.now _ _ _ test (record { yes = c.and-yes.result; no = c.and_not-no.result }) c.nulls-nulls.ensures c.and-yes.ensures c.and_not-no.ensures refl refl in
     subst (λ (side : Side). IsPair c.args.mask.now (λ n. truth_of (is_null (whole (side_at v side n)))) (record { yes = c.and-yes.result; no = c.and_not-no.result })) (sym c.in-Column.is) held

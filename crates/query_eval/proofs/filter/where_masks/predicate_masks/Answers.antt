@@ -14,15 +14,15 @@ returns-then-next_true-eq1024-clause-value g c =
 
 pub returns-in-Between-clause-value : goal.returns-in-Between-clause-value
 returns-in-Between-clause-value g c =
-    let v = vector_at (g.C.Columns.state c.args.columns.now) c.args.batch c.args.vector in
-    subst (λ (p : Predicate). IsPair c.args.mask.now (λ n. predicate_truth (at_row (g.C.Columns.table c.args.columns.now).columns (row_at v n)) p) c.not_if.result) (sym c.in-Between.is) (c.not_if.ensures c.args.mask.now _ c.between_operands.ensures.value)
+    let v = vector_at (g.C.Columns.seen c.args.columns.now).state c.args.id.batch c.args.id.vector in
+    subst (λ (p : Predicate). IsPair c.args.mask.now (λ n. predicate_truth (at_row (g.C.Columns.seen c.args.columns.now).table.columns (row_at v n)) p) c.not_if.result) (sym c.in-Between.is) (c.not_if.ensures c.args.mask.now _ c.between_operands.ensures.value)
 
 pub returns-in-In-clause-value : goal.returns-in-In-clause-value
 returns-in-In-clause-value g c =
-    let v = vector_at (g.C.Columns.state c.args.columns.now) c.args.batch c.args.vector in
-    subst (λ (p : Predicate). IsPair c.args.mask.now (λ n. predicate_truth (at_row (g.C.Columns.table c.args.columns.now).columns (row_at v n)) p) c.not_if-in-In.result) (sym c.in-In.is) (c.not_if-in-In.ensures c.args.mask.now _ c.among_operand.ensures.value)
+    let v = vector_at (g.C.Columns.seen c.args.columns.now).state c.args.id.batch c.args.id.vector in
+    subst (λ (p : Predicate). IsPair c.args.mask.now (λ n. predicate_truth (at_row (g.C.Columns.seen c.args.columns.now).table.columns (row_at v n)) p) c.not_if-in-In.result) (sym c.in-In.is) (c.not_if-in-In.ensures c.args.mask.now _ c.among_operand.ensures.value)
 
 pub returns-in-IsNull-clause-value : goal.returns-in-IsNull-clause-value
 returns-in-IsNull-clause-value g c =
-    let v = vector_at (g.C.Columns.state c.args.columns.now) c.args.batch c.args.vector in
-    subst (λ (p : Predicate). IsPair c.args.mask.now (λ n. predicate_truth (at_row (g.C.Columns.table c.args.columns.now).columns (row_at v n)) p) c.not_if-in-IsNull.result) (sym c.in-IsNull.is) (c.not_if-in-IsNull.ensures c.args.mask.now _ c.null_operand.ensures)
+    let v = vector_at (g.C.Columns.seen c.args.columns.now).state c.args.id.batch c.args.id.vector in
+    subst (λ (p : Predicate). IsPair c.args.mask.now (λ n. predicate_truth (at_row (g.C.Columns.seen c.args.columns.now).table.columns (row_at v n)) p) c.not_if-in-IsNull.result) (sym c.in-IsNull.is) (c.not_if-in-IsNull.ensures c.args.mask.now _ c.null_operand.ensures)

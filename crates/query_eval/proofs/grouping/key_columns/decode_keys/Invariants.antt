@@ -7,10 +7,10 @@ use Rattle.query_eval.proofs.grouping.key_columns.decode_keys.Given as goal
 
 abbrev pub invariant-loop-place : goal.invariant-loop-place
 invariant-loop-place g l =
-    let v = vector_at (g.C.Columns.state l.initial.columns) l.batch l.vector in
+    let v = vector_at (g.C.Columns.seen l.initial.columns).state l.id.batch l.id.vector in
     record {
       cells : (n : ℕ) → n < 1024 → map (λ d. decoded_at d n) l.cells.items ≡ map (cell (row_at v n)) (take l.place-index l.places);
-      table : g.C.Columns.table l.columns ≡ g.C.Columns.table l.initial.columns;
-      state : g.C.Columns.state l.columns ≡ g.C.Columns.state l.initial.columns;
-      passes : g.C.Columns.passes l.columns ≤ g.C.Columns.passes l.initial.columns + l.place-index;
+      table : (g.C.Columns.seen l.columns).table ≡ (g.C.Columns.seen l.initial.columns).table;
+      state : (g.C.Columns.seen l.columns).state ≡ (g.C.Columns.seen l.initial.columns).state;
+      passes : (g.C.Columns.seen l.columns).passes ≤ (g.C.Columns.seen l.initial.columns).passes + l.place-index;
     }

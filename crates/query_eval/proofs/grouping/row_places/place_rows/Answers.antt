@@ -7,7 +7,7 @@ use Rattle.query_eval.proofs.grouping.row_places.place_rows.Goals as goal
 
 pub returns-clause-placed : goal.returns-clause-placed
 returns-clause-placed g c = λ h.
-    let v = vector_at (g.C.Columns.state c.args.columns.now) c.args.kept.now.batch c.args.kept.now.vector in
+    let v = vector_at (g.C.Columns.seen c.args.columns.now).state c.args.kept.now.id.batch c.args.kept.now.id.vector in
     let by = c.args.grouping.now in
     split_all by v c.args.kept.now.rows c.args.places.now.index c.slice_rows.new.places.index c.place_each.new.places.index _
     (c.in_ok-left.ensures.sliced by v (λ n l. ap (map (λ d. decoded_at d n)) c.as_slice.ensures.value ∙ c.in_ok-keys.ensures.cells n l) h)

@@ -13,13 +13,13 @@ use Rattle.query_eval.proofs.tallies.split_tallies.add_column.Goals as goal
 
 pub returns-in-Rows-clause-taken : goal.returns-in-Rows-clause-taken
 returns-in-Rows-clause-taken g c =
-    let v = vector_at (g.C.Columns.state c.args.columns.now) c.args.kept.now.batch c.args.kept.now.vector in
+    let v = vector_at (g.C.Columns.seen c.args.columns.now).state c.args.kept.now.id.batch c.args.kept.now.id.vector in
     taken c.args.aggregate v c.args.split.now c.args.count c.args.tallies.now.items c.add_groups.new.tallies.items c.count_split.new.tallies.items c.in_ok-add_groups.ensures.size c.in_ok-add_groups.ensures.known c.in_ok-add_groups.ensures.fresh
     c.count_split.ensures.size (c.count_split.ensures.held c.args.aggregate v (ap aggregate_kind c.in-Rows.is) (subst (λ (a : Aggregate). AreNulls a v c.none.result) (sym c.in-Rows.is) (nulls_none v c.none.result c.none.ensures)))
 
 pub returns-in_ok-add_values-in-Folded-clause-taken : goal.returns-in_ok-add_values-in-Folded-clause-taken
 returns-in_ok-add_values-in-Folded-clause-taken g c =
-    let v = vector_at (g.C.Columns.state c.args.columns.now) c.args.kept.now.batch c.args.kept.now.vector in
+    let v = vector_at (g.C.Columns.seen c.args.columns.now).state c.args.kept.now.id.batch c.args.kept.now.id.vector in
     let split = c.args.split.now in
     let mid = c.add_groups.new.tallies.items in
     let new = c.add_values.new.tallies.items in

@@ -11,9 +11,9 @@ use Rattle.query_eval.proofs.tallies.split_tallies.add_columns.Given as goal
 abbrev pub invariant-loop-i : goal.invariant-loop-i
 invariant-loop-i g l = record {
   size : length l.tallies.items ≡ length l.initial.tallies.items;
-  taken : (j : ℕ) (a : Aggregate) (c : Vec Tally) → j < l.i → IsTaken (get_or l.aggregates j a) (vector_at (g.C.Columns.state l.initial.columns) l.kept.batch l.kept.vector) l.split l.count (get_or l.initial.tallies.items j c).items (get_or l.tallies.items j c).items;
+  taken : (j : ℕ) (a : Aggregate) (c : Vec Tally) → j < l.i → IsTaken (get_or l.aggregates j a) (vector_at (g.C.Columns.seen l.initial.columns).state l.kept.id.batch l.kept.id.vector) l.split l.count (get_or l.initial.tallies.items j c).items (get_or l.tallies.items j c).items;
   ahead : (j : ℕ) (c : Vec Tally) → l.i ≤ j → get_or l.tallies.items j c ≡ get_or l.initial.tallies.items j c;
-  table : g.C.Columns.table l.columns ≡ g.C.Columns.table l.initial.columns;
-  state : g.C.Columns.state l.columns ≡ g.C.Columns.state l.initial.columns;
-  passes : g.C.Columns.passes l.columns ≤ g.C.Columns.passes l.initial.columns + sum_by aggregate_mentions (take l.i l.aggregates);
+  table : (g.C.Columns.seen l.columns).table ≡ (g.C.Columns.seen l.initial.columns).table;
+  state : (g.C.Columns.seen l.columns).state ≡ (g.C.Columns.seen l.initial.columns).state;
+  passes : (g.C.Columns.seen l.columns).passes ≤ (g.C.Columns.seen l.initial.columns).passes + sum_by aggregate_mentions (take l.i l.aggregates);
 }

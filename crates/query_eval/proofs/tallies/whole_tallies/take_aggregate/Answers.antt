@@ -13,7 +13,7 @@ use Rattle.query_eval.proofs.tallies.whole_tallies.take_aggregate.Goals as goal
 
 pub returns-in-Rows-clause-held : goal.returns-in-Rows-clause-held
 returns-in-Rows-clause-held g c = λ rows h.
-    let v = vector_at (g.C.Columns.state c.args.columns.now) c.args.kept.now.batch c.args.kept.now.vector in
+    let v = vector_at (g.C.Columns.seen c.args.columns.now).state c.args.kept.now.id.batch c.args.kept.now.id.vector in
     let mask = c.args.kept.now.rows in
     let t = c.args.tally.now in
     let u = c.count_more.new.self in
@@ -23,7 +23,7 @@ returns-in-Rows-clause-held g c = λ rows h.
 
 pub returns-in_ok-take_values-in-Folded-clause-held : goal.returns-in_ok-take_values-in-Folded-clause-held
 returns-in_ok-take_values-in-Folded-clause-held g c = λ rows h.
-    let v = vector_at (g.C.Columns.state c.args.columns.now) c.args.kept.now.batch c.args.kept.now.vector in
+    let v = vector_at (g.C.Columns.seen c.args.columns.now).state c.args.kept.now.id.batch c.args.kept.now.id.vector in
     let mask = c.args.kept.now.rows in
     let t = c.args.tally.now in
     let u = c.take_values.new.tally in
@@ -32,10 +32,10 @@ returns-in_ok-take_values-in-Folded-clause-held g c = λ rows h.
 
 pub returns-else-place-column_list-clause-held : goal.returns-else-place-column_list-clause-held
 returns-else-place-column_list-clause-held g c = λ rows h.
-    let table = g.C.Columns.table c.args.columns.now in
-    let state = g.C.Columns.state c.args.columns.now in
-    let batch = c.args.kept.now.batch in
-    let vector = c.args.kept.now.vector in
+    let table = (g.C.Columns.seen c.args.columns.now).table in
+    let state = (g.C.Columns.seen c.args.columns.now).state in
+    let batch = c.args.kept.now.id.batch in
+    let vector = c.args.kept.now.id.vector in
     let t = c.args.tally.now in
     let all : length c.column_list.result.now ≡ length table.columns = ap (λ (cs : List ColumnShape). length cs) c.column_list.ensures.list ∙ ap (λ (x : Table). length x.columns) c.schema.ensures in
     let past : length table.columns ≤ c.in-Folded.place = omega (arith, all, c.if-place-column_list.false) in

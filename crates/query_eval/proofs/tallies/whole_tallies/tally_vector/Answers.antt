@@ -19,10 +19,10 @@ loop-i-preserved g c =
     let now = c.loop-i.tallies.items in
     let m = c.index_mut.result.now in
     let u = c.take_aggregate.new.tally in
-    let batch = c.args.kept.now.batch in
-    let vector = c.args.kept.now.vector in
+    let batch = c.args.kept.now.id.batch in
+    let vector = c.args.kept.now.id.vector in
     let mask = c.args.kept.now.rows in
-    let more : List Cells = rows_at (vector_at (g.C.Columns.state c.args.columns.now) batch vector) mask in
+    let more : List Cells = rows_at (vector_at (g.C.Columns.seen c.args.columns.now).state batch vector) mask in
     let ln : i < length named = omega (arith, c.loop-i-test.true, c.len.ensures, c.min-named.ensures) in
     let lo : i < length old = omega (arith, c.loop-i-test.true, c.len.ensures, c.min-named.ensures) in
     let mine : m ≡ get_or now i m = search rules in
@@ -33,9 +33,9 @@ loop-i-preserved g c =
           tallies_held named rows more i old now m u inv.size ln lo inv.ahead mine (inv.held rows h)
           (subst (λ (x : State). IsHeld rows (get_or named i Rows) m → IsHeld (rows ++ rows_at (vector_at x batch vector) mask) (get_or named i Rows) u) inv.state (c.in_ok-take_aggregate.ensures.held rows)) (h.each i Rows m ln);
       ahead = tallies_ahead named [] more i old now m u inv.size ln lo inv.ahead;
-      table = c.take_aggregate.ensures.table ∙ inv.table;
-      state = c.take_aggregate.ensures.state ∙ inv.state;
-      passes = omega (arith, added, c.take_aggregate.ensures.passes, inv.passes);
+      table = c.take_aggregate.ensures.read.table ∙ inv.table;
+      state = c.take_aggregate.ensures.read.state ∙ inv.state;
+      passes = omega (arith, added, c.take_aggregate.ensures.read.passes, inv.passes);
     }
 
 pub returns-clause-tallied : goal.returns-clause-tallied
@@ -44,5 +44,10 @@ returns-clause-tallied g c = λ rows h. record {
   each = λ i a t l. c.loop-i.invariant.held rows h i a t (omega (arith, l, h.size, c.loop-i-test.false, c.len.ensures, c.min-named.ensures));
 }
 
-pub returns-clause-passes : goal.returns-clause-passes
-returns-clause-passes g c = omega (arith, c.loop-i.invariant.passes, sum_by-take-le aggregate_mentions c.args.aggregates.now c.loop-i.i)
+pub returns-clause-read : goal.returns-clause-read
+returns-clause-read g c = record {
+  table = c.loop-i.invariant.table;
+  state = c.loop-i.invariant.state;
+  passes =
+      omega (arith, c.loop-i.invariant.passes, sum_by-take-le aggregate_mentions c.args.aggregates.now c.loop-i.i);
+}

@@ -13,9 +13,9 @@ use Rattle.query_eval.proofs.tallies.whole_tallies.tally_vector.Given as goal
 abbrev pub invariant-loop-i : goal.invariant-loop-i
 invariant-loop-i g l = record {
   size : length l.tallies.items ≡ length l.initial.tallies.items;
-  held : (rows : List Cells) → AreTallied l.aggregates rows l.initial.tallies.items → (j : ℕ) (a : Aggregate) (t : Tally) → j < l.i → IsHeld (rows ++ rows_at (vector_at (g.C.Columns.state l.initial.columns) l.kept.batch l.kept.vector) l.kept.rows) (get_or l.aggregates j a) (get_or l.tallies.items j t);
+  held : (rows : List Cells) → AreTallied l.aggregates rows l.initial.tallies.items → (j : ℕ) (a : Aggregate) (t : Tally) → j < l.i → IsHeld (rows ++ rows_at (vector_at (g.C.Columns.seen l.initial.columns).state l.kept.id.batch l.kept.id.vector) l.kept.rows) (get_or l.aggregates j a) (get_or l.tallies.items j t);
   ahead : (j : ℕ) (t : Tally) → l.i ≤ j → get_or l.tallies.items j t ≡ get_or l.initial.tallies.items j t;
-  table : g.C.Columns.table l.columns ≡ g.C.Columns.table l.initial.columns;
-  state : g.C.Columns.state l.columns ≡ g.C.Columns.state l.initial.columns;
-  passes : g.C.Columns.passes l.columns ≤ g.C.Columns.passes l.initial.columns + sum_by aggregate_mentions (take l.i l.aggregates);
+  table : (g.C.Columns.seen l.columns).table ≡ (g.C.Columns.seen l.initial.columns).table;
+  state : (g.C.Columns.seen l.columns).state ≡ (g.C.Columns.seen l.initial.columns).state;
+  passes : (g.C.Columns.seen l.columns).passes ≤ (g.C.Columns.seen l.initial.columns).passes + sum_by aggregate_mentions (take l.i l.aggregates);
 }

@@ -12,16 +12,16 @@ use Rattle.query_eval.proofs.PredicateLemmas.{pair_alike}
 use Rattle.query_eval_tests.proofs.plain_columns.PlainColumnsColumns.compare_range.Goals as goal
 
 pub decoded-cells-requires : goal.decoded-cells-requires
-decoded-cells-requires c = there_plain c.args.self.now.rows c.args._batch c.args.vector c.requires.there
+decoded-cells-requires c = there_plain c.args.self.now.rows c.args.id.batch c.args.id.vector c.requires.there
 
 pub returns-clause-yes : goal.returns-clause-yes
 returns-clause-yes c =
-    let v = vector_at (plain_state c.args.self.now.rows) c.args._batch c.args.vector in
-    let same = sym (vector_plain c.args.self.now.rows c.args._batch c.args.vector c.requires.there) in
+    let v = vector_at (plain_state c.args.self.now.rows) c.args.id.batch c.args.id.vector in
+    let same = sym (vector_plain c.args.self.now.rows c.args.id.batch c.args.id.vector c.requires.there) in
     (pair_alike c.args.mask.now _ (λ n. and_of (comparison GreaterOrEqual (cell_at v c.args.column n) (Some c.args.low)) (comparison LessOrEqual (cell_at v c.args.column n) (Some c.args.high))) c.range_rows-pair.result (λ n l. between_same _ _ _ _ _ _ (c.decoded-cells.ensures n l ∙ ap (λ (x : Vector). cell_at x c.args.column n) same) (ap (λ (z : ℤ). Some z) (to_z-of_z w128 c.args.low c.ranges.low)) (ap (λ (z : ℤ). Some z) (to_z-of_z w128 c.args.high c.ranges.high))) c.range_rows-pair.ensures).yes
 
 pub returns-clause-no : goal.returns-clause-no
 returns-clause-no c =
-    let v = vector_at (plain_state c.args.self.now.rows) c.args._batch c.args.vector in
-    let same = sym (vector_plain c.args.self.now.rows c.args._batch c.args.vector c.requires.there) in
+    let v = vector_at (plain_state c.args.self.now.rows) c.args.id.batch c.args.id.vector in
+    let same = sym (vector_plain c.args.self.now.rows c.args.id.batch c.args.id.vector c.requires.there) in
     (pair_alike c.args.mask.now _ (λ n. and_of (comparison GreaterOrEqual (cell_at v c.args.column n) (Some c.args.low)) (comparison LessOrEqual (cell_at v c.args.column n) (Some c.args.high))) c.range_rows-pair.result (λ n l. between_same _ _ _ _ _ _ (c.decoded-cells.ensures n l ∙ ap (λ (x : Vector). cell_at x c.args.column n) same) (ap (λ (z : ℤ). Some z) (to_z-of_z w128 c.args.low c.ranges.low)) (ap (λ (z : ℤ). Some z) (to_z-of_z w128 c.args.high c.ranges.high))) c.range_rows-pair.ensures).no

@@ -9,14 +9,14 @@ use Rattle.query_eval_tests.proofs.plain_columns.PlainColumnsColumns.live.Goals 
 
 pub overflow_mul-left : goal.overflow_mul-left
 overflow_mul-left c =
-    let h : 1024 * c.args.vector < length c.args.self.now.rows = there_plain c.args.self.now.rows c.args._batch c.args.vector c.requires in
+    let h : 1024 * c.args.id.vector < length c.args.self.now.rows = there_plain c.args.self.now.rows c.args.id.batch c.args.id.vector c.requires in
     let e : length c.self.inside.rows ≡ length c.args.self.now.rows = ap (λ (p : PlainForm). length p.rows) c.self.view_is in
     let l = batch_limit c.self.inside.schema c.self.inside.rows c.self.invariant in
     omega arith
 
 pub overflow_sub-left : goal.overflow_sub-left
 overflow_sub-left c =
-    let h : 1024 * c.args.vector < length c.args.self.now.rows = there_plain c.args.self.now.rows c.args._batch c.args.vector c.requires in
+    let h : 1024 * c.args.id.vector < length c.args.self.now.rows = there_plain c.args.self.now.rows c.args.id.batch c.args.id.vector c.requires in
     let e : length c.self.inside.rows ≡ length c.args.self.now.rows = ap (λ (p : PlainForm). length p.rows) c.self.view_is in
     let f : length c.as_slice.result.now ≡ length c.self.inside.rows = ap (λ (l : Batch). length l) c.as_slice.ensures in
     omega arith
@@ -27,7 +27,7 @@ returns c =
     let e : length c.self.inside.rows ≡ length rows = ap (λ (p : PlainForm). length p.rows) c.self.view_is in
     let f : length c.as_slice.result.now ≡ length c.self.inside.rows = ap (λ (l : Batch). length l) c.as_slice.ensures in
     let m = c.min.ensures in
-    let last : c.min.result ≡ min (length rows - 1024 * c.args.vector) 1024 = omega arith in
+    let last : c.min.result ≡ min (length rows - 1024 * c.args.id.vector) 1024 = omega arith in
     c.set_range.ensures
-    ∙ live_plain rows c.args.vector c.min.result c.none-live.result c.none-live.ensures last
-    ∙ ap (λ (v : Vector). rows_of (is_live v)) (sym (vector_plain rows c.args._batch c.args.vector c.requires))
+    ∙ live_plain rows c.args.id.vector c.min.result c.none-live.result c.none-live.ensures last
+    ∙ ap (λ (v : Vector). rows_of (is_live v)) (sym (vector_plain rows c.args.id.batch c.args.id.vector c.requires))

@@ -8,7 +8,7 @@ use Rattle.query_eval_tests.proofs.PlainLemmas.{there_plain, vector_plain}
 use Rattle.query_eval_tests.proofs.plain_columns.PlainColumnsColumns.nulls.Goals as goal
 
 pub nulls_at-requires : goal.nulls_at-requires
-nulls_at-requires c = there_plain c.args.self.now.rows c.args._batch c.args.vector c.requires.there
+nulls_at-requires c = there_plain c.args.self.now.rows c.args.id.batch c.args.id.vector c.requires.there
 
 pub returns : goal.returns
-returns c = c.nulls_at.ensures ∙ ap (λ (v : Vector). rows_of (λ n. is_null (whole (cell_at v c.args.column n)))) (sym (vector_plain c.args.self.now.rows c.args._batch c.args.vector c.requires.there))
+returns c = c.nulls_at.ensures ∙ ap (λ (v : Vector). rows_of (λ n. is_null (whole (cell_at v c.args.column n)))) (sym (vector_plain c.args.self.now.rows c.args.id.batch c.args.id.vector c.requires.there))

@@ -13,14 +13,14 @@ pub returns-clause-yes : goal.returns-clause-yes
 returns-clause-yes c =
     let s = c.self.inside.store.now.replica.state in
     c.compare_vector.ensures.yes
-    ∙ compare_yes c.vector_in-found.result.now (vector_at s c.args.batch c.args.vector) c.args.column c.vector_in-found.ensures c.args.op _ c.args.mask.now
-    ∙ ap (λ z. yes_of c.args.mask.now (λ n. comparison c.args.op (cell_at (vector_at s c.args.batch c.args.vector) c.args.column n) (Some z))) (to_z-of_z w128 c.args.literal c.ranges.literal)
-    ∙ ap (λ (v : ViewForm). yes_of c.args.mask.now (λ n. comparison c.args.op (cell_at (vector_at v.state c.args.batch c.args.vector) c.args.column n) (Some c.args.literal))) c.self.view_is
+    ∙ compare_yes c.vector_in-found.result.now (vector_at s c.args.id.batch c.args.id.vector) c.args.column c.vector_in-found.ensures c.args.op _ c.args.mask.now
+    ∙ ap (λ z. yes_of c.args.mask.now (λ n. comparison c.args.op (cell_at (vector_at s c.args.id.batch c.args.id.vector) c.args.column n) (Some z))) (to_z-of_z w128 c.args.literal c.ranges.literal)
+    ∙ ap (λ (v : ViewForm). yes_of c.args.mask.now (λ n. comparison c.args.op (cell_at (vector_at v.state c.args.id.batch c.args.id.vector) c.args.column n) (Some c.args.literal))) c.self.view_is
 
 pub returns-clause-no : goal.returns-clause-no
 returns-clause-no c =
     let s = c.self.inside.store.now.replica.state in
     c.compare_vector.ensures.no
-    ∙ compare_no c.vector_in-found.result.now (vector_at s c.args.batch c.args.vector) c.args.column c.vector_in-found.ensures c.args.op _ c.args.mask.now
-    ∙ ap (λ z. no_of c.args.mask.now (λ n. comparison c.args.op (cell_at (vector_at s c.args.batch c.args.vector) c.args.column n) (Some z))) (to_z-of_z w128 c.args.literal c.ranges.literal)
-    ∙ ap (λ (v : ViewForm). no_of c.args.mask.now (λ n. comparison c.args.op (cell_at (vector_at v.state c.args.batch c.args.vector) c.args.column n) (Some c.args.literal))) c.self.view_is
+    ∙ compare_no c.vector_in-found.result.now (vector_at s c.args.id.batch c.args.id.vector) c.args.column c.vector_in-found.ensures c.args.op _ c.args.mask.now
+    ∙ ap (λ z. no_of c.args.mask.now (λ n. comparison c.args.op (cell_at (vector_at s c.args.id.batch c.args.id.vector) c.args.column n) (Some z))) (to_z-of_z w128 c.args.literal c.ranges.literal)
+    ∙ ap (λ (v : ViewForm). no_of c.args.mask.now (λ n. comparison c.args.op (cell_at (vector_at v.state c.args.id.batch c.args.id.vector) c.args.column n) (Some c.args.literal))) c.self.view_is

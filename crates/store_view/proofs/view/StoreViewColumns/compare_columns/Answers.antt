@@ -11,12 +11,12 @@ pub returns-clause-yes : goal.returns-clause-yes
 returns-clause-yes c =
     let s = c.self.inside.store.now.replica.state in
     c.compare_vectors.ensures.yes
-    ∙ columns_yes c.vector_in-left.result.now c.vector_in-right.result.now (vector_at s c.args.batch c.args.vector) c.args.left c.args.right c.vector_in-left.ensures c.vector_in-right.ensures c.args.op c.args.mask.now
-    ∙ ap (λ (v : ViewForm). yes_of c.args.mask.now (λ n. comparison c.args.op (cell_at (vector_at v.state c.args.batch c.args.vector) c.args.left n) (cell_at (vector_at v.state c.args.batch c.args.vector) c.args.right n))) c.self.view_is
+    ∙ columns_yes c.vector_in-left.result.now c.vector_in-right.result.now (vector_at s c.args.id.batch c.args.id.vector) c.args.left c.args.right c.vector_in-left.ensures c.vector_in-right.ensures c.args.op c.args.mask.now
+    ∙ ap (λ (v : ViewForm). yes_of c.args.mask.now (λ n. comparison c.args.op (cell_at (vector_at v.state c.args.id.batch c.args.id.vector) c.args.left n) (cell_at (vector_at v.state c.args.id.batch c.args.id.vector) c.args.right n))) c.self.view_is
 
 pub returns-clause-no : goal.returns-clause-no
 returns-clause-no c =
     let s = c.self.inside.store.now.replica.state in
     c.compare_vectors.ensures.no
-    ∙ columns_no c.vector_in-left.result.now c.vector_in-right.result.now (vector_at s c.args.batch c.args.vector) c.args.left c.args.right c.vector_in-left.ensures c.vector_in-right.ensures c.args.op c.args.mask.now
-    ∙ ap (λ (v : ViewForm). no_of c.args.mask.now (λ n. comparison c.args.op (cell_at (vector_at v.state c.args.batch c.args.vector) c.args.left n) (cell_at (vector_at v.state c.args.batch c.args.vector) c.args.right n))) c.self.view_is
+    ∙ columns_no c.vector_in-left.result.now c.vector_in-right.result.now (vector_at s c.args.id.batch c.args.id.vector) c.args.left c.args.right c.vector_in-left.ensures c.vector_in-right.ensures c.args.op c.args.mask.now
+    ∙ ap (λ (v : ViewForm). no_of c.args.mask.now (λ n. comparison c.args.op (cell_at (vector_at v.state c.args.id.batch c.args.id.vector) c.args.left n) (cell_at (vector_at v.state c.args.id.batch c.args.id.vector) c.args.right n))) c.self.view_is

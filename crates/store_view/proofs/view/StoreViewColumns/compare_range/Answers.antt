@@ -14,16 +14,16 @@ pub returns-clause-yes : goal.returns-clause-yes
 returns-clause-yes c =
     let s = c.self.inside.store.now.replica.state in
     c.compare_vector_range.ensures.yes
-    ∙ range_yes c.vector_in-found.result.now (vector_at s c.args.batch c.args.vector) c.args.column c.vector_in-found.ensures _ _ c.args.mask.now
-    ∙ ap (λ z. yes_of c.args.mask.now (λ n. and_of (comparison GreaterOrEqual (cell_at (vector_at s c.args.batch c.args.vector) c.args.column n) (Some z)) (comparison LessOrEqual (cell_at (vector_at s c.args.batch c.args.vector) c.args.column n) (Some (to_z w128 (of_z w128 c.args.high)))))) (to_z-of_z w128 c.args.low c.ranges.low)
-    ∙ ap (λ z. yes_of c.args.mask.now (λ n. and_of (comparison GreaterOrEqual (cell_at (vector_at s c.args.batch c.args.vector) c.args.column n) (Some c.args.low)) (comparison LessOrEqual (cell_at (vector_at s c.args.batch c.args.vector) c.args.column n) (Some z)))) (to_z-of_z w128 c.args.high c.ranges.high)
-    ∙ ap (λ (v : ViewForm). yes_of c.args.mask.now (λ n. and_of (comparison GreaterOrEqual (cell_at (vector_at v.state c.args.batch c.args.vector) c.args.column n) (Some c.args.low)) (comparison LessOrEqual (cell_at (vector_at v.state c.args.batch c.args.vector) c.args.column n) (Some c.args.high)))) c.self.view_is
+    ∙ range_yes c.vector_in-found.result.now (vector_at s c.args.id.batch c.args.id.vector) c.args.column c.vector_in-found.ensures _ _ c.args.mask.now
+    ∙ ap (λ z. yes_of c.args.mask.now (λ n. and_of (comparison GreaterOrEqual (cell_at (vector_at s c.args.id.batch c.args.id.vector) c.args.column n) (Some z)) (comparison LessOrEqual (cell_at (vector_at s c.args.id.batch c.args.id.vector) c.args.column n) (Some (to_z w128 (of_z w128 c.args.high)))))) (to_z-of_z w128 c.args.low c.ranges.low)
+    ∙ ap (λ z. yes_of c.args.mask.now (λ n. and_of (comparison GreaterOrEqual (cell_at (vector_at s c.args.id.batch c.args.id.vector) c.args.column n) (Some c.args.low)) (comparison LessOrEqual (cell_at (vector_at s c.args.id.batch c.args.id.vector) c.args.column n) (Some z)))) (to_z-of_z w128 c.args.high c.ranges.high)
+    ∙ ap (λ (v : ViewForm). yes_of c.args.mask.now (λ n. and_of (comparison GreaterOrEqual (cell_at (vector_at v.state c.args.id.batch c.args.id.vector) c.args.column n) (Some c.args.low)) (comparison LessOrEqual (cell_at (vector_at v.state c.args.id.batch c.args.id.vector) c.args.column n) (Some c.args.high)))) c.self.view_is
 
 pub returns-clause-no : goal.returns-clause-no
 returns-clause-no c =
     let s = c.self.inside.store.now.replica.state in
     c.compare_vector_range.ensures.no
-    ∙ range_no c.vector_in-found.result.now (vector_at s c.args.batch c.args.vector) c.args.column c.vector_in-found.ensures _ _ c.args.mask.now
-    ∙ ap (λ z. no_of c.args.mask.now (λ n. and_of (comparison GreaterOrEqual (cell_at (vector_at s c.args.batch c.args.vector) c.args.column n) (Some z)) (comparison LessOrEqual (cell_at (vector_at s c.args.batch c.args.vector) c.args.column n) (Some (to_z w128 (of_z w128 c.args.high)))))) (to_z-of_z w128 c.args.low c.ranges.low)
-    ∙ ap (λ z. no_of c.args.mask.now (λ n. and_of (comparison GreaterOrEqual (cell_at (vector_at s c.args.batch c.args.vector) c.args.column n) (Some c.args.low)) (comparison LessOrEqual (cell_at (vector_at s c.args.batch c.args.vector) c.args.column n) (Some z)))) (to_z-of_z w128 c.args.high c.ranges.high)
-    ∙ ap (λ (v : ViewForm). no_of c.args.mask.now (λ n. and_of (comparison GreaterOrEqual (cell_at (vector_at v.state c.args.batch c.args.vector) c.args.column n) (Some c.args.low)) (comparison LessOrEqual (cell_at (vector_at v.state c.args.batch c.args.vector) c.args.column n) (Some c.args.high)))) c.self.view_is
+    ∙ range_no c.vector_in-found.result.now (vector_at s c.args.id.batch c.args.id.vector) c.args.column c.vector_in-found.ensures _ _ c.args.mask.now
+    ∙ ap (λ z. no_of c.args.mask.now (λ n. and_of (comparison GreaterOrEqual (cell_at (vector_at s c.args.id.batch c.args.id.vector) c.args.column n) (Some z)) (comparison LessOrEqual (cell_at (vector_at s c.args.id.batch c.args.id.vector) c.args.column n) (Some (to_z w128 (of_z w128 c.args.high)))))) (to_z-of_z w128 c.args.low c.ranges.low)
+    ∙ ap (λ z. no_of c.args.mask.now (λ n. and_of (comparison GreaterOrEqual (cell_at (vector_at s c.args.id.batch c.args.id.vector) c.args.column n) (Some c.args.low)) (comparison LessOrEqual (cell_at (vector_at s c.args.id.batch c.args.id.vector) c.args.column n) (Some z)))) (to_z-of_z w128 c.args.high c.ranges.high)
+    ∙ ap (λ (v : ViewForm). no_of c.args.mask.now (λ n. and_of (comparison GreaterOrEqual (cell_at (vector_at v.state c.args.id.batch c.args.id.vector) c.args.column n) (Some c.args.low)) (comparison LessOrEqual (cell_at (vector_at v.state c.args.id.batch c.args.id.vector) c.args.column n) (Some c.args.high)))) c.self.view_is

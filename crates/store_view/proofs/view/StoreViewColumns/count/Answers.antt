@@ -9,5 +9,5 @@ pub returns : goal.returns
 returns c =
     let s = c.self.inside.store.now.replica.state in
     c.count.ensures
-    ∙ ap length (same_values c.vector_in-found.result.now (vector_at s c.args.batch c.args.vector) c.args.column c.vector_in-found.ensures c.args.mask.now)
-    ∙ ap (λ (v : ViewForm). length (looked_at (vector_at v.state c.args.batch c.args.vector) c.args.column c.args.mask.now)) c.self.view_is
+    ∙ ap length (same_values c.vector_in-found.result.now (vector_at s c.args.id.batch c.args.id.vector) c.args.column c.vector_in-found.ensures c.args.mask.now)
+    ∙ ap (λ (v : ViewForm). length (looked_at (vector_at v.state c.args.id.batch c.args.id.vector) c.args.column c.args.mask.now)) c.self.view_is

@@ -13,5 +13,5 @@ pub returns : goal.returns
 returns c =
     let s = c.self.inside.store.now.replica.state in
     c.missing_rows.ensures
-    ∙ rows_of-like _ _ (λ n low. null_at c.vector_in-found.result.now (vector_at s c.args.batch c.args.vector) c.args.column c.vector_in-found.ensures n low)
-    ∙ ap (λ (v : ViewForm). rows_of (λ n. is_null (whole (cell_at (vector_at v.state c.args.batch c.args.vector) c.args.column n)))) c.self.view_is
+    ∙ rows_of-like _ _ (λ n low. null_at c.vector_in-found.result.now (vector_at s c.args.id.batch c.args.id.vector) c.args.column c.vector_in-found.ensures n low)
+    ∙ ap (λ (v : ViewForm). rows_of (λ n. is_null (whole (cell_at (vector_at v.state c.args.id.batch c.args.id.vector) c.args.column n)))) c.self.view_is

@@ -13,5 +13,5 @@ returns-clause-value c =
     let s = c.self.inside.store.now.replica.state in
     let fits : FitsSigned w128 c.vector_sum.result = search rules in
     to_z-of_z w128 c.vector_sum.result fits ∙ c.vector_sum.ensures.value
-    ∙ ap total (same_values c.vector_in-found.result.now (vector_at s c.args.batch c.args.vector) c.args.column c.vector_in-found.ensures c.args.mask.now)
-    ∙ ap (λ (v : ViewForm). total (looked_at (vector_at v.state c.args.batch c.args.vector) c.args.column c.args.mask.now)) c.self.view_is
+    ∙ ap total (same_values c.vector_in-found.result.now (vector_at s c.args.id.batch c.args.id.vector) c.args.column c.vector_in-found.ensures c.args.mask.now)
+    ∙ ap (λ (v : ViewForm). total (looked_at (vector_at v.state c.args.id.batch c.args.id.vector) c.args.column c.args.mask.now)) c.self.view_is

@@ -11,7 +11,7 @@ use Rattle.query_eval.proofs.answers.taken_rows.Taken.take.Goals as goal
 pub returns-in_ok-tally_vector-in-Whole-clause-taken : goal.returns-in_ok-tally_vector-in-Whole-clause-taken
 returns-in_ok-tally_vector-in-Whole-clause-taken g c = λ rows h.
     let plan = c.args.plan.now in
-    let more : List Cells = rows_at (vector_at (g.C.Columns.state c.args.columns.now) c.args.kept.now.batch c.args.kept.now.vector) c.args.kept.now.rows in
+    let more : List Cells = rows_at (vector_at (g.C.Columns.seen c.args.columns.now).state c.args.kept.now.id.batch c.args.kept.now.id.vector) c.args.kept.now.rows in
     let before : AreTaken plan rows (Whole c.in-Whole.tallies) = subst (AreTaken plan rows) c.in-Whole.is h in
     let named = sym c.aggregates.ensures in
     let tallied = c.in_ok-tally_vector-in-Whole.ensures.tallied rows (subst (λ (l : List Aggregate). AreTallied l rows c.in-Whole.tallies.items) named before.1) in
