@@ -1,7 +1,7 @@
 -- What a frame's reference and width, the values of runs or the ends of a dictionary leave out.
-use Rattle.std.proofs.Common.{◌≡◌, ℕ, zero, suc, ◌+◌, ◌-◌, ◌*◌, ◌^◌, ◌<◌, ◌≤◌, ◌&&◌, ◌||◌, Bool, true, false, cond, int_le, int_lt, ℤ, pos, negsuc, ◌+ℤ◌, ◌-ℤ◌, ◌≤ℤ◌, ◌<ℤ◌, ◌⊎◌, inl, inr, List, [], ◌∷◌, length, FitsSigned, refl, sym, ap, ◌∙◌, subst, arith}
+use Rattle.std.proofs.Common.{◌≡◌, ℕ, suc, ◌+◌, ◌-◌, ◌^◌, ◌<◌, ◌≤◌, ◌&&◌, ◌||◌, Bool, true, false, cond, int_le, int_lt, ℤ, pos, negsuc, ◌+ℤ◌, ◌-ℤ◌, ◌≤ℤ◌, ◌<ℤ◌, ◌⊎◌, inl, inr, List, [], ◌∷◌, length, FitsSigned, refl, sym, ap, ◌∙◌, arith}
 use Rattle.std.specs.Int.{w8, w16, w32, w64, int_wrap}
-use Rattle.std.specs.List.{All, list_any}
+use Rattle.std.specs.List.{list_any}
 use Rattle.std.proofs.lemmas.Int.{ints}
 use Rattle.std.proofs.lemmas.Bool.{cases_Bool, false≢true}
 use Rattle.std.proofs.Math.Bool.{and-false}
@@ -18,7 +18,7 @@ use Rattle.run_dictionary.specs.Runs.{RunForm, IsRunForm}
 use Rattle.frame_delta.specs.Frame.{FrameForm, IsFrameForm, frame_value}
 use Rattle.run_dictionary.specs.Dict.{DictForm, IsDictForm, dict_value, code_at}
 use Rattle.native_lanes.specs.Frames.{top_value}
-use Rattle.native_lanes.proofs.PackedLemmas.{plain_value, value_within}
+use Rattle.native_lanes.proofs.PackedLemmas.{plain_value}
 use Rattle.fused_kernels.specs.Seen.{between}
 use Rattle.fused_kernels.specs.Bounds.{reaches, frame_may_have, values_may_have}
 use Rattle.fused_kernels.proofs.CodeLemmas.{ascending_rises, some_values}

@@ -14,3 +14,4 @@ pub mod CodeLemmas
 pub mod CodeRangeLemmas
 pub mod CodeSumLemmas
 pub mod OneValueLemmas
+pub mod RowRunLemmas

@@ -1,5 +1,5 @@
 -- What a vector's header, the values of its runs or the ends of its dictionary tell of its values, without a look at its rows.
-use Rattle.std.specs.Prelude.{ℕ, ◌-◌, ◌^◌, Bool, true, cond, ◌&&◌, ◌||◌, ℤ, pos, ◌-ℤ◌, int_le, int_lt, List, length}
+use Rattle.std.specs.Prelude.{◌-◌, ◌^◌, Bool, true, cond, ◌&&◌, ◌||◌, ℤ, pos, ◌-ℤ◌, int_le, int_lt, List, length}
 use Rattle.std.specs.List.{list_any}
 use Rattle.bit_interleave.specs.Range.{value_at}
 use Rattle.frame_delta.specs.Frame.{FrameForm}

@@ -1,3 +1,4 @@
 pub mod Bounds
+pub mod RowRuns
 pub mod Seen
 pub mod VectorSeen

@@ -16,7 +16,9 @@ mod meter;
 mod one_value;
 mod paths;
 mod ranges;
+mod row_codes;
 mod row_counts;
+mod row_runs;
 mod run_folds;
 mod runs;
 mod sums;
@@ -35,5 +37,7 @@ pub use paths::{
     vector_sum,
 };
 pub use ranges::compare_range;
+pub use row_codes::vector_codes_into;
+pub use row_runs::vector_runs_into;
 pub use sums::sum;
 pub use vector_lanes::VectorLanes;

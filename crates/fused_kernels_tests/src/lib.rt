@@ -12,6 +12,8 @@ mod edge_tests;
 #[cfg(test)]
 mod plain_lanes;
 #[cfg(test)]
+mod row_tests;
+#[cfg(test)]
 mod tests;
 #[cfg(test)]
 mod vector_tests;

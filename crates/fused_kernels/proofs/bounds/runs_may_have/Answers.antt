@@ -1,5 +1,5 @@
 -- No value is past the numbers of 64 bits, and a bound beyond them is as good as the last of them.
-use Rattle.std.proofs.Common.{rules, ◌≡◌, ℕ, ◌-◌, ◌^◌, ◌<◌, ◌&&◌, true, false, ℤ, pos, negsuc, int_lt, int_le, List, length, FitsSigned, to_z, of_z, sym, ap, ◌∙◌, arith}
+use Rattle.std.proofs.Common.{rules, ◌≡◌, ◌-◌, ◌^◌, ◌&&◌, true, false, ℤ, pos, negsuc, int_lt, int_le, FitsSigned, to_z, of_z, sym, ap, ◌∙◌, arith}
 use Rattle.std.specs.Int.{w64, w128}
 use Rattle.std.specs.List.{list_any}
 use Rattle.std.proofs.lemmas.Int.{ints, to_z-of_z}

@@ -1,0 +1,187 @@
+//! Codes of a vector's rows, each of which stands for one value: the packed numbers of a frame, or a dictionary's codes.
+ghost use Rattle.std.specs.Prelude.{◌≡◌, ◌≢◌, ◌==◌, ℕ, ◌+◌, ◌*◌, ◌%◌, ◌^◌, ◌<◌, ◌≤◌, IfSome, IsSome, is_some, cond, length, slice_index, pos, ◌+ℤ◌, ◌-ℤ◌, ◌≤ℤ◌};
+ghost use Rattle.std.specs.Int.{bit_at};
+ghost use Rattle.transpose_order.specs.Mask.{has};
+ghost use Rattle.transpose_order.specs.Place.{lane_of};
+ghost use Rattle.bit_interleave.specs.Range.{value_at};
+ghost use Rattle.frame_delta.specs.Frame.{FrameForm};
+ghost use Rattle.run_dictionary.specs.Dict.{DictForm, code_at};
+ghost use Rattle.native_lanes.specs.Frames.{IsPlain};
+ghost use Rattle.segment_core.specs.declared.coded.Coded.TheVariants.{For as InFor, Dict as InDict};
+ghost use Rattle.table_model.specs.Passes.{raised};
+ghost use Rattle.fused_kernels.specs.RowRuns.{AreCodes, AreRowCodes};
+
+use crate::bounds::is_plain;
+use crate::meter::Meter;
+use frame_delta::For;
+use native_lanes::{decode_frame, numbers_16};
+use run_dictionary::Dict;
+use segment_core::{Coded, CodedVector};
+use transpose_order::Mask;
+
+/// The greatest width of a frame whose packed numbers are codes.
+const WIDEST: usize = 8;
+
+/// Writes how far each value is above a reference, at most 255.
+fn write_distances(values: &[i64; 1024], reference: i64, codes: &mut [u16; 1024])
+    requires { (n : ℕ) → n < 1024 → (reference ≤ℤ value_at values.now n) × (value_at values.now n ≤ℤ (reference +ℤ pos 255)) }
+    ensures { (n : ℕ) → n < 1024 → pos (slice_index codes.new n) ≡ value_at values.now n -ℤ reference }
+{
+    for row in 0..1024 {
+        codes[row] = (values[row] - reference) as u16;
+    }
+}
+
+/// Writes a reference and the numbers after it, so many in all.
+fn write_keys(reference: i64, count: usize, keys: &mut [i64; 1024])
+    requires count { count ≤ 256 }
+    requires top { (reference +ℤ pos count) ≤ℤ pos (2 ^ 63) }
+    ensures { (k : ℕ) → k < count → value_at keys.new k ≡ reference +ℤ pos k }
+{
+    for code in 0..count {
+        keys[code] = reference + code as i64;
+    }
+}
+
+/// Writes the packed number of each row of a frame and the value that each number stands for, and answers how many numbers the
+/// width has. None where a value may wrap or the width is above 8.
+fn frame_codes(form: &For, codes: &mut [u16; 1024], keys: &mut [i64; 1024]) -> Option<usize>
+    ensures codes { IfSome result (λ count. AreCodes (InFor form.now) count codes.new keys.new) }
+    ensures answers { form.now.width ≤ 8 → IsPlain form.now → IsSome result }
+{
+    let width = form.width();
+    if width > WIDEST || !is_plain(form) {
+        return None;
+    }
+    let reference = form.reference();
+    let count = 1 << width;
+    decode_frame(form, keys);
+    write_distances(keys, reference, codes);
+    write_keys(reference, count, keys);
+    Some(count)
+}
+
+/// Writes a group of sixteen codes to the rows at a place of each 64.
+#[inline(always)]
+fn put_group(numbers: &[u16; 64], group: usize, place: usize, codes: &mut [u16; 1024])
+    requires group { group < 4 }
+    requires place { place < 64 }
+    ensures written { (i : ℕ) → i < 16 → slice_index codes.new (64 * i + place) ≡ slice_index numbers.now (16 * group + i) }
+    ensures others { (n : ℕ) → n % 64 ≢ place → slice_index codes.new n ≡ slice_index codes.old n }
+{
+    for i in 0..16 {
+        codes[64 * i + place] = numbers[16 * group + i];
+    }
+}
+
+/// Writes the codes of all lanes at a step to their rows.
+#[inline(always)]
+fn put_step(numbers: &[u16; 64], step: usize, codes: &mut [u16; 1024])
+    requires { step < 16 }
+    ensures written { (n : ℕ) → n < 1024 → n % 16 ≡ step → slice_index codes.new n ≡ slice_index numbers.now (lane_of 16 n) }
+    ensures others { (n : ℕ) → n % 16 ≢ step → slice_index codes.new n ≡ slice_index codes.old n }
+{
+    put_group(numbers, 0, step, codes);
+    put_group(numbers, 2, step + 16, codes);
+    put_group(numbers, 1, step + 32, codes);
+    put_group(numbers, 3, step + 48, codes);
+}
+
+/// Writes the code of each row of a dictionary.
+fn write_codes(form: &Dict, codes: &mut [u16; 1024])
+    ensures { (n : ℕ) → n < 1024 → slice_index codes.new n ≡ code_at form.now n }
+{
+    let width = form.width();
+    let words = form.codes().words_16();
+    for step in 0..16 {
+        put_step(&numbers_16(width, words, step), step, codes);
+    }
+}
+
+/// Writes the values of a dictionary in order.
+fn write_values(form: &Dict, keys: &mut [i64; 1024])
+    ensures { (k : ℕ) → k < length form.now.values → value_at keys.new k ≡ value_at form.now.values k }
+{
+    let values = form.values();
+    for code in 0..values.len() {
+        keys[code] = values.get(code);
+    }
+}
+
+/// Writes the code of each row of a dictionary and its values, and answers how many values it has.
+fn dict_codes(form: &Dict, codes: &mut [u16; 1024], keys: &mut [i64; 1024]) -> usize
+    ensures { AreCodes (InDict form.now) result codes.new keys.new }
+{
+    write_codes(form, codes);
+    write_values(form, keys);
+    form.values().len()
+}
+
+/// Writes a code for each row and the value that each code stands for, and answers how many codes there are, or none where the coding
+/// has no codes.
+fn coded_codes(coded: &Coded, codes: &mut [u16; 1024], keys: &mut [i64; 1024]) -> Option<usize>
+    ensures codes { IfSome result (λ count. AreCodes coded.now count codes.new keys.new) }
+    ensures frames { (form : FrameForm) → coded.now ≡ InFor form → form.width ≤ 8 → IsPlain form → IsSome result }
+    ensures dict { (form : DictForm) → coded.now ≡ InDict form → IsSome result }
+{
+    match coded {
+        Coded::For(form) => frame_codes(form.get(), codes, keys),
+        Coded::Delta(_) => None,
+        Coded::Runs(_) => None,
+        Coded::Dict(form) => Some(dict_codes(form.get(), codes, keys)),
+    }
+}
+
+/// A code where it is put, else another.
+#[inline(always)]
+fn code_if(put: bool, code: u16, other: u16) -> u16
+    ensures { result ≡ cond put code other }
+{
+    if put { code } else { other }
+}
+
+/// Writes a code at the rows of a word, whose bit `b` is row `first + b`.
+#[inline(always)]
+fn put_in_word(codes: &mut [u16; 1024], word: u64, first: usize, code: u16)
+    requires { first + 64 ≤ 1024 }
+    ensures written { (b : ℕ) → b < 64 → slice_index codes.new (first + b) ≡ cond (bit_at word b == 1) code (slice_index codes.old (first + b)) }
+    ensures before { (n : ℕ) → n < first → slice_index codes.new n ≡ slice_index codes.old n }
+    ensures after { (n : ℕ) → first + 64 ≤ n → slice_index codes.new n ≡ slice_index codes.old n }
+{
+    for bit in 0..64 {
+        codes[first + bit] = code_if(word >> bit & 1 == 1, code, codes[first + bit]);
+    }
+}
+
+/// Writes a code at the rows of a mask.
+fn put_at(codes: &mut [u16; 1024], rows: &Mask, code: u16)
+    ensures { (n : ℕ) → n < 1024 → slice_index codes.new n ≡ cond (has rows.now n) code (slice_index codes.old n) }
+{
+    let words = rows.words();
+    for index in 0..16 {
+        if words[index] != 0 {
+            put_in_word(codes, words[index], 64 * index, code);
+        }
+    }
+}
+
+/// Writes a code for each row of a vector and the value that each code stands for, the values ascending from the first place on, and
+/// answers how many codes there are, at most 1024. A null row has that number as its code. The codes are the packed numbers of a
+/// frame of which no value can wrap, at a width up to 8, or a dictionary's; of other vectors it answers none, and the codes and keys
+/// are any. A row that isn't covered may have any code. The meter counts one pass more where it answers.
+pub fn vector_codes_into(
+    vector: &CodedVector,
+    codes: &mut [u16; 1024],
+    keys: &mut [i64; 1024],
+    meter: &mut Meter,
+) -> Option<usize>
+    ensures codes { IfSome result (λ count. AreRowCodes vector.now count codes.new keys.new) }
+    ensures frames { (form : FrameForm) → vector.now.coded ≡ InFor form → form.width ≤ 8 → IsPlain form → IsSome result }
+    ensures dict { (form : DictForm) → vector.now.coded ≡ InDict form → IsSome result }
+    ensures pass { meter.new ≡ cond (is_some result) (raised 1 meter.old) meter.old }
+{
+    let count = coded_codes(vector.coded(), codes, keys)?;
+    meter.add_pass();
+    put_at(codes, &vector.null_rows(), count as u16);
+    Some(count)
+}
