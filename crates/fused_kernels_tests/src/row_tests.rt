@@ -132,10 +132,10 @@ fn check_codes(
 
 /// How many codes a frame of cells has that have all but so many of 64 bits: none above a width of 8.
 fn frame_codes(without: usize) -> Option<usize> {
-    if without < 56 {
-        None
-    } else {
+    if 56 <= without && without <= 64 {
         Some(1 << (64 - without))
+    } else {
+        None
     }
 }
 
