@@ -7,16 +7,17 @@ ghost use Rattle.table_model.specs.declared.op.Op.TheVariants.{GreaterOrEqual, L
 ghost use Rattle.table_model.specs.Values.{total, least, greatest};
 ghost use Rattle.query_eval.specs.Pairs.{yes_of, no_of};
 ghost use Rattle.table_model.specs.Passes.{raised};
+ghost use Rattle.query_eval.specs.Where.{IsNowhere};
 ghost use Rattle.query_eval.specs.Vector.{IsThere, vector_of, cell_at, looked_at};
 ghost use Rattle.store_view.specs.View.{HasCells};
 
 use fused_kernels::{
     Meter, compare_vector, compare_vector_range, compare_vectors, count, decode_vector, vector_max,
-    vector_min, vector_sum,
+    vector_may_have, vector_min, vector_sum,
 };
 use query_eval::{Columns, VectorId};
 use replica_store::Store;
-use segment_core::CodedVector;
+use segment_core::{Coded, CodedVector};
 use std::marker::Model;
 use table_model::{BatchName, Op, Schema};
 use transpose_order::{Mask, VECTOR_ROWS};
@@ -79,6 +80,11 @@ fn missing_rows(vector: &CodedVector) -> Mask
     missing
 }
 
+/// Whether a vector's values are coded by runs. Their values are those of rows, so that counted calls alone look at them.
+fn has_runs(vector: &CodedVector) -> bool {
+    matches!(vector.coded(), Coded::Runs(_))
+}
+
 impl<'a> Columns for StoreView<'a> {
     ghost seen = { λ v. record { table = v.table; state = v.state; passes = v.passes } };
 
@@ -110,14 +116,12 @@ impl<'a> Columns for StoreView<'a> {
         missing_rows(found)
     }
 
-    fn may_have(
-        &self,
-        id: VectorId,
-        _column: usize,
-        _low: i128,
-        _high: i128,
-    ) -> bool {
-        true
+    fn may_have(&self, id: VectorId, column: usize, low: i128, high: i128) -> bool {
+        let found = vector_in(self.store, id, column);
+        if has_runs(found) {
+            return true;
+        }
+        vector_may_have(found, low, high)
     }
 
     fn compare(
@@ -177,12 +181,7 @@ impl<'a> Columns for StoreView<'a> {
         vector_max(found, mask, &mut self.meter)
     }
 
-    fn decode_into(
-        &mut self,
-        id: VectorId,
-        column: usize,
-        values: &mut [i64; 1024],
-    ) {
+    fn decode_into(&mut self, id: VectorId, column: usize, values: &mut [i64; 1024]) {
         let found = vector_in(self.store, id, column);
         decode_vector(found, values, &mut self.meter);
     }

@@ -17,8 +17,8 @@ batch-requires c =
     let h : c.args.id.batch < length (finite.entries c.self.inside.store.now.replica.state.batches) = subst (λ (v : ViewForm). c.args.id.batch < length (finite.entries v.state.batches)) (sym c.self.view_is) c.requires.batches in
     let e = finite.len-entries c.self.inside.store.now.replica.state.batches in omega arith
 
-pub overflow_mul-vector : goal.overflow_mul-vector
-overflow_mul-vector c =
+pub overflow_mul-id : goal.overflow_mul-id
+overflow_mul-id c =
     let h = vector_begins c.self.inside.store.now.replica.state c.args.id.batch c.args.id.vector c.batch.result.0 c.batch.result.1.now.rows c.batch.ensures.value (subst (λ (v : ViewForm). c.args.id.vector < vector_count v.state c.args.id.batch) (sym c.self.view_is) c.requires.vectors) in
     let l = c.batch.ensures.fits.limit in let a = h.0 in omega arith
 
