@@ -222,9 +222,9 @@ compared_same op x y l m e f = ap (λ z. comparison op z l) e ∙ ap (comparison
 
 -- ---- bounds
 -- where a condition is true at no row of the whole mask, it is so nowhere
-pub nowhere_true : (all yes : List Bool) (t : ℕ → Truth) → all ≡ rows_of (λ _. true) → yes ≡ yes_of all t → ((n : ℕ) → n < 1024 → has yes n ≡ false) → IsNowhere t
+pub nowhere_true : (all found : List Bool) (t : ℕ → Truth) → all ≡ rows_of (λ _. true) → found ≡ yes_of all t → ((n : ℕ) → n < 1024 → has found n ≡ false) → IsNowhere t
 unfolding yes_of
-nowhere_true all yes t e y h = record {
+nowhere_true all found t e y h = record {
   none = λ n l. sym (ap (λ b. b && is_true (t n)) (ap (λ m. has m n) e ∙ has-rows_of (λ _. true) n l))
       ∙ sym (has-rows_of (λ k. has all k && is_true (t k)) n l) ∙ ap (λ m. has m n) (sym y) ∙ h n l;
 }

@@ -15,7 +15,7 @@ ghost use Rattle.query_eval_tests.specs.PlainRows.{plain_vector};
 ghost use Rattle.query_eval.specs.Vector.{cell_at, is_live, looked_at};
 ghost use Rattle.query_eval.specs.Where.{IsNowhere, IsPair};
 
-use query_eval::{Columns, Decoded, Pair, greater, lesser, VectorId};
+use query_eval::{Columns, Decoded, Pair, VectorId, greater, lesser};
 use std::marker::Model;
 use table_model::{BatchName, Number, Op, Origin, Refusal, Rows, Schema, Truth, check_rows};
 use transpose_order::{Mask, VECTOR_ROWS};
@@ -357,12 +357,7 @@ impl Columns for PlainColumns {
         greatest_of(&values[..count])
     }
 
-    fn decode_into(
-        &mut self,
-        id: VectorId,
-        column: usize,
-        values: &mut [i64; 1024],
-    ) {
+    fn decode_into(&mut self, id: VectorId, column: usize, values: &mut [i64; 1024]) {
         self.write_values(column, id.vector, values);
         self.count_passes(1);
     }

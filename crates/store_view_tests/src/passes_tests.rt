@@ -10,10 +10,14 @@ use table_model::{BatchName, ColType, Number, Origin, Query, Refusal, Row, RowNa
 use test_support::agree_at;
 
 /// A query, its answer's lines, and how many passes it takes at most.
-type Asked = (&'static str, &'static str, u128);
+pub(crate) type Asked = (&'static str, &'static str, u128);
 
 /// A store of one batch of rows.
-fn store_of(alloc: Global, columns: &[(&str, ColType)], rows: &[Row]) -> Result<Store, Refusal> {
+pub(crate) fn store_of(
+    alloc: Global,
+    columns: &[(&str, ColType)],
+    rows: &[Row],
+) -> Result<Store, Refusal> {
     let schema = Schema::new(alloc, "T", columns)?;
     let mut store = Store::new(alloc, &schema, Origin(1))?;
     let _ = store.append(alloc, rows)?;
@@ -21,7 +25,7 @@ fn store_of(alloc: Global, columns: &[(&str, ColType)], rows: &[Row]) -> Result<
 }
 
 /// A row with these cells.
-fn row_of(alloc: Global, cells: &[Option<i128>]) -> Result<Row, AllocError> {
+pub(crate) fn row_of(alloc: Global, cells: &[Option<i128>]) -> Result<Row, AllocError> {
     Ok(Row::from_cells(Vec::from_slice(alloc, cells)?))
 }
 
@@ -57,7 +61,7 @@ fn answered(alloc: Global, store: &Store, query: &str) -> Result<(String, u128),
 }
 
 /// Each query has its answer over a store, and takes at most its passes.
-fn has_answers(alloc: Global, store: &Store, asked: &[Asked]) -> Result<(), Fail> {
+pub(crate) fn has_answers(alloc: Global, store: &Store, asked: &[Asked]) -> Result<(), Fail> {
     for &(query, wanted, most) in asked {
         let (lines, passes) = answered(alloc, store, query)?;
         agree_at(query, lines.as_str(), wanted)?;

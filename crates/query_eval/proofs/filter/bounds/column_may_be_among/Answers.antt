@@ -1,9 +1,9 @@
 -- One literal more.
-use Rattle.std.proofs.Common.{◌≡◌, rules, ℕ, ◌<◌, ℤ, FitsSigned, Option, Some, get_or, length, false, pos, sym, ap, ◌∙◌, subst, arith}
+use Rattle.std.proofs.Common.{rules, ℕ, ℤ, FitsSigned, Option, Some, get_or, pos, subst, arith}
 use Rattle.std.specs.Int.{w128}
 use Rattle.std.proofs.lemmas.Int.{to_z-of_z}
 use borrow.Author.Count.{below_more}
-use Rattle.table_model.specs.Truth.{is_true, and_of, comparison}
+use Rattle.table_model.specs.Truth.{and_of, comparison}
 use Rattle.table_model.specs.declared.op.Op.TheVariants.{Equal, GreaterOrEqual, LessOrEqual}
 use Rattle.query_eval.specs.Vector.{vector_at, cell_at}
 use Rattle.query_eval.specs.Where.{IsNowhere}
