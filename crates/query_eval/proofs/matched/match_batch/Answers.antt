@@ -1,5 +1,5 @@
 -- One vector more.
-use Rattle.std.proofs.Common.{◌≡◌, ◌<◌, ◌+◌, ◌*◌, ◌++◌, ℕ, List, Some, sym, ap, ◌∙◌, arith, append_assoc, append-nil}
+use Rattle.std.proofs.Common.{◌<◌, ◌*◌, ◌++◌, List, Some, sym, ap, ◌∙◌, arith, append_assoc}
 use Rattle.table_model.specs.State.{State}
 use Rattle.table_model.specs.Table.{Table}
 use Rattle.table_model.specs.declared.names.RowName.{RowName}

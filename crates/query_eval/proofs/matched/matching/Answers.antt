@@ -1,5 +1,5 @@
 -- One batch more.
-use Rattle.std.proofs.Common.{◌≡◌, ◌<◌, ◌++◌, ℕ, List, Some, sym, ap, ◌∙◌, arith}
+use Rattle.std.proofs.Common.{◌<◌, ◌++◌, Some, sym, ap, ◌∙◌, arith}
 use Rattle.table_model.specs.Meaning.{names_where}
 use Rattle.table_model.specs.State.{State}
 use Rattle.table_model.specs.Table.{Table}
