@@ -204,7 +204,8 @@ fn add_short(values: &[i64; 1024], word: u64, first: usize, sums: Simd<u64, 8>) 
     sums
 }
 
-/// The sum of the short values at the rows of a mask, raised by 2 to the power of 52 each.
+/// The sum of the short values at the rows of a mask, raised by 2 to the power of 52 each. Where 64 rows are none of the mask's,
+/// their values are not looked at.
 fn sum_short(values: &[i64; 1024], rows: &Mask) -> u64
     requires { AreShort values.now }
     ensures { pos result ≡ total (values_at rows.now values.now) +ℤ pos (2 ^ 52 * length (values_at rows.now values.now)) }
@@ -212,7 +213,9 @@ fn sum_short(values: &[i64; 1024], rows: &Mask) -> u64
     let words = rows.words();
     let mut sums = Simd::splat(0);
     for index in 0..16 {
-        sums = add_short(values, words[index], 64 * index, sums);
+        if words[index] != 0 {
+            sums = add_short(values, words[index], 64 * index, sums);
+        }
     }
     sums.strict_reduce_sum()
 }
