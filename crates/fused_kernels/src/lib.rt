@@ -1,7 +1,6 @@
 //! Comparisons and set functions over vectors that stay packed, sixteen lanes at a time.
 #![tactic(auto)]
 
-mod beside;
 mod bounds;
 mod code_values;
 mod codes;
@@ -10,11 +9,10 @@ mod comparisons;
 mod counts;
 mod decoding;
 mod extremes;
-mod found;
 mod lanes;
 mod meter;
 mod one_value;
-mod paths;
+mod range_rows;
 mod ranges;
 mod row_codes;
 mod row_counts;
@@ -22,7 +20,12 @@ mod row_runs;
 mod run_folds;
 mod runs;
 mod sums;
+mod value_pairs;
+mod vector_comparisons;
+mod vector_extremes;
 mod vector_lanes;
+mod vector_sums;
+mod vector_values;
 
 pub use bounds::vector_may_have;
 pub use columns::compare_columns;
@@ -32,12 +35,12 @@ pub use decoding::decode_into;
 pub use extremes::{max, min};
 pub use lanes::Lanes;
 pub use meter::Meter;
-pub use paths::{
-    compare_vector, compare_vector_range, compare_vectors, decode_vector, vector_max, vector_min,
-    vector_sum,
-};
 pub use ranges::compare_range;
 pub use row_codes::vector_codes_into;
 pub use row_runs::vector_runs_into;
 pub use sums::sum;
+pub use vector_comparisons::{compare_vector, compare_vector_range, compare_vectors};
+pub use vector_extremes::{vector_max, vector_min};
 pub use vector_lanes::VectorLanes;
+pub use vector_sums::vector_sum;
+pub use vector_values::decode_vector;

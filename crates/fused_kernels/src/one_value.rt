@@ -6,7 +6,7 @@ ghost use Rattle.table_model.specs.Truth.{compared};
 ghost use Rattle.segment_core.specs.Coded.{value_in, lane_width_of};
 ghost use Rattle.segment_core.specs.declared.coded.Coded.TheVariants.{For as InFor};
 
-use crate::found::found_by_literal;
+use crate::range_rows::found_by_literal;
 use frame_delta::For;
 use segment_core::Coded;
 use table_model::Op;

@@ -1,8 +1,12 @@
 -- The values at the rows of a mask, one row more.
-use Rattle.std.proofs.Common.{◌≡◌, ◌==◌, ℕ, zero, suc, ◌+◌, ◌-◌, ◌*◌, ◌/◌, ◌%◌, ◌^◌, ◌<◌, ◌≤◌, Bool, true, false, not, cond, List, [], ◌∷◌, ◌++◌, length, get_or, count_by, Some, None, ℤ, pos, ◌+ℤ◌, refl, sym, ap, ◌∙◌, arith, append-nil, length-append}
+use Rattle.std.proofs.Common.{◌≡◌, ◌≢◌, ◌==◌, nat_eq, bit_and, min, ◌⊎◌, inl, inr, subst, eq-eqb, ℕ, zero, suc, ◌+◌, ◌-◌, ◌*◌, ◌/◌, ◌%◌, ◌^◌, ◌<◌, ◌≤◌, Bool, true, false, not, cond, List, [], ◌∷◌, ◌++◌, length, get_or, count_by, Some, None, ℤ, pos, ◌+ℤ◌, refl, sym, ap, ◌∙◌, arith, append-nil, length-append}
 use Rattle.std.specs.Int.{bit_at, from_bool, int_max, int_min}
-use Rattle.std.proofs.Math.Nat.{mul-suc, pow-le-pow_right}
+use Rattle.std.proofs.Math.Nat.{div-eq_of_lt, mul-suc, pow-le-pow_right}
 use Rattle.std.specs.Ordering.{int_eq}
+use Rattle.std.specs.Simd.Lanes.{sum_l}
+use Rattle.std.proofs.lemmas.Bool.{cases_lt, ne_eqb}
+use Rattle.std.proofs.lemmas.Nat.{and_le_r}
+use Rattle.std.proofs.lemmas.Nat.Bits.{bit_at-lt, bit_at_and, bit_at-pow_same}
 use Rattle.std.proofs.lemmas.Bool.Decides.{Decides-int_eq}
 use Rattle.std.proofs.lemmas.Int.{ints}
 use Rattle.table_model.proofs.Appended.{total-append, least-append, greatest-append}
@@ -125,3 +129,60 @@ pub greatest_more : (k : ℕ) (rows : List Bool) (values : List ℤ) (b : Bool) 
 greatest_more k rows values true x y on before is =
     ap Some is ∙ ap (λ o. greater o (Some (get_or values k (pos 0)))) before ∙ sym (ap greatest (values_more k rows values true on) ∙ greatest-append (values_below k rows values) (get_or values k (pos 0) ∷ []))
 greatest_more k rows values false x y on before is = ap Some is ∙ before ∙ ap greatest (sym (values_more k rows values false on ∙ append-nil (values_below k rows values)))
+
+-- ---- eight lanes at once
+pub at_eight : (P : ℕ → Type 0) → P 0 → P 1 → P 2 → P 3 → P 4 → P 5 → P 6 → P 7 → (lane : ℕ) → lane < 8 → P lane
+at_eight P a b c d e f g h zero l = a
+at_eight P a b c d e f g h (suc zero) l = b
+at_eight P a b c d e f g h (suc (suc zero)) l = c
+at_eight P a b c d e f g h (suc (suc (suc zero))) l = d
+at_eight P a b c d e f g h (suc (suc (suc (suc zero)))) l = e
+at_eight P a b c d e f g h (suc (suc (suc (suc (suc zero))))) l = f
+at_eight P a b c d e f g h (suc (suc (suc (suc (suc (suc zero)))))) l = g
+at_eight P a b c d e f g h (suc (suc (suc (suc (suc (suc (suc zero))))))) l = h
+at_eight P a b c d e f g h (suc (suc (suc (suc (suc (suc (suc (suc lane)))))))) l = absurd (omega (arith, l))
+
+-- of a bit alone all bits are a number's exactly where the number has it
+pub bit_alone : (n k : ℕ) → nat_eq (bit_and n (2 ^ k)) (2 ^ k) ≡ (bit_at n k == 1)
+bit_alone n k = by_bit (bit_at n k) refl (bit_at-lt n k)
+  where
+    same : bit_at (bit_and n (2 ^ k)) k ≡ bit_at n k
+    same = bit_at_and n (2 ^ k) k ∙ ap (min (bit_at n k)) (bit_at-pow_same k) ∙ omega (arith, bit_at-lt n k)
+
+    by_bit : (b : ℕ) → bit_at n k ≡ b → bit_at n k < 2 → nat_eq (bit_and n (2 ^ k)) (2 ^ k) ≡ (bit_at n k == 1)
+    by_bit zero is l =
+        let off : bit_and n (2 ^ k) ≢ 2 ^ k = λ e. absurd (omega (arith, same, is, ap (λ m. bit_at m k) e, bit_at-pow_same k)) in
+        ne_eqb (bit_and n (2 ^ k)) (2 ^ k) off ∙ sym (ap (λ m. m == 1) is)
+    by_bit (suc zero) is l =
+        let most : bit_and n (2 ^ k) ≤ 2 ^ k = and_le_r n (2 ^ k) in
+        let on : bit_and n (2 ^ k) ≡ 2 ^ k = whole (bit_and n (2 ^ k)) (same ∙ is) most in
+        eq-eqb (bit_and n (2 ^ k)) (2 ^ k) on ∙ sym (ap (λ m. m == 1) is)
+      where
+        whole : (m : ℕ) → bit_at m k ≡ 1 → m ≤ 2 ^ k → m ≡ 2 ^ k
+        whole m e h = by_order (cases_lt m (2 ^ k))
+          where
+            by_order : (m < 2 ^ k) ⊎ (2 ^ k ≤ m) → m ≡ 2 ^ k
+            by_order (inl a) = absurd (omega (arith, e, div-eq_of_lt a))
+            by_order (inr a) = omega (arith, a, h)
+    by_bit (suc (suc b)) is l = absurd (omega (arith, is, l))
+
+-- raised values in lanes, added to a sum
+pub raised_lanes : (by k s : ℕ) (lanes : List ℕ) (rows : List Bool) (values : List ℤ) → IsRaised by k rows values s
+    → ((lane : ℕ) → lane < length lanes → pos (get_or lanes lane 0) ≡ cond (has rows (k + lane)) (get_or values (k + lane) (pos 0) +ℤ pos by) (pos 0))
+    → IsRaised by (k + length lanes) rows values (s + sum_l lanes)
+raised_lanes by k s [] rows values before each =
+    let place : k ≡ k + zero = omega arith in
+    let sum : s ≡ s + zero = omega arith in
+    subst (λ (n : ℕ). IsRaised by n rows values (s + zero)) place (subst (IsRaised by k rows values) sum before)
+raised_lanes by k s (x ∷ xs) rows values before each =
+    let here : k + 0 ≡ k = omega arith in
+    let one : pos x ≡ cond (has rows k) (get_or values k (pos 0) +ℤ pos by) (pos 0) = subst (λ (n : ℕ). pos x ≡ cond (has rows n) (get_or values n (pos 0) +ℤ pos by) (pos 0)) here (each 0 (omega arith)) in
+    let rest = raised_lanes by (k + 1) (s + x) xs rows values (raised_more by (has rows k) k s (s + x) x rows values refl before one refl) (λ lane h. later lane h) in
+    let place : (k + 1) + length xs ≡ k + suc (length xs) = omega arith in
+    let sum : (s + x) + sum_l xs ≡ s + (x + sum_l xs) = omega arith in
+    subst (λ (n : ℕ). IsRaised by n rows values (s + (x + sum_l xs))) place (subst (IsRaised by ((k + 1) + length xs) rows values) sum rest)
+  where
+    later : (lane : ℕ) → lane < length xs → pos (get_or xs lane 0) ≡ cond (has rows ((k + 1) + lane)) (get_or values ((k + 1) + lane) (pos 0) +ℤ pos by) (pos 0)
+    later lane h =
+        let place : k + suc lane ≡ (k + 1) + lane = omega arith in
+        subst (λ (n : ℕ). pos (get_or xs lane 0) ≡ cond (has rows n) (get_or values n (pos 0) +ℤ pos by) (pos 0)) place (each (suc lane) (omega (arith, h)))

@@ -1,13 +1,15 @@
 //! Set functions over the decoded values at the rows of a mask, and the rows with a value: a word of 64 rows at a time, without a
 //! branch a row.
-ghost use Rattle.std.specs.Prelude.{◌≡◌, ◌==◌, ◌+◌, ◌*◌, ◌^◌, ◌<◌, ◌≤◌, ◌+ℤ◌, ◌/◌, ℕ, Bool, true, false, Some, List, ℤ, cond, length, not, pos, slice_index_or};
-ghost use Rattle.std.specs.Int.{bit_at};
+ghost use Rattle.std.specs.Prelude.{◌≡◌, ◌==◌, ◌+◌, ◌*◌, ◌^◌, ◌<◌, ◌≤◌, ◌+ℤ◌, ◌/◌, ℕ, Bool, true, false, Some, List, ℤ, cond, length, not, pos, slice_index, slice_index_or};
+ghost use Rattle.std.specs.Int.{bit_at, int_max, int_min};
 ghost use Rattle.std.specs.Ordering.{int_eq};
+ghost use Rattle.std.specs.Simd.Lanes.{sum_l};
 ghost use Rattle.table_model.specs.Values.{greatest, least, total};
 ghost use Rattle.transpose_order.specs.Mask.{has, number_of_bits, rows_of};
 ghost use Rattle.query_eval.specs.Slices.{AreHalves, AreShort, IsRaised, IsShort, differs_at, values_at, values_below};
 
 use crate::tallies::bits::is_set;
+use std::simd::prelude::*;
 use transpose_order::{Mask, greater_if, lesser_if, raised_if};
 
 /// Whether two numbers are the same.
@@ -126,38 +128,80 @@ pub fn are_short(values: &[i64; 1024]) -> bool
     ensures short { result ≡ true → AreShort values.now }
     ensures told { AreShort values.now → result ≡ true }
 {
-    let mut long: u64 = 0;
+    let mut bits: u64 = 0;
     for row in 0..1024 {
-        long += u64::from(raised(values[row]) >= 1 << 53);
+        bits |= raised(values[row]);
     }
-    long == 0
+    bits < 1 << 53
 }
 
-/// How far a short value is above -2^52 where it is taken, else 0.
+/// How far eight short values, from row `first` on, are above -2^52.
 #[inline(always)]
-fn raised_short_if(taken: bool, value: i64) -> u64
-    requires { IsShort value }
-    ensures value { pos result ≡ cond taken (value +ℤ pos (2 ^ 52)) (pos 0) }
-    ensures below { result < 2 ^ 53 }
+fn raised_eight(values: &[i64; 1024], first: usize) -> [u64; 8]
+    requires first { first + 8 ≤ 1024 }
+    requires short { AreShort values.now }
+    ensures value { (lane : ℕ) → lane < 8 → pos (slice_index result lane) ≡ slice_index_or values.now (first + lane) (pos 0) +ℤ pos (2 ^ 52) }
+    ensures below { (lane : ℕ) → lane < 8 → slice_index result lane < 2 ^ 53 }
 {
-    if taken { raised(value) } else { 0 }
+    let mut numbers = [0; 8];
+    for lane in 0..8 {
+        numbers[lane] = raised(values[first + lane]);
+    }
+    numbers
 }
 
-/// Adds to a sum the short values at the rows of a word, raised by 2 to the power of 52 each. Bit `b` of the word is row
+/// Each of the lowest eight bits of a word alone.
+const EIGHT_BITS: [u64; 8] = [1, 2, 4, 8, 16, 32, 64, 128];
+
+/// The lanes whose bit is set, with 0 in place of the others. The bits are compared with a constant, since processors of level
+/// x86-64-v2 shift all lanes by one number alone.
+#[inline(always)]
+fn lanes_if(bits: u64, lanes: Simd<u64, 8>) -> Simd<u64, 8>
+    requires { length lanes ≡ 8 }
+    ensures long { length result ≡ 8 }
+    ensures value { (lane : ℕ) → lane < 8 → slice_index result lane ≡ cond (bit_at bits lane == 1) (slice_index lanes lane) 0 }
+{
+    let wanted = Simd::from_array(EIGHT_BITS);
+    let all = Simd::splat(bits);
+    let none = Simd::splat(0);
+    let found = all & wanted;
+    found.simd_eq(wanted).select(lanes, none)
+}
+
+/// Adds to eight sums the short values at eight rows where their bits are set, raised by 2 to the power of 52 each. Bit `b` is row
 /// `first + b`.
 #[inline(always)]
-fn add_short(values: &[i64; 1024], word: u64, first: usize, sum: u64) -> u64
+fn add_eight(values: &[i64; 1024], bits: u64, first: usize, sums: Simd<u64, 8>) -> Simd<u64, 8>
+    requires first { first + 8 ≤ 1024 }
+    requires short { AreShort values.now }
+    requires long { length sums ≡ 8 }
+    requires sum { sum_l sums ≤ 2 ^ 53 * first }
+    ensures long { length result ≡ 8 }
+    ensures sum { sum_l result ≤ 2 ^ 53 * (first + 8) }
+    ensures value { (rows : List Bool) → ((b : ℕ) → b < 8 → (bit_at bits b == 1) ≡ has rows (first + b)) → IsRaised (2 ^ 52) first rows values.now (sum_l sums) → IsRaised (2 ^ 52) (first + 8) rows values.now (sum_l result) }
+{
+    let raised = Simd::from_array(raised_eight(values, first));
+    let taken = lanes_if(bits, raised);
+    sums.strict_add(taken)
+}
+
+/// Adds to eight sums the short values at the rows of a word, raised by 2 to the power of 52 each. Bit `b` of the word is row
+/// `first + b`.
+#[inline(always)]
+fn add_short(values: &[i64; 1024], word: u64, first: usize, sums: Simd<u64, 8>) -> Simd<u64, 8>
     requires first { first + 64 ≤ 1024 }
     requires short { AreShort values.now }
-    requires sum { sum ≤ 2 ^ 53 * first }
-    ensures sum { result ≤ 2 ^ 53 * (first + 64) }
-    ensures value { (rows : List Bool) → ((b : ℕ) → b < 64 → (bit_at word b == 1) ≡ has rows (first + b)) → IsRaised (2 ^ 52) first rows values.now sum → IsRaised (2 ^ 52) (first + 64) rows values.now result }
+    requires long { length sums ≡ 8 }
+    requires sum { sum_l sums ≤ 2 ^ 53 * first }
+    ensures long { length result ≡ 8 }
+    ensures sum { sum_l result ≤ 2 ^ 53 * (first + 64) }
+    ensures value { (rows : List Bool) → ((b : ℕ) → b < 64 → (bit_at word b == 1) ≡ has rows (first + b)) → IsRaised (2 ^ 52) first rows values.now (sum_l sums) → IsRaised (2 ^ 52) (first + 64) rows values.now (sum_l result) }
 {
-    let mut total = sum;
-    for bit in 0..64 {
-        total += raised_short_if(is_set(word, bit), values[first + bit]);
+    let mut sums = sums;
+    for group in 0..8 {
+        sums = add_eight(values, word >> (8 * group), first + 8 * group, sums);
     }
-    total
+    sums
 }
 
 /// The sum of the short values at the rows of a mask, raised by 2 to the power of 52 each. Where 64 rows are none of the mask's,
@@ -167,13 +211,13 @@ fn sum_short(values: &[i64; 1024], rows: &Mask) -> u64
     ensures { pos result ≡ total (values_at rows.now values.now) +ℤ pos (2 ^ 52 * length (values_at rows.now values.now)) }
 {
     let words = rows.words();
-    let mut sum: u64 = 0;
+    let mut sums = Simd::splat(0);
     for index in 0..16 {
         if words[index] != 0 {
-            sum = add_short(values, words[index], 64 * index, sum);
+            sums = add_short(values, words[index], 64 * index, sums);
         }
     }
-    sum
+    sums.strict_reduce_sum()
 }
 
 /// The sum of the values at the rows of a mask, 0 over none. Where it isn't known that the values are short, their halves of 32
@@ -205,6 +249,16 @@ fn least_in_first(values: &[i64; 1024], rows: &Mask, first: usize) -> i64
     least
 }
 
+/// The lesser of two numbers where the second is taken, else the first. One that isn't taken counts as the greatest of 64 bits, so that
+/// there is no branch: the compiler makes vectors of it.
+#[inline(always)]
+fn lesser_where(taken: bool, least: i64, number: i64) -> i64
+    ensures { result ≡ cond taken (int_min least number) least }
+{
+    let candidate = if taken { number } else { i64::MAX };
+    if candidate < least { candidate } else { least }
+}
+
 /// The lesser of a number and the values at the rows of a word, whose bit `b` is row `first + b`.
 #[inline(always)]
 fn lesser_in_word(values: &[i64; 1024], word: u64, first: usize, number: i64) -> i64
@@ -213,7 +267,7 @@ fn lesser_in_word(values: &[i64; 1024], word: u64, first: usize, number: i64) ->
 {
     let mut least = number;
     for bit in 0..64 {
-        least = lesser_if(is_set(word, bit), least, values[first + bit]);
+        least = lesser_where(is_set(word, bit), least, values[first + bit]);
     }
     least
 }
@@ -252,6 +306,20 @@ fn greatest_in_first(values: &[i64; 1024], rows: &Mask, first: usize) -> i64
     greatest
 }
 
+/// The greater of two numbers where the second is taken, else the first. One that isn't taken counts as the least of 64 bits, so that
+/// there is no branch: the compiler makes vectors of it.
+#[inline(always)]
+fn greater_where(taken: bool, greatest: i64, number: i64) -> i64
+    ensures { result ≡ cond taken (int_max greatest number) greatest }
+{
+    let candidate = if taken { number } else { i64::MIN };
+    if greatest < candidate {
+        candidate
+    } else {
+        greatest
+    }
+}
+
 /// The greater of a number and the values at the rows of a word, whose bit `b` is row `first + b`.
 #[inline(always)]
 fn greater_in_word(values: &[i64; 1024], word: u64, first: usize, number: i64) -> i64
@@ -260,7 +328,7 @@ fn greater_in_word(values: &[i64; 1024], word: u64, first: usize, number: i64) -
 {
     let mut greatest = number;
     for bit in 0..64 {
-        greatest = greater_if(is_set(word, bit), greatest, values[first + bit]);
+        greatest = greater_where(is_set(word, bit), greatest, values[first + bit]);
     }
     greatest
 }

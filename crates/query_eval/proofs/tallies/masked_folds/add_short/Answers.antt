@@ -1,28 +1,31 @@
--- One row more.
-use Rattle.std.proofs.Common.{rules, ◌≡◌, ◌+◌, ◌^◌, ℕ, cond, get_or, pos, FitsSigned, w64, ◌+ℤ◌, sym, ap, subst, ◌∙◌, arith}
-use Rattle.std.proofs.lemmas.Int.{to_z-of_z}
+-- Eight rows more.
+use Rattle.std.proofs.Common.{◌≡◌, ◌==◌, ◌+◌, ◌*◌, ◌/◌, ◌^◌, ◌<◌, ℕ, ap, subst, ◌∙◌, arith}
+use Rattle.std.specs.Int.{bit_at}
+use Rattle.std.specs.Simd.Lanes.{sum_l}
+use Rattle.transpose_order.proofs.BitLemmas.{bit_at-shr}
+use Rattle.transpose_order.specs.Mask.{has}
 use Rattle.query_eval.specs.Slices.{IsRaised}
-use Rattle.query_eval.proofs.MaskedLemmas.{raised_more}
 use Rattle.query_eval.proofs.tallies.masked_folds.add_short.Goals as goal
 
-pub loop-bit-init : goal.loop-bit-init
-loop-bit-init c =
-    let e : c.args.first + 0 ≡ c.args.first = omega arith in
-    record { few = omega (arith, c.requires.sum); value = λ rows on h. subst (λ (k : ℕ). IsRaised (2 ^ 52) k rows c.args.values.now c.args.sum) (sym e) h }
+pub loop-group-init : goal.loop-group-init
+loop-group-init c =
+    let e : c.args.first ≡ c.args.first + 8 * 0 = omega arith in
+    record { long = c.requires.long; few = omega (arith, c.requires.sum); value = λ rows on h. subst (λ (k : ℕ). IsRaised (2 ^ 52) k rows c.args.values.now (sum_l c.args.sums)) e h }
 
-pub loop-bit-preserved : goal.loop-bit-preserved
-loop-bit-preserved c =
-    let bit = c.loop-bit.bit in
-    let row : ℕ = c.args.first + bit in
+pub loop-group-preserved : goal.loop-group-preserved
+loop-group-preserved c =
+    let first = c.args.first in
+    let group = c.loop-group.group in
     let values = c.args.values.now in
-    let inv = c.loop-bit.invariant in
-    let n = c.raised_short_if-total.result in
-    let fits : FitsSigned w64 (get_or values row (pos 0)) = search rules in
-    let one : pos n ≡ cond c.is_set.result (get_or values row (pos 0) +ℤ pos (2 ^ 52)) (pos 0) = c.raised_short_if-total.ensures.value ∙ ap (λ z. cond c.is_set.result (z +ℤ pos (2 ^ 52)) (pos 0)) (to_z-of_z w64 (get_or values row (pos 0)) fits) in
-    let next : row + 1 ≡ c.args.first + (bit + 1) = omega arith in
+    let inv = c.loop-group.invariant in
+    let next : first + 8 * group + 8 ≡ first + 8 * (group + 1) = omega arith in
     record {
-      few = omega (arith, inv.few, c.raised_short_if-total.ensures.below);
+      long = c.add_eight-sums.ensures.long;
+      few = omega (arith, c.add_eight-sums.ensures.sum);
       value = λ rows on h.
-          subst (λ (k : ℕ). IsRaised (2 ^ 52) k rows values (c.loop-bit.total + n)) next
-          (raised_more (2 ^ 52) c.is_set.result row c.loop-bit.total _ n rows values (sym (on bit c.loop-bit-test.true) ∙ sym c.is_set.ensures) (inv.value rows on h) one (omega arith));
+          let here : (b : ℕ) → b < 8 → (bit_at (c.args.word / 2 ^ (8 * group)) b == 1) ≡ has rows (first + 8 * group + b) =
+          λ b l.
+          let place : first + (8 * group + b) ≡ first + 8 * group + b = omega arith in
+          ap (λ n. n == 1) (bit_at-shr c.args.word (8 * group) b) ∙ on (8 * group + b) (omega (arith, l, c.loop-group-test.true)) ∙ ap (has rows) place in
+          subst (λ (k : ℕ). IsRaised (2 ^ 52) k rows values (sum_l c.add_eight-sums.result)) next (c.add_eight-sums.ensures.value rows here (inv.value rows on h));
     }

@@ -16,10 +16,10 @@ loop-bit-preserved c rows on h =
     let row : ℕ = c.args.first + bit in
     let values = c.args.values.now in
     let fits : FitsSigned w64 (get_or values row (pos 0)) = search rules in
-    let now : FitsSigned w64 c.greater_if-greatest.result = search rules in
+    let now : FitsSigned w64 c.greater_where-greatest.result = search rules in
     let next : row + 1 ≡ c.args.first + (bit + 1) = omega arith in
-    greatest_more row rows values c.is_set.result (to_z w64 c.loop-bit.greatest-bits) (to_z w64 (of_z w64 c.greater_if-greatest.result)) (sym (on bit c.loop-bit-test.true) ∙ sym c.is_set.ensures) (c.loop-bit.invariant rows on h)
-    (to_z-of_z w64 c.greater_if-greatest.result now ∙ subst (λ (z : ℤ). c.greater_if-greatest.result ≡ cond c.is_set.result (int_max (to_z w64 c.loop-bit.greatest-bits) z) (to_z w64 c.loop-bit.greatest-bits)) (to_z-of_z w64 (get_or values row (pos 0)) fits) c.greater_if-greatest.ensures)
+    greatest_more row rows values c.is_set.result (to_z w64 c.loop-bit.greatest-bits) (to_z w64 (of_z w64 c.greater_where-greatest.result)) (sym (on bit c.loop-bit-test.true) ∙ sym c.is_set.ensures) (c.loop-bit.invariant rows on h)
+    (to_z-of_z w64 c.greater_where-greatest.result now ∙ subst (λ (z : ℤ). c.greater_where-greatest.result ≡ cond c.is_set.result (int_max (to_z w64 c.loop-bit.greatest-bits) z) (to_z w64 c.loop-bit.greatest-bits)) (to_z-of_z w64 (get_or values row (pos 0)) fits) c.greater_where-greatest.ensures)
     ∙ ap (λ k. greatest (values_below k rows values)) next
 
 pub returns : goal.returns

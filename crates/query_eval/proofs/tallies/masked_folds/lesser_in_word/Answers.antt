@@ -16,10 +16,10 @@ loop-bit-preserved c rows on h =
     let row : ℕ = c.args.first + bit in
     let values = c.args.values.now in
     let fits : FitsSigned w64 (get_or values row (pos 0)) = search rules in
-    let now : FitsSigned w64 c.lesser_if-least.result = search rules in
+    let now : FitsSigned w64 c.lesser_where-least.result = search rules in
     let next : row + 1 ≡ c.args.first + (bit + 1) = omega arith in
-    least_more row rows values c.is_set.result (to_z w64 c.loop-bit.least-bits) (to_z w64 (of_z w64 c.lesser_if-least.result)) (sym (on bit c.loop-bit-test.true) ∙ sym c.is_set.ensures) (c.loop-bit.invariant rows on h)
-    (to_z-of_z w64 c.lesser_if-least.result now ∙ subst (λ (z : ℤ). c.lesser_if-least.result ≡ cond c.is_set.result (int_min (to_z w64 c.loop-bit.least-bits) z) (to_z w64 c.loop-bit.least-bits)) (to_z-of_z w64 (get_or values row (pos 0)) fits) c.lesser_if-least.ensures)
+    least_more row rows values c.is_set.result (to_z w64 c.loop-bit.least-bits) (to_z w64 (of_z w64 c.lesser_where-least.result)) (sym (on bit c.loop-bit-test.true) ∙ sym c.is_set.ensures) (c.loop-bit.invariant rows on h)
+    (to_z-of_z w64 c.lesser_where-least.result now ∙ subst (λ (z : ℤ). c.lesser_where-least.result ≡ cond c.is_set.result (int_min (to_z w64 c.loop-bit.least-bits) z) (to_z w64 c.loop-bit.least-bits)) (to_z-of_z w64 (get_or values row (pos 0)) fits) c.lesser_where-least.ensures)
     ∙ ap (λ k. least (values_below k rows values)) next
 
 pub returns : goal.returns
