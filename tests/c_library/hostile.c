@@ -116,6 +116,8 @@ static bytes bytes_of(const char *text) {
     return made;
 }
 
+static const char ROWS[] = "A,B\n1,10\n2,\n3,-9223372036854775808\n";
+
 /* The inputs of the calls, where each is answered. */
 typedef struct inputs {
     bytes file;
@@ -124,16 +126,15 @@ typedef struct inputs {
 
 static inputs make_inputs(void) {
     static const char table[] = "T A SMALLINT B BIGINT";
-    static const char csv[] = "A,B\n1,10\n2,\n3,-9223372036854775808\n";
     uint64_t no_words = 0;
     inputs made;
     bytes empty, other, summary;
     TAKE(empty, lanes_create(text_of(table), strlen(table), out, room, &length, &place));
-    TAKE(made.file, lanes_import(empty.at, empty.length, text_of(csv), strlen(csv), true, 1, 1, &no_words, 0, out, room, &length, &place));
+    TAKE(made.file, lanes_import(empty.at, empty.length, text_of(ROWS), strlen(ROWS), true, 1, 1, &no_words, 0, out, room, &length, &place));
     TAKE(other, lanes_import(empty.at, empty.length, text_of("B,A\n7,7\n"), 8, true, 2, 1, &no_words, 0, out, room, &length, &place));
     TAKE(summary, lanes_summary(empty.at, empty.length, out, room, &length, &place));
     for (size_t call = 0; call < COUNT; call++) made.others[call] = copy_of("", 0);
-    const char *texts[] = {table, csv, "SELECT A,AVG(B) FROM T GROUP BY A", "B IS NULL"};
+    const char *texts[] = {table, ROWS, "SELECT A,AVG(B) FROM T GROUP BY A", "B IS NULL"};
     for (size_t at = 0; at < 4; at++) {
         free(made.others[3 + at].at);
         made.others[3 + at] = copy_of(texts[at], strlen(texts[at]));
@@ -215,7 +216,7 @@ static void try_names(const inputs *good) {
     expect(number == LANES_BAD_NAME && is_untouched(out, 0), "a number of 0");
     number = lanes_import(good->file.at, good->file.length, text_of("9,9\n"), 4, false, 0, 0, &words, 0, out, ROOM, &length, &place);
     expect(number == LANES_NUMBERS_SPENT && is_untouched(out, 0), "no word to draw a name of");
-    TAKE(other, lanes_import(good->file.at, good->file.length, text_of("A,B\n1,10\n2,\n3,-9223372036854775808\n"), 36, true, 1, 1, &words, 0, out, room, &length, &place));
+    TAKE(other, lanes_import(good->file.at, good->file.length, text_of(ROWS), strlen(ROWS), true, 1, 1, &words, 0, out, room, &length, &place));
     expect(are_same(other, good->file), "an import that comes twice");
     TAKE(table, lanes_create(text_of("U A SMALLINT"), 12, out, room, &length, &place));
     number = lanes_merge(good->file.at, good->file.length, table.at, table.length, out, ROOM, &length, &place);

@@ -19,4 +19,4 @@ pub returns-in_err-done : goal.returns-in_err-done
 returns-in_err-done c =
     let p = err_from_is_err_and c.from_residual.result c.from_residual.ensures.1 in
     rw (p.1, p.2) (refused_given (λ (done : Deleted). done.rows) (λ (done : Deleted). not (done.rows == 0)) c.in_err-done.field-0.0 (told c.in_err-done.field-0.0) c.args.file.now _ _ _ (deleting c.args.condition.now) refl
-        (ap (λ (w : Bor (List ℕ) × ℕ). w.0.now) c.new-2.ensures) (ap (λ (w : Vec ℕ × ℕ). w.0.items) c.new-writer.ensures ∙ c.new.ensures.items) c.in_err-done.ensures.made)
+    (ap (λ (w : Bor (List ℕ) × ℕ). w.0.now) c.new-2.ensures) (ap (λ (w : Vec ℕ × ℕ). w.0.items) c.new-writer.ensures ∙ c.new.ensures.items) c.in_err-done.ensures.made)
