@@ -1,0 +1,2 @@
+pub mod Givings
+pub mod Importings

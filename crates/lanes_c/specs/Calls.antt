@@ -1,0 +1,97 @@
+-- What the calls for C give, as functions of the bytes that they are given.
+use Rattle.std.specs.Prelude.{◌≡◌, ◌⊎◌, ℕ, Bool, true, false, cond, List, [], ◌∷◌, ◌++◌, codes, Option, Some, None, Result, Ok, Err}
+use Rattle.std.specs.Str.{IsUtf8}
+use Rattle.std.specs.Str.Lossy.{utf8_valid_len}
+use Rattle.table_model.specs.Answer.{AnswerParts, answer_text}
+use Rattle.table_model.specs.Reading.{◌>>=◌}
+use Rattle.table_model.specs.State.{State, empty_state}
+use Rattle.table_model.specs.Table.{Table, schema_of}
+use Rattle.table_model.specs.declared.refusal.Refusal.{Refusal}
+use Rattle.table_model.specs.declared.refusal.Refusal.TheVariants.{Memory, Syntax, BadSchema}
+use Rattle.column_file.specs.Files.{canonical_file, checked_from, offer_bytes, offer_read}
+use Rattle.column_file.specs.Input.{IsUnread}
+use Rattle.column_file.specs.SummaryBytes.{summary_read}
+use Rattle.replica_store.specs.Exchange.{OfferForm, SummaryForm, offered}
+use Rattle.replica_store.specs.Replica.{Replica}
+use Rattle.store_view.specs.Asked.{query_answer}
+use Rattle.replica_files.specs.Commands as commands
+use Rattle.replica_files.specs.Dumps.{dumping}
+use Rattle.script_lines.specs.Line.{command_of}
+use Rattle.script_lines.specs.TableWords.{TableWords}
+use Rattle.script_lines.specs.declared.command.Command.{Command}
+use Rattle.script_lines.specs.declared.command.Command.TheVariants.{Table as MakesTable}
+use Rattle.lanes_main.specs.FileReport.{checked_text}
+use Rattle.lanes_c.specs.Rooms.{Given}
+use Rattle.lanes_c.specs.declared.fault.Fault.{Fault}
+use Rattle.lanes_c.specs.declared.fault.Fault.TheVariants.{Refused}
+
+-- ---- what is given
+
+-- What is given is what a meaning gives, the bytes or the refusal; a want of memory may come in the place of anything, and so may
+-- ReadFault, which stands for an input of more than 2^48 bytes.
+abbrev pub Yields : Given → Result (List ℕ) Refusal → Type 0
+Yields (Ok bytes) meaning = meaning ≡ Ok bytes
+Yields (Err (Refused e)) meaning = (meaning ≡ Err e) ⊎ IsUnread e
+Yields (Err other) meaning = ⊥
+
+-- the same where a text is asked: bytes that are no text are refused before all else
+abbrev pub Asks : Given → List ℕ → Result (List ℕ) Refusal → Type 0
+Asks given text meaning = (IsUtf8 text → Yields given meaning) × ((IsUtf8 text → ⊥) → given ≡ Err (Refused (Syntax (utf8_valid_len text))))
+
+-- ---- the calls
+
+-- lanes_check: the line of a file's check
+abbrev pub check_of : List ℕ → Result (List ℕ) Refusal
+check_of file = checked_from file >>= λ found. Ok (checked_text found)
+
+-- lanes_query: the text of a query's answer over what a file holds
+abbrev pub query_of : List ℕ → List ℕ → Result (List ℕ) Refusal
+query_of sql file = commands.held_in file >>= λ r. query_answer sql r.schema r.state >>= λ answer. Ok (answer_text answer)
+
+-- lanes_dump: the live rows of what a file holds
+abbrev pub dump_of : Bool → List ℕ → Result (List ℕ) Refusal
+dump_of has_names file = commands.held_in file >>= λ r. Ok (dumping has_names r)
+
+-- the line of a script that makes a table of these words
+abbrev pub line_of : List ℕ → List ℕ
+line_of words = codes "table 1 " ++ words
+
+-- the words of a table, as such a line has them
+abbrev pub words_in : Option Command → Result TableWords Refusal
+words_in (Some (MakesTable words)) = Ok words
+words_in other = Err BadSchema
+
+-- the canonical file of the empty table of some words
+abbrev pub empty_file_of : TableWords → Result (List ℕ) Refusal
+empty_file_of words = schema_of words.table words.columns >>= λ table. Ok (canonical_file table empty_state)
+
+-- lanes_create: the same of the words that a text has
+abbrev pub create_of : List ℕ → Result (List ℕ) Refusal
+create_of text = words_in (command_of (line_of text)) >>= empty_file_of
+
+-- lanes_delete: the canonical file without the rows at which a condition is true
+abbrev pub delete_of : List ℕ → List ℕ → Result (List ℕ) Refusal
+delete_of condition file = commands.file_made (commands.held_in file >>= commands.deleting condition)
+
+-- lanes_summary: the summary of what a file holds
+abbrev pub summary_of : List ℕ → Result (List ℕ) Refusal
+summary_of file = commands.held_in file >>= commands.summarizing
+
+-- lanes_apply: the canonical file of what a file holds and an offer brings
+abbrev pub apply_of : List ℕ → List ℕ → Result (List ℕ) Refusal
+apply_of offer file = offer_read offer >>= λ o. commands.file_made (commands.held_in file >>= commands.applying (o ∷ []))
+
+-- lanes_merge: the canonical file of what two files hold
+abbrev pub merge_of : List ℕ → List ℕ → Result (List ℕ) Refusal
+merge_of one other = commands.written_of (commands.merged_files one (other ∷ []))
+
+-- the state that is offered of what a file holds to a summary; refused are the summary, the file, or that they are of two tables
+abbrev pub offered_of : List ℕ → List ℕ → Result State Refusal
+offered_of summary file = summary_read summary >>= λ s. commands.held_in file >>= λ r. offered r s
+
+-- lanes_offer: the bytes are an offer of what the file holds to the summary, and are read as that
+abbrev pub OffersTo : Given → List ℕ → List ℕ → Type 0
+OffersTo (Ok bytes) summary file =
+    (r : Replica) × (s : SummaryForm) × (o : OfferForm) × (commands.held_in file ≡ Ok r) × (summary_read summary ≡ Ok s) × commands.OffersTo r s o × (bytes ≡ offer_bytes o)
+OffersTo (Err (Refused e)) summary file = (offered_of summary file ≡ Err e) ⊎ IsUnread e
+OffersTo (Err other) summary file = ⊥

@@ -1,0 +1,40 @@
+-- What an import for C gives.
+use Rattle.std.specs.Prelude.{◌≡◌, ℕ, Bool, cond, ◌&&◌, ◌==◌, List, Option, Some, None, Result, Ok, Err}
+use Rattle.table_model.specs.State.{Batch}
+use Rattle.table_model.specs.Reading.{◌>>=◌}
+use Rattle.table_model.specs.declared.names.BatchName.{BatchName}
+use Rattle.table_model.specs.declared.refusal.Refusal.{Refusal}
+use Rattle.replica_store.specs.Replica.{Replica}
+use Rattle.csv_rows.specs.CsvText.{csv_rows}
+use Rattle.csv_rows.specs.declared.error.CsvError.TheVariants as csv
+use Rattle.replica_files.specs.Commands.{held_in, file_made}
+use Rattle.replica_files.specs.CsvLoads.{AreCut}
+use Rattle.replica_files.specs.Loads.{LoadForm, importing}
+use Rattle.lanes_c.specs.Calls.{Yields}
+use Rattle.lanes_c.specs.Rooms.{Given}
+use Rattle.lanes_c.specs.declared.fault.Fault.{Fault}
+use Rattle.lanes_c.specs.declared.fault.Fault.TheVariants as faults
+
+-- the batches of a load are the rows of a text, read as rows of the table that a file holds
+abbrev pub Loads : List ℕ → List ℕ → Bool → LoadForm → Type 0
+Loads file text has_heading load =
+    (r : Replica) × (rows : Batch) × (held_in file ≡ Ok r) × (csv_rows r.schema has_heading text ≡ Ok rows) × (load.schema ≡ r.schema) × AreCut rows load.batches
+
+-- A fault of the text is its first one. Nothing is said here of other refusals.
+abbrev pub IsFaultOfText : List ℕ → List ℕ → Bool → Fault → Type 0
+IsFaultOfText file text has_heading (faults.Refused e) = Unit {0}
+IsFaultOfText file text has_heading (faults.BadCsv line column) = (r : Replica) × (held_in file ≡ Ok r) × (csv_rows r.schema has_heading text ≡ Err (csv.BadCsv line column))
+IsFaultOfText file text has_heading (faults.LineTooLong line) = (r : Replica) × (held_in file ≡ Ok r) × (csv_rows r.schema has_heading text ≡ Err (csv.LineTooLong line))
+
+-- the name of these numbers; none where both are 0
+abbrev pub name_given : ℕ → ℕ → Option BatchName
+name_given origin number = cond (origin == 0 && number == 0) None (Some (record { origin = record { 0 = origin }; number = record { 0 = number } }))
+
+-- the canonical file of what a file holds and a load brings, under a name that is given or drawn of words
+abbrev pub ImportsLoad : Given → LoadForm → Option BatchName → List ℕ → List ℕ → Type 0
+ImportsLoad given load first words file = Yields given (file_made (held_in file >>= importing load first words))
+
+-- lanes_import: the canonical file of what a file holds and the rows of a text, or the first fault of the text
+abbrev pub Imports : Given → List ℕ → Bool → Option BatchName → List ℕ → List ℕ → Type 0
+Imports (Ok bytes) text has_heading first words file = (load : LoadForm) × Loads file text has_heading load × ImportsLoad (Ok bytes) load first words file
+Imports (Err fault) text has_heading first words file = IsFaultOfText file text has_heading fault

@@ -1,0 +1,141 @@
+//! Why a call gave nothing, as C is told: a number and a place.
+ghost use Rattle.std.specs.Prelude.{◌≡◌};
+ghost use Rattle.lanes_c.specs.Faults.{number_of_fault, place_of, place_of_fault, nowhere, pair, told, told_of_csv};
+ghost use Rattle.lanes_c.specs.declared.fault.Fault.TheVariants.{Refused};
+ghost use Rattle.table_model.specs.declared.refusal.Refusal.TheVariants.{Memory};
+
+use csv_rows::CsvError;
+use std::alloc::AllocError;
+use table_model::Refusal;
+
+/// Where a call was refused: one or two numbers, which the refusal's name explains, and 0 for each that it has not.
+#[repr(C)]
+#[derive(Clone, Copy, Debug, PartialEq, Eq)]
+pub struct Place {
+    /// A byte of the input from 0; a row from 0; the origin of a batch; a line from 1.
+    pub first: u64,
+    /// A column from 0; the number of a batch; a field of a line from 1, and 0 for a wrong number of fields.
+    pub second: u64,
+}
+
+/// Why a call gave nothing.
+#[derive(Clone, Copy, Debug, PartialEq, Eq)]
+pub enum Fault {
+    /// What the table's own calls refuse.
+    Refused(Refusal),
+    /// Comma-separated values outside the grammar: the line, from 1, and its field, from 1, or 0 for a wrong number of fields.
+    BadCsv { line: u64, column: u64 },
+    /// A line of comma-separated values that is too long.
+    LineTooLong { line: u64 },
+}
+
+/// A refusal as it is told: what is written into memory fails to be written only where memory lacks.
+impl From<Refusal> for Fault {
+    ghost from_gives = { λ refusal fault. fault ≡ told refusal };
+
+    fn from(refusal: Refusal) -> Fault {
+        match refusal {
+            Refusal::WriteFault => Fault::Refused(Refusal::Memory),
+            _ => Fault::Refused(refusal),
+        }
+    }
+}
+
+impl From<CsvError> for Fault {
+    ghost from_gives = { λ error fault. fault ≡ told_of_csv error };
+
+    fn from(error: CsvError) -> Fault {
+        match error {
+            CsvError::BadCsv { line, column } => Fault::BadCsv { line, column },
+            CsvError::LineTooLong { line } => Fault::LineTooLong { line },
+            CsvError::Refused(refusal) => Fault::from(refusal),
+        }
+    }
+}
+
+impl From<AllocError> for Fault {
+    ghost from_gives = { λ _ fault. fault ≡ Refused Memory };
+
+    fn from(_lacking: AllocError) -> Fault {
+        Fault::Refused(Refusal::Memory)
+    }
+}
+
+/// The number of `BadCsv`, which is no refusal of the table's own calls.
+pub const BAD_CSV: u8 = 38;
+
+impl Place {
+    /// No place.
+    pub fn nowhere() -> Place
+        ensures { result ≡ nowhere }
+    {
+        Place::at(0)
+    }
+
+    /// A place of one number.
+    fn at(first: u64) -> Place
+        ensures { result ≡ pair first 0 }
+    {
+        Place { first, second: 0 }
+    }
+
+    /// The place that a refusal names.
+    pub fn of(refusal: Refusal) -> Place
+        ensures { result ≡ place_of refusal }
+    {
+        match refusal {
+            Refusal::Conflict(name) => Place {
+                first: u64::from(name.origin.0),
+                second: u64::from(name.number.0),
+            },
+            Refusal::OutOfType { row, column } => Place {
+                first: row as u64,
+                second: column as u64,
+            },
+            Refusal::WrongArity(row) => Place::at(row as u64),
+            Refusal::Truncated(at)
+            | Refusal::BadOrder(at)
+            | Refusal::BadCount(at)
+            | Refusal::BadWidth(at)
+            | Refusal::BadTag(at)
+            | Refusal::BadMask(at)
+            | Refusal::BadDictionary(at)
+            | Refusal::BadCode(at)
+            | Refusal::BadRange(at)
+            | Refusal::TrailingBytes(at)
+            | Refusal::NotCanonical(at)
+            | Refusal::Syntax(at)
+            | Refusal::NoSuchColumn(at)
+            | Refusal::NotGrouped(at)
+            | Refusal::NumberTooLarge(at) => Place::at(at),
+            _ => Place::nowhere(),
+        }
+    }
+}
+
+impl Fault {
+    /// The number that C is answered: a refusal's own, and 38 for `BadCsv`.
+    pub fn number(self) -> u8
+        ensures { result ≡ number_of_fault self }
+    {
+        match self {
+            Fault::Refused(refusal) => refusal.number(),
+            Fault::BadCsv { .. } => BAD_CSV,
+            Fault::LineTooLong { .. } => Refusal::LineTooLong.number(),
+        }
+    }
+
+    /// The place that C is told.
+    pub fn place(self) -> Place
+        ensures { result ≡ place_of_fault self }
+    {
+        match self {
+            Fault::Refused(refusal) => Place::of(refusal),
+            Fault::BadCsv { line, column } => Place {
+                first: line,
+                second: column,
+            },
+            Fault::LineTooLong { line } => Place::at(line),
+        }
+    }
+}

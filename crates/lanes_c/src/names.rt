@@ -1,0 +1,171 @@
+//! What a number and a place say: a refusal's name and its sentence; and the library's version.
+ghost use Rattle.std.specs.Prelude.{◌≡◌, ◌⊎◌, ◌<◌, IfSome, IfNone, codes, ⊤};
+ghost use Rattle.table_model.specs.RefusalText.{number_of};
+ghost use Rattle.lanes_c.specs.Names.{IsNameOf};
+ghost use Rattle.lanes_c.specs.Rooms.{IsFilled};
+
+use crate::fault::{BAD_CSV, Place};
+use crate::room::fill;
+use refusal_sentences::{CommandRefusal, Knowledge, Sentence};
+use std::alloc::{AllocError, Global};
+use table_model::{BatchName, Number, Origin, Refusal};
+
+/// The library's version, which is the program's.
+const VERSION: &str = "0.1.0";
+
+/// A number's low 32 bits.
+fn low(number: u64) -> u32 {
+    (number % 4_294_967_296) as u32
+}
+
+/// The refusal of a number from 1 to 12, at a place.
+fn refusal_of_calls(number: u8, place: Place) -> Option<Refusal>
+    ensures some { IfSome result (λ refusal. number_of refusal ≡ number) }
+    ensures none { IfNone result ((number ≡ 0) ⊎ (12 < number)) }
+{
+    match number {
+        1 => Some(Refusal::Memory),
+        2 => Some(Refusal::Conflict(BatchName {
+            origin: Origin(low(place.first)),
+            number: Number(low(place.second)),
+        })),
+        3 => Some(Refusal::Full),
+        4 => Some(Refusal::EmptyBatch),
+        5 => Some(Refusal::BatchTooLong),
+        6 => Some(Refusal::WrongArity(place.first as usize)),
+        7 => Some(Refusal::OutOfType {
+            row: place.first as usize,
+            column: place.second as usize,
+        }),
+        8 => Some(Refusal::SchemaDiffers),
+        9 => Some(Refusal::NumbersSpent),
+        10 => Some(Refusal::NoSuchVector),
+        11 => Some(Refusal::BadName),
+        12 => Some(Refusal::BadSchema),
+        _ => None,
+    }
+}
+
+/// The refusal of a number from 13 to 25, at a byte.
+fn refusal_of_bytes(number: u8, at: u64) -> Option<Refusal>
+    ensures some { IfSome result (λ refusal. number_of refusal ≡ number) }
+    ensures none { IfNone result ((number < 13) ⊎ (25 < number)) }
+{
+    match number {
+        13 => Some(Refusal::Truncated(at)),
+        14 => Some(Refusal::BadMagic),
+        15 => Some(Refusal::BadVersion),
+        16 => Some(Refusal::BadOrder(at)),
+        17 => Some(Refusal::BadCount(at)),
+        18 => Some(Refusal::BadWidth(at)),
+        19 => Some(Refusal::BadTag(at)),
+        20 => Some(Refusal::BadMask(at)),
+        21 => Some(Refusal::BadDictionary(at)),
+        22 => Some(Refusal::BadCode(at)),
+        23 => Some(Refusal::BadRange(at)),
+        24 => Some(Refusal::TrailingBytes(at)),
+        25 => Some(Refusal::NotCanonical(at)),
+        _ => None,
+    }
+}
+
+/// The refusal of a number from 26 to 37, at a byte.
+fn refusal_of_texts(number: u8, at: u64) -> Option<Refusal>
+    ensures some { IfSome result (λ refusal. number_of refusal ≡ number) }
+    ensures none { IfNone result ((number < 26) ⊎ (37 < number)) }
+{
+    match number {
+        26 => Some(Refusal::Syntax(at)),
+        27 => Some(Refusal::NoSuchTable),
+        28 => Some(Refusal::NoSuchColumn(at)),
+        29 => Some(Refusal::NotGrouped(at)),
+        30 => Some(Refusal::NumberTooLarge(at)),
+        31 => Some(Refusal::TooDeep),
+        32 => Some(Refusal::LineTooLong),
+        33 => Some(Refusal::ReadFault),
+        34 => Some(Refusal::WriteFault),
+        35 => Some(Refusal::BadLine),
+        36 => Some(Refusal::NoSuchReplica),
+        37 => Some(Refusal::NoSuchMessage),
+        _ => None,
+    }
+}
+
+/// The refusal of a number from 1 to 37, at a place.
+fn refusal_of(number: u8, place: Place) -> Option<Refusal>
+    ensures some { IfSome result (λ refusal. number_of refusal ≡ number) }
+    ensures none { IfNone result ((number ≡ 0) ⊎ (37 < number)) }
+{
+    if number < 13 {
+        refusal_of_calls(number, place)
+    } else if number < 26 {
+        refusal_of_bytes(number, place.first)
+    } else {
+        refusal_of_texts(number, place.first)
+    }
+}
+
+/// The name of a number; empty where it has none.
+fn name_of(number: u8) -> &'static str
+    ensures { IsNameOf number result.now }
+{
+    if number == BAD_CSV {
+        return "BadCsv";
+    }
+    match refusal_of(number, Place::nowhere()) {
+        Some(refusal) => refusal.name(),
+        None => "",
+    }
+}
+
+/// Gives the name of a refusal's number, and its length; 0 where the number has none.
+#[unsafe(no_mangle)]
+pub extern "C" fn lanes_refusal(number: u8, room: &mut [u8]) -> usize
+    ensures { IsFilled (λ name. IsNameOf number name) result room.old room.new }
+{
+    let name = name_of(number);
+    fill(name.as_bytes(), room);
+    name.len()
+}
+
+/// The sentence of a refusal at a place; none where the number has none.
+fn sentence_of(alloc: Global, number: u8, place: Place) -> Result<String, AllocError> {
+    if number == BAD_CSV {
+        let refusal = CommandRefusal::BadCsv {
+            line: place.first,
+            column: place.second,
+        };
+        return format!(in alloc; "{}", Sentence::new(refusal));
+    }
+    let Some(refusal) = refusal_of(number, place) else {
+        return Ok(String::new(alloc));
+    };
+    let mut sentence = Sentence::new(CommandRefusal::Named(refusal));
+    if refusal == Refusal::LineTooLong && place.first != 0 {
+        sentence.knowledge = Knowledge::Line(place.first);
+    }
+    format!(in alloc; "{sentence}")
+}
+
+/// Gives the sentence of a refusal's number and place, and its length; 0 where the number has none, or memory lacks.
+#[unsafe(no_mangle)]
+pub extern "C" fn lanes_sentence(alloc: Global, number: u8, place: &Place, room: &mut [u8]) -> usize
+    ensures { IsFilled (λ sentence. ⊤) result room.old room.new }
+{
+    match sentence_of(alloc, number, *place) {
+        Ok(sentence) => {
+            fill(sentence.as_bytes(), room);
+            sentence.len()
+        }
+        Err(_) => 0,
+    }
+}
+
+/// Gives the library's version, as `0.1.0`, and its length.
+#[unsafe(no_mangle)]
+pub extern "C" fn lanes_version(room: &mut [u8]) -> usize
+    ensures { IsFilled (λ text. text ≡ codes "0.1.0") result room.old room.new }
+{
+    fill(VERSION.as_bytes(), room);
+    VERSION.len()
+}

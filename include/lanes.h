@@ -1,0 +1,192 @@
+/* lanes.h: a replicated column store for one table of nullable integer columns, over files in memory.
+ *
+ * Each call is given bytes and gives bytes. It reads and writes no file, opens nothing, prints nothing, and keeps nothing once it has
+ * returned. So any number of threads may call at once.
+ *
+ * Who owns what. All memory is the caller's. A call changes its room, *length and *place, and nothing else. What it needs while it runs
+ * it takes from malloc, and has given back when it returns.
+ *
+ * Bytes that go in are a pointer and a length in bytes. The pointer is never null, also where the length is 0; it may be the same as
+ * another one that is only read, and must not overlap what the call writes.
+ *
+ * Bytes that come out: a call is given `out`, which has room for `room` bytes, and tells in *length how many bytes there are. Where they
+ * fit they stand at the front of `out`, and what lies behind them is as it was. Where they don't fit (*length > room) nothing is
+ * written, and the call is to be made again with more room. A room of 0 asks for the length alone; `out` isn't null then either.
+ *
+ * What is answered: 0, or the number of a refusal. A refused call tells *length as 0, writes nothing into `out`, and tells in *place
+ * where it was refused. With 0, *place is {0, 0}, and so it is where a refusal has no place. LANES_MEMORY may come in the place of any
+ * other refusal, and LANES_READ_FAULT stands for more than 2^48 bytes of input. Both are refusals of the call, and not of the bytes.
+ *
+ * A file is a canonical column file, as docs/FORMATS.md has it; the program `lanes` writes the same bytes. A text is UTF-8, without a
+ * byte 0 at its end.
+ *
+ * Don't call from a signal handler, nor from the forked child of a process with threads.
+ */
+#ifndef LANES_H
+#define LANES_H
+
+#include <stdbool.h>
+#include <stddef.h>
+#include <stdint.h>
+
+#ifdef __cplusplus
+extern "C" {
+#endif
+
+/* Where a call was refused: one or two numbers, by the refusal's number. What isn't named here is 0.
+ *
+ *   LANES_CONFLICT      first: the batch's origin; second: its number
+ *   LANES_WRONG_ARITY   first: the row, from 0
+ *   LANES_OUT_OF_TYPE   first: the row, from 0; second: the column, from 0
+ *   LANES_BAD_CSV       first: the line, from 1; second: its field, from 1, or 0 for a wrong number of fields
+ *   LANES_LINE_TOO_LONG first: the line, from 1
+ *   LANES_TRUNCATED, LANES_BAD_ORDER, LANES_BAD_COUNT, LANES_BAD_WIDTH, LANES_BAD_TAG, LANES_BAD_MASK, LANES_BAD_DICTIONARY,
+ *   LANES_BAD_CODE, LANES_BAD_RANGE, LANES_TRAILING_BYTES, LANES_NOT_CANONICAL, LANES_SYNTAX, LANES_NO_SUCH_COLUMN,
+ *   LANES_NOT_GROUPED, LANES_NUMBER_TOO_LARGE
+ *                       first: the byte of the file, the message or the text, from 0
+ */
+typedef struct lanes_place {
+    uint64_t first;
+    uint64_t second;
+} lanes_place;
+
+/* The numbers of refusals. docs/REFUSALS.md says of each what it means and what to do. */
+enum {
+    LANES_OK = 0,
+    LANES_MEMORY = 1,
+    LANES_CONFLICT = 2,
+    LANES_FULL = 3,
+    LANES_EMPTY_BATCH = 4,
+    LANES_BATCH_TOO_LONG = 5,
+    LANES_WRONG_ARITY = 6,
+    LANES_OUT_OF_TYPE = 7,
+    LANES_SCHEMA_DIFFERS = 8,
+    LANES_NUMBERS_SPENT = 9,
+    LANES_NO_SUCH_VECTOR = 10,
+    LANES_BAD_NAME = 11,
+    LANES_BAD_SCHEMA = 12,
+    LANES_TRUNCATED = 13,
+    LANES_BAD_MAGIC = 14,
+    LANES_BAD_VERSION = 15,
+    LANES_BAD_ORDER = 16,
+    LANES_BAD_COUNT = 17,
+    LANES_BAD_WIDTH = 18,
+    LANES_BAD_TAG = 19,
+    LANES_BAD_MASK = 20,
+    LANES_BAD_DICTIONARY = 21,
+    LANES_BAD_CODE = 22,
+    LANES_BAD_RANGE = 23,
+    LANES_TRAILING_BYTES = 24,
+    LANES_NOT_CANONICAL = 25,
+    LANES_SYNTAX = 26,
+    LANES_NO_SUCH_TABLE = 27,
+    LANES_NO_SUCH_COLUMN = 28,
+    LANES_NOT_GROUPED = 29,
+    LANES_NUMBER_TOO_LARGE = 30,
+    LANES_TOO_DEEP = 31,
+    LANES_LINE_TOO_LONG = 32,
+    LANES_READ_FAULT = 33,
+    LANES_WRITE_FAULT = 34,
+    LANES_BAD_LINE = 35,
+    LANES_NO_SUCH_REPLICA = 36,
+    LANES_NO_SUCH_MESSAGE = 37,
+    LANES_BAD_CSV = 38
+};
+
+/* Makes the file of an empty table. The words are the table's name and, column by column, the column's name and its type, with one
+ * space between: "COUNTS SITE SMALLINT HITS INTEGER". A type is TINYINT, SMALLINT, INTEGER or BIGINT. Names are folded to upper case.
+ *
+ * Gives: the new file. Refused: LANES_BAD_SCHEMA. */
+uint8_t lanes_create(const uint8_t *words, size_t words_length, uint8_t *out, size_t room, size_t *length, lanes_place *place);
+
+/* Checks a file.
+ *
+ * Gives: the line "ok batches=B ranges=R" with its line feed: how many batches there are, and how many maximal ranges of deleted rows.
+ * Refused: the file's first fault, LANES_BAD_SCHEMA, LANES_BAD_NAME and LANES_TRUNCATED to LANES_NOT_CANONICAL. Each call that is
+ * given a file refuses the same of it. */
+uint8_t lanes_check(const uint8_t *file, size_t file_length, uint8_t *out, size_t room, size_t *length, lanes_place *place);
+
+/* Answers a query, of which docs/SQL.md has the grammar.
+ *
+ * Gives: the answer's text: a line of headings, and a line for each row, fields joined by commas. A null is NULL, a whole number has up to
+ * 39 digits, and a mean six decimals.
+ * Refused, in this order: LANES_SYNTAX at the first byte that is no UTF-8; the file's first fault; LANES_SYNTAX, LANES_NUMBER_TOO_LARGE,
+ * LANES_TOO_DEEP; LANES_NO_SUCH_TABLE; LANES_NO_SUCH_COLUMN, LANES_NOT_GROUPED. Their places are bytes of the query. */
+uint8_t lanes_query(const uint8_t *file, size_t file_length, const uint8_t *sql, size_t sql_length, uint8_t *out, size_t room,
+                    size_t *length, lanes_place *place);
+
+/* Gives the live rows as comma-separated values, as lanes_import takes them: a line of the columns' names, and a line for each row, in
+ * order of row name; a null is an empty field. With has_names the columns BATCH and ORDINAL, which name the row, come first.
+ *
+ * Refused: the file's first fault. */
+uint8_t lanes_dump(const uint8_t *file, size_t file_length, bool has_names, uint8_t *out, size_t room, size_t *length,
+                   lanes_place *place);
+
+/* Imports rows of comma-separated values. With has_heading the first line names all columns, in any order. A field is a whole number,
+ * in double quotes or not; an empty one, NULL and \N are nulls. Rows become batches of 65,536 rows, the last one shorter.
+ *
+ * The batches have consecutive names; the first is origin.number. The same rows under the same name are there already, so an import may
+ * be sent twice; other rows under a name that is held are LANES_CONFLICT. Where origin and number are both 0 the name is drawn of
+ * `words`, words_count random numbers of the caller: of the first of them from which all names are free. Four are plenty. Where a name is
+ * given, words_count may be 0.
+ *
+ * Gives: the new file; it is the given file where nothing was new.
+ * Refused, in this order: the file's first fault; LANES_BAD_CSV, LANES_LINE_TOO_LONG; LANES_BAD_NAME where one of origin and number
+ * is 0; LANES_NUMBERS_SPENT where names go past 4,294,967,295 or no word gives a free one; LANES_CONFLICT; LANES_FULL. */
+uint8_t lanes_import(const uint8_t *file, size_t file_length, const uint8_t *csv, size_t csv_length, bool has_heading, uint32_t origin,
+                     uint32_t number, const uint64_t *words, size_t words_count, uint8_t *out, size_t room, size_t *length,
+                     lanes_place *place);
+
+/* Deletes the rows at which a condition is true: what stands after WHERE in a query.
+ *
+ * Gives: the new file; it is the given file where there was no such row.
+ * Refused, in this order: LANES_SYNTAX at the first byte that is no UTF-8; the file's first fault; LANES_SYNTAX, LANES_NUMBER_TOO_LARGE,
+ * LANES_TOO_DEEP; LANES_NO_SUCH_COLUMN. Their places are bytes of the condition. */
+uint8_t lanes_delete(const uint8_t *file, size_t file_length, const uint8_t *condition, size_t condition_length, uint8_t *out,
+                     size_t room, size_t *length, lanes_place *place);
+
+/* Gives the summary of a file: the names of its batches, by which another replica knows what it lacks.
+ *
+ * Refused: the file's first fault. */
+uint8_t lanes_summary(const uint8_t *file, size_t file_length, uint8_t *out, size_t room, size_t *length, lanes_place *place);
+
+/* Gives the offer of a file to another's summary: the batches that the other lacks, and all deletions.
+ *
+ * Refused, in this order: the summary's first fault, with its place in the summary; the file's; LANES_SCHEMA_DIFFERS. */
+uint8_t lanes_offer(const uint8_t *file, size_t file_length, const uint8_t *summary, size_t summary_length, uint8_t *out, size_t room,
+                    size_t *length, lanes_place *place);
+
+/* Applies an offer to a file. A file is an offer too.
+ *
+ * Gives: the new file; it is the given file where the offer brings nothing.
+ * Refused, in this order: the offer's first fault, with its place in the offer; the file's; LANES_SCHEMA_DIFFERS; LANES_CONFLICT with
+ * the least name that has two lists of rows; LANES_FULL. */
+uint8_t lanes_apply(const uint8_t *file, size_t file_length, const uint8_t *offer, size_t offer_length, uint8_t *out, size_t room,
+                    size_t *length, lanes_place *place);
+
+/* Merges two files. Whichever comes first, and however often, the bytes are the same.
+ *
+ * Gives: the file of what both hold.
+ * Refused, in this order: the one file's first fault; the other's; LANES_SCHEMA_DIFFERS; LANES_CONFLICT with the least name that has two
+ * lists of rows; LANES_FULL. */
+uint8_t lanes_merge(const uint8_t *one, size_t one_length, const uint8_t *other, size_t other_length, uint8_t *out, size_t room,
+                    size_t *length, lanes_place *place);
+
+/* Gives the name of a refusal's number, as "NotCanonical", without a byte 0 at its end, and answers how many bytes it has: 0 where the
+ * number has no name. It is written where it fits. No name has more than 32 bytes. */
+size_t lanes_refusal(uint8_t number, uint8_t *out, size_t room);
+
+/* Gives a sentence for a refusal's number and place, as "byte 7: what stands here is not what the language has here", without a byte 0 at
+ * its end, and answers how many bytes it has: 0 where the number has no sentence, or memory lacks. It is written where it fits. No sentence
+ * has more than 256 bytes. */
+size_t lanes_sentence(uint8_t number, const lanes_place *place, uint8_t *out, size_t room);
+
+/* Gives the library's version, as "0.1.0", without a byte 0 at its end, and answers how many bytes it has. It is written where it
+ * fits. */
+size_t lanes_version(uint8_t *out, size_t room);
+
+#ifdef __cplusplus
+}
+#endif
+
+#endif

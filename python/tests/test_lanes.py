@@ -1,0 +1,234 @@
+"""The module `lanes`. Expected values were worked out by hand."""
+
+from __future__ import annotations
+
+import doctest
+import os
+import pathlib
+import subprocess
+import sys
+import tempfile
+import threading
+import unittest
+from decimal import Decimal
+
+import lanes
+from lanes import BatchName, Refused, Table
+
+TOP = pathlib.Path(__file__).resolve().parent.parent.parent
+
+
+def counts(*loads: tuple[str, tuple[int, int]]) -> Table:
+    """A table of counts with loads under these names."""
+    table = Table.create("COUNTS", {"SITE": "SMALLINT", "HITS": "INTEGER"})
+    for csv, batch in loads:
+        table = table.import_csv(csv, batch=batch)
+    return table
+
+
+FIRST = ("SITE,HITS\n1,10\n1,7\n2,\n", (1, 1))
+SECOND = ("HITS,SITE\n20,3\n30,1\n", (2, 1))
+
+
+class Queries(unittest.TestCase):
+    def test_rows_have_ints_means_and_none_under_their_headings(self) -> None:
+        answer = counts(FIRST).query("SELECT SITE,COUNT(*) AS N,SUM(HITS),AVG(HITS) FROM COUNTS GROUP BY SITE")
+        self.assertEqual(answer.headings, ["SITE", "N", "SUM(HITS)", "AVG(HITS)"])
+        self.assertEqual(answer, [(1, 2, 17, Decimal("8.5")), (2, 1, None, None)])
+        self.assertIs(type(answer[0][2]), int)
+        self.assertEqual(str(answer[0][3]), "8.500000")
+        self.assertEqual(answer.columns()["N"], [2, 1])
+
+    def test_an_answer_without_rows_has_headings(self) -> None:
+        answer = counts().query("SELECT SITE FROM COUNTS GROUP BY SITE")
+        self.assertEqual((answer.headings, list(answer)), (["SITE"], []))
+
+    def test_an_answer_may_be_longer_than_the_first_room(self) -> None:
+        rows = "".join(f"{n}\n" for n in range(20_000))
+        table = Table.create("T", {"A": "INTEGER"}).import_csv(rows, heading=False, batch=(1, 1))
+        answer = table.query("SELECT A,COUNT(*) FROM T GROUP BY A")
+        self.assertEqual(answer, [(n, 1) for n in range(20_000)])
+
+    def test_a_fault_of_a_query_has_a_name_a_place_and_a_sentence(self) -> None:
+        with self.assertRaises(Refused) as caught:
+            counts(FIRST).query("SELECT VISITS FROM COUNTS")
+        refused = caught.exception
+        self.assertEqual((refused.number, refused.name, refused.place), (28, "NoSuchColumn", (7,)))
+        self.assertEqual(refused.sentence, "byte 7: the table has no such column")
+        self.assertEqual(str(refused), "NoSuchColumn 7: byte 7: the table has no such column")
+
+    def test_a_query_of_other_letters_is_refused_at_its_byte(self) -> None:
+        with self.assertRaises(Refused) as caught:
+            counts().query("SELECT \u00e9 FROM COUNTS")
+        self.assertEqual((caught.exception.name, caught.exception.place), ("Syntax", (7,)))
+
+
+class Changes(unittest.TestCase):
+    def test_merges_agree_in_any_order_and_with_repeats(self) -> None:
+        one, other = counts(FIRST), counts(SECOND)
+        both = one.merge(other)
+        self.assertEqual(both, other.merge(one, other, one))
+        self.assertEqual(hash(both), hash(other.merge(one)))
+        self.assertEqual(both.query("SELECT COUNT(*),SUM(HITS) FROM COUNTS"), [(5, 67)])
+        self.assertEqual(both.check(), (2, 0))
+
+    def test_a_delete_leaves_the_table_that_it_was_asked_of(self) -> None:
+        table = counts(FIRST)
+        self.assertEqual(table.delete("HITS < 10").query("SELECT COUNT(*) FROM COUNTS"), [(2,)])
+        self.assertEqual(table.query("SELECT COUNT(*) FROM COUNTS"), [(3,)])
+        self.assertEqual(table.delete("HITS > 99"), table)
+        self.assertEqual(table.delete("HITS < 10").dump(), "SITE,HITS\n1,10\n2,\n")
+
+    def test_a_load_that_comes_twice_is_there_once(self) -> None:
+        self.assertEqual(counts(FIRST, FIRST), counts(FIRST))
+        with self.assertRaises(Refused) as caught:
+            counts(FIRST, (SECOND[0], FIRST[1]))
+        self.assertEqual((caught.exception.name, caught.exception.place), ("Conflict", (1, 1)))
+
+    def test_names_that_are_drawn_differ(self) -> None:
+        table = counts().import_csv(FIRST[0]).import_csv(FIRST[0])
+        self.assertEqual(table.check()[0], 2)
+        self.assertEqual(table.query("SELECT COUNT(*) FROM COUNTS"), [(6,)])
+
+    def test_a_name_is_dumped_with_its_rows(self) -> None:
+        table = counts().import_csv("5,5\n", heading=False, batch=BatchName(4_294_967_295, 7))
+        self.assertEqual(table.dump(names=True), "BATCH,ORDINAL,SITE,HITS\n4294967295.7,0,5,5\n")
+
+    def test_faults_of_a_text_have_their_line(self) -> None:
+        for csv, name, place in [
+            ("SITE,HITS\n1,2\n1,x\n", "BadCsv", (3, 2)),
+            ("SITE,HITS\n1\n", "BadCsv", (2, 0)),
+            ("SITE,HITS\n40000,1\n", "BadCsv", (2, 1)),
+            ("SITE,HITS\n" + "1" * 1_048_577 + "\n", "LineTooLong", (2,)),
+        ]:
+            with self.subTest(csv=csv[:20]), self.assertRaises(Refused) as caught:
+                counts().import_csv(csv)
+            self.assertEqual((caught.exception.name, caught.exception.place), (name, place))
+
+    def test_names_outside_their_range_are_no_names(self) -> None:
+        for batch in [(-1, 1), (1, 1 << 32), (0, 0)]:
+            with self.assertRaises(ValueError):
+                counts().import_csv("", heading=False, batch=batch)
+
+    def test_a_schema_outside_the_rules_is_refused(self) -> None:
+        for name, columns in [("T", {}), ("SELECT", {"A": "INTEGER"}), ("T", {"A": "TEXT"}), ("T", {"A B": "INTEGER"})]:
+            with self.subTest(name=name), self.assertRaises(Refused) as caught:
+                Table.create(name, columns)
+            self.assertEqual(caught.exception.name, "BadSchema")
+
+    def test_tables_of_other_columns_are_not_merged(self) -> None:
+        with self.assertRaises(Refused) as caught:
+            counts().merge(Table.create("COUNTS", {"SITE": "INTEGER", "HITS": "INTEGER"}))
+        self.assertEqual(caught.exception.name, "SchemaDiffers")
+
+
+class Messages(unittest.TestCase):
+    def test_a_pull_brings_what_is_lacked(self) -> None:
+        mine, theirs = counts(FIRST), counts(FIRST, SECOND).delete("SITE = 2")
+        offer = theirs.offer(mine.summary())
+        self.assertLess(len(offer), len(theirs.to_bytes()))
+        self.assertEqual(mine.apply(offer), theirs)
+        self.assertEqual(mine.apply(theirs.to_bytes()), mine.merge(theirs))
+        self.assertEqual(theirs.apply(offer), theirs)
+
+    def test_bytes_that_are_no_message_are_refused(self) -> None:
+        with self.assertRaises(Refused) as caught:
+            counts().offer(b"")
+        self.assertEqual((caught.exception.name, caught.exception.place), ("Truncated", (0,)))
+        with self.assertRaises(Refused) as caught:
+            counts().apply(b"no offer")
+        self.assertEqual(caught.exception.name, "BadMagic")
+
+
+class Files(unittest.TestCase):
+    def setUp(self) -> None:
+        self.folder = tempfile.TemporaryDirectory()
+        self.addCleanup(self.folder.cleanup)
+        self.path = os.path.join(self.folder.name, "counts.lanes")
+
+    def test_a_table_is_saved_and_opened(self) -> None:
+        table = counts(FIRST)
+        table.save(self.path)
+        opened = Table.open(self.path)
+        self.assertEqual(opened, table)
+        self.assertEqual(opened.query("SELECT COUNT(*) FROM COUNTS"), [(3,)])
+        self.assertEqual(opened.merge(counts(SECOND)), counts(FIRST, SECOND))
+        self.assertEqual(os.listdir(self.folder.name), ["counts.lanes"])
+
+    def test_a_table_stays_as_it_was_when_its_file_is_replaced(self) -> None:
+        counts(FIRST).save(self.path)
+        opened = Table.open(self.path)
+        counts(SECOND).save(self.path)
+        self.assertEqual(opened, counts(FIRST))
+        self.assertEqual(Table.open(pathlib.Path(self.path)), counts(SECOND))
+
+    def test_what_is_no_file_is_refused_by_the_first_call(self) -> None:
+        for content, name in [(b"", "Truncated"), (b"no file", "BadMagic"), (counts(FIRST).to_bytes()[:-1], "Truncated")]:
+            pathlib.Path(self.path).write_bytes(content)
+            with self.subTest(content=content), self.assertRaises(Refused) as caught:
+                Table.open(self.path).check()
+            self.assertEqual(caught.exception.name, name)
+            self.assertEqual(pathlib.Path(self.path).read_bytes(), content)
+
+    def test_the_mode_of_a_file_is_kept(self) -> None:
+        counts().save(self.path)
+        os.chmod(self.path, 0o640)
+        counts(FIRST).save(self.path)
+        self.assertEqual(os.stat(self.path).st_mode & 0o777, 0o640)
+
+    def test_the_program_reads_what_was_saved(self) -> None:
+        program = TOP / "crates" / "lanes" / "out" / "lanes"
+        if not program.is_file():
+            self.skipTest("the program is not built here")
+        counts(FIRST).save(self.path)
+        ran = subprocess.run([program, "check", self.path], capture_output=True, text=True, check=True)
+        self.assertEqual(ran.stdout, "ok batches=1 ranges=0\n")
+
+
+class Threads(unittest.TestCase):
+    def test_eight_threads_get_what_one_gets(self) -> None:
+        table = Table.create("T", {"A": "INTEGER"}).import_csv("".join(f"{n % 97}\n" for n in range(5_000)), heading=False, batch=(1, 1))
+        wanted = table.query("SELECT A,COUNT(*) FROM T GROUP BY A")
+        differing: list[str] = []
+
+        def ask() -> None:
+            for _ in range(10):
+                if table.query("SELECT A,COUNT(*) FROM T GROUP BY A") != wanted:
+                    differing.append("rows")
+
+        threads = [threading.Thread(target=ask) for _ in range(8)]
+        for thread in threads:
+            thread.start()
+        for thread in threads:
+            thread.join()
+        self.assertEqual(differing, [])
+
+
+class Module(unittest.TestCase):
+    def test_its_version_is_the_programs(self) -> None:
+        source = (TOP / "crates" / "command_line" / "src" / "requests.rt").read_text()
+        self.assertIn(f'const VERSION: &str = "{lanes.version()}";', source)
+
+    def test_its_examples_are_as_they_are_shown(self) -> None:
+        found = doctest.testmod(lanes)
+        self.assertEqual((found.failed, found.attempted), (0, 4))
+
+    def test_its_sentences_are_those_of_the_page(self) -> None:
+        page = (TOP / "docs" / "REFUSALS.md").read_text()
+        for line in page.splitlines():
+            cells = [cell.strip() for cell in line.strip("|").split("|")]
+            if cells[0].isdigit() and int(cells[0]) <= 38:
+                from lanes.calls import _Place, _refused
+
+                refused = _refused(int(cells[0]), _Place(1, 2))
+                self.assertEqual(refused.name, cells[1].strip("`").split()[0])
+                if refused.name not in ("Conflict", "BadCsv"):
+                    self.assertTrue(refused.sentence.endswith(cells[2]), refused.sentence)
+
+    def test_it_is_loaded_in_a_second(self) -> None:
+        ran = subprocess.run([sys.executable, "-c", "import lanes"], env={**os.environ, "PYTHONPATH": str(TOP / "python")}, timeout=10, check=True)
+        self.assertEqual(ran.returncode, 0)
+
+
+if __name__ == "__main__":
+    unittest.main()

@@ -1,0 +1,45 @@
+/* Two sites keep a replica each of one table, load rows, delete some, and merge. It is C11 and C++17 alike. */
+#include "bytes.h"
+
+static bytes import_rows(bytes file, const char *csv, uint32_t origin, uint32_t number) {
+    bytes made;
+    uint64_t no_words = 0;
+    TAKE(made, lanes_import(file.at, file.length, text_of(csv), strlen(csv), true, origin, number, &no_words, 0, out, room, &length,
+                            &place));
+    return made;
+}
+
+static void print_answer(bytes file, const char *sql) {
+    bytes answer;
+    TAKE(answer, lanes_query(file.at, file.length, text_of(sql), strlen(sql), out, room, &length, &place));
+    printf("%s\n%.*s", sql, (int)answer.length, (const char *)answer.at);
+    free(answer.at);
+}
+
+int main(void) {
+    static const char table[] = "COUNTS SITE SMALLINT HITS INTEGER";
+    static const char old_rows[] = "HITS < 10";
+    bytes empty, first, loaded, second, one, two, line;
+
+    TAKE(empty, lanes_create(text_of(table), strlen(table), out, room, &length, &place));
+    loaded = import_rows(empty, "SITE,HITS\n1,10\n1,7\n2,\n", 1, 1);
+    TAKE(first, lanes_delete(loaded.at, loaded.length, text_of(old_rows), strlen(old_rows), out, room, &length, &place));
+    second = import_rows(empty, "hits,site\n20,3\n30,1\n", 2, 1);
+
+    TAKE(one, lanes_merge(first.at, first.length, second.at, second.length, out, room, &length, &place));
+    TAKE(two, lanes_merge(second.at, second.length, first.at, first.length, out, room, &length, &place));
+    printf("merges are the same: %s\n", are_same(one, two) ? "yes" : "no");
+
+    TAKE(line, lanes_check(one.at, one.length, out, room, &length, &place));
+    printf("%.*s", (int)line.length, (const char *)line.at);
+    print_answer(one, "SELECT SITE,COUNT(*),SUM(HITS),AVG(HITS) FROM COUNTS GROUP BY SITE");
+
+    free(empty.at);
+    free(loaded.at);
+    free(first.at);
+    free(second.at);
+    free(one.at);
+    free(two.at);
+    free(line.at);
+    return 0;
+}
