@@ -1,5 +1,5 @@
 -- A refusal of the text, and one of its names, is that of the rows' names.
-use Rattle.std.proofs.Common.{◌≡◌, IsTrue, List, inl, inr, Ok, Err, Result, sym, ap, ◌∙◌, subst}
+use Rattle.std.proofs.Common.{IsTrue, List, inl, inr, Ok, Err, Result, sym, ap, ◌∙◌, subst}
 use Rattle.std.specs.List.{All}
 use Rattle.std.proofs.lemmas.Result.{err_from_is_err_and}
 use Rattle.table_model.specs.Formula.{Formula}
