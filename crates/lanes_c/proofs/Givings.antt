@@ -1,22 +1,20 @@
 -- What the calls of the libraries below say of a vector that they wrote into, as what is given to C.
-use Rattle.std.specs.Prelude.{◌≡◌, ◌⊎◌, ℕ, Bool, true, false, cond, List, [], ◌∷◌, ◌++◌, Option, Some, None, Result, Ok, Err}
-use Rattle.std.proofs.Common.{refl, sym, ap, subst, ◌∙◌, inl, inr, append-nil}
+use Rattle.std.specs.Prelude.{◌≡◌, ◌⊎◌, ℕ, Bool, true, false, cond, List, [], ◌∷◌, Option, Some, Result, Ok, Err}
+use Rattle.std.proofs.Common.{refl, sym, ap, subst, ◌∙◌, inl, inr}
 use Rattle.table_model.specs.Reading.{◌>>=◌}
-use Rattle.table_model.specs.State.{State, empty_state}
-use Rattle.table_model.specs.Table.{Table}
 use Rattle.table_model.specs.declared.refusal.Refusal.{Refusal}
-use Rattle.table_model.specs.declared.refusal.Refusal.TheVariants.{Memory, ReadFault, WriteFault}
-use Rattle.column_file.specs.Files.{canonical_file, checked_from, offer_bytes, offer_read}
-use Rattle.column_file.specs.Input.{Judges, IsUnread}
+use Rattle.table_model.specs.declared.refusal.Refusal.TheVariants.{Memory, WriteFault}
+use Rattle.column_file.specs.Files.{offer_read}
+use Rattle.column_file.specs.Input.{IsUnread}
 use Rattle.column_file.specs.SummaryBytes.{summary_read}
 use Rattle.replica_store.specs.Exchange.{OfferForm, SummaryForm, offered}
 use Rattle.replica_store.specs.Replica.{Replica}
-use Rattle.replica_files.specs.Commands.{held_in, file_of, file_made, written_of, merged_files, Made, Refuses, Leaves, Changes, Answers, CreatesOf, Merges, Offers, applying}
+use Rattle.replica_files.specs.Commands.{held_in, file_of, file_made, written_of, Made, Refuses, Leaves, Changes, Merges, Offers, applying}
 use Rattle.script_lines.specs.Line.{command_of}
 use Rattle.script_lines.specs.TableWords.{TableWords}
 use Rattle.script_lines.specs.declared.command.Command.{Command}
 use Rattle.script_lines.specs.declared.command.Command.TheVariants.{Table as MakesTable}
-use Rattle.lanes_c.specs.Calls.{Yields, OffersTo, apply_of, create_of, empty_file_of, line_of, merge_of, offered_of, words_in}
+use Rattle.lanes_c.specs.Calls.{Yields, OffersTo, apply_of, create_of, empty_file_of, line_of, merge_of, words_in}
 use Rattle.lanes_c.specs.Faults.{told}
 use Rattle.lanes_c.specs.Rooms.{Given}
 use Rattle.lanes_c.specs.Taking.{taken_of, LeftBy}

@@ -1,5 +1,5 @@
 -- An import, step by step: the file's table, the rows of the text as batches of it, and the file with these.
-use Rattle.std.specs.Prelude.{◌≡◌, ℕ, Bool, List, [], Option, Some, None, Result, Ok, Err}
+use Rattle.std.specs.Prelude.{◌≡◌, ℕ, Bool, List, Option, Some, Result, Ok, Err}
 use Rattle.std.proofs.Common.{refl, sym, ap, subst, ◌∙◌}
 use Rattle.table_model.specs.Reading.{◌>>=◌}
 use Rattle.table_model.specs.State.{Batch}
@@ -18,7 +18,6 @@ use Rattle.replica_files.specs.Loads.{LoadForm, empty_load}
 use Rattle.lanes_c.specs.Faults.{told, told_of_csv}
 use Rattle.lanes_c.specs.Importing.{Loads, IsFaultOfText, ImportsLoad, Imports}
 use Rattle.lanes_c.specs.Rooms.{Given}
-use Rattle.lanes_c.specs.declared.fault.Fault.{Fault}
 use Rattle.lanes_c.specs.declared.fault.Fault.TheVariants as faults
 
 -- the table of a file is that of what it holds

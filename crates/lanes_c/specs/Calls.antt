@@ -1,13 +1,13 @@
 -- What the calls for C give, as functions of the bytes that they are given.
-use Rattle.std.specs.Prelude.{◌≡◌, ◌⊎◌, ℕ, Bool, true, false, cond, List, [], ◌∷◌, ◌++◌, codes, Option, Some, None, Result, Ok, Err}
+use Rattle.std.specs.Prelude.{◌≡◌, ◌⊎◌, ℕ, Bool, List, [], ◌∷◌, ◌++◌, codes, Option, Some, Result, Ok, Err}
 use Rattle.std.specs.Str.{IsUtf8}
 use Rattle.std.specs.Str.Lossy.{utf8_valid_len}
-use Rattle.table_model.specs.Answer.{AnswerParts, answer_text}
+use Rattle.table_model.specs.Answer.{answer_text}
 use Rattle.table_model.specs.Reading.{◌>>=◌}
 use Rattle.table_model.specs.State.{State, empty_state}
-use Rattle.table_model.specs.Table.{Table, schema_of}
+use Rattle.table_model.specs.Table.{schema_of}
 use Rattle.table_model.specs.declared.refusal.Refusal.{Refusal}
-use Rattle.table_model.specs.declared.refusal.Refusal.TheVariants.{Memory, Syntax, BadSchema}
+use Rattle.table_model.specs.declared.refusal.Refusal.TheVariants.{Syntax, BadSchema}
 use Rattle.column_file.specs.Files.{canonical_file, checked_from, offer_bytes, offer_read}
 use Rattle.column_file.specs.Input.{IsUnread}
 use Rattle.column_file.specs.SummaryBytes.{summary_read}
@@ -22,7 +22,6 @@ use Rattle.script_lines.specs.declared.command.Command.{Command}
 use Rattle.script_lines.specs.declared.command.Command.TheVariants.{Table as MakesTable}
 use Rattle.lanes_main.specs.FileReport.{checked_text}
 use Rattle.lanes_c.specs.Rooms.{Given}
-use Rattle.lanes_c.specs.declared.fault.Fault.{Fault}
 use Rattle.lanes_c.specs.declared.fault.Fault.TheVariants.{Refused}
 
 -- ---- what is given

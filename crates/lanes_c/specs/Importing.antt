@@ -1,9 +1,8 @@
 -- What an import for C gives.
-use Rattle.std.specs.Prelude.{◌≡◌, ℕ, Bool, cond, ◌&&◌, ◌==◌, List, Option, Some, None, Result, Ok, Err}
+use Rattle.std.specs.Prelude.{◌≡◌, ℕ, Bool, cond, ◌&&◌, ◌==◌, List, Option, Some, None, Ok, Err}
 use Rattle.table_model.specs.State.{Batch}
 use Rattle.table_model.specs.Reading.{◌>>=◌}
 use Rattle.table_model.specs.declared.names.BatchName.{BatchName}
-use Rattle.table_model.specs.declared.refusal.Refusal.{Refusal}
 use Rattle.replica_store.specs.Replica.{Replica}
 use Rattle.csv_rows.specs.CsvText.{csv_rows}
 use Rattle.csv_rows.specs.declared.error.CsvError.TheVariants as csv

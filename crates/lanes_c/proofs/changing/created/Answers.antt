@@ -1,5 +1,5 @@
 -- The line was read as the words of a table, and its file is made.
-use Rattle.std.specs.Prelude.{◌≡◌, Option, Some}
+use Rattle.std.specs.Prelude.{◌≡◌, Some}
 use Rattle.script_lines.specs.Line.{command_of}
 use Rattle.script_lines.specs.declared.command.Command.TheVariants.{Table as MakesTable}
 use Rattle.lanes_c.specs.Rooms.{given_by}

@@ -1,6 +1,6 @@
 -- The rows are of the table that the file holds; a fault of the text is its first.
-use Rattle.std.specs.Prelude.{◌≡◌, ℕ, List}
-use Rattle.std.proofs.Common.{ap, subst, sym, Bor, Some}
+use Rattle.std.specs.Prelude.{ℕ, List}
+use Rattle.std.proofs.Common.{ap, Bor}
 use Rattle.std.proofs.lemmas.Result.{err_from_is_err_and}
 use Rattle.lanes_c.proofs.Importings.{text_fault, rows_loaded}
 use Rattle.lanes_c.proofs.changing.loaded.Goals as goal

@@ -1,5 +1,5 @@
 -- What the merge wrote is what is given.
-use Rattle.std.specs.Prelude.{◌≡◌, ℕ, List, [], ◌∷◌, Option, Some}
+use Rattle.std.specs.Prelude.{ℕ, List, [], ◌∷◌, Option, Some}
 use Rattle.std.specs.Global.{Vec}
 use Rattle.std.proofs.Common.{ap, ◌∙◌, Bor}
 use Rattle.lanes_c.specs.Rooms.{given_by}
