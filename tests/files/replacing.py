@@ -1,6 +1,7 @@
 """How a file is replaced: whole, with its mode, through links, in an order of system calls that no crash can spoil, or not at all."""
 
 import os
+import random
 import re
 import resource
 import shutil
@@ -147,7 +148,9 @@ def limited():
 
 def a_file_that_has_no_room_leaves_the_old_one(room):
     held = room.make()
-    room.refused("import", "--no-header", "t", "-", given=rows_text(200_000), line="refused WriteFault", sentence="t: this can't be written", preexec_fn=limited)
+    pick = random.Random(3)
+    rows = "".join(f"{pick.randrange(30_000)},{pick.randrange(2**62)}\n" for _ in range(70_000)).encode()
+    room.refused("import", "--no-header", "t", "-", given=rows, line="refused WriteFault", sentence="t: this can't be written", preexec_fn=limited)
     assert room.get("t") == held
     room.only("t")
 
@@ -159,7 +162,7 @@ def what_is_said_to_a_full_device_is_a_failed_write_and_the_file_is_replaced(roo
     assert status.returncode == 1 and status.stderr.startswith(b"refused WriteFault\nstandard output: "), f"it said {status.stderr!r}"
     room.ok("check", "t", prints=b"ok batches=2 ranges=0\n")
     with open("/dev/full", "wb") as full:
-        for words in (["dump", "t"], ["summary", "t"], ["inspect", "t"], ["offer", "t", "s"], ["query", "--format", "json", "t", "SELECT A FROM T"]):
+        for words in (["dump", "t"], ["summary", "t"], ["inspect", "t"], ["offer", "t", "s"], ["query", "--format", "json", "t", "SELECT SUM(A) FROM T"]):
             room.put("s", room.ok("summary", "t"))
             done = subprocess.run([room.program, *words], stdout=full, stderr=subprocess.PIPE, cwd=room.folder, timeout=60)
             assert done.returncode == 1 and done.stderr.startswith(b"refused WriteFault\n"), f"{words} said {done.stderr!r}"

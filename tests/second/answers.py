@@ -93,17 +93,24 @@ def groups_of(query, rows, place):
     return sorted(found.items(), key=lambda it: [(cell is not None, cell or 0) for cell in it[0]])
 
 
-def answer(query, rows, columns):
-    """The lines of a query's answer over the live rows of a table with these columns: its heading, and a line for each row."""
+def table_of(query, rows, columns):
+    """The heading and the rows of fields of a query's answer over the live rows of a table with these columns."""
     place = {name: at for at, name in enumerate(columns)}
     kept = [row for row in rows if query.where is None or condition(query.where, field_in_row(row, place)) == TRUE]
     names = [it.name for it in query.keys or []]
-    lines = [",".join(alias or (it.name if isinstance(it, Column) else it.spelling()) for it, alias in query.items)]
+    heading = [alias or (it.name if isinstance(it, Column) else it.spelling()) for it, alias in query.items]
+    found = []
     for cells, group in groups_of(query, kept, place):
         field = field_in_group(names, cells, group, place)
         if query.having is None or condition(query.having, field) == TRUE:
-            lines.append(",".join(spelled(field(it)) for it, _ in query.items))
-    return lines
+            found.append([field(it) for it, _ in query.items])
+    return heading, found
+
+
+def answer(query, rows, columns):
+    """The lines of a query's answer: its heading, and a line for each row."""
+    heading, found = table_of(query, rows, columns)
+    return [",".join(heading)] + [",".join(spelled(it) for it in row) for row in found]
 
 
 def names_where(where, named, columns):

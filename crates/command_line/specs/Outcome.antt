@@ -6,11 +6,16 @@ use Rattle.clap.specs.declared.error.kind.ErrorKind.{ErrorKind}
 use Rattle.clap.specs.declared.error.kind.ErrorKind.TheVariants as kinds
 use Rattle.command_line.specs.declared.fault.Fault.{Fault}
 use Rattle.command_line.specs.declared.fault.Fault.TheVariants.{CommandLine, Refused}
+use Rattle.refusal_sentences.specs.declared.command_refusal.CommandRefusal.TheVariants.{Named}
 use Rattle.table_model.specs.declared.refusal.Refusal.TheVariants.{Memory}
+
+-- memory that lacked
+abbrev pub refused_memory : Fault
+refused_memory = Refused (Named Memory)
 
 -- memory that lacked is a refusal; all else is the command line's
 abbrev pub fault_of_kind : ErrorKind → Error → Fault
-fault_of_kind kinds.OutOfMemory error = Refused Memory
+fault_of_kind kinds.OutOfMemory error = refused_memory
 fault_of_kind kind error = CommandLine error
 
 -- what the program fails with where `clap` answers an error
@@ -35,4 +40,4 @@ EndsWith fault status = (status ≡ status_of fault) ⊎ ((status ≡ 1) × (sta
 -- a command line that can't be read: memory lacks, or it has a fault other than that
 abbrev pub IsUnread : Fault → Type 0
 IsUnread (CommandLine error) = kind_of error ≢ kinds.OutOfMemory
-IsUnread (Refused refusal) = refusal ≡ Memory
+IsUnread (Refused refusal) = refusal ≡ Named Memory

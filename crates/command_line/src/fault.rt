@@ -1,12 +1,14 @@
 //! Why the program fails, and how it says so.
 ghost use Rattle.std.specs.Prelude.{◌≡◌};
 ghost use Rattle.std.specs.Process.{exit_status};
-ghost use Rattle.command_line.specs.Outcome.{EndsWith, fault_of};
+ghost use Rattle.command_line.specs.Outcome.{EndsWith, fault_of, refused_memory};
 ghost use Rattle.command_line.specs.declared.fault.Fault.TheVariants.{Refused};
-ghost use Rattle.table_model.specs.declared.refusal.Refusal.TheVariants.{Memory};
+ghost use Rattle.refusal_sentences.specs.declared.command_refusal.CommandRefusal.TheVariants.{Named};
 
+use crate::commands::commands;
 use clap::error::ErrorKind;
-use std::alloc::AllocError;
+use refusal_sentences::CommandRefusal;
+use std::alloc::{AllocError, Global};
 use std::process::ExitCode;
 use table_model::Refusal;
 use thiserror::Error;
@@ -19,7 +21,7 @@ pub enum Fault {
     CommandLine(clap::Error),
     /// What was refused.
     #[error("refused {0}")]
-    Refused(Refusal),
+    Refused(CommandRefusal),
 }
 
 impl From<clap::Error> for Fault {
@@ -27,26 +29,50 @@ impl From<clap::Error> for Fault {
 
     fn from(error: clap::Error) -> Fault {
         match error.kind() {
-            ErrorKind::OutOfMemory => Fault::Refused(Refusal::Memory),
+            ErrorKind::OutOfMemory => Fault::from(Refusal::Memory),
             _ => Fault::CommandLine(error),
         }
     }
 }
 
-impl From<Refusal> for Fault {
+impl From<CommandRefusal> for Fault {
     ghost from_gives = { λ refusal fault. fault ≡ Refused refusal };
 
-    fn from(refusal: Refusal) -> Fault {
+    fn from(refusal: CommandRefusal) -> Fault {
         Fault::Refused(refusal)
     }
 }
 
+impl From<Refusal> for Fault {
+    ghost from_gives = { λ refusal fault. fault ≡ Refused (Named refusal) };
+
+    fn from(refusal: Refusal) -> Fault {
+        Fault::Refused(CommandRefusal::Named(refusal))
+    }
+}
+
 impl From<AllocError> for Fault {
-    ghost from_gives = { λ _ fault. fault ≡ Refused Memory };
+    ghost from_gives = { λ _ fault. fault ≡ refused_memory };
 
     fn from(_error: AllocError) -> Fault {
-        Fault::Refused(Refusal::Memory)
+        Fault::Refused(CommandRefusal::Named(Refusal::Memory))
     }
+}
+
+/// The fault of a command line whose output, which is bytes, would go to a terminal.
+pub fn not_for_a_terminal(alloc: Global) -> Fault {
+    match to_a_terminal(alloc) {
+        Ok(fault) => Fault::from(fault),
+        Err(lacking) => Fault::from(lacking),
+    }
+}
+
+/// The same, where memory is to be had.
+fn to_a_terminal(alloc: Global) -> Result<clap::Error, AllocError> {
+    commands(alloc)?.error(
+        ErrorKind::InvalidValue,
+        "what this command writes is bytes, and standard output is a terminal",
+    )
 }
 
 impl Fault {
@@ -62,7 +88,7 @@ impl Fault {
         if error.use_stderr() {
             ExitCode::from(2)
         } else if printed.is_err() {
-            Fault::Refused(Refusal::WriteFault).refuse(rt)
+            Fault::from(Refusal::WriteFault).refuse(rt)
         } else {
             ExitCode::SUCCESS
         }

@@ -1,8 +1,13 @@
 //! The program's command line: what its arguments ask for, what it fails with, and the status that it ends with.
 #![tactic(auto)]
 
+mod commands;
 mod fault;
+mod program_arguments;
 mod requests;
+mod words;
 
-pub use fault::Fault;
-pub use requests::{Request, Source, arguments, read_request};
+pub use commands::read_request;
+pub use fault::{Fault, not_for_a_terminal};
+pub use program_arguments::arguments;
+pub use requests::{Format, Queries, Request, Source};

@@ -1,5 +1,9 @@
-//! Tests of command_line: the texts of help, of faults and of refusals.
+//! Tests of command_line: what command lines ask for, the texts of help, of faults and of refusals, and the sentence of each refusal.
 #![tactic(auto)]
 
+#[cfg(test)]
+mod request_tests;
+#[cfg(test)]
+mod sentence_tests;
 #[cfg(test)]
 mod tests;

@@ -5,15 +5,19 @@ use refusal_sentences::CommandRefusal;
 use std::fs::{self, File, Files, OpenOptions, TryLockError};
 use std::os::unix::fs::MetadataExt;
 use std::rt::Clock;
-use std::time::Duration;
+use std::time::{Duration, Instant};
 use std::{io, thread};
 use table_model::Refusal;
 
-/// How often a lock is tried; with a sleep after each try that makes ten seconds.
-const TRIES: u32 = 225;
+/// How often a lock is tried at most; with a sleep after each try that makes ten seconds, and sleeps may take longer.
+const TRIES: u32 = 1005;
 
-/// How many milliseconds one sleep takes at most; the first one takes 1, and each a millisecond more than the one before.
-const LONGEST_SLEEP: u64 = 50;
+/// How many milliseconds one sleep takes; the first ones take 1, 2 and so on. All who wait try equally often, so none is starved by
+/// those who come later.
+const LONGEST_SLEEP: u64 = 10;
+
+/// How many seconds a lock is waited for.
+const LONGEST_WAIT: u64 = 10;
 
 /// A file that is held: nobody else replaces it, and what is written to the lock takes its place, or nothing changes.
 #[derive(Drop)]
@@ -53,16 +57,29 @@ fn followed<R: Files + AllocGlobal>(rt: &R, name: &str) -> Result<String, Comman
 
 /// The lock, once nobody else has it.
 fn waited<R: Files<File = File> + Clock>(rt: &R, lock: &str) -> Result<File, CommandRefusal> {
+    let began = Instant::now(rt);
     let mut pause = 1u64;
     for _ in 0..TRIES {
         match tried(rt, lock) {
             Ok(Some(file)) => return Ok(file),
+            Ok(None) if has_waited(rt, &began) => return Err(CommandRefusal::Busy),
             Ok(None) => thread::sleep(rt, Duration::from_millis(pause)),
             Err(_) => return Err(CommandRefusal::from(Refusal::WriteFault)),
         }
         pause = pause.saturating_add(1).min(LONGEST_SLEEP);
     }
     Err(CommandRefusal::Busy)
+}
+
+/// Whether a lock was waited for as long as it is, by a clock that can be read.
+fn has_waited<R: Clock>(rt: &R, began: &io::Result<Instant>) -> bool {
+    match began {
+        Ok(began) => match began.elapsed(rt) {
+            Ok(waited) => waited.as_secs() >= LONGEST_WAIT,
+            Err(_) => false,
+        },
+        Err(_) => false,
+    }
 }
 
 /// The lock, if nobody else has it and it is still the file of its name.

@@ -1,89 +1,112 @@
-//! The program `lanes`: runs scripts of a replicated column store.
+//! The program `lanes`: replicas of a table in files, queries over them, and scripts of a whole cluster.
 #![tactic(auto)]
 
-mod files;
+mod change;
+mod changing;
+mod failure;
+mod inputs;
+mod merging;
+mod output;
+mod queries;
+mod query_lines;
+mod reports;
+mod scripts;
 
-use command_line::{Fault, Request, Source};
-use lanes_main::{script, script_with_notes};
-use std::fs::{self, Files};
-use std::io::{self, IsTerminal, Read, Write};
+use command_line::{Format, Queries, Request};
+use failure::Failure;
+use std::fs::{File, Files};
+use std::io::{IsTerminal, Write};
 use std::process::ExitCode;
-use std::rt::Env;
-use table_model::{Counted, Refusal};
+use std::random::RandomSource;
+use std::rt::{Clock, Env};
 
-/// What a person at a terminal is told.
-const WAITING: &str =
-    "lanes: reading a script's lines; lanes run --help shows some, and an end of input ends it\n";
+/// Which of the standard streams a person reads or types.
+#[derive(Clone, Copy, Debug)]
+struct Terminals {
+    input: bool,
+    output: bool,
+    errors: bool,
+}
 
 fn main(rt: HostRuntime) -> ExitCode {
-    let mut hint = Vec::new(rt.alloc());
-    match run(&rt, rt.stdin().is_terminal(), &mut rt.stderr(), &mut hint) {
-        Ok(()) => ExitCode::SUCCESS,
-        Err(fault) => {
-            let status = fault.report(&rt);
-            if rt.stderr().is_terminal() {
-                let _ = rt.stderr().write_all(hint.as_slice());
-            }
-            status
-        }
+    let terminals = Terminals {
+        input: rt.stdin().is_terminal(),
+        output: rt.stdout().is_terminal(),
+        errors: rt.stderr().is_terminal(),
+    };
+    let mut notes = rt.stderr();
+    match run(&rt, terminals, &mut notes) {
+        Ok(status) => status,
+        Err(failure) => failure.report(&rt, terminals.errors, &mut notes),
     }
 }
 
-/// Does what the command line asks for. Where a person would have to type the script, the notes, which go to standard error,
-/// say that lines are waited for. Where a query is refused, the hint shows the place.
-fn run<R: Print + Input + Env + Files + AllocGlobal, N: Write, H: Write>(
-    rt: &R,
-    is_typed: bool,
-    notes: &mut N,
-    hint: &mut H,
-) -> Result<(), Fault> {
+/// Does what the command line asks for, and answers the status. What is said beside goes to the notes.
+fn run<
+    R: Print + Eprint + Input + Env + Files<File = File> + Clock + RandomSource + AllocGlobal,
+    N: Write,
+>(rt: &R, terminals: Terminals, notes: &mut N) -> Result<ExitCode, Failure> {
     let words = command_line::arguments(rt)?;
     match command_line::read_request(rt.alloc(), words.as_slice())? {
         Request::Run {
             source,
             is_explained,
-        } => run_source(rt, source, is_explained, is_typed, notes),
-        Request::Check { file } => files::check(rt, file),
-        Request::Merge { out, files } => files::merge(rt, out, files.as_slice()),
-        Request::Query { file, queries } => files::query(rt, file, queries.as_slice(), hint),
+        } => scripts::run(rt, source, is_explained, terminals.input, notes)?,
+        Request::Query {
+            file,
+            queries,
+            format,
+        } => return query(rt, file, queries, format, terminals, notes),
+        Request::Create {
+            file,
+            table,
+            columns,
+        } => changing::create(rt, file, table, columns.as_slice())?,
+        Request::Import {
+            file,
+            csv,
+            first,
+            has_header,
+        } => changing::import(rt, file, csv, first, has_header)?,
+        Request::Delete { file, condition } => changing::delete(rt, file, condition)?,
+        Request::DeleteRows { file, first, last } => changing::delete_rows(rt, file, first, last)?,
+        Request::Apply { file, offers } => changing::apply(rt, file, offers.as_slice())?,
+        Request::Dump { file, has_names } => reports::dump(rt, file, has_names)?,
+        Request::Inspect { file } => reports::inspect(rt, file)?,
+        Request::Summary { file } => reports::summary(rt, file, terminals.output)?,
+        Request::Offer { file, summary } => reports::offer(rt, file, summary, terminals.output)?,
+        Request::Check { file } => reports::check(rt, file)?,
+        Request::Merge { out, files } => merging::merge(rt, out, files.as_slice())?,
     }
+    Ok(ExitCode::SUCCESS)
 }
 
-/// Runs a script from where it is read from.
-fn run_source<R: Print + Input + Files + AllocGlobal, N: Write>(
+/// Answers queries, and ends with the status of a refusal where a line was refused and passed over.
+fn query<R: Print + Eprint + Input + Files + AllocGlobal, N: Write>(
     rt: &R,
-    source: Source<'_>,
-    is_explained: bool,
-    is_typed: bool,
+    file: &str,
+    queries: Queries<'_>,
+    format: Format,
+    terminals: Terminals,
     notes: &mut N,
-) -> Result<(), Fault> {
-    match source {
-        Source::Input => {
-            if is_typed {
-                let _ = notes.write_all(WAITING.as_bytes());
-            }
-            run_script(rt, rt.reader(), is_explained, notes)
+) -> Result<ExitCode, Failure> {
+    let is_whole = match queries {
+        Queries::Texts(texts) => {
+            queries::answer_texts(rt, file, texts.as_slice(), format)?;
+            true
         }
-        Source::File(name) => match fs::open(rt, name) {
-            Ok(file) => run_script(rt, file, is_explained, notes),
-            Err(_) => Err(Fault::from(Refusal::ReadFault)),
-        },
-    }
-}
-
-/// Runs a script to its end, and writes its replies to standard output, and where that is asked for its notes.
-fn run_script<R: Print + AllocGlobal, D: Read + Drop, N: Write>(
-    rt: &R,
-    source: D,
-    is_explained: bool,
-    notes: &mut N,
-) -> Result<(), Fault> {
-    let mut reader = Counted::new(source);
-    let mut writer = Counted::new(io::writer(rt));
-    if is_explained {
-        script_with_notes(rt.alloc(), &mut reader, &mut writer, notes)?;
+        Queries::Lines => queries::answer_lines(
+            rt,
+            file,
+            format,
+            terminals.input,
+            terminals.errors,
+            notes,
+        )?,
+    };
+    Ok(if is_whole {
+        ExitCode::SUCCESS
     } else {
-        script(rt.alloc(), &mut reader, &mut writer)?;
-    }
-    Ok(())
+        ExitCode::FAILURE
+    })
 }

@@ -1,0 +1,518 @@
+//! The program's commands: how each is read by `clap`, and what it asks for.
+ghost use Rattle.std.specs.Prelude.{IfErr};
+ghost use Rattle.command_line.specs.Outcome.{IsUnread};
+
+use crate::fault::Fault;
+use crate::requests::{Queries, Request, Source};
+use crate::words;
+use clap::error::ErrorKind;
+use clap::{Arg, ArgAction, ArgMatches, Command};
+use std::alloc::{AllocError, Global};
+use table_model::{BatchName, RowName};
+
+/// The program's version.
+const VERSION: &str = "0.1.0";
+
+/// What stands below the help of the program and that of `lanes run`.
+const SCRIPT_HELP: &str =
+    "A script is lines such as these, each of which has a reply:\n  table 2 T A SMALLINT\n  append 1 (7),(NULL)\n  query 1 SELECT COUNT(*) FROM T\nAll lines and replies are in docs/FORMATS.md, and examples/ has scripts to run.";
+
+/// What stands below the help of `lanes merge`.
+const MERGE_HELP: &str =
+    "OUT is replaced whole, and what is refused leaves it as it was. OUT that is no regular file is written in place.";
+
+/// What stands below the help of `lanes import`.
+const IMPORT_HELP: &str =
+    "Rows become batches of 65,536 under names that are drawn at random, or that begin at O.N: a load that comes twice under\none name is held once.";
+
+/// A command.
+#[derive(Clone, Copy, Debug, PartialEq, Eq)]
+enum Verb {
+    Run,
+    Create,
+    Import,
+    Delete,
+    DeleteRows,
+    Query,
+    Dump,
+    Inspect,
+    Summary,
+    Offer,
+    Apply,
+    Check,
+    Merge,
+}
+
+/// All commands, in the order of the help.
+const VERBS: [Verb; 13] = [
+    Verb::Create,
+    Verb::Import,
+    Verb::Query,
+    Verb::Delete,
+    Verb::DeleteRows,
+    Verb::Dump,
+    Verb::Inspect,
+    Verb::Summary,
+    Verb::Offer,
+    Verb::Apply,
+    Verb::Check,
+    Verb::Merge,
+    Verb::Run,
+];
+
+/// What the arguments ask for; otherwise memory lacks, or the command line has a fault or asks for help.
+pub fn read_request<'a>(alloc: Global, words: &'a [String]) -> Result<Request<'a>, Fault>
+    ensures { IfErr result IsUnread }
+{
+    let matches = commands(alloc)?.try_get_matches_from(words)?;
+    let Some((name, given)) = matches.subcommand() else {
+        return Err(fault(
+            commands(alloc)?,
+            ErrorKind::MissingSubcommand,
+            "a command is missing",
+        ));
+    };
+    match Verb::named(name) {
+        Some(verb) => verb.request(alloc, given),
+        None => Err(fault(
+            commands(alloc)?,
+            ErrorKind::InvalidSubcommand,
+            "there is no such command",
+        )),
+    }
+}
+
+/// The program's commands.
+pub(crate) fn commands<'a>(alloc: Global) -> Result<Command<'a>, AllocError> {
+    let mut command = Command::new(alloc, "lanes")
+        .about("A replicated column store for one table of nullable integer columns")
+        .version(VERSION)
+        .after_help(SCRIPT_HELP)
+        .subcommand_required(true);
+    for verb in VERBS {
+        command = command.subcommand(verb.command(alloc)?)?;
+    }
+    Ok(command)
+}
+
+/// A fault of the command line in what `clap` takes for texts, with the usage of a command.
+fn fault(mut command: Command<'_>, kind: ErrorKind, message: &str) -> Fault
+    ensures { IsUnread result }
+{
+    match command.error(kind, message) {
+        Ok(error) => Fault::from(error),
+        Err(lacking) => Fault::from(lacking),
+    }
+}
+
+impl Verb {
+    /// The command's word.
+    fn name<'a>(self) -> &'a str {
+        match self {
+            Verb::Run => "run",
+            Verb::Create => "create",
+            Verb::Import => "import",
+            Verb::Delete => "delete",
+            Verb::DeleteRows => "delete-rows",
+            Verb::Query => "query",
+            Verb::Dump => "dump",
+            Verb::Inspect => "inspect",
+            Verb::Summary => "summary",
+            Verb::Offer => "offer",
+            Verb::Apply => "apply",
+            Verb::Check => "check",
+            Verb::Merge => "merge",
+        }
+    }
+
+    /// The command of this word.
+    fn named(name: &str) -> Option<Verb> {
+        for verb in VERBS {
+            if verb.name() == name {
+                return Some(verb);
+            }
+        }
+        None
+    }
+
+    /// How the command is read.
+    fn command<'a>(self, alloc: Global) -> Result<Command<'a>, AllocError> {
+        let command = Command::new(alloc, self.name());
+        match self {
+            Verb::Run => run_command(alloc, command),
+            Verb::Create => create_command(alloc, command),
+            Verb::Import => import_command(alloc, command),
+            Verb::Delete => delete_command(alloc, command),
+            Verb::DeleteRows => delete_rows_command(alloc, command),
+            Verb::Query => query_command(alloc, command),
+            Verb::Dump => dump_command(alloc, command),
+            Verb::Inspect => inspect_command(alloc, command),
+            Verb::Summary => summary_command(alloc, command),
+            Verb::Offer => offer_command(alloc, command),
+            Verb::Apply => apply_command(alloc, command),
+            Verb::Check => check_command(alloc, command),
+            Verb::Merge => merge_command(alloc, command),
+        }
+    }
+
+    /// What the command's arguments ask for; otherwise memory lacks, or one of them has a fault.
+    fn request<'a>(self, alloc: Global, given: &ArgMatches<'a>) -> Result<Request<'a>, Fault>
+        ensures { IfErr result IsUnread }
+    {
+        match self {
+            Verb::Run => Ok(run_request(given)),
+            Verb::Create => self.create_request(alloc, given),
+            Verb::Import => self.import_request(alloc, given),
+            Verb::Delete => Ok(Request::Delete {
+                file: text_of(given, "FILE"),
+                condition: text_of(given, "COND"),
+            }),
+            Verb::DeleteRows => self.delete_rows_request(alloc, given),
+            Verb::Query => self.query_request(alloc, given),
+            Verb::Dump => Ok(Request::Dump {
+                file: text_of(given, "FILE"),
+                has_names: given.get_flag("names"),
+            }),
+            Verb::Inspect => Ok(Request::Inspect {
+                file: text_of(given, "FILE"),
+            }),
+            Verb::Summary => Ok(Request::Summary {
+                file: text_of(given, "FILE"),
+            }),
+            Verb::Offer => Ok(Request::Offer {
+                file: text_of(given, "FILE"),
+                summary: Source::named(text_of(given, "SUMMARY")),
+            }),
+            Verb::Apply => self.apply_request(alloc, given),
+            Verb::Check => Ok(Request::Check {
+                file: text_of(given, "FILE"),
+            }),
+            Verb::Merge => Ok(Request::Merge {
+                out: text_of(given, "OUT"),
+                files: texts_of(alloc, given, "IN")?,
+            }),
+        }
+    }
+
+    /// A fault of one of the command's arguments.
+    fn fault(self, alloc: Global, message: &str) -> Fault
+        ensures { IsUnread result }
+    {
+        match self.command(alloc) {
+            Ok(command) => fault(command, ErrorKind::ValueValidation, message),
+            Err(lacking) => Fault::from(lacking),
+        }
+    }
+
+    /// What `lanes create` asks for.
+    fn create_request<'a>(self, alloc: Global, given: &ArgMatches<'a>) -> Result<Request<'a>, Fault>
+        ensures { IfErr result IsUnread }
+    {
+        let columns = given.get_strs("COLUMNS").unwrap_or(&[]);
+        match words::columns(alloc, columns)? {
+            Some(columns) => Ok(Request::Create {
+                file: text_of(given, "FILE"),
+                table: text_of(given, "TABLE"),
+                columns,
+            }),
+            None => Err(self.fault(
+                alloc,
+                "each column is a name and its type, TINYINT, SMALLINT, INTEGER or BIGINT",
+            )),
+        }
+    }
+
+    /// What `lanes import` asks for.
+    fn import_request<'a>(self, alloc: Global, given: &ArgMatches<'a>) -> Result<Request<'a>, Fault>
+        ensures { IfErr result IsUnread }
+    {
+        let first = match given.get_str("batch") {
+            None => None,
+            Some(text) => Some(self.batch_name(alloc, text)?),
+        };
+        Ok(Request::Import {
+            file: text_of(given, "FILE"),
+            csv: Source::named(text_of(given, "CSV")),
+            first,
+            has_header: !given.get_flag("no-header"),
+        })
+    }
+
+    /// The name of a batch that stands in an argument.
+    fn batch_name(self, alloc: Global, text: &str) -> Result<BatchName, Fault>
+        ensures { IfErr result IsUnread }
+    {
+        match words::batch_name(text) {
+            Some(name) => Ok(name),
+            None => Err(self.fault(
+                alloc,
+                "a batch is named O.N, two numbers of 1 to 10 digits, each at most 4294967295",
+            )),
+        }
+    }
+
+    /// The ordinal that stands in an argument.
+    fn ordinal(self, alloc: Global, text: &str) -> Result<u16, Fault>
+        ensures { IfErr result IsUnread }
+    {
+        match words::ordinal(text) {
+            Some(ordinal) => Ok(ordinal),
+            None => Err(self.fault(
+                alloc,
+                "FIRST and LAST are numbers of 1 to 10 digits, each at most 65535",
+            )),
+        }
+    }
+
+    /// What `lanes delete-rows` asks for.
+    fn delete_rows_request<'a>(
+        self,
+        alloc: Global,
+        given: &ArgMatches<'a>,
+    ) -> Result<Request<'a>, Fault>
+        ensures { IfErr result IsUnread }
+    {
+        let batch = self.batch_name(alloc, text_of(given, "O.N"))?;
+        let ordinal = self.ordinal(alloc, text_of(given, "FIRST"))?;
+        let last = self.ordinal(alloc, text_of(given, "LAST"))?;
+        Ok(Request::DeleteRows {
+            file: text_of(given, "FILE"),
+            first: RowName { batch, ordinal },
+            last,
+        })
+    }
+
+    /// What `lanes query` asks for.
+    fn query_request<'a>(self, alloc: Global, given: &ArgMatches<'a>) -> Result<Request<'a>, Fault>
+        ensures { IfErr result IsUnread }
+    {
+        let Some(format) = words::format(given.get_str("format").unwrap_or("text")) else {
+            return Err(self.fault(alloc, "FORMAT is text, csv, json or table"));
+        };
+        let texts = texts_of(alloc, given, "SQL")?;
+        let queries = match texts.as_slice() {
+            ["-"] => Queries::Lines,
+            given if given.contains(&"-") => {
+                return Err(self.fault(alloc, "SQL that is - is the only SQL"));
+            }
+            _ => Queries::Texts(texts),
+        };
+        Ok(Request::Query {
+            file: text_of(given, "FILE"),
+            queries,
+            format,
+        })
+    }
+
+    /// What `lanes apply` asks for.
+    fn apply_request<'a>(self, alloc: Global, given: &ArgMatches<'a>) -> Result<Request<'a>, Fault>
+        ensures { IfErr result IsUnread }
+    {
+        let names = given.get_strs("OFFER").unwrap_or(&[]);
+        let offers = words::sources(alloc, names)?;
+        if words::inputs(offers.as_slice()) > 1 {
+            return Err(self.fault(alloc, "only one OFFER can be -"));
+        }
+        Ok(Request::Apply {
+            file: text_of(given, "FILE"),
+            offers,
+        })
+    }
+}
+
+/// The word that was given for an argument that must be there.
+fn text_of<'a>(given: &ArgMatches<'a>, argument: &str) -> &'a str {
+    given.get_str(argument).unwrap_or("")
+}
+
+/// The words that were given for an argument.
+fn texts_of<'a>(
+    alloc: Global,
+    given: &ArgMatches<'a>,
+    argument: &str,
+) -> Result<Vec<&'a str>, AllocError> {
+    let mut texts = Vec::new(alloc);
+    for text in given.get_strs(argument).unwrap_or(&[]) {
+        texts.push(*text)?;
+    }
+    Ok(texts)
+}
+
+/// What `lanes run` asks for: a script from a file, or from standard input where none is named or its name is `-`.
+fn run_request<'a>(given: &ArgMatches<'a>) -> Request<'a> {
+    let source = match given.get_str("SCRIPT") {
+        Some(name) => Source::named(name),
+        None => Source::Input,
+    };
+    Request::Run {
+        source,
+        is_explained: given.get_flag("explain"),
+    }
+}
+
+/// A word that must be there, taken as it is.
+fn word<'a>(alloc: Global, name: &'a str, help: &'a str) -> Arg<'a> {
+    Arg::new(alloc, name)
+        .help(help)
+        .required(true)
+        .allow_hyphen_values(true)
+}
+
+/// The first word of a command on a file. All that follows is taken as it is: options stand before it.
+fn first_word<'a>(alloc: Global, name: &'a str, help: &'a str) -> Arg<'a> {
+    word(alloc, name, help).trailing_var_arg(true)
+}
+
+/// The file that a command reads or changes.
+fn file<'a>(alloc: Global) -> Arg<'a> {
+    first_word(alloc, "FILE", "The file")
+}
+
+/// An option that is there or not.
+fn flag<'a>(alloc: Global, name: &'a str, help: &'a str) -> Arg<'a> {
+    Arg::new(alloc, name)
+        .long(name)
+        .action(ArgAction::SetTrue)
+        .help(help)
+}
+
+fn run_command<'a>(alloc: Global, command: Command<'a>) -> Result<Command<'a>, AllocError> {
+    let script = Arg::new(alloc, "SCRIPT").help(
+        "The script's file, or - for standard input, as where none is named",
+    );
+    let explain = flag(
+        alloc,
+        "explain",
+        "Say on standard error of each refused line its number and why it is refused",
+    );
+    command
+        .about("Runs a script and writes its replies to standard output")
+        .after_help(SCRIPT_HELP)
+        .arg(explain)?
+        .arg(script)
+}
+
+fn create_command<'a>(alloc: Global, command: Command<'a>) -> Result<Command<'a>, AllocError> {
+    let columns = word(
+        alloc,
+        "COLUMNS",
+        "The columns' names and types: TINYINT, SMALLINT, INTEGER or BIGINT",
+    );
+    command
+        .about("Makes the file of an empty table")
+        .arg(first_word(alloc, "FILE", "The file that is made"))?
+        .arg(word(alloc, "TABLE", "The table's name"))?
+        .arg(columns.value_name("COL TYPE").num_args(1..))
+}
+
+fn import_command<'a>(alloc: Global, command: Command<'a>) -> Result<Command<'a>, AllocError> {
+    let batch = Arg::new(alloc, "batch")
+        .long("batch")
+        .value_name("O.N")
+        .help("The name of the first batch, in place of one drawn at random")
+        .allow_hyphen_values(true);
+    let header = flag(
+        alloc,
+        "no-header",
+        "The first line has values, and no names of columns",
+    );
+    command
+        .about("Inserts rows of comma-separated values")
+        .after_help(IMPORT_HELP)
+        .arg(batch)?
+        .arg(header)?
+        .arg(file(alloc))?
+        .arg(word(alloc, "CSV", "The values' file, or - for standard input"))
+}
+
+fn delete_command<'a>(alloc: Global, command: Command<'a>) -> Result<Command<'a>, AllocError> {
+    command
+        .about("Deletes the rows at which a condition is true")
+        .arg(file(alloc))?
+        .arg(word(alloc, "COND", "The condition, as in WHERE"))
+}
+
+fn delete_rows_command<'a>(alloc: Global, command: Command<'a>) -> Result<Command<'a>, AllocError> {
+    command
+        .about("Deletes rows by their names, whether they are there or come later")
+        .arg(file(alloc))?
+        .arg(word(alloc, "O.N", "The name of the rows' batch"))?
+        .arg(word(alloc, "FIRST", "The first row's ordinal, from 0"))?
+        .arg(word(alloc, "LAST", "The last row's ordinal"))
+}
+
+fn query_command<'a>(alloc: Global, command: Command<'a>) -> Result<Command<'a>, AllocError> {
+    let format = Arg::new(alloc, "format")
+        .long("format")
+        .value_name("FORMAT")
+        .help("The form of the answers: text, csv, json or table");
+    command
+        .about(
+            "Writes the answers of queries over a file, one after another; docs/SQL.md has the language",
+        )
+        .arg(format)?
+        .arg(file(alloc))?
+        .arg(word(
+            alloc,
+            "SQL",
+            "The queries, or - for lines of standard input",
+        )
+        .num_args(1..))
+}
+
+fn dump_command<'a>(alloc: Global, command: Command<'a>) -> Result<Command<'a>, AllocError> {
+    command
+        .about("Writes the rows as comma-separated values")
+        .arg(flag(
+            alloc,
+            "names",
+            "Put each row's batch and ordinal before its values",
+        ))?
+        .arg(file(alloc))
+}
+
+fn inspect_command<'a>(alloc: Global, command: Command<'a>) -> Result<Command<'a>, AllocError> {
+    command
+        .about("Writes what a file holds, and how its columns are coded")
+        .arg(file(alloc))
+}
+
+fn summary_command<'a>(alloc: Global, command: Command<'a>) -> Result<Command<'a>, AllocError> {
+    command
+        .about("Writes the names of the batches that a file holds, for lanes offer")
+        .arg(file(alloc))
+}
+
+fn offer_command<'a>(alloc: Global, command: Command<'a>) -> Result<Command<'a>, AllocError> {
+    command
+        .about("Writes what a file has beyond a summary, for lanes apply")
+        .arg(file(alloc))?
+        .arg(word(
+            alloc,
+            "SUMMARY",
+            "The summary's file, or - for standard input",
+        ))
+}
+
+fn apply_command<'a>(alloc: Global, command: Command<'a>) -> Result<Command<'a>, AllocError> {
+    command
+        .about("Applies offers, or other files of the same table, to a file")
+        .arg(file(alloc))?
+        .arg(word(alloc, "OFFER", "The offers' files, or - for standard input").num_args(1..))
+}
+
+fn check_command<'a>(alloc: Global, command: Command<'a>) -> Result<Command<'a>, AllocError> {
+    command
+        .about(
+            "Says whether a file is a canonical one, and how many batches and ranges of deletions it has",
+        )
+        .arg(file(alloc))
+}
+
+fn merge_command<'a>(alloc: Global, command: Command<'a>) -> Result<Command<'a>, AllocError> {
+    command
+        .about("Writes the canonical file of what all of some files hold")
+        .after_help(MERGE_HELP)
+        .arg(first_word(alloc, "OUT", "The file that is written"))?
+        .arg(word(alloc, "IN", "The files that are merged, in this order").num_args(1..))
+}

@@ -1,0 +1,90 @@
+//! Words of a command line that are more than texts: names of batches, ordinals, columns with their types, forms of answers.
+
+use crate::requests::{Format, Source};
+use std::alloc::{AllocError, Global};
+use table_model::{BatchName, ColType, Number, Origin};
+
+/// How many digits a number is written with at most.
+const NUMBER_DIGITS: usize = 10;
+
+/// The number that 1 to 10 digits write.
+fn number(text: &str) -> Option<u64> {
+    let is_numeral = text.len() <= NUMBER_DIGITS && text.bytes().all(|byte| byte.is_ascii_digit());
+    if is_numeral {
+        text.parse::<u64>().ok()
+    } else {
+        None
+    }
+}
+
+/// An origin or a batch's number: 1 to 10 digits, at most 4,294,967,295.
+fn small_number(text: &str) -> Option<u32> {
+    u32::try_from(number(text)?).ok()
+}
+
+/// An ordinal: 1 to 10 digits, at most 65,535.
+pub fn ordinal(text: &str) -> Option<u16> {
+    u16::try_from(number(text)?).ok()
+}
+
+/// The name of a batch: an origin, a point and a number. Either may be 0.
+pub fn batch_name(text: &str) -> Option<BatchName> {
+    let (origin, number) = text.split_once('.')?;
+    Some(BatchName {
+        origin: Origin(small_number(origin)?),
+        number: Number(small_number(number)?),
+    })
+}
+
+/// The form of answers of this name.
+pub fn format(name: &str) -> Option<Format> {
+    match name {
+        "text" => Some(Format::Text),
+        "csv" => Some(Format::Csv),
+        "json" => Some(Format::Json),
+        "table" => Some(Format::Table),
+        _ => None,
+    }
+}
+
+/// The columns of these names and types, each name before its type, which is written in any case. None where a name has no type, or
+/// a type isn't one.
+pub fn columns<'a>(
+    alloc: Global,
+    words: &[&'a str],
+) -> Result<Option<Vec<(&'a str, ColType)>>, AllocError> {
+    let mut columns = Vec::new(alloc);
+    for pair in words.chunks(2) {
+        let [name, written] = *pair else {
+            return Ok(None);
+        };
+        let Some(column_type) = column_type(alloc, written)? else {
+            return Ok(None);
+        };
+        columns.push((name, column_type))?;
+    }
+    Ok(Some(columns))
+}
+
+/// The type of this name in any case.
+fn column_type(alloc: Global, written: &str) -> Result<Option<ColType>, AllocError> {
+    let name = written.to_ascii_uppercase(alloc)?;
+    Ok(ColType::named(name.as_str()))
+}
+
+/// Where inputs of these names are read from: `-` is standard input.
+pub fn sources<'a>(alloc: Global, names: &[&'a str]) -> Result<Vec<Source<'a>>, AllocError> {
+    let mut sources = Vec::new(alloc);
+    for name in names {
+        sources.push(Source::named(*name))?;
+    }
+    Ok(sources)
+}
+
+/// How many of these sources are standard input.
+pub fn inputs(sources: &[Source<'_>]) -> usize {
+    sources
+        .iter()
+        .filter(|source| **source == Source::Input)
+        .count()
+}

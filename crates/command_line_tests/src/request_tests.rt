@@ -1,0 +1,160 @@
+//! What command lines ask for, word for word.
+
+use command_line::{Fault, read_request};
+use std::alloc::{AllocError, Global};
+use std::test::Fail;
+
+/// These words behind the program's name, each in memory of its own.
+fn words_of(alloc: Global, words: &[&str]) -> Result<Vec<String>, AllocError> {
+    let mut given = Vec::new(alloc);
+    given.push(String::from_str(alloc, "lanes")?)?;
+    for word in words {
+        given.push(String::from_str(alloc, word)?)?;
+    }
+    Ok(given)
+}
+
+/// What a command line of these words asks for, or `fault`.
+fn asked(alloc: Global, words: &[&str]) -> Result<String, AllocError> {
+    let given = words_of(alloc, words)?;
+    match read_request(alloc, given.as_slice()) {
+        Ok(request) => format!(in alloc; "{request:?}"),
+        Err(Fault::CommandLine(_)) => String::from_str(alloc, "fault"),
+        Err(Fault::Refused(refusal)) => format!(in alloc; "refused {refusal}"),
+    }
+}
+
+const REQUESTS: [(&[&str], &str); 30] = [
+    (&["run"], "Run { source: Input, is_explained: false }"),
+    (&["run", "-"], "Run { source: Input, is_explained: false }"),
+    (
+        &["run", "--explain", "s"],
+        "Run { source: File(\"s\"), is_explained: true }",
+    ),
+    (&["check", "t"], "Check { file: \"t\" }"),
+    (&["check", "-"], "Check { file: \"-\" }"),
+    (
+        &["merge", "out", "a", "b", "c"],
+        "Merge { out: \"out\", files: [\"a\", \"b\", \"c\"] }",
+    ),
+    (
+        &["merge", "-", "--x", "-b", "--help"],
+        "Merge { out: \"-\", files: [\"--x\", \"-b\", \"--help\"] }",
+    ),
+    (
+        &["query", "t", "A", "B", "C"],
+        "Query { file: \"t\", queries: Texts([\"A\", \"B\", \"C\"]), format: Text }",
+    ),
+    (
+        &["query", "--format", "json", "t", "--format", "csv"],
+        "Query { file: \"t\", queries: Texts([\"--format\", \"csv\"]), format: Json }",
+    ),
+    (
+        &["query", "--format=csv", "t", "-x"],
+        "Query { file: \"t\", queries: Texts([\"-x\"]), format: Csv }",
+    ),
+    (
+        &["query", "--format", "table", "t", "-"],
+        "Query { file: \"t\", queries: Lines, format: Table }",
+    ),
+    (&["query", "t", "-", "A"], "fault"),
+    (&["query", "t", "-", "-"], "fault"),
+    (&["query", "--format", "TEXT", "t", "A"], "fault"),
+    (
+        &[
+            "create", "f", "t", "a", "smallint", "b", "TinyInt", "c", "BIGINT",
+        ],
+        "Create { file: \"f\", table: \"t\", columns: [(\"a\", SmallInt), (\"b\", TinyInt), (\"c\", BigInt)] }",
+    ),
+    (&["create", "f", "t", "a", "smallint", "b"], "fault"),
+    (&["create", "f", "t", "a", "text"], "fault"),
+    (&["create", "f", "t"], "fault"),
+    (
+        &["import", "f", "-"],
+        "Import { file: \"f\", csv: Input, first: None, has_header: true }",
+    ),
+    (
+        &[
+            "import",
+            "--no-header",
+            "--batch",
+            "0000000007.0",
+            "-f",
+            "--batch",
+        ],
+        "Import { file: \"-f\", csv: File(\"--batch\"), first: Some(BatchName { origin: Origin(7), number: Number(0) }), has_header: false }",
+    ),
+    (&["import", "--batch", "1.4294967296", "f", "c"], "fault"),
+    (&["import", "--batch", "00000000001.1", "f", "c"], "fault"),
+    (
+        &["delete", "f", "-1 = A"],
+        "Delete { file: \"f\", condition: \"-1 = A\" }",
+    ),
+    (
+        &["delete-rows", "f", "1.2", "0", "0000065535"],
+        "DeleteRows { file: \"f\", first: RowName { batch: BatchName { origin: Origin(1), number: Number(2) }, ordinal: 0 }, last: 65535 }",
+    ),
+    (&["delete-rows", "f", "1.2", "0", "65536"], "fault"),
+    (
+        &["dump", "--names", "f"],
+        "Dump { file: \"f\", has_names: true }",
+    ),
+    (&["inspect", "f"], "Inspect { file: \"f\" }"),
+    (&["summary", "f"], "Summary { file: \"f\" }"),
+    (
+        &["offer", "f", "-"],
+        "Offer { file: \"f\", summary: Input }",
+    ),
+    (
+        &["apply", "f", "a", "-", "b"],
+        "Apply { file: \"f\", offers: [File(\"a\"), Input, File(\"b\")] }",
+    ),
+];
+
+#[test]
+fn no_word_of_a_command_line_is_dropped_or_taken_for_another(rt: HostRuntime) -> Result<(), Fail> {
+    for &(words, want) in &REQUESTS {
+        let text = asked(rt.alloc(), words)?;
+        assert!(rt; text.as_str() == want, "asked for {text}, not {want}");
+    }
+    Ok(())
+}
+
+/// Command lines that lack a word, have one too many, or one that is malformed.
+const FAULTS: [&[&str]; 24] = [
+    &["apply", "f", "-", "-"],
+    &["apply", "f"],
+    &["offer", "f"],
+    &["offer", "f", "s", "s"],
+    &["summary"],
+    &["summary", "f", "f"],
+    &["dump"],
+    &["dump", "--name", "f"],
+    &["inspect"],
+    &["delete", "f"],
+    &["delete", "f", "A", "B"],
+    &["delete-rows", "f", "1.1", "0"],
+    &["delete-rows", "f", "1.1", "0", "1", "2"],
+    &["delete-rows", "f", "1", "0", "1"],
+    &["delete-rows", "f", "1.1.1", "0", "1"],
+    &["delete-rows", "f", "+1.1", "0", "1"],
+    &["delete-rows", "f", "1.1", "-1", "1"],
+    &["delete-rows", "f", "1.1", "", "1"],
+    &["import", "f"],
+    &["import", "f", "c", "d"],
+    &["import", "--batch", "1", "f", "c"],
+    &["import", "--batch", ".1", "f", "c"],
+    &["imports", "f", "c"],
+    &["query", "t"],
+];
+
+#[test]
+fn a_command_line_with_a_word_too_few_too_many_or_malformed_is_a_fault(
+    rt: HostRuntime,
+) -> Result<(), Fail> {
+    for &words in &FAULTS {
+        let text = asked(rt.alloc(), words)?;
+        assert!(rt; text.as_str() == "fault", "asked for {text}");
+    }
+    Ok(())
+}

@@ -1,0 +1,113 @@
+//! The commands that read a file and write to standard output what is in it.
+
+use crate::changing::unwritten;
+use crate::failure::Failure;
+use crate::inputs::{reader_of, source_of, unread};
+use command_line::{Source, not_for_a_terminal};
+use lanes_main::check_file;
+use refusal_sentences::CommandRefusal;
+use std::fs::Files;
+use std::io::{self, BufWriter, Printer, Write};
+use table_model::{Counted, Refusal};
+
+/// Standard output, with a buffer.
+pub fn buffered<R: Print + AllocGlobal>(
+    rt: &R,
+) -> Result<Counted<BufWriter<Printer<'_, R>>>, Refusal> {
+    match BufWriter::new(rt.alloc(), io::writer(rt)) {
+        Ok(buffer) => Ok(Counted::new(buffer)),
+        Err(_) => Err(Refusal::Memory),
+    }
+}
+
+/// Says whether a file is a canonical one, and how much stands in it.
+pub fn check<R: Print + Files + AllocGlobal>(rt: &R, file: &str) -> Result<(), Failure> {
+    let mut writer = Counted::new(io::writer(rt));
+    match check_file(rt.alloc(), &mut reader_of(rt, file), &mut writer) {
+        Ok(()) => Ok(()),
+        Err(refusal) => Err(refused(rt, file, refusal).for_terminals()),
+    }
+}
+
+/// Writes a file's live rows as comma-separated values, with their names or without.
+pub fn dump<R: Print + Files + AllocGlobal>(
+    rt: &R,
+    file: &str,
+    has_names: bool,
+) -> Result<(), Failure> {
+    let mut writer = buffered(rt)?;
+    let outcome = replica_files::dump(rt.alloc(), &mut reader_of(rt, file), has_names, &mut writer);
+    told(rt, file, outcome.and(flushed(writer)))
+}
+
+/// Writes what a file holds, and how its columns are coded.
+pub fn inspect<R: Print + Files + AllocGlobal>(rt: &R, file: &str) -> Result<(), Failure> {
+    let mut writer = buffered(rt)?;
+    let outcome = replica_files::inspect(rt.alloc(), &mut reader_of(rt, file), &mut writer);
+    told(rt, file, outcome.and(flushed(writer)))
+}
+
+/// Writes the names of a file's batches, as a message.
+pub fn summary<R: Print + Files + AllocGlobal>(
+    rt: &R,
+    file: &str,
+    is_terminal: bool,
+) -> Result<(), Failure> {
+    if is_terminal {
+        return Err(Failure::from(not_for_a_terminal(rt.alloc())));
+    }
+    let mut writer = buffered(rt)?;
+    let outcome = replica_files::summary(rt.alloc(), &mut reader_of(rt, file), &mut writer);
+    told(rt, file, outcome.and(flushed(writer)))
+}
+
+/// Writes what a file has beyond a summary, as a message.
+pub fn offer<R: Print + Input + Files + AllocGlobal>(
+    rt: &R,
+    file: &str,
+    source: Source<'_>,
+    is_terminal: bool,
+) -> Result<(), Failure> {
+    if is_terminal {
+        return Err(Failure::from(not_for_a_terminal(rt.alloc())));
+    }
+    if let Err(refusal) = replica_files::file_schema(rt.alloc(), &mut reader_of(rt, file)) {
+        return Err(refused(rt, file, refusal));
+    }
+    let summary = match column_file::read_summary(rt.alloc(), &mut source_of(rt, source)) {
+        Ok(summary) => summary,
+        Err(refusal) => return Err(unread(rt, CommandRefusal::from(refusal), source)),
+    };
+    let mut writer = buffered(rt)?;
+    let outcome = replica_files::offer(rt.alloc(), &mut reader_of(rt, file), &summary, &mut writer);
+    told(rt, file, outcome.and(flushed(writer)))
+}
+
+/// Writes out what a buffer still has.
+pub fn flushed<W: Write + Drop>(writer: Counted<BufWriter<W>>) -> Result<(), Refusal> {
+    match writer.into_inner().flush() {
+        Ok(()) => Ok(()),
+        Err(_) => Err(Refusal::WriteFault),
+    }
+}
+
+/// What came of a report.
+fn told<R: Files + AllocGlobal>(
+    rt: &R,
+    file: &str,
+    outcome: Result<(), Refusal>,
+) -> Result<(), Failure> {
+    match outcome {
+        Ok(()) => Ok(()),
+        Err(refusal) => Err(refused(rt, file, refusal)),
+    }
+}
+
+/// A refusal of a report: of the file that is read, or of standard output.
+pub fn refused<R: Files + AllocGlobal>(rt: &R, file: &str, refusal: Refusal) -> Failure {
+    match refusal {
+        Refusal::WriteFault => unwritten(rt.alloc(), refusal),
+        Refusal::Memory => Failure::of(rt.alloc(), CommandRefusal::from(refusal)),
+        _ => Failure::of_file(rt, CommandRefusal::from(refusal), file),
+    }
+}

@@ -1,0 +1,41 @@
+//! Scripts.
+
+use crate::changing::unwritten;
+use crate::failure::Failure;
+use crate::inputs::{source_of, unread};
+use command_line::Source;
+use lanes_main::{script, script_with_notes};
+use refusal_sentences::CommandRefusal;
+use std::fs::Files;
+use std::io::{self, Write};
+use table_model::{Counted, Refusal};
+
+/// What a person at a terminal is told.
+const WAITING: &str =
+    "lanes: reading a script's lines; lanes run --help shows some, and an end of input ends it\n";
+
+/// Runs a script to its end, and writes its replies to standard output, and where that is asked for its notes. Where a person would
+/// have to type it, the notes say that lines are waited for.
+pub fn run<R: Print + Input + Files + AllocGlobal, N: Write>(
+    rt: &R,
+    source: Source<'_>,
+    is_explained: bool,
+    is_typed: bool,
+    notes: &mut N,
+) -> Result<(), Failure> {
+    if is_typed && source == Source::Input {
+        let _ = notes.write_all(WAITING.as_bytes());
+    }
+    let mut reader = source_of(rt, source);
+    let mut writer = Counted::new(io::writer(rt));
+    let outcome = if is_explained {
+        script_with_notes(rt.alloc(), &mut reader, &mut writer, notes)
+    } else {
+        script(rt.alloc(), &mut reader, &mut writer)
+    };
+    match outcome {
+        Ok(()) => Ok(()),
+        Err(Refusal::WriteFault) => Err(unwritten(rt.alloc(), Refusal::WriteFault).for_terminals()),
+        Err(refusal) => Err(unread(rt, CommandRefusal::from(refusal), source).for_terminals()),
+    }
+}

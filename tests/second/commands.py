@@ -1,0 +1,162 @@
+"""Commands on a file at random, the same for the same number, and what the second program says of each."""
+
+import os
+import random
+import subprocess
+
+from files import BITS, Schema, State, file_bytes
+from answers import names_where, table_of
+from query_text import Fault, read_condition, read_query
+from scripts import NAMES, Maker
+from texts import MARK, dumped, in_form, inspected, read_rows
+
+STRAY = ["+5", "1.0", "1e3", " 5", "5 ", "null", '""', '"5', '5"', "--1", "-", "9" * 31, '"1"2', "\\n", "x", "7\t", "\u00e9", '"NULL', "\\N\\N", "0x1"]
+FORMS = ("text", "csv", "json", "table")
+STEPS = 12
+
+
+class Site(Maker):
+    """A file and the second program's state of it. Its queries and conditions are those of scripts."""
+
+    def __init__(self, program, room, number):
+        super().__init__(number)
+        self.program, self.room, self.state = program, room, State()
+        columns = tuple((name.upper(), self.pick.choice(list(BITS))) for name in self.pick.sample(NAMES, self.pick.choice([1, 1, 2, 3, 4])))
+        self.schema, self.loads = Schema("T", columns), []
+
+    def tell(self):
+        """The first command that the program answers otherwise, or None."""
+        words = [word for name, kind in self.schema.columns for word in (name.lower(), kind.lower())]
+        steps = [self.load] * 5 + [self.load_again, self.delete, self.delete, self.delete_rows] + [self.read_out] * 2 + [self.ask] * 5
+        if self.said("create", "t", "t", *words) != (0, b"ok\n", b""):
+            return "create"
+        for step in self.pick.choices(steps, k=STEPS):
+            found = step()
+            if found is not None:
+                return found
+            with open(os.path.join(self.room, "t"), "rb") as file:
+                if file.read() != file_bytes(self.schema, self.state):
+                    return f"{step.__name__}: the file isn't that of its rows and deletions"
+        return None
+
+    def said(self, *words, given=b""):
+        """Status, standard output and the first line of standard error of a command."""
+        done = subprocess.run([self.program, *words], input=given, cwd=self.room, capture_output=True, timeout=60)
+        return done.returncode, done.stdout, done.stderr.split(b"\n")[0]
+
+    def compared(self, words, wanted, given=b""):
+        """None where a command answers as it has to: a text, or a refusal."""
+        wanted = (1, b"", f"refused {wanted}".encode()) if isinstance(wanted, Fault) else (0, wanted.encode(), b"")
+        found = self.said(*words, given=given)
+        return None if found == wanted else f"{words} {given[:300]!r}\n  second {str(wanted)[:400]}\n  program {str(found)[:400]}"
+
+    # ---- loads
+    def field(self, bits):
+        if self.pick.random() < 0.01:
+            return self.pick.choice(STRAY)
+        top = 1 << bits - 1
+        value = self.cell(bits) if self.pick.random() < 0.99 else self.pick.choice([top, -top - 1])
+        if value is None:
+            return self.pick.choice(["", "", "NULL", "\\N", '"NULL"', '"\\N"'])
+        digits = self.pick.choice(["", "", "00"]) + str(abs(value))
+        return self.pick.choice(["{}", "{}", '"{}"']).format(("-" if value < 0 else "") + digits)
+
+    def line(self, order):
+        if self.pick.random() < 0.05:
+            return ""
+        fields = [self.field(BITS[self.schema.columns[place][1]]) for place in order]
+        if self.pick.random() < 0.01:
+            fields = self.pick.choice([fields[1:], fields + ["1"]])
+        return ",".join(fields)
+
+    def header(self, order):
+        names = [self.schema.columns[place][0] for place in order]
+        if self.pick.random() < 0.05:
+            names[self.pick.randrange(len(names))] = self.pick.choice([names[0], "NOPE", "", '"A'])
+        if self.pick.random() < 0.03:
+            names.append("A")
+        return ",".join(self.pick.choice(["{}", '"{}"']).format(self.pick.choice([name, name.lower()])) for name in names)
+
+    def text(self, has_header):
+        order = list(range(len(self.schema.columns)))
+        if has_header:
+            self.pick.shuffle(order)
+        lines = [self.header(order)] * has_header + [self.line(order) for _ in range(self.pick.choice([0, 1, 2, 5, 20]))]
+        ends = [self.pick.choice(["\n", "\n", "\r\n"]) for _ in lines]
+        text = "".join(line + end for line, end in zip(lines, ends))
+        if self.pick.random() < 0.3:
+            text = text.removesuffix(ends[-1]) if lines else text
+        return (MARK if self.pick.random() < 0.1 else b"") + text.encode()
+
+    def load(self):
+        has_header = self.pick.random() < 0.6
+        given = self.text(has_header)
+        self.loads.append((self.some_load_name(), has_header, given))
+        return self.imported(*self.loads[-1])
+
+    def load_again(self):
+        return self.imported(*self.pick.choice(self.loads)) if self.loads else None
+
+    def some_load_name(self):
+        return self.pick.choice([(0, 1), (1, 0), *[(1, at) for at in range(1, 6)], *[(2**32 - 1, 2**32 - 1)], (7, len(self.loads) + 1)])
+
+    def imported(self, name, has_header, given):
+        words = ["import", "--batch", f"{name[0]}.{name[1]}", *["--no-header"] * (not has_header), "t", "-"]
+        try:
+            wanted = self.taken(name, read_rows(given, self.schema, has_header))
+        except Fault as fault:
+            wanted = fault
+        return self.compared(words, wanted, given)
+
+    def taken(self, name, rows):
+        if not rows:
+            return "ok batches=0 new=0 rows=0\n"
+        if 0 in name:
+            raise Fault("BadName")
+        new = int(name not in self.state.batches)
+        if self.state.batches.setdefault(name, tuple(rows)) != tuple(rows):
+            raise Fault(f"Conflict {name[0]}.{name[1]}")
+        return f"ok batches=1 new={new} rows={len(rows)} first={name[0]}.{name[1]}\n"
+
+    # ---- deletions
+    def delete(self):
+        text = self.text_of(self.changed(self.condition(2, self.row_operand)))
+        names = self.schema.names()
+        try:
+            found = names_where(read_condition(text, names), self.state.live_named(), names)
+            self.state.deleted.update(found)
+            wanted = f"ok {len(found)}\n"
+        except Fault as fault:
+            wanted = fault
+        return self.compared(["delete", "t", text], wanted)
+
+    def delete_rows(self):
+        origin, number = self.pick.choice([(0, 1), (1, 0), (1, 1), (1, 2), (7, 1), (9, 9)])
+        first = self.pick.choice([0, 1, 3, 65_535])
+        last = self.pick.choice([first, first, 2, 7])
+        wanted = "ok\n"
+        if 0 in (origin, number):
+            wanted = Fault("BadName")
+        elif last < first:
+            wanted = Fault("BadRange 0")
+        else:
+            self.state.deleted.update((origin, number, at) for at in range(first, last + 1))
+        return self.compared(["delete-rows", "t", f"{origin}.{number}", str(first), str(last)], wanted)
+
+    # ---- what is read out
+    def read_out(self):
+        has_names = self.pick.random() < 0.5
+        return self.compared(["dump", *["--names"] * has_names, "t"], dumped(self.schema, self.state, has_names)) or self.compared(["inspect", "t"], inspected(self.schema, self.state))
+
+    def ask(self):
+        text = self.query().removeprefix("query  ")
+        form, names = self.pick.choice(FORMS), self.schema.names()
+        try:
+            wanted = in_form(form, *table_of(read_query(text, "T", names), self.state.live_rows(), names))
+        except Fault as fault:
+            wanted = fault
+        return self.compared(["query", "--format", form, "t", text], wanted)
+
+    def replica(self):
+        return ""
+
