@@ -4,7 +4,7 @@ use Rattle.std.proofs.lemmas.Bool.Decides.{nat_tests}
 use Rattle.transpose_order.specs.Mask.{has}
 use Rattle.transpose_order.specs.MaskWords.{has-rows_of, length-rows_of}
 use Rattle.segment_core.specs.CodedVector.{is_null_cell}
-use Rattle.segment_core.proofs.build.put_cell.Goals as goal
+use Rattle.segment_core.proofs.gather.put_cell.Goals as goal
 
 pub returns-in-None-clause-null : goal.returns-in-None-clause-null
 returns-in-None-clause-null c =
