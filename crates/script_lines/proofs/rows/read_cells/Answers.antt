@@ -1,7 +1,7 @@
 use Rattle.std.proofs.Common.{◌≡◌, sym, ◌∙◌, rules, inl, refl, ap, Some, None, ◌++◌, ◌∷◌, []}
 use Rattle.script_lines.specs.Word.{cell_of, cells_of, cut}
 use Rattle.script_lines.proofs.RowLaws.{cells_more, cells_bad, cells_all, cells_all_bad, after_all}
-use Rattle.script_lines.proofs.rows.cells.Goals as goal
+use Rattle.script_lines.proofs.rows.read_cells.Goals as goal
 
 pub returns-in_default-cell : goal.returns-in_default-cell
 returns-in_default-cell c =
@@ -28,5 +28,5 @@ pub returns : goal.returns
 returns c =
     let some : Some c.in-Some-cell-2.last ≡ cell_of c.loop-value.rest.now = sym c.in-Some-cell-2.is ∙ c.cell-2.ensures in
     let uncut : None ≡ cut 44 c.loop-value.rest.now = search rules in
-    let pushed : c.from_cells.result ≡ c.loop-value.cells.items ++ (c.in-Some-cell-2.last ∷ []) = search rules in
+    let pushed : c.push-2.new.self.items ≡ c.loop-value.cells.items ++ (c.in-Some-cell-2.last ∷ []) = search rules in
     sym c.loop-value.invariant.1 ∙ cells_all c.loop-value.cells.items c.loop-value.rest.now c.in-Some-cell-2.last uncut some ∙ ap Some (sym pushed)
