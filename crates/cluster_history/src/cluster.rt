@@ -14,11 +14,12 @@ use crate::message::{Message, offer_at, summary_at};
 use crate::reply::Reply;
 use crate::step::Step;
 use replica_store::Store;
+use row_batch::RowBatch;
 use segment_core::Coding;
 use std::alloc::Global;
 use std::marker::Model;
 use store_view::{ask, names_where};
-use table_model::{BatchName, Origin, Refusal, Row, RowName, Schema};
+use table_model::{BatchName, Origin, Refusal, RowName, Schema};
 
 /// How many replicas a cluster has at most.
 pub const REPLICA_LIMIT: usize = 64;
@@ -101,13 +102,13 @@ impl Cluster {
     }
 
     /// Appends the rows at a replica.
-    fn append(&mut self, alloc: Global, replica: u32, rows: &[Row]) -> Result<Reply, Refusal>
+    fn append(&mut self, alloc: Global, replica: u32, rows: &RowBatch) -> Result<Reply, Refusal>
         ensures { ActsOn self.old (Step.Append replica rows.now) result self.new }
     {
         let place = self.place(replica)?;
         // `parts` ensures that the batches are the rows of the segments, so that a new name is new to both.
         let _parts = self.stores[place].parts();
-        let name = self.stores[place].append(alloc, rows)?;
+        let name = self.stores[place].append_batch(alloc, rows)?;
         Ok(Reply::Named(name))
     }
 
@@ -117,14 +118,14 @@ impl Cluster {
         alloc: Global,
         replica: u32,
         name: BatchName,
-        rows: &[Row],
+        rows: &RowBatch,
     ) -> Result<Reply, Refusal>
         ensures { ActsOn self.old (Step.Insert replica name rows.now) result self.new }
     {
         let place = self.place(replica)?;
         // `parts` ensures that the batches are the rows of the segments, so that a new name is new to both.
         let _parts = self.stores[place].parts();
-        let inserted = self.stores[place].insert(alloc, name, rows)?;
+        let inserted = self.stores[place].insert_batch(alloc, name, rows)?;
         Ok(Reply::Put(inserted))
     }
 
@@ -282,12 +283,12 @@ impl Cluster {
         ensures { ActsOn self.old step.now result self.new }
     {
         match step {
-            Step::Append { replica, rows } => self.append(alloc, *replica, rows.as_slice()),
+            Step::Append { replica, rows } => self.append(alloc, *replica, rows),
             Step::Insert {
                 replica,
                 name,
                 rows,
-            } => self.insert(alloc, *replica, *name, rows.as_slice()),
+            } => self.insert(alloc, *replica, *name, rows),
             Step::Delete {
                 replica,
                 first,

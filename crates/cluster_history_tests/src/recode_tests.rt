@@ -3,10 +3,11 @@
 use crate::tests::{Told, Want, is_wanted, name, step_of};
 use cluster_history::{Cluster, FileBytes, Reply, Sql, Step};
 use replica_store::Store;
+use row_batch::RowBatch;
 use segment_core::{Coding, Segment};
 use std::alloc::Global;
 use std::test::Fail;
-use table_model::{ColType, Refusal, Row, RowName, Rows, Schema};
+use table_model::{ColType, Refusal, RowName, Schema};
 use test_support::agree;
 
 const FOR: Coding = Coding::For;
@@ -196,12 +197,12 @@ const TOO_GREAT: Values = &[Some(32_768), Some(0), Some(0)];
 const TOO_SHORT: Values = &[Some(1), Some(2)];
 
 /// The rows of these values.
-fn rows_of(alloc: Global, values: &[Values]) -> Result<Rows, Refusal> {
-    let mut rows = Vec::with_capacity(alloc, values.len())?;
+fn rows_of(alloc: Global, values: &[Values]) -> Result<RowBatch, Refusal> {
+    let mut rows = RowBatch::new(alloc);
     for &cells in values {
-        rows.push(Row::from_cells(Vec::from_slice(alloc, cells)?))?;
+        rows.push_row(cells)?;
     }
-    Ok(Rows::from_vec(rows))
+    Ok(rows)
 }
 
 /// A cluster of three columns with the batch 1.1 of one row at both of its replicas.

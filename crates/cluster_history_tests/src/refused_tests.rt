@@ -5,10 +5,11 @@
 use crate::tests::{Want, is_wanted, name};
 use cluster_history::{Cluster, Message, Reply, Sql, Step, run};
 use replica_store::Store;
+use row_batch::RowBatch;
 use segment_core::{Coding, Segment};
 use std::alloc::Global;
 use std::test::Fail;
-use table_model::{ColType, Refusal, Row, Rows, Schema};
+use table_model::{ColType, Refusal, Schema};
 use test_support::growth_refused;
 
 /// What came of a call.
@@ -139,11 +140,10 @@ const LACKING: [Outcome; STEPS] = [
 ];
 
 /// One row, 7.
-fn seven(alloc: Global) -> Result<Rows, Refusal> {
-    let row = Row::from_cells(Vec::from_slice(alloc, &[Some(7)])?);
-    let mut rows = Vec::with_capacity(alloc, 1)?;
-    rows.push(row)?;
-    Ok(Rows::from_vec(rows))
+fn seven(alloc: Global) -> Result<RowBatch, Refusal> {
+    let mut rows = RowBatch::new(alloc);
+    rows.push_row(&[Some(7)])?;
+    Ok(rows)
 }
 
 /// The steps of the run.

@@ -13,7 +13,7 @@ use Rattle.table_model.proofs.NameOrder.{row_names_total, exact_row_names}
 use Rattle.table_model.proofs.Joins.{or_else, get-union, same_maps, same_states, join-agree}
 use Rattle.table_model.proofs.SameTable.{one_table}
 use Rattle.replica_store.specs.Replica.{Replica, batch_limit, joined_with, with_join}
-use Rattle.replica_store.specs.Exchange.{SummaryForm, OfferForm, summary_of, offering, offered, unlisted_state}
+use Rattle.replica_store.specs.Exchange.{SummaryForm, OfferForm, summary_of, offering, unlisted_state}
 use Rattle.replica_store.specs.ExchangeLaws.{IsOffer, Applies, HoldsListed, HoldsUnlisted, HasGrown, ExchangeLaws}
 use Rattle.replica_store.proofs.Growth.{growth_laws_hold, grown_itself, grown_merge}
 use Rattle.replica_store.proofs.MergeAnswers.{is_merge, merges}

@@ -11,7 +11,7 @@ ghost use Rattle.segment_core.specs.Segment.{canonical_segment, widths_in, width
 ghost use Rattle.segment_core.specs.SegmentBytes.{HasBytesIn};
 ghost use Rattle.replica_store.specs.Exchange.{summary_of, offered, unlisted, applied, opened};
 ghost use Rattle.replica_store.specs.Parted.{AreParted};
-ghost use Rattle.replica_store.specs.Replica.{Replica, IsWithinLimits, new_replica, entries_of, names_of, appended, inserted, merged, merge_fault, next_name, place_for, replica_with, with_batch, joined_with, deleted_rows, delete_fault, deleted_names, names_fault, recoded_rows, recode_fault, batch_limit};
+ghost use Rattle.replica_store.specs.Replica.{Replica, IsWithinLimits, new_replica, entries_of, names_of, appended, inserted, merged, merge_fault, next_name, place_for, replica_with, with_batch, number_after, greatest_number, joined_with, deleted_rows, delete_fault, deleted_names, names_fault, recoded_rows, recode_fault, batch_limit};
 ghost use Rattle.replica_store.specs.Segments.{rows_in, recoded_in, AreStored, IsStored, IsSoundStore, HasVector};
 ghost use Rattle.segment_core.specs.declared.coding.Coding.{Coding};
 ghost use Rattle.replica_store.specs.declared.inserted.Inserted.TheVariants.{New, Already};
@@ -21,6 +21,7 @@ use crate::inserted::Inserted;
 use crate::offer::Offer;
 use crate::summary::Summary;
 use catalogue_join::{Held, Tombs};
+use row_batch::{RowBatch, check_batch};
 use segment_core::{Coding, Segment};
 use std::alloc::{AllocError, Global};
 use std::marker::Model;
@@ -189,6 +190,39 @@ impl Store {
         }
     }
 
+    /// Puts the rows in as `append` does, with the same answers, of rows that lie in a batch.
+    pub fn append_batch(&mut self, alloc: Global, rows: &RowBatch) -> Result<BatchName, Refusal>
+        ensures acts { Acts (λ name. name) self.old.replica result self.new.replica (appended self.old.replica rows.now) }
+        ensures segments { IfOk result (λ name. self.new.segments ≡ map.insert self.old.segments name (canonical_segment self.old.replica.schema rows.now)) }
+        ensures refused { OnErr result (self.new ≡ self.old) }
+    {
+        let name = self.next_batch_name(rows)?;
+        self.add_batch(alloc, name, rows)?;
+        Ok(name)
+    }
+
+    /// Puts the rows in as `insert` does, with the same answers, of rows that lie in a batch.
+    pub fn insert_batch(
+        &mut self,
+        alloc: Global,
+        name: BatchName,
+        rows: &RowBatch,
+    ) -> Result<Inserted, Refusal>
+        ensures acts { Acts (λ answer. answer) self.old.replica result self.new.replica (inserted self.old.replica name rows.now) }
+        ensures new { result ≡ Ok New → self.new.segments ≡ map.insert self.old.segments name (canonical_segment self.old.replica.schema rows.now) }
+        ensures already { result ≡ Ok Already → self.new ≡ self.old }
+        ensures held { (r : Replica) → inserted self.old.replica name rows.now ≡ Ok (Already, r) → result ≡ Ok Already }
+        ensures refused { OnErr result (self.new ≡ self.old) }
+    {
+        match self.place_for_batch(name, rows)? {
+            Inserted::Already => Ok(Inserted::Already),
+            Inserted::New => {
+                self.add_batch(alloc, name, rows)?;
+                Ok(Inserted::New)
+            }
+        }
+    }
+
     /// Deletes the rows of a batch from the first to the ordinal `last`, both included, held here or not.
     ///
     /// Refused are, in this order: `BadName` where the batch's origin or number is 0, `BadRange` where `last` is less than
@@ -336,6 +370,24 @@ impl Store {
         ensures proper { IfOk result (λ name. IsTrue (is_proper_name name)) }
     {
         check_rows(&self.schema, rows)?;
+        self.free_name()
+    }
+
+    /// The name that an append of a batch's rows gets, or its refusal.
+    #[tactic(auto, unfolding(crate::specs::Replica::next_name))]
+    fn next_batch_name(&self, rows: &RowBatch) -> Result<BatchName, Refusal>
+        ensures value { result ≡ next_name self.now.replica rows.now }
+        ensures proper { IfOk result (λ name. IsTrue (is_proper_name name)) }
+    {
+        check_batch(&self.schema, rows)?;
+        self.free_name()
+    }
+
+    /// The name that the next batch of the own origin gets, or why there is none.
+    fn free_name(&self) -> Result<BatchName, Refusal>
+        ensures value { result ≡ number_after self.now.replica (greatest_number self.now.replica.own (entries_of self.now.replica)) }
+        ensures proper { IfOk result (λ name. IsTrue (is_proper_name name)) }
+    {
         let number = self.batches.greatest_number(self.own);
         if number == LAST_NUMBER {
             return Err(Refusal::NumbersSpent);
@@ -366,7 +418,24 @@ impl Store {
         }
     }
 
-    /// Puts in a batch that was decided on.
+    /// Whether a batch's rows are new under the name or held already, or the refusal of an insert.
+    #[tactic(auto, unfolding(crate::specs::Replica::place_for))]
+    fn place_for_batch(&self, name: BatchName, rows: &RowBatch) -> Result<Inserted, Refusal>
+        ensures { result ≡ place_for self.now.replica name rows.now }
+    {
+        check_batch(&self.schema, rows)?;
+        if !name.is_proper() {
+            return Err(Refusal::BadName);
+        }
+        match self.batches.get(name) {
+            Some(held) if held.has_batch(rows) => Ok(Inserted::Already),
+            Some(_) => Err(Refusal::Conflict(name)),
+            None if self.batches.len() >= MAX_BATCHES => Err(Refusal::Full),
+            None => Ok(Inserted::New),
+        }
+    }
+
+    /// Puts in the rows of a batch that was decided on.
     fn add(&mut self, alloc: Global, name: BatchName, rows: &[Row]) -> Result<(), AllocError>
         requires proper { IsTrue (is_proper_name name) }
         requires new { map.get self.old.replica.state.batches name ≡ None }
@@ -376,7 +445,40 @@ impl Store {
         ensures segments { OnOk result (self.new.segments ≡ map.insert self.old.segments name (canonical_segment self.old.replica.schema rows.now)) }
         ensures err { OnErr result (self.new ≡ self.old) }
     {
-        let segment = Segment::build(alloc, &self.schema, rows)?;
+        let segment = Segment::build(alloc, self.schema(), rows)?;
+        self.put(name, segment)
+    }
+
+    /// Puts in the rows of a batch that was decided on, which lie in a batch.
+    fn add_batch(
+        &mut self,
+        alloc: Global,
+        name: BatchName,
+        rows: &RowBatch,
+    ) -> Result<(), AllocError>
+        requires proper { IsTrue (is_proper_name name) }
+        requires new { map.get self.old.replica.state.batches name ≡ None }
+        requires room { map.len self.old.replica.state.batches < batch_limit }
+        requires fit { IsBatch self.old.replica.schema rows.now }
+        ensures ok { OnOk result (self.new.replica ≡ with_batch self.old.replica name rows.now) }
+        ensures segments { OnOk result (self.new.segments ≡ map.insert self.old.segments name (canonical_segment self.old.replica.schema rows.now)) }
+        ensures err { OnErr result (self.new ≡ self.old) }
+    {
+        let segment = Segment::build_batch(alloc, self.schema(), rows)?;
+        self.put(name, segment)
+    }
+
+    /// Puts in a segment of the table as a batch that was decided on.
+    fn put(&mut self, name: BatchName, segment: Segment) -> Result<(), AllocError>
+        requires proper { IsTrue (is_proper_name name) }
+        requires new { map.get self.old.replica.state.batches name ≡ None }
+        requires room { map.len self.old.replica.state.batches < batch_limit }
+        requires fit { IsBatch self.old.replica.schema segment.rows }
+        requires widths { widths_in segment.forms ≡ widths_of self.old.replica.schema }
+        ensures ok { OnOk result (self.new.replica ≡ with_batch self.old.replica name segment.rows) }
+        ensures segments { OnOk result (self.new.segments ≡ map.insert self.old.segments name segment) }
+        ensures err { OnErr result (self.new ≡ self.old) }
+    {
         self.batches.insert(name, segment)?;
         Ok(())
     }

@@ -2,6 +2,8 @@
 #![tactic(auto)]
 
 #[cfg(test)]
+mod batch_tests;
+#[cfg(test)]
 mod delete_all_tests;
 #[cfg(test)]
 mod exchange_tests;

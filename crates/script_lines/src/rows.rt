@@ -4,19 +4,22 @@ ghost use Rattle.script_lines.specs.Reading.{ReadsPart};
 ghost use Rattle.script_lines.specs.Word.{without, cells_of, opened_cells, rows_of};
 
 use crate::words::{cell, cut, without};
+use row_batch::RowBatch;
 use std::alloc::Global;
-use table_model::{Refusal, Row, Rows};
+use table_model::Refusal;
 
 /// The rows that the text writes: at least one.
-pub fn rows(alloc: Global, text: &str) -> Result<Rows, Refusal>
+pub fn rows(alloc: Global, text: &str) -> Result<RowBatch, Refusal>
     ensures { ReadsPart (λ rows. rows) result (rows_of text.now) }
 {
-    let mut rows = Vec::new(alloc);
+    let mut rows = RowBatch::new(alloc);
+    let mut cells = Vec::new(alloc);
     let mut rest = text;
     while let Some((row, after)) = cut(rest, ')') {
-        rows.push(opened_cells(alloc, row)?)?;
+        read_opened_cells(row, &mut cells)?;
+        rows.push_row(cells.as_slice())?;
         if after.is_empty() {
-            return Ok(Rows::from_vec(rows));
+            return Ok(rows);
         }
         let Some(next) = without(after, ',') else {
             return Err(Refusal::BadLine);
@@ -26,22 +29,22 @@ pub fn rows(alloc: Global, text: &str) -> Result<Rows, Refusal>
     Err(Refusal::BadLine)
 }
 
-/// The row of values that follow a parenthesis.
-fn opened_cells(alloc: Global, text: &str) -> Result<Row, Refusal>
-    ensures row { ReadsPart (λ row. row) result (opened_cells text.now) }
+/// Reads the row of values that follow a parenthesis into `cells`, in place of what is there.
+fn read_opened_cells(text: &str, cells: &mut Vec<Option<i128>>) -> Result<(), Refusal>
+    ensures row { ReadsPart (λ done. cells.new.items) result (opened_cells text.now) }
     ensures unopened { without 40 text.now ≡ None → result ≡ Err Refusal.BadLine }
 {
     match without(text, '(') {
         None => Err(Refusal::BadLine),
-        Some(values) => cells(alloc, values),
+        Some(values) => read_cells(values, cells),
     }
 }
 
-/// The row of values that are joined by commas.
-fn cells(alloc: Global, text: &str) -> Result<Row, Refusal>
-    ensures { ReadsPart (λ row. row) result (cells_of text.now) }
+/// Reads the row of values that are joined by commas into `cells`, in place of what is there.
+fn read_cells(text: &str, cells: &mut Vec<Option<i128>>) -> Result<(), Refusal>
+    ensures { ReadsPart (λ done. cells.new.items) result (cells_of text.now) }
 {
-    let mut cells = Vec::new(alloc);
+    cells.clear();
     let mut rest = text;
     while let Some((value, after)) = cut(rest, ',') {
         let Some(value) = cell(value) else {
@@ -54,5 +57,5 @@ fn cells(alloc: Global, text: &str) -> Result<Row, Refusal>
         return Err(Refusal::BadLine);
     };
     cells.push(last)?;
-    Ok(Row::from_cells(cells))
+    Ok(())
 }

@@ -1,7 +1,8 @@
 -- The canonical vectors of rows: each column's vectors cover its cells part by part, and stand for the rows.
-use Rattle.std.proofs.Common.{◌≡◌, ℕ, zero, suc, ◌+◌, ◌-◌, ◌*◌, ◌/◌, ◌%◌, ◌<◌, min, ℤ, ◌≤ℤ◌, FitsSigned, List, [], ◌∷◌, map, take, drop, length, get_or, slice_get, Option, Some, None, refl, sym, ◌∙◌, ap, subst, arith, rules}
+use Rattle.std.proofs.Common.{◌≡◌, ℕ, zero, suc, ◌+◌, ◌-◌, ◌*◌, ◌/◌, ◌%◌, ◌<◌, ◌≤◌, ◌⊎◌, inl, inr, min, ℤ, ◌≤ℤ◌, FitsSigned, List, [], ◌∷◌, map, take, drop, length, get_or, slice_get, Option, Some, None, refl, sym, ◌∙◌, ap, subst, arith, rules}
 use Rattle.std.specs.List.{range_with_len, take-map, drop-map}
-use Rattle.std.proofs.lemmas.List.{same_lists, get_or-take, get_or-drop, length-take, length-drop, length-map, get_or_default}
+use Rattle.std.proofs.lemmas.List.{same_lists, get_or-take, get_or-drop, take_all, length-take, length-drop, length-map, get_or_default}
+use Rattle.std.proofs.lemmas.Bool.{cases_lt}
 use Rattle.std.proofs.lemmas.List.FromFn.{length-map-range_with_len, get_or-map-range_with_len}
 use Rattle.std.proofs.lemmas.Option.{slice_get_within, slice_get-get_or, get_or_from_slice_get}
 use Rattle.transpose_order.specs.Place.{IsLaneWidth}
@@ -36,6 +37,16 @@ part_in_range t cells k fit = λ n z l e.
     let short = length-cells_in cells k in
     let below : n < 1024 = omega arith in
     fit (1024 * k + n) z (omega arith) (sym (get_or-cells_in cells k n None below) ∙ e)
+
+-- as many cells as vector k covers rows are its part
+part_is_at : (cells : List (Option ℤ)) (k n : ℕ) → n ≡ min 1024 (length cells - 1024 * k) → (1024 * k + 1024 < length cells) ⊎ (length cells ≤ 1024 * k + 1024) → take n (drop (1024 * k) cells) ≡ cells_in cells k
+part_is_at cells k n e (inl l) = ap (λ m. take m (drop (1024 * k) cells)) (let r : n ≡ 1024 = omega arith in r)
+part_is_at cells k n e (inr l) =
+    let short = length-drop (1024 * k) cells in
+    take_all n (drop (1024 * k) cells) (omega arith) ∙ sym (take_all 1024 (drop (1024 * k) cells) (omega arith))
+
+pub part_is : (cells : List (Option ℤ)) (k n : ℕ) → n ≡ min 1024 (length cells - 1024 * k) → take n (drop (1024 * k) cells) ≡ cells_in cells k
+part_is cells k n e = part_is_at cells k n e (cases_lt (1024 * k + 1024) (length cells))
 
 pub part_there : (rows : Batch) (c k : ℕ) → ((n : ℕ) → n < length rows → c < length (get_or rows n [])) → (n : ℕ) → n < length (take 1024 (drop (1024 * k) rows)) → c < length (get_or (take 1024 (drop (1024 * k) rows)) n [])
 part_there rows c k h n l =

@@ -11,7 +11,7 @@ ghost use Rattle.bit_interleave.specs.Arithmetic.{integer_width};
 ghost use Rattle.bit_interleave.specs.Range.{AreInRange};
 
 use crate::boxed::Boxed;
-use crate::build::cell_at;
+use crate::build::write_cells;
 use crate::choice::choose;
 use crate::coded::Coded;
 use crate::coding::Coding;
@@ -235,9 +235,30 @@ impl CodedVector {
         if self.rows() != rows.len() {
             return false;
         }
+        let mut cells = [None; 1024];
+        self.has_part(rows, column, &mut cells[..rows.len()])
+    }
+
+    /// Whether the vector's cells are those of a column of some rows, which are written into `cells`.
+    fn has_part(&self, rows: &[Row], column: usize, cells: &mut [Option<i128>]) -> bool
+        requires room { length cells.old ≡ length rows.now }
+        requires there { (n : ℕ) → n < length rows.now → column < length (slice_index_or rows.now n []) }
+        ensures { IsTrue result ↔ (cells_of self.now ≡ column_cells rows.now column) }
+    {
+        write_cells(rows, column, cells);
+        self.has_these(cells)
+    }
+
+    /// Whether the vector's cells are these. It takes no memory.
+    pub(crate) fn has_these(&self, cells: &[Option<i128>]) -> bool
+        ensures { IsTrue result ↔ (cells_of self.now ≡ cells.now) }
+    {
+        if self.rows() != cells.len() {
+            return false;
+        }
         let mut values = [0; 1024];
         self.coded.decode(&mut values);
-        are_cells_of(&self.null_rows(), &values, rows, column)
+        are_cells_of(&self.null_rows(), &values, cells)
     }
 
     /// The same rows in another coding: the least form that the coding has of the filled vector. Where memory is refused, an
@@ -317,21 +338,20 @@ fn same_cell(null: bool, value: i64, other_null: bool, other: i64) -> bool
     }
 }
 
-/// Whether the cells under a mask of nulls and among values are those of a column of at most 1024 rows.
-fn are_cells_of(nulls: &Mask, values: &[i64; 1024], rows: &[Row], column: usize) -> bool
-    requires limit { length rows.now ≤ 1024 }
-    requires there { (n : ℕ) → n < length rows.now → column < length (slice_index_or rows.now n []) }
-    ensures { IsTrue result ↔ (cells_under (length rows.now) nulls.now values.now ≡ column_cells rows.now column) }
+/// Whether the cells under a mask of nulls and among values are these, of which there are 1024 at most.
+fn are_cells_of(nulls: &Mask, values: &[i64; 1024], cells: &[Option<i128>]) -> bool
+    requires { length cells.now ≤ 1024 }
+    ensures { IsTrue result ↔ (cells_under (length cells.now) nulls.now values.now ≡ cells.now) }
 {
-    for row in 0..rows.len() {
-        if !is_cell(nulls.get(row), values[row], cell_at(&rows[row], column)) {
+    for row in 0..cells.len() {
+        if !is_cell(nulls.get(row), values[row], cells[row]) {
             return false;
         }
     }
     true
 }
 
-/// Whether a cell, null or a value, is a row's cell.
+/// Whether a cell, null or a value, is another.
 fn is_cell(null: bool, value: i64, cell: Option<i128>) -> bool
     ensures { IsTrue result ↔ (cell_or_null null value ≡ cell) }
 {

@@ -1,6 +1,7 @@
 //! Segments: the rows of a batch, column by column, in coded vectors of up to 1024 values.
 #![tactic(auto)]
 
+mod batch;
 mod boxed;
 mod build;
 mod choice;
@@ -10,6 +11,7 @@ mod coding;
 mod cover;
 mod fill;
 mod formats;
+mod gather;
 mod laws;
 mod same_form;
 mod segment;

@@ -9,10 +9,12 @@ ghost use Rattle.segment_core.specs.SegmentBytes.{HasBytesIn};
 ghost use Rattle.segment_core.specs.Coded.{coding_of};
 ghost use Rattle.segment_core.specs.CodedVector.{VectorForm, StandsFor};
 
+use crate::batch;
 use crate::build::canonical_column;
 use crate::coded_vector::CodedVector;
 use crate::coding::Coding;
 use crate::vectors::Vectors;
+use row_batch::RowBatch;
 use std::alloc::{AllocError, Global};
 use std::marker::Model;
 use table_model::{Refusal, Row, Schema};
@@ -60,6 +62,25 @@ impl Segment {
         ensures valid { IfOk result (λ s. HasBytesIn schema.now s) }
     {
         let columns = canonical_columns(alloc, schema, rows)?;
+        Ok(Segment {
+            rows: rows.len() as u32,
+            known_canonical: true,
+            columns,
+        })
+    }
+
+    /// The segment of a table's rows, as `build` makes it, of rows that lie in a batch. Where memory is refused, an `AllocError`.
+    pub fn build_batch(
+        alloc: Global,
+        schema: &Schema,
+        rows: &RowBatch,
+    ) -> Result<Segment, AllocError>
+        requires { IsBatch schema.now rows.now }
+        ensures value { IfOk result (λ s. s ≡ canonical_segment schema.now rows.now) }
+        ensures widths { IfOk result (λ s. widths_in s.forms ≡ widths_of schema.now) }
+        ensures valid { IfOk result (λ s. HasBytesIn schema.now s) }
+    {
+        let columns = batch::canonical_columns(alloc, schema, rows)?;
         Ok(Segment {
             rows: rows.len() as u32,
             known_canonical: true,
@@ -214,6 +235,19 @@ impl Segment {
             return false;
         }
         have_cells(self.columns.as_slice(), rows)
+    }
+
+    /// Whether the rows are those of a batch, which need not fit the columns. It takes no memory.
+    pub fn has_batch(&self, rows: &RowBatch) -> bool
+        ensures { result ≡ same_rows self.now.rows rows.now }
+    {
+        if self.rows as usize != rows.len() {
+            return false;
+        }
+        if !batch::have_length(rows, self.columns.len()) {
+            return false;
+        }
+        batch::have_cells(self.columns.as_slice(), rows)
     }
 
     /// The same segment in memory of its own, codings included. Where memory is refused, an `AllocError`.

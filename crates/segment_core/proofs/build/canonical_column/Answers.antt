@@ -10,24 +10,24 @@ use Rattle.segment_core.proofs.GatherLemmas.{length-column_cells}
 use Rattle.segment_core.proofs.BuildLemmas.{part_cells, part_has_column, made_all}
 use Rattle.segment_core.proofs.build.canonical_column.Goals as goal
 
-pub canonical_vector-requires-clause-limit : goal.canonical_vector-requires-clause-limit
-canonical_vector-requires-clause-limit c = let e = ap length c.rows_in-part.ensures in let t = length-take 1024 (drop (1024 * c.loop-k.k) c.args.rows.now) in omega arith
+pub canonical_part-requires-clause-limit : goal.canonical_part-requires-clause-limit
+canonical_part-requires-clause-limit c = let e = ap length c.rows_in-part.ensures in let t = length-take 1024 (drop (1024 * c.loop-k.k) c.args.rows.now) in omega arith
 
-pub canonical_vector-requires-clause-column : goal.canonical_vector-requires-clause-column
-canonical_vector-requires-clause-column c =
+pub canonical_part-requires-clause-column : goal.canonical_part-requires-clause-column
+canonical_part-requires-clause-column c =
     subst (λ (rows : Batch). HasColumn c.args.lane_width rows c.args.column) (sym c.rows_in-part.ensures)
     (part_has_column c.args.lane_width c.args.rows.now c.args.column c.loop-k.k c.requires.column)
 
 pub loop-k-preserved : goal.loop-k-preserved
 loop-k-preserved c =
     let cells : List (Option ℤ) = column_cells c.args.rows.now c.args.column in
-    let vector : c.in_ok-canonical_vector.field-0 ≡ canonical_vector c.args.lane_width (cells_in cells c.loop-k.k) =
-    c.in_ok-canonical_vector.ensures
+    let vector : c.in_ok-canonical_part.field-0 ≡ canonical_vector c.args.lane_width (cells_in cells c.loop-k.k) =
+    c.in_ok-canonical_part.ensures
     ∙ ap (λ (rows : Batch). canonical_vector c.args.lane_width (column_cells rows c.args.column)) c.rows_in-part.ensures
     ∙ ap (canonical_vector c.args.lane_width) (part_cells c.args.rows.now c.args.column c.loop-k.k) in
-    let pushed : c.push.new.self.items ≡ c.loop-k.vectors.items ++ (c.in_ok-canonical_vector.field-0 ∷ []) = c.in_ok-push.ensures.items in
+    let pushed : c.push.new.self.items ≡ c.loop-k.vectors.items ++ (c.in_ok-canonical_part.field-0 ∷ []) = c.in_ok-push.ensures.items in
     pushed
-    ∙ ap (λ (vs : List VectorForm). vs ++ (c.in_ok-canonical_vector.field-0 ∷ [])) c.loop-k.invariant
+    ∙ ap (λ (vs : List VectorForm). vs ++ (c.in_ok-canonical_part.field-0 ∷ [])) c.loop-k.invariant
     ∙ ap (λ (v : VectorForm). map (λ k. canonical_vector c.args.lane_width (cells_in cells k)) (range_with_len 0 c.loop-k.k) ++ (v ∷ [])) vector
     ∙ sym (map-range_with_len_more (λ k. canonical_vector c.args.lane_width (cells_in cells k)) 0 c.loop-k.k c.loop-k.k (omega arith))
 

@@ -2,7 +2,7 @@
 use Rattle.std.proofs.Common.{◌<◌, sym, ap, subst}
 use Rattle.segment_core.specs.Fill.{filled}
 use Rattle.segment_core.specs.Coded.{least_form}
-use Rattle.segment_core.specs.Choice.{choice, least_bytes, place_in_order}
+use Rattle.segment_core.specs.Choice.{choice, place_in_order}
 use Rattle.segment_core.specs.declared.coding.Coding.{Coding}
 use Rattle.segment_core.proofs.ChoiceLemmas.{choice_is_first_fewest}
 use Rattle.segment_core.proofs.CodedLemmas.{coding_of-least_form}

@@ -1,53 +1,28 @@
--- The limits are kept: by a batch that goes in, and where none does.
-use Rattle.std.proofs.Common.{sym, ap, subst, ◌∙◌, ◌≡◌, ◌<◌}
+-- The segment has the rows.
+use Rattle.std.proofs.Common.{sym, ap, subst, ◌∙◌, ◌≡◌, OnOk}
 use Rattle.std.specs.FinMap as map
-use Rattle.table_model.specs.Name.{name_cmp}
-use Rattle.table_model.specs.State.{Batch}
-use Rattle.table_model.specs.Table.{IsBatch}
-use Rattle.segment_core.specs.Segment.{SegmentForm, canonical_segment}
-use Rattle.replica_store.specs.Replica.{IsWithinLimits, with_batch, batch_limit}
-use Rattle.replica_store.specs.Segments.{BatchesForm, StoreForm, IsSoundStore, IsStored, AreStored, rows_in}
-use Rattle.replica_store.proofs.Limits.{IsWithinLimits-insert}
-use Rattle.replica_store.proofs.RowsIn.{rows_in-insert, unheld}
-use Rattle.replica_store.proofs.Stored.{AreStored-insert}
+use Rattle.table_model.specs.Table.{Table, IsBatch}
+use Rattle.segment_core.specs.Segment.{SegmentForm, canonical_segment, widths_of}
+use Rattle.replica_store.specs.Replica.{with_batch}
 use Rattle.replica_store.proofs.store.Store.add.Goals as goal
 
 pub build-requires : goal.build-requires
-build-requires c = subst (λ (s : StoreForm). IsBatch s.replica.schema c.args.rows.now) (sym c.self.view_is) c.requires.fit
+build-requires c = subst (λ (table : Table). IsBatch table c.args.rows.now) (sym c.schema.ensures) c.requires.fit
 
-pub insert-requires-clause-new : goal.insert-requires-clause-new
-insert-requires-clause-new c = unheld c.self.inside.batches.segments c.args.name (ap (λ (s : StoreForm). map.get s.replica.state.batches c.args.name) c.self.view_is ∙ c.requires.new)
+pub put-requires-clause-fit : goal.put-requires-clause-fit
+put-requires-clause-fit c =
+    let segment : c.in_ok-segment.segment ≡ canonical_segment c.schema.result.now c.args.rows.now = c.in_ok-segment.ensures.value in
+    subst (λ (s : SegmentForm). IsBatch c.args.self.now.replica.schema s.rows) (sym segment) c.requires.fit
 
-pub invariant_of-self : goal.invariant_of-self
-invariant_of-self c = subst (λ (b : BatchesForm). IsSoundStore c.self.inside.schema c.self.inside.own b) (sym c.in_err-insert.ensures.err) c.self.invariant
+pub put-requires-clause-widths : goal.put-requires-clause-widths
+put-requires-clause-widths c = c.in_ok-segment.ensures.widths ∙ ap widths_of c.schema.ensures
 
-pub invariant_of-self-2 : goal.invariant_of-self-2
-invariant_of-self-2 c =
-    let none = ap (λ (s : StoreForm). map.get s.replica.state.batches c.args.name) c.self.view_is ∙ c.requires.new in
-    let room : map.len (rows_in c.self.inside.batches.segments) < batch_limit = subst (λ (s : StoreForm). map.len s.replica.state.batches < batch_limit) (sym c.self.view_is) c.requires.room in
-    let fit : IsBatch c.self.inside.schema c.args.rows.now = subst (λ (s : StoreForm). IsBatch s.replica.schema c.args.rows.now) (sym c.self.view_is) c.requires.fit in
-    let all = ap rows_in c.in_ok-insert.ensures.ok ∙ rows_in-insert c.self.inside.batches.segments c.args.name c.in_ok-segment.segment ∙ ap (λ (s : SegmentForm). map.insert (rows_in c.self.inside.batches.segments) c.args.name s.rows) c.in_ok-segment.ensures.value in
-    let rows : c.in_ok-segment.segment.rows ≡ c.args.rows.now = ap (λ (s : SegmentForm). s.rows) c.in_ok-segment.ensures.value in
-    let new : IsStored c.self.inside.schema (c.args.name, c.in_ok-segment.segment) =
-    record { proper = c.requires.proper; fits = subst (IsBatch c.self.inside.schema) (sym rows) fit; widths = c.in_ok-segment.ensures.widths } in
+pub returns : goal.returns
+returns c =
+    let segment : c.in_ok-segment.segment ≡ canonical_segment c.args.self.now.replica.schema c.args.rows.now =
+    c.in_ok-segment.ensures.value ∙ ap (λ (table : Table). canonical_segment table c.args.rows.now) c.schema.ensures in
     record {
-      sound = record {
-        own_proper = c.self.invariant.sound.own_proper;
-        within = subst (λ (m : map.FinMap name_cmp Batch). IsWithinLimits c.self.inside.schema m) (sym all)
-            (IsWithinLimits-insert c.self.inside.schema (rows_in c.self.inside.batches.segments) c.args.name c.args.rows.now c.self.invariant.sound.within none room (record { proper = c.requires.proper; fits = fit }));
-      };
-      stored = subst (AreStored c.self.inside.schema) (sym c.in_ok-insert.ensures.ok) (AreStored-insert c.self.inside.schema c.self.inside.batches.segments c.args.name c.in_ok-segment.segment c.self.invariant.stored new);
-      parted = c.in_ok-insert.ensures.own ∙ c.self.invariant.parted;
+      ok = subst (λ (s : SegmentForm). OnOk c.put.result (c.put.new.self.replica ≡ with_batch c.args.self.now.replica c.args.name s.rows)) segment c.put.ensures.ok;
+      segments = subst (λ (s : SegmentForm). OnOk c.put.result (c.put.new.self.segments ≡ map.insert c.args.self.now.segments c.args.name s)) segment c.put.ensures.segments;
+      err = c.put.ensures.err;
     }
-
-pub returns-clause-ok : goal.returns-clause-ok
-returns-clause-ok c =
-    let all = ap rows_in c.in_ok-insert.ensures.ok ∙ rows_in-insert c.self.inside.batches.segments c.args.name c.in_ok-segment.segment ∙ ap (λ (s : SegmentForm). map.insert (rows_in c.self.inside.batches.segments) c.args.name s.rows) c.in_ok-segment.ensures.value in
-    (λ i. record { schema = c.self.inside.schema; own = c.self.inside.own; state = record { batches = all i; deleted = c.self.inside.tombs } })
-    ∙ ap (λ (s : StoreForm). with_batch s.replica c.args.name c.args.rows.now) c.self.view_is
-
-pub returns-clause-segments : goal.returns-clause-segments
-returns-clause-segments c =
-    c.in_ok-insert.ensures.ok
-    ∙ ap (map.insert c.self.inside.batches.segments c.args.name) c.in_ok-segment.ensures.value
-    ∙ ap (λ (s : StoreForm). map.insert s.segments c.args.name (canonical_segment s.replica.schema c.args.rows.now)) c.self.view_is

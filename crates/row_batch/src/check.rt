@@ -1,0 +1,69 @@
+//! Which rows may stand in a batch of a table.
+ghost use Rattle.std.specs.Prelude.{◌≡◌, ◌↔◌, IsOk};
+ghost use Rattle.table_model.specs.Outcome.{unless};
+ghost use Rattle.table_model.specs.Table.{fits, first_fault, row_fault, rows_fault, IsBatch};
+
+use crate::row_batch::RowBatch;
+use table_model::{Column, Refusal, Schema};
+
+/// The greatest number of rows in a batch.
+const MAX_ROWS: usize = 65_536;
+
+/// Whether the rows may stand in a batch of the table, or their first fault, as `check_rows` has it of a list of rows.
+///
+/// Refused are, in this order: no rows (`EmptyBatch`), more than 65,536 (`BatchTooLong`), and then row by row a row that has
+/// not one cell for each column (`WrongArity`), and from the left a cell outside its column's type (`OutOfType`).
+#[tactic(auto, unfolding(table_model::specs::Table::rows_fault))]
+pub fn check_batch(schema: &Schema, rows: &RowBatch) -> Result<(), Refusal>
+    ensures fault { result ≡ unless (rows_fault schema.now rows.now) }
+    ensures accepts { IsOk result ↔ IsBatch schema.now rows.now }
+{
+    if rows.is_empty() {
+        return Err(Refusal::EmptyBatch);
+    }
+    if rows.len() > MAX_ROWS {
+        return Err(Refusal::BatchTooLong);
+    }
+    match first_fault(schema.column_list(), rows) {
+        None => Ok(()),
+        Some(fault) => Err(fault),
+    }
+}
+
+/// The first fault of the rows, row by row.
+fn first_fault(columns: &[Column], rows: &RowBatch) -> Option<Refusal>
+    ensures { result ≡ first_fault columns.now 0 rows.now }
+{
+    for row in 0..rows.len() {
+        let fault = row_fault(columns, row, rows.row(row));
+        if fault.is_some() {
+            return fault;
+        }
+    }
+    None
+}
+
+/// The first fault of the row of this ordinal: its arity before its cells, and these from the left.
+fn row_fault(columns: &[Column], row: usize, cells: &[Option<i128>]) -> Option<Refusal>
+    ensures { result ≡ row_fault columns.now row cells.now }
+{
+    if cells.len() != columns.len() {
+        return Some(Refusal::WrongArity(row));
+    }
+    for column in 0..cells.len() {
+        if !fits(&columns[column], cells[column]) {
+            return Some(Refusal::OutOfType { row, column });
+        }
+    }
+    None
+}
+
+/// Whether the cell is null or a value of the column's type.
+fn fits(column: &Column, cell: Option<i128>) -> bool
+    ensures { result ≡ fits column.now cell }
+{
+    match cell {
+        None => true,
+        Some(value) => column.column_type().holds(value),
+    }
+}
