@@ -1,3 +1,4 @@
+pub mod AnswerTexts
 pub mod CommandSteps
 pub mod CsvLoading
 pub mod DrawnNames

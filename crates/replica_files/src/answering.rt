@@ -1,7 +1,11 @@
 //! Answers of queries over a replica in a file, in the format that is asked for.
-ghost use Rattle.std.specs.Prelude.{◌≡◌, ◌≢◌, IsTrue, IfErr, OnOk};
+ghost use Rattle.std.specs.Prelude.{◌≡◌, ◌≢◌, ◌⊎◌, Err, IfOk, IfErr, OnOk};
+ghost use Rattle.table_model.specs.Answer.{answer_text};
 ghost use Rattle.table_model.specs.Faults.{CountsWrites};
-ghost use Rattle.table_model.specs.declared.refusal.Refusal.TheVariants.{WriteFault};
+ghost use Rattle.table_model.specs.declared.refusal.Refusal.TheVariants.{Memory, WriteFault};
+ghost use Rattle.store_view.specs.Asked.{query_answer};
+ghost use Rattle.replica_files.specs.Answering.{AnswersInText};
+ghost use Rattle.replica_files.specs.declared.answering.Format.TheVariants.{Text};
 
 use crate::columns_text::{Line, aligned};
 use query_eval::text;
@@ -167,7 +171,9 @@ fn table_text(alloc: Global, answer: &Answer) -> Result<Vec<u8>, AllocError> {
 }
 
 /// An answer in a format.
-fn formatted(alloc: Global, answer: &Answer, format: Format) -> Result<Vec<u8>, AllocError> {
+fn formatted(alloc: Global, answer: &Answer, format: Format) -> Result<Vec<u8>, AllocError>
+    ensures { format ≡ Text → IfOk result (λ lines. lines.items ≡ answer_text answer.now) }
+{
     match format {
         Format::Text => text(alloc, answer),
         Format::Csv => csv_text(alloc, answer),
@@ -187,6 +193,8 @@ pub fn answer<W: Write>(
     format: Format,
     writer: &mut Counted<W>,
 ) -> Result<(), Refusal>
+    ensures told { format ≡ Text → AnswersInText result (W.contents writer.old.0) (W.contents writer.new.0) (query_answer sql.now store.now.replica.schema store.now.replica.state) }
+    ensures refused { IfErr result (λ e. (e ≡ WriteFault) ⊎ ((e ≡ Memory) ⊎ (query_answer sql.now store.now.replica.schema store.now.replica.state ≡ Err e))) }
     ensures unwritten { IfErr result (λ e. e ≢ WriteFault → W.contents writer.new.0 ≡ W.contents writer.old.0) }
     ensures kept { OnOk result (writer.new.1 ≡ writer.old.1) }
     ensures fault { IfErr result (λ e. CountsWrites e writer.old.1 writer.new.1) }
