@@ -125,31 +125,3 @@ fn a_batch_of_one_row_too_many_is_refused(rt: HostRuntime) -> Result<(), Fail> {
     let batch = nulls(rt.alloc(), 65_537)?;
     agree(check_batch(&schema, &batch), Err(Refusal::BatchTooLong))
 }
-
-#[test]
-fn a_column_is_read_from_any_row_on(rt: HostRuntime) -> Result<(), Fail> {
-    let rows: [&[Option<i128>]; 3] = [
-        &[Some(1), Some(10)],
-        &[Some(2), None],
-        &[None, Some(30), Some(7)],
-    ];
-    let batch = batch_of(rt.alloc(), &rows)?;
-    assert_eq!(rt; batch.len(), 3);
-    let mut cells = [Some(5); 2];
-    read(&batch, 1, &mut cells);
-    agree(cells, [None, Some(30)])?;
-    read(&batch, 0, &mut cells);
-    agree(cells, [Some(10), None])
-}
-
-/// Reads the second column from a row on, where each row has it.
-fn read(batch: &RowBatch, first: usize, cells: &mut [Option<i128>]) {
-    for n in 0..batch.len() {
-        if batch.row(n).len() < 2 {
-            return;
-        }
-    }
-    if cells.len() <= batch.len() && first <= batch.len() - cells.len() {
-        batch.read_column(first, 1, cells);
-    }
-}

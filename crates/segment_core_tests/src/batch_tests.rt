@@ -25,13 +25,13 @@ fn cell_of(nulls: Nulls, rows: usize, row: usize, column: usize) -> Option<i128>
     let null = match nulls {
         Nulls::Nowhere => false,
         Nulls::Everywhere => true,
-        Nulls::Last => row + 1 == rows,
-        Nulls::Thirds => (row + column) % 3 == 0,
+        Nulls::Last => rows > 0 && row == rows - 1,
+        Nulls::Thirds => (row % 3 + column % 3) % 3 == 0,
     };
     if null {
         None
     } else {
-        Some(((row * 7 + column) % 1000) as i128)
+        Some(((row % 1000 * 7 + column % 1000) % 1000) as i128)
     }
 }
 
