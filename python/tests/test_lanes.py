@@ -206,7 +206,7 @@ class Threads(unittest.TestCase):
 
 class Module(unittest.TestCase):
     def test_its_version_is_the_programs(self) -> None:
-        source = (TOP / "crates" / "command_line" / "src" / "requests.rt").read_text()
+        source = (TOP / "crates" / "command_line" / "src" / "commands.rt").read_text()
         self.assertIn(f'const VERSION: &str = "{lanes.version()}";', source)
 
     def test_its_examples_are_as_they_are_shown(self) -> None:
