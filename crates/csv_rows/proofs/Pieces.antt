@@ -90,6 +90,13 @@ count_more c b bs = elim (b == c) as (λ t. length (cond t ([] ∷ pieces c bs) 
       omega (arith, same)
 ]
 
+-- there are at most as many separators as bytes
+pub few_pieces : (c : ℕ) (bs : List ℕ) → length (pieces c bs) ≤ suc (length bs)
+few_pieces c [] = omega arith
+few_pieces c (b ∷ bs) =
+    let one : cond (b == c) 1 0 ≤ 1 = elim (b == c) as (λ t. cond t 1 0 ≤ 1) [ true ↦ omega arith | false ↦ omega arith ] in
+    omega (arith, count_more c b bs, few_pieces c bs, one)
+
 -- a text with one byte more at its end ends with that byte
 pub last_is : (c : ℕ) (front : List ℕ) (last : ℕ) → before_last c (front ++ (last ∷ [])) ≡ cond (last == c) (Some front) None
 last_is c [] last = refl

@@ -12,6 +12,9 @@ use table_model::{Column, same_text};
 /// How many digits a value is written with at most, its sign apart.
 const VALUE_DIGITS: usize = 30;
 
+/// How many digits write a number of 64 bits, whichever they are.
+const WORD_DIGITS: usize = 19;
+
 /// Whether the text is 1 to 30 digits.
 #[tactic(auto, unfolding(crate::specs::Field::is_numeral))]
 fn is_numeral(text: &[u8]) -> bool
@@ -41,12 +44,31 @@ fn digits_value(text: &[u8]) -> u128
     value
 }
 
+/// A number of 1 to 19 digits, each of which is looked at once.
+fn short_magnitude(text: &[u8]) -> Option<u64>
+    requires { length text.now ≤ 19 }
+    ensures { result ≡ magnitude_of text.now }
+{
+    let mut value: u64 = 0;
+    for digit in text {
+        if !digit.is_ascii_digit() {
+            return None;
+        }
+        value = value * 10 + u64::from(*digit - b'0');
+    }
+    if text.is_empty() { None } else { Some(value) }
+}
+
 /// A number of 1 to 30 digits.
 #[tactic(auto, unfolding(crate::specs::Field::magnitude_of, crate::specs::Field::is_numeral))]
 fn magnitude(text: &[u8]) -> Option<i128>
     ensures value { result ≡ option_map pos (magnitude_of text.now) }
     ensures bound { IfSome result (λ z. z ≤ℤ pos (10 ^ value_digits)) }
 {
+    if text.len() <= WORD_DIGITS {
+        let value = short_magnitude(text)?;
+        return Some(i128::from(value));
+    }
     if !is_numeral(text) {
         return None;
     }

@@ -13,10 +13,11 @@ use crate::error::CsvError;
 use crate::lines::{Found, Lines};
 use crate::order::Order;
 use crate::row::push_row;
+use row_batch::RowBatch;
 use std::alloc::{AllocError, Global};
 use std::io::Read;
 use std::marker::Model;
-use table_model::{Column, Counted, READ_LIMIT, Refusal, Row, Rows, Schema};
+use table_model::{Column, Counted, READ_LIMIT, Refusal, Schema};
 
 /// How many rows a batch has at most.
 const BATCH_ROWS: usize = 65_536;
@@ -71,7 +72,7 @@ impl CsvReader {
         &mut self,
         alloc: Global,
         reader: &mut Counted<R>,
-    ) -> Result<Rows, CsvError>
+    ) -> Result<RowBatch, CsvError>
         ensures rows { IfOk result (λ rows. Gave self.old self.new rows (R.remaining reader.old.0) (R.remaining reader.new.0)) }
         ensures fits { IfOk result (λ rows. AreRows self.old.table.columns rows) }
         ensures limit { IfOk result (λ rows. length rows ≤ row_limit) }
@@ -144,7 +145,11 @@ impl CsvReader {
     }
 
     /// Reads the next rows, once the order of the columns is known.
-    fn rows<R: Read>(&mut self, alloc: Global, reader: &mut Counted<R>) -> Result<Rows, CsvError>
+    fn rows<R: Read>(
+        &mut self,
+        alloc: Global,
+        reader: &mut Counted<R>,
+    ) -> Result<RowBatch, CsvError>
         requires begun { IsSome self.old.order }
         requires within { self.old.given ≤ read_limit }
         ensures rows { IfOk result (λ rows. Gave self.old self.new rows (R.remaining reader.old.0) (R.remaining reader.new.0)) }
@@ -161,11 +166,10 @@ impl CsvReader {
         ensures counts { IfErr result (λ e. Counts (read_limit < self.new.given) e reader.old.1 reader.new.1) }
     {
         let Some(order) = &self.order else {
-            return Ok(Rows::from_vec(Vec::new(alloc)));
+            return Ok(RowBatch::new(alloc));
         };
         let columns = self.schema.column_list();
-        let rows = read_rows(alloc, columns, order.places(), &mut self.lines, reader)?;
-        Ok(Rows::from_vec(rows))
+        read_rows(alloc, columns, order.places(), &mut self.lines, reader)
     }
 }
 
@@ -192,21 +196,22 @@ fn read_order<R: Read>(
     }
 }
 
-/// Reads a line, and puts its row behind the rows unless it is passed over; answers whether there was a line.
+/// Reads a line, and puts its row behind the rows unless it is passed over; answers whether there was a line. The row is read into
+/// `cells`, in the place of what is there.
 fn read_line<R: Read>(
-    alloc: Global,
     columns: &[Column],
     order: &[usize],
     lines: &mut Lines,
     reader: &mut Counted<R>,
-    rows: &mut Vec<Row>,
+    cells: &mut Vec<Option<i128>>,
+    rows: &mut RowBatch,
 ) -> Result<bool, CsvError>
     requires { lines.old.given ≤ read_limit }
-    ensures rows { OnOk result (ReadsOn columns.now order.now lines.old lines.new rows.old.items rows.new.items (R.remaining reader.old.0) (R.remaining reader.new.0)) }
-    ensures fits { OnOk result (AreRows columns.now rows.old.items → AreRows columns.now rows.new.items) }
-    ensures len { OnOk result (length rows.new.items ≤ length rows.old.items + 1) }
+    ensures rows { OnOk result (ReadsOn columns.now order.now lines.old lines.new rows.old rows.new (R.remaining reader.old.0) (R.remaining reader.new.0)) }
+    ensures fits { OnOk result (AreRows columns.now rows.old → AreRows columns.now rows.new) }
+    ensures len { OnOk result (length rows.new ≤ length rows.old + 1) }
     ensures further { IfOk result (λ found. IsTrue found → (lines.new.number ≡ suc lines.old.number)) }
-    ensures end { IfOk result (λ found. IsFalse found → (rows.new.items ≡ rows.old.items) × (lines.new.number ≡ lines.old.number) × NoLines columns.now order.now lines.new (R.remaining reader.old.0) (R.remaining reader.new.0)) }
+    ensures end { IfOk result (λ found. IsFalse found → (rows.new ≡ rows.old) × (lines.new.number ≡ lines.old.number) × NoLines columns.now order.now lines.new (R.remaining reader.old.0) (R.remaining reader.new.0)) }
     ensures fault { IfErr result (λ e. RefusesLines columns.now order.now lines.old e (R.remaining reader.old.0)) }
     ensures bound { OnOk result (lines.new.number ≤ read_limit) }
     ensures came { Came lines.old.given lines.new.given (R.remaining reader.old.0) (R.remaining reader.new.0) }
@@ -216,7 +221,7 @@ fn read_line<R: Read>(
 {
     match lines.advance(reader)? {
         Found::Line => {
-            push_row(alloc, columns, order, lines.number(), lines.line(), rows)?;
+            push_row(columns, order, lines.number(), lines.line(), cells, rows)?;
             Ok(true)
         }
         Found::TooLong => Err(CsvError::LineTooLong {
@@ -233,13 +238,13 @@ fn read_rows<R: Read>(
     order: &[usize],
     lines: &mut Lines,
     reader: &mut Counted<R>,
-) -> Result<Vec<Row>, CsvError>
+) -> Result<RowBatch, CsvError>
     requires { lines.old.given ≤ read_limit }
-    ensures rows { IfOk result (λ rows. ReadsOn columns.now order.now lines.old lines.new [] rows.items (R.remaining reader.old.0) (R.remaining reader.new.0)) }
-    ensures fits { IfOk result (λ rows. AreRows columns.now rows.items) }
-    ensures limit { IfOk result (λ rows. length rows.items ≤ row_limit) }
-    ensures end { IfOk result (λ rows. length rows.items < row_limit → NoLines columns.now order.now lines.new (R.remaining reader.old.0) (R.remaining reader.new.0)) }
-    ensures further { IfOk result (λ rows. lines.old.number + length rows.items ≤ lines.new.number) }
+    ensures rows { IfOk result (λ rows. ReadsOn columns.now order.now lines.old lines.new [] rows (R.remaining reader.old.0) (R.remaining reader.new.0)) }
+    ensures fits { IfOk result (λ rows. AreRows columns.now rows) }
+    ensures limit { IfOk result (λ rows. length rows ≤ row_limit) }
+    ensures end { IfOk result (λ rows. length rows < row_limit → NoLines columns.now order.now lines.new (R.remaining reader.old.0) (R.remaining reader.new.0)) }
+    ensures further { IfOk result (λ rows. lines.old.number + length rows ≤ lines.new.number) }
     ensures bound { OnOk result (lines.new.number ≤ read_limit) }
     ensures fault { IfErr result (λ e. RefusesLines columns.now order.now lines.old e (R.remaining reader.old.0)) }
     ensures came { Came lines.old.given lines.new.given (R.remaining reader.old.0) (R.remaining reader.new.0) }
@@ -247,9 +252,10 @@ fn read_rows<R: Read>(
     ensures kept { OnOk result (reader.new.1 ≡ reader.old.1) }
     ensures counts { IfErr result (λ e. Counts (read_limit < lines.new.given) e reader.old.1 reader.new.1) }
 {
-    let mut rows = Vec::new(alloc);
+    let mut rows = RowBatch::new(alloc);
+    let mut cells = Vec::new(alloc);
     for _turn in 0..TURNS {
-        if !read_line(alloc, columns, order, lines, reader, &mut rows)? {
+        if !read_line(columns, order, lines, reader, &mut cells, &mut rows)? {
             return Ok(rows);
         }
         if rows.len() >= BATCH_ROWS {

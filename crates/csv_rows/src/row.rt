@@ -1,6 +1,6 @@
 //! The row of a line.
-ghost use Rattle.std.specs.Prelude.{◌≡◌, ◌+◌, ◌<◌, ◌≤◌, length, option_map, MatchResult, Ok, Err, IfSome};
-ghost use Rattle.csv_rows.specs.Field.{fields_of};
+ghost use Rattle.std.specs.Prelude.{◌≡◌, ◌+◌, ◌<◌, ◌≤◌, length, option_map, MatchResult, Ok, Err, IfSome, IfOk};
+ghost use Rattle.csv_rows.specs.Field.{fields_of, fields_left};
 ghost use Rattle.csv_rows.specs.Line.{line_limit};
 ghost use Rattle.csv_rows.specs.CsvText.{cell_at, filled, in_line, row_of, line_rows};
 ghost use Rattle.csv_rows.specs.Outcome.{ReadsCsv, ReadsBehind};
@@ -8,8 +8,8 @@ ghost use Rattle.csv_rows.specs.Outcome.{ReadsCsv, ReadsBehind};
 use crate::bytes::{count_fields, first_field};
 use crate::error::CsvError;
 use crate::field::cell_in;
-use std::alloc::Global;
-use table_model::{Column, Row};
+use row_batch::RowBatch;
+use table_model::Column;
 
 /// The cell that a field is below the column of this place, if it is one.
 fn cell_at(columns: &[Column], place: usize, field: &[u8]) -> Option<Option<i128>>
@@ -20,78 +20,93 @@ fn cell_at(columns: &[Column], place: usize, field: &[u8]) -> Option<Option<i128
     cell_in(column, field)
 }
 
-/// Puts the cell of each field at its column's place; or answers the first field at fault, counted from 1.
+/// How many fields what is left of a line has.
+fn count_left(rest: Option<&[u8]>) -> usize
+    ensures { result ≡ length (fields_left (option_map (λ text. text.now) rest.entry)) }
+{
+    match rest {
+        None => 0,
+        Some(text) => count_fields(text),
+    }
+}
+
+/// Puts the cell of each field at its column's place, and answers how many fields the line has; or answers the first field at
+/// fault, counted from 1.
 fn fill(
     columns: &[Column],
     order: &[usize],
     line: &[u8],
     cells: &mut Vec<Option<i128>>,
-) -> Result<(), u64>
-    requires { length cells.old.items ≡ length columns.now }
-    ensures { MatchResult result (λ _. filled columns.now 1 order.now (fields_of line.now) cells.old.items ≡ Ok cells.new.items)
+) -> Result<usize, u64>
+    requires long { length cells.old.items ≡ length columns.now }
+    requires limit { length line.now ≤ line_limit }
+    ensures row { MatchResult result (λ _. filled columns.now 1 order.now (fields_of line.now) cells.old.items ≡ Ok cells.new.items)
         (λ column. filled columns.now 1 order.now (fields_of line.now) cells.old.items ≡ Err column) }
+    ensures fields { IfOk result (λ fields. fields ≡ length (fields_of line.now)) }
 {
     let mut rest = Some(line);
-    let mut column: u64 = 1;
+    let mut fields: usize = 0;
     for place in order {
         let Some(text) = rest else {
-            return Ok(());
+            return Ok(fields);
         };
         let (field, after) = first_field(text);
+        fields += 1;
         let Some(cell) = cell_at(columns, *place, field) else {
-            return Err(column);
+            return Err(fields as u64);
         };
         cells[*place] = cell;
         rest = after;
-        column += 1;
     }
-    Ok(())
+    Ok(fields + count_left(rest))
 }
 
-/// The row of a line with this number.
-fn row(
-    alloc: Global,
+/// Puts the row of a line with this number in the place of what is in `cells`. The fields of a good line are cut once, and counted
+/// on the way; a wrong number of them is told before a fault in one of them.
+fn read_row(
     columns: &[Column],
     order: &[usize],
     number: u64,
     line: &[u8],
-) -> Result<Row, CsvError>
-    ensures { ReadsCsv (λ row. row) result (in_line number (row_of columns.now order.now line.now)) }
+    cells: &mut Vec<Option<i128>>,
+) -> Result<(), CsvError>
+    requires { length line.now ≤ line_limit }
+    ensures { ReadsCsv (λ done. cells.new.items) result (in_line number (row_of columns.now order.now line.now)) }
 {
-    if count_fields(line) != columns.len() {
-        return Err(CsvError::BadCsv {
-            line: number,
-            column: 0,
-        });
-    }
-    let mut cells = vec![in alloc; None; columns.len()]?;
-    match fill(columns, order, line, &mut cells) {
-        Ok(()) => Ok(Row::from_cells(cells)),
-        Err(column) => Err(CsvError::BadCsv {
+    cells.clear();
+    cells.resize(columns.len(), None)?;
+    match fill(columns, order, line, cells) {
+        Ok(fields) if fields == columns.len() => Ok(()),
+        Err(column) if count_fields(line) == columns.len() => Err(CsvError::BadCsv {
             line: number,
             column,
+        }),
+        _ => Err(CsvError::BadCsv {
+            line: number,
+            column: 0,
         }),
     }
 }
 
-/// Puts the row of a line with this number behind the rows, unless the line is passed over.
+/// Puts the row of a line with this number behind the rows, unless the line is passed over. The row is read into `cells`, in the
+/// place of what is there.
 #[tactic(auto, unfolding(crate::specs::CsvText::line_rows))]
 pub fn push_row(
-    alloc: Global,
     columns: &[Column],
     order: &[usize],
     number: u64,
     line: &[u8],
-    rows: &mut Vec<Row>,
+    cells: &mut Vec<Option<i128>>,
+    rows: &mut RowBatch,
 ) -> Result<(), CsvError>
     requires { length line.now ≤ line_limit }
-    ensures rows { ReadsBehind rows.old.items result rows.new.items (line_rows columns.now order.now number line.now) }
-    ensures len { length rows.new.items ≤ length rows.old.items + 1 }
+    ensures rows { ReadsBehind rows.old result rows.new (line_rows columns.now order.now number line.now) }
+    ensures len { length rows.new ≤ length rows.old + 1 }
 {
     if line.is_empty() && columns.len() != 1 {
         return Ok(());
     }
-    let row = row(alloc, columns, order, number, line)?;
-    rows.push(row)?;
+    read_row(columns, order, number, line, cells)?;
+    rows.push_row(cells.as_slice())?;
     Ok(())
 }

@@ -46,7 +46,7 @@ fn rows_come_in_batches_of_65536(rt: HostRuntime) -> Result<(), Fail> {
         let Ok(rows) = csv.next_batch(alloc, &mut reader) else {
             return Err(Fail::new("no rows"));
         };
-        agree(rows.as_slice().len(), wanted)?;
+        agree(rows.len(), wanted)?;
     }
     Ok(())
 }

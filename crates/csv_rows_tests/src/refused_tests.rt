@@ -16,7 +16,7 @@ fn a_refused_read_gives_no_rows(rt: HostRuntime) -> Result<(), Fail> {
     let mut reader = Counted::new(TEXT);
     let mut csv = CsvReader::new(alloc, &schema, true)?;
     match csv.next_batch(alloc, &mut reader) {
-        Ok(rows) => agree(rows.as_slice().len(), 2),
+        Ok(rows) => agree(rows.len(), 2),
         Err(fault) => growth_refused(
             fault == CsvError::Refused(Refusal::Memory) && reader.failures() == 0,
         ),

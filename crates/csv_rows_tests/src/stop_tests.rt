@@ -55,7 +55,7 @@ fn a_text_that_is_read_byte_by_byte_has_the_same_rows(rt: HostRuntime) -> Result
     let Ok(rows) = csv.next_batch(alloc, &mut reader) else {
         return Err(Fail::new("no rows"));
     };
-    agree(rows.as_slice().len(), 2)
+    agree(rows.len(), 2)
 }
 
 #[test]

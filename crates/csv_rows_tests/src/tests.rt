@@ -1,8 +1,9 @@
 //! Texts, and the rows or the first fault that they have, by the grammar and by hand.
 use csv_rows::{CsvError, CsvReader, CsvWriter};
+use row_batch::RowBatch;
 use std::alloc::Global;
 use std::test::Fail;
-use table_model::{BatchName, ColType, Counted, Number, Origin, Refusal, Row, RowName, Schema};
+use table_model::{BatchName, ColType, Counted, Number, Origin, Refusal, RowName, Schema};
 use test_support::{agree, agree_at};
 
 /// A text that is read, and what is read of it: a line for each row, its cells joined by commas, or the fault.
@@ -24,11 +25,11 @@ pub fn one(alloc: Global) -> Result<Schema, Refusal> {
 }
 
 /// The text of rows, without a header.
-fn lines(alloc: Global, rows: &[Row]) -> Result<String, Fail> {
+fn lines(alloc: Global, rows: &RowBatch) -> Result<String, Fail> {
     let mut writer = Counted::new(Vec::new(alloc));
     let mut csv = CsvWriter::new(alloc);
-    for row in rows {
-        csv.row(row.cells(), &mut writer)?;
+    for ordinal in 0..rows.len() {
+        csv.row(rows.row(ordinal), &mut writer)?;
     }
     Ok(String::from_utf8(writer.into_inner())?)
 }
@@ -38,7 +39,7 @@ pub fn read(alloc: Global, schema: &Schema, has_header: bool, text: &[u8]) -> Re
     let mut reader = Counted::new(text);
     let mut csv = CsvReader::new(alloc, schema, has_header)?;
     match csv.next_batch(alloc, &mut reader) {
-        Ok(rows) => lines(alloc, rows.as_slice()),
+        Ok(rows) => lines(alloc, &rows),
         Err(CsvError::BadCsv { line, column: 0 }) => Ok(format!(in alloc; "BadCsv {line} 0")?),
         Err(CsvError::BadCsv { line, column }) => {
             let field = String::from_utf8_lossy(alloc, csv.faulty_field(column))?;
@@ -84,7 +85,7 @@ fn a_header_names_each_column_once_in_any_order(rt: HostRuntime) -> Result<(), F
     are_read(alloc, &three(alloc)?, true, HEADERS.as_slice())
 }
 
-const FIELDS: [Case; 28] = [
+const FIELDS: [Case; 31] = [
     (b"1,2,3", "1,2,3\n"),
     (
         b"-128,-32768,-9223372036854775808",
@@ -101,6 +102,12 @@ const FIELDS: [Case; 28] = [
     (b",NULL,\\N", ",,\n"),
     (b"\"1\",\"NULL\",\"\\N\"", "1,,\n"),
     (b"\"-7\",\"007\",-0", "-7,7,0\n"),
+    (b"0000000000000000007,00000000000000000008,0", "7,8,0\n"),
+    (b"0,0,9999999999999999999", "BadCsv 1 3 9999999999999999999"),
+    (
+        b"0,0,10000000000000000000",
+        "BadCsv 1 3 10000000000000000000",
+    ),
     (b"000000000000000000000000000001,0,0", "1,0,0\n"),
     (
         b"0000000000000000000000000000001,0,0",
@@ -172,11 +179,11 @@ fn dumped(alloc: Global, schema: &Schema, has_names: bool, text: &[u8]) -> Resul
     } else {
         csv.header(schema.column_list(), &mut writer)?;
     }
-    for row in rows.as_slice() {
+    for ordinal in 0..rows.len() {
         if has_names {
-            csv.named_row(name, row.cells(), &mut writer)?;
+            csv.named_row(name, rows.row(ordinal), &mut writer)?;
         } else {
-            csv.row(row.cells(), &mut writer)?;
+            csv.row(rows.row(ordinal), &mut writer)?;
         }
         name.ordinal = name.ordinal.saturating_add(1);
     }

@@ -4,9 +4,10 @@ ghost use Rattle.replica_files.specs.CsvLoads.{LoadsRows, RefusesText, last_batc
 
 use crate::load::Load;
 use csv_rows::{CsvError, CsvReader};
+use row_batch::RowBatch;
 use std::alloc::Global;
 use std::io::Read;
-use table_model::{Counted, READ_LIMIT, Refusal, Rows};
+use table_model::{Counted, READ_LIMIT, Refusal};
 
 /// How many rows a batch has at most.
 const BATCH_ROWS: usize = 65_536;
@@ -15,14 +16,14 @@ const BATCH_ROWS: usize = 65_536;
 const ROUNDS: u64 = READ_LIMIT + 2;
 
 /// Adds rows to a load as one more batch, unless there are none.
-fn add_rows(alloc: Global, load: &mut Load, rows: &Rows) -> Result<(), CsvError>
+fn add_rows(alloc: Global, load: &mut Load, rows: &RowBatch) -> Result<(), CsvError>
     ensures added { OnOk result (load.new ≡ with_batches load.old (last_batch rows.now)) }
     ensures refused { IfErr result IsRefused }
 {
-    if rows.as_slice().is_empty() {
+    if rows.is_empty() {
         return Ok(());
     }
-    match load.add(alloc, rows.as_slice()) {
+    match load.add_batch(alloc, rows) {
         Ok(()) => Ok(()),
         Err(refusal) => Err(CsvError::Refused(refusal)),
     }
@@ -45,7 +46,7 @@ pub fn read_csv<R: Read>(
     for _round in 0..ROUNDS {
         let rows = csv.next_batch(alloc, reader)?;
         add_rows(alloc, load, &rows)?;
-        if rows.as_slice().len() < BATCH_ROWS {
+        if rows.len() < BATCH_ROWS {
             return Ok(());
         }
     }

@@ -14,7 +14,7 @@ returns-in_err-push_row-in-Line-clause-counts g c =
 
 pub returns-in_ok-push_row-in-Line-clause-fits : goal.returns-in_ok-push_row-in-Line-clause-fits
 returns-in_ok-push_row-in-Line-clause-fits g c = λ h.
-    behind_fits c.args.columns.now c.args.order.now c.number.result c.line.result.now c.args.rows.now.items c.push_row.new.rows.items c.in_ok-push_row-in-Line.ensures.rows.0 c.in_ok-push_row-in-Line.ensures.rows.1 c.in_ok-push_row-in-Line.ensures.rows.2 h
+    behind_fits c.args.columns.now c.args.order.now c.number.result c.line.result.now c.args.rows.now c.push_row.new.rows c.in_ok-push_row-in-Line.ensures.rows.0 c.in_ok-push_row-in-Line.ensures.rows.1 c.in_ok-push_row-in-Line.ensures.rows.2 h
 
 pub returns-in-TooLong-clause-fault : goal.returns-in-TooLong-clause-fault
 returns-in-TooLong-clause-fault g c =

@@ -1,5 +1,5 @@
 -- One batch of rows after another is loaded.
-use Rattle.std.proofs.Common.{◌≡◌, length, ap, arith}
+use Rattle.std.proofs.Common.{◌≡◌, length, arith}
 use Rattle.std.proofs.lemmas.Result.{err_from_is_err_and}
 use Rattle.replica_files.proofs.CsvLoading.{load_begins, load_next, load_refused}
 use Rattle.replica_files.proofs.csv_reading.read_csv.Goals as goal
@@ -14,6 +14,6 @@ returns-in_err-rows-clause-fault g c =
 
 pub loop-round-preserved : goal.loop-round-preserved
 loop-round-preserved g c =
-    let full : length c.in_ok-rows.rows ≡ 65536 = omega (arith, c.in_ok-rows.ensures.limit, c.if-as_slice-lt-BATCH_ROWS.false, ap length c.as_slice.ensures) in
+    let full : length c.in_ok-rows.rows ≡ 65536 = omega (arith, c.in_ok-rows.ensures.limit, c.if-len-lt-BATCH_ROWS.false, c.len.ensures) in
     load_next c.args.csv.now c.loop-round.csv c.next_batch.new.self (g.R.Read.remaining c.args.reader.now.0) (g.R.Read.remaining c.loop-round.reader.0) (g.R.Read.remaining c.next_batch.new.reader.0) c.args.load.now c.loop-round.load c.add_rows.new.load c.in_ok-rows.rows
     c.loop-round.invariant c.in_ok-rows.ensures.rows c.in_ok-add_rows.ensures.added full
