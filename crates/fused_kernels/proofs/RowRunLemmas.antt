@@ -59,6 +59,15 @@ plain_distance form n is plain narrow =
     let row = plain_row form n is plain in
     (omega (arith, ints, row), omega (arith, ints, row, below, most))
 
+-- of lanes of 16 bits that is the packed number
+pub packed_distance : (form : FrameForm) (n width : ℕ) (words : List ℕ) (code : ℕ) → IsFrameForm form → int_lt (top_value form) (pos (2 ^ (form.lane_width - 1))) ≡ true → form.lane_width ≡ 16 → width ≡ form.width → words ≡ form.words.numbers
+    → code ≡ packed_value 16 width words (lane_of 16 n) (step_of 16 n) → pos code ≡ frame_value form n -ℤ form.reference
+packed_distance form n width words code is plain lanes w ws e =
+    let row = plain_row form n is plain in
+    let same : code ≡ packed_value form.lane_width form.width form.words.numbers (lane_of form.lane_width n) (step_of form.lane_width n) =
+    e ∙ ap (λ k. packed_value 16 k words (lane_of 16 n) (step_of 16 n)) w ∙ ap (λ xs. packed_value 16 form.width xs (lane_of 16 n) (step_of 16 n)) ws ∙ ap (λ t. packed_value t form.width form.words.numbers (lane_of t n) (step_of t n)) (sym lanes) in
+    omega (arith, ints, row, same)
+
 pub frame_are_codes : (form : FrameForm) (count : ℕ) (codes : List ℕ) (keys : List ℤ) → IsFrameForm form → int_lt (top_value form) (pos (2 ^ (form.lane_width - 1))) ≡ true → form.width ≤ 8 → count ≡ 2 ^ form.width
     → ((n : ℕ) → n < 1024 → pos (slice_index codes n) ≡ frame_value form n -ℤ form.reference) → ((k : ℕ) → k < count → value_at keys k ≡ form.reference +ℤ pos k) → AreCodes (For form) count codes keys
 frame_are_codes form count codes keys is plain narrow many coded keyed = record {

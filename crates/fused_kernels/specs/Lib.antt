@@ -1,4 +1,5 @@
 pub mod Bounds
+pub mod Extremes
 pub mod RowRuns
 pub mod Seen
 pub mod VectorSeen

@@ -1,14 +1,15 @@
 //! Set functions and comparisons of dictionaries, by the codes.
-ghost use Rattle.std.specs.Prelude.{IsTrue, ◌≡◌, ◌↔◌, ◌==◌, ℕ, ◌*◌, ◌^◌, ◌<◌, ◌≤◌, cond, length, slice_index, pos, ◌+ℤ◌, ◌-ℤ◌, ◌≤ℤ◌, Some, None};
+ghost use Rattle.std.specs.Prelude.{IsTrue, ◌≡◌, ◌↔◌, ◌==◌, ℕ, ◌*◌, ◌^◌, ◌<◌, ◌≤◌, cond, length, slice_index, pos, ◌+ℤ◌, ◌-ℤ◌, ◌≤ℤ◌};
 ghost use Rattle.std.specs.Int.{bit_at};
 ghost use Rattle.transpose_order.specs.Mask.{has, rows_of};
 ghost use Rattle.bit_interleave.specs.Range.{AreInRange, value_at};
 ghost use Rattle.run_dictionary.specs.Dict.{code_at, dict_value};
-ghost use Rattle.table_model.specs.Values.{lesser, greater};
 ghost use Rattle.native_lanes.specs.Between.{between};
 ghost use Rattle.native_lanes.specs.Folds.{fold_to};
-ghost use Rattle.native_lanes.specs.Walks.{number_of_row};
+ghost use Rattle.native_lanes.specs.Walks.{number_of_row, turned};
+ghost use Rattle.fused_kernels.specs.Extremes.{extreme_at, is_least};
 
+use crate::extremes::Extremum;
 use native_lanes::{Walk16, lanes_of_mask_16, numbers_16, rows_between_16};
 use run_dictionary::Dict;
 use transpose_order::{Mask, raised_if};
@@ -20,28 +21,30 @@ fn walk_of_codes(form: &Dict) -> Walk16<'_>
     Walk16::new(form.width(), form.codes().words_16(), false, [0; 64], 0)
 }
 
-/// The greatest value of a mask's rows, none over none. It is that of the greatest code, since a dictionary's values ascend.
-pub(crate) fn greatest_of_codes(form: &Dict, rows: &Mask) -> Option<i64>
-    ensures { result ≡ fold_to greater None 1024 (λ n. cond (has rows.now n) (Some (dict_value form.now n)) None) }
+/// A code, or where the least is asked for, how far it is below the greatest of 16 bits.
+#[inline(always)]
+fn turned_code(side: Extremum, code: u16) -> u16
+    ensures { result ≡ turned 16 (is_least side) code }
 {
-    let values = form.values();
-    if rows.count_below(1024) == 0 {
-        return None;
+    if side.is_least() {
+        u16::MAX - code
+    } else {
+        code
     }
-    let code = walk_of_codes(form).greatest(false, rows);
-    Some(values.get(usize::from(code)))
 }
 
-/// The least value of a mask's rows, none over none. It is that of the least code, since a dictionary's values ascend.
-pub(crate) fn least_of_codes(form: &Dict, rows: &Mask) -> Option<i64>
-    ensures { result ≡ fold_to lesser None 1024 (λ n. cond (has rows.now n) (Some (dict_value form.now n)) None) }
+/// The least or the greatest value of a mask's rows, none over none. It is that of the least or the greatest code, since a
+/// dictionary's values ascend.
+#[inline(always)]
+pub(crate) fn extreme_of_codes(side: Extremum, form: &Dict, rows: &Mask) -> Option<i64>
+    ensures { result ≡ extreme_at side rows.now (dict_value form.now) }
 {
     let values = form.values();
     if rows.count_below(1024) == 0 {
         return None;
     }
-    let code = u16::MAX - walk_of_codes(form).greatest(true, rows);
-    Some(values.get(usize::from(code)))
+    let found = walk_of_codes(form).greatest(side.is_least(), rows);
+    Some(values.get(usize::from(turned_code(side, found))))
 }
 
 /// How far the values of a step's codes are above the least of 64 bits, added up where the lane's bit of the step is set.

@@ -1,15 +1,16 @@
 //! Codes of a vector's rows, each of which stands for one value: the packed numbers of a frame, or a dictionary's codes.
-ghost use Rattle.std.specs.Prelude.{◌≡◌, ◌≢◌, ◌==◌, ℕ, ◌+◌, ◌*◌, ◌%◌, ◌^◌, ◌<◌, ◌≤◌, IfSome, IsSome, is_some, cond, length, slice_index, pos, ◌+ℤ◌, ◌-ℤ◌, ◌≤ℤ◌};
+ghost use Rattle.std.specs.Prelude.{◌≡◌, ◌≢◌, ◌==◌, ℕ, ◌+◌, ◌*◌, ◌%◌, ◌^◌, ◌<◌, ◌≤◌, IfSome, IsSome, is_some, cond, length, slice_index, pos, ◌+ℤ◌, ◌-◌, ◌-ℤ◌, ◌≤ℤ◌, int_lt, true};
 ghost use Rattle.std.specs.Int.{bit_at};
 ghost use Rattle.transpose_order.specs.Mask.{has};
-ghost use Rattle.transpose_order.specs.Place.{lane_of};
+ghost use Rattle.transpose_order.specs.Place.{lane_of, step_of};
+ghost use Rattle.bit_interleave.specs.Packing.{packed_value};
 ghost use Rattle.bit_interleave.specs.Range.{value_at};
-ghost use Rattle.frame_delta.specs.Frame.{FrameForm};
+ghost use Rattle.frame_delta.specs.Frame.{FrameForm, frame_value};
 ghost use Rattle.run_dictionary.specs.Dict.{DictForm, code_at};
-ghost use Rattle.native_lanes.specs.Frames.{IsPlain};
+ghost use Rattle.native_lanes.specs.Frames.{IsPlain, top_value};
 ghost use Rattle.segment_core.specs.declared.coded.Coded.TheVariants.{For as InFor, Dict as InDict};
 ghost use Rattle.table_model.specs.Passes.{raised};
-ghost use Rattle.fused_kernels.specs.RowRuns.{AreCodes, AreRowCodes};
+ghost use Rattle.fused_kernels.specs.RowRuns.{AreCodes, AreRowCodes, code_count};
 
 use crate::bounds::is_plain;
 use crate::meter::Meter;
@@ -43,24 +44,6 @@ fn write_keys(reference: i64, count: usize, keys: &mut [i64; 1024])
     }
 }
 
-/// Writes the packed number of each row of a frame and the value that each number stands for, and answers how many numbers the
-/// width has. None where a value may wrap or the width is above 8.
-fn frame_codes(form: &For, codes: &mut [u16; 1024], keys: &mut [i64; 1024]) -> Option<usize>
-    ensures codes { IfSome result (λ count. AreCodes (InFor form.now) count codes.new keys.new) }
-    ensures answers { form.now.width ≤ 8 → IsPlain form.now → IsSome result }
-{
-    let width = form.width();
-    if width > WIDEST || !is_plain(form) {
-        return None;
-    }
-    let reference = form.reference();
-    let count = 1 << width;
-    decode_frame(form, keys);
-    write_distances(keys, reference, codes);
-    write_keys(reference, count, keys);
-    Some(count)
-}
-
 /// Writes a group of sixteen codes to the rows at a place of each 64.
 #[inline(always)]
 fn put_group(numbers: &[u16; 64], group: usize, place: usize, codes: &mut [u16; 1024])
@@ -87,15 +70,56 @@ fn put_step(numbers: &[u16; 64], step: usize, codes: &mut [u16; 1024])
     put_group(numbers, 3, step + 48, codes);
 }
 
+/// Writes the packed number of each row, of packed words as `numbers_16` takes them: 64 for each bit of the width, 0 to 16.
+fn write_packed(width: usize, words: &[u16], codes: &mut [u16; 1024])
+    requires width { width ≤ 16 }
+    requires words { length words.now ≡ width * 64 }
+    ensures { (n : ℕ) → n < 1024 → slice_index codes.new n ≡ packed_value 16 width words.now (lane_of 16 n) (step_of 16 n) }
+{
+    for step in 0..16 {
+        put_step(&numbers_16(width, words, step), step, codes);
+    }
+}
+
+/// Writes how far the value of each row of a frame is above its reference: the packed numbers, which lanes of 16 bits give as they
+/// stand. `values` is room for decoded values.
+fn write_numbers(form: &For, reference: i64, values: &mut [i64; 1024], codes: &mut [u16; 1024])
+    requires reference { reference ≡ form.now.reference }
+    requires narrow { form.now.width ≤ 8 }
+    requires plain { int_lt (top_value form.now) (pos (2 ^ (form.now.lane_width - 1))) ≡ true }
+    ensures { (n : ℕ) → n < 1024 → pos (slice_index codes.new n) ≡ frame_value form.now n -ℤ form.now.reference }
+{
+    if form.lane_width() == 16 {
+        write_packed(form.width(), form.words().words_16(), codes);
+        return;
+    }
+    decode_frame(form, values);
+    write_distances(values, reference, codes);
+}
+
+/// Writes the packed number of each row of a frame and the value that each number stands for, and answers how many numbers the
+/// width has. None where a value may wrap or the width is above 8.
+fn frame_codes(form: &For, codes: &mut [u16; 1024], keys: &mut [i64; 1024]) -> Option<usize>
+    ensures codes { IfSome result (λ count. AreCodes (InFor form.now) count codes.new keys.new) }
+    ensures count { IfSome result (λ count. count ≡ 2 ^ form.now.width) }
+    ensures answers { form.now.width ≤ 8 → IsPlain form.now → IsSome result }
+{
+    let width = form.width();
+    if width > WIDEST || !is_plain(form) {
+        return None;
+    }
+    let reference = form.reference();
+    let count = 1 << width;
+    write_numbers(form, reference, keys, codes);
+    write_keys(reference, count, keys);
+    Some(count)
+}
+
 /// Writes the code of each row of a dictionary.
 fn write_codes(form: &Dict, codes: &mut [u16; 1024])
     ensures { (n : ℕ) → n < 1024 → slice_index codes.new n ≡ code_at form.now n }
 {
-    let width = form.width();
-    let words = form.codes().words_16();
-    for step in 0..16 {
-        put_step(&numbers_16(width, words, step), step, codes);
-    }
+    write_packed(form.width(), form.codes().words_16(), codes);
 }
 
 /// Writes the values of a dictionary in order.
@@ -110,7 +134,8 @@ fn write_values(form: &Dict, keys: &mut [i64; 1024])
 
 /// Writes the code of each row of a dictionary and its values, and answers how many values it has.
 fn dict_codes(form: &Dict, codes: &mut [u16; 1024], keys: &mut [i64; 1024]) -> usize
-    ensures { AreCodes (InDict form.now) result codes.new keys.new }
+    ensures codes { AreCodes (InDict form.now) result codes.new keys.new }
+    ensures count { result ≡ length form.now.values }
 {
     write_codes(form, codes);
     write_values(form, keys);
@@ -121,6 +146,7 @@ fn dict_codes(form: &Dict, codes: &mut [u16; 1024], keys: &mut [i64; 1024]) -> u
 /// has no codes.
 fn coded_codes(coded: &Coded, codes: &mut [u16; 1024], keys: &mut [i64; 1024]) -> Option<usize>
     ensures codes { IfSome result (λ count. AreCodes coded.now count codes.new keys.new) }
+    ensures count { IfSome result (λ count. count ≡ code_count coded.now) }
     ensures frames { (form : FrameForm) → coded.now ≡ InFor form → form.width ≤ 8 → IsPlain form → IsSome result }
     ensures dict { (form : DictForm) → coded.now ≡ InDict form → IsSome result }
 {
@@ -165,6 +191,27 @@ fn put_at(codes: &mut [u16; 1024], rows: &Mask, code: u16)
     }
 }
 
+/// Whether a frame's width has numbers for codes, and at most so many.
+fn frame_has_few(form: &For, most: usize) -> bool
+    ensures { result ≡ true → 2 ^ form.now.width ≤ most }
+{
+    let width = form.width();
+    width <= WIDEST && 1 << width <= most
+}
+
+/// Whether a vector's coding has codes, and at most so many, told without a look at its rows. A frame's are told by its width alone,
+/// so that it may have none yet where a value may wrap.
+pub fn vector_has_few_codes(vector: &CodedVector, most: usize) -> bool
+    ensures { result ≡ true → code_count vector.now.coded ≤ most }
+{
+    match vector.coded() {
+        Coded::For(form) => frame_has_few(form.get(), most),
+        Coded::Delta(_) => false,
+        Coded::Runs(_) => false,
+        Coded::Dict(form) => form.get().values().len() <= most,
+    }
+}
+
 /// Writes a code for each row of a vector and the value that each code stands for, the values ascending from the first place on, and
 /// answers how many codes there are, at most 1024. A null row has that number as its code. The codes are the packed numbers of a
 /// frame of which no value can wrap, at a width up to 8, or a dictionary's; of other vectors it answers none, and the codes and keys
@@ -176,6 +223,7 @@ pub fn vector_codes_into(
     meter: &mut Meter,
 ) -> Option<usize>
     ensures codes { IfSome result (λ count. AreRowCodes vector.now count codes.new keys.new) }
+    ensures count { IfSome result (λ count. count ≡ code_count vector.now.coded) }
     ensures frames { (form : FrameForm) → vector.now.coded ≡ InFor form → form.width ≤ 8 → IsPlain form → IsSome result }
     ensures dict { (form : DictForm) → vector.now.coded ≡ InDict form → IsSome result }
     ensures pass { meter.new ≡ cond (is_some result) (raised 1 meter.old) meter.old }

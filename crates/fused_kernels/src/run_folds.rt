@@ -1,17 +1,18 @@
 //! Set functions of runs of equal values, run by run.
-ghost use Rattle.std.specs.Prelude.{◌≡◌, ◌-◌, ◌^◌, cond, pos, negsuc, ◌+ℤ◌, Some, None, length, ◌<◌};
-ghost use Rattle.std.specs.Int.{int_min, int_max};
+ghost use Rattle.std.specs.Prelude.{◌≡◌, ◌-◌, ◌^◌, cond, pos, negsuc, ◌+ℤ◌, length};
+ghost use Rattle.std.specs.Int.{int_max};
 ghost use Rattle.transpose_order.specs.Mask.{has};
 ghost use Rattle.bit_interleave.specs.Range.{value_at};
 ghost use Rattle.run_dictionary.specs.Runs.{run_value};
-ghost use Rattle.table_model.specs.Values.{lesser, greater};
 ghost use Rattle.native_lanes.specs.Folds.{fold_to};
+ghost use Rattle.fused_kernels.specs.Extremes.{extreme_at, turned};
 
+use crate::extremes::Extremum;
 use crate::row_counts::{rows_before_words, rows_below};
 use bit_interleave::Values;
 use native_lanes::times;
 use run_dictionary::Runs;
-use transpose_order::{Mask, greater_if, lesser_if};
+use transpose_order::{Mask, greater_if};
 
 /// The sum of the values of a mask's rows.
 pub(crate) fn sum_of_runs(form: &Runs, rows: &Mask) -> i128
@@ -33,54 +34,20 @@ pub(crate) fn sum_of_runs(form: &Runs, rows: &Mask) -> i128
     sum
 }
 
-/// The least of some values, and the greatest of 64 bits over none.
-fn least_of_all(values: &Values) -> i64
-    ensures { result ≡ fold_to int_min (pos (2 ^ 63 - 1)) (length values.now.values) (value_at values.now.values) }
-{
-    let mut least = i64::MAX;
-    for i in 0..values.len() {
-        least = least.min(values.get(i));
-    }
-    least
-}
-
-/// The greatest of some values, and the least of 64 bits over none.
-fn greatest_of_all(values: &Values) -> i64
-    ensures { result ≡ fold_to int_max (negsuc (2 ^ 63 - 1)) (length values.now.values) (value_at values.now.values) }
+/// The least or the greatest of some values, and the greatest or the least of 64 bits over none.
+fn extreme_of_all(side: Extremum, values: &Values) -> i64
+    ensures { result ≡ turned side (fold_to int_max (negsuc (2 ^ 63 - 1)) (length values.now.values) (λ i. turned side (value_at values.now.values i))) }
 {
     let mut greatest = i64::MIN;
     for i in 0..values.len() {
-        greatest = greatest.max(values.get(i));
+        greatest = greatest.max(side.turned(values.get(i)));
     }
-    greatest
+    side.turned(greatest)
 }
 
-/// The least value of a mask's rows, none over none.
-fn least_of_rows(form: &Runs, rows: &Mask) -> Option<i64>
-    ensures { result ≡ fold_to lesser None 1024 (λ n. cond (has rows.now n) (Some (run_value form.now n)) None) }
-{
-    let words = rows.words();
-    let before_words = rows_before_words(words);
-    let mut least = i64::MAX;
-    let mut row = 0;
-    let mut before = 0;
-    let values = form.values();
-    for run in 0..values.len() {
-        let end = form.starts().next_true(row + 1);
-        let upto = rows_below(words, &before_words, end);
-        least = lesser_if(before < upto, least, values.get(run));
-        before = upto;
-        row = end;
-    }
-    if before == 0 {
-        return None;
-    }
-    Some(least)
-}
-
-/// The greatest value of a mask's rows, none over none.
-fn greatest_of_rows(form: &Runs, rows: &Mask) -> Option<i64>
-    ensures { result ≡ fold_to greater None 1024 (λ n. cond (has rows.now n) (Some (run_value form.now n)) None) }
+/// The least or the greatest value of a mask's rows, none over none.
+fn extreme_of_rows(side: Extremum, form: &Runs, rows: &Mask) -> Option<i64>
+    ensures { result ≡ extreme_at side rows.now (run_value form.now) }
 {
     let words = rows.words();
     let before_words = rows_before_words(words);
@@ -91,32 +58,25 @@ fn greatest_of_rows(form: &Runs, rows: &Mask) -> Option<i64>
     for run in 0..values.len() {
         let end = form.starts().next_true(row + 1);
         let upto = rows_below(words, &before_words, end);
-        greatest = greater_if(before < upto, greatest, values.get(run));
+        let value = side.turned(values.get(run));
+        greatest = greater_if(before < upto, greatest, value);
         before = upto;
         row = end;
     }
     if before == 0 {
         return None;
     }
-    Some(greatest)
+    Some(side.turned(greatest))
 }
 
-/// The least value of a mask's rows, none over none. Where the mask has all rows, none is looked for: each run has one at least.
-pub(crate) fn least_of_runs(form: &Runs, rows: &Mask) -> Option<i64>
-    ensures { result ≡ fold_to lesser None 1024 (λ n. cond (has rows.now n) (Some (run_value form.now n)) None) }
+/// The least or the greatest value of a mask's rows, none over none. Where the mask has all rows, none is looked for: each run has
+/// one at least.
+#[inline(always)]
+pub(crate) fn extreme_of_runs(side: Extremum, form: &Runs, rows: &Mask) -> Option<i64>
+    ensures { result ≡ extreme_at side rows.now (run_value form.now) }
 {
     if rows.is_all() {
-        return Some(least_of_all(form.values()));
+        return Some(extreme_of_all(side, form.values()));
     }
-    least_of_rows(form, rows)
-}
-
-/// The greatest value of a mask's rows, none over none. Where the mask has all rows, none is looked for: each run has one at least.
-pub(crate) fn greatest_of_runs(form: &Runs, rows: &Mask) -> Option<i64>
-    ensures { result ≡ fold_to greater None 1024 (λ n. cond (has rows.now n) (Some (run_value form.now n)) None) }
-{
-    if rows.is_all() {
-        return Some(greatest_of_all(form.values()));
-    }
-    greatest_of_rows(form, rows)
+    extreme_of_rows(side, form, rows)
 }

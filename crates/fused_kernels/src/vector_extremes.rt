@@ -1,16 +1,18 @@
-//! The least and the greatest of a coded vector's values, by the way that its coding has, each with its count of passes.
-ghost use Rattle.std.specs.Prelude.{◌≡◌};
-ghost use Rattle.table_model.specs.Values.{least, greatest};
+//! The least or the greatest of a coded vector's values, by the way that its coding has, each with its count of passes.
+ghost use Rattle.std.specs.Prelude.{◌≡◌, IfSome};
+ghost use Rattle.frame_delta.specs.Frame.{frame_value};
+ghost use Rattle.frame_delta.specs.Delta.{delta_value};
 ghost use Rattle.segment_core.specs.declared.coded.Coded.TheVariants.{For as InFor, Delta as InDelta, Runs as InRuns, Dict as InDict};
 ghost use Rattle.table_model.specs.Passes.{raised};
+ghost use Rattle.fused_kernels.specs.Extremes.{extreme, extreme_at};
 ghost use Rattle.fused_kernels.specs.Seen.{values_looked_at};
 ghost use Rattle.fused_kernels.specs.VectorSeen.{vector_seen};
 
-use crate::codes::{greatest_of_codes, least_of_codes};
-use crate::extremes::{max, min};
+use crate::codes::extreme_of_codes;
+use crate::extremes::{Extremum, extreme};
 use crate::meter::Meter;
 use crate::range_rows::rows_of_vector;
-use crate::run_folds::{greatest_of_runs, least_of_runs};
+use crate::run_folds::extreme_of_runs;
 use crate::vector_lanes::VectorLanes;
 use frame_delta::{Delta, For};
 use native_lanes::{greatest_of_deltas, greatest_of_frame, least_of_deltas, least_of_frame};
@@ -18,150 +20,132 @@ use run_dictionary::{Dict, Runs};
 use segment_core::{Coded, CodedVector};
 use transpose_order::Mask;
 
-/// What `vector_min` answers, by the vector's lanes.
-fn min_by_lanes(vector: &CodedVector, mask: &Mask, meter: &mut Meter) -> Option<i64>
-    ensures value { result ≡ least (values_looked_at (vector_seen vector.now 0) mask.now) }
-    ensures pass { meter.new ≡ raised 1 meter.old }
+/// The least or the greatest value of a mask's rows, none over none, or none at a lane width of 8.
+#[inline(always)]
+fn extreme_of_frame(side: Extremum, form: &For, rows: &Mask) -> Option<Option<i64>>
+    ensures { IfSome result (λ found. found ≡ extreme_at side rows.now (frame_value form.now)) }
 {
-    min(&mut VectorLanes::new(vector, meter), mask)
+    match side {
+        Extremum::Least => least_of_frame(form, rows),
+        Extremum::Greatest => greatest_of_frame(form, rows),
+    }
 }
 
-/// What `vector_min` answers, by the vector's runs.
-fn min_by_runs(vector: &CodedVector, form: &Runs, mask: &Mask) -> Option<i64>
+/// The least or the greatest value of a mask's rows, none over none, or none at a lane width of 8.
+#[inline(always)]
+fn extreme_of_deltas(side: Extremum, form: &Delta, rows: &Mask) -> Option<Option<i64>>
+    ensures { IfSome result (λ found. found ≡ extreme_at side rows.now (delta_value form.now)) }
+{
+    match side {
+        Extremum::Least => least_of_deltas(form, rows),
+        Extremum::Greatest => greatest_of_deltas(form, rows),
+    }
+}
+
+/// What `vector_extreme` answers, by the vector's lanes.
+fn by_lanes(side: Extremum, vector: &CodedVector, mask: &Mask, meter: &mut Meter) -> Option<i64>
+    ensures value { result ≡ extreme side (values_looked_at (vector_seen vector.now 0) mask.now) }
+    ensures pass { meter.new ≡ raised 1 meter.old }
+{
+    extreme(side, &mut VectorLanes::new(vector, meter), mask)
+}
+
+/// What `vector_extreme` answers, by the vector's runs.
+#[inline(always)]
+fn by_runs(side: Extremum, vector: &CodedVector, form: &Runs, mask: &Mask) -> Option<i64>
     requires { vector.now.coded ≡ InRuns form.now }
-    ensures { result ≡ least (values_looked_at (vector_seen vector.now 0) mask.now) }
+    ensures { result ≡ extreme side (values_looked_at (vector_seen vector.now 0) mask.now) }
 {
-    least_of_runs(form, &rows_of_vector(vector, mask))
+    extreme_of_runs(side, form, &rows_of_vector(vector, mask))
 }
 
-/// What `vector_min` answers, by the codes of the vector's dictionary.
-fn min_by_codes(vector: &CodedVector, form: &Dict, mask: &Mask) -> Option<i64>
+/// What `vector_extreme` answers, by the codes of the vector's dictionary.
+#[inline(always)]
+fn by_codes(side: Extremum, vector: &CodedVector, form: &Dict, mask: &Mask) -> Option<i64>
     requires { vector.now.coded ≡ InDict form.now }
-    ensures { result ≡ least (values_looked_at (vector_seen vector.now 0) mask.now) }
+    ensures { result ≡ extreme side (values_looked_at (vector_seen vector.now 0) mask.now) }
 {
-    least_of_codes(form, &rows_of_vector(vector, mask))
+    extreme_of_codes(side, form, &rows_of_vector(vector, mask))
 }
 
-/// What `vector_min` answers, by the native lanes of the vector's frame.
-fn min_by_frame(vector: &CodedVector, form: &For, mask: &Mask, meter: &mut Meter) -> Option<i64>
+/// What `vector_extreme` answers, by the native lanes of the vector's frame.
+#[inline(always)]
+fn by_frame(
+    side: Extremum,
+    vector: &CodedVector,
+    form: &For,
+    mask: &Mask,
+    meter: &mut Meter,
+) -> Option<i64>
     requires { vector.now.coded ≡ InFor form.now }
-    ensures value { result ≡ least (values_looked_at (vector_seen vector.now 0) mask.now) }
+    ensures value { result ≡ extreme side (values_looked_at (vector_seen vector.now 0) mask.now) }
     ensures pass { meter.new ≡ raised 1 meter.old }
 {
-    match least_of_frame(form, &rows_of_vector(vector, mask)) {
-        None => min_by_lanes(vector, mask, meter),
-        Some(least) => {
+    match extreme_of_frame(side, form, &rows_of_vector(vector, mask)) {
+        None => by_lanes(side, vector, mask, meter),
+        Some(found) => {
             meter.add_pass();
-            least
+            found
         }
     }
 }
 
-/// What `vector_min` answers, by the native lanes of the vector's deltas.
-fn min_by_deltas(vector: &CodedVector, form: &Delta, mask: &Mask, meter: &mut Meter) -> Option<i64>
+/// What `vector_extreme` answers, by the native lanes of the vector's deltas.
+#[inline(always)]
+fn by_deltas(
+    side: Extremum,
+    vector: &CodedVector,
+    form: &Delta,
+    mask: &Mask,
+    meter: &mut Meter,
+) -> Option<i64>
     requires { vector.now.coded ≡ InDelta form.now }
-    ensures value { result ≡ least (values_looked_at (vector_seen vector.now 0) mask.now) }
+    ensures value { result ≡ extreme side (values_looked_at (vector_seen vector.now 0) mask.now) }
     ensures pass { meter.new ≡ raised 1 meter.old }
 {
-    match least_of_deltas(form, &rows_of_vector(vector, mask)) {
-        None => min_by_lanes(vector, mask, meter),
-        Some(least) => {
+    match extreme_of_deltas(side, form, &rows_of_vector(vector, mask)) {
+        None => by_lanes(side, vector, mask, meter),
+        Some(found) => {
             meter.add_pass();
-            least
+            found
         }
     }
 }
 
-/// The least value of a vector's rows looked at, none over none. Rows of the mask that are covered and not null are looked at.
-/// The meter counts one pass more.
-pub fn vector_min(vector: &CodedVector, mask: &Mask, meter: &mut Meter) -> Option<i64>
-    ensures value { result ≡ least (values_looked_at (vector_seen vector.now 0) mask.now) }
+/// What `vector_extreme` answers, by the way that the vector's coding has.
+#[inline(always)]
+fn by_coding(side: Extremum, vector: &CodedVector, mask: &Mask, meter: &mut Meter) -> Option<i64>
+    ensures value { result ≡ extreme side (values_looked_at (vector_seen vector.now 0) mask.now) }
     ensures pass { meter.new ≡ raised 1 meter.old }
 {
     match vector.coded() {
         Coded::Runs(form) => {
             meter.add_pass();
-            min_by_runs(vector, form.get(), mask)
+            by_runs(side, vector, form.get(), mask)
         }
-        Coded::For(form) => min_by_frame(vector, form.get(), mask, meter),
-        Coded::Delta(form) => min_by_deltas(vector, form.get(), mask, meter),
+        Coded::For(form) => by_frame(side, vector, form.get(), mask, meter),
+        Coded::Delta(form) => by_deltas(side, vector, form.get(), mask, meter),
         Coded::Dict(form) => {
             meter.add_pass();
-            min_by_codes(vector, form.get(), mask)
+            by_codes(side, vector, form.get(), mask)
         }
     }
 }
 
-/// What `vector_max` answers, by the vector's lanes.
-fn max_by_lanes(vector: &CodedVector, mask: &Mask, meter: &mut Meter) -> Option<i64>
-    ensures value { result ≡ greatest (values_looked_at (vector_seen vector.now 0) mask.now) }
+/// The least or the greatest value of a vector's rows looked at, none over none. Rows of the mask that are covered and not null
+/// are looked at. The meter counts one pass more.
+pub fn vector_extreme(
+    side: Extremum,
+    vector: &CodedVector,
+    mask: &Mask,
+    meter: &mut Meter,
+) -> Option<i64>
+    ensures value { result ≡ extreme side (values_looked_at (vector_seen vector.now 0) mask.now) }
     ensures pass { meter.new ≡ raised 1 meter.old }
 {
-    max(&mut VectorLanes::new(vector, meter), mask)
-}
-
-/// What `vector_max` answers, by the vector's runs.
-fn max_by_runs(vector: &CodedVector, form: &Runs, mask: &Mask) -> Option<i64>
-    requires { vector.now.coded ≡ InRuns form.now }
-    ensures { result ≡ greatest (values_looked_at (vector_seen vector.now 0) mask.now) }
-{
-    greatest_of_runs(form, &rows_of_vector(vector, mask))
-}
-
-/// What `vector_max` answers, by the codes of the vector's dictionary.
-fn max_by_codes(vector: &CodedVector, form: &Dict, mask: &Mask) -> Option<i64>
-    requires { vector.now.coded ≡ InDict form.now }
-    ensures { result ≡ greatest (values_looked_at (vector_seen vector.now 0) mask.now) }
-{
-    greatest_of_codes(form, &rows_of_vector(vector, mask))
-}
-
-/// What `vector_max` answers, by the native lanes of the vector's frame.
-fn max_by_frame(vector: &CodedVector, form: &For, mask: &Mask, meter: &mut Meter) -> Option<i64>
-    requires { vector.now.coded ≡ InFor form.now }
-    ensures value { result ≡ greatest (values_looked_at (vector_seen vector.now 0) mask.now) }
-    ensures pass { meter.new ≡ raised 1 meter.old }
-{
-    match greatest_of_frame(form, &rows_of_vector(vector, mask)) {
-        None => max_by_lanes(vector, mask, meter),
-        Some(greatest) => {
-            meter.add_pass();
-            greatest
-        }
-    }
-}
-
-/// What `vector_max` answers, by the native lanes of the vector's deltas.
-fn max_by_deltas(vector: &CodedVector, form: &Delta, mask: &Mask, meter: &mut Meter) -> Option<i64>
-    requires { vector.now.coded ≡ InDelta form.now }
-    ensures value { result ≡ greatest (values_looked_at (vector_seen vector.now 0) mask.now) }
-    ensures pass { meter.new ≡ raised 1 meter.old }
-{
-    match greatest_of_deltas(form, &rows_of_vector(vector, mask)) {
-        None => max_by_lanes(vector, mask, meter),
-        Some(greatest) => {
-            meter.add_pass();
-            greatest
-        }
-    }
-}
-
-/// The greatest value of a vector's rows looked at, none over none. Rows of the mask that are covered and not null are looked
-/// at. The meter counts one pass more.
-pub fn vector_max(vector: &CodedVector, mask: &Mask, meter: &mut Meter) -> Option<i64>
-    ensures value { result ≡ greatest (values_looked_at (vector_seen vector.now 0) mask.now) }
-    ensures pass { meter.new ≡ raised 1 meter.old }
-{
-    match vector.coded() {
-        Coded::Runs(form) => {
-            meter.add_pass();
-            max_by_runs(vector, form.get(), mask)
-        }
-        Coded::For(form) => max_by_frame(vector, form.get(), mask, meter),
-        Coded::Delta(form) => max_by_deltas(vector, form.get(), mask, meter),
-        Coded::Dict(form) => {
-            meter.add_pass();
-            max_by_codes(vector, form.get(), mask)
-        }
+    // Each extreme has loops of its own, in which nothing asks for it.
+    match side {
+        Extremum::Least => by_coding(Extremum::Least, vector, mask, meter),
+        Extremum::Greatest => by_coding(Extremum::Greatest, vector, mask, meter),
     }
 }

@@ -2,8 +2,8 @@
 use crate::cells::{CODINGS, Pattern, cell_of, coded, parts_of, rows};
 use crate::vector_tests::{decoded, folds};
 use fused_kernels::{
-    Meter, VectorLanes, compare, compare_range, compare_vector, compare_vector_range, decode_into,
-    max, min, sum,
+    Extremum, Meter, VectorLanes, compare, compare_range, compare_vector, compare_vector_range,
+    decode_into, extreme, sum,
 };
 use segment_core::CodedVector;
 use std::alloc::Global;
@@ -21,8 +21,16 @@ fn folds_by_lanes(vector: &CodedVector, mask: &Mask) -> LaneFolds {
     let mut meter = Meter::new();
     (
         sum(&mut VectorLanes::new(vector, &mut meter), mask),
-        min(&mut VectorLanes::new(vector, &mut meter), mask),
-        max(&mut VectorLanes::new(vector, &mut meter), mask),
+        extreme(
+            Extremum::Least,
+            &mut VectorLanes::new(vector, &mut meter),
+            mask,
+        ),
+        extreme(
+            Extremum::Greatest,
+            &mut VectorLanes::new(vector, &mut meter),
+            mask,
+        ),
     )
 }
 

@@ -5,8 +5,8 @@ ghost use Rattle.std.specs.List.{All};
 use bit_interleave::Words;
 use frame_delta::For;
 use fused_kernels::{
-    Meter, VectorLanes, compare, compare_columns, compare_range, compare_vector, max, min,
-    vector_max, vector_min, vector_sum,
+    Extremum, Meter, VectorLanes, compare, compare_columns, compare_range, compare_vector, extreme,
+    vector_extreme, vector_sum,
 };
 use segment_core::{Boxed, Coded, CodedVector};
 use std::alloc::Global;
@@ -73,17 +73,25 @@ fn check_extremes(vector: &CodedVector, least: i64, greatest: i64) -> Result<(),
     let all = Mask::all();
     agree(
         (
-            vector_min(vector, &all, &mut meter),
-            vector_max(vector, &all, &mut meter),
+            vector_extreme(Extremum::Least, vector, &all, &mut meter),
+            vector_extreme(Extremum::Greatest, vector, &all, &mut meter),
         ),
         (Some(least), Some(greatest)),
     )?;
     agree(
-        min(&mut VectorLanes::new(vector, &mut meter), &all),
+        extreme(
+            Extremum::Least,
+            &mut VectorLanes::new(vector, &mut meter),
+            &all,
+        ),
         Some(least),
     )?;
     agree(
-        max(&mut VectorLanes::new(vector, &mut meter), &all),
+        extreme(
+            Extremum::Greatest,
+            &mut VectorLanes::new(vector, &mut meter),
+            &all,
+        ),
         Some(greatest),
     )
 }

@@ -8,7 +8,7 @@ ghost use Rattle.bit_interleave.specs.Packing.{sixteen_of};
 ghost use Rattle.bit_interleave.specs.Range.{value_at};
 ghost use Rattle.fused_kernels.specs.Seen.{LanesSeen};
 
-use fused_kernels::{Lanes, compare, compare_range, decode_into, max, min, sum};
+use fused_kernels::{Extremum, Lanes, compare, compare_range, decode_into, extreme, sum};
 use std::marker::Model;
 use std::simd::prelude::*;
 use std::test::Fail;
@@ -130,14 +130,22 @@ fn least_of(lane_width: usize, values: &[i64; 1024], mask: &Mask) -> Option<i64>
     requires width { IsLaneWidth lane_width }
     requires fit { All (λ value. FitsSigned w64 value) values.now }
 {
-    min(&mut PlainLanes::new(lane_width, values), mask)
+    extreme(
+        Extremum::Least,
+        &mut PlainLanes::new(lane_width, values),
+        mask,
+    )
 }
 
 fn greatest_of(lane_width: usize, values: &[i64; 1024], mask: &Mask) -> Option<i64>
     requires width { IsLaneWidth lane_width }
     requires fit { All (λ value. FitsSigned w64 value) values.now }
 {
-    max(&mut PlainLanes::new(lane_width, values), mask)
+    extreme(
+        Extremum::Greatest,
+        &mut PlainLanes::new(lane_width, values),
+        mask,
+    )
 }
 
 /// The sum over all rows, and over rows 30 to 33 the sum, the least and the greatest value.

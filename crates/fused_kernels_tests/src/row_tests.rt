@@ -2,7 +2,7 @@
 use crate::cells::{CODINGS, Pattern, cell_of, coded};
 use crate::edge_tests::{wrapping_16, wrapping_32};
 use crate::vector_tests::WIDTHS;
-use fused_kernels::{Meter, vector_codes_into, vector_runs_into};
+use fused_kernels::{Meter, vector_codes_into, vector_has_few_codes, vector_runs_into};
 use segment_core::{CodedVector, Coding};
 use std::alloc::Global;
 use std::process::Abort;
@@ -124,6 +124,9 @@ fn check_codes(
     match found.count {
         None => Ok(()),
         Some(codes) => {
+            let few = vector_has_few_codes(vector, codes);
+            let fewer = vector_has_few_codes(vector, codes.saturating_sub(1));
+            agree((few, fewer), (true, false))?;
             check_keys(&found, codes)?;
             check_cells(&found, codes, cells, rows)
         }

@@ -3,7 +3,7 @@
 ghost use Rattle.std.specs.Prelude.{◌≤◌};
 
 use fused_kernels::{
-    Meter, VectorLanes, compare, compare_columns, compare_range, count, max, min, sum,
+    Extremum, Meter, VectorLanes, compare, compare_columns, compare_range, count, extreme, sum,
 };
 use segment_core::{Coded, CodedVector, Coding};
 use std::alloc::Global;
@@ -36,11 +36,15 @@ fn sum_of(vector: &CodedVector, mask: &Mask, meter: &mut Meter) -> i128 {
 }
 
 fn least_of(vector: &CodedVector, mask: &Mask, meter: &mut Meter) -> Option<i64> {
-    min(&mut VectorLanes::new(vector, meter), mask)
+    extreme(Extremum::Least, &mut VectorLanes::new(vector, meter), mask)
 }
 
 fn greatest_of(vector: &CodedVector, mask: &Mask, meter: &mut Meter) -> Option<i64> {
-    max(&mut VectorLanes::new(vector, meter), mask)
+    extreme(
+        Extremum::Greatest,
+        &mut VectorLanes::new(vector, meter),
+        mask,
+    )
 }
 
 /// The sum, the least and the greatest value of the rows looked at, and how many they are.

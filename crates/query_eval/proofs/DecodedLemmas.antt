@@ -1,5 +1,5 @@
 -- A column's cells by its nulls and its decoded values.
-use Rattle.std.proofs.Common.{◌≡◌, ℕ, ◌<◌, Bool, cond, List, [], ◌∷◌, length, slice_index_or, Option, Some, None, ℤ, pos, refl, sym, ap, ◌∙◌}
+use Rattle.std.proofs.Common.{◌≡◌, ℕ, ◌<◌, Bool, false, cond, List, [], ◌∷◌, length, slice_index_or, Option, Some, None, IfSome, ℤ, pos, refl, sym, ap, ◌∙◌}
 use Rattle.table_model.specs.Answer.{whole}
 use Rattle.table_model.specs.Condition.{is_null, is_among}
 use Rattle.table_model.specs.Truth.{and_of, comparison, truth_of}
@@ -8,8 +8,11 @@ use Rattle.transpose_order.specs.Mask.{rows_of, has}
 use Rattle.transpose_order.specs.MaskWords.{has-rows_of}
 use Rattle.std.specs.List.{list_any}
 use Rattle.std.specs.Ordering.{int_eq}
+use Rattle.std.proofs.lemmas.Bool.{false≢true}
 use Rattle.table_model.proofs.Predicates.{predicates}
 use Rattle.table_model.specs.declared.truth.Truth.TheVariants.{Unknown}
+use Rattle.query_eval.specs.Coded.{AreRuns, run_at}
+use Rattle.query_eval.specs.Keys.{AreKeys, run_key}
 use Rattle.query_eval.specs.Vector.{Vector, cell_at}
 
 pub decoded_cell : (v : Vector) (column : ℕ) (nulls : List Bool) (values : List ℤ) → nulls ≡ rows_of (λ n. is_null (whole (cell_at v column n))) → ((n : ℕ) (z : ℤ) → n < 1024 → cell_at v column n ≡ Some z → slice_index_or values n (pos 0) ≡ z) → (n : ℕ) → n < 1024 → cond (has nulls n) None (Some (slice_index_or values n (pos 0))) ≡ cell_at v column n
@@ -21,6 +24,17 @@ decoded_cell v column nulls values e f n h =
     one : (o : Option ℤ) → cell_at v column n ≡ o → cond (is_null (whole o)) None (Some (slice_index_or values n (pos 0))) ≡ o
     one None g = refl
     one (Some z) g = ap (λ x. Some x) (f n z h g)
+
+-- without nulls each row has the value of its run
+pub runs_cells : (v : Vector) (column : ℕ) (nulls : List Bool) (values : List ℤ) → nulls ≡ rows_of (λ n. is_null (whole (cell_at v column n))) → ((n : ℕ) → n < 1024 → has nulls n ≡ false) → (o : Option (List Bool)) → IfSome o (λ starts. AreRuns v column starts values)
+    → IfSome o (λ starts. AreKeys (column ∷ []) v (run_key starts values))
+runs_cells v column nulls values e none None h = h
+runs_cells v column nulls values e none (Some starts) h = λ n l. ap (λ o. o ∷ []) (by_cell n l (cell_at v column n) refl)
+  where
+    by_cell : (n : ℕ) → n < 1024 → (o : Option ℤ) → cell_at v column n ≡ o → Some (slice_index_or values (run_at starts n) (pos 0)) ≡ cell_at v column n
+    by_cell n l (Some z) f = ap (λ x. Some x) (h.value n z l f) ∙ sym f
+    by_cell n l None f =
+        absurd (false≢true (sym (none n l) ∙ ap (λ m. has m n) e ∙ has-rows_of (λ n. is_null (whole (cell_at v column n))) n l ∙ ap (λ (o : Option ℤ). is_null (whole o)) f))
 
 pub between_same : (x y l m h k : Option ℤ) → x ≡ y → l ≡ m → h ≡ k → and_of (comparison GreaterOrEqual x l) (comparison LessOrEqual x h) ≡ and_of (comparison GreaterOrEqual y m) (comparison LessOrEqual y k)
 between_same x y l m h k e f g =

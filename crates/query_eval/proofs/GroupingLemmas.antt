@@ -19,7 +19,7 @@ use Rattle.table_model.proofs.Groups.{values_in-append}
 use Rattle.table_model.proofs.SameRows.{one_row, itself_row}
 use Rattle.query_eval.specs.Grouping.{AreGroups, AreHeld, IsHeld, IsTaken, AreCounted, AreShown, aggregate_cell, aggregate_values, as_list}
 use Rattle.query_eval.specs.Places.{IsIndex, rows_below, rows_placed}
-use Rattle.query_eval.specs.Slices.{IsSplit, rows_shared}
+use Rattle.query_eval.specs.Slices.{IsSplit, rows_shared, slices_of}
 use Rattle.query_eval.specs.Kept.{rows_at}
 use Rattle.query_eval.specs.Vector.{Vector, row_at}
 use Rattle.query_eval.specs.declared.grouping.places.Places.{Places}
@@ -285,7 +285,7 @@ groups_more by named v mask rows before after split old new index placed size ta
     more key g is =
         shared_with by v after.index split.places split.left key g index.apart is
         (placed_with by v split.left split.places g key (agrees key g is) 1024 (omega arith) ∙ ap (λ l. rows_with by l key) (below_all 1024 v split.left refl))
-        mask split.slices.items placed.parted
+        mask (slices_of split) placed.parted
 
     one_held : (key : Cells) (g : ℕ) → get key_cmp after.index key ≡ Some g → (o : Option ℕ) → get key_cmp before.index key ≡ o → AreHeld (rows_with by (rows ++ rows_at v mask) key) named new g
     one_held key g is (Some p) was =

@@ -14,6 +14,7 @@ pub mod SeenLemmas
 pub mod FinishLemmas
 pub mod ColumnLemmas
 pub mod TallyLemmas
+pub mod ExtremeLemmas
 pub mod ValueSteps
 pub mod DistinctLemmas
 pub mod TableLemmas
@@ -21,12 +22,19 @@ pub mod ShownLemmas
 pub mod MaskedLemmas
 pub mod AmongLemmas
 pub mod SliceLemmas
+pub mod SpanLemmas
+pub mod SpanTallyLemmas
 pub mod RowsBelow
 pub mod PlaceLemmas
 pub mod GroupingLemmas
 pub mod SharedLemmas
+pub mod FormLemmas
 pub mod VectorLemmas
 pub mod MentionLemmas
 pub mod AnswerLemmas
 pub mod OrderLemmas
 pub mod TakenLemmas
+pub mod CodeSliceLemmas
+pub mod CodeSumLemmas
+mod CodeLemmas
+mod CodeAmong

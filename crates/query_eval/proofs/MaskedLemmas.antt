@@ -1,6 +1,6 @@
 -- The values at the rows of a mask, one row more.
 use Rattle.std.proofs.Common.{◌≡◌, ◌≢◌, ◌==◌, nat_eq, bit_and, min, ◌⊎◌, inl, inr, subst, eq-eqb, ℕ, zero, suc, ◌+◌, ◌-◌, ◌*◌, ◌/◌, ◌%◌, ◌^◌, ◌<◌, ◌≤◌, Bool, true, false, not, cond, List, [], ◌∷◌, ◌++◌, length, get_or, count_by, Some, None, ℤ, pos, ◌+ℤ◌, refl, sym, ap, ◌∙◌, arith, append-nil, length-append}
-use Rattle.std.specs.Int.{bit_at, from_bool, int_max, int_min}
+use Rattle.std.specs.Int.{bit_at, from_bool}
 use Rattle.std.proofs.Math.Nat.{div-eq_of_lt, mul-suc, pow-le-pow_right}
 use Rattle.std.specs.Ordering.{int_eq}
 use Rattle.std.specs.Simd.Lanes.{sum_l}
@@ -9,8 +9,8 @@ use Rattle.std.proofs.lemmas.Nat.{and_le_r}
 use Rattle.std.proofs.lemmas.Nat.Bits.{bit_at-lt, bit_at_and, bit_at-pow_same}
 use Rattle.std.proofs.lemmas.Bool.Decides.{Decides-int_eq}
 use Rattle.std.proofs.lemmas.Int.{ints}
-use Rattle.table_model.proofs.Appended.{total-append, least-append, greatest-append}
-use Rattle.table_model.specs.Values.{total, lesser, greater, least, greatest}
+use Rattle.table_model.proofs.Appended.{total-append}
+use Rattle.table_model.specs.Values.{total}
 use Rattle.transpose_order.specs.Mask.{has, number_of_bits, rows_of}
 use Rattle.transpose_order.specs.MaskWords.{bit_at-number_of_bits, number_of_bits-below, number_of_bits-suc}
 use Rattle.query_eval.proofs.ColumnLemmas.{length-masked}
@@ -26,7 +26,7 @@ pub values_more : (k : ℕ) (rows : List Bool) (values : List ℤ) (b : Bool) �
 values_more k rows values b is = present_more (value_of rows values) k b (get_or values k (pos 0)) (ap (λ c. cond c (Some (get_or values k (pos 0))) None) is)
 
 -- no row below k is one of the mask
-values_none : (k : ℕ) (rows : List Bool) (values : List ℤ) → ((n : ℕ) → n < k → has rows n ≡ false) → values_below k rows values ≡ []
+pub values_none : (k : ℕ) (rows : List Bool) (values : List ℤ) → ((n : ℕ) → n < k → has rows n ≡ false) → values_below k rows values ≡ []
 values_none zero rows values h = refl
 values_none (suc k) rows values h =
     ap (λ n. values_below n rows values) (let e : suc k ≡ k + 1 = omega arith in e) ∙ values_more k rows values false (h k (omega arith)) ∙ append-nil (values_below k rows values) ∙ values_none k rows values (λ n l. h n (omega (arith, l)))
@@ -36,6 +36,30 @@ pub values_skip : (k j : ℕ) (rows : List Bool) (values : List ℤ) → ((b : �
 values_skip k zero rows values h = ap (λ n. values_below n rows values) (let e : k + zero ≡ k = omega arith in e)
 values_skip k (suc j) rows values h =
     ap (λ n. values_below n rows values) (let e : k + suc j ≡ (k + j) + 1 = omega arith in e) ∙ values_more (k + j) rows values false (h j (omega arith)) ∙ append-nil (values_below (k + j) rows values) ∙ values_skip k j rows values (λ b l. h b (omega (arith, l)))
+
+values_longer : (k j : ℕ) (rows : List Bool) (values : List ℤ) → length (values_below k rows values) ≤ length (values_below (k + j) rows values)
+values_longer k zero rows values = omega (arith, ap (λ n. length (values_below n rows values)) (let e : k + zero ≡ k = omega arith in e))
+values_longer k (suc j) rows values =
+    omega (
+      arith,
+      values_longer k j rows values,
+      ap (λ n. length (values_below n rows values)) (let e : k + suc j ≡ (k + j) + 1 = omega arith in e),
+      ap length (values_more (k + j) rows values (has rows (k + j)) refl),
+      length-append (values_below (k + j) rows values) (cond (has rows (k + j)) (get_or values (k + j) (pos 0) ∷ []) []),
+    )
+
+-- a mask with a row has a value
+pub values_some : (k : ℕ) (rows : List Bool) (values : List ℤ) → has rows k ≡ true → k < 1024 → values_at rows values ≢ []
+values_some k rows values on l = λ e.
+    absurd
+    (omega (
+      arith,
+      values_longer (k + 1) (1023 - k) rows values,
+      ap length (values_all (k + 1 + (1023 - k)) rows values (let whole : k + 1 + (1023 - k) ≡ 1024 = omega (arith, l) in whole)),
+      ap length e,
+      ap length (values_more k rows values true on),
+      length-append (values_below k rows values) (get_or values k (pos 0) ∷ []),
+    ))
 
 -- as many values as rows
 pub length-values_at : (rows : List Bool) (values : List ℤ) (p : ℕ → Bool) → rows ≡ rows_of p → length (values_at rows values) ≡ count_by (λ y. y) rows
@@ -109,26 +133,6 @@ raised_more by false k s t n rows values on before one more =
     let now : values_below (k + 1) rows values ≡ values_below k rows values = values_more k rows values false on ∙ append-nil (values_below k rows values) in
     let none : t ≡ s = omega (arith, ints, one, more) in
     ap pos none ∙ before ∙ ap (λ zs. total zs +ℤ pos (by * length zs)) (sym now)
-
--- ---- the least and the greatest
-pub least_none : (k : ℕ) (rows : List Bool) (values : List ℤ) → k ≡ 1024 → ((n : ℕ) → n < k → has rows n ≡ false) → None ≡ least (values_at rows values)
-least_none k rows values e h = ap least (sym (values_none k rows values h) ∙ values_all k rows values e)
-
-pub greatest_none : (k : ℕ) (rows : List Bool) (values : List ℤ) → k ≡ 1024 → ((n : ℕ) → n < k → has rows n ≡ false) → None ≡ greatest (values_at rows values)
-greatest_none k rows values e h = ap greatest (sym (values_none k rows values h) ∙ values_all k rows values e)
-
-pub first_only : (k : ℕ) (rows : List Bool) (values : List ℤ) → ((n : ℕ) → n < k → has rows n ≡ false) → has rows k ≡ true → values_below (k + 1) rows values ≡ get_or values k (pos 0) ∷ []
-first_only k rows values h on = values_more k rows values true on ∙ ap (λ l. l ++ get_or values k (pos 0) ∷ []) (values_none k rows values h)
-
-pub least_more : (k : ℕ) (rows : List Bool) (values : List ℤ) (b : Bool) (x y : ℤ) → has rows k ≡ b → Some x ≡ least (values_below k rows values) → y ≡ cond b (int_min x (get_or values k (pos 0))) x → Some y ≡ least (values_below (k + 1) rows values)
-least_more k rows values true x y on before is =
-    ap Some is ∙ ap (λ o. lesser o (Some (get_or values k (pos 0)))) before ∙ sym (ap least (values_more k rows values true on) ∙ least-append (values_below k rows values) (get_or values k (pos 0) ∷ []))
-least_more k rows values false x y on before is = ap Some is ∙ before ∙ ap least (sym (values_more k rows values false on ∙ append-nil (values_below k rows values)))
-
-pub greatest_more : (k : ℕ) (rows : List Bool) (values : List ℤ) (b : Bool) (x y : ℤ) → has rows k ≡ b → Some x ≡ greatest (values_below k rows values) → y ≡ cond b (int_max x (get_or values k (pos 0))) x → Some y ≡ greatest (values_below (k + 1) rows values)
-greatest_more k rows values true x y on before is =
-    ap Some is ∙ ap (λ o. greater o (Some (get_or values k (pos 0)))) before ∙ sym (ap greatest (values_more k rows values true on) ∙ greatest-append (values_below k rows values) (get_or values k (pos 0) ∷ []))
-greatest_more k rows values false x y on before is = ap Some is ∙ before ∙ ap greatest (sym (values_more k rows values false on ∙ append-nil (values_below k rows values)))
 
 -- ---- eight lanes at once
 pub at_eight : (P : ℕ → Type 0) → P 0 → P 1 → P 2 → P 3 → P 4 → P 5 → P 6 → P 7 → (lane : ℕ) → lane < 8 → P lane

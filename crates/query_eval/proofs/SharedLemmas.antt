@@ -1,4 +1,4 @@
--- Tallies, as slices of a vector's rows come, and then the rows that are left.
+-- Tallies, as spans and slices of a vector's rows come, and then the rows that are left.
 use Rattle.std.proofs.Common.{◌≡◌, ◌==◌, ℕ, zero, suc, ◌+◌, ◌<◌, Bool, true, false, cond, not, ◌&&◌, List, [], ◌∷◌, ◌++◌, map, length, get_or, take, count_by, Option, Some, None, ℤ, pos, refl, sym, ap, subst, ◌∙◌, arith, append-nil, append_assoc}
 use Rattle.std.specs.List.{cons_option, range_with_len}
 use Rattle.std.specs.Option.{is_some}
@@ -15,7 +15,7 @@ use Rattle.transpose_order.specs.MaskWords.{has-rows_of, rows_of-like}
 use Rattle.query_eval.specs.Grouping.{AreCells, AreCounted, AreNulls, IsHeld, aggregate_cell, aggregate_values}
 use Rattle.query_eval.specs.Kept.{rows_at}
 use Rattle.query_eval.specs.Places.{rows_placed}
-use Rattle.query_eval.specs.Slices.{rows_shared, rows_sliced, values_at}
+use Rattle.query_eval.specs.Slices.{rows_shared, rows_sliced, slices_of, slices_of_spans, values_at}
 use Rattle.query_eval.specs.Tally.{IsTally, kind_of}
 use Rattle.query_eval.specs.Vector.{Vector, cell_at, row_at}
 use Rattle.query_eval.specs.declared.tallies.aggregate.Aggregate.{Aggregate}
@@ -112,20 +112,32 @@ held_slice v slices i s g a taken t u added l at is told same h =
     one true = refl
     one false = sym (none_values a)
 
--- ---- the slices, and then the rows that are left
+-- ---- the spans, the slices, and then the rows that are left
 placed_nothing : (k : ℕ) (v : Vector) (mask : List Bool) (places : List ℕ) (g : ℕ) → ((n : ℕ) → n < k → has mask n ≡ false) → rows_placed k v mask places g ≡ []
 placed_nothing zero v mask places g h = refl
 placed_nothing (suc k) v mask places g h =
     ap (λ n. rows_placed n v mask places g) (let e : suc k ≡ k + 1 = omega arith in e)
     ∙ placed_more_rows k v mask places g false (ap (λ b. b && (get_or places k 0 == g)) (h k (omega arith))) ∙ append-nil (rows_placed k v mask places g) ∙ placed_nothing k v mask places g (λ n l. h n (omega (arith, l)))
 
-module _ (v : Vector) (split : Split) (g : ℕ) (a : Aggregate) (taken : List Cells) (t : Tally) where
-  pub held_shared : IsHeld ((taken ++ rows_sliced v split.slices.items g) ++ rows_placed 1024 v split.left split.places g) a t → IsHeld (taken ++ rows_shared v split g) a t
-  held_shared h = subst (λ (rows : List Cells). IsHeld rows a t) (append_assoc taken (rows_sliced v split.slices.items g) (rows_placed 1024 v split.left split.places g)) h
+-- some rows, those of the spans with a place, and then those of the slices with it
+abbrev pub taken_sliced : Vector → Split → ℕ → List Cells → List Cells
+taken_sliced v split g taken = (taken ++ rows_sliced v (slices_of_spans split.kept split.spans.items) g) ++ rows_sliced v split.slices.items g
 
-  pub held_sliced : ((n : ℕ) → n < 1024 → has split.left n ≡ false) → IsHeld (taken ++ rows_sliced v split.slices.items g) a t → IsHeld (taken ++ rows_shared v split g) a t
+module _ (v : Vector) (split : Split) (g : ℕ) (a : Aggregate) (taken : List Cells) (t : Tally) where
+  both_sliced : taken_sliced v split g taken ≡ taken ++ rows_sliced v (slices_of split) g
+  both_sliced =
+      append_assoc taken (rows_sliced v (slices_of_spans split.kept split.spans.items) g) (rows_sliced v split.slices.items g)
+      ∙ ap (λ rows. taken ++ rows) (sym (sliced_both v (slices_of_spans split.kept split.spans.items) split.slices.items g))
+
+  pub held_shared : IsHeld (taken_sliced v split g taken ++ rows_placed 1024 v split.left split.places g) a t → IsHeld (taken ++ rows_shared v split g) a t
+  held_shared h =
+      subst (λ (rows : List Cells). IsHeld rows a t)
+      (ap (λ rows. rows ++ rows_placed 1024 v split.left split.places g) both_sliced ∙ append_assoc taken (rows_sliced v (slices_of split) g) (rows_placed 1024 v split.left split.places g)) h
+
+  pub held_sliced : ((n : ℕ) → n < 1024 → has split.left n ≡ false) → IsHeld (taken_sliced v split g taken) a t → IsHeld (taken ++ rows_shared v split g) a t
   held_sliced none h =
-      held_shared (subst (λ (rows : List Cells). IsHeld rows a t) (sym (ap (λ rows. (taken ++ rows_sliced v split.slices.items g) ++ rows) (placed_nothing 1024 v split.left split.places g none) ∙ append-nil (taken ++ rows_sliced v split.slices.items g))) h)
+      held_shared
+      (subst (λ (rows : List Cells). IsHeld rows a t) (sym (ap (λ rows. taken_sliced v split g taken ++ rows) (placed_nothing 1024 v split.left split.places g none) ∙ append-nil (taken_sliced v split g taken))) h)
 
 -- ---- no row has a value
 module _ (v : Vector) (a : Aggregate) (t : Tally) (missing : (n : ℕ) → n < 1024 → aggregate_cell (row_at v n) a ≡ None) where
@@ -147,4 +159,6 @@ module _ (v : Vector) (a : Aggregate) (t : Tally) (missing : (n : ℕ) → n < 1
 
   pub shared_without : (split : Split) (g : ℕ) (taken : List Cells) → IsHeld taken a t → IsHeld (taken ++ rows_shared v split g) a t
   shared_without split g taken h =
-      held_shared v split g a taken t (held_without v split.left split.places g a (taken ++ rows_sliced v split.slices.items g) t missing 1024 (omega arith) (sliced_without split.slices.items g taken h))
+      held_shared v split g a taken t
+      (held_without v split.left split.places g a (taken_sliced v split g taken) t missing 1024 (omega arith)
+      (sliced_without split.slices.items g (taken ++ rows_sliced v (slices_of_spans split.kept split.spans.items) g) (sliced_without (slices_of_spans split.kept split.spans.items) g taken h)))

@@ -1,5 +1,5 @@
 -- Slices of a vector's rows by their keys.
-use Rattle.std.proofs.Common.{◌≡◌, ◌==◌, ℕ, zero, suc, ◌+◌, ◌-◌, ◌<◌, ◌≤◌, ltb, leb, Bool, true, false, cond, not, ◌&&◌, ◌||◌, List, [], ◌∷◌, ◌++◌, map, filter, length, get_or, take, Option, Some, None, ℤ, pos, refl, sym, ap, subst, ◌∙◌, arith, append_assoc}
+use Rattle.std.proofs.Common.{◌≡◌, ◌==◌, ℕ, zero, suc, ◌+◌, ◌-◌, ◌<◌, ◌≤◌, ltb, leb, Bool, true, false, cond, not, ◌&&◌, ◌||◌, List, [], ◌∷◌, ◌++◌, map, filter, length, get_or, take, Option, Some, None, ℤ, pos, refl, sym, ap, subst, ◌∙◌, arith, append-nil, append_assoc}
 use Rattle.std.specs.BTreeMap.{BTreeMap, get}
 use Rattle.std.specs.List.{cons_option, list_any, range_with_len}
 use Rattle.std.specs.Option.{is_some}
@@ -15,16 +15,17 @@ use Rattle.table_model.specs.Values.{present}
 use Rattle.table_model.proofs.SameRows.{one_row, itself_row}
 use Rattle.transpose_order.specs.Mask.{has, rows_of}
 use Rattle.transpose_order.specs.MaskWords.{has-rows_of, rows_of-like}
-use Rattle.query_eval.specs.Decoded.{decoded_at}
+use Rattle.query_eval.specs.Keys.{key_cell}
 use Rattle.query_eval.specs.Kept.{rows_at}
 use Rattle.query_eval.specs.Places.{ArePlaced, IsGrown, IsTakenIn, rows_placed}
-use Rattle.query_eval.specs.Slices.{AreParted, AreSliced, IsSlice, IsSplit, differs_at, occurs_in, rows_outside, rows_sliced}
+use Rattle.query_eval.specs.Slices.{AreByCode, AreParted, AreSliced, IsSlice, IsSplit, differs_at, occurs_in, rows_outside, rows_sliced, slices_of, slices_of_spans}
 use Rattle.query_eval.specs.Vector.{Vector, row_at}
-use Rattle.query_eval.specs.declared.filter.decoded.Decoded.{Decoded}
+use Rattle.query_eval.specs.declared.grouping.key_columns.KeyColumn.{KeyColumn}
 use Rattle.query_eval.specs.declared.grouping.split.Slice.{Slice}
+use Rattle.query_eval.specs.declared.grouping.split.Span.{Span}
 use Rattle.query_eval.specs.declared.grouping.split.Split.{Split}
 use Rattle.query_eval.proofs.Lifted.{rows_of-alike}
-use Rattle.query_eval.proofs.PlaceLemmas.{grown_more, grown_same, turned}
+use Rattle.query_eval.proofs.PlaceLemmas.{grown_more, grown_same, placed_nowhere, turned}
 use Rattle.query_eval.proofs.RowsBelow.{below_all}
 
 -- ---- the rows with a cell
@@ -48,27 +49,24 @@ like_value nulls equal rows values row n l off e f =
     one true = and-false same
     one false = and-true same
 
-pub like_fixed : (cell : Option ℤ) → true ≡ same_cell cell cell
-like_fixed cell = sym (itself_row (cell ∷ [])) ∙ and-true (same_cell cell cell)
-
 -- one column more
-like_more : (row n : ℕ) (columns : List Decoded) (column : Decoded) → same_cells (map (λ d. decoded_at d row) (columns ++ column ∷ [])) (map (λ d. decoded_at d n) (columns ++ column ∷ [])) ≡ (same_cells (map (λ d. decoded_at d row) columns) (map (λ d. decoded_at d n) columns) && same_cell (decoded_at column row) (decoded_at column n))
-like_more row n [] column = and-true (same_cell (decoded_at column row) (decoded_at column n))
+like_more : (row n : ℕ) (columns : List KeyColumn) (column : KeyColumn) → same_cells (map (λ d. key_cell d row) (columns ++ column ∷ [])) (map (λ d. key_cell d n) (columns ++ column ∷ [])) ≡ (same_cells (map (λ d. key_cell d row) columns) (map (λ d. key_cell d n) columns) && same_cell (key_cell column row) (key_cell column n))
+like_more row n [] column = and-true (same_cell (key_cell column row) (key_cell column n))
 like_more row n (d ∷ ds) column =
-    ap (λ b. same_cell (decoded_at d row) (decoded_at d n) && b) (like_more row n ds column)
-    ∙ sym (and_assoc (same_cell (decoded_at d row) (decoded_at d n)) (same_cells (map (λ d. decoded_at d row) ds) (map (λ d. decoded_at d n) ds)) (same_cell (decoded_at column row) (decoded_at column n)))
+    ap (λ b. same_cell (key_cell d row) (key_cell d n) && b) (like_more row n ds column)
+    ∙ sym (and_assoc (same_cell (key_cell d row) (key_cell d n)) (same_cells (map (λ d. key_cell d row) ds) (map (λ d. key_cell d n) ds)) (same_cell (key_cell column row) (key_cell column n)))
 
-pub like_next : (row n i : ℕ) (mask rows like next : List Bool) (columns : List Decoded) (column : Decoded) → n < 1024 → i < length columns → column ≡ get_or columns i column
-    → has rows n ≡ (has mask n && same_cells (map (λ d. decoded_at d row) (take i columns)) (map (λ d. decoded_at d n) (take i columns)))
-    → has like n ≡ same_cell (decoded_at column row) (decoded_at column n) → next ≡ rows_of (λ n. has rows n && has like n)
-    → has next n ≡ (has mask n && same_cells (map (λ d. decoded_at d row) (take (i + 1) columns)) (map (λ d. decoded_at d n) (take (i + 1) columns)))
+pub like_next : (row n i : ℕ) (mask rows like next : List Bool) (columns : List KeyColumn) (column : KeyColumn) → n < 1024 → i < length columns → column ≡ get_or columns i column
+    → has rows n ≡ (has mask n && same_cells (map (λ d. key_cell d row) (take i columns)) (map (λ d. key_cell d n) (take i columns)))
+    → has like n ≡ same_cell (key_cell column row) (key_cell column n) → next ≡ rows_of (λ n. has rows n && has like n)
+    → has next n ≡ (has mask n && same_cells (map (λ d. key_cell d row) (take (i + 1) columns)) (map (λ d. key_cell d n) (take (i + 1) columns)))
 like_next row n i mask rows like next columns column l inside at before one is =
     let front : take (i + 1) columns ≡ take i columns ++ column ∷ [] = take_more columns i column inside ∙ ap (λ d. take i columns ++ d ∷ []) (sym at) in
     ap (λ m. has m n) is ∙ has-rows_of (λ n. has rows n && has like n) n l ∙ ap (λ b. b && has like n) before
-    ∙ ap (λ b. (has mask n && same_cells (map (λ d. decoded_at d row) (take i columns)) (map (λ d. decoded_at d n) (take i columns))) && b) one
-    ∙ and_assoc (has mask n) (same_cells (map (λ d. decoded_at d row) (take i columns)) (map (λ d. decoded_at d n) (take i columns))) (same_cell (decoded_at column row) (decoded_at column n))
+    ∙ ap (λ b. (has mask n && same_cells (map (λ d. key_cell d row) (take i columns)) (map (λ d. key_cell d n) (take i columns))) && b) one
+    ∙ and_assoc (has mask n) (same_cells (map (λ d. key_cell d row) (take i columns)) (map (λ d. key_cell d n) (take i columns))) (same_cell (key_cell column row) (key_cell column n))
     ∙ ap (λ b. has mask n && b) (sym (like_more row n (take i columns) column))
-    ∙ ap (λ ds. has mask n && same_cells (map (λ d. decoded_at d row) ds) (map (λ d. decoded_at d n) ds)) (sym front)
+    ∙ ap (λ ds. has mask n && same_cells (map (λ d. key_cell d row) ds) (map (λ d. key_cell d n) ds)) (sym front)
 
 -- ---- the rows where a cell may differ from that of the row before
 pub unchanged_value : (nulls rows : List Bool) (values : List ℤ) (n : ℕ) → n + 1 < 1024 → ((k : ℕ) → k < 1024 → has nulls k ≡ false) → rows ≡ rows_of (differs_at values) → has rows (n + 1) ≡ false
@@ -81,46 +79,29 @@ unchanged_value nulls rows values n l none e off =
     ∙ sym (ap (λ b. cond b None (Some (get_or values n (pos 0)))) (none n (omega (arith, l))))
 
 -- one column more
-pub unchanged_next : (n i : ℕ) (columns : List Decoded) (column : Decoded) (before changes next : List Bool) → n + 1 < 1024 → i < length columns → column ≡ get_or columns i column
-    → (has before (n + 1) ≡ false → map (λ d. decoded_at d (n + 1)) (take i columns) ≡ map (λ d. decoded_at d n) (take i columns)) → (has changes (n + 1) ≡ false → decoded_at column (n + 1) ≡ decoded_at column n) → next ≡ rows_of (λ k. has before k || has changes k)
-    → has next (n + 1) ≡ false → map (λ d. decoded_at d (n + 1)) (take (i + 1) columns) ≡ map (λ d. decoded_at d n) (take (i + 1) columns)
+pub unchanged_next : (n i : ℕ) (columns : List KeyColumn) (column : KeyColumn) (before changes next : List Bool) → n + 1 < 1024 → i < length columns → column ≡ get_or columns i column
+    → (has before (n + 1) ≡ false → map (λ d. key_cell d (n + 1)) (take i columns) ≡ map (λ d. key_cell d n) (take i columns)) → (has changes (n + 1) ≡ false → key_cell column (n + 1) ≡ key_cell column n) → next ≡ rows_of (λ k. has before k || has changes k)
+    → has next (n + 1) ≡ false → map (λ d. key_cell d (n + 1)) (take (i + 1) columns) ≡ map (λ d. key_cell d n) (take (i + 1) columns)
 unchanged_next n i columns column before changes next l inside at so_far one is off =
     let front : take (i + 1) columns ≡ take i columns ++ column ∷ [] = take_more columns i column inside ∙ ap (λ d. take i columns ++ d ∷ []) (sym at) in
     let both = or_parts (has before (n + 1)) (has changes (n + 1)) (sym (has-rows_of (λ k. has before k || has changes k) (n + 1) l) ∙ sym (ap (λ m. has m (n + 1)) is) ∙ off) in
-    ap (map (λ d. decoded_at d (n + 1))) front ∙ map-append (λ d. decoded_at d (n + 1)) (take i columns) (column ∷ [])
-    ∙ ap (λ cells. cells ++ decoded_at column (n + 1) ∷ []) (so_far both.0)
-    ∙ ap (λ cell. map (λ d. decoded_at d n) (take i columns) ++ cell ∷ []) (one both.1)
-    ∙ sym (map-append (λ d. decoded_at d n) (take i columns) (column ∷ [])) ∙ sym (ap (map (λ d. decoded_at d n)) front)
+    ap (map (λ d. key_cell d (n + 1))) front ∙ map-append (λ d. key_cell d (n + 1)) (take i columns) (column ∷ [])
+    ∙ ap (λ cells. cells ++ key_cell column (n + 1) ∷ []) (so_far both.0)
+    ∙ ap (λ cell. map (λ d. key_cell d n) (take i columns) ++ cell ∷ []) (one both.1)
+    ∙ sym (map-append (λ d. key_cell d n) (take i columns) (column ∷ [])) ∙ sym (ap (map (λ d. key_cell d n)) front)
 
 -- up to where the key may change, it is that of the first row
-pub run_same : (columns : List Decoded) (changes : List Bool) (row end : ℕ) → end ≤ 1024 → ((n : ℕ) → n + 1 < 1024 → has changes (n + 1) ≡ false → map (λ d. decoded_at d (n + 1)) columns ≡ map (λ d. decoded_at d n) columns)
-    → ((k : ℕ) → row + 1 ≤ k → k < end → has changes k ≡ false) → (n : ℕ) → row ≤ n → n < end → map (λ d. decoded_at d n) columns ≡ map (λ d. decoded_at d row) columns
+pub run_same : (columns : List KeyColumn) (changes : List Bool) (row end : ℕ) → end ≤ 1024 → ((n : ℕ) → n + 1 < 1024 → has changes (n + 1) ≡ false → map (λ d. key_cell d (n + 1)) columns ≡ map (λ d. key_cell d n) columns)
+    → ((k : ℕ) → row + 1 ≤ k → k < end → has changes k ≡ false) → (n : ℕ) → row ≤ n → n < end → map (λ d. key_cell d n) columns ≡ map (λ d. key_cell d row) columns
 run_same columns changes row end within same none n h l =
     let there : n ≡ row + (n - row) = omega (arith, h) in
-    ap (λ k. map (λ d. decoded_at d k) columns) there ∙ steps (n - row) (omega (arith, h, l))
+    ap (λ k. map (λ d. key_cell d k) columns) there ∙ steps (n - row) (omega (arith, h, l))
   where
-    steps : (d : ℕ) → row + d < end → map (λ c. decoded_at c (row + d)) columns ≡ map (λ c. decoded_at c row) columns
-    steps zero _ = ap (λ k. map (λ c. decoded_at c k) columns) (let e : row + zero ≡ row = omega arith in e)
+    steps : (d : ℕ) → row + d < end → map (λ c. key_cell c (row + d)) columns ≡ map (λ c. key_cell c row) columns
+    steps zero _ = ap (λ k. map (λ c. key_cell c k) columns) (let e : row + zero ≡ row = omega arith in e)
     steps (suc d) before =
-        ap (λ k. map (λ c. decoded_at c k) columns) (let e : row + suc d ≡ (row + d) + 1 = omega arith in e) ∙ same (row + d) (omega (arith, before, within)) (none ((row + d) + 1) (omega arith) (omega (arith, before)))
+        ap (λ k. map (λ c. key_cell c k) columns) (let e : row + suc d ≡ (row + d) + 1 = omega arith in e) ∙ same (row + d) (omega (arith, before, within)) (none ((row + d) + 1) (omega arith) (omega (arith, before)))
         ∙ steps d (omega (arith, before))
-
--- the rows of a run
-pub run_rows : (mask rows : List Bool) (columns : List Decoded) (row end n : ℕ) → n < 1024 → ((k : ℕ) → k < row → has mask k ≡ false) → ((k : ℕ) → row ≤ k → k < end → map (λ d. decoded_at d k) columns ≡ map (λ d. decoded_at d row) columns)
-    → rows ≡ rows_of (λ k. cond (leb end k && ltb k 1024) false (has mask k)) → has rows n ≡ (has mask n && (ltb n end && same_cells (map (λ d. decoded_at d row) columns) (map (λ d. decoded_at d n) columns)))
-run_rows mask rows columns row end n l none same e =
-    ap (λ m. has m n) e ∙ has-rows_of (λ k. cond (leb end k && ltb k 1024) false (has mask k)) n l ∙ ap (λ b. cond (leb end n && b) false (has mask n)) (lt-ltb n 1024 l) ∙ by_end (ltb n end) refl
-  where
-    alike : Bool
-    alike = same_cells (map (λ d. decoded_at d row) columns) (map (λ d. decoded_at d n) columns)
-
-    by_row : (b : Bool) → ltb n row ≡ b → n < end → has mask n ≡ (has mask n && alike)
-    by_row true f h = let off : has mask n ≡ false = none n (ltb-true n row f) in off ∙ ap (λ b. b && alike) (sym off)
-    by_row false f h = sym (and-true (has mask n)) ∙ ap (λ b. has mask n && b) (sym (ap (same_cells (map (λ d. decoded_at d row) columns)) (same n (ltb-false n row f) h) ∙ itself_row (map (λ d. decoded_at d row) columns)))
-
-    by_end : (b : Bool) → ltb n end ≡ b → cond (leb end n && true) false (has mask n) ≡ (has mask n && (ltb n end && alike))
-    by_end true f = ap (λ b. cond (b && true) false (has mask n)) (lt-leb end n (ltb-true n end f)) ∙ by_row (ltb n row) refl (ltb-true n end f) ∙ ap (λ b. has mask n && (b && alike)) (sym f)
-    by_end false f = ap (λ b. cond (b && true) false (has mask n)) (le-leb end n (ltb-false n end f)) ∙ sym (and-false (has mask n)) ∙ ap (λ b. has mask n && (b && alike)) (sym f)
 
 -- all rows with a key are those below 1024
 pub all_below : (mask rows : List Bool) (n : ℕ) (b : Bool) → n < 1024 → has rows n ≡ (has mask n && b) → has rows n ≡ (has mask n && (ltb n 1024 && b))
@@ -317,13 +298,31 @@ sliced_more by v mask left next old mid new slices after slice key row end h l o
           ∙ ap (λ b. is_some (get key_cmp mid q) || b) (occurs_parted by v new left slice one q row l on is) ∙ h.occurs q;
     }))
 
--- ---- the slices, and then the rows that are left
-pub split_all : (by : List ℕ) (v : Vector) (mask : List Bool) (old mid new : BTreeMap Cells ℕ) (split : Split) → AreSliced by v mask split.left old mid split.slices.items → ArePlaced 1024 by v split.left mid new split.places → IsSplit by v mask old new split
+-- ---- the spans and slices, and then the rows that are left
+pub spans_alone : (mask : List Bool) (spans : List Span) (slices : List Slice) → slices ≡ [] → slices_of_spans mask spans ≡ slices_of_spans mask spans ++ slices
+spans_alone mask spans slices e = sym (ap (λ xs. slices_of_spans mask spans ++ xs) e ∙ append-nil (slices_of_spans mask spans))
+
+pub slices_alone : (mask : List Bool) (spans : List Span) (slices : List Slice) → spans ≡ [] → slices ≡ slices_of_spans mask spans ++ slices
+slices_alone mask spans slices e = sym (ap (λ xs. slices_of_spans mask xs ++ slices) e)
+
+pub split_all : (by : List ℕ) (v : Vector) (mask : List Bool) (old mid new : BTreeMap Cells ℕ) (split : Split) → AreSliced by v mask split.left old mid (slices_of split) → ArePlaced 1024 by v split.left mid new split.places → IsSplit by v mask old new split
 split_all by v mask old mid new split h p = record {
   grown = grown_more old mid new h.grown p.grown;
-  parted = parted_grown by v mid new mask split.left split.slices.items p.grown h.parted;
+  parted = parted_grown by v mid new mask split.left (slices_of split) p.grown h.parted;
   placed = p.placed;
   occurs = λ q. p.occurs q ∙ ap (λ rows. is_some (get key_cmp mid q) || list_any (same_cells q) (map (key_of by) rows)) (below_all 1024 v split.left refl) ∙ h.occurs q;
+}
+
+-- no row is left
+pub split_whole : (by : List ℕ) (v : Vector) (mask : List Bool) (old new : BTreeMap Cells ℕ) (split : Split) → AreSliced by v mask split.left old new (slices_of split) → ((n : ℕ) → n < 1024 → has split.left n ≡ false) → IsSplit by v mask old new split
+split_whole by v mask old new split h none = split_all by v mask old new new split h (placed_nowhere 1024 by v split.left new split.places none)
+
+-- a split that isn't by codes owes nothing of them
+pub not_by_code : (split : Split) → split.coded ≡ false → AreByCode split
+not_by_code split off = record {
+  within = λ on. absurd (false≢true (sym off ∙ on));
+  few = λ on. absurd (false≢true (sym off ∙ on));
+  rows = λ on. absurd (false≢true (sym off ∙ on));
 }
 
 -- the rows with a key's place are those with the key

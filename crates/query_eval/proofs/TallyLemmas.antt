@@ -1,11 +1,11 @@
 -- One value more, and what set functions are in the end.
-use Rattle.std.proofs.Common.{◌≡◌, ℕ, ◌+◌, ◌-◌, ◌*◌, ◌^◌, ◌≤◌, min, Bool, true, false, cond, List, [], ◌∷◌, ◌++◌, length, Option, Some, ℤ, pos, ◌+ℤ◌, ◌*ℤ◌, FitsSigned, sym, ap, subst, ◌∙◌, arith, append-nil, length-append}
+use Rattle.std.proofs.Common.{◌≡◌, ℕ, ◌+◌, ◌-◌, ◌*◌, ◌^◌, ◌≤◌, min, Bool, true, false, cond, List, [], ◌∷◌, ◌++◌, length, ℤ, pos, ◌+ℤ◌, ◌*ℤ◌, FitsSigned, sym, ap, subst, ◌∙◌, arith, append-nil, length-append}
 use Rattle.std.specs.Int.{w128}
 use Rattle.std.specs.Int.{from_bool}
 use Rattle.std.proofs.lemmas.Int.{ints}
 use Rattle.table_model.specs.Group.{IsWithin, state_row_limit}
-use Rattle.table_model.specs.Values.{total, lesser, greater, least, greatest}
-use Rattle.table_model.proofs.Appended.{total-append, least-append, greatest-append}
+use Rattle.table_model.specs.Values.{total}
+use Rattle.table_model.proofs.Appended.{total-append}
 use Rattle.table_model.proofs.Bounds.{AreSmall, total-small}
 use Rattle.query_eval.specs.Tally.{AreSums, AreTold}
 use Rattle.query_eval.specs.declared.tallies.tally.Sums.{Sums}
@@ -63,12 +63,6 @@ told_where s t z more by false one is count sum held values told few small =
       sum = sum (subst (FitsSigned w128) (sym same) held) ∙ same ∙ now.sum ∙ ap total (sym e);
     }
 
-pub least_more : (before after : Option ℤ) (z : ℤ) → after ≡ lesser before (Some z) → (values : List ℤ) → before ≡ least values → after ≡ least (values ++ z ∷ [])
-least_more before after z is values h = is ∙ ap (λ o. lesser o (Some z)) h ∙ sym (least-append values (z ∷ []))
-
-pub greatest_more : (before after : Option ℤ) (z : ℤ) → after ≡ greater before (Some z) → (values : List ℤ) → before ≡ greatest values → after ≡ greatest (values ++ z ∷ [])
-greatest_more before after z is values h = is ∙ ap (λ o. greater o (Some z)) h ∙ sym (greatest-append values (z ∷ []))
-
 -- ---- many values more
 small_front : (xs ys : List ℤ) → AreSmall (xs ++ ys) → AreSmall xs
 small_front [] ys h = tt
@@ -83,9 +77,3 @@ told_many s t added n z many all count sum values told few small =
       count = omega (arith, count, now.count, longer, few, many);
       sum = sum (subst (FitsSigned w128) whole_sum (total-fits (values ++ added) few small)) ∙ sym whole_sum;
     }
-
-pub least_many : (before after one : Option ℤ) (added : List ℤ) → one ≡ least added → after ≡ lesser before one → (values : List ℤ) → before ≡ least values → after ≡ least (values ++ added)
-least_many before after one added e is values h = is ∙ ap (λ o. lesser o one) h ∙ ap (lesser (least values)) e ∙ sym (least-append values added)
-
-pub greatest_many : (before after one : Option ℤ) (added : List ℤ) → one ≡ greatest added → after ≡ greater before one → (values : List ℤ) → before ≡ greatest values → after ≡ greatest (values ++ added)
-greatest_many before after one added e is values h = is ∙ ap (λ o. greater o one) h ∙ ap (greater (greatest values)) e ∙ sym (greatest-append values added)

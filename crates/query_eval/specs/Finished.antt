@@ -1,14 +1,16 @@
 -- Groups as HAVING and the select list see them: their keys, and the values of their set functions.
-use Rattle.std.specs.Prelude.{ℕ, ◌==◌, List, map, slice_index_or, None}
+use Rattle.std.specs.Prelude.{ℕ, ◌==◌, List, map, filter, slice_index_or, Option, None}
 use Rattle.std.specs.List.{position_or_len}
 use Rattle.table_model.specs.Answer.{whole}
-use Rattle.table_model.specs.Group.{Group, groups_of}
-use Rattle.table_model.specs.Meaning.{place_of, grouping_of}
+use Rattle.table_model.specs.Group.{Group, group_at, groups_of}
+use Rattle.table_model.specs.Formula.{Formula}
+use Rattle.table_model.specs.Meaning.{place_of, grouping_of, is_kept, rows_where}
 use Rattle.table_model.specs.Query.{QueryShape}
 use Rattle.table_model.specs.State.{Cells}
-use Rattle.table_model.specs.Table.{ColumnShape}
+use Rattle.table_model.specs.Table.{ColumnShape, Table}
 use Rattle.table_model.specs.declared.answer.Field.{Field}
 use Rattle.table_model.specs.declared.answer.Field.TheVariants.{Null, Whole}
+use Rattle.table_model.specs.declared.query.Item.{Item}
 use Rattle.table_model.specs.declared.query.ItemValue.{ItemValue}
 use Rattle.table_model.specs.declared.query.ItemValue.TheVariants.{Grouped, Computed}
 use Rattle.table_model.specs.declared.query.Operand.{Operand}
@@ -21,13 +23,21 @@ pub record GroupFields : Type 0 where
   pub key : Cells
   pub fields : List Field
 
+-- the fields of some aggregates over some rows
+abbrev pub fields_of : List Aggregate → List Cells → List Field
+fields_of aggregates rows = map (λ a. aggregate_value a rows) aggregates
+
 -- a group when it is finished
 abbrev pub finished_of : List Aggregate → Group → GroupFields
-finished_of aggregates group = record { key = group.key; fields = map (λ a. aggregate_value a group.rows) aggregates }
+finished_of aggregates group = record { key = group.key; fields = fields_of aggregates group.rows }
 
 -- the groups of some rows when they are finished, in ascending order of their keys
 unfoldable pub finished_groups : List Aggregate → List ℕ → List Cells → List GroupFields
 finished_groups aggregates by rows = map (finished_of aggregates) (groups_of by rows)
+
+-- the groups with some keys when they are finished
+abbrev pub finished_keys : List Aggregate → List ℕ → List Cells → List Cells → List GroupFields
+finished_keys aggregates by rows keys = map (λ key. finished_of aggregates (group_at by rows key)) keys
 
 -- what a finished group is asked by: the places of the grouping columns, and the aggregates that it has fields for
 pub record PlanShape : Type 0 where
@@ -53,6 +63,22 @@ abbrev pub seen_item : List ColumnShape → PlanShape → GroupFields → ItemVa
 seen_item columns plan group (Grouped column) = seen_cell plan group (place_of columns column.name)
 seen_item columns plan group (Computed f) = seen_aggregate plan group (aggregate_of columns f)
 
+-- a query's groups over some rows when they are finished
+abbrev pub finished_by : PlanShape → List Cells → List GroupFields
+finished_by plan rows = finished_groups plan.aggregates plan.grouping rows
+
+-- the select items at a finished group
+abbrev pub seen_items : List ColumnShape → PlanShape → List Item → GroupFields → List Field
+seen_items columns plan items group = map (λ item. seen_item columns plan group item.value) items
+
+-- the finished groups that HAVING keeps
+abbrev pub groups_kept : List ColumnShape → PlanShape → Option Formula → List GroupFields → List GroupFields
+groups_kept columns plan having groups = filter (λ group. is_kept having (seen_operand columns plan group)) groups
+
 -- what a query asks of its groups
 abbrev pub plan_of : List ColumnShape → QueryShape → PlanShape
 plan_of columns query = record { grouping = grouping_of columns query; aggregates = aggregates_of columns query }
+
+-- a query's groups over some rows, of which WHERE keeps those at which it is true, when they are finished
+abbrev pub groups_over : Table → QueryShape → List Cells → List GroupFields
+groups_over table query rows = finished_by (plan_of table.columns query) (rows_where table.columns query rows)

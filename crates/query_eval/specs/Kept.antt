@@ -67,6 +67,10 @@ names_at name first mask = present (rows_of (λ n. cond (has mask n) (Some (reco
 unfoldable pub rows_at : Vector → List Bool → List Cells
 rows_at v mask = present (rows_of (λ n. cond (has mask n) (Some (row_at v n)) None))
 
+-- the rows of a vector that aren't deleted and at which WHERE is true, in order
+abbrev pub vector_kept : Table → Option Formula → Vector → List Cells
+vector_kept table condition v = rows_at v (kept_mask table condition v)
+
 -- no more rows than a state may have, each a row of the table
 pub record AreFew (table : Table) (rows : List Cells) : Type 0 where
   pub fit : AreRows table.columns rows

@@ -17,3 +17,10 @@ pub mod Grouping
 pub mod Places
 pub mod Slices
 pub mod Taken
+pub mod Coded
+pub mod Packed
+pub mod CodeSums
+pub mod Keys
+pub mod Extreme
+pub mod Bits
+pub mod Forms

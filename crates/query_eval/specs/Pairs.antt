@@ -1,5 +1,5 @@
 -- Truth values of a vector's rows as pairs of masks.
-use Rattle.std.specs.Prelude.{ℕ, Bool, ◌&&◌, List}
+use Rattle.std.specs.Prelude.{ℕ, Bool, ◌&&◌, not, List}
 use Rattle.table_model.specs.Truth.{is_true, is_false}
 use Rattle.table_model.specs.declared.truth.Truth.{Truth}
 use Rattle.transpose_order.specs.Mask.{rows_of, has}
@@ -11,3 +11,7 @@ yes_of mask t = rows_of (λ n. has mask n && is_true (t n))
 -- the rows of a mask where a truth value is false
 unfoldable pub no_of : List Bool → (ℕ → Truth) → List Bool
 no_of mask t = rows_of (λ n. has mask n && is_false (t n))
+
+-- the rows of a mask that another hasn't
+abbrev pub rows_except : List Bool → List Bool → List Bool
+rows_except mask other = rows_of (λ n. has mask n && not (has other n))

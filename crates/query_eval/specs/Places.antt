@@ -1,5 +1,5 @@
 -- Places of groups by their keys, and of the rows of a vector by their groups.
-use Rattle.std.specs.Prelude.{◌≡◌, ℕ, ◌==◌, ◌<◌, ◌≤◌, Bool, true, cond, ◌&&◌, ◌||◌, List, [], ◌∷◌, map, length, slice_index_or, Some, None}
+use Rattle.std.specs.Prelude.{◌≡◌, ℕ, ◌==◌, ◌+◌, ◌<◌, ◌≤◌, Bool, true, cond, ◌&&◌, ◌||◌, List, [], ◌∷◌, map, length, slice_index_or, Some, None, ℤ, pos}
 use Rattle.std.specs.List.{list_any, range_with_len}
 use Rattle.std.specs.BTreeMap.{BTreeMap, get}
 use Rattle.std.specs.Option.{is_some}
@@ -7,6 +7,7 @@ use Rattle.table_model.specs.Group.{key_cmp, key_of}
 use Rattle.table_model.specs.State.{Cells, same_cells}
 use Rattle.table_model.specs.Values.{present}
 use Rattle.transpose_order.specs.Mask.{has}
+use Rattle.query_eval.specs.Bits.{AreBits}
 use Rattle.query_eval.specs.Vector.{Vector, row_at}
 use Rattle.query_eval.specs.declared.grouping.places.Places.{Places}
 use Rattle.query_eval.specs.declared.grouping.places.Recent.{Recent}
@@ -43,3 +44,15 @@ pub record ArePlaced (k : ℕ) (by : List ℕ) (v : Vector) (mask : List Bool) (
   pub grown : IsGrown old new
   pub placed : (n : ℕ) → n < k → has mask n ≡ true → get key_cmp new (key_of by (row_at v n)) ≡ Some (slice_index_or places n 0)
   pub occurs : (key : Cells) → is_some (get key_cmp new key) ≡ (is_some (get key_cmp old key) || list_any (same_cells key) (map (key_of by) (rows_below k v mask)))
+
+-- decoded values, but for the nulls, are the keys of a vector's rows
+abbrev pub AreKeyCells : List ℕ → Vector → List Bool → List ℤ → Type 0
+AreKeyCells by v nulls values = (n : ℕ) → n < 1024 → cond (has nulls n) None (Some (slice_index_or values n (pos 0))) ∷ [] ≡ key_of by (row_at v n)
+
+-- the rows of a mask have the places of their keys, which are decoded values but for the nulls
+abbrev pub PlacesCells : List Bool → List ℤ → List Bool → Places → Places → List ℕ → Type 0
+PlacesCells nulls values mask old new out = (by : List ℕ) (v : Vector) → AreKeyCells by v nulls values → IsIndex old → ArePlaced 1024 by v mask old.index new.index out
+
+-- the rows of a word of a mask have the places of their keys too, which are decoded values but for those of a word of nulls
+abbrev pub PlacesWord : List ℤ → ℕ → ℕ → ℕ → Places → Places → List ℕ → List ℕ → Type 0
+PlacesWord values word nulls first old new before after = (by : List ℕ) (v : Vector) (mask null_rows : List Bool) (start : BTreeMap Cells ℕ) → AreKeyCells by v null_rows values → AreBits 64 word mask first → AreBits 64 nulls null_rows first → IsIndex old → ArePlaced first by v mask start old.index before → ArePlaced (first + 64) by v mask start new.index after

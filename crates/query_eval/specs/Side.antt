@@ -4,15 +4,21 @@ use Rattle.table_model.specs.Answer.{whole}
 use Rattle.table_model.specs.State.{State}
 use Rattle.table_model.specs.Table.{Table}
 use Rattle.table_model.specs.declared.query.Operand.{Operand}
-use Rattle.query_eval.specs.Vector.{Vector, IsThere, vector_at, cell_at}
+use Rattle.query_eval.specs.Read.{Seen}
+use Rattle.query_eval.specs.Vector.{Vector, IsThere, vector_at, vector_of, cell_at}
 use Rattle.query_eval.specs.Where.{operand_at}
 use Rattle.query_eval.specs.declared.filter.side.Side.{Side}
+use Rattle.query_eval.specs.declared.vector_id.VectorId.{VectorId}
 use Rattle.query_eval.specs.declared.filter.side.Side.TheVariants.{Column, Fixed}
 
 -- a side's cell at a row of a vector
 abbrev pub side_at : Vector → Side → ℕ → Option ℤ
 side_at v (Column column) n = cell_at v column n
 side_at v (Fixed cell) n = cell
+
+-- the same of a vector by its place
+abbrev pub side_seen : Seen → VectorId → Side → ℕ → Option ℤ
+side_seen seen id side n = side_at (vector_of seen.state id) side n
 
 -- a side mentions a column, or none
 abbrev pub side_mentions : Side → ℕ

@@ -1,5 +1,5 @@
 -- Slices of a vector: rows with one key, and the place of its group.
-use Rattle.std.specs.Prelude.{◌≡◌, ℕ, zero, suc, ◌==◌, ◌+◌, ◌*◌, ◌^◌, ◌<◌, Bool, true, false, not, nat_lt, ◌&&◌, ◌||◌, cond, List, [], ◌∷◌, ◌++◌, length, map, slice_index_or, Option, Some, None, ℤ, pos, ◌+ℤ◌}
+use Rattle.std.specs.Prelude.{◌≡◌, ℕ, zero, suc, ◌==◌, ◌+◌, ◌*◌, ◌^◌, ◌<◌, Bool, true, false, not, nat_le, nat_lt, ◌&&◌, ◌||◌, cond, List, [], ◌∷◌, ◌++◌, length, map, slice_index_or, Option, Some, None, ℤ, pos, ◌+ℤ◌}
 use Rattle.std.specs.List.{list_any, range_with_len}
 use Rattle.std.specs.BTreeMap.{BTreeMap, get}
 use Rattle.std.specs.Option.{is_some}
@@ -12,6 +12,7 @@ use Rattle.query_eval.specs.Kept.{rows_at}
 use Rattle.query_eval.specs.Places.{IsGrown, rows_placed}
 use Rattle.query_eval.specs.Vector.{Vector, row_at}
 use Rattle.query_eval.specs.declared.grouping.split.Slice.{Slice}
+use Rattle.query_eval.specs.declared.grouping.split.Span.{Span}
 use Rattle.query_eval.specs.declared.grouping.split.Split.{Split}
 
 -- the values at the rows of a mask, in row order
@@ -75,10 +76,40 @@ pub record AreSliced (by : List ℕ) (v : Vector) (mask left : List Bool) (old n
   pub parted : AreParted by v new mask slices left
   pub occurs : (key : Cells) → (is_some (get key_cmp new key) || occurs_in by v key left) ≡ (is_some (get key_cmp old key) || occurs_in by v key mask)
 
--- the rows of a mask are split by their keys: those in slices, and those left, each with its key's place; and no other key comes
+-- the rows of a mask from a first one up to an end
+abbrev pub rows_between : List Bool → ℕ → ℕ → List Bool
+rows_between mask first end = rows_of (λ n. has mask n && (nat_le first n && nat_lt n end))
+
+-- a span as a slice: the rows of a mask that it covers
+abbrev pub span_slice : List Bool → Span → Slice
+span_slice mask span = record { place = span.place; rows = rows_between mask span.first span.end; code = 0 }
+
+-- spans as slices of a mask
+abbrev pub slices_of_spans : List Bool → List Span → List Slice
+slices_of_spans mask spans = map (span_slice mask) spans
+
+-- the slices of a split: its spans, and then those that have a mask of their own
+abbrev pub slices_of : Split → List Slice
+slices_of split = slices_of_spans split.kept split.spans.items ++ split.slices.items
+
+-- codes below this number are few enough to slice by
+abbrev pub code_limit : ℕ
+code_limit = 64
+
+-- a row is a slice's where it is one of a mask with the slice's code
+abbrev pub IsCoded : List Bool → List ℕ → ℕ → Slice → Type 0
+IsCoded mask codes n slice = has slice.rows n ≡ (has mask n && (slice_index_or codes n 0 == slice.code))
+
+-- where a split says that its slices are by codes, each has the kept rows with its code, and all codes are few
+pub record AreByCode (split : Split) : Type 0 where
+  pub within : split.coded ≡ true → (n : ℕ) → n < 1024 → slice_index_or split.codes n 0 < code_limit
+  pub few : split.coded ≡ true → (i : ℕ) (slice : Slice) → i < length split.slices.items → (slice_index_or split.slices.items i slice).code < code_limit
+  pub rows : split.coded ≡ true → (i n : ℕ) (slice : Slice) → i < length split.slices.items → n < 1024 → IsCoded split.kept split.codes n (slice_index_or split.slices.items i slice)
+
+-- the rows of a mask are split by their keys: those in spans and slices, and those left, each with its key's place; and no other key comes
 pub record IsSplit (by : List ℕ) (v : Vector) (mask : List Bool) (old new : BTreeMap Cells ℕ) (split : Split) : Type 0 where
   pub grown : IsGrown old new
-  pub parted : AreParted by v new mask split.slices.items split.left
+  pub parted : AreParted by v new mask (slices_of split) split.left
   pub placed : (n : ℕ) → n < 1024 → has split.left n ≡ true → get key_cmp new (key_of by (row_at v n)) ≡ Some (slice_index_or split.places n 0)
   pub occurs : (key : Cells) → is_some (get key_cmp new key) ≡ (is_some (get key_cmp old key) || occurs_in by v key mask)
 
@@ -87,6 +118,6 @@ abbrev pub rows_sliced : Vector → List Slice → ℕ → List Cells
 rows_sliced v [] place = []
 rows_sliced v (slice ∷ slices) place = cond (slice.place == place) (rows_at v slice.rows) [] ++ rows_sliced v slices place
 
--- the rows with a place: those of the slices with it, and then those left with it
+-- the rows with a place: those of the spans and slices with it, and then those left with it
 abbrev pub rows_shared : Vector → Split → ℕ → List Cells
-rows_shared v split place = rows_sliced v split.slices.items place ++ rows_placed 1024 v split.left split.places place
+rows_shared v split place = rows_sliced v (slices_of split) place ++ rows_placed 1024 v split.left split.places place

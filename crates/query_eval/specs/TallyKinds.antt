@@ -4,6 +4,7 @@ use Rattle.table_model.specs.declared.query.Fold.{Fold}
 use Rattle.table_model.specs.declared.query.Fold.TheVariants.{Count, Sum, Avg, Min, Max}
 use Rattle.query_eval.specs.declared.tallies.aggregate.Aggregate.{Aggregate}
 use Rattle.query_eval.specs.declared.tallies.aggregate.Aggregate.TheVariants.{Rows, Folded}
+use Rattle.query_eval.specs.declared.tallies.extreme.Extreme.TheVariants.{Least, Greatest}
 use Rattle.query_eval.specs.declared.tallies.tally.TallyKind.{TallyKind}
 use Rattle.query_eval.specs.declared.tallies.tally.TallyKind.TheVariants as kinds
 
@@ -13,8 +14,8 @@ fold_kind true fold = kinds.Distinct
 fold_kind false Count = kinds.Count
 fold_kind false Sum = kinds.Sum
 fold_kind false Avg = kinds.Sum
-fold_kind false Min = kinds.Least
-fold_kind false Max = kinds.Greatest
+fold_kind false Min = kinds.Extreme Least
+fold_kind false Max = kinds.Extreme Greatest
 
 -- what an aggregate keeps: COUNT(*) a number
 abbrev pub aggregate_kind : Aggregate → TallyKind

@@ -2,6 +2,7 @@
 #![tactic(auto)]
 
 mod answers;
+mod code_rows;
 mod columns;
 mod filter;
 mod grouping;
@@ -11,5 +12,5 @@ mod vector_id;
 pub use answers::{answer, text, write_answer};
 pub use columns::Columns;
 pub use filter::{Decoded, Pair, matching};
-pub use tallies::{greater, lesser};
+pub use tallies::Extreme;
 pub use vector_id::VectorId;

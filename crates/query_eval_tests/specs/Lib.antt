@@ -1,1 +1,2 @@
 pub mod PlainRows
+pub mod PlainCoding

@@ -2,7 +2,11 @@
 #![tactic(auto)]
 
 #[cfg(test)]
+mod group_tests;
+#[cfg(test)]
 mod matching_tests;
+#[cfg(test)]
+mod plain_coding;
 #[cfg(test)]
 mod plain_columns;
 #[cfg(test)]

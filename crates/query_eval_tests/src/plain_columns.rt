@@ -1,30 +1,34 @@
 //! One batch of plain rows, none of them deleted, as the columns of a query.
-ghost use Rattle.std.specs.Prelude.{◌≡◌, ◌<◌, ◌≤◌, ◌+◌, ◌*◌, ℕ, List, Bool, true, length, take, ℤ, pos, Some, slice_index_or, IfOk};
+ghost use Rattle.std.specs.Prelude.{◌≡◌, ◌<◌, ◌≤◌, ◌+◌, ◌*◌, ◌^◌, ◌+ℤ◌, ◌≤ℤ◌, ℕ, List, Bool, true, length, take, ℤ, pos, Some, slice_index_or, IfOk};
 ghost use Rattle.table_model.specs.Answer.{whole};
 ghost use Rattle.table_model.specs.Condition.{is_null};
 ghost use Rattle.table_model.specs.Group.{IsWithin, state_row_limit, sum_limit};
 ghost use Rattle.table_model.specs.Passes.{raised};
 ghost use Rattle.table_model.specs.Truth.{and_of, comparison};
-ghost use Rattle.table_model.specs.Values.{total, least, greatest};
+ghost use Rattle.table_model.specs.Values.{total};
 ghost use Rattle.table_model.specs.declared.op.Op.TheVariants.{GreaterOrEqual, LessOrEqual};
 ghost use Rattle.table_model.specs.declared.truth.Truth.{Truth as TruthValue};
 ghost use Rattle.transpose_order.specs.Mask.{rows_of, has};
 ghost use Rattle.query_eval.specs.Below.{IsPairBelow};
 ghost use Rattle.query_eval.specs.Decoded.{decoded_at};
+ghost use Rattle.query_eval_tests.specs.PlainCoding.{shown_at};
 ghost use Rattle.query_eval_tests.specs.PlainRows.{plain_vector};
 ghost use Rattle.query_eval.specs.Vector.{cell_at, is_live, looked_at};
 ghost use Rattle.query_eval.specs.Where.{IsNowhere, IsPair};
 
-use query_eval::{Columns, Decoded, Pair, VectorId, greater, lesser};
+use crate::plain_coding::{PlainCoding, run_starts, write_codes, write_keys, write_runs};
+use query_eval::{Columns, Decoded, Extreme, Pair, VectorId};
 use std::marker::Model;
 use table_model::{BatchName, Number, Op, Origin, Refusal, Rows, Schema, Truth, check_rows};
 use transpose_order::{Mask, VECTOR_ROWS};
 
-/// The rows of a table's batch 1.1, none of them deleted, and how many passes were made over the values of its vectors.
+/// The rows of a table's batch 1.1, none of them deleted, how they give the cells of a vector, and how many passes were made over the
+/// values of its vectors.
 #[derive(Drop)]
 pub struct PlainColumns {
     schema: Schema,
     rows: Rows,
+    coding: PlainCoding,
     passes: u128,
 }
 
@@ -64,28 +68,6 @@ fn sum_of(values: &[i64]) -> i128
         sum += i128::from(*value);
     }
     sum
-}
-
-/// The least of some values.
-fn least_of(values: &[i64]) -> Option<i64>
-    ensures { result ≡ least values.now }
-{
-    let mut least = None;
-    for value in values {
-        least = lesser(least, Some(*value));
-    }
-    least
-}
-
-/// The greatest of some values.
-fn greatest_of(values: &[i64]) -> Option<i64>
-    ensures { result ≡ greatest values.now }
-{
-    let mut greatest = None;
-    for value in values {
-        greatest = greater(greatest, Some(*value));
-    }
-    greatest
 }
 
 /// The comparison of two sides at the rows of a mask.
@@ -142,8 +124,16 @@ impl PlainColumns {
         Ok(PlainColumns {
             schema,
             rows,
+            coding: PlainCoding::Rows,
             passes: 0,
         })
+    }
+
+    /// The same columns, that give the cells of a vector by another coding.
+    pub fn code_by(&mut self, coding: PlainCoding)
+        ensures { self.new ≡ self.old }
+    {
+        self.coding = coding;
     }
 
     /// The cell of a column at a row of a vector as the rows have it, `None` past the last row.
@@ -203,14 +193,24 @@ impl PlainColumns {
         }
     }
 
+    /// A column's null rows, and its values.
+    fn cells(&self, column: usize, vector: usize) -> (Mask, [i64; 1024])
+        requires { 1024 * vector < length self.now.rows }
+        ensures long { length result.1 ≡ 1024 }
+        ensures cells { (n : ℕ) → n < 1024 → shown_at result.0 result.1 n ≡ cell_at (plain_vector self.now.rows vector) column n }
+    {
+        let nulls = self.nulls_at(column, vector);
+        let mut values = [0; 1024];
+        self.write_values(column, vector, &mut values);
+        (nulls, values)
+    }
+
     /// A column's cells.
     fn decoded(&self, column: usize, vector: usize) -> Decoded
         requires { 1024 * vector < length self.now.rows }
         ensures { (n : ℕ) → n < 1024 → decoded_at result n ≡ cell_at (plain_vector self.now.rows vector) column n }
     {
-        let nulls = self.nulls_at(column, vector);
-        let mut values = [0; 1024];
-        self.write_values(column, vector, &mut values);
+        let (nulls, values) = self.cells(column, vector);
         Decoded::Column { nulls, values }
     }
 
@@ -232,6 +232,23 @@ impl PlainColumns {
             }
         }
         (values, count)
+    }
+
+    /// The least value of a column in a vector, and how many numbers there are from it to the greatest: none where each row is null.
+    fn frame(&self, column: usize, vector: usize) -> (i64, i128)
+        requires { 1024 * vector < length self.now.rows }
+        ensures { (result.0 +ℤ result.1) ≤ℤ pos (2 ^ 63) }
+    {
+        let (values, count) = self.values_at(column, vector, &Mask::all());
+        match (
+            Extreme::Least.of(&values[..count]),
+            Extreme::Greatest.of(&values[..count]),
+        ) {
+            (Some(least), Some(greatest)) => {
+                (least, i128::from(greatest) - i128::from(least) + 1)
+            }
+            _ => (0, 0),
+        }
     }
 
     /// Counts some passes more.
@@ -348,18 +365,54 @@ impl Columns for PlainColumns {
     fn min(&mut self, id: VectorId, column: usize, mask: &Mask) -> Option<i64> {
         let (values, count) = self.values_at(column, id.vector, mask);
         self.count_passes(1);
-        least_of(&values[..count])
+        Extreme::Least.of(&values[..count])
     }
 
     fn max(&mut self, id: VectorId, column: usize, mask: &Mask) -> Option<i64> {
         let (values, count) = self.values_at(column, id.vector, mask);
         self.count_passes(1);
-        greatest_of(&values[..count])
+        Extreme::Greatest.of(&values[..count])
     }
 
     fn decode_into(&mut self, id: VectorId, column: usize, values: &mut [i64; 1024]) {
         self.write_values(column, id.vector, values);
         self.count_passes(1);
+    }
+
+    fn runs_into(&mut self, id: VectorId, column: usize, values: &mut [i64; 1024]) -> Option<Mask> {
+        if !matches!(self.coding, PlainCoding::Runs) {
+            return None;
+        }
+        let (nulls, cells) = self.cells(column, id.vector);
+        let starts = run_starts(&nulls, &cells);
+        write_runs(&starts, &nulls, &cells, values);
+        self.count_passes(1);
+        Some(starts)
+    }
+
+    fn codes_into(
+        &mut self,
+        id: VectorId,
+        column: usize,
+        most: usize,
+        codes: &mut [u16; 1024],
+        keys: &mut [i64; 1024],
+    ) -> Option<usize> {
+        if !matches!(self.coding, PlainCoding::Codes) {
+            return None;
+        }
+        let (nulls, values) = self.cells(column, id.vector);
+        let (first, numbers) = self.frame(column, id.vector);
+        if numbers < 0 || numbers > most.min(1024) as i128 {
+            return None;
+        }
+        let count = numbers as usize;
+        if !write_codes(&nulls, &values, first, count, codes) {
+            return None;
+        }
+        write_keys(first, count, keys);
+        self.count_passes(1);
+        Some(count)
     }
 
     fn passes(&self) -> u128 {

@@ -1,4 +1,5 @@
 //! Queries over plain rows: answers worked out by hand, and the passes that their mentions of columns allow.
+use crate::plain_coding::PlainCoding;
 use crate::plain_columns::PlainColumns;
 use query_eval::{Columns, answer, text};
 use query_parser::parse;
@@ -10,8 +11,11 @@ use test_support::agree_at;
 /// A row of table T: its cells in columns A and B.
 pub(crate) type Cells = [Option<i128>; 2];
 
+/// How columns may give their cells.
+const CODINGS: [PlainCoding; 3] = [PlainCoding::Rows, PlainCoding::Runs, PlainCoding::Codes];
+
 /// A query, the text of its answer, and the greatest number of passes that it may take.
-type Case = (&'static str, &'static str, u128);
+pub(crate) type Case = (&'static str, &'static str, u128);
 
 /// Rows with these cells.
 fn rows_of(alloc: Global, cells: &[Cells]) -> Result<Rows, AllocError> {
@@ -41,8 +45,25 @@ fn asked(alloc: Global, columns: &mut PlainColumns, sql: &str) -> Result<String,
     answered(alloc, columns, &query)
 }
 
-/// Each query has its answer, and takes at most so many passes.
-fn have_answers(alloc: Global, columns: &mut PlainColumns, cases: &[Case]) -> Result<(), Fail> {
+/// Each query has its answer, and takes at most so many passes, in whatever way the columns give their cells.
+pub(crate) fn have_answers(
+    alloc: Global,
+    columns: &mut PlainColumns,
+    cases: &[Case],
+) -> Result<(), Fail> {
+    for &coding in &CODINGS {
+        columns.code_by(coding);
+        have_answers_as_coded(alloc, columns, cases)?;
+    }
+    Ok(())
+}
+
+/// Each query has its answer, and takes at most so many passes, as the columns give their cells.
+fn have_answers_as_coded(
+    alloc: Global,
+    columns: &mut PlainColumns,
+    cases: &[Case],
+) -> Result<(), Fail> {
     for &(sql, wanted, most) in cases {
         let before = columns.passes();
         let written = asked(alloc, columns, sql)?;

@@ -1,7 +1,8 @@
 -- What a kernel looks at in a coded vector's lanes is what a query looks at in the column: the cells of the rows of the mask.
 use Rattle.std.proofs.Common.{◌≡◌, ℕ, ◌<◌, ◌≤◌, Bool, true, false, cond, ◌&&◌, not, nat_le, nat_lt, ℤ, pos, int_le, List, length, get_or, Option, Some, None, refl, sym, ◌∙◌, ap, arith}
 use Rattle.std.proofs.Math.Bool.{and-false}
-use Rattle.std.proofs.lemmas.Bool.Decides.{nat_tests}
+use Rattle.std.proofs.lemmas.Bool.{ne_eqb}
+use Rattle.std.proofs.lemmas.Bool.Decides.{Decides-eqb, nat_tests}
 use Rattle.std.proofs.lemmas.Option.{none-some}
 use Rattle.std.specs.Option.{unwrap_or}
 use Rattle.table_model.specs.Answer.{whole}
@@ -22,6 +23,8 @@ use Rattle.segment_core.proofs.CodedLemmas.{value_at-values_of}
 use Rattle.fused_kernels.specs.Seen.{looked_cell, values_looked_at, between}
 use Rattle.fused_kernels.specs.Seen as seen
 use Rattle.fused_kernels.specs.VectorSeen.{vector_seen}
+use Rattle.fused_kernels.specs.RowRuns.{AreRowCodes, AreRowRuns}
+use Rattle.query_eval.specs.Coded.{AreCodes, AreRuns, cell_of_code}
 use Rattle.query_eval.specs.Pairs.{yes_of, no_of}
 use Rattle.query_eval.specs.Vector.{Vector, cell_at, looked_at}
 use Rattle.query_eval.specs.Where.{IsNowhere}
@@ -166,16 +169,55 @@ value_of_cell : (k : Bool) (x z : ℤ) → cond k None (Some x) ≡ Some z → x
 value_of_cell true x z e = absurd (none-some z e)
 value_of_cell false x z e = ap (λ o. unwrap_or o z) e
 
--- a cell that isn't null has the value that its row decodes to
-pub decoded : (coded : VectorForm) (v : Vector) (column : ℕ) → HasCells coded v column → (n : ℕ) (z : ℤ) → n < 1024 → cell_at v column n ≡ Some z → get_or (values_of coded.coded) n (pos 0) ≡ z
-decoded coded v column h n z low e =
-    value_at-values_of coded.coded n low
-    ∙ elim (nat_lt n coded.rows) as (λ b. nat_lt n coded.rows ≡ b → value_in coded.coded n ≡ z) [
+-- a cell that isn't null has the value of its row
+value_is : (coded : VectorForm) (v : Vector) (column : ℕ) → HasCells coded v column → (n : ℕ) (z : ℤ) → n < 1024 → cell_at v column n ≡ Some z → value_in coded.coded n ≡ z
+value_is coded v column h n z low e =
+    elim (nat_lt n coded.rows) as (λ b. nat_lt n coded.rows ≡ b → value_in coded.coded n ≡ z) [
       | true ↦ λ t. value_of_cell (coded_vector.is_null coded.nulls n) (value_in coded.coded n) z (sym (h.cells n (grind (arith, nat_tests))) ∙ e)
       | false ↦ λ t.
           let past : length v.rows ≤ n = let c = h.covers in grind (arith, nat_tests) in
           absurd (none-some z (sym (cell_past v column n past) ∙ e))
     ] refl
+
+pub decoded : (coded : VectorForm) (v : Vector) (column : ℕ) → HasCells coded v column → (n : ℕ) (z : ℤ) → n < 1024 → cell_at v column n ≡ Some z → get_or (values_of coded.coded) n (pos 0) ≡ z
+decoded coded v column h n z low e = value_at-values_of coded.coded n low ∙ value_is coded v column h n z low e
+
+-- ---- runs and codes
+pub view_runs : (coded : VectorForm) (v : Vector) (column : ℕ) (starts : List Bool) (values : List ℤ) → HasCells coded v column → AreRowRuns coded starts values → AreRuns v column starts values
+view_runs coded v column starts values h r = record {
+  within = r.within;
+  value = λ n z low e. r.value n low ∙ value_is coded v column h n z low e;
+}
+
+-- codes of the rows that a vector covers, and the count at those past them
+pub view_codes : (coded : VectorForm) (v : Vector) (column count : ℕ) (before codes : List ℕ) (keys : List ℤ) → HasCells coded v column → AreRowCodes coded count before keys
+    → ((n : ℕ) → n < 1024 → get_or codes n 0 ≡ cond (nat_lt n coded.rows) (get_or before n 0) count) → AreCodes v column count codes keys
+view_codes coded v column count before codes keys h are put = record {
+  few = are.few;
+  within = λ n low. (at n low (nat_lt n coded.rows) refl (coded_vector.is_null coded.nulls n) refl).0;
+  cell = λ n low. (at n low (nat_lt n coded.rows) refl (coded_vector.is_null coded.nulls n) refl).1;
+  rises = are.rises;
+}
+  where
+    none_at : (code : ℕ) → code ≡ count → cell_of_code count keys code ≡ None
+    none_at code e = ap (λ b. cond b None (Some (get_or keys code (pos 0)))) ((Decides-eqb code count).1 e)
+
+    some_at : (code : ℕ) → code < count → cell_of_code count keys code ≡ Some (get_or keys code (pos 0))
+    some_at code l = ap (λ b. cond b None (Some (get_or keys code (pos 0)))) (ne_eqb code count (λ e. omega (arith, l, e)))
+
+    at : (n : ℕ) → n < 1024 → (b : Bool) → nat_lt n coded.rows ≡ b → (k : Bool) → coded_vector.is_null coded.nulls n ≡ k → (get_or codes n 0 ≤ count) × (cell_of_code count keys (get_or codes n 0) ≡ cell_at v column n)
+    at n low false t k e =
+        let past : length v.rows ≤ n = let c = h.covers in grind (arith, nat_tests) in
+        let is : get_or codes n 0 ≡ count = put n low ∙ ap (λ b. cond b (get_or before n 0) count) t in
+        (omega (arith, is), none_at (get_or codes n 0) is ∙ sym (cell_past v column n past))
+    at n low true t true e =
+        let is : get_or codes n 0 ≡ count = put n low ∙ ap (λ b. cond b (get_or before n 0) count) t ∙ are.nulls n low e in
+        (omega (arith, is), none_at (get_or codes n 0) is ∙ sym (h.cells n (grind (arith, nat_tests)) ∙ ap (λ b. cond b None (Some (value_in coded.coded n))) e))
+    at n low true t false e =
+        let is : get_or codes n 0 ≡ get_or before n 0 = put n low ∙ ap (λ b. cond b (get_or before n 0) count) t in
+        let below = are.within n low e in
+        let inside : get_or codes n 0 < count = omega (arith, is, below) in
+        (omega (arith, inside), some_at (get_or codes n 0) inside ∙ ap Some (ap (λ c. get_or keys c (pos 0)) is ∙ are.key n low e) ∙ sym (h.cells n (grind (arith, nat_tests)) ∙ ap (λ b. cond b None (Some (value_in coded.coded n))) e))
 
 -- ---- null rows
 null_cell : (k : Bool) (x : ℤ) → is_null (whole (cond k None (Some x))) ≡ k

@@ -1,5 +1,5 @@
 //! The view of a store that queries are answered by.
-ghost use Rattle.std.specs.Prelude.{◌≡◌, ◌<◌, ◌&&◌, if◌then◌else◌, nat_le, nat_lt, true, length, ℤ, Some, slice_index_or, pos};
+ghost use Rattle.std.specs.Prelude.{◌≡◌, ◌<◌, ◌≤◌, ◌&&◌, ℕ, if◌then◌else◌, nat_le, nat_lt, true, length, ℤ, Some, slice_index_or, pos};
 ghost use Rattle.segment_core.specs.CodedVector.{is_null};
 ghost use Rattle.transpose_order.specs.Mask.{rows_of, has};
 ghost use Rattle.table_model.specs.Truth.{comparison, and_of};
@@ -12,8 +12,9 @@ ghost use Rattle.query_eval.specs.Vector.{IsThere, vector_of, cell_at, looked_at
 ghost use Rattle.store_view.specs.View.{HasCells};
 
 use fused_kernels::{
-    Meter, compare_vector, compare_vector_range, compare_vectors, count, decode_vector, vector_max,
-    vector_may_have, vector_min, vector_sum,
+    Extremum, Meter, compare_vector, compare_vector_range, compare_vectors, count, decode_vector,
+    vector_codes_into, vector_extreme, vector_has_few_codes, vector_may_have, vector_runs_into,
+    vector_sum,
 };
 use query_eval::{Columns, VectorId};
 use replica_store::Store;
@@ -78,6 +79,16 @@ fn missing_rows(vector: &CodedVector) -> Mask
     let mut missing = nulls;
     missing.set_range(covered, VECTOR_ROWS, true);
     missing
+}
+
+/// Writes a code at the rows past those that a vector covers.
+fn put_past(codes: &mut [u16; 1024], covered: usize, code: u16)
+    requires { covered ≤ 1024 }
+    ensures { (n : ℕ) → n < 1024 → slice_index_or codes.new n 0 ≡ if nat_lt n covered then slice_index_or codes.old n 0 else code }
+{
+    for row in covered..1024 {
+        codes[row] = code;
+    }
 }
 
 /// Whether a vector's values are coded by runs. Their values are those of rows, so that counted calls alone look at them.
@@ -173,17 +184,40 @@ impl<'a> Columns for StoreView<'a> {
 
     fn min(&mut self, id: VectorId, column: usize, mask: &Mask) -> Option<i64> {
         let found = vector_in(self.store, id, column);
-        vector_min(found, mask, &mut self.meter)
+        vector_extreme(Extremum::Least, found, mask, &mut self.meter)
     }
 
     fn max(&mut self, id: VectorId, column: usize, mask: &Mask) -> Option<i64> {
         let found = vector_in(self.store, id, column);
-        vector_max(found, mask, &mut self.meter)
+        vector_extreme(Extremum::Greatest, found, mask, &mut self.meter)
     }
 
     fn decode_into(&mut self, id: VectorId, column: usize, values: &mut [i64; 1024]) {
         let found = vector_in(self.store, id, column);
         decode_vector(found, values, &mut self.meter);
+    }
+
+    fn runs_into(&mut self, id: VectorId, column: usize, values: &mut [i64; 1024]) -> Option<Mask> {
+        let found = vector_in(self.store, id, column);
+        let starts = vector_runs_into(found, values, &mut self.meter)?;
+        Some(starts)
+    }
+
+    fn codes_into(
+        &mut self,
+        id: VectorId,
+        column: usize,
+        most: usize,
+        codes: &mut [u16; 1024],
+        keys: &mut [i64; 1024],
+    ) -> Option<usize> {
+        let found = vector_in(self.store, id, column);
+        if !vector_has_few_codes(found, most) {
+            return None;
+        }
+        let count = vector_codes_into(found, codes, keys, &mut self.meter)?;
+        put_past(codes, found.rows(), count as u16);
+        Some(count)
     }
 
     fn passes(&self) -> u128 {

@@ -6,10 +6,10 @@ use std::test::Fail;
 use table_model::{ColType, Refusal};
 
 /// The cells of a column of 64 bits.
-type Cells = [Option<i128>; 1024];
+pub(crate) type Cells = [Option<i128>; 1024];
 
 /// A store whose one batch has these cells in its one column.
-fn store_of_cells(alloc: Global, cells: &[Option<i128>]) -> Result<Store, Refusal> {
+pub(crate) fn store_of_cells(alloc: Global, cells: &[Option<i128>]) -> Result<Store, Refusal> {
     let mut rows = Vec::new(alloc);
     for cell in cells {
         rows.push(row_of(alloc, &[*cell])?)?;
@@ -18,7 +18,7 @@ fn store_of_cells(alloc: Global, cells: &[Option<i128>]) -> Result<Store, Refusa
 }
 
 /// Each number below `end` as often as the others, none beside itself.
-fn spread_below(end: usize) -> Cells {
+pub(crate) fn spread_below(end: usize) -> Cells {
     let mut cells = [None; 1024];
     for n in 0..1024 {
         cells[n] = Some((n * 37).checked_rem(end).unwrap_or(0) as i128);
@@ -97,7 +97,7 @@ fn frames_of_eight_and_nine_bits(rt: HostRuntime) -> Result<(), Fail> {
 }
 
 /// Three values far from one another, and nulls.
-fn far_apart() -> Cells {
+pub(crate) fn far_apart() -> Cells {
     let mut cells = [None; 1024];
     for n in 0..1024 {
         cells[n] = match n * 37 % 4 {
@@ -138,7 +138,7 @@ fn a_dictionary(rt: HostRuntime) -> Result<(), Fail> {
 }
 
 /// Two runs.
-fn two_runs() -> Cells {
+pub(crate) fn two_runs() -> Cells {
     let mut cells = [Some(3); 1024];
     for n in 500..1024 {
         cells[n] = Some(900);

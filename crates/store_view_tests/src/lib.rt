@@ -5,6 +5,8 @@
 #[cfg(test)]
 mod bounds_tests;
 #[cfg(test)]
+mod group_tests;
+#[cfg(test)]
 mod matching_tests;
 #[cfg(test)]
 mod passes_tests;

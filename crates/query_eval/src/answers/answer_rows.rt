@@ -1,9 +1,8 @@
 //! Answers from finished groups.
-ghost use Rattle.std.specs.Prelude.{◌≡◌, List, IfOk, map, filter};
-ghost use Rattle.table_model.specs.Meaning.{answer_over, grouping_of, is_kept, rows_where};
+ghost use Rattle.std.specs.Prelude.{◌≡◌, List, IfOk, map};
+ghost use Rattle.table_model.specs.Meaning.{answer_over, rows_where};
 ghost use Rattle.table_model.specs.State.{Cells};
-ghost use Rattle.query_eval.specs.Aggregate.{aggregates_of};
-ghost use Rattle.query_eval.specs.Finished.{finished_groups, plan_of, seen_item, seen_operand};
+ghost use Rattle.query_eval.specs.Finished.{groups_kept, groups_over, plan_of, seen_items};
 
 use crate::answers::finished_group::FinishedGroup;
 use crate::answers::having::{is_kept, item_at};
@@ -20,7 +19,7 @@ fn row_of(
     group: &FinishedGroup,
     items: &[Item],
 ) -> Result<AnswerRow, AllocError>
-    ensures { IfOk result (λ row. row ≡ map (λ item. seen_item schema.now.columns plan.now group.now item.value) items.now) }
+    ensures { IfOk result (λ row. row ≡ seen_items schema.now.columns plan.now items.now group.now) }
 {
     let mut fields = Vec::new(alloc);
     for item in items {
@@ -38,7 +37,7 @@ fn kept_rows(
     items: &[Item],
     having: &Option<Condition>,
 ) -> Result<Vec<AnswerRow>, AllocError>
-    ensures { IfOk result (λ rows. rows.items ≡ map (λ group. map (λ item. seen_item schema.now.columns plan.now group item.value) items.now) (filter (λ group. is_kept having.now (seen_operand schema.now.columns plan.now group)) groups.now)) }
+    ensures { IfOk result (λ rows. rows.items ≡ map (seen_items schema.now.columns plan.now items.now) (groups_kept schema.now.columns plan.now having.now groups.now)) }
 {
     let mut rows = Vec::new(alloc);
     for group in groups {
@@ -58,7 +57,7 @@ pub fn finish(
     groups: &[FinishedGroup],
 ) -> Result<Answer, AllocError>
     requires { plan.now ≡ plan_of schema.now.columns query.now }
-    ensures { IfOk result (λ answer. (rows : List Cells) → groups.now ≡ finished_groups (aggregates_of schema.now.columns query.now) (grouping_of schema.now.columns query.now) (rows_where schema.now.columns query.now rows) → answer ≡ answer_over schema.now query.now rows) }
+    ensures { IfOk result (λ answer. (rows : List Cells) → groups.now ≡ groups_over schema.now query.now rows → answer ≡ answer_over schema.now query.now rows) }
 {
     let texts = heading(alloc, query.items.as_slice())?;
     let rows = kept_rows(

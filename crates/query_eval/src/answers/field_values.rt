@@ -3,9 +3,9 @@ ghost use Rattle.std.specs.Prelude.{◌≡◌, ◌≤◌, ◌*◌, ◌^◌, List
 ghost use Rattle.table_model.specs.Answer.{whole, millionths};
 ghost use Rattle.table_model.specs.Group.{IsWithin, state_row_limit, sum_limit};
 ghost use Rattle.table_model.specs.Meaning.{fold_value};
-ghost use Rattle.table_model.specs.Values.{total, total_or_null, mean, least, greatest};
+ghost use Rattle.table_model.specs.Values.{total, total_or_null, mean};
 
-use crate::tallies::{greater, lesser};
+use crate::tallies::Extreme;
 use table_model::{Field, Fold};
 
 /// A whole number, or null.
@@ -55,28 +55,6 @@ pub(crate) fn sum_of(values: &[i64]) -> i128
     sum
 }
 
-/// The least of some values.
-pub(crate) fn least_of(values: &[i64]) -> Option<i64>
-    ensures { result ≡ least values.now }
-{
-    let mut least = None;
-    for value in values {
-        least = lesser(least, Some(*value));
-    }
-    least
-}
-
-/// The greatest of some values.
-pub(crate) fn greatest_of(values: &[i64]) -> Option<i64>
-    ensures { result ≡ greatest values.now }
-{
-    let mut greatest = None;
-    for value in values {
-        greatest = greater(greatest, Some(*value));
-    }
-    greatest
-}
-
 /// A set function of some values.
 pub fn values_field(fold: Fold, values: &[i64]) -> Field
     requires { length values.now ≤ state_row_limit }
@@ -86,7 +64,7 @@ pub fn values_field(fold: Fold, values: &[i64]) -> Field
         Fold::Count => Field::Whole(values.len() as i128),
         Fold::Sum => sum_field(values.len() as u128, sum_of(values)),
         Fold::Avg => mean_field(values.len() as u128, sum_of(values)),
-        Fold::Min => whole_field(least_of(values)),
-        Fold::Max => whole_field(greatest_of(values)),
+        Fold::Min => whole_field(Extreme::Least.of(values)),
+        Fold::Max => whole_field(Extreme::Greatest.of(values)),
     }
 }

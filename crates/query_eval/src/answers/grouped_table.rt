@@ -4,13 +4,14 @@ ghost use Rattle.std.specs.Global.{Vec as Items};
 ghost use Rattle.std.specs.Option.{IfSome};
 ghost use Rattle.query_eval.specs.declared.tallies.tally.Tally.{Tally as ATally};
 ghost use Rattle.std.specs.BTreeMap.{IsOrdered, keys};
-ghost use Rattle.table_model.specs.Group.{group_at, key_cmp};
+ghost use Rattle.table_model.specs.Group.{key_cmp};
 ghost use Rattle.table_model.specs.State.{Cells};
 ghost use Rattle.table_model.specs.Table.{Table};
 ghost use Rattle.query_eval.specs.Aggregate.{aggregate_value};
-ghost use Rattle.query_eval.specs.Finished.{finished_groups, finished_of};
-ghost use Rattle.query_eval.specs.Grouping.{AreGroups, AreHeld, IsHeld};
+ghost use Rattle.query_eval.specs.Finished.{fields_of};
+ghost use Rattle.query_eval.specs.Grouping.{AreHeld, IsHeld};
 ghost use Rattle.query_eval.specs.Kept.{AreFew};
+ghost use Rattle.query_eval.specs.Taken.{AreAllFinished, AreFinished};
 
 use crate::answers::finished_group::FinishedGroup;
 use crate::grouping::{Groups, Key};
@@ -51,7 +52,7 @@ fn values_of(
     tallies: &[Vec<Tally>],
     place: usize,
 ) -> Result<Vec<Field>, AllocError>
-    ensures { IfOk result (λ fields. (table : Table) (rows : List Cells) → AreFew table rows → AreHeld rows aggregates.now tallies.now place → fields.items ≡ map (λ a. aggregate_value a rows) aggregates.now) }
+    ensures { IfOk result (λ fields. (table : Table) (rows : List Cells) → AreFew table rows → AreHeld rows aggregates.now tallies.now place → fields.items ≡ fields_of aggregates.now rows) }
 {
     let mut fields = Vec::new(alloc);
     for i in 0..aggregates.len() {
@@ -72,7 +73,7 @@ fn in_order(
     tallies: &[Vec<Tally>],
 ) -> Result<Vec<FinishedGroup>, AllocError>
     ensures ordered { IsOrdered key_cmp index.old }
-    ensures value { IfOk result (λ finished. (table : Table) (by : List ℕ) (rows : List Cells) → AreFew table rows → AreGroups by aggregates.now rows index.old tallies.now → finished.items ≡ map (λ key. finished_of aggregates.now (group_at by rows key)) (keys index.old)) }
+    ensures value { IfOk result (λ finished. AreFinished aggregates.now index.old tallies.now finished.items) }
 {
     let mut finished = Vec::new(alloc);
     for _ in 0..index.len() {
@@ -93,7 +94,7 @@ pub fn grouped_table(
     plan: &Plan,
     groups: Groups,
 ) -> Result<Vec<FinishedGroup>, AllocError>
-    ensures { IfOk result (λ finished. (table : Table) (rows : List Cells) → 1 ≤ length plan.now.grouping → AreFew table rows → AreGroups plan.now.grouping plan.now.aggregates rows groups.places.index groups.tallies.items → finished.items ≡ finished_groups plan.now.aggregates plan.now.grouping rows) }
+    ensures { IfOk result (λ finished. AreAllFinished plan.now groups finished.items) }
 {
     let mut index = groups.places.into_index();
     let finished = in_order(

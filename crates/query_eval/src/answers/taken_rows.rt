@@ -1,12 +1,12 @@
 //! What a query asks of its rows, taken in vector by vector: no list of the rows that are kept is made.
-ghost use Rattle.std.specs.Prelude.{◌≡◌, ◌<◌, ◌≤◌, ◌+◌, ◌*◌, ◌++◌, [], List, cond, IfOk, OnOk};
+ghost use Rattle.std.specs.Prelude.{◌≡◌, ◌<◌, ◌≤◌, ◌+◌, ◌*◌, [], List, cond, IfOk, OnOk};
 ghost use Rattle.table_model.specs.State.{Cells};
 ghost use Rattle.table_model.specs.Table.{Table};
 ghost use Rattle.query_eval.specs.Read.{IsSame};
-ghost use Rattle.query_eval.specs.Finished.{finished_groups};
+ghost use Rattle.query_eval.specs.Finished.{finished_by};
 ghost use Rattle.query_eval.specs.Grouping.{plan_mentions};
-ghost use Rattle.query_eval.specs.Kept.{where_mentions, kept_mask, has_live, live_vectors_in, live_vectors, rows_alive, batch_alive, rows_kept, rows_at, AreFew};
-ghost use Rattle.query_eval.specs.Taken.{AreTaken};
+ghost use Rattle.query_eval.specs.Kept.{has_live, live_vectors_in, live_vectors, rows_alive, batch_alive, rows_kept, rows_at, vector_kept, AreFew};
+ghost use Rattle.query_eval.specs.Taken.{AreTaken, TakesIn, all_mentions};
 ghost use Rattle.query_eval.specs.Vector.{IsThere, batch_count, vector_of};
 
 use crate::answers::finished_group::FinishedGroup;
@@ -50,7 +50,7 @@ impl Taken {
         room: &mut Room,
     ) -> Result<(), AllocError>
         requires { IsThere (C.seen columns.old).state kept.now.id.batch kept.now.id.vector }
-        ensures taken { OnOk result ((rows : List Cells) → AreTaken plan.now rows self.old → AreTaken plan.now (rows ++ rows_at (vector_of (C.seen columns.old).state kept.now.id) kept.now.rows) self.new) }
+        ensures taken { OnOk result (TakesIn plan.now (rows_at (vector_of (C.seen columns.old).state kept.now.id) kept.now.rows) self.old self.new) }
         ensures same { IsSame (C.seen columns.old) (C.seen columns.new) }
         ensures passes { OnOk result ((C.seen columns.new).passes ≤ (C.seen columns.old).passes + plan_mentions plan.now) }
     {
@@ -65,7 +65,7 @@ impl Taken {
 
     /// The groups of the rows that were taken in, when they are finished: one of all rows without GROUP BY.
     pub fn finish(self, alloc: Global, plan: &Plan) -> Result<Vec<FinishedGroup>, AllocError>
-        ensures { IfOk result (λ groups. (table : Table) (rows : List Cells) → AreFew table rows → AreTaken plan.now rows self → groups.items ≡ finished_groups plan.now.aggregates plan.now.grouping rows) }
+        ensures { IfOk result (λ groups. (table : Table) (rows : List Cells) → AreFew table rows → AreTaken plan.now rows self → groups.items ≡ finished_by plan.now rows) }
     {
         match self {
             Taken::Whole(tallies) => whole_group(alloc, plan.aggregates(), tallies.as_slice()),
@@ -86,9 +86,9 @@ fn take_vector<C: Columns>(
     room: &mut Room,
 ) -> Result<(), AllocError>
     requires { IsThere (C.seen columns.old).state id.batch id.vector }
-    ensures taken { OnOk result ((rows : List Cells) → AreTaken plan.now rows taken.old → AreTaken plan.now (rows ++ rows_at (vector_of (C.seen columns.old).state id) (kept_mask (C.seen columns.old).table condition.now (vector_of (C.seen columns.old).state id))) taken.new) }
+    ensures taken { OnOk result (TakesIn plan.now (vector_kept (C.seen columns.old).table condition.now (vector_of (C.seen columns.old).state id)) taken.old taken.new) }
     ensures same { IsSame (C.seen columns.old) (C.seen columns.new) }
-    ensures passes { OnOk result ((C.seen columns.new).passes ≤ (C.seen columns.old).passes + cond (has_live (vector_of (C.seen columns.old).state id)) (where_mentions condition.now + plan_mentions plan.now) 0) }
+    ensures passes { OnOk result ((C.seen columns.new).passes ≤ (C.seen columns.old).passes + cond (has_live (vector_of (C.seen columns.old).state id)) (all_mentions condition.now plan.now) 0) }
 {
     let rows = kept_mask(columns, id, condition);
     if !has_rows(&rows) {
@@ -110,9 +110,9 @@ fn take_batch<C: Columns>(
     room: &mut Room,
 ) -> Result<(), AllocError>
     requires { batch < batch_count (C.seen columns.old).state }
-    ensures taken { OnOk result ((rows : List Cells) → AreTaken plan.now rows taken.old → AreTaken plan.now (rows ++ rows_kept (C.seen columns.old).table condition.now (batch_alive (C.seen columns.old).state batch)) taken.new) }
+    ensures taken { OnOk result (TakesIn plan.now (rows_kept (C.seen columns.old).table condition.now (batch_alive (C.seen columns.old).state batch)) taken.old taken.new) }
     ensures same { IsSame (C.seen columns.old) (C.seen columns.new) }
-    ensures passes { OnOk result ((C.seen columns.new).passes ≤ (C.seen columns.old).passes + (where_mentions condition.now + plan_mentions plan.now) * live_vectors_in (C.seen columns.old).state batch) }
+    ensures passes { OnOk result ((C.seen columns.new).passes ≤ (C.seen columns.old).passes + all_mentions condition.now plan.now * live_vectors_in (C.seen columns.old).state batch) }
 {
     for vector in 0..columns.vectors(batch) {
         take_vector(
@@ -139,7 +139,7 @@ pub fn take_rows<C: Columns>(
     ensures taken { IfOk result (λ taken. AreTaken plan.now (rows_kept (C.seen columns.old).table condition.now (rows_alive (C.seen columns.old).state)) taken) }
     ensures few { IfOk result (λ _. AreFew (C.seen columns.old).table (rows_kept (C.seen columns.old).table condition.now (rows_alive (C.seen columns.old).state))) }
     ensures same { IsSame (C.seen columns.old) (C.seen columns.new) }
-    ensures passes { IfOk result (λ _. (C.seen columns.new).passes ≤ (C.seen columns.old).passes + (where_mentions condition.now + plan_mentions plan.now) * live_vectors (C.seen columns.old).state) }
+    ensures passes { IfOk result (λ _. (C.seen columns.new).passes ≤ (C.seen columns.old).passes + all_mentions condition.now plan.now * live_vectors (C.seen columns.old).state) }
 {
     let mut taken = Taken::none(alloc, plan)?;
     let mut room = Room::new(alloc);

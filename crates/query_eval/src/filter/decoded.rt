@@ -1,7 +1,5 @@
-//! Decoded columns: their rows one by one, for the predicates that no kernel answers, and the rows with one cell.
-ghost use Rattle.std.specs.Prelude.{◌≡◌, ◌<◌, ◌≤◌, ◌+◌, ℕ, false};
-ghost use Rattle.table_model.specs.State.{same_cell};
-ghost use Rattle.transpose_order.specs.Mask.{has};
+//! Decoded columns: their rows one by one, for the predicates that no kernel answers.
+ghost use Rattle.std.specs.Prelude.{◌≡◌, ◌<◌, ℕ};
 ghost use Rattle.query_eval.specs.Read.{IsRead};
 ghost use Rattle.query_eval.specs.Decoded.{decoded_at};
 ghost use Rattle.query_eval.specs.Side.{side_at, side_mentions, HasColumn};
@@ -9,7 +7,6 @@ ghost use Rattle.query_eval.specs.Vector.{IsThere, vector_of};
 
 use crate::columns::Columns;
 use crate::filter::side::Side;
-use crate::tallies::{changed_rows, equal_rows};
 use crate::vector_id::VectorId;
 use transpose_order::Mask;
 
@@ -35,40 +32,6 @@ impl Decoded {
                 }
             }
             Decoded::Fixed(cell) => *cell,
-        }
-    }
-
-    /// The rows with the same cell as a row: null is the same as null.
-    pub fn rows_like(&self, row: usize) -> Mask
-        requires { row < 1024 }
-        ensures { (n : ℕ) → n < 1024 → has result n ≡ same_cell (decoded_at self.now row) (decoded_at self.now n) }
-    {
-        match self {
-            Decoded::Column { nulls, values } => {
-                let null = nulls.get(row);
-                if null {
-                    *nulls
-                } else {
-                    equal_rows(values, values[row]).and_not(nulls)
-                }
-            }
-            Decoded::Fixed(_) => Mask::all(),
-        }
-    }
-
-    /// The rows where the cell may differ from that of the row before: in a column without nulls, where the value differs.
-    pub fn changes(&self) -> Mask
-        ensures { (n : ℕ) → n + 1 < 1024 → has result (n + 1) ≡ false → decoded_at self.now (n + 1) ≡ decoded_at self.now n }
-    {
-        match self {
-            Decoded::Column { nulls, values } => {
-                if nulls.next_true(0) == 1024 {
-                    changed_rows(values)
-                } else {
-                    Mask::all()
-                }
-            }
-            Decoded::Fixed(_) => Mask::none(),
         }
     }
 }

@@ -1,11 +1,12 @@
 //! Truth values of a vector's rows, as pairs of masks.
-ghost use Rattle.std.specs.Prelude.{◌≡◌, ◌&&◌, ◌<◌, ◌+◌, not, ℕ, List, Bool, true};
+ghost use Rattle.std.specs.Prelude.{◌≡◌, ◌&&◌, ◌<◌, ◌+◌, ℕ, List, Bool, true};
 ghost use Rattle.table_model.specs.Condition.{asked, not_if};
 ghost use Rattle.table_model.specs.Truth.{and_of, or_of, not_of, same_truth};
 ghost use Rattle.table_model.specs.declared.truth.Truth.{Truth as TruthValue};
 ghost use Rattle.transpose_order.specs.Mask.{rows_of, has};
 ghost use Rattle.query_eval.specs.Below.{IsPairBelow};
-ghost use Rattle.query_eval.specs.Where.{IsPair};
+ghost use Rattle.query_eval.specs.Pairs.{rows_except};
+ghost use Rattle.query_eval.specs.Where.{IsPair, both};
 
 use table_model::{IsTruth, Truth};
 use transpose_order::Mask;
@@ -40,7 +41,7 @@ impl Pair {
 
     /// AND, row by row. The other condition needs no look at the rows at which this one is false.
     pub fn and(&self, other: &Pair) -> Pair
-        ensures rest { (mask rest : List Bool) (s t : ℕ → TruthValue) → IsPair mask s self.now → rest ≡ rows_of (λ n. has mask n && not (has self.now.no n)) → IsPair rest t other.now → IsPair mask (λ n. and_of (s n) (t n)) result }
+        ensures rest { (mask rest : List Bool) (s t : ℕ → TruthValue) → IsPair mask s self.now → rest ≡ rows_except mask self.now.no → IsPair rest t other.now → IsPair mask (both s t) result }
         ensures alike { (mask : List Bool) (s t : ℕ → TruthValue) → IsPair mask s self.now → IsPair mask t other.now → IsPair mask (λ n. and_of (s n) (t n)) result }
     {
         Pair {

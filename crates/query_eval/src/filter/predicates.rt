@@ -2,16 +2,15 @@
 ghost use Rattle.std.specs.Prelude.{◌≡◌, ◌<◌, ◌≤◌, ◌+◌, length, Some};
 ghost use Rattle.table_model.specs.Answer.{whole};
 ghost use Rattle.table_model.specs.Condition.{between, is_among};
-ghost use Rattle.table_model.specs.Truth.{and_of, comparison};
-ghost use Rattle.table_model.specs.declared.op.Op.TheVariants.{GreaterOrEqual, LessOrEqual};
 ghost use Rattle.query_eval.specs.Read.{IsRead};
 ghost use Rattle.query_eval.specs.Mentions.{operand_mentions};
 ghost use Rattle.query_eval.specs.Pairs.{yes_of};
-ghost use Rattle.query_eval.specs.Side.{side_at, side_mentions, HasColumn};
+ghost use Rattle.query_eval.specs.Side.{side_seen, side_mentions, HasColumn};
 ghost use Rattle.query_eval.specs.Vector.{IsThere, cell_at, vector_of};
-ghost use Rattle.query_eval.specs.Where.{IsPair, operand_at};
+ghost use Rattle.query_eval.specs.Where.{IsPair, between_seen, cell_between, operand_seen};
 
 use crate::columns::Columns;
+use crate::filter::code_predicates::{MOST_KEYS, among_codes};
 use crate::filter::decoded::decode;
 use crate::filter::pair::Pair;
 use crate::filter::rows::{among, among_values, between, between_rows};
@@ -35,7 +34,7 @@ fn between_decoded<C: Columns>(
     requires operand { HasColumn (C.seen columns.old).table operand }
     requires low { HasColumn (C.seen columns.old).table low }
     requires high { HasColumn (C.seen columns.old).table high }
-    ensures value { IsPair mask.now (λ n. and_of (comparison GreaterOrEqual (side_at (vector_of (C.seen columns.old).state id) operand n) (side_at (vector_of (C.seen columns.old).state id) low n)) (comparison LessOrEqual (side_at (vector_of (C.seen columns.old).state id) operand n) (side_at (vector_of (C.seen columns.old).state id) high n))) result }
+    ensures value { IsPair mask.now (λ n. cell_between (side_seen (C.seen columns.old) id operand n) (side_seen (C.seen columns.old) id low n) (side_seen (C.seen columns.old) id high n)) result }
     ensures read { IsRead (C.seen columns.old) (C.seen columns.new) (side_mentions operand + (side_mentions low + side_mentions high)) }
 {
     let operand = decode(columns, id, operand);
@@ -57,7 +56,7 @@ fn between_sides<C: Columns>(
     requires operand { HasColumn (C.seen columns.old).table operand }
     requires low { HasColumn (C.seen columns.old).table low }
     requires high { HasColumn (C.seen columns.old).table high }
-    ensures value { IsPair mask.now (λ n. and_of (comparison GreaterOrEqual (side_at (vector_of (C.seen columns.old).state id) operand n) (side_at (vector_of (C.seen columns.old).state id) low n)) (comparison LessOrEqual (side_at (vector_of (C.seen columns.old).state id) operand n) (side_at (vector_of (C.seen columns.old).state id) high n))) result }
+    ensures value { IsPair mask.now (λ n. cell_between (side_seen (C.seen columns.old) id operand n) (side_seen (C.seen columns.old) id low n) (side_seen (C.seen columns.old) id high n)) result }
     ensures read { IsRead (C.seen columns.old) (C.seen columns.new) (side_mentions operand + (side_mentions low + side_mentions high)) }
 {
     if let (Side::Column(column), Side::Fixed(Some(low)), Side::Fixed(Some(high))) = (
@@ -80,7 +79,7 @@ pub fn range_rows<C: Columns>(
     mask: &Mask,
 ) -> Mask
     requires there { IsThere (C.seen columns.old).state id.batch id.vector }
-    ensures value { result ≡ yes_of mask.now (λ n. between (operand_at (C.seen columns.old).table (vector_of (C.seen columns.old).state id) operand.now n) (whole (Some low)) (whole (Some high))) }
+    ensures value { result ≡ yes_of mask.now (λ n. between (operand_seen (C.seen columns.old) id operand.now n) (whole (Some low)) (whole (Some high))) }
     ensures read { IsRead (C.seen columns.old) (C.seen columns.new) (operand_mentions operand.now) }
 {
     match side_of(columns, operand) {
@@ -105,7 +104,7 @@ pub fn between_operands<C: Columns>(
     mask: &Mask,
 ) -> Pair
     requires there { IsThere (C.seen columns.old).state id.batch id.vector }
-    ensures value { IsPair mask.now (λ n. between (operand_at (C.seen columns.old).table (vector_of (C.seen columns.old).state id) operand.now n) (operand_at (C.seen columns.old).table (vector_of (C.seen columns.old).state id) low.now n) (operand_at (C.seen columns.old).table (vector_of (C.seen columns.old).state id) high.now n)) result }
+    ensures value { IsPair mask.now (between_seen (C.seen columns.old) id operand.now low.now high.now) result }
     ensures read { IsRead (C.seen columns.old) (C.seen columns.new) (operand_mentions operand.now + (operand_mentions low.now + operand_mentions high.now)) }
 {
     let operand = side_of(columns, operand);
@@ -114,9 +113,9 @@ pub fn between_operands<C: Columns>(
     between_sides(columns, id, operand, low, high, mask)
 }
 
-/// IN of a column at the rows of a mask, which takes one pass. Its room for the values is its own: most conditions need none.
+/// IN of a column at the rows of a mask, by its decoded values, in one pass. Its room is its own: few conditions need it.
 #[inline(never)]
-fn among_column<C: Columns>(
+fn among_decoded<C: Columns>(
     columns: &mut C,
     id: VectorId,
     column: usize,
@@ -134,6 +133,29 @@ fn among_column<C: Columns>(
     among_values(&nulls, &values, literals, mask)
 }
 
+/// IN of a column at the rows of a mask, which takes one pass: by the codes of its rows where they are few, else by its decoded
+/// values. Its room is its own: most conditions need none.
+#[inline(never)]
+fn among_column<C: Columns>(
+    columns: &mut C,
+    id: VectorId,
+    column: usize,
+    literals: &[i128],
+    mask: &Mask,
+) -> Pair
+    requires there { IsThere (C.seen columns.old).state id.batch id.vector }
+    requires column { column < length (C.seen columns.old).table.columns }
+    ensures value { IsPair mask.now (λ n. is_among (whole (cell_at (vector_of (C.seen columns.old).state id) column n)) literals.now) result }
+    ensures read { IsRead (C.seen columns.old) (C.seen columns.new) 1 }
+{
+    let mut codes = [0; 1024];
+    let mut keys = [0; 1024];
+    match columns.codes_into(id, column, MOST_KEYS, &mut codes, &mut keys) {
+        Some(count) => among_codes(&codes, &keys, count, literals, mask),
+        None => among_decoded(columns, id, column, literals, mask),
+    }
+}
+
 /// IN of a side at the rows of a mask.
 fn among_side<C: Columns>(
     columns: &mut C,
@@ -144,7 +166,7 @@ fn among_side<C: Columns>(
 ) -> Pair
     requires there { IsThere (C.seen columns.old).state id.batch id.vector }
     requires column { HasColumn (C.seen columns.old).table side }
-    ensures value { IsPair mask.now (λ n. is_among (whole (side_at (vector_of (C.seen columns.old).state id) side n)) literals.now) result }
+    ensures value { IsPair mask.now (λ n. is_among (whole (side_seen (C.seen columns.old) id side n)) literals.now) result }
     ensures read { IsRead (C.seen columns.old) (C.seen columns.new) (side_mentions side) }
 {
     match side {
@@ -162,7 +184,7 @@ pub fn among_operand<C: Columns>(
     mask: &Mask,
 ) -> Pair
     requires there { IsThere (C.seen columns.old).state id.batch id.vector }
-    ensures value { IsPair mask.now (λ n. is_among (operand_at (C.seen columns.old).table (vector_of (C.seen columns.old).state id) operand.now n) literals.now) result }
+    ensures value { IsPair mask.now (λ n. is_among (operand_seen (C.seen columns.old) id operand.now n) literals.now) result }
     ensures read { IsRead (C.seen columns.old) (C.seen columns.new) (operand_mentions operand.now) }
 {
     let side = side_of(columns, operand);

@@ -5,11 +5,9 @@ ghost use Rattle.std.specs.List.{All, list_any};
 ghost use Rattle.std.specs.Ordering.{int_eq};
 ghost use Rattle.table_model.specs.Answer.{whole};
 ghost use Rattle.table_model.specs.Condition.{is_among};
-ghost use Rattle.table_model.specs.Truth.{and_of, comparison};
-ghost use Rattle.table_model.specs.declared.op.Op.TheVariants.{GreaterOrEqual, LessOrEqual};
 ghost use Rattle.transpose_order.specs.Mask.{has, rows_of};
-ghost use Rattle.query_eval.specs.Decoded.{decoded_at};
-ghost use Rattle.query_eval.specs.Where.{IsPair};
+ghost use Rattle.query_eval.specs.Decoded.{decoded_at, rows_among, value_unless};
+ghost use Rattle.query_eval.specs.Where.{IsPair, cell_between};
 
 use crate::filter::decoded::Decoded;
 use crate::filter::pair::Pair;
@@ -25,7 +23,7 @@ const FEW_ROWS: usize = 256;
 
 /// BETWEEN of three cells.
 pub(crate) fn between(cell: Option<i128>, low: Option<i128>, high: Option<i128>) -> Truth
-    ensures { result ≡ and_of (comparison GreaterOrEqual cell low) (comparison LessOrEqual cell high) }
+    ensures { result ≡ cell_between cell low high }
 {
     Op::GreaterOrEqual
         .compare(cell, low)
@@ -34,7 +32,7 @@ pub(crate) fn between(cell: Option<i128>, low: Option<i128>, high: Option<i128>)
 
 /// BETWEEN at the rows of a mask.
 pub fn between_rows(operand: &Decoded, low: &Decoded, high: &Decoded, mask: &Mask) -> Pair
-    ensures { IsPair mask.now (λ n. and_of (comparison GreaterOrEqual (decoded_at operand.now n) (decoded_at low.now n)) (comparison LessOrEqual (decoded_at operand.now n) (decoded_at high.now n))) result }
+    ensures { IsPair mask.now (λ n. cell_between (decoded_at operand.now n) (decoded_at low.now n) (decoded_at high.now n)) result }
 {
     let mut pair = Pair {
         yes: Mask::none(),
@@ -74,7 +72,7 @@ pub(crate) fn among(cell: Option<i128>, literals: &[i128]) -> Truth
 /// The cell at a row of a column with these nulls and values.
 fn cell_of(nulls: &Mask, values: &[i64; 1024], row: usize) -> Option<i128>
     requires { row < 1024 }
-    ensures { result ≡ cond (has nulls.now row) None (Some (slice_index_or values.now row (pos 0))) }
+    ensures { result ≡ value_unless nulls.now values.now row }
 {
     if nulls.get(row) {
         None
@@ -85,7 +83,7 @@ fn cell_of(nulls: &Mask, values: &[i64; 1024], row: usize) -> Option<i128>
 
 /// IN of a column's cells at the rows of a mask, row by row.
 fn among_by_row(nulls: &Mask, values: &[i64; 1024], literals: &[i128], mask: &Mask) -> Pair
-    ensures { IsPair mask.now (λ n. is_among (whole (cond (has nulls.now n) None (Some (slice_index_or values.now n (pos 0))))) literals.now) result }
+    ensures { IsPair mask.now (λ n. is_among (whole (value_unless nulls.now values.now n)) literals.now) result }
 {
     let mut pair = Pair {
         yes: Mask::none(),
@@ -122,7 +120,7 @@ fn literal_rows(values: &[i64; 1024], literal: i128) -> Option<Mask>
 /// The rows whose value is one of the literals, or `None` where one of them doesn't fit 64 bits.
 fn values_among(values: &[i64; 1024], literals: &[i128]) -> Option<Mask>
     ensures answers { All (FitsSigned w64) literals.now → IsSome result }
-    ensures rows { IfSome result (λ found. found ≡ rows_of (λ n. list_any (int_eq (slice_index_or values.now n (pos 0))) literals.now)) }
+    ensures rows { IfSome result (λ found. found ≡ rows_among values.now literals.now) }
 {
     let mut found = Mask::none();
     for literal in literals {
@@ -135,7 +133,7 @@ fn values_among(values: &[i64; 1024], literals: &[i128]) -> Option<Mask>
 /// IN of a column's cells at the rows of a mask, by the rows whose value is one of the literals: a null is unknown beside each
 /// literal, and false beside none.
 fn among_found(nulls: &Mask, found: &Mask, literals: &[i128], mask: &Mask) -> Pair
-    ensures { (values : List ℤ) → found.now ≡ rows_of (λ n. list_any (int_eq (slice_index_or values n (pos 0))) literals.now) → IsPair mask.now (λ n. is_among (whole (cond (has nulls.now n) None (Some (slice_index_or values n (pos 0))))) literals.now) result }
+    ensures { (values : List ℤ) → found.now ≡ rows_among values literals.now → IsPair mask.now (λ n. is_among (whole (value_unless nulls.now values n)) literals.now) result }
 {
     let known = if literals.is_empty() {
         *mask
@@ -151,7 +149,7 @@ fn among_found(nulls: &Mask, found: &Mask, literals: &[i128], mask: &Mask) -> Pa
 /// IN of a column with these nulls and values at the rows of a mask. A look at the 1024 values for one literal costs what 256 rows
 /// cost with it, so that few rows and many literals go row by row, and so does a literal that doesn't fit 64 bits.
 pub fn among_values(nulls: &Mask, values: &[i64; 1024], literals: &[i128], mask: &Mask) -> Pair
-    ensures { IsPair mask.now (λ n. is_among (whole (cond (has nulls.now n) None (Some (slice_index_or values.now n (pos 0))))) literals.now) result }
+    ensures { IsPair mask.now (λ n. is_among (whole (value_unless nulls.now values.now n)) literals.now) result }
 {
     if literals.len() > MANY_LITERALS && mask.count() < FEW_ROWS {
         return among_by_row(nulls, values, literals, mask);

@@ -7,7 +7,7 @@ ghost use Rattle.query_eval.specs.Read.{IsRead};
 ghost use Rattle.query_eval.specs.Mentions.{operand_mentions};
 ghost use Rattle.query_eval.specs.Side.{side_at, side_mentions, HasColumn, StandsFor};
 ghost use Rattle.query_eval.specs.Vector.{IsThere, vector_of};
-ghost use Rattle.query_eval.specs.Where.{IsPair, operand_at};
+ghost use Rattle.query_eval.specs.Where.{IsPair, operand_seen};
 
 use crate::columns::Columns;
 use crate::filter::column_places::place_of;
@@ -103,7 +103,7 @@ pub fn compare_operands<C: Columns>(
     mask: &Mask,
 ) -> Pair
     requires there { IsThere (C.seen columns.old).state id.batch id.vector }
-    ensures value { IsPair mask.now (λ n. field_comparison op (operand_at (C.seen columns.old).table (vector_of (C.seen columns.old).state id) left.now n) (operand_at (C.seen columns.old).table (vector_of (C.seen columns.old).state id) right.now n)) result }
+    ensures value { IsPair mask.now (λ n. field_comparison op (operand_seen (C.seen columns.old) id left.now n) (operand_seen (C.seen columns.old) id right.now n)) result }
     ensures read { IsRead (C.seen columns.old) (C.seen columns.new) (operand_mentions left.now + operand_mentions right.now) }
 {
     let left = side_of(columns, left);
@@ -114,7 +114,7 @@ pub fn compare_operands<C: Columns>(
 /// Where an operand of WHERE is null, at the rows of a mask. It takes no pass.
 pub fn null_operand<C: Columns>(columns: &C, id: VectorId, operand: &Operand, mask: &Mask) -> Pair
     requires { IsThere (C.seen columns.now).state id.batch id.vector }
-    ensures { IsPair mask.now (λ n. truth_of (is_null (operand_at (C.seen columns.now).table (vector_of (C.seen columns.now).state id) operand.now n))) result }
+    ensures { IsPair mask.now (λ n. truth_of (is_null (operand_seen (C.seen columns.now) id operand.now n))) result }
 {
     let side = side_of(columns, operand);
     null_rows(columns, id, side, mask)

@@ -1,8 +1,7 @@
 //! Groups under way, vector by vector.
-ghost use Rattle.std.specs.Prelude.{◌≡◌, ◌≤◌, ◌+◌, ◌++◌, [], ℕ, List, length, IfOk, OnOk};
-ghost use Rattle.table_model.specs.State.{Cells};
+ghost use Rattle.std.specs.Prelude.{◌≤◌, ◌+◌, [], ℕ, List, length, IfOk, OnOk};
 ghost use Rattle.query_eval.specs.Read.{IsSame};
-ghost use Rattle.query_eval.specs.Grouping.{AreEmpty, AreGroups, plan_mentions};
+ghost use Rattle.query_eval.specs.Grouping.{AreEmpty, AreGroups, GroupMore, plan_mentions};
 ghost use Rattle.query_eval.specs.Kept.{rows_at};
 ghost use Rattle.query_eval.specs.Places.{IsIndex};
 ghost use Rattle.query_eval.specs.Vector.{IsThere, vector_of};
@@ -10,38 +9,16 @@ ghost use Rattle.query_eval.specs.Vector.{IsThere, vector_of};
 use crate::columns::Columns;
 use crate::filter::KeptVector;
 use crate::grouping::places::Places;
+use crate::grouping::room::Room;
 use crate::grouping::row_places::place_rows;
-use crate::grouping::split::Split;
 use crate::tallies::{Aggregate, Plan, Tally, add_columns};
 use std::alloc::{AllocError, Global};
-use transpose_order::Mask;
 
 /// Groups under way: their places, and for each aggregate the groups' tallies by their places.
 #[derive(Drop)]
 pub struct Groups {
     pub places: Places,
     pub tallies: Vec<Vec<Tally>>,
-}
-
-/// Room for what is known of a vector's rows, one vector after another: a decoded column, and the rows split by their groups.
-#[derive(Drop)]
-pub struct Room {
-    pub values: [i64; 1024],
-    pub split: Split,
-}
-
-impl Room {
-    /// Room in which nothing is known. It takes no memory yet.
-    pub fn new(alloc: Global) -> Room {
-        Room {
-            values: [0; 1024],
-            split: Split {
-                slices: Vec::new(alloc),
-                left: Mask::none(),
-                places: [0; 1024],
-            },
-        }
-    }
 }
 
 /// No tallies yet, for each aggregate.
@@ -78,7 +55,7 @@ pub fn group_vector<C: Columns>(
 ) -> Result<(), AllocError>
     requires { IsThere (C.seen columns.old).state kept.now.id.batch kept.now.id.vector }
     ensures index { OnOk result (IsIndex groups.old.places → IsIndex groups.new.places) }
-    ensures groups { OnOk result ((rows : List Cells) → IsIndex groups.old.places → AreGroups plan.now.grouping plan.now.aggregates rows groups.old.places.index groups.old.tallies.items → AreGroups plan.now.grouping plan.now.aggregates (rows ++ rows_at (vector_of (C.seen columns.old).state kept.now.id) kept.now.rows) groups.new.places.index groups.new.tallies.items) }
+    ensures groups { OnOk result (GroupMore plan.now (rows_at (vector_of (C.seen columns.old).state kept.now.id) kept.now.rows) groups.old groups.new) }
     ensures same { IsSame (C.seen columns.old) (C.seen columns.new) }
     ensures passes { OnOk result ((C.seen columns.new).passes ≤ (C.seen columns.old).passes + plan_mentions plan.now) }
 {
@@ -88,7 +65,7 @@ pub fn group_vector<C: Columns>(
         kept,
         plan.grouping(),
         &mut groups.places,
-        &mut room.split,
+        room,
     )?;
     let count = groups.places.len();
     add_columns(
@@ -100,6 +77,7 @@ pub fn group_vector<C: Columns>(
         count,
         &room.split,
         &mut room.values,
+        &mut room.packed,
     )?;
     Ok(())
 }

@@ -1,45 +1,112 @@
-//! Columns of a vector by their places, decoded.
-ghost use Rattle.std.specs.Prelude.{◌≡◌, ◌<◌, ◌≤◌, ◌+◌, ℕ, map, length, IfOk};
-ghost use Rattle.table_model.specs.Group.{key_of};
+//! The grouping columns of a vector, decoded.
+ghost use Rattle.std.specs.Prelude.{◌≡◌, ◌<◌, ◌≤◌, ◌+◌, ℕ, false, length, OnOk};
+ghost use Rattle.table_model.specs.State.{same_cell};
+ghost use Rattle.transpose_order.specs.Mask.{has};
+ghost use Rattle.query_eval.specs.Keys.{AreKeys, column_key, key_cell};
 ghost use Rattle.query_eval.specs.Read.{IsRead, IsSame};
-ghost use Rattle.query_eval.specs.Decoded.{decoded_at};
-ghost use Rattle.query_eval.specs.Vector.{IsThere, cell_at, row_at, vector_of};
+ghost use Rattle.query_eval.specs.Vector.{IsThere, cell_at, vector_of};
 
 use crate::columns::Columns;
-use crate::filter::{Decoded, Side, decode};
+use crate::tallies::{changed_rows, equal_rows};
 use crate::vector_id::VectorId;
-use std::alloc::{AllocError, Global};
+use std::alloc::AllocError;
+use transpose_order::Mask;
 
-/// A column by its place, in one pass. A place past the last column has no value, and takes no pass.
-fn decode_place<C: Columns>(columns: &mut C, id: VectorId, place: usize) -> Decoded
-    requires { IsThere (C.seen columns.old).state id.batch id.vector }
-    ensures value { (n : ℕ) → n < 1024 → decoded_at result n ≡ cell_at (vector_of (C.seen columns.old).state id) place n }
-    ensures read { IsRead (C.seen columns.old) (C.seen columns.new) 1 }
-{
-    // `batches` ensures that the table and the state are within their limits.
-    let _batches = columns.batches();
-    if place < columns.schema().column_list().len() {
-        decode(columns, id, Side::Column(place))
-    } else {
-        Decoded::Fixed(None)
+/// A column's cells at the rows of a vector: its nulls, and its values in row order, with anything at the nulls.
+#[derive(Drop)]
+pub struct KeyColumn {
+    pub nulls: Mask,
+    pub values: [i64; 1024],
+}
+
+impl KeyColumn {
+    /// A column without a value.
+    fn none() -> KeyColumn {
+        KeyColumn {
+            nulls: Mask::all(),
+            values: [0; 1024],
+        }
+    }
+
+    /// Reads a column by its place, in one pass. A place past the last column has no value, and takes no pass.
+    fn read<C: Columns>(&mut self, columns: &mut C, id: VectorId, place: usize)
+        requires { IsThere (C.seen columns.old).state id.batch id.vector }
+        ensures value { (n : ℕ) → n < 1024 → key_cell self.new n ≡ cell_at (vector_of (C.seen columns.old).state id) place n }
+        ensures read { IsRead (C.seen columns.old) (C.seen columns.new) 1 }
+    {
+        // `batches` ensures that the table and the state are within their limits.
+        let _batches = columns.batches();
+        if place < columns.schema().column_list().len() {
+            self.nulls = columns.nulls(id, place);
+            columns.decode_into(id, place, &mut self.values);
+        } else {
+            self.nulls = Mask::all();
+        }
+    }
+
+    /// The cell at a row.
+    pub fn at(&self, row: usize) -> Option<i128>
+        requires { row < 1024 }
+        ensures { result ≡ key_cell self.now row }
+    {
+        if self.nulls.get(row) {
+            None
+        } else {
+            Some(i128::from(self.values[row]))
+        }
+    }
+
+    /// The rows with the same cell as a row: null is the same as null.
+    pub fn rows_like(&self, row: usize) -> Mask
+        requires { row < 1024 }
+        ensures { (n : ℕ) → n < 1024 → has result n ≡ same_cell (key_cell self.now row) (key_cell self.now n) }
+    {
+        let null = self.nulls.get(row);
+        if null {
+            self.nulls
+        } else {
+            equal_rows(&self.values, self.values[row]).and_not(&self.nulls)
+        }
+    }
+
+    /// The rows where the cell may differ from that of the row before: in a column without nulls, where the value differs.
+    pub fn changes(&self) -> Mask
+        ensures { (n : ℕ) → n + 1 < 1024 → has result (n + 1) ≡ false → key_cell self.now (n + 1) ≡ key_cell self.now n }
+    {
+        if self.nulls.next_true(0) == 1024 {
+            changed_rows(&self.values)
+        } else {
+            Mask::all()
+        }
     }
 }
 
-/// The grouping columns, each in at most one pass.
-pub fn decode_keys<C: Columns>(
-    alloc: Global,
+/// Makes so many columns, of which those that are there already keep their memory.
+fn make_columns(columns: &mut Vec<KeyColumn>, count: usize) -> Result<(), AllocError>
+    ensures { OnOk result (length columns.new.items ≡ count) }
+{
+    columns.truncate(count);
+    for _ in columns.len()..count {
+        columns.push(KeyColumn::none())?;
+    }
+    Ok(())
+}
+
+/// Reads the grouping columns, each in at most one pass. Once there are as many as that, no vector takes memory.
+pub fn read_columns<C: Columns>(
     columns: &mut C,
     id: VectorId,
     places: &[usize],
-) -> Result<Vec<Decoded>, AllocError>
+    keys: &mut Vec<KeyColumn>,
+) -> Result<(), AllocError>
     requires { IsThere (C.seen columns.old).state id.batch id.vector }
-    ensures cells { IfOk result (λ cells. (n : ℕ) → n < 1024 → map (λ d. decoded_at d n) cells.items ≡ key_of places.now (row_at (vector_of (C.seen columns.old).state id) n)) }
+    ensures cells { OnOk result (AreKeys places.now (vector_of (C.seen columns.old).state id) (column_key keys.new.items)) }
     ensures same { IsSame (C.seen columns.old) (C.seen columns.new) }
-    ensures passes { IfOk result (λ _. (C.seen columns.new).passes ≤ (C.seen columns.old).passes + length places.now) }
+    ensures passes { OnOk result ((C.seen columns.new).passes ≤ (C.seen columns.old).passes + length places.now) }
 {
-    let mut cells = Vec::new(alloc);
-    for place in places {
-        cells.push(decode_place(columns, id, *place))?;
+    make_columns(keys, places.len())?;
+    for index in 0..places.len() {
+        keys[index].read(columns, id, places[index]);
     }
-    Ok(cells)
+    Ok(())
 }

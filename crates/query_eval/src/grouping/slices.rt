@@ -1,26 +1,24 @@
-//! Slices of a vector's kept rows: rows with one key each.
+//! Spans and slices of a vector's kept rows by its decoded grouping columns: rows with one key each.
 //!
-//! Where rows with one key stand together in few runs, each run is a slice; else a slice has all of its key's rows.
-ghost use Rattle.std.specs.Prelude.{◌≡◌, ◌<◌, ◌≤◌, ◌+◌, ◌&&◌, ℕ, List, true, false, map, nat_lt, IfOk, OnOk};
-ghost use Rattle.table_model.specs.Group.{key_of};
+//! Where rows with one key stand together in few runs, each run is a span; else a slice has all of its key's rows.
+ghost use Rattle.std.specs.Prelude.{◌≡◌, ◌<◌, ◌≤◌, ◌+◌, ◌++◌, ◌&&◌, ℕ, false, IfOk, OnOk};
 ghost use Rattle.table_model.specs.State.{same_cells};
-ghost use Rattle.query_eval.specs.Decoded.{decoded_at};
+ghost use Rattle.query_eval.specs.Keys.{IsSlicing, column_key};
 ghost use Rattle.query_eval.specs.Places.{IsIndex, IsTakenIn};
-ghost use Rattle.query_eval.specs.Slices.{AreSliced};
-ghost use Rattle.query_eval.specs.Vector.{Vector, row_at};
+ghost use Rattle.query_eval.specs.Slices.{slices_of_spans};
 ghost use Rattle.transpose_order.specs.Mask.{has};
 
-use crate::filter::Decoded;
 use crate::grouping::key::Key;
+use crate::grouping::key_columns::KeyColumn;
 use crate::grouping::places::Places;
-use crate::grouping::split::Slice;
+use crate::grouping::split::{Slice, Span};
 use std::alloc::{AllocError, Global};
 use transpose_order::Mask;
 
-/// How many runs are slices at most.
-const MOST_RUNS: usize = 64;
+/// How many runs are spans at most.
+const MOST_RUNS: usize = 256;
 
-/// How many slices a vector has at most where they aren't runs.
+/// How many slices a vector has at most.
 const MOST_SLICES: usize = 16;
 
 /// How many slices are tried, however few rows they have.
@@ -30,9 +28,9 @@ const TRIED_SLICES: usize = 4;
 const WORTH_ROWS: usize = 64;
 
 /// Reads a row's key.
-pub fn read_key(key: &mut Key, columns: &[Decoded], row: usize) -> Result<(), AllocError>
+pub fn read_key(key: &mut Key, columns: &[KeyColumn], row: usize) -> Result<(), AllocError>
     requires { row < 1024 }
-    ensures { OnOk result (key.new ≡ map (λ column. decoded_at column row) columns.now) }
+    ensures { OnOk result (key.new ≡ column_key columns.now row) }
 {
     key.clear();
     for column in columns {
@@ -42,9 +40,9 @@ pub fn read_key(key: &mut Key, columns: &[Decoded], row: usize) -> Result<(), Al
 }
 
 /// The rows of a mask with the same cells as a row in each of some columns.
-fn rows_like(columns: &[Decoded], row: usize, mask: &Mask) -> Mask
+fn rows_like(columns: &[KeyColumn], row: usize, mask: &Mask) -> Mask
     requires { row < 1024 }
-    ensures { (n : ℕ) → n < 1024 → has result n ≡ (has mask.now n && same_cells (map (λ column. decoded_at column row) columns.now) (map (λ column. decoded_at column n) columns.now)) }
+    ensures { (n : ℕ) → n < 1024 → has result n ≡ (has mask.now n && same_cells (column_key columns.now row) (column_key columns.now n)) }
 {
     let mut rows = *mask;
     for column in columns {
@@ -57,19 +55,18 @@ fn rows_like(columns: &[Decoded], row: usize, mask: &Mask) -> Mask
 fn place_of(
     alloc: Global,
     places: &mut Places,
-    columns: &[Decoded],
+    columns: &[KeyColumn],
     key: &mut Key,
     row: usize,
 ) -> Result<usize, AllocError>
     requires { row < 1024 }
     ensures index { OnOk result (IsIndex places.old → IsIndex places.new) }
-    ensures taken { IfOk result (λ place. IsIndex places.old → IsTakenIn (map (λ column. decoded_at column row) columns.now) place places.old.index places.new.index) }
+    ensures taken { IfOk result (λ place. IsIndex places.old → IsTakenIn (column_key columns.now row) place places.old.index places.new.index) }
 {
     if columns.len() == 1 {
-        if let Decoded::Column { nulls, values } = &columns[0] {
-            let place = places.of_row(alloc, nulls.get(row), values[row])?;
-            return Ok(place);
-        }
+        let column = &columns[0];
+        let place = places.of_row(alloc, column.nulls.get(row), column.values[row])?;
+        return Ok(place);
     }
     read_key(key, columns, row)?;
     let place = places.of_key(alloc, key)?;
@@ -77,8 +74,8 @@ fn place_of(
 }
 
 /// The rows where a key may differ from that of the row before.
-fn changes_in(columns: &[Decoded]) -> Mask
-    ensures { (n : ℕ) → n + 1 < 1024 → has result (n + 1) ≡ false → map (λ column. decoded_at column (n + 1)) columns.now ≡ map (λ column. decoded_at column n) columns.now }
+fn changes_in(columns: &[KeyColumn]) -> Mask
+    ensures { (n : ℕ) → n + 1 < 1024 → has result (n + 1) ≡ false → column_key columns.now (n + 1) ≡ column_key columns.now n }
 {
     let mut changes = Mask::none();
     for column in columns {
@@ -87,48 +84,25 @@ fn changes_in(columns: &[Decoded]) -> Mask
     changes
 }
 
-/// The slice of the rows of a mask below an end, which have the key of the first of them. `key` is room for the key.
-fn run_at(
-    alloc: Global,
-    places: &mut Places,
-    columns: &[Decoded],
-    key: &mut Key,
-    row: usize,
-    end: usize,
-    mask: &Mask,
-) -> Result<Slice, AllocError>
-    requires row { row < 1024 }
-    requires end { end ≤ 1024 }
-    requires first { (n : ℕ) → n < row → has mask.now n ≡ false }
-    requires same { (n : ℕ) → row ≤ n → n < end → map (λ column. decoded_at column n) columns.now ≡ map (λ column. decoded_at column row) columns.now }
-    ensures index { OnOk result (IsIndex places.old → IsIndex places.new) }
-    ensures taken { IfOk result (λ slice. IsIndex places.old → IsTakenIn (map (λ column. decoded_at column row) columns.now) slice.place places.old.index places.new.index) }
-    ensures rows { IfOk result (λ slice. (n : ℕ) → n < 1024 → has slice.rows n ≡ (has mask.now n && (nat_lt n end && same_cells (map (λ column. decoded_at column row) columns.now) (map (λ column. decoded_at column n) columns.now)))) }
-{
-    let place = place_of(alloc, places, columns, key, row)?;
-    let mut rows = *mask;
-    rows.set_range(end, 1024, false);
-    Ok(Slice { place, rows })
-}
-
 /// The slice of the rows of a mask with a row's key. A key that hasn't come before gets a new place. `key` is room for the key.
 fn slice_at(
     alloc: Global,
     places: &mut Places,
-    columns: &[Decoded],
+    columns: &[KeyColumn],
     key: &mut Key,
     row: usize,
     mask: &Mask,
 ) -> Result<Slice, AllocError>
     requires { row < 1024 }
     ensures index { OnOk result (IsIndex places.old → IsIndex places.new) }
-    ensures taken { IfOk result (λ slice. IsIndex places.old → IsTakenIn (map (λ column. decoded_at column row) columns.now) slice.place places.old.index places.new.index) }
-    ensures rows { IfOk result (λ slice. (n : ℕ) → n < 1024 → has slice.rows n ≡ (has mask.now n && same_cells (map (λ column. decoded_at column row) columns.now) (map (λ column. decoded_at column n) columns.now))) }
+    ensures taken { IfOk result (λ slice. IsIndex places.old → IsTakenIn (column_key columns.now row) slice.place places.old.index places.new.index) }
+    ensures rows { IfOk result (λ slice. (n : ℕ) → n < 1024 → has slice.rows n ≡ (has mask.now n && same_cells (column_key columns.now row) (column_key columns.now n))) }
 {
     let place = place_of(alloc, places, columns, key, row)?;
     Ok(Slice {
         place,
         rows: rows_like(columns, row, mask),
+        code: 0,
     })
 }
 
@@ -137,32 +111,36 @@ fn is_worth(slices: usize, rows: usize) -> bool {
     slices < TRIED_SLICES || slices.saturating_mul(WORTH_ROWS) <= rows
 }
 
-/// Slices the rows of a mask by runs, and gives the rows that are in no slice. A run ends where the key may change.
+/// Makes spans of the rows of a mask by runs, and gives the rows that are in none. A run ends where the key may change.
 fn slice_runs(
     alloc: Global,
     places: &mut Places,
-    columns: &[Decoded],
+    columns: &[KeyColumn],
     changes: &Mask,
     mask: &Mask,
-    slices: &mut Vec<Slice>,
+    spans: &mut Vec<Span>,
 ) -> Result<Mask, AllocError>
-    requires { (n : ℕ) → n + 1 < 1024 → has changes.now (n + 1) ≡ false → map (λ column. decoded_at column (n + 1)) columns.now ≡ map (λ column. decoded_at column n) columns.now }
+    requires { (n : ℕ) → n + 1 < 1024 → has changes.now (n + 1) ≡ false → column_key columns.now (n + 1) ≡ column_key columns.now n }
     ensures index { OnOk result (IsIndex places.old → IsIndex places.new) }
-    ensures sliced { IfOk result (λ left. (by : List ℕ) (v : Vector) → ((n : ℕ) → n < 1024 → map (λ column. decoded_at column n) columns.now ≡ key_of by (row_at v n)) → IsIndex places.old → AreSliced by v mask.now left places.old.index places.new.index slices.new.items) }
+    ensures spanned { IfOk result (λ left. IsSlicing (column_key columns.now) mask.now left places.old places.new (slices_of_spans mask.now spans.new.items)) }
 {
-    slices.clear();
-    let mut left = *mask;
+    // That a mask has 1024 places is told by its words.
+    let _words = mask.words();
+    spans.clear();
+    let mut start = 0;
     let mut key = Key::empty(alloc);
     for _ in 0..MOST_RUNS {
-        let row = left.next_true(0);
-        if row == 1024 {
-            return Ok(left);
+        let first = mask.next_true(start);
+        if first == 1024 {
+            return Ok(Mask::none());
         }
-        let end = changes.next_true(row + 1);
-        let slice = run_at(alloc, places, columns, &mut key, row, end, &left)?;
-        slices.push(slice)?;
-        left = left.and_not(&slice.rows);
+        let end = changes.next_true(first + 1);
+        let place = place_of(alloc, places, columns, &mut key, first)?;
+        spans.push(Span { place, first, end })?;
+        start = end;
     }
+    let mut left = *mask;
+    left.set_range(0, start, false);
     Ok(left)
 }
 
@@ -170,12 +148,12 @@ fn slice_runs(
 fn slice_keys(
     alloc: Global,
     places: &mut Places,
-    columns: &[Decoded],
+    columns: &[KeyColumn],
     mask: &Mask,
     slices: &mut Vec<Slice>,
 ) -> Result<Mask, AllocError>
     ensures index { OnOk result (IsIndex places.old → IsIndex places.new) }
-    ensures sliced { IfOk result (λ left. (by : List ℕ) (v : Vector) → ((n : ℕ) → n < 1024 → map (λ column. decoded_at column n) columns.now ≡ key_of by (row_at v n)) → IsIndex places.old → AreSliced by v mask.now left places.old.index places.new.index slices.new.items) }
+    ensures sliced { IfOk result (λ left. IsSlicing (column_key columns.now) mask.now left places.old places.new slices.new.items) }
 {
     slices.clear();
     let mut left = *mask;
@@ -194,22 +172,25 @@ fn slice_keys(
     Ok(left)
 }
 
-/// Slices the rows of a mask, by runs where they are few, else by keys, and gives the rows that are in no slice.
+/// Makes spans of the rows of a mask, by runs where they are few, else slices, by keys, and gives the rows that are in none.
 pub fn slice_rows(
     alloc: Global,
     places: &mut Places,
-    columns: &[Decoded],
+    columns: &[KeyColumn],
     mask: &Mask,
+    spans: &mut Vec<Span>,
     slices: &mut Vec<Slice>,
 ) -> Result<Mask, AllocError>
     ensures index { OnOk result (IsIndex places.old → IsIndex places.new) }
-    ensures sliced { IfOk result (λ left. (by : List ℕ) (v : Vector) → ((n : ℕ) → n < 1024 → map (λ column. decoded_at column n) columns.now ≡ key_of by (row_at v n)) → IsIndex places.old → AreSliced by v mask.now left places.old.index places.new.index slices.new.items) }
+    ensures sliced { IfOk result (λ left. IsSlicing (column_key columns.now) mask.now left places.old places.new (slices_of_spans mask.now spans.new.items ++ slices.new.items)) }
 {
     let changes = changes_in(columns);
     if changes.count() <= MOST_RUNS {
-        let left = slice_runs(alloc, places, columns, &changes, mask, slices)?;
+        slices.clear();
+        let left = slice_runs(alloc, places, columns, &changes, mask, spans)?;
         return Ok(left);
     }
+    spans.clear();
     let left = slice_keys(alloc, places, columns, mask, slices)?;
     Ok(left)
 }

@@ -1,10 +1,9 @@
 //! The values of a column, each once, in a set.
-ghost use Rattle.std.specs.Prelude.{◌≡◌, ◌||◌, cond, pos, true, ℤ, Some, None, IfOk, IfSome, OnOk, slice_index_or};
+ghost use Rattle.std.specs.Prelude.{◌≡◌, ◌||◌, cond, true, ℤ, Some, IfOk, IfSome, OnOk};
 ghost use Rattle.std.specs.HashSet.{contains};
 ghost use Rattle.std.specs.List.{list_any, IsDistinct};
 ghost use Rattle.std.specs.Ordering.{int_eq};
-ghost use Rattle.table_model.specs.Values.{present};
-ghost use Rattle.transpose_order.specs.Mask.{rows_of, has};
+ghost use Rattle.query_eval.specs.Slices.{values_at};
 
 use std::alloc::{AllocError, Global};
 use std::collections::HashSet;
@@ -40,7 +39,7 @@ pub(crate) fn add_values(
     rows: &Mask,
     values: &[i64; 1024],
 ) -> Result<(), AllocError>
-    ensures { OnOk result ((z : ℤ) → contains int_eq set.new z ≡ (contains int_eq set.old z || list_any (int_eq z) (present (rows_of (λ n. cond (has rows.now n) (Some (slice_index_or values.now n (pos 0))) None))))) }
+    ensures { OnOk result ((z : ℤ) → contains int_eq set.new z ≡ (contains int_eq set.old z || list_any (int_eq z) (values_at rows.now values.now))) }
 {
     let mut before = None;
     for row in 0..1024 {

@@ -1,16 +1,21 @@
 //! Set functions over the decoded values at the rows of a mask, and the rows with a value: a word of 64 rows at a time, without a
 //! branch a row.
-ghost use Rattle.std.specs.Prelude.{◌≡◌, ◌==◌, ◌+◌, ◌*◌, ◌^◌, ◌<◌, ◌≤◌, ◌+ℤ◌, ◌/◌, ℕ, Bool, true, false, Some, List, ℤ, cond, length, not, pos, slice_index, slice_index_or};
-ghost use Rattle.std.specs.Int.{bit_at, int_max, int_min};
+ghost use Rattle.std.specs.Prelude.{◌≡◌, ◌==◌, ◌+◌, ◌*◌, ◌^◌, ◌<◌, ◌≤◌, ◌+ℤ◌, ℕ, Bool, true, List, ℤ, cond, length, pos, slice_index, slice_index_or};
+ghost use Rattle.std.specs.Int.{bit_at};
 ghost use Rattle.std.specs.Ordering.{int_eq};
 ghost use Rattle.std.specs.Simd.Lanes.{sum_l};
-ghost use Rattle.table_model.specs.Values.{greatest, least, total};
-ghost use Rattle.transpose_order.specs.Mask.{has, number_of_bits, rows_of};
-ghost use Rattle.query_eval.specs.Slices.{AreHalves, AreShort, IsRaised, IsShort, differs_at, values_at, values_below};
+ghost use Rattle.table_model.specs.Values.{total};
+ghost use Rattle.transpose_order.specs.Mask.{number_of_bits, rows_of};
+ghost use Rattle.query_eval.specs.Bits.{AreBits};
+ghost use Rattle.query_eval.specs.Extreme.{extreme_of};
+ghost use Rattle.query_eval.specs.Forms.{top_below};
+ghost use Rattle.query_eval.specs.Slices.{AreHalves, AreShort, IsRaised, IsShort, differs_at, values_at};
 
-use crate::tallies::bits::is_set;
+use crate::tallies::bits::{has_bit, is_set};
+use crate::tallies::extreme::Extreme;
+use crate::tallies::forms::Form;
 use std::simd::prelude::*;
-use transpose_order::{Mask, greater_if, lesser_if, raised_if};
+use transpose_order::{Mask, raised_if};
 
 /// Whether two numbers are the same.
 #[inline(always)]
@@ -89,7 +94,7 @@ fn add_halves(values: &[i64; 1024], word: u64, first: usize, low: &mut u64, high
     requires high { high.old ≤ 2 ^ 32 * first }
     ensures low { low.new ≤ 2 ^ 32 * (first + 64) }
     ensures high { high.new ≤ 2 ^ 32 * (first + 64) }
-    ensures value { (rows : List Bool) → ((b : ℕ) → b < 64 → (bit_at word b == 1) ≡ has rows (first + b)) → AreHalves first rows values.now low.old high.old → AreHalves (first + 64) rows values.now low.new high.new }
+    ensures value { (rows : List Bool) → AreBits 64 word rows first → AreHalves first rows values.now low.old high.old → AreHalves (first + 64) rows values.now low.new high.new }
 {
     for bit in 0..64 {
         let raised = raised_if(is_set(word, bit), values[first + bit]);
@@ -178,7 +183,7 @@ fn add_eight(values: &[i64; 1024], bits: u64, first: usize, sums: Simd<u64, 8>) 
     requires sum { sum_l sums ≤ 2 ^ 53 * first }
     ensures long { length result ≡ 8 }
     ensures sum { sum_l result ≤ 2 ^ 53 * (first + 8) }
-    ensures value { (rows : List Bool) → ((b : ℕ) → b < 8 → (bit_at bits b == 1) ≡ has rows (first + b)) → IsRaised (2 ^ 52) first rows values.now (sum_l sums) → IsRaised (2 ^ 52) (first + 8) rows values.now (sum_l result) }
+    ensures value { (rows : List Bool) → AreBits 8 bits rows first → IsRaised (2 ^ 52) first rows values.now (sum_l sums) → IsRaised (2 ^ 52) (first + 8) rows values.now (sum_l result) }
 {
     let raised = Simd::from_array(raised_eight(values, first));
     let taken = lanes_if(bits, raised);
@@ -195,7 +200,7 @@ fn add_short(values: &[i64; 1024], word: u64, first: usize, sums: Simd<u64, 8>) 
     requires sum { sum_l sums ≤ 2 ^ 53 * first }
     ensures long { length result ≡ 8 }
     ensures sum { sum_l result ≤ 2 ^ 53 * (first + 64) }
-    ensures value { (rows : List Bool) → ((b : ℕ) → b < 64 → (bit_at word b == 1) ≡ has rows (first + b)) → IsRaised (2 ^ 52) first rows values.now (sum_l sums) → IsRaised (2 ^ 52) (first + 64) rows values.now (sum_l result) }
+    ensures value { (rows : List Bool) → AreBits 64 word rows first → IsRaised (2 ^ 52) first rows values.now (sum_l sums) → IsRaised (2 ^ 52) (first + 64) rows values.now (sum_l result) }
 {
     let mut sums = sums;
     for group in 0..8 {
@@ -234,120 +239,35 @@ pub fn sum_at(values: &[i64; 1024], short: bool, rows: &Mask) -> i128
     i128::from(low) + i128::from(high) * (1 << 32) - count * (1 << 63)
 }
 
-/// The least of the values at the rows of a mask up to the end of the 64 rows in which its first one is.
-fn least_in_first(values: &[i64; 1024], rows: &Mask, first: usize) -> i64
-    requires first { first < 1024 }
-    requires none { (n : ℕ) → n < first → has rows.now n ≡ false }
-    requires here { has rows.now first ≡ true }
-    ensures { Some result ≡ least (values_below (64 * (first / 64) + 64) rows.now values.now) }
-{
-    let words = rows.words();
-    let mut least = values[first];
-    for row in first + 1..64 * (first / 64) + 64 {
-        least = lesser_if(is_set(words[row / 64], row % 64), least, values[row]);
-    }
-    least
-}
-
-/// The lesser of two numbers where the second is taken, else the first. One that isn't taken counts as the greatest of 64 bits, so that
-/// there is no branch: the compiler makes vectors of it.
+/// The greatest of a number and the values at the rows of a word, as they are shown of an extreme. Bit `b` of the word is row
+/// `first + b`. There is no branch a row: the compiler makes vectors of it.
 #[inline(always)]
-fn lesser_where(taken: bool, least: i64, number: i64) -> i64
-    ensures { result ≡ cond taken (int_min least number) least }
-{
-    let candidate = if taken { number } else { i64::MAX };
-    if candidate < least { candidate } else { least }
-}
-
-/// The lesser of a number and the values at the rows of a word, whose bit `b` is row `first + b`.
-#[inline(always)]
-fn lesser_in_word(values: &[i64; 1024], word: u64, first: usize, number: i64) -> i64
+fn top_in_word(extreme: Extreme, values: &[i64; 1024], word: u64, first: usize, top: i64) -> i64
     requires { first + 64 ≤ 1024 }
-    ensures { (rows : List Bool) → ((b : ℕ) → b < 64 → (bit_at word b == 1) ≡ has rows (first + b)) → Some number ≡ least (values_below first rows values.now) → Some result ≡ least (values_below (first + 64) rows values.now) }
+    ensures { (rows : List Bool) → AreBits 64 word rows first → top ≡ top_below extreme first rows values.now → result ≡ top_below extreme (first + 64) rows values.now }
 {
-    let mut least = number;
+    let mut top = top;
     for bit in 0..64 {
-        least = lesser_where(is_set(word, bit), least, values[first + bit]);
+        let shown = Form::Shown(extreme).at(has_bit(word, bit), values[first + bit]);
+        top = top.max(shown);
     }
-    least
+    top
 }
 
-/// The least of the values at the rows of a mask, `None` over none. Where 64 rows are none of the mask's, their values are not
+/// The extreme of the values at the rows of a mask, `None` over none. Where 64 rows are none of the mask's, their values are not
 /// looked at.
-pub fn least_at(values: &[i64; 1024], rows: &Mask) -> Option<i64>
-    ensures { result ≡ least (values_at rows.now values.now) }
+pub fn extreme_at(extreme: Extreme, values: &[i64; 1024], rows: &Mask) -> Option<i64>
+    ensures { result ≡ extreme_of extreme (values_at rows.now values.now) }
 {
-    let first = rows.next_true(0);
-    if first == 1024 {
+    if rows.next_true(0) == 1024 {
         return None;
     }
     let words = rows.words();
-    let mut least = least_in_first(values, rows, first);
-    for index in first / 64 + 1..16 {
+    let mut top = i64::MIN;
+    for index in 0..16 {
         if words[index] != 0 {
-            least = lesser_in_word(values, words[index], 64 * index, least);
+            top = top_in_word(extreme, values, words[index], 64 * index, top);
         }
     }
-    Some(least)
-}
-
-/// The greatest of the values at the rows of a mask up to the end of the 64 rows in which its first one is.
-fn greatest_in_first(values: &[i64; 1024], rows: &Mask, first: usize) -> i64
-    requires first { first < 1024 }
-    requires none { (n : ℕ) → n < first → has rows.now n ≡ false }
-    requires here { has rows.now first ≡ true }
-    ensures { Some result ≡ greatest (values_below (64 * (first / 64) + 64) rows.now values.now) }
-{
-    let words = rows.words();
-    let mut greatest = values[first];
-    for row in first + 1..64 * (first / 64) + 64 {
-        greatest = greater_if(is_set(words[row / 64], row % 64), greatest, values[row]);
-    }
-    greatest
-}
-
-/// The greater of two numbers where the second is taken, else the first. One that isn't taken counts as the least of 64 bits, so that
-/// there is no branch: the compiler makes vectors of it.
-#[inline(always)]
-fn greater_where(taken: bool, greatest: i64, number: i64) -> i64
-    ensures { result ≡ cond taken (int_max greatest number) greatest }
-{
-    let candidate = if taken { number } else { i64::MIN };
-    if greatest < candidate {
-        candidate
-    } else {
-        greatest
-    }
-}
-
-/// The greater of a number and the values at the rows of a word, whose bit `b` is row `first + b`.
-#[inline(always)]
-fn greater_in_word(values: &[i64; 1024], word: u64, first: usize, number: i64) -> i64
-    requires { first + 64 ≤ 1024 }
-    ensures { (rows : List Bool) → ((b : ℕ) → b < 64 → (bit_at word b == 1) ≡ has rows (first + b)) → Some number ≡ greatest (values_below first rows values.now) → Some result ≡ greatest (values_below (first + 64) rows values.now) }
-{
-    let mut greatest = number;
-    for bit in 0..64 {
-        greatest = greater_where(is_set(word, bit), greatest, values[first + bit]);
-    }
-    greatest
-}
-
-/// The greatest of the values at the rows of a mask, `None` over none. Where 64 rows are none of the mask's, their values are not
-/// looked at.
-pub fn greatest_at(values: &[i64; 1024], rows: &Mask) -> Option<i64>
-    ensures { result ≡ greatest (values_at rows.now values.now) }
-{
-    let first = rows.next_true(0);
-    if first == 1024 {
-        return None;
-    }
-    let words = rows.words();
-    let mut greatest = greatest_in_first(values, rows, first);
-    for index in first / 64 + 1..16 {
-        if words[index] != 0 {
-            greatest = greater_in_word(values, words[index], 64 * index, greatest);
-        }
-    }
-    Some(greatest)
+    Some(extreme.shown(top))
 }

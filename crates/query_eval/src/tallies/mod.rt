@@ -2,19 +2,23 @@
 
 mod aggregate;
 mod bits;
+mod code_tallies;
 mod distinct;
-mod extremes;
+mod extreme;
+mod forms;
 mod masked_folds;
+mod packed;
 mod plan;
 mod row_tallies;
 mod slice_tallies;
+mod span_tallies;
 mod split_tallies;
 mod tally;
 mod whole_tallies;
 
 pub(crate) use aggregate::{Aggregate, place_or_end};
 pub(crate) use bits::is_set;
-pub use extremes::{greater, lesser};
+pub use extreme::Extreme;
 pub(crate) use masked_folds::{changed_rows, equal_rows};
 pub(crate) use plan::Plan;
 pub(crate) use split_tallies::add_columns;

@@ -1,10 +1,7 @@
 //! Tallies, a group each, as the values of a vector's rows come: one loop over the rows for each kind of tally.
-ghost use Rattle.std.specs.Prelude.{◌≡◌, ◌==◌, ◌<◌, ◌++◌, ◌∷◌, [], ℕ, List, Bool, ℤ, cond, length, slice_index_or, OnOk};
-ghost use Rattle.table_model.specs.State.{Cells};
-ghost use Rattle.query_eval.specs.Grouping.{AreCounted, AreShown, IsHeld};
-ghost use Rattle.query_eval.specs.Places.{rows_placed};
-ghost use Rattle.query_eval.specs.Tally.{IsTally, kind_of};
-ghost use Rattle.query_eval.specs.TallyKinds.{aggregate_kind};
+ghost use Rattle.std.specs.Prelude.{◌≡◌, ◌<◌, ◌∷◌, [], ℕ, List, Bool, ℤ, cond, length, slice_index_or, OnOk};
+ghost use Rattle.query_eval.specs.Grouping.{AreShown, CountPlaced, HavePlaced, SumPlaced};
+ghost use Rattle.query_eval.specs.Tally.{HaveAt, HaveMoreAt, kind_of};
 ghost use Rattle.query_eval.specs.Vector.{Vector};
 ghost use Rattle.query_eval.specs.declared.tallies.aggregate.Aggregate.{Aggregate as AnAggregate};
 ghost use Rattle.query_eval.specs.declared.tallies.tally.Tally.{Tally as ATally};
@@ -18,7 +15,7 @@ use transpose_order::Mask;
 #[inline(always)]
 fn count_value(tallies: &mut Vec<Tally>, place: usize, comes: bool)
     ensures size { length tallies.new.items ≡ length tallies.old.items }
-    ensures values { (g : ℕ) (t : ATally) (values : List ℤ) (z : ℤ) → g < length tallies.old.items → kind_of (slice_index_or tallies.old.items g t) ≡ kinds.Count → IsTally values (slice_index_or tallies.old.items g t) → IsTally (values ++ cond (place == g) (cond comes (z ∷ []) []) []) (slice_index_or tallies.new.items g t) }
+    ensures values { (z : ℤ) → HaveAt kinds.Count place (cond comes (z ∷ []) []) tallies.old.items tallies.new.items }
     ensures kind { (g : ℕ) (t : ATally) → g < length tallies.old.items → kind_of (slice_index_or tallies.new.items g t) ≡ kind_of (slice_index_or tallies.old.items g t) }
 {
     if place < tallies.len() {
@@ -30,7 +27,7 @@ fn count_value(tallies: &mut Vec<Tally>, place: usize, comes: bool)
 #[inline(always)]
 fn sum_value(tallies: &mut Vec<Tally>, place: usize, value: i64, comes: bool)
     ensures size { length tallies.new.items ≡ length tallies.old.items }
-    ensures values { (g : ℕ) (t : ATally) (values : List ℤ) → g < length tallies.old.items → kind_of (slice_index_or tallies.old.items g t) ≡ kinds.Sum → IsTally values (slice_index_or tallies.old.items g t) → IsTally (values ++ cond (place == g) (cond comes (value ∷ []) []) []) (slice_index_or tallies.new.items g t) }
+    ensures values { HaveAt kinds.Sum place (cond comes (value ∷ []) []) tallies.old.items tallies.new.items }
     ensures kind { (g : ℕ) (t : ATally) → g < length tallies.old.items → kind_of (slice_index_or tallies.new.items g t) ≡ kind_of (slice_index_or tallies.old.items g t) }
 {
     if place < tallies.len() {
@@ -41,7 +38,7 @@ fn sum_value(tallies: &mut Vec<Tally>, place: usize, value: i64, comes: bool)
 /// Takes a value into the tally at a place.
 fn add_value(tallies: &mut Vec<Tally>, place: usize, value: i64) -> Result<(), AllocError>
     ensures size { OnOk result (length tallies.new.items ≡ length tallies.old.items) }
-    ensures values { OnOk result ((g : ℕ) (t : ATally) (values : List ℤ) → g < length tallies.old.items → IsTally values (slice_index_or tallies.old.items g t) → IsTally (values ++ cond (place == g) (value ∷ []) []) (slice_index_or tallies.new.items g t)) }
+    ensures values { OnOk result (HaveMoreAt place (value ∷ []) tallies.old.items tallies.new.items) }
     ensures kind { OnOk result ((g : ℕ) (t : ATally) → g < length tallies.old.items → kind_of (slice_index_or tallies.new.items g t) ≡ kind_of (slice_index_or tallies.old.items g t)) }
 {
     if place < tallies.len() {
@@ -53,7 +50,7 @@ fn add_value(tallies: &mut Vec<Tally>, place: usize, value: i64) -> Result<(), A
 /// Counts the rows of a mask in the tallies at their places.
 pub fn count_rows(tallies: &mut Vec<Tally>, places: &[usize; 1024], rows: &Mask)
     ensures size { length tallies.new.items ≡ length tallies.old.items }
-    ensures held { (a : AnAggregate) (v : Vector) (mask : List Bool) → aggregate_kind a ≡ kinds.Count → AreCounted a v mask rows.now → (g : ℕ) (t : ATally) (taken : List Cells) → g < length tallies.old.items → IsHeld taken a (slice_index_or tallies.old.items g t) → IsHeld (taken ++ rows_placed 1024 v mask places.now g) a (slice_index_or tallies.new.items g t) }
+    ensures held { CountPlaced rows.now places.now tallies.old.items tallies.new.items }
 {
     for row in 0..1024 {
         count_value(tallies, places[row], rows.get(row));
@@ -63,7 +60,7 @@ pub fn count_rows(tallies: &mut Vec<Tally>, places: &[usize; 1024], rows: &Mask)
 /// Takes the values at the rows of a mask into the sums at their places.
 pub fn sum_rows(tallies: &mut Vec<Tally>, values: &[i64; 1024], places: &[usize; 1024], rows: &Mask)
     ensures size { length tallies.new.items ≡ length tallies.old.items }
-    ensures held { (a : AnAggregate) (v : Vector) (mask : List Bool) → aggregate_kind a ≡ kinds.Sum → AreShown a v mask rows.now values.now → (g : ℕ) (t : ATally) (taken : List Cells) → g < length tallies.old.items → IsHeld taken a (slice_index_or tallies.old.items g t) → IsHeld (taken ++ rows_placed 1024 v mask places.now g) a (slice_index_or tallies.new.items g t) }
+    ensures held { SumPlaced rows.now values.now places.now tallies.old.items tallies.new.items }
 {
     for row in 0..1024 {
         sum_value(tallies, places[row], values[row], rows.get(row));
@@ -78,7 +75,7 @@ pub fn add_rows(
     rows: &Mask,
 ) -> Result<(), AllocError>
     ensures size { OnOk result (length tallies.new.items ≡ length tallies.old.items) }
-    ensures held { OnOk result ((a : AnAggregate) (v : Vector) (mask : List Bool) → AreShown a v mask rows.now values.now → (g : ℕ) (t : ATally) (taken : List Cells) → g < length tallies.old.items → IsHeld taken a (slice_index_or tallies.old.items g t) → IsHeld (taken ++ rows_placed 1024 v mask places.now g) a (slice_index_or tallies.new.items g t)) }
+    ensures held { OnOk result ((a : AnAggregate) (v : Vector) (mask : List Bool) → AreShown a v mask rows.now values.now → HavePlaced a v mask places.now tallies.old.items tallies.new.items) }
 {
     for row in 0..1024 {
         if rows.get(row) {

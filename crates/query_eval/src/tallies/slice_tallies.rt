@@ -1,12 +1,14 @@
 //! Tallies, a group each, as the slices of a vector's rows come: one step a slice.
-ghost use Rattle.std.specs.Prelude.{◌≡◌, ◌==◌, ◌<◌, ◌++◌, [], ℕ, List, ℤ, cond, length, slice_index_or, true, OnOk};
-ghost use Rattle.table_model.specs.State.{Cells};
-ghost use Rattle.query_eval.specs.Grouping.{AreCells, AreNulls, IsHeld};
-ghost use Rattle.query_eval.specs.Slices.{AreShort, rows_sliced, values_at};
-ghost use Rattle.query_eval.specs.Tally.{IsTally, kind_of};
+ghost use Rattle.std.specs.Prelude.{◌≡◌, ◌<◌, ℕ, List, ℤ, length, slice_index_or, true, OnOk};
+ghost use Rattle.table_model.specs.Values.{total};
+ghost use Rattle.query_eval.specs.Extreme.{extreme_of};
+ghost use Rattle.query_eval.specs.Grouping.{AreCells, AreNulls, HaveSlices};
+ghost use Rattle.query_eval.specs.Slices.{AreShort, values_at};
+ghost use Rattle.query_eval.specs.Tally.{HaveAt, HaveMoreAt, kind_of};
 ghost use Rattle.query_eval.specs.TallyKinds.{aggregate_kind};
 ghost use Rattle.query_eval.specs.Vector.{Vector};
 ghost use Rattle.query_eval.specs.declared.tallies.aggregate.Aggregate.{Aggregate as AnAggregate};
+ghost use Rattle.query_eval.specs.declared.tallies.extreme.Extreme.{Extreme as AnExtreme};
 ghost use Rattle.query_eval.specs.declared.tallies.tally.Tally.{Tally as ATally};
 ghost use Rattle.query_eval.specs.declared.tallies.tally.TallyKind.TheVariants as kinds;
 
@@ -16,9 +18,9 @@ use std::alloc::AllocError;
 use transpose_order::Mask;
 
 /// Counts so many values in the tally at a place. Tallies of another kind stay as they are.
-fn count_more(tallies: &mut Vec<Tally>, place: usize, more: usize)
+pub fn count_more(tallies: &mut Vec<Tally>, place: usize, more: usize)
     ensures size { length tallies.new.items ≡ length tallies.old.items }
-    ensures values { (g : ℕ) (t : ATally) (values added : List ℤ) → g < length tallies.old.items → kind_of (slice_index_or tallies.old.items g t) ≡ kinds.Count → more ≡ length added → IsTally values (slice_index_or tallies.old.items g t) → IsTally (values ++ cond (place == g) added []) (slice_index_or tallies.new.items g t) }
+    ensures values { (added : List ℤ) → more ≡ length added → HaveAt kinds.Count place added tallies.old.items tallies.new.items }
     ensures kind { (g : ℕ) (t : ATally) → g < length tallies.old.items → kind_of (slice_index_or tallies.new.items g t) ≡ kind_of (slice_index_or tallies.old.items g t) }
 {
     if place < tallies.len() {
@@ -26,8 +28,30 @@ fn count_more(tallies: &mut Vec<Tally>, place: usize, more: usize)
     }
 }
 
+/// Takes so many values, which have this sum, into the sum at a place. Tallies of another kind stay as they are.
+pub fn sum_more(tallies: &mut Vec<Tally>, place: usize, count: usize, sum: i128)
+    ensures size { length tallies.new.items ≡ length tallies.old.items }
+    ensures values { (added : List ℤ) → count ≡ length added → sum ≡ total added → HaveAt kinds.Sum place added tallies.old.items tallies.new.items }
+    ensures kind { (g : ℕ) (t : ATally) → g < length tallies.old.items → kind_of (slice_index_or tallies.new.items g t) ≡ kind_of (slice_index_or tallies.old.items g t) }
+{
+    if place < tallies.len() {
+        tallies[place].sum_more(count, sum);
+    }
+}
+
+/// Takes values, of which this is the extreme, into the tally at a place. Tallies of another kind stay as they are.
+pub fn extreme_more(tallies: &mut Vec<Tally>, place: usize, value: Option<i64>)
+    ensures size { length tallies.new.items ≡ length tallies.old.items }
+    ensures values { (extreme : AnExtreme) (added : List ℤ) → value ≡ extreme_of extreme added → HaveAt (kinds.Extreme extreme) place added tallies.old.items tallies.new.items }
+    ensures kind { (g : ℕ) (t : ATally) → g < length tallies.old.items → kind_of (slice_index_or tallies.new.items g t) ≡ kind_of (slice_index_or tallies.old.items g t) }
+{
+    if place < tallies.len() {
+        tallies[place].extreme_more(value);
+    }
+}
+
 /// Takes the values at the rows of a mask into the tally at a place. The values are short where `short` says so.
-fn add_slice(
+pub fn add_slice(
     tallies: &mut Vec<Tally>,
     place: usize,
     values: &[i64; 1024],
@@ -36,7 +60,7 @@ fn add_slice(
 ) -> Result<(), AllocError>
     requires { short ≡ true → AreShort values.now }
     ensures size { OnOk result (length tallies.new.items ≡ length tallies.old.items) }
-    ensures values { OnOk result ((g : ℕ) (t : ATally) (before : List ℤ) → g < length tallies.old.items → IsTally before (slice_index_or tallies.old.items g t) → IsTally (before ++ cond (place == g) (values_at rows.now values.now) []) (slice_index_or tallies.new.items g t)) }
+    ensures values { OnOk result (HaveMoreAt place (values_at rows.now values.now) tallies.old.items tallies.new.items) }
     ensures kind { OnOk result ((g : ℕ) (t : ATally) → g < length tallies.old.items → kind_of (slice_index_or tallies.new.items g t) ≡ kind_of (slice_index_or tallies.old.items g t)) }
 {
     if place < tallies.len() {
@@ -48,7 +72,7 @@ fn add_slice(
 /// Counts the rows of slices, but for the nulls, in the tallies at their places.
 pub fn count_slices(tallies: &mut Vec<Tally>, slices: &[Slice], nulls: &Mask)
     ensures size { length tallies.new.items ≡ length tallies.old.items }
-    ensures held { (a : AnAggregate) (v : Vector) → aggregate_kind a ≡ kinds.Count → AreNulls a v nulls.now → (g : ℕ) (t : ATally) (taken : List Cells) → g < length tallies.old.items → IsHeld taken a (slice_index_or tallies.old.items g t) → IsHeld (taken ++ rows_sliced v slices.now g) a (slice_index_or tallies.new.items g t) }
+    ensures held { (a : AnAggregate) (v : Vector) → aggregate_kind a ≡ kinds.Count → AreNulls a v nulls.now → HaveSlices a v slices.now tallies.old.items tallies.new.items }
 {
     for slice in slices {
         let rows = slice.rows.and_not(nulls);
@@ -67,7 +91,7 @@ pub fn add_slices(
 ) -> Result<(), AllocError>
     requires { short ≡ true → AreShort values.now }
     ensures size { OnOk result (length tallies.new.items ≡ length tallies.old.items) }
-    ensures held { OnOk result ((a : AnAggregate) (v : Vector) → AreCells a v nulls.now values.now → (g : ℕ) (t : ATally) (taken : List Cells) → g < length tallies.old.items → IsHeld taken a (slice_index_or tallies.old.items g t) → IsHeld (taken ++ rows_sliced v slices.now g) a (slice_index_or tallies.new.items g t)) }
+    ensures held { OnOk result ((a : AnAggregate) (v : Vector) → AreCells a v nulls.now values.now → HaveSlices a v slices.now tallies.old.items tallies.new.items) }
 {
     for slice in slices {
         let rows = slice.rows.and_not(nulls);

@@ -1,16 +1,13 @@
 //! The tallies of an aggregate, a group each, as the rows of a vector come.
-ghost use Rattle.std.specs.Prelude.{◌≡◌, ◌<◌, ◌≤◌, ◌+◌, ◌++◌, [], ℕ, List, Bool, length, slice_index_or, sum_by, true, OnOk};
-ghost use Rattle.std.specs.Global.{Vec as Items};
+ghost use Rattle.std.specs.Prelude.{◌≡◌, ◌<◌, ◌≤◌, [], ℕ, length, slice_index_or, sum_by, true, OnOk};
 ghost use Rattle.query_eval.specs.Read.{IsRead};
-ghost use Rattle.query_eval.specs.Grouping.{AreCells, AreNulls, IsHeld, IsTaken};
+ghost use Rattle.query_eval.specs.Grouping.{AreAllTaken, AreNulls, HaveTaken, IsHeld, IsTaken, TakeCells, TakeColumn};
 ghost use Rattle.query_eval.specs.QueryMentions.{aggregate_mentions};
-ghost use Rattle.table_model.specs.State.{Cells};
-ghost use Rattle.query_eval.specs.Slices.{AreShort, rows_shared};
+ghost use Rattle.query_eval.specs.Slices.{AreByCode, AreShort, rows_shared, rows_sliced};
+ghost use Rattle.query_eval.specs.Packed.{ArePackable};
 ghost use Rattle.query_eval.specs.TallyKinds.{aggregate_kind, fold_kind};
 ghost use Rattle.query_eval.specs.Vector.{IsThere, Vector, vector_of};
 ghost use Rattle.query_eval.specs.declared.tallies.aggregate.Aggregate.{Aggregate as AnAggregate};
-ghost use Rattle.query_eval.specs.declared.tallies.aggregate.Aggregate.TheVariants.{Folded};
-ghost use Rattle.table_model.specs.declared.query.Fold.{Fold as AFold};
 ghost use Rattle.query_eval.specs.declared.tallies.tally.Tally.{Tally as ATally};
 ghost use Rattle.query_eval.specs.declared.tallies.tally.TallyKind.TheVariants as kinds;
 
@@ -18,9 +15,13 @@ use crate::columns::Columns;
 use crate::filter::KeptVector;
 use crate::grouping::Split;
 use crate::tallies::aggregate::Aggregate;
+use crate::tallies::code_tallies::sum_codes;
+use crate::tallies::extreme::Extreme;
 use crate::tallies::masked_folds::are_short;
+use crate::tallies::packed::are_packable;
 use crate::tallies::row_tallies::{add_rows, count_rows, sum_rows};
 use crate::tallies::slice_tallies::{add_slices, count_slices};
+use crate::tallies::span_tallies::{add_spans, count_spans};
 use crate::tallies::tally::{Tally, TallyKind};
 use std::alloc::{AllocError, Global};
 use table_model::Fold;
@@ -36,8 +37,8 @@ fn fold_kind(distinct: bool, fold: Fold) -> TallyKind
     match fold {
         Fold::Count => TallyKind::Count,
         Fold::Sum | Fold::Avg => TallyKind::Sum,
-        Fold::Min => TallyKind::Least,
-        Fold::Max => TallyKind::Greatest,
+        Fold::Min => TallyKind::Extreme(Extreme::Least),
+        Fold::Max => TallyKind::Extreme(Extreme::Greatest),
     }
 }
 
@@ -76,15 +77,16 @@ fn short_sums(kind: TallyKind, values: &[i64; 1024]) -> bool
 {
     match kind {
         TallyKind::Sum => are_short(values),
-        TallyKind::Count | TallyKind::Least | TallyKind::Greatest | TallyKind::Distinct => false,
+        TallyKind::Count | TallyKind::Extreme(_) | TallyKind::Distinct => false,
     }
 }
 
 /// Counts the rows of a split, but for the nulls, in the tallies at their places.
 fn count_split(tallies: &mut Vec<Tally>, split: &Split, nulls: &Mask)
     ensures size { length tallies.new.items ≡ length tallies.old.items }
-    ensures held { (a : AnAggregate) (v : Vector) → aggregate_kind a ≡ kinds.Count → AreNulls a v nulls.now → (g : ℕ) (t : ATally) (taken : List Cells) → g < length tallies.old.items → IsHeld taken a (slice_index_or tallies.old.items g t) → IsHeld (taken ++ rows_shared v split.now g) a (slice_index_or tallies.new.items g t) }
+    ensures held { (a : AnAggregate) (v : Vector) → aggregate_kind a ≡ kinds.Count → AreNulls a v nulls.now → HaveTaken a (rows_shared v split.now) tallies.old.items tallies.new.items }
 {
+    count_spans(tallies, &split.kept, split.spans.as_slice(), nulls);
     count_slices(tallies, split.slices.as_slice(), nulls);
     if split.left.next_true(0) == 1024 {
         return;
@@ -93,26 +95,64 @@ fn count_split(tallies: &mut Vec<Tally>, split: &Split, nulls: &Mask)
     count_rows(tallies, &split.places, &rows);
 }
 
-/// Takes the values at the rows of a split, but for the nulls, into the tallies at their places, which keep what `kind` says.
+/// Whether a split's slices are by codes, and values can be packed, which only sums ask for; else false.
+fn are_coded_sums(kind: TallyKind, values: &[i64; 1024], split: &Split) -> bool
+    ensures kind { result ≡ true → kind ≡ kinds.Sum }
+    ensures packable { result ≡ true → ArePackable values.now }
+    ensures coded { result ≡ true → split.now.coded ≡ true }
+{
+    match kind {
+        TallyKind::Sum => split.coded && are_packable(values),
+        TallyKind::Count | TallyKind::Extreme(_) | TallyKind::Distinct => false,
+    }
+}
+
+/// Takes the values at the rows of a split's slices, but for the nulls, into the tallies at their places, which keep what `kind` says.
+fn add_sliced(
+    tallies: &mut Vec<Tally>,
+    kind: TallyKind,
+    values: &[i64; 1024],
+    split: &Split,
+    nulls: &Mask,
+    packed: &mut [i64; 1024],
+) -> Result<(), AllocError>
+    requires { AreByCode split.now }
+    ensures size { OnOk result (length tallies.new.items ≡ length tallies.old.items) }
+    ensures held { OnOk result (TakeCells kind nulls.now values.now (λ v. rows_sliced v split.now.slices.items) tallies.old.items tallies.new.items) }
+{
+    if are_coded_sums(kind, values, split) {
+        sum_codes(tallies, values, split, nulls, packed);
+        return Ok(());
+    }
+    let short = short_sums(kind, values);
+    add_slices(tallies, values, short, split.slices.as_slice(), nulls)?;
+    Ok(())
+}
+
+/// Takes the values at the rows of a split, but for the nulls, into the tallies at their places, which keep what `kind` says. `packed`
+/// is room for packed values.
 fn add_split(
     tallies: &mut Vec<Tally>,
     kind: TallyKind,
     values: &[i64; 1024],
     split: &Split,
     nulls: &Mask,
+    packed: &mut [i64; 1024],
 ) -> Result<(), AllocError>
+    requires { AreByCode split.now }
     ensures size { OnOk result (length tallies.new.items ≡ length tallies.old.items) }
-    ensures held { OnOk result ((a : AnAggregate) (v : Vector) → kind ≡ aggregate_kind a → AreCells a v nulls.now values.now → (g : ℕ) (t : ATally) (taken : List Cells) → g < length tallies.old.items → IsHeld taken a (slice_index_or tallies.old.items g t) → IsHeld (taken ++ rows_shared v split.now g) a (slice_index_or tallies.new.items g t)) }
+    ensures held { OnOk result (TakeCells kind nulls.now values.now (λ v. rows_shared v split.now) tallies.old.items tallies.new.items) }
 {
-    let short = short_sums(kind, values);
-    add_slices(tallies, values, short, split.slices.as_slice(), nulls)?;
+    let spans = split.spans.as_slice();
+    add_spans(tallies, kind, values, &split.kept, spans, nulls, packed)?;
+    add_sliced(tallies, kind, values, split, nulls, packed)?;
     if split.left.next_true(0) == 1024 {
         return Ok(());
     }
     let rows = split.left.and_not(nulls);
     match kind {
         TallyKind::Sum => sum_rows(tallies, values, &split.places, &rows),
-        TallyKind::Count | TallyKind::Least | TallyKind::Greatest | TallyKind::Distinct => {
+        TallyKind::Count | TallyKind::Extreme(_) | TallyKind::Distinct => {
             add_rows(tallies, values, &split.places, &rows)?;
         }
     }
@@ -120,7 +160,7 @@ fn add_split(
 }
 
 /// Takes the values of a column at the rows of a split into the tallies at their places, in at most one pass: COUNT needs the
-/// nulls alone. A place past the last column has no value. `values` is room for the decoded column.
+/// nulls alone. A place past the last column has no value. `values` is room for the decoded column, and `packed` for its packed values.
 fn add_values<C: Columns>(
     columns: &mut C,
     kept: &KeptVector,
@@ -129,10 +169,12 @@ fn add_values<C: Columns>(
     tallies: &mut Vec<Tally>,
     split: &Split,
     values: &mut [i64; 1024],
+    packed: &mut [i64; 1024],
 ) -> Result<(), AllocError>
-    requires { IsThere (C.seen columns.old).state kept.now.id.batch kept.now.id.vector }
+    requires there { IsThere (C.seen columns.old).state kept.now.id.batch kept.now.id.vector }
+    requires codes { AreByCode split.now }
     ensures size { OnOk result (length tallies.new.items ≡ length tallies.old.items) }
-    ensures held { OnOk result ((fold : AFold) (distinct : Bool) → kind ≡ fold_kind distinct fold → (g : ℕ) (t : ATally) (taken : List Cells) → g < length tallies.old.items → IsHeld taken (Folded fold distinct column) (slice_index_or tallies.old.items g t) → IsHeld (taken ++ rows_shared (vector_of (C.seen columns.old).state kept.now.id) split.now g) (Folded fold distinct column) (slice_index_or tallies.new.items g t)) }
+    ensures held { OnOk result (TakeColumn kind column (vector_of (C.seen columns.old).state kept.now.id) split.now tallies.old.items tallies.new.items) }
     ensures read { IsRead (C.seen columns.old) (C.seen columns.new) 1 }
 {
     // `batches` ensures that the table and the state are within their limits.
@@ -146,7 +188,7 @@ fn add_values<C: Columns>(
         return Ok(());
     }
     columns.decode_into(kept.id, column, values);
-    add_split(tallies, kind, values, split, &nulls)?;
+    add_split(tallies, kind, values, split, &nulls, packed)?;
     Ok(())
 }
 
@@ -160,8 +202,10 @@ fn add_column<C: Columns>(
     count: usize,
     split: &Split,
     values: &mut [i64; 1024],
+    packed: &mut [i64; 1024],
 ) -> Result<(), AllocError>
-    requires { IsThere (C.seen columns.old).state kept.now.id.batch kept.now.id.vector }
+    requires there { IsThere (C.seen columns.old).state kept.now.id.batch kept.now.id.vector }
+    requires codes { AreByCode split.now }
     ensures taken { OnOk result (IsTaken aggregate (vector_of (C.seen columns.old).state kept.now.id) split.now count tallies.old.items tallies.new.items) }
     ensures read { IsRead (C.seen columns.old) (C.seen columns.new) (aggregate_mentions aggregate) }
 {
@@ -174,14 +218,14 @@ fn add_column<C: Columns>(
             place,
         } => {
             let kind = fold_kind(distinct, fold);
-            add_values(columns, kept, place, kind, tallies, split, values)?;
+            add_values(columns, kept, place, kind, tallies, split, values, packed)?;
         }
     }
     Ok(())
 }
 
 /// Takes the rows of a split, which are the kept ones of a vector, into the tallies of some aggregates, of which there are so many
-/// each then. Each mention of a column takes at most one pass. `values` is room for a decoded column.
+/// each then. Each mention of a column takes at most one pass. `values` is room for a decoded column, and `packed` for its packed values.
 pub fn add_columns<C: Columns>(
     alloc: Global,
     columns: &mut C,
@@ -191,10 +235,12 @@ pub fn add_columns<C: Columns>(
     count: usize,
     split: &Split,
     values: &mut [i64; 1024],
+    packed: &mut [i64; 1024],
 ) -> Result<(), AllocError>
-    requires { IsThere (C.seen columns.old).state kept.now.id.batch kept.now.id.vector }
+    requires there { IsThere (C.seen columns.old).state kept.now.id.batch kept.now.id.vector }
+    requires codes { AreByCode split.now }
     ensures size { OnOk result (length tallies.new.items ≡ length tallies.old.items) }
-    ensures taken { OnOk result ((i : ℕ) (a : AnAggregate) (c : Items ATally) → i < length aggregates.now → i < length tallies.old.items → IsTaken (slice_index_or aggregates.now i a) (vector_of (C.seen columns.old).state kept.now.id) split.now count (slice_index_or tallies.old.items i c).items (slice_index_or tallies.new.items i c).items) }
+    ensures taken { OnOk result (AreAllTaken aggregates.now (vector_of (C.seen columns.old).state kept.now.id) split.now count tallies.old.items tallies.new.items) }
     ensures read { IsRead (C.seen columns.old) (C.seen columns.new) (sum_by aggregate_mentions aggregates.now) }
 {
     let named = aggregates.len().min(tallies.len());
@@ -208,6 +254,7 @@ pub fn add_columns<C: Columns>(
             count,
             split,
             values,
+            packed,
         )?;
     }
     Ok(())

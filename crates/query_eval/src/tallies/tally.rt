@@ -1,21 +1,23 @@
 //! Set functions of a group, value by value.
-ghost use Rattle.std.specs.Prelude.{◌≡◌, ◌≤◌, ◌^◌, ◌++◌, ◌∷◌, [], ◌+ℤ◌, ℤ, Bool, List, length, pos, IfOk, OnOk, FitsSigned, cond, false, true};
+ghost use Rattle.std.specs.Prelude.{◌≡◌, ◌≤◌, ◌++◌, ◌∷◌, [], ◌+ℤ◌, ℤ, List, length, pos, IfOk, OnOk, FitsSigned, cond, false, true};
 ghost use Rattle.std.specs.List.{list_any};
 ghost use Rattle.std.specs.Ordering.{int_eq};
 ghost use Rattle.std.specs.Int.{w128};
 ghost use Rattle.table_model.specs.Group.{state_row_limit};
-ghost use Rattle.table_model.specs.Meaning.{fold_value, once_if};
-ghost use Rattle.table_model.specs.Values.{distinct, total, least as least_of, greatest as greatest_of};
+ghost use Rattle.table_model.specs.Meaning.{fold_value};
+ghost use Rattle.table_model.specs.Values.{distinct, total};
 ghost use Rattle.table_model.proofs.Bounds.{AreSmall};
+ghost use Rattle.query_eval.specs.Extreme.{extreme_of};
 ghost use Rattle.query_eval.specs.Slices.{AreShort, values_at};
-ghost use Rattle.query_eval.specs.Tally.{AreTold, IsTally, kind_of};
+ghost use Rattle.query_eval.specs.Tally.{AreAlike, AreTold, IsFieldOf, IsTally, TakesMore, kind_of};
+ghost use Rattle.query_eval.specs.declared.tallies.extreme.Extreme.{Extreme as AnExtreme};
 ghost use Rattle.query_eval.specs.declared.tallies.tally.TallyKind.TheVariants as kinds;
 ghost use Rattle.query_eval.specs.TallyKinds.{fold_kind};
 
 use crate::answers::{sum_field, values_field, whole_field};
 use crate::tallies::distinct::{add_values, set_values};
-use crate::tallies::extremes::{greater, lesser};
-use crate::tallies::masked_folds::{count_at, greatest_at, least_at, sum_at};
+use crate::tallies::extreme::Extreme;
+use crate::tallies::masked_folds::{count_at, extreme_at, sum_at};
 use std::alloc::{AllocError, Global};
 use std::collections::HashSet;
 use table_model::{Field, Fold, MILLION};
@@ -29,8 +31,7 @@ const MOST: usize = 1 << 36;
 pub enum TallyKind {
     Count,
     Sum,
-    Least,
-    Greatest,
+    Extreme(Extreme),
     Distinct,
 }
 
@@ -50,10 +51,8 @@ pub enum Tally {
     Count(u64),
     /// How many values there are and their sum, for SUM and AVG.
     Sum(Sums),
-    /// The least value, `None` of no values.
-    Least(Option<i64>),
-    /// The greatest value, `None` of no values.
-    Greatest(Option<i64>),
+    /// The least or the greatest value, `None` of no values.
+    Extreme(Extreme, Option<i64>),
     /// The values, each once, under DISTINCT: on the heap, so that the other tallies stay small.
     Distinct(Box<HashSet<i64>>),
 }
@@ -146,7 +145,7 @@ impl Sums {
 
 /// A set function of a set's values, which are at most 2^32.
 fn set_field(alloc: Global, fold: Fold, seen: &HashSet<i64>) -> Result<Field, AllocError>
-    ensures { IfOk result (λ field. (values : List ℤ) → length values ≤ state_row_limit → ((z : ℤ) → list_any (int_eq z) seen.now.keys ≡ list_any (int_eq z) values) → field ≡ fold_value fold (distinct values)) }
+    ensures { IfOk result (λ field. (values : List ℤ) → length values ≤ state_row_limit → AreAlike seen.now.keys values → field ≡ fold_value fold (distinct values)) }
 {
     let values = set_values(alloc, seen)?;
     if values.len() > MOST {
@@ -164,8 +163,7 @@ impl Tally {
         match kind {
             TallyKind::Count => Ok(Tally::Count(0)),
             TallyKind::Sum => Ok(Tally::Sum(Sums { count: 0, sum: 0 })),
-            TallyKind::Least => Ok(Tally::Least(None)),
-            TallyKind::Greatest => Ok(Tally::Greatest(None)),
+            TallyKind::Extreme(extreme) => Ok(Tally::Extreme(extreme, None)),
             TallyKind::Distinct => {
                 let seen = Box::new(alloc, HashSet::new(alloc))?;
                 Ok(Tally::Distinct(seen))
@@ -200,15 +198,14 @@ impl Tally {
         match self {
             Tally::Count(_) => TallyKind::Count,
             Tally::Sum(_) => TallyKind::Sum,
-            Tally::Least(_) => TallyKind::Least,
-            Tally::Greatest(_) => TallyKind::Greatest,
+            Tally::Extreme(extreme, _) => TallyKind::Extreme(*extreme),
             Tally::Distinct(_) => TallyKind::Distinct,
         }
     }
 
     /// Takes so many values more, which have this sum, into a sum. A tally of another kind stays as it is.
     pub fn sum_more(&mut self, count: usize, sum: i128)
-        ensures values { (values more : List ℤ) → kind_of self.old ≡ kinds.Sum → count ≡ length more → sum ≡ total more → IsTally values self.old → IsTally (values ++ more) self.new }
+        ensures values { (values more : List ℤ) → kind_of self.old ≡ kinds.Sum → count ≡ length more → sum ≡ total more → TakesMore values more self.old self.new }
         ensures kind { kind_of self.new ≡ kind_of self.old }
     {
         if let Tally::Sum(sums) = self {
@@ -216,23 +213,13 @@ impl Tally {
         }
     }
 
-    /// Takes values more, of which this is the least, into a least value. A tally of another kind stays as it is.
-    pub fn least_more(&mut self, least: Option<i64>)
-        ensures values { (values more : List ℤ) → kind_of self.old ≡ kinds.Least → least ≡ least_of more → IsTally values self.old → IsTally (values ++ more) self.new }
+    /// Takes values more, of which this is the extreme, into the least or the greatest value. A tally of another kind stays as it is.
+    pub fn extreme_more(&mut self, value: Option<i64>)
+        ensures values { (extreme : AnExtreme) (values more : List ℤ) → kind_of self.old ≡ kinds.Extreme extreme → value ≡ extreme_of extreme more → TakesMore values more self.old self.new }
         ensures kind { kind_of self.new ≡ kind_of self.old }
     {
-        if let Tally::Least(before) = self {
-            *before = lesser(*before, least);
-        }
-    }
-
-    /// Takes values more, of which this is the greatest, into a greatest value. A tally of another kind stays as it is.
-    pub fn greatest_more(&mut self, greatest: Option<i64>)
-        ensures values { (values more : List ℤ) → kind_of self.old ≡ kinds.Greatest → greatest ≡ greatest_of more → IsTally values self.old → IsTally (values ++ more) self.new }
-        ensures kind { kind_of self.new ≡ kind_of self.old }
-    {
-        if let Tally::Greatest(before) = self {
-            *before = greater(*before, greatest);
+        if let Tally::Extreme(extreme, before) = self {
+            *before = extreme.further(*before, value);
         }
     }
 
@@ -254,8 +241,7 @@ impl Tally {
         match self {
             Tally::Count(count) => *count = count.saturating_add(1),
             Tally::Sum(sums) => sums.add(value),
-            Tally::Least(least) => *least = lesser(*least, Some(value)),
-            Tally::Greatest(greatest) => *greatest = greater(*greatest, Some(value)),
+            Tally::Extreme(extreme, before) => *before = extreme.further(*before, Some(value)),
             Tally::Distinct(seen) => insert(seen, value)?,
         }
         Ok(())
@@ -275,8 +261,9 @@ impl Tally {
         match self {
             Tally::Count(count) => *count = count.saturating_add(count_at(rows) as u64),
             Tally::Sum(sums) => sums.add_rows(values, short, rows),
-            Tally::Least(least) => *least = lesser(*least, least_at(values, rows)),
-            Tally::Greatest(greatest) => *greatest = greater(*greatest, greatest_at(values, rows)),
+            Tally::Extreme(extreme, before) => {
+                *before = extreme.further(*before, extreme_at(*extreme, values, rows));
+            }
             Tally::Distinct(seen) => add_values(seen, rows, values)?,
         }
         Ok(())
@@ -284,13 +271,12 @@ impl Tally {
 
     /// The set function's value. DISTINCT takes memory for the values.
     pub fn field(&self, alloc: Global, fold: Fold) -> Result<Field, AllocError>
-        ensures { IfOk result (λ field. (distinct : Bool) (values : List ℤ) → length values ≤ state_row_limit → AreSmall values → IsTally values self.now → kind_of self.now ≡ fold_kind distinct fold → field ≡ fold_value fold (once_if distinct values)) }
+        ensures { IfOk result (IsFieldOf fold self.now) }
     {
         match self {
             Tally::Count(count) => Ok(Field::Whole(i128::from(*count))),
             Tally::Sum(sums) => Ok(sums.field(fold)),
-            Tally::Least(least) => Ok(whole_field(*least)),
-            Tally::Greatest(greatest) => Ok(whole_field(*greatest)),
+            Tally::Extreme(_, value) => Ok(whole_field(*value)),
             Tally::Distinct(seen) => set_field(alloc, fold, seen),
         }
     }

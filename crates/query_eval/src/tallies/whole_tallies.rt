@@ -1,14 +1,13 @@
 //! The one group of a query without GROUP BY: tallies of all rows, vector by vector.
-ghost use Rattle.std.specs.Prelude.{◌≡◌, ◌<◌, ◌≤◌, ◌+◌, ◌++◌, [], List, ℤ, length, map, sum_by, IfOk, OnOk};
+ghost use Rattle.std.specs.Prelude.{◌≡◌, ◌<◌, ◌++◌, [], List, ℤ, length, sum_by, IfOk, OnOk};
 ghost use Rattle.table_model.specs.State.{Cells};
 ghost use Rattle.table_model.specs.Table.{Table};
 ghost use Rattle.query_eval.specs.Read.{IsRead};
-ghost use Rattle.query_eval.specs.Aggregate.{aggregate_value};
-ghost use Rattle.query_eval.specs.Finished.{finished_groups};
+ghost use Rattle.query_eval.specs.Finished.{fields_of, finished_groups};
 ghost use Rattle.query_eval.specs.Grouping.{IsHeld};
 ghost use Rattle.query_eval.specs.Kept.{rows_at, AreFew};
 ghost use Rattle.query_eval.specs.QueryMentions.{aggregate_mentions};
-ghost use Rattle.query_eval.specs.Taken.{AreTallied};
+ghost use Rattle.query_eval.specs.Taken.{AreTallied, TallyMore};
 ghost use Rattle.query_eval.specs.Tally.{IsTally, kind_of};
 ghost use Rattle.query_eval.specs.Vector.{IsThere, looked_at, vector_of};
 
@@ -17,6 +16,7 @@ use crate::columns::Columns;
 use crate::filter::KeptVector;
 use crate::grouping::Key;
 use crate::tallies::aggregate::Aggregate;
+use crate::tallies::extreme::Extreme;
 use crate::tallies::split_tallies::aggregate_kind;
 use crate::tallies::tally::{Tally, TallyKind};
 use std::alloc::{AllocError, Global};
@@ -55,8 +55,12 @@ fn take_values<C: Columns>(
             let sum = columns.sum(kept.id, column, &kept.rows);
             tally.sum_more(count, sum);
         }
-        TallyKind::Least => tally.least_more(columns.min(kept.id, column, &kept.rows)),
-        TallyKind::Greatest => tally.greatest_more(columns.max(kept.id, column, &kept.rows)),
+        TallyKind::Extreme(Extreme::Least) => {
+            tally.extreme_more(columns.min(kept.id, column, &kept.rows));
+        }
+        TallyKind::Extreme(Extreme::Greatest) => {
+            tally.extreme_more(columns.max(kept.id, column, &kept.rows));
+        }
         TallyKind::Distinct => {
             let nulls = columns.nulls(kept.id, column);
             columns.decode_into(kept.id, column, values);
@@ -104,7 +108,7 @@ pub fn tally_vector<C: Columns>(
     values: &mut [i64; 1024],
 ) -> Result<(), AllocError>
     requires { IsThere (C.seen columns.old).state kept.now.id.batch kept.now.id.vector }
-    ensures tallied { OnOk result ((rows : List Cells) → AreTallied aggregates.now rows tallies.old.items → AreTallied aggregates.now (rows ++ rows_at (vector_of (C.seen columns.old).state kept.now.id) kept.now.rows) tallies.new.items) }
+    ensures tallied { OnOk result (TallyMore aggregates.now (rows_at (vector_of (C.seen columns.old).state kept.now.id) kept.now.rows) tallies.old.items tallies.new.items) }
     ensures read { IsRead (C.seen columns.old) (C.seen columns.new) (sum_by aggregate_mentions aggregates.now) }
 {
     let named = aggregates.len().min(tallies.len());
@@ -120,7 +124,7 @@ fn tallied_fields(
     aggregates: &[Aggregate],
     tallies: &[Tally],
 ) -> Result<Vec<Field>, AllocError>
-    ensures { IfOk result (λ fields. (table : Table) (rows : List Cells) → AreFew table rows → AreTallied aggregates.now rows tallies.now → fields.items ≡ map (λ a. aggregate_value a rows) aggregates.now) }
+    ensures { IfOk result (λ fields. (table : Table) (rows : List Cells) → AreFew table rows → AreTallied aggregates.now rows tallies.now → fields.items ≡ fields_of aggregates.now rows) }
 {
     let mut fields = Vec::new(alloc);
     let named = aggregates.len().min(tallies.len());
@@ -137,7 +141,7 @@ pub fn whole_group(
     aggregates: &[Aggregate],
     tallies: &[Tally],
 ) -> Result<Vec<FinishedGroup>, AllocError>
-    ensures { IfOk result (λ groups. (table : Table) (rows : List Cells) → AreFew table rows → AreTallied aggregates.now rows tallies.now → groups.items ≡ finished_groups aggregates.now [] rows) }
+    ensures { IfOk result (λ all. (table : Table) (rows : List Cells) → AreFew table rows → AreTallied aggregates.now rows tallies.now → all.items ≡ finished_groups aggregates.now [] rows) }
 {
     let fields = tallied_fields(alloc, aggregates, tallies)?;
     let mut groups = Vec::new(alloc);

@@ -1,32 +1,16 @@
--- A step writes the rows that stand at it.
-use Rattle.std.proofs.Common.{◌≡◌, ℕ, ◌%◌, ◌<◌, List, slice_index, inl, inr, refl, sym, ap, ◌∙◌, arith, below_more}
-use Rattle.transpose_order.specs.Place.{lane_of}
-use Rattle.transpose_order.proofs.PlaceLemmas.{row_at-lane_of}
+-- The packed numbers are the codes.
+use Rattle.std.proofs.Common.{ℕ, List, ap, ◌∙◌}
+use Rattle.transpose_order.specs.Place.{lane_of, step_of}
 use Rattle.bit_interleave.specs.Packing.{packed_value}
 use Rattle.bit_interleave.specs.PackedWords.{PackedWords}
-use Rattle.run_dictionary.specs.Dict.{DictForm, code_at}
+use Rattle.run_dictionary.specs.Dict.{DictForm}
 use Rattle.fused_kernels.proofs.CodeLemmas.{code_of_lane}
 use Rattle.fused_kernels.proofs.row_codes.write_codes.Goals as goal
 
-pub loop-step-preserved : goal.loop-step-preserved
-loop-step-preserved c =
-    let form : DictForm = c.args.form.now in
-    let step = c.loop-step.step in
-    let code : (n : ℕ) → n < 1024 → n % 16 ≡ step → slice_index c.numbers_16.result (lane_of 16 n) ≡ code_at form n =
-    (λ n h e.
-    c.numbers_16.ensures (lane_of 16 n) (row_at-lane_of 16 n (inr (inl refl)) h).0
-    ∙ ap (λ (w : ℕ). packed_value 16 w c.words_16-words.result.now (lane_of 16 n) step) c.width-width.ensures.value
-    ∙ ap (λ (xs : List ℕ). packed_value 16 form.width xs (lane_of 16 n) step) (c.words_16-words.ensures ∙ ap (λ (x : PackedWords). x.numbers) c.codes.ensures.words)
-    ∙ ap (packed_value 16 form.width form.codes.numbers (lane_of 16 n)) (sym e)
-    ∙ code_of_lane form n) in
-    record {
-      long = c.put_step.array_long;
-      written = λ n h l.
-          below_more (λ k. n % 16 ≡ k → slice_index c.put_step.new.codes n ≡ code_at form n) step
-          (λ k before e. c.put_step.ensures.others n (λ (same : n % 16 ≡ step). omega (arith, before, e, same)) ∙ c.loop-step.invariant.written n h (omega (arith, before, e)))
-          (λ e. c.put_step.ensures.written n h e ∙ code n h e)
-          (n % 16) l refl;
-    }
-
 pub returns : goal.returns
-returns c = λ n h. c.loop-step.invariant.written n h (omega arith)
+returns c = λ n h.
+    let form : DictForm = c.args.form.now in
+    c.write_packed.ensures n h
+    ∙ ap (λ (w : ℕ). packed_value 16 w c.words_16.result.now (lane_of 16 n) (step_of 16 n)) c.width.ensures.value
+    ∙ ap (λ (xs : List ℕ). packed_value 16 form.width xs (lane_of 16 n) (step_of 16 n)) (c.words_16.ensures ∙ ap (λ (x : PackedWords). x.numbers) c.codes.ensures.words)
+    ∙ code_of_lane form n

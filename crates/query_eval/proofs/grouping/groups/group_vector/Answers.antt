@@ -11,6 +11,6 @@ returns-clause-groups g c =
     let vector = c.args.kept.now.id.vector in
     vector_more c.args.plan.now.grouping c.grouping.result.now c.args.plan.now.aggregates c.aggregates.result.now
     (vector_at (g.C.Columns.seen c.args.columns.now).state batch vector) (vector_at (g.C.Columns.seen c.place_rows.new.columns).state batch vector)
-    c.args.kept.now.rows c.args.groups.now.places c.place_rows.new.places c.place_rows.new.split c.len-count.result c.args.groups.now.tallies.items c.add_columns.new.tallies.items
+    c.args.kept.now.rows c.args.groups.now.places c.place_rows.new.places c.place_rows.new.room.split c.len-count.result c.args.groups.now.tallies.items c.add_columns.new.tallies.items
     c.grouping.ensures c.aggregates.ensures (ap (λ (x : State). vector_at x batch vector) c.place_rows.ensures.same.state)
     c.in_ok-place_rows.ensures.placed c.in_ok-place_rows.ensures.index c.len-count.ensures c.in_ok-add_columns.ensures.size c.in_ok-add_columns.ensures.taken

@@ -1,9 +1,7 @@
 -- No row is left, or each has its place by its one cell or by its key.
-use Rattle.std.proofs.Common.{◌≡◌, ◌∙◌, sym, get_or, length, arith}
-use Rattle.std.proofs.lemmas.List.{get_or_default}
-use Rattle.query_eval.specs.Decoded.{decoded_at}
-use Rattle.query_eval.specs.declared.filter.decoded.Decoded.{Decoded}
-use Rattle.query_eval.specs.declared.filter.decoded.Decoded.TheVariants.{Column}
+use Rattle.std.proofs.Common.{◌≡◌, ◌∙◌, get_or, length, arith}
+use Rattle.query_eval.specs.Keys.{key_cell}
+use Rattle.query_eval.specs.declared.grouping.key_columns.KeyColumn.{KeyColumn}
 use Rattle.query_eval.proofs.PlaceLemmas.{only_one, placed_nowhere}
 use Rattle.query_eval.proofs.grouping.row_places.place_each.Goals as goal
 
@@ -11,13 +9,13 @@ pub returns-then-next_true-eq1024-clause-placed : goal.returns-then-next_true-eq
 returns-then-next_true-eq1024-clause-placed c = λ by v shown h.
     placed_nowhere 1024 by v c.args.mask.now c.args.places.now.index c.args.out.now (λ n l. c.next_true.ensures.none n (omega arith) (omega (arith, l, c.if-next_true-eq1024.true)))
 
-pub returns-in-Column-clause-placed : goal.returns-in-Column-clause-placed
-returns-in-Column-clause-placed c = λ by v shown h.
+pub returns-then-columns-eq1-clause-placed : goal.returns-then-columns-eq1-clause-placed
+returns-then-columns-eq1-clause-placed c = λ by v shown h.
     let columns = c.args.columns.now in
     let one : length columns ≡ 1 = omega (arith, c.if-columns-eq1.true) in
-    let column : Decoded = Column c.in-Column.nulls c.in-Column.values in
-    let at : column ≡ get_or columns 0 column = sym c.in-Column.is ∙ c.index-columns-0.is ∙ get_or_default columns 0 c.index-columns-0.result column (omega (arith, one)) in
-    c.in_ok-place_by_value.ensures.placed by v (λ n l. only_one (λ d. decoded_at d n) columns column one at ∙ shown n l) h
+    let column : KeyColumn = c.index-columns-0.result in
+    let at : column ≡ get_or columns 0 column = c.index-columns-0.is in
+    c.in_ok-place_by_value.ensures.placed by v (λ n l. only_one (λ d. key_cell d n) columns column one at ∙ shown n l) h
 
 pub returns-clause-placed : goal.returns-clause-placed
 returns-clause-placed c = λ by v shown h. c.in_ok-place_by_key.ensures.placed by v shown h

@@ -1,27 +1,42 @@
 -- One run more.
-use Rattle.std.proofs.Common.{◌≡◌, ◌<◌, ◌&&◌, ltb, map, subst, arith}
-use Rattle.table_model.specs.State.{Cells, same_cells}
-use Rattle.transpose_order.specs.Mask.{has}
-use Rattle.query_eval.specs.Decoded.{decoded_at}
-use Rattle.query_eval.proofs.SliceLemmas.{run_same, sliced_more, sliced_none}
+use Rattle.std.proofs.Common.{◌<◌, ◌∙◌, Bool, List, map, length, ap, sym, subst, arith}
+use Rattle.transpose_order.specs.MaskWords.{length-rows_of}
+use Rattle.query_eval.specs.Keys.{key_cell}
+use Rattle.query_eval.specs.Slices.{AreSliced, slices_of_spans}
+use Rattle.query_eval.proofs.SliceLemmas.{run_same}
+use Rattle.query_eval.proofs.SpanLemmas.{from_cut, from_none, spanned_more, spanned_none}
 use Rattle.query_eval.proofs.grouping.slices.slice_runs.Goals as goal
 
 pub loop-init : goal.loop-init
-loop-init c = record { index = λ h. h; sliced = λ by v shown i. sliced_none by v c.args.mask.now c.args.places.now.index c.clear.new.self.items c.clear.ensures.items }
+loop-init c = record {
+  within = omega arith;
+  index = λ h. h;
+  spanned = λ by v shown h. spanned_none by v c.args.mask.now c.args.places.now.index c.clear.new.self.items (ap length c.words-words.ensures ∙ length-rows_of _) c.clear.ensures.items;
+}
+
+pub returns-then-first-eq1024-clause-spanned : goal.returns-then-first-eq1024-clause-spanned
+returns-then-first-eq1024-clause-spanned c = λ by v shown h.
+    subst (λ (left : List Bool). AreSliced by v c.args.mask.now left c.args.places.now.index c.loop.places.index (slices_of_spans c.args.mask.now c.loop.spans.items))
+    (from_none c.args.mask.now c.loop.start (λ n a b. c.next_true-first.ensures.none n a (omega (arith, b, c.if-first-eq1024.true))) ∙ sym c.none.ensures) (c.loop.invariant.spanned by v shown h)
 
 pub loop-preserved : goal.loop-preserved
 loop-preserved c =
     let inv = c.loop.invariant in
-    let row = c.next_true-row.result in
-    let inside : row < 1024 = omega (arith, c.next_true-row.ensures.within, c.if-row-eq1024.false) in
+    let columns = c.args.columns.now in
+    let first = c.next_true-first.result in
+    let end = c.next_true-end.result in
+    let inside : first < 1024 = omega (arith, c.next_true-first.ensures.within, c.if-first-eq1024.false) in
     record {
-      index = λ h. c.in_ok-slice.ensures.index (inv.index h);
-      sliced = λ by v shown i.
-          sliced_more by v c.args.mask.now c.loop.left c.and_not-left.result c.args.places.now.index c.loop.places.index c.run_at.new.places.index c.loop.slices.items c.push.new.self.items c.in_ok-slice.slice
-          (map (λ column. decoded_at column row) c.args.columns.now) row c.next_true-end.result (inv.sliced by v shown i) inside (c.next_true-row.ensures.here inside) (shown row inside) (c.in_ok-slice.ensures.taken (inv.index i))
-          (λ n l. subst (λ (k : Cells). has c.in_ok-slice.slice.rows n ≡ (has c.loop.left n && (ltb n c.next_true-end.result && same_cells (map (λ column. decoded_at column row) c.args.columns.now) k))) (shown n l) (c.in_ok-slice.ensures.rows n l))
-          c.and_not-left.ensures c.in_ok-push.ensures.items;
+      within = c.next_true-end.ensures.within;
+      index = λ h. c.in_ok-place.ensures.index (inv.index h);
+      spanned = λ by v shown h.
+          spanned_more by v c.args.mask.now c.loop.start first end (map (λ column. key_cell column first) columns) c.next_true-first.ensures.order (omega (arith, c.next_true-end.ensures.order)) c.next_true-first.ensures.none
+          (λ n a b. sym (run_same columns c.args.changes.now first end c.next_true-end.ensures.within c.requires c.next_true-end.ensures.none n a b) ∙ shown n (omega (arith, b, c.next_true-end.ensures.within)))
+          c.args.places.now.index c.loop.places.index c.place_of.new.places.index c.loop.spans.items c.push.new.self.items c.in_ok-place.place c.next_true-end.ensures.within (c.next_true-first.ensures.here inside) (inv.spanned by v shown h) (c.in_ok-place.ensures.taken (inv.index h))
+          c.in_ok-push.ensures.items;
     }
 
-pub run_at-requires-clause-same : goal.run_at-requires-clause-same
-run_at-requires-clause-same c = λ n h l. run_same c.args.columns.now c.args.changes.now c.next_true-row.result c.next_true-end.result c.next_true-end.ensures.within c.requires c.next_true-end.ensures.none n h l
+pub returns-clause-spanned : goal.returns-clause-spanned
+returns-clause-spanned c = λ by v shown h.
+    subst (λ (left : List Bool). AreSliced by v c.args.mask.now left c.args.places.now.index c.loop.places.index (slices_of_spans c.args.mask.now c.loop.spans.items))
+    (sym (c.set_range.ensures ∙ from_cut c.args.mask.now c.loop.start)) (c.loop.invariant.spanned by v shown h)

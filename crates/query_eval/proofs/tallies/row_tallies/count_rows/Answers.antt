@@ -18,7 +18,7 @@ loop-row-preserved c =
           let inside : g < length c.loop-row.tallies.items = omega (arith, l, inv.size) in
           let before = inv.held a v mask kind counted g t taken l h in
           held_counted c.loop-row.row v mask c.args.places.now g a taken c.args.rows.now c.get.result (get_or c.loop-row.tallies.items g t) (get_or c.count_value.new.tallies.items g t) c.loop-row-test.true counted c.get.ensures
-          (λ vs z q. c.count_value.ensures.values g t vs z inside (before.kind ∙ kind) q) (c.count_value.ensures.kind g t inside) before;
+          (λ vs z q. c.count_value.ensures.values z g t vs inside (before.kind ∙ kind) q) (c.count_value.ensures.kind g t inside) before;
     }
 
 pub returns-clause-held : goal.returns-clause-held

@@ -6,7 +6,7 @@ use Rattle.query_eval.proofs.GroupingLemmas.{cell_values_of}
 use Rattle.query_eval.proofs.tallies.row_tallies.count_value.Goals as goal
 
 pub returns-then-place-len-clause-values : goal.returns-then-place-len-clause-values
-returns-then-place-len-clause-values c = λ g t values z l is h.
+returns-then-place-len-clause-values c = λ z g t values l is h.
     let now = c.args.tallies.now.items in
     let place = c.args.place in
     let added : List ℤ = cond c.args.comes (z ∷ []) [] in

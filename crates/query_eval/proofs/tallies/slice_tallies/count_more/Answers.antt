@@ -6,7 +6,7 @@ use Rattle.query_eval.proofs.GroupingLemmas.{cell_values_of}
 use Rattle.query_eval.proofs.tallies.slice_tallies.count_more.Goals as goal
 
 pub returns-then-place-len-clause-values : goal.returns-then-place-len-clause-values
-returns-then-place-len-clause-values c = λ g t values added l is many h.
+returns-then-place-len-clause-values c = λ added many g t values l is h.
     let now = c.args.tallies.now.items in
     let place = c.args.place in
     let at : c.index_mut.result.now ≡ get_or c.args.tallies.now.items c.args.place c.index_mut.result.now = search rules in

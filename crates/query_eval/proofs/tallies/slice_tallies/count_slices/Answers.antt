@@ -26,7 +26,7 @@ loop-slice-preserved c =
           let added : List ℤ = aggregate_values a (rows_at v s.rows) in
           let many : c.count.result ≡ length added = count_slice a v s.rows c.args.nulls.now c.and_not-rows.result c.count.result nulls c.and_not-rows.ensures c.count.ensures in
           held_slice v slices i s g a taken (get_or c.loop-slice.tallies.items g t) (get_or c.count_more.new.tallies.items g t) added c.loop-slice-test.true c.slice-item.is refl
-          (c.count_more.ensures.values g t (aggregate_values a (taken ++ rows_sliced v (take i slices) g)) added inside (before.kind ∙ kind) many before.values) (c.count_more.ensures.kind g t inside) before;
+          (c.count_more.ensures.values added many g t (aggregate_values a (taken ++ rows_sliced v (take i slices) g)) inside (before.kind ∙ kind) before.values) (c.count_more.ensures.kind g t inside) before;
     }
 
 pub returns-clause-held : goal.returns-clause-held

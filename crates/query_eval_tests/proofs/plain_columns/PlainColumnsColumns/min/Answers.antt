@@ -9,4 +9,4 @@ pub values_at-count-requires : goal.values_at-count-requires
 values_at-count-requires c = there_plain c.args.self.now.rows c.args.id.batch c.args.id.vector c.requires.there
 
 pub returns-clause-value : goal.returns-clause-value
-returns-clause-value c = c.least_of.ensures ∙ ap least c.values_at-count.ensures.values ∙ ap (λ (v : Vector). least (looked_at v c.args.column c.args.mask.now)) (sym (vector_plain c.args.self.now.rows c.args.id.batch c.args.id.vector c.requires.there))
+returns-clause-value c = c.of.ensures ∙ ap least c.values_at-count.ensures.values ∙ ap (λ (v : Vector). least (looked_at v c.args.column c.args.mask.now)) (sym (vector_plain c.args.self.now.rows c.args.id.batch c.args.id.vector c.requires.there))

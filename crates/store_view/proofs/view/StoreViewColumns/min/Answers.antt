@@ -9,6 +9,6 @@ use Rattle.store_view.proofs.KernelLemmas.{same_values}
 pub returns-clause-value : goal.returns-clause-value
 returns-clause-value c =
     let s = c.self.inside.store.now.replica.state in
-    c.vector_min.ensures.value
+    c.vector_extreme.ensures.value
     ∙ ap least (same_values c.vector_in-found.result.now (vector_at s c.args.id.batch c.args.id.vector) c.args.column c.vector_in-found.ensures c.args.mask.now)
     ∙ ap (λ (v : ViewForm). least (looked_at (vector_at v.state c.args.id.batch c.args.id.vector) c.args.column c.args.mask.now)) c.self.view_is

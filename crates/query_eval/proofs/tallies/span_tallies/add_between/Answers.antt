@@ -1,0 +1,32 @@
+-- One span more.
+use Rattle.std.proofs.Common.{◌<◌, ◌++◌, Bool, List, ℤ, length, get_or, refl, sym, ap, subst, ◌∙◌, arith, append-nil, take}
+use Rattle.table_model.specs.State.{Cells}
+use Rattle.query_eval.specs.Grouping.{IsHeld, aggregate_values}
+use Rattle.query_eval.specs.Slices.{rows_sliced, slices_of_spans, values_at}
+use Rattle.query_eval.proofs.SpanTallyLemmas.{held_span, held_spans, values_span}
+use Rattle.query_eval.proofs.tallies.span_tallies.add_between.Goals as goal
+
+pub loop-covered-init : goal.loop-covered-init
+loop-covered-init c = record { size = refl; held = λ a v cells g t taken l h. subst (λ (rows : List Cells). IsHeld rows a (get_or c.args.tallies.now.items g t)) (sym (append-nil taken)) h }
+
+pub loop-covered-preserved : goal.loop-covered-preserved
+loop-covered-preserved c =
+    let inv = c.loop-covered.invariant in
+    let kept = c.args.kept.now in
+    let spans = c.args.spans.now in
+    let span = c.within_vector-span.result in
+    let i = c.loop-covered.covered-index in
+    record {
+      size = c.in_ok-add_slice.ensures.size ∙ inv.size;
+      held = λ a v cells g t taken l h.
+          let inside : g < length c.loop-covered.tallies.items = omega (arith, l, inv.size) in
+          let before = inv.held a v cells g t taken l h in
+          let added : List ℤ = values_at c.rows_between-between.result c.args.values.now in
+          held_span v kept spans i _ span g a taken (get_or c.loop-covered.tallies.items g t) (get_or c.add_slice.new.tallies.items g t) added c.loop-covered-test.true (c.within_vector-span.ensures.same kept)
+          (ap (λ (m : List Bool). values_at m c.args.values.now) c.rows_between-between.ensures ∙ values_span a v kept c.args.nulls.now c.and_not-rows.result c.args.values.now span.first span.end cells c.and_not-rows.ensures)
+          (c.in_ok-add_slice.ensures.values g t (aggregate_values a (taken ++ rows_sliced v (take i (slices_of_spans kept spans)) g)) inside before.values) (c.in_ok-add_slice.ensures.kind g t inside) before;
+    }
+
+pub returns-clause-held : goal.returns-clause-held
+returns-clause-held c = λ a v cells g t taken l h.
+    held_spans v c.args.kept.now c.args.spans.now c.loop-covered.covered-index g a taken (get_or c.loop-covered.tallies.items g t) c.loop-covered-test.false (c.loop-covered.invariant.held a v cells g t taken l h)

@@ -1,7 +1,0 @@
--- The least of the first values.
-use Rattle.std.proofs.Common.{◌≡◌, take}
-use Rattle.table_model.specs.Values.{least}
-use Rattle.query_eval_tests.proofs.plain_columns.least_of.Given as goal
-
-abbrev pub invariant-loop-value : goal.invariant-loop-value
-invariant-loop-value l = l.least ≡ least (take l.value-index l.values)
