@@ -108,6 +108,34 @@ pub(crate) fn unpack_into<U: LaneWord, V: LaneWord>(
     }
 }
 
+/// Writes the sixteen lanes of a piece one after another, from sixteen times their place on.
+fn put_place(lanes: Simd<u64, 16>, place: usize, numbers: &mut [u64; 1024])
+    requires lanes { length lanes ≡ 16 }
+    requires place { place < 64 }
+    ensures long { length numbers.new ≡ 1024 }
+    ensures written { (i : ℕ) → i < 16 → slice_index numbers.new (16 * place + i) ≡ slice_index lanes i }
+    ensures others { (n : ℕ) → n / 16 ≢ place → slice_index numbers.new n ≡ slice_index numbers.old n }
+{
+    let sixteen = lanes.to_array();
+    for i in 0..16 {
+        numbers[16 * place + i] = sixteen[i];
+    }
+}
+
+/// The 1024 values of words packed at `width` bits, place by place: number `16 * p + i` is the value at row `64 * i + p`.
+pub fn unpack_by_places<U: LaneWord>(width: usize, words: &[U], numbers: &mut [u64; 1024])
+    requires width { width ≤ U.BITS }
+    requires words { length words.now ≡ width * (1024 / U.BITS) }
+    ensures long { length numbers.new ≡ 1024 }
+    ensures numbers { (n : ℕ) → n < 1024 → slice_index numbers.new (16 * (n % 64) + n / 64) ≡ slice_index (unpacked U.BITS width (map U.number words.now)) n }
+{
+    let bits = U::BITS;
+    for piece in 0..64 {
+        let lanes = step_at(width, words, piece / bits, piece % bits);
+        put_place(lanes, place_in_word(bits, piece), numbers);
+    }
+}
+
 /// The 1024 values in row order of words packed at `width` bits, 0 to `U::BITS`.
 ///
 /// There are `width * lanes` words for `lanes = 1024 / U::BITS` lanes; word `w` of lane `l` is word `w * lanes + l`.

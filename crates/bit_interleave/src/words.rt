@@ -9,7 +9,7 @@ ghost use Rattle.bit_interleave.specs.PackedBytes.{bytes_of, words_of_bytes};
 
 use crate::lane_word::LaneWord;
 use crate::packing::pack_from;
-use crate::unpacking::{step_at, unpack_into, value_at};
+use crate::unpacking::{step_at, unpack_by_places, unpack_into, value_at};
 use crate::word_bytes::{put_words, words_of};
 use std::alloc::{AllocError, Global};
 use std::marker::Model;
@@ -229,6 +229,21 @@ impl Words {
             Stored::U16(words) => unpack_into(width, words.as_slice(), values),
             Stored::U32(words) => unpack_into(width, words.as_slice(), values),
             Stored::U64(words) => unpack_into(width, words.as_slice(), values),
+        }
+    }
+
+    /// The 1024 values that the words pack at `width` bits, 0 to the lane width, place by place: number `16 * p + i` is the value
+    /// at row `64 * i + p`.
+    pub fn unpack_by_places(&self, width: usize, numbers: &mut [u64; 1024])
+        requires { HasWidth self.now width }
+        ensures numbers { (n : ℕ) → n < 1024 → slice_index numbers.new (16 * (n % 64) + n / 64) ≡ slice_index (unpacked self.now.lane_width width self.now.numbers) n }
+        ensures back { self.now ≡ words_packing self.now.lane_width width (unpacked self.now.lane_width width self.now.numbers) }
+    {
+        match &self.stored {
+            Stored::U8(words) => unpack_by_places(width, words.as_slice(), numbers),
+            Stored::U16(words) => unpack_by_places(width, words.as_slice(), numbers),
+            Stored::U32(words) => unpack_by_places(width, words.as_slice(), numbers),
+            Stored::U64(words) => unpack_by_places(width, words.as_slice(), numbers),
         }
     }
 

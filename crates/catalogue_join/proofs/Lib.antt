@@ -1,3 +1,4 @@
+pub mod BatchRows
 pub mod LiveMasks
 pub mod NameLists
 pub mod NameSets

@@ -75,7 +75,7 @@ impl<S: Span> Ranges<S> {
     }
 
     /// Whether all names of the range are in the set.
-    fn has_range(&self, range: S) -> bool
+    pub fn has_range(&self, range: S) -> bool
         requires { S.shape.low range ≤ S.shape.high range }
         ensures has { result ≡ true → (p : ℕ) → covers S.shape range p ≡ true → among S.shape self.now p ≡ true }
         ensures lacks { result ≡ false → Lacks S.shape self.now (range ∷ []) }

@@ -7,7 +7,7 @@ ghost use Rattle.table_model.specs.Table.{row_limit};
 ghost use Rattle.table_model.specs.Name.{is_proper_name};
 ghost use Rattle.transpose_order.specs.Mask.{rows_of, has};
 ghost use Rattle.catalogue_join.specs.LiveMask.{is_live};
-ghost use Rattle.catalogue_join.specs.RowRange.{rows_in, rows_between, AreMaximal, RowRange};
+ghost use Rattle.catalogue_join.specs.RowRange.{rows_in, rows_between, row_names, AreMaximal, RowRange};
 
 use crate::ranges::Ranges;
 use std::alloc::{AllocError, Global};
@@ -58,6 +58,16 @@ impl Tombs {
         ensures { result ≡ list_all (set.contains self.now) rows.now }
     {
         rows.iter().all(|row| self.holds(*row))
+    }
+
+    /// Whether all rows of a batch that has so many, from 1 to 65,536, are in the set. It takes one search, and no memory.
+    pub fn holds_batch(&self, batch: BatchName, rows: usize) -> bool
+        requires some { 1 ≤ rows }
+        requires limit { rows ≤ row_limit }
+        ensures { result ≡ list_all (set.contains self.now) (row_names batch 0 rows) }
+    {
+        let first = RowName { batch, ordinal: 0 };
+        self.ranges.has_range((first, (rows - 1) as u16))
     }
 
     /// The set of some rows, in whatever order and however often they come.

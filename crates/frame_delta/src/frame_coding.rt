@@ -169,7 +169,7 @@ impl For {
         ensures { IsTrue result ↔ (self.now ≡ least_frame self.now.lane_width (frame_values self.now)) }
     {
         let mut numbers = [0; 1024];
-        self.words.unpack(self.width, &mut numbers);
+        self.words.unpack_by_places(self.width, &mut numbers);
         spread_of(&numbers).is_tight(self.words.lane_width(), self.width, self.reference)
     }
 

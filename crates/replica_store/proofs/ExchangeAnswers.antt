@@ -21,7 +21,7 @@ use Rattle.replica_store.proofs.Names.{contains-names_of}
 use Rattle.replica_store.proofs.Offers.{get-unlisted}
 use Rattle.replica_store.proofs.Idle.{absorbs}
 
-served : (b : Bool) (s t : State) → cond b (Ok s) (Err SchemaDiffers) ≡ Ok t → (b ≡ true) × (s ≡ t)
+pub served : (b : Bool) (s t : State) → cond b (Ok s) (Err SchemaDiffers) ≡ Ok t → (b ≡ true) × (s ≡ t)
 served true s t is = let same : s ≡ t = cc in (refl, same)
 served false s t is = cc
 

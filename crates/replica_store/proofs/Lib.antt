@@ -1,3 +1,5 @@
+pub mod ForgetAnswers
+pub mod Forgetting
 pub mod Conflicts
 pub mod InParts
 pub mod Joining

@@ -1,4 +1,5 @@
 pub mod Entries
+pub mod Forgets
 pub mod Exchange
 pub mod MergeLaws
 pub mod Parted
@@ -6,3 +7,4 @@ pub mod Replica
 pub mod Segments
 pub mod ExchangeLaws
 pub mod RecodeLaws
+pub mod ForgetStoreLaws

@@ -1,20 +1,21 @@
 //! The batches of a replica, in ascending order of name, in two vectors that its own origin parts.
-ghost use Rattle.std.specs.Prelude.{take, drop, slice_get, Some, ◌≡◌, ◌+◌, ◌≤◌, T, [], ◌∷◌, ◌++◌, length, reverse, nat_lt, None, IsNone, IsTrue, MatchOption, IfSome, ◌<◌, OnOk, OnErr, IfOk, vec_len, vec_capacity};
+ghost use Rattle.std.specs.Prelude.{cond, ◌||◌, is_some, take, drop, slice_get, Some, ◌≡◌, ◌+◌, ◌≤◌, T, [], ◌∷◌, ◌++◌, length, reverse, nat_lt, None, IsNone, IsTrue, MatchOption, IfSome, ◌<◌, OnOk, OnErr, IfOk, vec_len, vec_capacity};
 ghost use Rattle.std.specs.Option.{option_copied, option_to_list, option_map};
 ghost use Rattle.std.specs.FinMap as map;
-ghost use Rattle.std.specs.List.{All, insert};
+ghost use Rattle.std.specs.List.{All, insert, list_all};
 ghost use Rattle.std.specs.FinSet as set;
 ghost use Rattle.table_model.specs.Name.{name_cmp, is_proper_name};
 ghost use Rattle.table_model.specs.Table.{Table};
 ghost use Rattle.table_model.specs.declared.names.BatchName.{BatchName};
 ghost use Rattle.replica_store.specs.Entries.{count_below, merge, takes_first};
+ghost use Rattle.replica_store.specs.Forgets.{is_live_entry, live_entries, live_segments};
 ghost use Rattle.replica_store.specs.Parted.{AreParted};
 ghost use Rattle.replica_store.specs.Replica.{greatest_number, differs, conflict_with, lacked_by, names_of, entries_of};
 ghost use Rattle.replica_store.specs.Segments.{rows_in, rows_entries, conflict_in, recoded_in, AreStored, Entry, HasProperName, RecodesEntries, HoldsAt};
 ghost use Rattle.table_model.specs.State.{union_of};
 ghost use Rattle.table_model.specs.Outcome.{Acts};
 
-use catalogue_join::Held;
+use catalogue_join::{Held, Tombs};
 use segment_core::{Coding, Segment};
 use std::alloc::{AllocError, Global};
 use std::marker::Model;
@@ -231,6 +232,30 @@ impl Batches {
         }
     }
 
+    /// Whether each batch has a row that isn't among the deleted ones.
+    pub fn are_live(&self, deleted: &Tombs) -> bool
+        ensures { result ≡ list_all (is_live_entry deleted.now) (map.entries self.now.segments) }
+    {
+        are_live(self.up_to.as_slice(), deleted) && are_live(self.past.as_slice(), deleted)
+    }
+
+    /// Drops the batches all of whose rows are among the deleted ones. It takes a search among these for each batch, twice, and
+    /// memory for the names of the batches that stay.
+    pub fn forget(&mut self, alloc: Global, deleted: &Tombs) -> Result<(), AllocError>
+        requires proper { All HasProperName (map.entries self.old.segments) }
+        ensures own { self.new.own ≡ self.old.own }
+        ensures ok { OnOk result (self.new.segments ≡ live_segments deleted.now self.old.segments) }
+        ensures err { OnErr result (self.new ≡ self.old) }
+    {
+        let mut held = Held::new(alloc);
+        hold_live(&mut held, self.up_to.as_slice(), deleted)?;
+        hold_live(&mut held, self.past.as_slice(), deleted)?;
+        keep_live(&mut self.up_to, deleted);
+        keep_live(&mut self.past, deleted);
+        self.held = held;
+        Ok(())
+    }
+
     /// Puts a vector of a batch into another coding, where there is one; no row changes.
     pub fn recode(
         &mut self,
@@ -297,6 +322,59 @@ fn place_past(entries: &[(BatchName, Segment)], own: Origin) -> usize
     ensures parted { AreParted own (take result entries.now) (drop result entries.now) }
 {
     entries.partition_point(|entry| entry.0.origin.0 <= own.0)
+}
+
+/// Whether the batch has a row that isn't among the deleted ones. It takes one search among these.
+fn is_live(entry: &(BatchName, Segment), deleted: &Tombs) -> bool
+    ensures { result ≡ is_live_entry deleted.now entry.now }
+{
+    let (name, segment) = entry;
+    !deleted.holds_batch(*name, segment.rows())
+}
+
+/// Whether each of the batches has a row that isn't among the deleted ones.
+fn are_live(entries: &[(BatchName, Segment)], deleted: &Tombs) -> bool
+    ensures { result ≡ list_all (is_live_entry deleted.now) entries.now }
+{
+    entries.iter().all(|entry| is_live(entry, deleted))
+}
+
+/// Drops the batches all of whose rows are among the deleted ones.
+fn keep_live(entries: &mut Vec<(BatchName, Segment)>, deleted: &Tombs)
+    ensures { entries.new.items ≡ live_entries deleted.now entries.old.items }
+{
+    entries.retain(|entry| is_live(entry, deleted));
+}
+
+/// Adds the names of those of the batches that have a row that isn't among the deleted ones.
+fn hold_live(
+    held: &mut Held,
+    entries: &[(BatchName, Segment)],
+    deleted: &Tombs,
+) -> Result<(), AllocError>
+    requires { All HasProperName entries.now }
+    ensures { OnOk result ((q : BatchName) → set.contains held.new q
+        ≡ (set.contains held.old q || is_some (map.find name_cmp q (live_entries deleted.now entries.now)))) }
+{
+    for entry in entries {
+        hold_if_live(held, entry, deleted)?;
+    }
+    Ok(())
+}
+
+/// Adds the name of the batch where it has a row that isn't among the deleted ones.
+fn hold_if_live(
+    held: &mut Held,
+    entry: &(BatchName, Segment),
+    deleted: &Tombs,
+) -> Result<(), AllocError>
+    requires { HasProperName entry.now }
+    ensures { OnOk result (held.new ≡ cond (is_live_entry deleted.now entry.now) (set.insert held.old entry.now.0) held.old) }
+{
+    if is_live(entry, deleted) {
+        held.insert(entry.0)?;
+    }
+    Ok(())
 }
 
 /// Room for the batches of both vectors.

@@ -1,5 +1,6 @@
 //! Laws of the calls of a store, each the contract of a function that does nothing.
 ghost use Rattle.replica_store.specs.ExchangeLaws.{ExchangeLaws};
+ghost use Rattle.replica_store.specs.ForgetStoreLaws.{ForgetStoreLaws};
 ghost use Rattle.replica_store.specs.MergeLaws.{MergeLaws, KeepingLaws};
 
 /// A merge is refused with `Conflict` exactly where the states don't agree, by the least name that has two lists of rows.
@@ -18,4 +19,10 @@ pub fn exchange_laws()
 /// No call changes the schema or the own origin. A recode changes no state, and leaves all vectors but its own.
 pub fn keeping_laws()
     ensures { KeepingLaws }
+{}
+
+/// Whatever was forgotten at whatever times, a forget, a merge and an offer, however late, leave what is left of the state that they
+/// would make without any forget: all its deletions, and all its batches but for some of which every row is deleted.
+pub fn forget_store_laws()
+    ensures { ForgetStoreLaws }
 {}

@@ -9,7 +9,7 @@ mod store;
 mod summary;
 
 pub use inserted::Inserted;
-pub use laws::{exchange_laws, keeping_laws, merge_laws};
+pub use laws::{exchange_laws, forget_store_laws, keeping_laws, merge_laws};
 pub use offer::Offer;
 pub use store::{MAX_BATCHES, Store};
 pub use summary::Summary;

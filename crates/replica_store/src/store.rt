@@ -5,10 +5,12 @@ ghost use Rattle.std.specs.FinMap as map;
 ghost use Rattle.std.specs.List.{All, list_all};
 ghost use Rattle.table_model.specs.Name.{name_cmp, is_proper_name};
 ghost use Rattle.table_model.specs.Outcome.{Acts, Gives, unless};
-ghost use Rattle.table_model.specs.State.{union_of};
+ghost use Rattle.table_model.specs.State.{union_of, live_rows};
 ghost use Rattle.table_model.specs.Table.{IsBatch};
 ghost use Rattle.segment_core.specs.Segment.{canonical_segment, widths_in, widths_of};
 ghost use Rattle.segment_core.specs.SegmentBytes.{HasBytesIn};
+ghost use Rattle.forgotten_batches.specs.Forgotten.{forgotten};
+ghost use Rattle.replica_store.specs.Forgets.{live_segments, forgotten_batches};
 ghost use Rattle.replica_store.specs.Exchange.{summary_of, offered, unlisted, applied, opened};
 ghost use Rattle.replica_store.specs.Parted.{AreParted};
 ghost use Rattle.replica_store.specs.Replica.{Replica, IsWithinLimits, new_replica, entries_of, names_of, appended, inserted, merged, merge_fault, next_name, place_for, replica_with, with_batch, number_after, greatest_number, joined_with, deleted_rows, delete_fault, deleted_names, names_fault, recoded_rows, recode_fault, batch_limit};
@@ -254,6 +256,24 @@ impl Store {
         }
         let more = Tombs::from_rows(alloc, rows)?;
         self.tombs.join(&more)?;
+        Ok(())
+    }
+
+    /// Drops the batches of which every row is deleted. Their deletions stay, so these rows never come to life again, and no query
+    /// is answered otherwise.
+    ///
+    /// `Memory` is answered where there is none for the names of the batches that stay. Where no batch is dropped it takes none.
+    pub fn forget(&mut self, alloc: Global) -> Result<(), Refusal>
+        ensures acts { Acts (λ done. done) self.old.replica result self.new.replica (forgotten_batches self.old.replica) }
+        ensures segments { OnOk result (self.new.segments ≡ live_segments self.old.replica.state.deleted self.old.segments) }
+        ensures live { live_rows self.new.replica.state ≡ live_rows self.old.replica.state }
+        ensures idle { forgotten self.old.replica.state ≡ self.old.replica.state → IsOk result }
+        ensures refused { OnErr result (self.new ≡ self.old) }
+    {
+        if self.batches.are_live(&self.tombs) {
+            return Ok(());
+        }
+        self.batches.forget(alloc, &self.tombs)?;
         Ok(())
     }
 

@@ -16,8 +16,8 @@ use crate::choice::choose;
 use crate::coded::Coded;
 use crate::coding::Coding;
 use crate::cover::Cover;
-use crate::fill::fill;
-use crate::same_form::{same_form, same_values};
+use crate::fill::{fill, is_filled};
+use crate::same_form::same_form;
 use frame_delta::{Delta, For};
 use run_dictionary::{Dict, Runs};
 use std::alloc::{AllocError, Global};
@@ -138,6 +138,14 @@ impl CodedVector {
         fill(values, self.rows(), &self.null_rows());
     }
 
+    /// Whether the decoded values are the filled vector.
+    fn is_filled(&self, values: &[i64; 1024]) -> bool
+        requires { values.now ≡ values_of self.now.coded }
+        ensures { IsTrue result ↔ (values.now ≡ filled (cells_of self.now)) }
+    {
+        is_filled(values, self.rows(), &self.null_rows())
+    }
+
     /// Writes the filled vector, each value in the range of the lane width.
     fn write_filled(&self, values: &mut [i64; 1024])
         ensures values { values.new ≡ filled (cells_of self.now) }
@@ -197,15 +205,13 @@ impl CodedVector {
     {
         let mut values = [0; 1024];
         self.coded.decode(&mut values);
-        let mut full = values;
-        self.fill_decoded(&mut full);
-        if !same_values(values.as_slice(), full.as_slice()) {
+        if !self.is_filled(&values) {
             return false;
         }
         if !self.coded.is_least() {
             return false;
         }
-        choose(&full, self.coded.lane_width()) == self.coded.coding()
+        choose(&values, self.coded.lane_width()) == self.coded.coding()
     }
 
     /// Whether two vectors have the same cells, whatever their codings. It takes no memory.

@@ -11,18 +11,18 @@ use Rattle.segment_core.specs.contracts.coding.Coding.{the_type}
 use denote.Enum.Bare.{sameb, same_true}
 use Rattle.segment_core.proofs.coded_vector.CodedVector.is_canonical.Goals as goal
 
-pub fill_decoded-requires : goal.fill_decoded-requires
-fill_decoded-requires c = c.decode.ensures.values ∙ ap (λ (x : VectorForm). values_of x.coded) c.self.view_is
+pub is_filled-requires : goal.is_filled-requires
+is_filled-requires c = c.decode.ensures.values ∙ ap (λ (x : VectorForm). values_of x.coded) c.self.view_is
 
-pub returns-then-not-same_values : goal.returns-then-not-same_values
-returns-then-not-same_values c =
+pub returns-then-not-is_filled : goal.returns-then-not-is_filled
+returns-then-not-is_filled c =
     let v : VectorForm = c.args.self.now in
     let t = lane_width_of v.coded in
     let is : IsVector v = subst (λ (x : VectorForm). IsVector x) c.self.view_is c.self.invariant in
     let values : c.decode.new.values ≡ values_of v.coded = c.decode.ensures.values ∙ ap (λ (x : VectorForm). values_of x.coded) c.self.view_is in (
       λ no. absurd (cc),
       λ e. let parts = canonical_parts v t is (lane_width_is v.coded is.form) refl e in
-          c.if-not-same_values.ensures.1 (c.as_slice.ensures ∙ values ∙ parts.values ∙ sym c.fill_decoded.ensures.values ∙ sym c.as_slice-2.ensures),
+          c.if-not-is_filled.ensures.1 (values ∙ parts.values),
     )
 
 pub returns-then-not-is_least : goal.returns-then-not-is_least
@@ -48,12 +48,12 @@ returns c =
     let t = lane_width_of v.coded in
     let is : IsVector v = subst (λ (x : VectorForm). IsVector x) c.self.view_is c.self.invariant in
     let coded : c.self.inside.coded ≡ v.coded = ap (λ (x : VectorForm). x.coded) c.self.view_is in
-    let values : values_of v.coded ≡ filled (cells_of v) =
-    sym (c.decode.ensures.values ∙ ap values_of coded) ∙ sym c.as_slice.ensures ∙ c.if-not-same_values.ensures.0 refl ∙ c.as_slice-2.ensures ∙ c.fill_decoded.ensures.values in
+    let full : c.decode.new.values ≡ filled (cells_of v) = c.if-not-is_filled.ensures.0 refl in
+    let values : values_of v.coded ≡ filled (cells_of v) = sym (c.decode.ensures.values ∙ ap values_of coded) ∙ full in
     let least : v.coded ≡ least_form (coding_of v.coded) t (values_of v.coded) =
     sym coded ∙ c.if-not-is_least.ensures.0 refl ∙ ap (λ k. least_form (coding_of k) (lane_width_of k) (values_of k)) coded in
     let chosen : c.choose.result ≡ choice t (filled (cells_of v)) =
-    c.choose.ensures.value ∙ ap (λ u. choice u c.fill_decoded.new.values) (c.lane_width.ensures.value ∙ ap lane_width_of coded) ∙ ap (choice t) c.fill_decoded.ensures.values in
+    c.choose.ensures.value ∙ ap (λ u. choice u c.decode.new.values) (c.lane_width.ensures.value ∙ ap lane_width_of coded) ∙ ap (choice t) full in
     let coding : c.coding.result ≡ coding_of v.coded = c.coding.ensures ∙ ap coding_of coded in (
       λ yes. canonical_from v t is refl values least (sym chosen ∙ same_true the_type (search rules) _ _ (sym c.eq.ensures ∙ yes) ∙ coding),
       λ e. let parts = canonical_parts v t is (lane_width_is v.coded is.form) refl e in
