@@ -1,17 +1,76 @@
 #!/usr/bin/env python3
-"""Lists the definitions on which the main theorem's statement rests, and counts their lines: what a reader has to believe.
+"""Keeps docs/THEOREM.md true to the code. It lists the definitions on which the page's statements rest, and counts their lines: what a
+reader has to believe. And it compares what the page quotes with the code.
 
-It begins at the files that state the theorem and follows the imports of definitions, file by file. It writes that part of
-docs/THEOREM.md anew; with --check it only tells whether the page is fresh, by its status.
+The statements are those of the page's table `| Clause | Law | Stated in |`. From the files of its last column the script follows
+imports, file by file: of definitions, and of the types that declared types are made of, with their views. It writes the list in
+docs/THEOREM.md anew; with --check it only says by its status whether the page is fresh. It fails in either case if a file of the
+table isn't there, if a law of the table is defined in none of the row's files, or if a quoted statement is not the code's.
 """
 import pathlib, re, sys
 
 TOP = pathlib.Path(__file__).resolve().parent.parent
 CRATES = TOP / "crates"
-# Where the theorem is stated: of histories, of scripts, of merges, and of files of the first version.
-STATED = ["cluster_history/History", "lanes_main/ScriptRun", "replica_store/MergeLaws", "table_model/JoinLaws", "column_file/FirstVersion"]
-IMPORT = re.compile(r"^use Rattle\.(\w+)\.specs\.([\w.]+?)(?:\.\{| as |\.?$)", re.M)
+IMPORT = re.compile(r"^\s*(?:ghost )?use Rattle\.(\w+)\.specs\.([\w.]+?)(?:\.\{| as |\.?[;\s])", re.M)
+TYPE = re.compile(r"^pub (?:enum|struct) (\w+)[^;{]*(?:\{.*?^\}|\([^)]*\);)", re.M | re.S)
+MODEL = re.compile(r"^impl(?:<[^>]*>)? Model for .*?^\}", re.M | re.S)
+USED = re.compile(r"^use ([\w:]+?)(?:::\{([^}]*)\}|::(\w+));", re.M)
 BEGIN, END = "<!-- written by docs/believed.py -->", "<!-- until here -->"
+STATED, ALOUD = "| Clause | Law | Stated in |", "| In the code | In words |"
+
+
+def rows(page, head):
+    """The cells of the rows of the page's table that has this head."""
+    lines = page.split(head + "\n")[1].splitlines()
+    return [line.strip("| ").split(" | ") for line in lines[1 : lines.index("")]]
+
+
+def quoted(cell):
+    """What a cell has between backquotes."""
+    return re.findall(r"`([^`]+)`", cell)
+
+
+def one_line(text):
+    return " ".join(text.split())
+
+
+def definition(name, files):
+    """The text of the definition of this name in one of some files, or None."""
+    for file in files:
+        found = re.search(rf"^(?:abbrev |unfoldable )?pub (?:record |data )?{name}\b.*?(?=\n\n|\Z)", file.read_text(), re.M | re.S)
+        if found:
+            return found[0]
+    return None
+
+
+def stated(page):
+    """The files of the page's statements. The script ends here if one isn't there, or a law isn't in them."""
+    found = []
+    for clause, laws, places in rows(page, STATED):
+        files = [CRATES / place for place in quoted(places)]
+        for file in files:
+            file.exists() or sys.exit(f"docs/THEOREM.md: there is no file {file.relative_to(TOP)}, in which `{clause}` is stated")
+        for law in quoted(laws):
+            if law[0].isupper() and not definition(law, files):
+                sys.exit(f"docs/THEOREM.md: {law} is not defined in the files of its row")
+            if law.endswith("()") and not any(re.search(rf"pub fn {law[:-2]}\b", source.read_text()) for source in CRATES.glob("*/src/**/*.rt")):
+                sys.exit(f"docs/THEOREM.md: there is no function {law}")
+        found += files
+    return found
+
+
+def compare(page, files):
+    """Ends the script if a statement that the page quotes is not the code's. A row of the page that reads it aloud may leave out parts, by `..`."""
+    statements = [block for block in re.findall(r"^```\n(.*?)^```$", page, re.M | re.S) if re.match(r"[A-Z]\w* =", block)]
+    statements or sys.exit("docs/THEOREM.md: it quotes no statement")
+    for block in statements:
+        name = block.split()[0]
+        code = one_line(definition(name, files) or "")
+        code.endswith(" " + one_line(block)) or sys.exit(f"docs/THEOREM.md: {name} is not quoted as the code has it")
+    told = " ".join(map(one_line, statements))
+    for code, _ in rows(page, ALOUD):
+        for part in quoted(code)[0].split(".."):
+            one_line(part) in told or sys.exit(f"docs/THEOREM.md: `{part.strip()}` is read aloud, and is in no statement that the page quotes")
 
 
 def file_of(crate, place):
@@ -30,16 +89,35 @@ def file_of(crate, place):
     return None
 
 
+def definitions_in(text):
+    """The files of definitions that a text imports."""
+    return [found for crate, place in IMPORT.findall(text) if (found := file_of(crate, place))]
+
+
+def declaring(crate, name):
+    """The source of a crate that declares a type of this name."""
+    return [source for source in (CRATES / crate / "src").rglob("*.rt") if re.search(rf"^pub (?:enum|struct) {name}\b", source.read_text(), re.M)]
+
+
+def types_in(file):
+    """The sources of the types that the types of a source are made of."""
+    text, crate = file.read_text(), file.relative_to(CRATES).parts[0]
+    words = {word for found in TYPE.finditer(text) for word in re.findall(r"\w+", found[0])}
+    used = [(path.split("::")[0], name) for path, many, one in USED.findall(text) for name in re.findall(r"\w+", many or one)]
+    return [source for owner, name in used if name in words for source in declaring(crate if owner == "crate" else owner, name)]
+
+
 def imports(file):
-    """The files that a file of definitions imports."""
+    """The files that a file rests on: of definitions, and of a source's types and of their views."""
+    text = file.read_text()
     if file.suffix == ".rt":
-        return []
-    return [found for crate, place in IMPORT.findall(file.read_text()) if (found := file_of(crate, place))]
+        return types_in(file) + [found for model in MODEL.findall(text) for found in definitions_in(model)]
+    return definitions_in(text)
 
 
-def believed():
-    """All files that the statement rests on, the stated ones among them."""
-    found, waiting = set(), [file for name in STATED if (file := file_of(*name.split("/")))]
+def believed(files):
+    """All files that these rest on, themselves among them."""
+    found, waiting = set(), list(files)
     while waiting:
         file = waiting.pop()
         if file not in found:
@@ -49,35 +127,32 @@ def believed():
 
 
 def lines_of(file):
-    """How many lines of definitions a file has: those of a type's declaration where it is a source."""
+    """How many lines of definitions a file has: of a source those that declare types and say how contracts see them."""
     text = file.read_text()
     if file.suffix == ".rt":
-        types = re.findall(r"^pub (?:enum|struct) \w+[^;{]*(?:\{.*?^\}|\([^)]*\);)", text, re.M | re.S)
-        return sum(len(it.splitlines()) for it in types)
-    return sum(1 for line in text.splitlines() if line.strip() and not line.startswith(("use ", "--")))
+        text = "\n".join([found[0] for found in TYPE.finditer(text)] + MODEL.findall(text))
+    return sum(1 for line in map(str.strip, text.splitlines()) if line and not line.startswith(("use ", "ghost use ", "--", "//", "#[")))
 
 
-def page():
+def listed(files):
+    """The part of the page that lists files, by crate."""
     order = [line.split(":")[0].split()[0] for line in (TOP / "crates.txt").read_text().splitlines() if re.match("[a-z]", line)]
-    files = {crate: sorted(it for it in believed() if it.relative_to(CRATES).parts[0] == crate) for crate in order}
-    rows, total, count = [], 0, 0
-    for crate, found in files.items():
-        if found:
-            names = ", ".join(f"`{'/'.join(it.relative_to(CRATES / crate).parts[1:])}`" for it in found)
-            lines = sum(map(lines_of, found))
-            total, count = total + lines, count + len(found)
-            rows.append(f"| `{crate}` | {names} | {lines} |")
-    head = [f"{count} files, {total} lines of definitions, without imports and comments. Files that end in `.rt` declare a type.", "", "| Crate | Files | Lines |", "|---|---|---:|"]
-    return "\n".join([BEGIN, *head, *rows, END])
+    by_crate = {crate: sorted(it for it in files if it.relative_to(CRATES).parts[0] == crate) for crate in order}
+    names = {file: f"`{'/'.join(file.relative_to(CRATES).parts[2:])}`" for file in files}
+    table = [f"| `{crate}` | {', '.join(names[it] for it in found)} | {sum(map(lines_of, found))} |" for crate, found in by_crate.items() if found]
+    head = f"{len(files)} files, {sum(map(lines_of, files))} lines of definitions, without imports and comments. Files that end in `.rt` declare types; counted are these and how contracts see them."
+    return "\n".join([BEGIN, head, "", "| Crate | Files | Lines |", "|---|---|---:|", *table, END])
 
 
 def main():
     path = TOP / "docs" / "THEOREM.md"
-    text = path.read_text()
-    before, rest = text.split(BEGIN)
-    fresh = before + page() + rest.split(END)[1]
+    page = path.read_text()
+    files = stated(page)
+    compare(page, files)
+    before, rest = page.split(BEGIN)
+    fresh = before + listed(believed(files)) + rest.split(END)[1]
     if "--check" in sys.argv:
-        sys.exit(0 if fresh == text else "docs/THEOREM.md is stale: run docs/believed.py")
+        sys.exit(0 if fresh == page else "docs/THEOREM.md is stale: run docs/believed.py")
     path.write_text(fresh)
 
 
