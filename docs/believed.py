@@ -140,7 +140,7 @@ def listed(files):
     by_crate = {crate: sorted(it for it in files if it.relative_to(CRATES).parts[0] == crate) for crate in order}
     names = {file: f"`{'/'.join(file.relative_to(CRATES).parts[2:])}`" for file in files}
     table = [f"| `{crate}` | {', '.join(names[it] for it in found)} | {sum(map(lines_of, found))} |" for crate, found in by_crate.items() if found]
-    head = f"{len(files)} files, {sum(map(lines_of, files))} lines of definitions, without imports and comments. Files that end in `.rt` declare types; counted are these and how contracts see them."
+    head = f"{len(files)} files, {sum(map(lines_of, files))} lines of definitions, without imports and comments. Of files that end in `.rt`, the types that they declare are counted, and how contracts see them."
     return "\n".join([BEGIN, head, "", "| Crate | Files | Lines |", "|---|---|---:|", *table, END])
 
 
