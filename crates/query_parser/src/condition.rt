@@ -10,7 +10,7 @@ use crate::token::{Sign, Token};
 use std::alloc::Global;
 use table_model::{Condition, Factor, IsTruth, Primary, Refusal, Term, Test, Truth};
 
-/// `term {OR term}`, in which so many levels of parentheses may open.
+/// `term {OR term}`, in which at most this many levels of parentheses may open.
 #[tactic(auto, unfolding(crate::specs::Descent::read_condition, crate::specs::Descent::read_terms, crate::specs::Descent::read_many))]
 #[cycle(conditions)]
 pub(crate) fn condition<'t, 'a>(
@@ -112,7 +112,7 @@ fn test<'t, 'a>(
     truth_test(primary, rest, end)
 }
 
-/// `[IS [NOT] (TRUE | FALSE | UNKNOWN)]`, behind a primary
+/// `[IS [NOT] (TRUE | FALSE | UNKNOWN)]`, after a primary
 fn truth_test<'t, 'a>(primary: Primary, tokens: &'t [Token<'a>], end: u64) -> Read<'t, 'a, Test>
     ensures reads { Reads (λ r. (formula_of_test r.0, r.1.now)) result (read_is (formula_of_primary primary) end tokens.now) }
     ensures shorter { IfOk result (λ r. length r.1.now ≤ length tokens.now) }
@@ -157,7 +157,7 @@ fn primary<'t, 'a>(
     }
 }
 
-/// `[NOT] (TRUE | FALSE | UNKNOWN)`, behind IS
+/// `[NOT] (TRUE | FALSE | UNKNOWN)`, after IS
 #[tactic(auto, unfolding(crate::specs::Descent::read_asked))]
 fn asked<'t, 'a>(tokens: &'t [Token<'a>], end: u64) -> Read<'t, 'a, IsTruth>
     ensures reads { Reads (λ r. (r.0, r.1.now)) result (read_asked end tokens.now) }

@@ -9,10 +9,10 @@ use crate::token::{Kind, Sign, Token, Word};
 use std::alloc::{AllocError, Global};
 use table_model::{ColumnMention, Name, Refusal};
 
-/// What was read, and the tokens behind it.
+/// What was read, and the tokens after it.
 pub(crate) type Read<'t, 'a, X> = Result<(X, &'t [Token<'a>]), Refusal>;
 
-/// The tokens behind the sign, if they begin with it.
+/// The tokens after the sign, if they begin with it.
 #[tactic(auto, unfolding(crate::specs::Token::taken))]
 pub(crate) fn after<'t, 'a>(tokens: &'t [Token<'a>], sign: Sign) -> Option<&'t [Token<'a>]>
     ensures reads { MatchOption result (taken sign tokens.now ≡ None) (λ rest. taken sign tokens.now ≡ Some rest.now) }
@@ -25,7 +25,7 @@ pub(crate) fn after<'t, 'a>(tokens: &'t [Token<'a>], sign: Sign) -> Option<&'t [
     }
 }
 
-/// The fault of tokens that the grammar hasn't: the place of the first, or the text's end.
+/// The fault of tokens that the grammar does not have: the place of the first, or the text's end.
 pub(crate) fn syntax(tokens: &[Token<'_>], end: u64) -> Refusal
     ensures { result ≡ Refusal.Syntax (place_of end tokens.now) }
 {
@@ -35,7 +35,7 @@ pub(crate) fn syntax(tokens: &[Token<'_>], end: u64) -> Refusal
     }
 }
 
-/// The tokens behind the sign that has to come.
+/// The tokens after the sign, which has to come.
 #[tactic(auto, unfolding(crate::specs::Descent::read_sign))]
 pub(crate) fn expect<'t, 'a>(
     tokens: &'t [Token<'a>],

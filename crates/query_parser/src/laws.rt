@@ -18,13 +18,13 @@ pub fn conditions_are_unambiguous()
     ensures { ConditionsAreUnambiguous }
 {}
 
-/// What a text is read as, whatever memory does, is what the grammar says of it: the query that has its tokens, where it has no
-/// fault, and else its first fault. Each query within the limits is read, and where `Syntax` is the fault no query has the tokens.
+/// What a text is read as, whatever memory does, is what the grammar says of it: the query that has its tokens if it has no fault,
+/// and otherwise its first fault. Each query within the limits is read, and if `Syntax` is the fault no query has the tokens.
 pub fn queries_are_read()
     ensures { QueriesAreRead }
 {}
 
-/// The same of what a text is read as behind WHERE: the condition that has its tokens, or its first fault as a condition.
+/// The same of what a text is read as after WHERE: the condition that has its tokens, or its first fault as a condition.
 pub fn conditions_are_read()
     ensures { ConditionsAreRead }
 {}

@@ -138,7 +138,7 @@ fn word_kind(word: &[u8]) -> Kind<'_>
     }
 }
 
-/// What a run of digits is before the rest of the text: no token where a letter or `_` follows right behind.
+/// What a run of digits is, given the rest of the text: not a token if a letter or `_` follows directly.
 fn digits_kind<'a>(digits: &'a [u8], rest: &[u8]) -> Kind<'a>
     requires { IsTrue (list_all is_word_byte digits.now) }
     ensures { result ≡ digits_kind digits.now rest.now }

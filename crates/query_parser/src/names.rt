@@ -9,7 +9,7 @@ use table_model::{
     Primary, Query, Refusal, Schema, SetFunction, Term, column_at, same_text,
 };
 
-/// The least place so far of a column that the table has not, and of one that GROUP BY has to name and doesn't.
+/// The least places so far: of a column that the table does not have, and of one that GROUP BY has to name and does not.
 type Places = (Option<u64>, Option<u64>);
 
 /// A table's columns, and which of them GROUP BY names.
@@ -55,7 +55,7 @@ impl<'a> Names<'a> {
     }
 }
 
-/// The least of a place so far and one more.
+/// The lesser of the least place so far and one more.
 fn sooner(first: Option<u64>, at: u64) -> Option<u64>
     ensures { result ≡ sooner first at }
 {
@@ -148,7 +148,7 @@ fn in_factor(names: &Names<'_>, found: Places, factor: &Factor, bound: bool) -> 
     }
 }
 
-/// The places after the columns of a clause, if it stands.
+/// The places after the columns of a clause, if it is there.
 #[tactic(auto, unfolding(crate::specs::Resolve::places))]
 fn in_clause(names: &Names<'_>, found: Places, clause: &Option<Condition>, bound: bool) -> Places
     ensures { result ≡ places names.now.columns.now names.now.grouping.now found (in_clause bound clause.now) }
@@ -204,7 +204,7 @@ fn in_query(query: &Query, columns: &[Column]) -> Places
     in_clause(&names, grouping, &query.having, true)
 }
 
-/// The refusal that the places stand for, if any: a column that the table has not comes first.
+/// The refusal that the places stand for, if any: a column that the table does not have comes first.
 fn verdict(found: Places) -> Result<(), Refusal>
     ensures { result ≡ verdict found }
 {
@@ -217,10 +217,10 @@ fn verdict(found: Places) -> Result<(), Refusal>
 
 /// Whether the query's names are those of the table, or the first refusal.
 ///
-/// Refused are, in this order: another table (`NoSuchTable`), the least place of a column that the table has not
-/// (`NoSuchColumn`), and the least place of a column in the select list or in HAVING, outside a set function, that GROUP BY
-/// doesn't name (`NotGrouped`). Names are compared as they stand, byte for byte: `parse` folds those of a text to upper case, as
-/// a schema's are, so a query built by hand needs its names in upper case too. It takes no memory.
+/// The refusals are, in this order: another table (`NoSuchTable`), the least place of a column that the table does not have
+/// (`NoSuchColumn`), and the least place of a column in the select list or in HAVING, outside a set function, that GROUP BY does
+/// not name (`NotGrouped`). Names are compared as they are, byte for byte: `parse` folds those of a text to upper case, as a
+/// schema's are, so a query built by hand needs its names in upper case too. It takes no memory.
 pub fn resolve(query: &Query, schema: &Schema) -> Result<(), Refusal>
     ensures resolved { result ≡ resolved schema.now query.now }
     ensures judged { IsJudged schema.now query.now result }
@@ -248,7 +248,7 @@ fn in_where(condition: &Condition, columns: &[Column]) -> Places
 }
 
 /// Whether the names of a condition of WHERE are those of the table: `NoSuchColumn` has the least place of a column that the table
-/// has not. Names are compared as by [`resolve`]. It takes no memory.
+/// does not have. Names are compared as by [`resolve`]. It takes no memory.
 pub fn resolve_condition(condition: &Condition, schema: &Schema) -> Result<(), Refusal>
     ensures resolved { result ≡ resolved_condition schema.now condition.now }
     ensures judged { IsConditionJudged schema.now condition.now result }

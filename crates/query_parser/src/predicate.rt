@@ -20,7 +20,7 @@ pub(crate) enum Clause {
 }
 
 impl Clause {
-    /// Whether a set function may stand in the condition.
+    /// Whether the condition may have a set function.
     fn takes_functions(self) -> bool
         ensures { result ≡ takes_functions self }
     {
@@ -46,7 +46,7 @@ pub(crate) fn predicate<'t, 'a>(
     after_operand(alloc, clause, left, rest, end)
 }
 
-/// What stands behind a predicate's first operand.
+/// What comes after a predicate's first operand.
 #[tactic(auto, unfolding(crate::specs::Descent::read_after_operand))]
 fn after_operand<'t, 'a>(
     alloc: Global,
@@ -71,7 +71,7 @@ fn after_operand<'t, 'a>(
     }
 }
 
-/// The comparison that the tokens begin with, and the tokens behind it.
+/// The comparison that the tokens begin with, and the tokens after it.
 #[tactic(auto, unfolding(crate::specs::Descent::comparison_word))]
 fn comparison_word<'t, 'a>(tokens: &'t [Token<'a>]) -> Option<(Op, &'t [Token<'a>])>
     ensures reads { MatchOption result (comparison_word tokens.now ≡ None) (λ r. comparison_word tokens.now ≡ Some (r.0, r.1.now)) }
@@ -118,7 +118,7 @@ fn range_or_list<'t, 'a>(
     }
 }
 
-/// `operand AND operand`, behind BETWEEN
+/// `operand AND operand`, after BETWEEN
 #[tactic(auto, unfolding(crate::specs::Descent::read_range))]
 fn range<'t, 'a>(
     alloc: Global,
@@ -145,7 +145,7 @@ fn range<'t, 'a>(
     ))
 }
 
-/// `"(" literal {"," literal} ")"`, behind IN
+/// `"(" literal {"," literal} ")"`, after IN
 #[tactic(auto, unfolding(crate::specs::Descent::read_list))]
 fn list<'t, 'a>(
     alloc: Global,
@@ -187,7 +187,7 @@ fn literals<'t, 'a>(alloc: Global, tokens: &'t [Token<'a>], end: u64) -> Read<'t
     Ok((numbers, rest))
 }
 
-/// `[NOT] NULL`, behind IS
+/// `[NOT] NULL`, after IS
 #[tactic(auto, unfolding(crate::specs::Descent::read_is_null))]
 fn is_null<'t, 'a>(operand: Operand, tokens: &'t [Token<'a>], end: u64) -> Read<'t, 'a, Predicate>
     ensures reads { Reads (λ r. (r.0, r.1.now)) result (read_is_null operand end tokens.now) }
@@ -218,7 +218,7 @@ fn is_null<'t, 'a>(operand: Operand, tokens: &'t [Token<'a>], end: u64) -> Read<
     }
 }
 
-/// `identifier | literal | setf`, the last in HAVING alone
+/// `identifier | literal | setf`, the last in HAVING only
 #[tactic(auto, unfolding(crate::specs::Descent::read_operand))]
 fn operand<'t, 'a>(
     alloc: Global,

@@ -16,14 +16,14 @@ use crate::token::{Sign, Token};
 use std::alloc::Global;
 use table_model::{ColumnMention, Condition, Item, Name, Query, Refusal};
 
-/// The most parentheses that may be open at once round conditions.
+/// The most parentheses around conditions that may be open at once.
 pub(crate) const MAX_DEPTH: usize = 64;
 
 /// The query that the text is, in a profile of the query specifications of ISO/IEC 9075:1992, clause 7.9.
 ///
-/// The first fault is answered: `Syntax` names the first token that no query has there, or the text's length; `NumberTooLarge`
-/// the first digit of a literal of more than 30 digits after its leading zeros; `TooDeep` is the 65th parenthesis open at once
-/// round conditions. `Memory` may take a fault's place.
+/// The first fault is answered: `Syntax` is at the first token that no query has there, or at the text's length; `NumberTooLarge`
+/// at the first digit of a literal of more than 30 digits after its leading zeros; `TooDeep` is the 65th parenthesis around
+/// conditions that is open at once. `Memory` may take a fault's place.
 pub fn parse(alloc: Global, text: &str) -> Result<Query, Refusal>
     ensures reads { Reads (λ q. q) result (query_of text.now) }
     ensures grammar { IfOk result (λ q. IsQuery q (tokens_of text.now) []) }
@@ -68,7 +68,7 @@ fn query<'t, 'a>(alloc: Global, tokens: &'t [Token<'a>], end: u64) -> Read<'t, '
     table(alloc, items, rest, end)
 }
 
-/// `FROM identifier` and the clauses, behind the select list.
+/// `FROM identifier` and the clauses, after the select list.
 fn table<'t, 'a>(
     alloc: Global,
     items: Vec<Item>,
@@ -82,7 +82,7 @@ fn table<'t, 'a>(
     clauses(alloc, items, table.name, rest, end)
 }
 
-/// `[WHERE cond] [GROUP BY identifier {"," identifier}] [HAVING cond]`, behind the table's name.
+/// `[WHERE cond] [GROUP BY identifier {"," identifier}] [HAVING cond]`, after the table's name.
 fn clauses<'t, 'a>(
     alloc: Global,
     items: Vec<Item>,

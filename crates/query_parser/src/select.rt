@@ -76,7 +76,7 @@ fn alias<'t, 'a>(alloc: Global, tokens: &'t [Token<'a>], end: u64) -> Read<'t, '
     Ok((None, tokens))
 }
 
-/// The set function whose keyword the tokens begin with, and the tokens behind it.
+/// The set function whose keyword the tokens begin with, and the tokens after it.
 #[tactic(auto, unfolding(crate::specs::Descent::function_word))]
 pub(crate) fn function_word<'t, 'a>(tokens: &'t [Token<'a>]) -> Option<(Fold, &'t [Token<'a>])>
     ensures reads { MatchOption result (function_word tokens.now ≡ None) (λ r. function_word tokens.now ≡ Some (r.0, r.1.now)) }
@@ -98,7 +98,7 @@ pub(crate) fn function_word<'t, 'a>(tokens: &'t [Token<'a>]) -> Option<(Fold, &'
     Some((Fold::Max, rest))
 }
 
-/// What stands behind a set function's keyword: its argument in parentheses.
+/// What comes after a set function's keyword: its argument in parentheses.
 #[tactic(auto, unfolding(crate::specs::Descent::read_function))]
 pub(crate) fn set_function<'t, 'a>(
     alloc: Global,
@@ -115,7 +115,7 @@ pub(crate) fn set_function<'t, 'a>(
     Ok((function, rest))
 }
 
-/// `"*"`, which COUNT alone takes, or `[ALL | DISTINCT] identifier`
+/// `"*"`, which only COUNT takes, or `[ALL | DISTINCT] identifier`
 #[tactic(auto, unfolding(crate::specs::Descent::read_argument))]
 fn argument<'t, 'a>(
     alloc: Global,

@@ -1,4 +1,4 @@
-//! Conditions that stand alone, as they stand behind WHERE.
+//! Conditions by themselves, as they are written after WHERE.
 ghost use Rattle.std.specs.Prelude.{◌≡◌, ℕ, IfOk, Err, []};
 ghost use Rattle.table_model.specs.Reading.{Reads};
 ghost use Rattle.query_parser.specs.Descent.{read_whole_condition, condition_of};
@@ -17,7 +17,7 @@ use crate::token::Token;
 use std::alloc::Global;
 use table_model::{Condition, Refusal};
 
-/// The condition that the text is, as it stands behind WHERE.
+/// The condition that the text is, as it is written after WHERE.
 ///
 /// The first fault is answered, as by [`parse`]; a set function is `Syntax`. `Memory` may take a fault's place.
 pub fn parse_condition(alloc: Global, text: &str) -> Result<Condition, Refusal>
