@@ -15,8 +15,8 @@ use table_model::{Answer, Refusal, RowName};
 
 /// The answer of the query that a text is, over the rows of a store that aren't deleted.
 ///
-/// Refused are, in this order: `Syntax`, `NumberTooLarge` and `TooDeep`, the one whose token comes first; `NoSuchTable`;
-/// `NoSuchColumn`; `NotGrouped`; `Memory`. The text is read as it is taken apart, so `Memory` may come in the place of any.
+/// The refusals are, in this order: `Syntax`, `NumberTooLarge` and `TooDeep`, the one whose token comes first; `NoSuchTable`;
+/// `NoSuchColumn`; `NotGrouped`; `Memory`. The text is read as it is taken apart, so `Memory` may come in place of any.
 pub fn ask(alloc: Global, store: &Store, text: &str) -> Result<Answer, Refusal>
     ensures read { Reads (λ answer. answer) result (query_answer text.now store.now.replica.schema store.now.replica.state) }
     ensures refused { IfErr result (λ e. IsTrue (is_refusal_of_query e)) }
@@ -29,8 +29,8 @@ pub fn ask(alloc: Global, store: &Store, text: &str) -> Result<Answer, Refusal>
 
 /// The names of a store's rows that aren't deleted and at which the condition that a text is is true, in ascending order.
 ///
-/// Refused are, in this order: `Syntax`, `NumberTooLarge` and `TooDeep`, the one whose token comes first; `NoSuchColumn`; `Memory`.
-/// The text is read as it is taken apart, so `Memory` may come in the place of any.
+/// The refusals are, in this order: `Syntax`, `NumberTooLarge` and `TooDeep`, the one whose token comes first; `NoSuchColumn`;
+/// `Memory`. The text is read as it is taken apart, so `Memory` may come in place of any.
 pub fn names_where(alloc: Global, store: &Store, text: &str) -> Result<Vec<RowName>, Refusal>
     ensures read { Reads (λ names. names.items) result (condition_names text.now store.now.replica.schema store.now.replica.state) }
     ensures proper { IfOk result (λ names. All (λ (row : RowName). IsTrue (is_proper_name row.batch)) names.items) }

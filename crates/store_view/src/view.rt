@@ -41,7 +41,7 @@ impl<'a> Model for StoreView<'a> {
 }
 
 impl<'a> StoreView<'a> {
-    /// The view of a store, of which no pass was made.
+    /// The view of a store, with no pass made yet.
     pub fn new(store: &'a Store) -> Self
         ensures { result ≡ record { table = store.now.replica.schema; state = store.now.replica.state; passes = 0 } }
     {
@@ -59,7 +59,7 @@ fn vector_in(store: &Store, id: VectorId, column: usize) -> &CodedVector
     ensures { HasCells result.now (vector_of store.now.replica.state id) column }
 {
     let (_, segment) = store.batch(id.batch);
-    // These tell which rows and columns the segment has, and how many rows the vector covers.
+    // These say which rows and columns the segment has, and how many rows the vector covers.
     let _rows = segment.rows();
     let _columns = segment.columns();
     let found = segment.vector(column, id.vector);
@@ -91,7 +91,7 @@ fn put_past(codes: &mut [u16; 1024], covered: usize, code: u16)
     }
 }
 
-/// Whether a vector's values are coded by runs. Their values are those of rows, so that counted calls alone look at them.
+/// Whether a vector's values are coded by runs. Their values are those of rows, so only counted calls look at them.
 fn has_runs(vector: &CodedVector) -> bool {
     matches!(vector.coded(), Coded::Runs(_))
 }
