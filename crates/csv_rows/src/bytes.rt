@@ -3,7 +3,7 @@ ghost use Rattle.std.specs.Prelude.{◌≡◌, cond, ◌∷◌, ◌≤◌, ◌+�
 ghost use Rattle.csv_rows.specs.Line.{without, before_last, after_mark};
 ghost use Rattle.csv_rows.specs.Field.{quoted, unquoted, fields_of, fields_left, left_len};
 
-/// What follows such a byte at the head of the text, where it begins so.
+/// What follows such a byte at the start of the text, if it starts with one.
 pub fn without(text: &[u8], byte: u8) -> Option<&[u8]>
     ensures { option_map (λ rest. rest.now) result ≡ without byte text.now }
 {
@@ -13,7 +13,7 @@ pub fn without(text: &[u8], byte: u8) -> Option<&[u8]>
     if *first == byte { Some(rest) } else { None }
 }
 
-/// What stands before such a byte that the text ends with, where it ends so.
+/// What comes before such a byte at the end of the text, if it ends with one.
 pub fn before_last(text: &[u8], byte: u8) -> Option<&[u8]>
     ensures { option_map (λ front. front.now) result ≡ before_last byte text.now }
 {
@@ -23,7 +23,7 @@ pub fn before_last(text: &[u8], byte: u8) -> Option<&[u8]>
     if *last == byte { Some(front) } else { None }
 }
 
-/// What stands in double quotes, where the text stands in them.
+/// What is between double quotes, if the text begins and ends with one.
 fn quoted(text: &[u8]) -> Option<&[u8]>
     ensures { option_map (λ inside. inside.now) result ≡ quoted text.now }
 {
@@ -31,7 +31,7 @@ fn quoted(text: &[u8]) -> Option<&[u8]>
     before_last(rest, b'"')
 }
 
-/// The text without the double quotes that it stands in, if it stands in them.
+/// The text without the double quotes around it, if it has them.
 pub fn unquoted(text: &[u8]) -> &[u8]
     ensures { result.now ≡ unquoted text.now }
 {
@@ -41,7 +41,7 @@ pub fn unquoted(text: &[u8]) -> &[u8]
     }
 }
 
-/// What follows a byte order mark at the head of the text, where it begins so.
+/// What follows a byte order mark at the start of the text, if it starts with one.
 pub fn after_mark(text: &[u8]) -> Option<&[u8]>
     ensures { option_map (λ rest. rest.now) result ≡ after_mark text.now }
 {
@@ -50,14 +50,14 @@ pub fn after_mark(text: &[u8]) -> Option<&[u8]>
     without(rest, 0xBF)
 }
 
-/// Where the first comma stands.
+/// The place of the first comma.
 fn first_comma(text: &[u8]) -> Option<usize>
     ensures { result ≡ position (λ byte. byte == 44) text.now }
 {
     text.iter().position(|byte| *byte == b',')
 }
 
-/// The first field, and what follows its comma where it has one.
+/// The first field, and what follows its comma if it has one.
 pub fn first_field(text: &[u8]) -> (&[u8], Option<&[u8]>)
     ensures fields { fields_of text.now ≡ result.0.now ∷ fields_left (option_map (λ rest. rest.now) result.1) }
     ensures shorter { left_len (option_map (λ rest. rest.now) result.1) ≤ length text.now }

@@ -9,7 +9,7 @@ ghost use Rattle.csv_rows.specs.Field.{is_numeral, is_null_word, magnitude_of, i
 use crate::bytes::{unquoted, without};
 use table_model::{Column, same_text};
 
-/// How many digits a value is written with at most, its sign apart.
+/// The most digits that a value is written with, not counting its sign.
 const VALUE_DIGITS: usize = 30;
 
 /// How many digits write a number of 64 bits, whichever they are.
@@ -44,7 +44,7 @@ fn digits_value(text: &[u8]) -> u128
     value
 }
 
-/// A number of 1 to 19 digits, each of which is looked at once.
+/// A number of 1 to 19 digits. Each digit is looked at once.
 fn short_magnitude(text: &[u8]) -> Option<u64>
     requires { length text.now ≤ 19 }
     ensures { result ≡ magnitude_of text.now }

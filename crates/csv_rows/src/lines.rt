@@ -1,4 +1,4 @@
-//! The lines of a text, as they are read.
+//! The lines of a text, while it is read.
 ghost use Rattle.std.specs.Prelude.{◌≡◌, ◌⊎◌, ◌==◌, nat_le, nat_lt, ◌+◌, ◌-◌, ◌≤◌, ◌<◌, [], ◌++◌, suc, length, take, drop, position, IfOk, IfErr, OnOk, OnErr};
 ghost use Rattle.std.specs.Io.KnownBytes.{IsAtEnd, Consumes, Keeps};
 ghost use Rattle.table_model.specs.Counted.{one_more};
@@ -17,7 +17,7 @@ use table_model::{Counted, READ_LIMIT, Refusal};
 /// The greatest number of bytes of a line, without its end.
 pub const LINE_LIMIT: usize = 1_048_576;
 
-/// How many bytes are asked for at once.
+/// How many bytes one read asks for.
 const CHUNK: usize = 65_536;
 
 /// How many bytes a byte order mark has.
@@ -26,12 +26,12 @@ const MARK: usize = 3;
 /// How many times is read at most for a line: each time but the last a byte at least comes.
 const TURNS: u64 = READ_LIMIT + 1;
 
-/// What was taken of some bytes onto a part of a line.
+/// What was added from some bytes to a part of a line.
 #[derive(Clone, Copy)]
 pub enum Taken {
-    /// So many bytes, which end the line.
+    /// This many bytes, which end the line.
     Line(usize),
-    /// All of them, and the line goes on.
+    /// All of them, and the line continues.
     Part,
     /// So much that the line is too long.
     TooLong,
@@ -44,18 +44,18 @@ pub enum Found {
     Line,
     /// A line of more bytes than a line has.
     TooLong,
-    /// There is none.
+    /// There is no line.
     End,
 }
 
-/// Where the first line feed stands.
+/// The place of the first line feed.
 fn line_end(bytes: &[u8]) -> Option<usize>
     ensures { result ≡ position (λ byte. byte == 10) bytes.now }
 {
     bytes.iter().position(|byte| *byte == b'\n')
 }
 
-/// How many bytes may come behind a part of a line: those of a line and of its carriage return.
+/// How many bytes can follow a part of a line: up to those of a line and its carriage return.
 fn room_behind(part: &[u8]) -> usize
     ensures { result ≡ line_limit + 1 - length part.now }
 {
@@ -107,7 +107,7 @@ pub fn take_line(line: &mut Vec<u8>, bytes: &[u8]) -> Result<Taken, AllocError>
     }
 }
 
-/// The lines of a text that is read: it keeps a line and a chunk of the text.
+/// The lines of a text that is being read: it keeps a line and a chunk of the text.
 #[derive(Drop)]
 pub struct Lines {
     buffer: Vec<u8>,
@@ -130,7 +130,7 @@ impl Model for Lines {
 }
 
 impl Lines {
-    /// The lines of a text of which nothing was read.
+    /// The lines of a text, before anything is read.
     pub fn new(alloc: Global) -> Result<Lines, AllocError>
         ensures { IfOk result (λ lines. lines ≡ no_lines) }
     {
@@ -262,7 +262,7 @@ impl Lines {
         Ok(taken)
     }
 
-    /// Reads once, behind the bytes that came and weren't taken yet, and answers how many bytes came; 0 is the end.
+    /// Reads once, after the bytes that came and weren't taken yet, and answers how many bytes came; 0 is the end.
     fn refill<R: Read>(&mut self, reader: &mut Counted<R>) -> Result<usize, Refusal>
         requires { self.old.at + length self.old.pending < 65536 }
         ensures grows { IfOk result (λ count. Grows count self.old.pending self.new.pending (R.remaining reader.old.0) (R.remaining reader.new.0)) }
@@ -330,7 +330,7 @@ impl Lines {
     }
 }
 
-/// Reads once into what follows so many bytes of the buffer, and answers how many bytes came; 0 is the end.
+/// Reads once into the buffer after its first bytes, as many as are given, and answers how many bytes came; 0 is the end.
 fn read_behind<R: Read>(
     reader: &mut Counted<R>,
     buffer: &mut [u8],

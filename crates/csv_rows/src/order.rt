@@ -1,4 +1,4 @@
-//! The order in which columns stand in a text.
+//! The order of the columns in a text.
 ghost use Rattle.std.specs.Prelude.{◌≡◌, [], ℕ, ◌<◌, ◌≤◌, length, option_map, position, MatchOption, Ok, Err, IfSome, IfOk};
 ghost use Rattle.std.specs.List.{range_with_len};
 ghost use Rattle.table_model.specs.Table.{has_name};
@@ -28,7 +28,7 @@ impl Model for Order {
 }
 
 impl Order {
-    /// The order in which columns stand in the schema.
+    /// The order of the columns in the schema.
     pub fn own(alloc: Global, columns: &[Column]) -> Result<Order, AllocError>
         ensures { IfOk result (λ order. order ≡ own_order columns.now) }
     {

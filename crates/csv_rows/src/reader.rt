@@ -25,7 +25,7 @@ const BATCH_ROWS: usize = 65_536;
 /// How many lines are read at most: each but the last has a byte at least.
 const TURNS: u64 = READ_LIMIT + 1;
 
-/// How much of a field is shown.
+/// How many bytes of a field are shown.
 const SHOWN: usize = 40;
 
 /// A reader of the rows of a text of comma-separated values. It keeps a line of the text, and a chunk of 65,536 bytes.
@@ -49,8 +49,8 @@ impl Model for CsvReader {
 }
 
 impl CsvReader {
-    /// A reader of rows of this schema, from the head of a text, whose first line names all columns if it is a header. It reads
-    /// nothing.
+    /// A reader of rows of this schema, from the start of a text. If the text has a header, its first line names all columns. It reads
+    /// nothing yet.
     pub fn new(alloc: Global, schema: &Schema, has_header: bool) -> Result<CsvReader, AllocError>
         ensures { IfOk result (λ csv. csv ≡ at_start schema.now has_header) }
     {
@@ -64,9 +64,9 @@ impl CsvReader {
         })
     }
 
-    /// Reads the next rows: 65,536 of them, or fewer, maybe none, where they are the last.
+    /// Reads the next rows: 65,536 of them, or fewer, possibly none, if they are the last.
     ///
-    /// `BadCsv` and `LineTooLong` are the first fault of the text; `ReadFault` is answered only where the reader below failed or
+    /// `BadCsv` and `LineTooLong` are the first fault of the text; `ReadFault` is answered only if the reader below failed or
     /// gave more than 2^48 bytes. After an error only [`CsvReader::faulty_field`] is of use.
     pub fn next_batch<R: Read>(
         &mut self,
@@ -96,7 +96,7 @@ impl CsvReader {
     }
 
     /// The first 40 bytes of a field of the line that was read last, by its column, counted from 1: after `BadCsv` those of the
-    /// field at fault. There are none where the line has no such field.
+    /// faulty field. There are none if the line does not have that field.
     pub fn faulty_field(&self, column: u64) -> &[u8]
         ensures { length result.now ≤ 40 }
     {
@@ -106,8 +106,8 @@ impl CsvReader {
     }
 
     /// The place in the schema, from 0, of the column to which a field belongs, by the field's column in the text, counted from 1:
-    /// after `BadCsv` in a row that of the column which the faulty field stands below. None for a field of the header, and where a
-    /// line has no such field.
+    /// after `BadCsv` in a row, that of the faulty field's column. None for a field of the header, and if a line does not have that
+    /// field.
     pub fn column_of(&self, column: u64) -> Option<usize>
         ensures { IfSome result (λ place. IfSome self.now.order (λ order. slice_get order (column - 1) ≡ Some place)) }
     {
@@ -196,8 +196,8 @@ fn read_order<R: Read>(
     }
 }
 
-/// Reads a line, and puts its row behind the rows unless it is passed over; answers whether there was a line. The row is read into
-/// `cells`, in the place of what is there.
+/// Reads a line, and adds its row after the rows unless it is skipped; answers whether there was a line. The row is read into
+/// `cells`, in place of what is there.
 fn read_line<R: Read>(
     columns: &[Column],
     order: &[usize],

@@ -20,7 +20,7 @@ fn cell_at(columns: &[Column], place: usize, field: &[u8]) -> Option<Option<i128
     cell_in(column, field)
 }
 
-/// How many fields what is left of a line has.
+/// How many fields the rest of a line has.
 fn count_left(rest: Option<&[u8]>) -> usize
     ensures { result ≡ length (fields_left (option_map (λ text. text.now) rest.entry)) }
 {
@@ -30,8 +30,8 @@ fn count_left(rest: Option<&[u8]>) -> usize
     }
 }
 
-/// Puts the cell of each field at its column's place, and answers how many fields the line has; or answers the first field at
-/// fault, counted from 1.
+/// Puts the cell of each field at its column's place, and answers how many fields the line has; or answers the first faulty
+/// field, counted from 1.
 fn fill(
     columns: &[Column],
     order: &[usize],
@@ -61,8 +61,8 @@ fn fill(
     Ok(fields + count_left(rest))
 }
 
-/// Puts the row of a line with this number in the place of what is in `cells`. The fields of a good line are cut once, and counted
-/// on the way; a wrong number of them is told before a fault in one of them.
+/// Reads the row of a line with this number into `cells`, in place of what is there. The fields of a good line are cut once, and
+/// counted on the way; a wrong number of fields is reported before a fault in one of them.
 fn read_row(
     columns: &[Column],
     order: &[usize],
@@ -88,8 +88,8 @@ fn read_row(
     }
 }
 
-/// Puts the row of a line with this number behind the rows, unless the line is passed over. The row is read into `cells`, in the
-/// place of what is there.
+/// Adds the row of a line with this number after the rows, unless the line is skipped. The row is read into `cells`, in place of
+/// what is there.
 #[tactic(auto, unfolding(crate::specs::CsvText::line_rows))]
 pub fn push_row(
     columns: &[Column],

@@ -79,7 +79,7 @@ impl CsvWriter {
     }
 }
 
-/// Puts a row's name behind a text, with its commas: `1.7,3,`.
+/// Adds a row's name, with its commas, to the end of a text: `1.7,3,`.
 fn push_name(out: &mut Vec<u8>, name: RowName) -> Result<(), AllocError>
     ensures { OnOk result (out.new.items ≡ out.old.items ++ row_name_text name) }
 {
@@ -91,7 +91,7 @@ fn push_name(out: &mut Vec<u8>, name: RowName) -> Result<(), AllocError>
     out.extend_from_slice(b",")
 }
 
-/// Puts a number behind a text.
+/// Adds a number to the end of a text.
 fn push_decimal(out: &mut Vec<u8>, value: u64) -> Result<(), AllocError>
     ensures { OnOk result (out.new.items ≡ out.old.items ++ decimal value) }
 {
@@ -99,7 +99,7 @@ fn push_decimal(out: &mut Vec<u8>, value: u64) -> Result<(), AllocError>
     out.extend_from_slice(buffer.format(value).as_bytes())
 }
 
-/// Puts the line of columns' names behind a text.
+/// Adds the line of columns' names to the end of a text.
 fn push_header(out: &mut Vec<u8>, columns: &[Column]) -> Result<(), AllocError>
     ensures { OnOk result (out.new.items ≡ out.old.items ++ header_line columns.now) }
 {
@@ -112,7 +112,7 @@ fn push_header(out: &mut Vec<u8>, columns: &[Column]) -> Result<(), AllocError>
     Ok(())
 }
 
-/// Puts each column's name behind a text, with a comma before it.
+/// Adds each column's name to the end of a text, with a comma before it.
 fn push_more_names(out: &mut Vec<u8>, columns: &[Column]) -> Result<(), AllocError>
     ensures { OnOk result (out.new.items ≡ out.old.items ++ flat_map (λ column. 44 ∷ column.name) columns.now) }
 {
@@ -123,7 +123,7 @@ fn push_more_names(out: &mut Vec<u8>, columns: &[Column]) -> Result<(), AllocErr
     Ok(())
 }
 
-/// Puts the line of a row behind a text.
+/// Adds the line of a row to the end of a text.
 fn push_row(out: &mut Vec<u8>, cells: &[Option<i128>]) -> Result<(), AllocError>
     ensures { OnOk result (out.new.items ≡ out.old.items ++ row_line cells.now) }
 {
@@ -136,7 +136,7 @@ fn push_row(out: &mut Vec<u8>, cells: &[Option<i128>]) -> Result<(), AllocError>
     Ok(())
 }
 
-/// Puts each cell behind a text, with a comma before it.
+/// Adds each cell to the end of a text, with a comma before it.
 fn push_more_cells(out: &mut Vec<u8>, cells: &[Option<i128>]) -> Result<(), AllocError>
     ensures { OnOk result (out.new.items ≡ out.old.items ++ flat_map (λ cell. 44 ∷ cell_text cell) cells.now) }
 {
@@ -147,7 +147,7 @@ fn push_more_cells(out: &mut Vec<u8>, cells: &[Option<i128>]) -> Result<(), Allo
     Ok(())
 }
 
-/// Puts a cell behind a text; a null is nothing.
+/// Adds a cell to the end of a text; a null is nothing.
 fn push_cell(out: &mut Vec<u8>, cell: Option<i128>) -> Result<(), AllocError>
     ensures { OnOk result (out.new.items ≡ out.old.items ++ cell_text cell) }
 {
@@ -157,7 +157,7 @@ fn push_cell(out: &mut Vec<u8>, cell: Option<i128>) -> Result<(), AllocError>
     }
 }
 
-/// Puts a whole number behind a text.
+/// Adds a whole number to the end of a text.
 fn push_whole(out: &mut Vec<u8>, value: i128) -> Result<(), AllocError>
     ensures { OnOk result (out.new.items ≡ out.old.items ++ signed_decimal value) }
 {
