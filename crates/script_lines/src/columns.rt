@@ -37,7 +37,7 @@ fn column<'a>(words: &'a str) -> Option<(&'a str, ColType, Option<&'a str>)>
     Some((name, column_type, more))
 }
 
-/// The first word, and what follows its space where it has one.
+/// The first word, and what follows its space if it has one.
 fn first_word<'a>(text: &'a str) -> (&'a str, Option<&'a str>)
     ensures words { pieces 32 text.now ≡ result.0.now ∷ words_left (option_map (λ rest. rest.now) result.1) }
     ensures shorter { left_len (option_map (λ rest. rest.now) result.1) ≤ left_len (Some text.now) }

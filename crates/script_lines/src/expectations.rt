@@ -1,4 +1,4 @@
-//! What is expected where a line is refused as BadLine, in words for people.
+//! What is expected in place of a line that is refused as BadLine, in words for people.
 
 use crate::line::is_printable;
 use crate::verb::{Form, Verb};
@@ -13,7 +13,7 @@ const ONE_TABLE: &str = "there is one table, and it is made already";
 const VERBS: &str =
     "a line begins with append, insert, delete, merge, ask, serve, take, recode, open, export or query, and words are separated by one space each";
 
-/// What was expected of a line that is no command, once there is a table or before.
+/// What was expected in place of a line that is not a command, before or after there is a table.
 pub fn expected(line: &[u8], has_table: bool) -> &'static str {
     if !is_printable(line) {
         return BYTES;
@@ -31,7 +31,7 @@ pub fn expected(line: &[u8], has_table: bool) -> &'static str {
     }
 }
 
-/// The first word, and what follows its space where it has one.
+/// The first word, and what follows its space if it has one.
 fn first_word(text: &str) -> (&str, Option<&str>) {
     match cut(text, ' ') {
         None => (text, None),
@@ -65,7 +65,7 @@ fn of_operands(form: Form, text: &str) -> &'static str {
     of_last(form, rest)
 }
 
-/// What was expected of the last operand, which may be right but for a word that follows it.
+/// What was expected of the last operand, which may be right except for a word that follows it.
 fn of_last(form: Form, text: &str) -> &'static str {
     match cut(text, ' ') {
         Some((word, _)) if form.last.accepts(word) => form.usage,

@@ -17,10 +17,10 @@ use cluster_history::{REPLICA_LIMIT, Sql, Step};
 use std::alloc::Global;
 use table_model::{Refusal, RowName};
 
-/// The command that a line is, without its line feed; `BadLine` where it is none.
+/// The command that a line is, without its line feed; `BadLine` if it is none.
 ///
-/// Where memory lacks, `Memory` may come in place of either, but only for a line of printable bytes that begins with `table `,
-/// `append `, `insert `, `delete where `, `open ` or `query `: to read any other line no memory is taken.
+/// If memory runs out, `Memory` may come in place of either, but only for a line of printable bytes that begins with `table `,
+/// `append `, `insert `, `delete where `, `open ` or `query `. Reading any other line takes no memory.
 #[tactic(auto, unfolding(crate::specs::Line::command_of))]
 pub fn parse_line<'a>(alloc: Global, line: &'a [u8]) -> Result<Command<'a>, Refusal>
     ensures command { ReadsPart (λ command. command) result (command_of line.now) }
@@ -68,7 +68,7 @@ fn words<'a>(alloc: Global, verb: Verb, text: &'a str) -> Result<Command<'a>, Re
     }
 }
 
-/// The step as a command; it is missing only where the words are wrong.
+/// The step as a command; it is missing only if the words are wrong.
 fn act<'a>(step: Option<Step>) -> Result<Command<'a>, Refusal>
     ensures command { ReadsPart (λ command. command) result (option_map Act step) }
     ensures refused { IfErr result (λ e. e ≡ Refusal.BadLine) }
@@ -118,7 +118,7 @@ pub(crate) fn replicas(text: &str) -> Option<usize>
     }
 }
 
-/// The replica that a step is asked of, and the words that follow it.
+/// The number of the replica that a step is for, and the words that follow it.
 #[tactic(auto, unfolding(crate::specs::Line::addressed))]
 fn addressed(text: &str) -> Option<(u32, &str)>
     ensures { option_map (λ at. (at.0, at.1.now)) result ≡ addressed text.now }

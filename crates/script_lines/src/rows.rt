@@ -29,7 +29,7 @@ pub fn rows(alloc: Global, text: &str) -> Result<RowBatch, Refusal>
     Err(Refusal::BadLine)
 }
 
-/// Reads the row of values that follow a parenthesis into `cells`, in place of what is there.
+/// Reads the row of values after a parenthesis into `cells`, in place of what is there.
 fn read_opened_cells(text: &str, cells: &mut Vec<Option<i128>>) -> Result<(), Refusal>
     ensures row { ReadsPart (λ done. cells.new.items) result (opened_cells text.now) }
     ensures unopened { without 40 text.now ≡ None → result ≡ Err Refusal.BadLine }
@@ -40,7 +40,7 @@ fn read_opened_cells(text: &str, cells: &mut Vec<Option<i128>>) -> Result<(), Re
     }
 }
 
-/// Reads the row of values that are joined by commas into `cells`, in place of what is there.
+/// Reads the row of values joined by commas into `cells`, in place of what is there.
 fn read_cells(text: &str, cells: &mut Vec<Option<i128>>) -> Result<(), Refusal>
     ensures { ReadsPart (λ done. cells.new.items) result (cells_of text.now) }
 {

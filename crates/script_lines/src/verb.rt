@@ -92,7 +92,7 @@ impl Verb {
     }
 }
 
-/// What follows the word `where` and its space, at the head of a text.
+/// What follows the word `where` and its space at the start of a text.
 #[tactic(auto, unfolding(crate::specs::Verb::after_where))]
 fn after_where(text: &str) -> Option<&str>
     ensures { option_map (λ rest. rest.now) result ≡ after_where text.now }
@@ -114,7 +114,7 @@ pub fn leading(line: &str) -> Option<(Verb, &str)>
 /// How a command is written.
 #[derive(Clone, Copy)]
 pub struct Form {
-    /// The whole of it, in words for people.
+    /// All of it, in words for people.
     pub usage: &'static str,
     /// What follows its verb, but for the last: a word each.
     pub operands: &'static [Operand],

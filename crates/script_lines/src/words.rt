@@ -18,10 +18,10 @@ pub const NUMBER_DIGITS: usize = 10;
 /// How many digits an ordinal is written with at most.
 const ORDINAL_DIGITS: usize = 5;
 
-/// How many digits a value is written with at most, its sign apart.
+/// The most digits that a value is written with, not counting its sign.
 const VALUE_DIGITS: usize = 30;
 
-/// What stands before the first such character and what stands after it, where there is one.
+/// What is before the first such character and what is after it, if there is one.
 pub fn cut(text: &str, separator: char) -> Option<(&str, &str)>
     requires { separator < 128 }
     ensures parts { option_map (λ parts. (parts.0.now, parts.1.now)) result ≡ cut separator text.now }
@@ -30,7 +30,7 @@ pub fn cut(text: &str, separator: char) -> Option<(&str, &str)>
     text.split_once(separator)
 }
 
-/// What follows such a character at the head of the text, where it begins so.
+/// What follows such a character at the start of the text, if it starts with one.
 pub fn without(text: &str, first: char) -> Option<&str>
     requires { first < 128 }
     ensures rest { option_map (λ rest. rest.now) result ≡ without first text.now }
@@ -39,7 +39,7 @@ pub fn without(text: &str, first: char) -> Option<&str>
     text.strip_prefix(first)
 }
 
-/// Whether the text is 1 to so many digits.
+/// Whether the text is 1 digit to this many.
 #[tactic(auto, unfolding(crate::specs::Word::is_numeral))]
 fn is_numeral(text: &[u8], digits: usize) -> bool
     ensures { result ≡ is_numeral digits text.now }
@@ -68,7 +68,7 @@ fn digits_value(text: &[u8]) -> u128
     value
 }
 
-/// The number that 1 to so many digits write, where it is at most the limit.
+/// The number that 1 to this many digits write, if it is at most the limit.
 #[tactic(auto, unfolding(crate::specs::Word::number_of, crate::specs::Word::is_numeral))]
 pub fn number(text: &str, digits: usize, limit: u128) -> Option<u128>
     requires { digits ≤ value_digits }
@@ -169,7 +169,7 @@ pub fn coding(text: &str) -> Option<Coding>
     None
 }
 
-/// The text, where it isn't empty.
+/// The text, if it isn't empty.
 pub fn some_text(text: &str) -> Option<&str>
     ensures { option_map (λ t. t.now) result ≡ some_text text.now }
 {
