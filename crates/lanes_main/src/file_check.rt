@@ -26,9 +26,9 @@ fn checked_line(alloc: Global, checked: Checked) -> Result<Vec<u8>, AllocError>
 
 /// Checks a canonical file, and writes how many batches and maximal ranges it has: `ok batches=B ranges=R` and a line feed.
 ///
-/// Refused are the faults of [`column_file::check`], and then a write that fails (`WriteFault`), after which what was written is a
-/// front of the line; before any other refusal nothing is written. `ReadFault` is answered only where the reader's count of failures rose or it gave more than 2^48 bytes, and
-/// `WriteFault` only where the writer's rose.
+/// The refusals are the faults of [`column_file::check`], and then a write that fails (`WriteFault`). After that, what was written is
+/// a beginning of the line; before any other refusal nothing is written. `ReadFault` is answered only if the reader's count of
+/// failures rose or it gave more than 2^48 bytes, and `WriteFault` only if the writer's count rose.
 pub fn check_file<R: Read, W: Write>(
     alloc: Global,
     reader: &mut Counted<R>,

@@ -10,10 +10,10 @@ use std::alloc::Global;
 use std::io::{self, Read, Write};
 use table_model::{Counted, READ_LIMIT, Refusal};
 
-/// How many times is read at most: each round but the last reads a byte at least.
+/// The most reads: each round but the last reads at least a byte.
 const ROUNDS: u64 = READ_LIMIT + 1;
 
-/// How many bytes are asked for at once.
+/// How many bytes one read asks for.
 const CHUNK: usize = 65_536;
 
 /// Reads once, answers the lines that end in what came, and writes their replies; answers how many bytes came, 0 at the end.
@@ -47,7 +47,7 @@ fn round<R: Read, W: Write, N: Write>(
     Ok(count)
 }
 
-/// Reads to the end of the input; what is left is a part of a line that no line feed ended.
+/// Reads to the end of the input; what is left is a part of a line without a line feed.
 fn rounds<R: Read, W: Write, N: Write>(
     alloc: Global,
     reader: &mut Counted<R>,
@@ -83,10 +83,10 @@ fn rounds<R: Read, W: Write, N: Write>(
 
 /// Reads a script to its end, and writes the reply to each line that isn't empty.
 ///
-/// `Memory`, `ReadFault` and `WriteFault` end it with that refusal. After `ReadFault` the replies of all lines that were read
-/// whole are written; after each of them what was written is a front of the script's text. `ReadFault` is answered only where the
-/// reader's count of failures rose or it gave more than 2^48 bytes, and `WriteFault` only where the writer's rose. Of its input it
-/// holds one line at most, and a buffer of 65,536 bytes.
+/// `Memory`, `ReadFault` and `WriteFault` end it with that refusal. After `ReadFault` the replies to all lines that were read
+/// whole are written; after each of the three, what was written is a beginning of the script's text. `ReadFault` is answered only if
+/// the reader's count of failures rose or it gave more than 2^48 bytes, and `WriteFault` only if the writer's count rose. It is
+/// written to hold at most one line of its input and a buffer of 65,536 bytes; no clause says so.
 pub fn script<R: Read, W: Write>(
     alloc: Global,
     reader: &mut Counted<R>,
@@ -103,8 +103,8 @@ pub fn script<R: Read, W: Write>(
     script_with_notes(alloc, reader, writer, &mut io::sink())
 }
 
-/// As [`script`], and tells a third writer of each line that is refused: its number, counted from 1, its reply, and what that
-/// means, or for `BadLine` what was expected there. What that writer doesn't take is dropped.
+/// As [`script`], and in addition writes a note on each refused line to a third writer: the line's number, counted from 1, its
+/// reply, and what that means, or for `BadLine` what was expected there. What that writer doesn't take is dropped.
 pub fn script_with_notes<R: Read, W: Write, N: Write>(
     alloc: Global,
     reader: &mut Counted<R>,

@@ -1,5 +1,5 @@
-//! Scripts of a table at several replicas: lines are read, each is answered, and replies are written as their texts. What steps
-//! and clusters are stands in the crates below, and is offered here too.
+//! Scripts of a table at several replicas: lines are read, each is answered, and replies are written as their texts. Steps and
+//! clusters are defined in the crates below, and offered here too.
 #![tactic(auto)]
 
 mod file_check;

@@ -8,8 +8,8 @@ use std::marker::Model;
 /// The greatest number of bytes of a line, without its line feed.
 pub const LINE_LIMIT: usize = 1_048_576;
 
-/// What was read of a line so far: its bytes up to one past the limit. What follows them is dropped, since the line is too long
-/// whatever it is.
+/// What was read of a line so far: its bytes up to one past the limit. What follows them is dropped, since the line is too long in
+/// any case.
 #[derive(Drop)]
 pub struct LinePart {
     bytes: Vec<u8>,

@@ -6,8 +6,8 @@ use std::alloc::{AllocError, Global};
 use std::io::Write;
 use table_model::Refusal;
 
-/// The notes on refused lines that nobody was told yet: for each its number, counted from 1, its reply, and what that means, or
-/// where it is no command what was expected there.
+/// The notes on refused lines that weren't written yet: for each its number, counted from 1, its reply, and what that means, or
+/// if it is not a command what was expected there.
 #[derive(Drop)]
 pub struct Notes {
     lines: u64,
@@ -23,7 +23,7 @@ impl Notes {
         }
     }
 
-    /// Counts a line, which what is noted next is said of.
+    /// Counts a line; what is noted next is about it.
     pub fn next_line(&mut self) {
         self.lines = self.lines.saturating_add(1);
     }
@@ -57,7 +57,7 @@ impl Notes {
     }
 }
 
-/// What a refusal means, without its place, which stands among its values.
+/// What a refusal means, without its place, which is among its values.
 fn meaning_of<'a>(refusal: Refusal) -> Sentence<'a> {
     Sentence {
         knowledge: Knowledge::Argument,
@@ -66,7 +66,7 @@ fn meaning_of<'a>(refusal: Refusal) -> Sentence<'a> {
 }
 
 /// Shows where a query is refused, as far as the writer takes it: the line of the place, and a caret under the place. A refusal
-/// that names no place shows nothing.
+/// without a place shows nothing.
 pub fn point_at<N: Write>(
     alloc: Global,
     query: &str,

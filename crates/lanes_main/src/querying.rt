@@ -58,10 +58,10 @@ fn write_answers<W: Write, N: Write>(
 
 /// Writes the answers of queries over a canonical file, one after another.
 ///
-/// Refused are, in this order, what [`open`] refuses; and then of one query after another what it is refused as, where the answers
-/// before it are written; `Memory`; `WriteFault`. `ReadFault` is answered only where the reader's count of failures rose or it gave
-/// more than 2^48 bytes, and then nothing is written; `WriteFault` only where the writer's rose; then, and after `Memory`, what was
-/// written is a front of the answers.
+/// The refusals are, in this order, those of [`open`]; then those of one query after another, with the answers before it written;
+/// `Memory`; `WriteFault`. `ReadFault` is answered only if the reader's count of failures rose or it gave more than 2^48 bytes, and
+/// then nothing is written. `WriteFault` is answered only if the writer's count rose. Then, and after `Memory`, what was written is
+/// a beginning of the answers.
 pub fn query_file<R: Read, W: Write>(
     alloc: Global,
     reader: &mut Counted<R>,
@@ -79,8 +79,8 @@ pub fn query_file<R: Read, W: Write>(
     query_file_with_notes(alloc, reader, queries, writer, &mut io::sink())
 }
 
-/// As [`query_file`], and shows a third writer where a query is refused at a place of its text: the line of the place, and a caret
-/// under the place. What that writer doesn't take is dropped.
+/// As [`query_file`], and shows on a third writer where a query is refused at a place of its text: the line of the place, and a
+/// caret under the place. What that writer doesn't take is dropped.
 pub fn query_file_with_notes<R: Read, W: Write, N: Write>(
     alloc: Global,
     reader: &mut Counted<R>,

@@ -20,7 +20,7 @@ pub fn reply_text(alloc: Global, reply: &Reply) -> Result<Vec<u8>, AllocError>
     Ok(out)
 }
 
-/// Writes the text of a reply behind what is there.
+/// Writes the text of a reply after what is there.
 #[tactic(auto, unfolding(crate::specs::ReplyText::reply_text_of))]
 pub fn write_reply(alloc: Global, out: &mut Vec<u8>, reply: &Reply) -> Result<(), AllocError>
     ensures { OnOk result (out.new.items ≡ out.old.items ++ reply_text_of reply.now) }
@@ -48,7 +48,7 @@ fn write_named(out: &mut Vec<u8>, name: BatchName) -> Result<(), AllocError>
     out.extend_from_slice(b"\n")
 }
 
-/// Writes whether a batch that was put is new.
+/// Writes whether an inserted batch is new.
 fn write_put(out: &mut Vec<u8>, inserted: Inserted) -> Result<(), AllocError>
     ensures { OnOk result (out.new.items ≡ out.old.items ++ put_text inserted) }
 {

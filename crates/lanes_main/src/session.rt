@@ -16,8 +16,8 @@ use std::alloc::Global;
 use std::io::Write;
 use table_model::{Refusal, Schema};
 
-/// What a script has made so far: the cluster, once there is a table, the part of a line that was read last, and the notes on
-/// refused lines that weren't told yet.
+/// What a script has made so far: the cluster, once there is a table; the part of a line that was read last; and the notes on
+/// refused lines that weren't written yet.
 #[derive(Drop)]
 pub struct Session {
     cluster: Option<Cluster>,
@@ -77,7 +77,7 @@ impl Session {
         Ok(())
     }
 
-    /// Tells a writer the notes on refused lines, as far as it takes them.
+    /// Writes the notes on refused lines to a writer, as far as it takes them.
     pub fn tell<N: Write>(&mut self, writer: &mut N)
         ensures cluster { self.new.cluster ≡ self.old.cluster }
         ensures line { self.new.line ≡ self.old.line }
@@ -86,7 +86,7 @@ impl Session {
     }
 }
 
-/// A refusal as a reply, unless memory lacked: that ends a script.
+/// A refusal as a reply, unless it is `Memory`, which ends a script.
 fn unless_memory(refusal: Refusal) -> Result<Reply, Refusal>
     ensures ok { IfOk result (λ reply. (reply ≡ Reply.Refused refusal) × (refusal ≢ Refusal.Memory)) }
     ensures memory { IfErr result (λ e. e ≡ Refusal.Memory) }
@@ -140,7 +140,7 @@ fn first_reply(alloc: Global, line: &[u8]) -> Result<(Reply, Option<Cluster>), R
     }
 }
 
-/// The reply to a step, unless memory lacked.
+/// The reply to a step, unless memory ran out.
 fn act(alloc: Global, cluster: &mut Cluster, step: &Step) -> Result<Reply, Refusal>
     ensures ok { IfOk result (λ reply. answered (step_of cluster.old.parts step.now) cluster.old.parts ≡ (reply, cluster.new.parts)) }
     ensures memory { IfErr result (λ e. e ≡ Refusal.Memory) }
@@ -182,7 +182,7 @@ fn line_reply(alloc: Global, cluster: &mut Option<Cluster>, line: &[u8]) -> Resu
     }
 }
 
-/// Answers a line: writes the text of its reply behind what is there, and notes it where it is refused. An empty line has no
+/// Answers a line: writes the text of its reply after what is there, and notes it if it is refused. An empty line has no
 /// reply.
 fn answer_line(
     alloc: Global,
@@ -208,14 +208,14 @@ fn answer_line(
     Ok(())
 }
 
-/// Where the first line feed stands.
+/// The place of the first line feed.
 fn line_end(bytes: &[u8]) -> Option<usize>
     ensures { result ≡ position (λ byte. byte == 10) bytes.now }
 {
     bytes.iter().position(|byte| *byte == b'\n')
 }
 
-/// What stands before the first line feed and what stands after it, where there is one.
+/// What is before the first line feed and what is after it, if there is one.
 fn cut_line(bytes: &[u8]) -> Option<(&[u8], &[u8])>
     ensures parts { option_map (λ parts. (parts.0.now, parts.1.now)) result ≡ cut 10 bytes.now }
     ensures shorter { IfSome result (λ parts. length parts.1.now < length bytes.now) }
