@@ -28,7 +28,7 @@ pub const REPLICA_LIMIT: usize = 64;
 const MESSAGE_LIMIT: usize = 65_536;
 
 /// A table at replicas and the messages between them, both numbered from 1. Contracts see it as the schema, the list of replicas
-/// and the list of what the messages bring, and beside that the segments in which the batches of both lie, with their codings.
+/// and the list of what the messages bring, and in addition the segments of the batches of both, with their codings.
 ///
 /// A step that is refused leaves the cluster as it was, codings included.
 #[derive(Drop)]
@@ -73,7 +73,7 @@ impl Cluster {
         &self.schema
     }
 
-    /// The replicas; number 1 stands first.
+    /// The replicas; number 1 is the first.
     pub fn stores(&self) -> &[Store]
         ensures replicas { replicas_in result.now ≡ self.now.parts.stores }
         ensures segments { segments_in result.now ≡ self.now.segments.stores }
@@ -81,7 +81,7 @@ impl Cluster {
         self.stores.as_slice()
     }
 
-    /// The messages; number 1 stands first.
+    /// The messages; number 1 is the first.
     pub fn messages(&self) -> &[Message]
         ensures messages { messages_in result.now ≡ self.now.parts.messages }
         ensures segments { segments_brought result.now ≡ self.now.segments.messages }
@@ -129,7 +129,7 @@ impl Cluster {
         Ok(Reply::Put(inserted))
     }
 
-    /// Deletes rows of a batch at a replica; where all of them are deleted already it takes no memory.
+    /// Deletes rows of a batch at a replica. If all of them are deleted already it takes no memory.
     fn delete(
         &mut self,
         alloc: Global,
@@ -144,7 +144,7 @@ impl Cluster {
         Ok(Reply::Done)
     }
 
-    /// Deletes a replica's rows at which the condition that a text is is true; that there is no such replica is told before the
+    /// Deletes a replica's rows at which the condition that a text is is true. That there is no such replica is reported before the
     /// text is read.
     fn delete_where(
         &mut self,
@@ -160,7 +160,7 @@ impl Cluster {
         Ok(Reply::Deleted(names.len() as u64))
     }
 
-    /// Merges the other replica into a replica; with itself nothing changes. Where nothing changes it takes no memory.
+    /// Merges the other replica into a replica; with itself nothing changes. If nothing changes it takes no memory.
     fn merge(&mut self, alloc: Global, replica: u32, other: u32) -> Result<Reply, Refusal>
         ensures { ActsOn self.old (Step.Merge replica other) result self.new }
     {
@@ -212,7 +212,7 @@ impl Cluster {
         Ok(Reply::Sent(number))
     }
 
-    /// Applies the offer that a message is at a replica; where nothing changes it takes no memory.
+    /// Applies the offer that a message is at a replica. If nothing changes it takes no memory.
     fn take(&mut self, alloc: Global, replica: u32, message: u32) -> Result<Reply, Refusal>
         ensures { ActsOn self.old (Step.Take replica message) result self.new }
     {
@@ -249,7 +249,7 @@ impl Cluster {
         Ok(Reply::Done)
     }
 
-    /// Merges what a canonical file holds into a replica; that there is no such replica is told before the file is read.
+    /// Merges the content of a canonical file into a replica. That there is no such replica is reported before the file is read.
     fn open(&mut self, alloc: Global, replica: u32, file: &[u8]) -> Result<Reply, Refusal>
         ensures { ActsOn self.old (Step.Open replica file.now) result self.new }
     {
@@ -268,7 +268,7 @@ impl Cluster {
         Ok(Reply::File(file))
     }
 
-    /// The answer of a query at a replica; that there is no such replica is told before the text is read.
+    /// The answer of a query at a replica. That there is no such replica is reported before the text is read.
     fn query(&self, alloc: Global, replica: u32, sql: &str) -> Result<Reply, Refusal>
         ensures { ActsOn self.now (Step.Query replica sql.now) result self.now }
     {
@@ -325,7 +325,7 @@ impl Cluster {
     }
 }
 
-/// The place of a number among so many, which are counted from 1.
+/// The place of a number among this many, counted from 1.
 pub fn place_of(count: usize, number: u32) -> Option<usize>
     ensures place { result ≡ place_of count number }
     ensures bound { IfSome result (λ place. place < count) }
@@ -338,7 +338,7 @@ pub fn place_of(count: usize, number: u32) -> Option<usize>
     }
 }
 
-/// So many new replicas, replica i having own origin i.
+/// This many new replicas; replica i has own origin i.
 fn new_stores(alloc: Global, schema: &Schema, count: usize) -> Result<Vec<Store>, Refusal>
     requires { count ≤ replica_limit }
     ensures replicas { Gives (λ stores. replicas_in stores.items) result (Ok (new_replicas schema.now 1 count)) }
@@ -385,8 +385,8 @@ fn merge_apart(
     }
 }
 
-/// Puts a vector of a batch of the replica at a place into another coding. The other replicas stay, codings included, and so does
-/// that one where it is refused.
+/// Puts a vector of a batch of the replica at a place into another coding. The other replicas stay as they are, codings included,
+/// and so does that one if it is refused.
 fn recode_at(
     alloc: Global,
     stores: &mut [Store],

@@ -20,8 +20,8 @@ pub fn exported(alloc: Global, store: &Store) -> Result<FileBytes, Refusal>
     }
 }
 
-/// The replica of an own origin that has what a canonical file holds. Bytes that are there are read without a fault, so a read that
-/// fails is a want of memory too.
+/// The replica of an own origin that has the content of a canonical file. Bytes in memory are read without a fault, so a failed
+/// read means that memory ran out too.
 pub fn opened(alloc: Global, file: &[u8], own: Origin) -> Result<Store, Refusal>
     ensures made { IfOk result (λ store. opened_from own file.now ≡ Ok store.replica) }
     ensures segments { IfOk result (λ store. AreCanonicalOf store.replica.schema store.replica.state.batches store.segments) }

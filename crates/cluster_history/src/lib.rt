@@ -1,4 +1,4 @@
-//! Clusters: a table at several replicas, what steps are and make of it, and what their histories keep.
+//! Clusters: a table at several replicas, what steps are and what they make of it, and what their histories keep.
 #![tactic(auto)]
 
 mod cluster;

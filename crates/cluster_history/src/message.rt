@@ -12,8 +12,8 @@ use replica_store::{Offer, Summary};
 pub enum Message {
     /// The names of the batches that a replica had when it was asked.
     Summary(Summary),
-    /// What a replica had beside the batches that such a summary names when it served it, with the codings that it had, and all
-    /// its deletions.
+    /// What a replica had, when it served such a summary, in addition to the batches that the summary names, with the codings that it
+    /// had, and all its deletions.
     Offer(Offer),
 }
 

@@ -11,9 +11,9 @@ pub enum Reply {
     Done,
     /// A batch was added under this name.
     Named(BatchName),
-    /// A batch was put under the name that was given, or was held already.
+    /// A batch was inserted under the name that was given, or was held already.
     Put(Inserted),
-    /// So many rows were deleted that were not deleted before.
+    /// This many rows were deleted that were not deleted before.
     Deleted(u64),
     /// A message was made, with this number.
     Sent(u32),

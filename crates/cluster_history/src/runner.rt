@@ -9,8 +9,8 @@ use std::alloc::{AllocError, Global};
 
 /// The reply to each step, in order; each step finds what the earlier ones left.
 ///
-/// A refusal is a reply too, want of memory among them, and its step changes nothing. An error is answered only where the
-/// list of replies couldn't be made, and then no step is done.
+/// A refusal is a reply too, `Memory` included, and its step changes nothing. An error is answered only if the list of replies
+/// couldn't be made, and then no step is done.
 pub fn run(alloc: Global, cluster: &mut Cluster, steps: &[Step]) -> Result<Vec<Reply>, AllocError>
     ensures run { IfOk result (λ replies. Run cluster.old.parts steps.now replies.items cluster.new.parts) }
     ensures coded { IfOk result (λ replies. CodedRun cluster.old steps.now replies.items cluster.new) }

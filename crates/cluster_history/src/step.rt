@@ -81,7 +81,7 @@ pub enum Step {
     Ask {
         replica: u32,
     },
-    /// Makes a message of what the replica has beside the batches that a message names, and of all its deletions.
+    /// Makes a message of what the replica has in addition to the batches that a message names, and of all its deletions.
     Serve {
         replica: u32,
         message: u32,
