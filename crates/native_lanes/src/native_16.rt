@@ -69,7 +69,7 @@ fn is_within(number: u16, offset: u16, span: u16) -> bool
     number.wrapping_add(offset) <= span
 }
 
-/// A lane's bits with that of a step set where that is asked.
+/// A lane's bits, with the bit of a step set if that is asked.
 #[inline(always)]
 fn with_step(bits: u16, step: usize, set: bool) -> u16
     requires { step < 16 }
@@ -90,7 +90,7 @@ pub(crate) fn mark(marks: &mut [u16; 64], numbers: &[u16; 64], offset: u16, span
     }
 }
 
-/// Whether a number is equal to another, or where `equal` is false, below it.
+/// Whether a number is equal to another, or, if `equal` is false, below it.
 #[inline(always)]
 fn passes(equal: bool, number: u16, other: u16) -> bool
     ensures { result ≡ number_passes equal number other }
@@ -102,7 +102,7 @@ fn passes(equal: bool, number: u16, other: u16) -> bool
     }
 }
 
-/// Sets a step's bit of each lane whose number is equal to another, or where `equal` is false, below it.
+/// Sets a step's bit of each lane whose number is equal to another, or, if `equal` is false, below it.
 #[inline(always)]
 pub(crate) fn mark_beside(
     marks: &mut [u16; 64],
@@ -144,7 +144,7 @@ fn above(high: u64, low: u16) -> u64
     high * 0x1_0000 + u64::from(low)
 }
 
-/// The bits of the rows of word `j` of a mask, which stand in four lanes.
+/// The bits of the rows of word `j` of a mask, which are in four lanes.
 #[inline(always)]
 fn word_of_lanes(marks: &[u16; 64], j: usize) -> u64
     requires { j < 16 }

@@ -68,7 +68,7 @@ fn is_within(number: u32, offset: u32, span: u32) -> bool
     number.wrapping_add(offset) <= span
 }
 
-/// A lane's bits with that of a step set where that is asked.
+/// A lane's bits, with the bit of a step set if that is asked.
 #[inline(always)]
 fn with_step(bits: u32, step: usize, set: bool) -> u32
     requires { step < 32 }
@@ -89,7 +89,7 @@ pub(crate) fn mark(marks: &mut [u32; 32], numbers: &[u32; 32], offset: u32, span
     }
 }
 
-/// Whether a number is equal to another, or where `equal` is false, below it.
+/// Whether a number is equal to another, or, if `equal` is false, below it.
 #[inline(always)]
 fn passes(equal: bool, number: u32, other: u32) -> bool
     ensures { result ≡ number_passes equal number other }
@@ -101,7 +101,7 @@ fn passes(equal: bool, number: u32, other: u32) -> bool
     }
 }
 
-/// Sets a step's bit of each lane whose number is equal to another, or where `equal` is false, below it.
+/// Sets a step's bit of each lane whose number is equal to another, or, if `equal` is false, below it.
 #[inline(always)]
 pub(crate) fn mark_beside(
     marks: &mut [u32; 32],
@@ -143,7 +143,7 @@ fn above(high: u64, low: u32) -> u64
     high * 0x1_0000_0000 + u64::from(low)
 }
 
-/// The bits of the rows of word `j` of a mask, which stand in two lanes.
+/// The bits of the rows of word `j` of a mask, which are in two lanes.
 #[inline(always)]
 fn word_of_lanes(marks: &[u32; 32], j: usize) -> u64
     requires { j < 16 }

@@ -81,7 +81,7 @@ fn is_within(number: u64, offset: u64, span: u64) -> bool
     number.wrapping_add(offset) <= span
 }
 
-/// A word of 64 bits with the bit of a place, below 64, set where that is asked.
+/// A word of 64 bits, with the bit of a place, below 64, set if that is asked.
 #[inline(always)]
 pub fn with_bit(word: u64, place: usize, set: bool) -> u64
     requires { place < 64 }
@@ -103,8 +103,8 @@ pub(crate) fn mark(marks: &mut [u64; 16], numbers: &[u64; 16], offset: u64, span
     }
 }
 
-/// A number, half of those of 64 bits further, modulo two to the power of 64. Two numbers compare, once both are half on, as they
-/// do as signed ones, for which there is an instruction.
+/// A number plus half of the numbers of 64 bits, modulo two to the power of 64: it is shifted by half. Two numbers that are shifted
+/// by half compare as signed numbers, for which there is an instruction.
 #[inline(always)]
 pub(crate) fn half_on(number: u64) -> u64
     ensures { result ≡ half_on number }
@@ -112,7 +112,7 @@ pub(crate) fn half_on(number: u64) -> u64
     number.wrapping_add(1 << 63)
 }
 
-/// Whether a number is equal to another, or where `equal` is false, below it, once both are half on.
+/// Whether a number is equal to another, or, if `equal` is false, below it, once both are shifted by half.
 #[inline(always)]
 fn passes(equal: bool, number: u64, other: u64) -> bool
     ensures { result ≡ number_passes equal (half_on number) (half_on other) }
@@ -124,7 +124,8 @@ fn passes(equal: bool, number: u64, other: u64) -> bool
     }
 }
 
-/// Sets a step's bit of each lane whose number is equal to another, or where `equal` is false, below it, once both are half on.
+/// Sets a step's bit of each lane whose number is equal to another, or, if `equal` is false, below it, once both are shifted by
+/// half.
 #[inline(always)]
 pub(crate) fn mark_beside(
     marks: &mut [u64; 16],

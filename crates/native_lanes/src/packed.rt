@@ -38,7 +38,7 @@ fn greatest_value(lane_width: usize) -> i64
     }
 }
 
-/// The reference plus the greatest number of the width, where that is in the range of the lane width, so that no value wraps.
+/// The reference plus the greatest number of the width, if that is in the range of the lane width, so that no value wraps.
 pub(crate) fn top_of(form: &For) -> Option<i64>
     ensures top { IfSome result (λ top. top ≡ form.now.reference +ℤ pos (2 ^ form.now.width - 1)) }
     ensures plain { IfSome result (λ top. (n : ℕ) → frame_value form.now n
@@ -80,8 +80,8 @@ fn numbers_between(width: usize, words: &Words, first: u64, last: u64) -> Option
     }
 }
 
-/// The rows whose value is neither below `low` nor above `high`, or none where values may wrap, or no way is known that is
-/// faster than their lanes. Where the reference and the width decide, no word is read.
+/// The rows whose value is neither below `low` nor above `high`. None if values can wrap, or if no way is known that is faster than
+/// their lanes. If the reference and the width decide, no word is read.
 pub fn frame_between(form: &For, low: i64, high: i64) -> Option<Mask>
     ensures rows { IfSome result (λ found. found ≡ rows_of (λ n. between low high (frame_value form.now n))) }
     ensures answers { IsPlain form.now → (form.now.lane_width ≡ 16) ⊎ (form.now.lane_width ≡ 32) → IsSome result }

@@ -11,7 +11,7 @@ use crate::walk_64::{walk_of_deltas_64, walk_of_frame_64};
 use frame_delta::{Delta, For};
 use transpose_order::Mask;
 
-/// The rows at which a frame's value is equal to that of another, or where `equal` is false, less. There is no answer where the lane
+/// The rows at which a frame's value is equal to that of another, or, if `equal` is false, less. There is no answer if the lane
 /// widths differ or are 8.
 pub fn frame_beside_frame(equal: bool, left: &For, right: &For) -> Option<Mask>
     ensures value { IfSome result (λ found. found ≡ rows_of (λ n. value_passes equal (frame_value left.now n) (frame_value right.now n))) }
@@ -29,7 +29,7 @@ pub fn frame_beside_frame(equal: bool, left: &For, right: &For) -> Option<Mask>
     }
 }
 
-/// The rows at which a frame's value is equal to that of deltas, or where `equal` is false, less. There is no answer where the lane
+/// The rows at which a frame's value is equal to that of deltas, or, if `equal` is false, less. There is no answer if the lane
 /// widths differ or are 8.
 pub fn frame_beside_deltas(equal: bool, left: &For, right: &Delta) -> Option<Mask>
     ensures value { IfSome result (λ found. found ≡ rows_of (λ n. value_passes equal (frame_value left.now n) (delta_value right.now n))) }
@@ -47,7 +47,7 @@ pub fn frame_beside_deltas(equal: bool, left: &For, right: &Delta) -> Option<Mas
     }
 }
 
-/// The rows at which the value of deltas is equal to that of a frame, or where `equal` is false, less. There is no answer where the lane
+/// The rows at which the value of deltas is equal to that of a frame, or, if `equal` is false, less. There is no answer if the lane
 /// widths differ or are 8.
 pub fn deltas_beside_frame(equal: bool, left: &Delta, right: &For) -> Option<Mask>
     ensures value { IfSome result (λ found. found ≡ rows_of (λ n. value_passes equal (delta_value left.now n) (frame_value right.now n))) }
@@ -65,8 +65,8 @@ pub fn deltas_beside_frame(equal: bool, left: &Delta, right: &For) -> Option<Mas
     }
 }
 
-/// The rows at which the value of deltas is equal to that of others, or where `equal` is false, less. There is no answer where the lane
-/// widths differ or are 8.
+/// The rows at which the value of deltas is equal to that of other deltas, or, if `equal` is false, less. There is no answer if the
+/// lane widths differ or are 8.
 pub fn deltas_beside_deltas(equal: bool, left: &Delta, right: &Delta) -> Option<Mask>
     ensures value { IfSome result (λ found. found ≡ rows_of (λ n. value_passes equal (delta_value left.now n) (delta_value right.now n))) }
     ensures answers { is_some result ≡ (left.now.lane_width == right.now.lane_width && nat_lt 8 left.now.lane_width) }

@@ -6,8 +6,8 @@ ghost use Rattle.native_lanes.specs.Between.{between};
 
 use transpose_order::Mask;
 
-/// The value that is so far above the least of a lane's bits, whose numbers are `half` and as many once more, or none where a mask
-/// has no row.
+/// The value that is this far above the least of a lane's bits, which have `half` and as many numbers again; none if a mask has no
+/// row.
 pub(crate) fn value_above(rows: &Mask, number: u64, half: u64) -> Option<i64>
     requires half { half ≤ 2 ^ 63 }
     requires number { number < 2 * half }
@@ -19,7 +19,7 @@ pub(crate) fn value_above(rows: &Mask, number: u64, half: u64) -> Option<i64>
     Some((i128::from(number) - i128::from(half)) as i64)
 }
 
-/// How far a value is above the least of a lane's bits, whose numbers are `half` and as many once more.
+/// How far a value is above the least of a lane's bits, which have `half` and as many numbers again.
 fn above_least(half: u64, value: i64) -> i128
     requires { half ≤ 2 ^ 63 }
     ensures { result ≡ value +ℤ pos half }
@@ -40,8 +40,9 @@ fn nearest(number: i128, top: u64) -> u64
     number as u64
 }
 
-/// The first and the last of a lane's numbers, `half` and as many once more, that are so far above the least of the lane's bits
-/// as values neither below `low` nor above `high` are. Where no number is, the first is above the last.
+/// The first and the last of a lane's numbers, of which there are `half` and as many again, for the values that are neither below
+/// `low` nor above `high`: how far these are above the least of the lane's bits. If there is no such number, the first is above the
+/// last.
 pub(crate) fn raised_range(half: u64, low: i64, high: i64) -> (u64, u64)
     requires some { 0 < half }
     requires half { half ≤ 2 ^ 63 }

@@ -21,7 +21,7 @@ fn add_all(sums: &mut [u32; 32], numbers: &[u32; 32])
     }
 }
 
-/// Adds to the sum of each lane whose bit of a step is set its number.
+/// Adds the number of each lane whose bit of a step is set to the lane's sum.
 #[inline(always)]
 fn add_taken(sums: &mut [u32; 32], numbers: &[u32; 32], rows: &[u32; 32], step: usize)
     requires step { step < 32 }
@@ -34,7 +34,7 @@ fn add_taken(sums: &mut [u32; 32], numbers: &[u32; 32], rows: &[u32; 32], step: 
     }
 }
 
-/// Adds to the sum of each lane whose bit of a step is set its number, where it is known whether the bits of all lanes are set.
+/// Adds the number of each lane whose bit of a step is set to the lane's sum; whether the bits of all lanes are set is known.
 #[inline(always)]
 fn add_step(are_all: bool, sums: &mut [u32; 32], numbers: &[u32; 32], rows: &[u32; 32], step: usize)
     requires all { IsTrue are_all → (lane : ℕ) → lane < 32 → bit_at (slice_index rows.now lane) step ≡ 1 }
@@ -51,7 +51,7 @@ fn add_step(are_all: bool, sums: &mut [u32; 32], numbers: &[u32; 32], rows: &[u3
 }
 
 /// The sum of the packed numbers of a mask's rows, of 32 words for each bit of the width, which is at most 27, so that 32 numbers
-/// of a lane fit one word. Where the mask has all rows, no row's bit is looked at.
+/// of a lane fit one word. If the mask has all rows, no row's bit is looked at.
 pub(crate) fn sum_of_numbers_32(width: usize, words: &[u32], rows: &Mask) -> u64
     requires width { width ≤ 27 }
     requires words { length words.now ≡ width * 32 }

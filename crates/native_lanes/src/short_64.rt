@@ -21,7 +21,7 @@ fn add_all(sums: &mut [u64; 16], numbers: &[u64; 16])
     }
 }
 
-/// Adds to the sum of each lane whose bit of a step is set its number.
+/// Adds the number of each lane whose bit of a step is set to the lane's sum.
 #[inline(always)]
 fn add_taken(sums: &mut [u64; 16], numbers: &[u64; 16], rows: &[u64; 16], step: usize)
     requires step { step < 64 }
@@ -34,7 +34,7 @@ fn add_taken(sums: &mut [u64; 16], numbers: &[u64; 16], rows: &[u64; 16], step: 
     }
 }
 
-/// Adds to the sum of each lane whose bit of a step is set its number, where it is known whether the bits of all lanes are set.
+/// Adds the number of each lane whose bit of a step is set to the lane's sum; whether the bits of all lanes are set is known.
 #[inline(always)]
 fn add_step(are_all: bool, sums: &mut [u64; 16], numbers: &[u64; 16], rows: &[u64; 16], step: usize)
     requires all { IsTrue are_all → (lane : ℕ) → lane < 16 → bit_at (slice_index rows.now lane) step ≡ 1 }
@@ -63,7 +63,7 @@ fn sum_of_sums(sums: &[u64; 16]) -> u128
 }
 
 /// The sum of the packed numbers of a mask's rows, of 16 words for each bit of the width, which is at most 58, so that 64 numbers
-/// of a lane fit one word. Where the mask has all rows, no row's bit is looked at.
+/// of a lane fit one word. If the mask has all rows, no row's bit is looked at.
 pub(crate) fn sum_of_numbers_64(width: usize, words: &[u64], rows: &Mask) -> u128
     requires width { width ≤ 58 }
     requires words { length words.now ≡ width * 16 }

@@ -1,5 +1,5 @@
-//! Sums of frames. Where no value wraps and the numbers are short, it is the numbers that are added, and the reference as many times
-//! as there are rows.
+//! Sums of frames. If no value wraps and the numbers are short, the numbers are added, and the reference as many times as there are
+//! rows.
 ghost use Rattle.std.specs.Prelude.{IsTrue, ◌≡◌, ℕ, ◌^◌, ◌≤◌, cond, pos, ◌+ℤ◌, ◌*ℤ◌};
 ghost use Rattle.transpose_order.specs.Mask.{has, count_below};
 ghost use Rattle.transpose_order.specs.Place.{lane_of, step_of};
@@ -42,8 +42,8 @@ fn sum_above(reference: i64, numbers: u128, rows: &Mask) -> i128
     times(reference, rows.count_below(1024)) + numbers as i128
 }
 
-/// The sum of the values of a mask's rows of a frame of 32 bits. Where no value wraps, numbers of 27 bits at most are added by
-/// themselves, 32 of which fit one word.
+/// The sum of the values of a mask's rows of a frame of 32 bits. If no value wraps, numbers of at most 27 bits are added by
+/// themselves; 32 of them fit in one word.
 pub(crate) fn sum_of_frame_32(form: &For, rows: &Mask) -> i128
     requires { form.now.lane_width ≡ 32 }
     ensures { result ≡ fold_to ◌+ℤ◌ (pos 0) 1024 (λ n. cond (has rows.now n) (frame_value form.now n) (pos 0)) }
@@ -55,8 +55,8 @@ pub(crate) fn sum_of_frame_32(form: &For, rows: &Mask) -> i128
     walk_of_frame_32(form).sum_of_values(rows)
 }
 
-/// The sum of the values of a mask's rows of a frame of 64 bits. Where no value wraps, numbers of 58 bits at most are added by
-/// themselves, 64 of which fit one word.
+/// The sum of the values of a mask's rows of a frame of 64 bits. If no value wraps, numbers of at most 58 bits are added by
+/// themselves; 64 of them fit in one word.
 pub(crate) fn sum_of_frame_64(form: &For, rows: &Mask) -> i128
     requires { form.now.lane_width ≡ 64 }
     ensures { result ≡ fold_to ◌+ℤ◌ (pos 0) 1024 (λ n. cond (has rows.now n) (frame_value form.now n) (pos 0)) }

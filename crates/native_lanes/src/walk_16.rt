@@ -20,8 +20,8 @@ use frame_delta::{Delta, For};
 use std::marker::Model;
 use transpose_order::Mask;
 
-/// Packed words of 16 bits whose 64 lanes are gone through step by step. A lane's number is at each step what is carried from
-/// the step before, where it is carried, and what is added and packed, modulo two to the power of 16.
+/// A walk through the 64 lanes of packed words of 16 bits, step by step. At each step a lane's number is the sum of the number
+/// carried from the step before, if it is carried, of what is added, and of the packed number, modulo two to the power of 16.
 #[derive(Drop)]
 pub struct Walk16<'a> {
     width: usize,
@@ -42,7 +42,7 @@ impl<'a> Model for Walk16<'a> {
     ghost invariant = { λ w. (w.width ≤ 16) × (length w.words.now ≡ w.width * 64) };
 }
 
-/// What is carried, where it is, and what is added and packed, modulo two to the power of 16.
+/// The sum of what is carried, if it is, of what is added and of the packed number, modulo two to the power of 16.
 #[inline(always)]
 fn stepped(carried: bool, before: u16, added: u16, number: u16) -> u16
     ensures { result ≡ (cond carried before 0 + added + number) % 2 ^ 16 }
@@ -62,7 +62,7 @@ fn advance(numbers: &mut [u16; 64], packed: &[u16; 64], carried: bool, added: u1
     }
 }
 
-/// A number where a lane's bit of a step is set, else another.
+/// A number if a lane's bit of a step is set, otherwise another.
 #[inline(always)]
 fn chosen(bits: u16, step: usize, number: u16, other: u16) -> u16
     requires { step < 16 }
@@ -71,7 +71,7 @@ fn chosen(bits: u16, step: usize, number: u16, other: u16) -> u16
     if bits >> step & 1 == 1 { number } else { other }
 }
 
-/// Adds to two sums of each lane whose bit of a step is set the low and the high 8 bits of its number.
+/// For each lane whose bit of a step is set, adds the low and the high 8 bits of its number to two sums.
 #[inline(always)]
 fn add_parts(
     low: &mut [u16; 64],
@@ -107,7 +107,7 @@ fn sum_of_lanes(sums: &[u16; 64]) -> u64
     sum
 }
 
-/// A number, or where `flipped` is true how far it is below the greatest of 16 bits.
+/// A number, or, if `flipped` is true, how far it is below the greatest of 16 bits.
 #[inline(always)]
 fn turned(flipped: bool, number: u16) -> u16
     ensures { result ≡ turned 16 flipped number }
@@ -115,7 +115,7 @@ fn turned(flipped: bool, number: u16) -> u16
     if flipped { u16::MAX - number } else { number }
 }
 
-/// Raises each lane's number so far to the lane's number, turned, where its bit of a step is set.
+/// Raises each lane's number so far to the lane's number, flipped if that is asked, if its bit of a step is set.
 #[inline(always)]
 fn raise(
     greatests: &mut [u16; 64],
@@ -167,7 +167,7 @@ fn put_group(lanes: &mut [u16; 64], words: &[u64; 16], group: usize, shift: usiz
     }
 }
 
-/// The bits of a mask's rows in the 64 lanes of 16 bits: bit `step` of a lane is that of the row that stands there.
+/// The bits of a mask's rows in the 64 lanes of 16 bits: bit `step` of a lane is that of the row at that place.
 pub fn lanes_of_mask_16(mask: &Mask) -> [u16; 64]
     ensures { (lane step : ℕ) → lane < 64 → step < 16 → (bit_at (slice_index result lane) step == 1) ≡ has mask.now (row_at 16 lane step) }
 {
@@ -223,7 +223,7 @@ impl<'a> Walk16<'a> {
         u128::from(sum_of_lanes(&low)) + u128::from(sum_of_lanes(&high)) * 0x100
     }
 
-    /// The sum of the values of a mask's rows, where each row's number is how far its value is above the least of 16 bits.
+    /// The sum of the values of a mask's rows; each row's number is how far its value is above the least of 16 bits.
     #[inline(always)]
     pub(crate) fn sum_of_values(&self, rows: &Mask) -> i128
         ensures { (value : ℕ → ℤ) → ((n : ℕ) → n < 1024 → pos (number_of_row self.now n) ≡ value n +ℤ pos (2 ^ 15))
@@ -232,7 +232,7 @@ impl<'a> Walk16<'a> {
         self.sum(rows) as i128 - rows.count_below(1024) as i128 * (1 << 15)
     }
 
-    /// The greatest of the numbers of a mask's rows, or 0 over none. Where `flipped` is true, it is the greatest of how far the
+    /// The greatest of the numbers of a mask's rows, or 0 over none. If `flipped` is true, it is the greatest of how far the
     /// numbers are below the greatest of 16 bits, which gives their least.
     #[inline(always)]
     pub fn greatest(&self, flipped: bool, rows: &Mask) -> u16
@@ -249,8 +249,7 @@ impl<'a> Walk16<'a> {
         greatest_of_lanes(&greatests)
     }
 
-    /// The greatest value of a mask's rows, none over none, where each row's number is how far its value is above the least of
-    /// 16 bits.
+    /// The greatest value of a mask's rows, none over none; each row's number is how far its value is above the least of 16 bits.
     #[inline(always)]
     pub(crate) fn greatest_value(&self, rows: &Mask) -> Option<i64>
         ensures { (value : ℕ → ℤ) → ((n : ℕ) → n < 1024 → pos (number_of_row self.now n) ≡ value n +ℤ pos (2 ^ 15))
@@ -260,8 +259,7 @@ impl<'a> Walk16<'a> {
         value_above(rows, u64::from(greatest), 1 << 15)
     }
 
-    /// The least value of a mask's rows, none over none, where each row's number is how far its value is above the least of
-    /// 16 bits.
+    /// The least value of a mask's rows, none over none; each row's number is how far its value is above the least of 16 bits.
     #[inline(always)]
     pub(crate) fn least_value(&self, rows: &Mask) -> Option<i64>
         ensures { (value : ℕ → ℤ) → ((n : ℕ) → n < 1024 → pos (number_of_row self.now n) ≡ value n +ℤ pos (2 ^ 15))
@@ -271,7 +269,7 @@ impl<'a> Walk16<'a> {
         value_above(rows, u64::from(least), 1 << 15)
     }
 
-    /// Writes the values of all rows, where each row's number is how far its value is above the least of 16 bits.
+    /// Writes the values of all rows; each row's number is how far its value is above the least of 16 bits.
     #[inline(always)]
     pub(crate) fn write_values(&self, values: &mut [i64; 1024])
         ensures { (n : ℕ) → n < 1024 → pos (number_of_row self.now n) ≡ value_at values.new n +ℤ pos (2 ^ 15) }
@@ -298,7 +296,7 @@ impl<'a> Walk16<'a> {
         marks
     }
 
-    /// The rows whose number is neither below `first` nor above `last`. Where those are none or all, no word is read.
+    /// The rows whose number is neither below `first` nor above `last`. If these are none or all of the numbers, no word is read.
     #[inline(always)]
     fn rows_between(&self, first: u16, last: u16) -> Mask
         ensures rows { result ≡ rows_of (λ n. nat_le first (number_of_row self.now n) && nat_le (number_of_row self.now n) last) }
@@ -316,8 +314,8 @@ impl<'a> Walk16<'a> {
         mask_of_lanes(&marks)
     }
 
-    /// The rows whose value is neither below `low` nor above `high`, where each row's number is how far its value is above the
-    /// least of 16 bits. Where none or all of the values of 16 bits are, no word is read.
+    /// The rows whose value is neither below `low` nor above `high`; each row's number is how far its value is above the least of
+    /// 16 bits. If none or all of the values of 16 bits are, no word is read.
     #[inline(always)]
     pub(crate) fn values_between(&self, low: i64, high: i64) -> Mask
         ensures { (value : ℕ → ℤ) → ((n : ℕ) → n < 1024 → pos (number_of_row self.now n) ≡ value n +ℤ pos (2 ^ 15))
@@ -327,7 +325,7 @@ impl<'a> Walk16<'a> {
         self.rows_between(first as u16, last as u16)
     }
 
-    /// For each lane, the bits of the steps at which the number is equal to another walk's, or where `equal` is false, below it.
+    /// For each lane, the bits of the steps at which the number is equal to another walk's, or, if `equal` is false, below it.
     fn marks_beside(&self, equal: bool, other: &Walk16<'_>) -> [u16; 64]
         ensures { (lane step : ℕ) → lane < 64 → step < 16 → (bit_at (slice_index result lane) step == 1)
             ≡ number_passes equal (number_at self.now lane step) (number_at other.now lane step) }
@@ -343,8 +341,8 @@ impl<'a> Walk16<'a> {
         marks
     }
 
-    /// The rows whose value is equal to another walk's, or where `equal` is false, less, where each row's number is how far its
-    /// value is above the least of 16 bits.
+    /// The rows whose value is equal to another walk's, or, if `equal` is false, less; each row's number is how far its value is
+    /// above the least of 16 bits.
     pub(crate) fn values_beside(&self, equal: bool, other: &Walk16<'_>) -> Mask
         ensures { (left right : ℕ → ℤ) → ((n : ℕ) → n < 1024 → pos (number_of_row self.now n) ≡ left n +ℤ pos (2 ^ 15))
             → ((n : ℕ) → n < 1024 → pos (number_of_row other.now n) ≡ right n +ℤ pos (2 ^ 15))

@@ -19,8 +19,8 @@ use frame_delta::{Delta, For};
 use std::marker::Model;
 use transpose_order::Mask;
 
-/// Packed words of 32 bits whose 32 lanes are gone through step by step. A lane's number is at each step what is carried from
-/// the step before, where it is carried, and what is added and packed, modulo two to the power of 32.
+/// A walk through the 32 lanes of packed words of 32 bits, step by step. At each step a lane's number is the sum of the number
+/// carried from the step before, if it is carried, of what is added, and of the packed number, modulo two to the power of 32.
 #[derive(Drop)]
 pub(crate) struct Walk32<'a> {
     width: usize,
@@ -41,7 +41,7 @@ impl<'a> Model for Walk32<'a> {
     ghost invariant = { λ w. (w.width ≤ 32) × (length w.words.now ≡ w.width * 32) };
 }
 
-/// What is carried, where it is, and what is added and packed, modulo two to the power of 32.
+/// The sum of what is carried, if it is, of what is added and of the packed number, modulo two to the power of 32.
 #[inline(always)]
 fn stepped(carried: bool, before: u32, added: u32, number: u32) -> u32
     ensures { result ≡ (cond carried before 0 + added + number) % 2 ^ 32 }
@@ -61,7 +61,7 @@ fn advance(numbers: &mut [u32; 32], packed: &[u32; 32], carried: bool, added: u3
     }
 }
 
-/// A number where a lane's bit of a step is set, else another.
+/// A number if a lane's bit of a step is set, otherwise another.
 #[inline(always)]
 pub(crate) fn chosen(bits: u32, step: usize, number: u32, other: u32) -> u32
     requires { step < 32 }
@@ -70,7 +70,7 @@ pub(crate) fn chosen(bits: u32, step: usize, number: u32, other: u32) -> u32
     if bits >> step & 1 == 1 { number } else { other }
 }
 
-/// Adds to two sums of each lane whose bit of a step is set the low and the high 16 bits of its number.
+/// For each lane whose bit of a step is set, adds the low and the high 16 bits of its number to two sums.
 #[inline(always)]
 fn add_parts(
     low: &mut [u32; 32],
@@ -106,7 +106,7 @@ pub(crate) fn sum_of_lanes(sums: &[u32; 32]) -> u64
     sum
 }
 
-/// A number, or where `flipped` is true how far it is below the greatest of 32 bits.
+/// A number, or, if `flipped` is true, how far it is below the greatest of 32 bits.
 #[inline(always)]
 fn turned(flipped: bool, number: u32) -> u32
     ensures { result ≡ turned 32 flipped number }
@@ -114,7 +114,7 @@ fn turned(flipped: bool, number: u32) -> u32
     if flipped { u32::MAX - number } else { number }
 }
 
-/// Raises each lane's number so far to the lane's number, turned, where its bit of a step is set.
+/// Raises each lane's number so far to the lane's number, flipped if that is asked, if its bit of a step is set.
 #[inline(always)]
 fn raise(
     greatests: &mut [u32; 32],
@@ -166,7 +166,7 @@ fn put_group(lanes: &mut [u32; 32], words: &[u64; 16], group: usize, shift: usiz
     }
 }
 
-/// The bits of a mask's rows in the 32 lanes of 32 bits: bit `step` of a lane is that of the row that stands there.
+/// The bits of a mask's rows in the 32 lanes of 32 bits: bit `step` of a lane is that of the row at that place.
 pub(crate) fn lanes_of_mask_32(mask: &Mask) -> [u32; 32]
     ensures { (lane step : ℕ) → lane < 32 → step < 32 → (bit_at (slice_index result lane) step == 1) ≡ has mask.now (row_at 32 lane step) }
 {
@@ -228,7 +228,7 @@ impl<'a> Walk32<'a> {
         u128::from(sum_of_lanes(&low)) + u128::from(sum_of_lanes(&high)) * 0x1_0000
     }
 
-    /// The sum of the values of a mask's rows, where each row's number is how far its value is above the least of 32 bits.
+    /// The sum of the values of a mask's rows; each row's number is how far its value is above the least of 32 bits.
     #[inline(always)]
     pub(crate) fn sum_of_values(&self, rows: &Mask) -> i128
         ensures { (value : ℕ → ℤ) → ((n : ℕ) → n < 1024 → pos (number_of_row self.now n) ≡ value n +ℤ pos (2 ^ 31))
@@ -237,7 +237,7 @@ impl<'a> Walk32<'a> {
         self.sum(rows) as i128 - rows.count_below(1024) as i128 * (1 << 31)
     }
 
-    /// The greatest of the numbers of a mask's rows, or 0 over none. Where `flipped` is true, it is the greatest of how far the
+    /// The greatest of the numbers of a mask's rows, or 0 over none. If `flipped` is true, it is the greatest of how far the
     /// numbers are below the greatest of 32 bits, which gives their least.
     #[inline(always)]
     fn greatest(&self, flipped: bool, rows: &Mask) -> u32
@@ -254,8 +254,7 @@ impl<'a> Walk32<'a> {
         greatest_of_lanes(&greatests)
     }
 
-    /// The greatest value of a mask's rows, none over none, where each row's number is how far its value is above the least of
-    /// 32 bits.
+    /// The greatest value of a mask's rows, none over none; each row's number is how far its value is above the least of 32 bits.
     #[inline(always)]
     pub(crate) fn greatest_value(&self, rows: &Mask) -> Option<i64>
         ensures { (value : ℕ → ℤ) → ((n : ℕ) → n < 1024 → pos (number_of_row self.now n) ≡ value n +ℤ pos (2 ^ 31))
@@ -265,8 +264,7 @@ impl<'a> Walk32<'a> {
         value_above(rows, u64::from(greatest), 1 << 31)
     }
 
-    /// The least value of a mask's rows, none over none, where each row's number is how far its value is above the least of
-    /// 32 bits.
+    /// The least value of a mask's rows, none over none; each row's number is how far its value is above the least of 32 bits.
     #[inline(always)]
     pub(crate) fn least_value(&self, rows: &Mask) -> Option<i64>
         ensures { (value : ℕ → ℤ) → ((n : ℕ) → n < 1024 → pos (number_of_row self.now n) ≡ value n +ℤ pos (2 ^ 31))
@@ -291,7 +289,7 @@ impl<'a> Walk32<'a> {
         marks
     }
 
-    /// The rows whose number is neither below `first` nor above `last`. Where those are none or all, no word is read.
+    /// The rows whose number is neither below `first` nor above `last`. If these are none or all of the numbers, no word is read.
     #[inline(always)]
     fn rows_between(&self, first: u32, last: u32) -> Mask
         ensures rows { result ≡ rows_of (λ n. nat_le first (number_of_row self.now n) && nat_le (number_of_row self.now n) last) }
@@ -309,8 +307,8 @@ impl<'a> Walk32<'a> {
         mask_of_lanes(&marks)
     }
 
-    /// The rows whose value is neither below `low` nor above `high`, where each row's number is how far its value is above the
-    /// least of 32 bits. Where none or all of the values of 32 bits are, no word is read.
+    /// The rows whose value is neither below `low` nor above `high`; each row's number is how far its value is above the least of
+    /// 32 bits. If none or all of the values of 32 bits are, no word is read.
     #[inline(always)]
     pub(crate) fn values_between(&self, low: i64, high: i64) -> Mask
         ensures { (value : ℕ → ℤ) → ((n : ℕ) → n < 1024 → pos (number_of_row self.now n) ≡ value n +ℤ pos (2 ^ 31))
@@ -320,7 +318,7 @@ impl<'a> Walk32<'a> {
         self.rows_between(first as u32, last as u32)
     }
 
-    /// For each lane, the bits of the steps at which the number is equal to another walk's, or where `equal` is false, below it.
+    /// For each lane, the bits of the steps at which the number is equal to another walk's, or, if `equal` is false, below it.
     fn marks_beside(&self, equal: bool, other: &Walk32<'_>) -> [u32; 32]
         ensures { (lane step : ℕ) → lane < 32 → step < 32 → (bit_at (slice_index result lane) step == 1)
             ≡ number_passes equal (number_at self.now lane step) (number_at other.now lane step) }
@@ -336,8 +334,8 @@ impl<'a> Walk32<'a> {
         marks
     }
 
-    /// The rows whose value is equal to another walk's, or where `equal` is false, less, where each row's number is how far its
-    /// value is above the least of 32 bits.
+    /// The rows whose value is equal to another walk's, or, if `equal` is false, less; each row's number is how far its value is
+    /// above the least of 32 bits.
     pub(crate) fn values_beside(&self, equal: bool, other: &Walk32<'_>) -> Mask
         ensures { (left right : ℕ → ℤ) → ((n : ℕ) → n < 1024 → pos (number_of_row self.now n) ≡ left n +ℤ pos (2 ^ 31))
             → ((n : ℕ) → n < 1024 → pos (number_of_row other.now n) ≡ right n +ℤ pos (2 ^ 31))

@@ -21,8 +21,8 @@ use frame_delta::{Delta, For};
 use std::marker::Model;
 use transpose_order::Mask;
 
-/// Packed words of 64 bits whose 16 lanes are gone through step by step. A lane's number is at each step what is carried from
-/// the step before, where it is carried, and what is added and packed, modulo two to the power of 64.
+/// A walk through the 16 lanes of packed words of 64 bits, step by step. At each step a lane's number is the sum of the number
+/// carried from the step before, if it is carried, of what is added, and of the packed number, modulo two to the power of 64.
 #[derive(Drop)]
 pub(crate) struct Walk64<'a> {
     width: usize,
@@ -43,7 +43,7 @@ impl<'a> Model for Walk64<'a> {
     ghost invariant = { λ w. (w.width ≤ 64) × (length w.words.now ≡ w.width * 16) };
 }
 
-/// What is carried, where it is, and what is added and packed, modulo two to the power of 64.
+/// The sum of what is carried, if it is, of what is added and of the packed number, modulo two to the power of 64.
 #[inline(always)]
 fn stepped(carried: bool, before: u64, added: u64, number: u64) -> u64
     ensures { result ≡ (cond carried before 0 + added + number) % 2 ^ 64 }
@@ -76,7 +76,7 @@ fn advance(numbers: &mut [u64; 16], packed: &[u64; 16], carried: bool, added: u6
     }
 }
 
-/// A number where a lane's bit of a step is set, else another.
+/// A number if a lane's bit of a step is set, otherwise another.
 #[inline(always)]
 pub(crate) fn chosen(bits: u64, step: usize, number: u64, other: u64) -> u64
     requires { step < 64 }
@@ -85,7 +85,7 @@ pub(crate) fn chosen(bits: u64, step: usize, number: u64, other: u64) -> u64
     if bits >> step & 1 == 1 { number } else { other }
 }
 
-/// Adds to two sums of each lane whose bit of a step is set the low and the high 32 bits of its number.
+/// For each lane whose bit of a step is set, adds the low and the high 32 bits of its number to two sums.
 #[inline(always)]
 fn add_parts(
     low: &mut [u64; 16],
@@ -123,8 +123,8 @@ fn add_all_parts(low: &mut [u64; 16], high: &mut [u64; 16], numbers: &[u64; 16])
     }
 }
 
-/// Adds to two sums of each lane whose bit of a step is set the low and the high 32 bits of its number, where it is known whether
-/// the bits of all lanes are set.
+/// For each lane whose bit of a step is set, adds the low and the high 32 bits of its number to two sums; whether the bits of all
+/// lanes are set is known.
 #[inline(always)]
 fn add_step(
     are_all: bool,
@@ -163,7 +163,7 @@ pub fn sum_of_lanes(sums: &[u64; 16]) -> u64
     sum
 }
 
-/// A number, or where `flipped` is true how far it is below the greatest of 64 bits.
+/// A number, or, if `flipped` is true, how far it is below the greatest of 64 bits.
 #[inline(always)]
 fn turned(flipped: bool, number: u64) -> u64
     ensures { result ≡ turned 64 flipped number }
@@ -183,8 +183,8 @@ fn all_shifted(numbers: &[u64; 16], offset: u64) -> [u64; 16]
     shifted
 }
 
-/// What each step adds in a walk whose numbers are an offset further. Where numbers are carried, it is what they start with that is
-/// further.
+/// What each step adds in a walk whose numbers are an offset further. If numbers are carried, the offset is in what they start
+/// with.
 #[inline(always)]
 fn added_further(carried: bool, added: u64, offset: u64) -> u64
     ensures { result ≡ cond carried added ((added + offset) % 2 ^ 64) }
@@ -196,7 +196,7 @@ fn added_further(carried: bool, added: u64, offset: u64) -> u64
     }
 }
 
-/// Of a number so far and another, the one that is greater, or where `flipped` is true less, once both are half on.
+/// Of a number so far and another, the greater one, or the lesser one if `flipped` is true, once both are shifted by half.
 #[inline(always)]
 fn further(flipped: bool, so_far: u64, number: u64) -> u64
     ensures { result ≡ further flipped so_far number }
@@ -205,7 +205,7 @@ fn further(flipped: bool, so_far: u64, number: u64) -> u64
     if below == flipped { number } else { so_far }
 }
 
-/// The number that each is further than, or as far as: half on it is 0, or where `flipped` is true the greatest of 64 bits.
+/// The number that no other is before: shifted by half it is 0, or the greatest of 64 bits if `flipped` is true.
 #[inline(always)]
 fn least_far(flipped: bool) -> u64
     ensures { turned 64 flipped (half_on result) ≡ 0 }
@@ -213,7 +213,7 @@ fn least_far(flipped: bool) -> u64
     if flipped { (1 << 63) - 1 } else { 1 << 63 }
 }
 
-/// Takes each lane's number so far to the lane's number where that is further.
+/// Moves each lane's number so far to the lane's number, if that is further.
 #[inline(always)]
 fn go_further(furthest: &mut [u64; 16], flipped: bool, numbers: &[u64; 16])
     ensures { (lane : ℕ) → lane < 16 → slice_index furthest.new lane ≡ further flipped (slice_index furthest.old lane) (slice_index numbers.now lane) }
@@ -223,7 +223,7 @@ fn go_further(furthest: &mut [u64; 16], flipped: bool, numbers: &[u64; 16])
     }
 }
 
-/// Takes each lane's number so far to the lane's number where that is further and its bit of a step is set.
+/// Moves each lane's number so far to the lane's number, if that is further and its bit of a step is set.
 #[inline(always)]
 fn go_further_where(
     furthest: &mut [u64; 16],
@@ -242,8 +242,8 @@ fn go_further_where(
     }
 }
 
-/// Takes each lane's number so far to the lane's number where that is further and its bit of a step is set, where it is known
-/// whether the bits of all lanes are set.
+/// Moves each lane's number so far to the lane's number, if that is further and its bit of a step is set; whether the bits of all
+/// lanes are set is known.
 #[inline(always)]
 fn further_step(
     are_all: bool,
@@ -276,7 +276,7 @@ fn greatest_of_lanes(numbers: &[u64; 16]) -> u64
     greatest
 }
 
-/// The greatest of the numbers of 16 lanes, or where `flipped` is true, of how far they are below the greatest of 64 bits.
+/// The greatest of the numbers of 16 lanes, or, if `flipped` is true, of how far they are below the greatest of 64 bits.
 fn greatest_of_turned(flipped: bool, numbers: &[u64; 16]) -> u64
     ensures { result ≡ fold_to max 0 16 (λ lane. turned 64 flipped (slice_index numbers.now lane)) }
 {
@@ -287,7 +287,7 @@ fn greatest_of_turned(flipped: bool, numbers: &[u64; 16]) -> u64
     greatest
 }
 
-/// How much 63 steps add at most to a number that is carried, or none where that is more than 64 bits hold.
+/// How much 63 steps add at most to a number that is carried; none if that is more than 64 bits hold.
 fn most_added(added: u64, width: usize) -> Option<u64>
     requires { width ≤ 64 }
     ensures { IfSome result (λ most. most ≡ 63 * (added + (2 ^ width - 1))) }
@@ -296,7 +296,7 @@ fn most_added(added: u64, width: usize) -> Option<u64>
     most.checked_mul(63)
 }
 
-/// The bits of a mask's rows in the 16 lanes of 64 bits: bit `step` of a lane is that of the row that stands there.
+/// The bits of a mask's rows in the 16 lanes of 64 bits: bit `step` of a lane is that of the row at that place.
 pub(crate) fn lanes_of_mask_64(mask: &Mask) -> [u64; 16]
     ensures { (lane step : ℕ) → lane < 16 → step < 64 → (bit_at (slice_index result lane) step == 1) ≡ has mask.now (row_at 64 lane step) }
 {
@@ -365,7 +365,7 @@ impl<'a> Walk64<'a> {
         u128::from(sum_of_lanes(&low)) + u128::from(sum_of_lanes(&high)) * 0x1_0000_0000
     }
 
-    /// The sum of the values of a mask's rows, where each row's number is how far its value is above the least of 64 bits.
+    /// The sum of the values of a mask's rows; each row's number is how far its value is above the least of 64 bits.
     #[inline(always)]
     pub(crate) fn sum_of_values(&self, rows: &Mask) -> i128
         ensures { (value : ℕ → ℤ) → ((n : ℕ) → n < 1024 → pos (number_of_row self.now n) ≡ value n +ℤ pos (2 ^ 63))
@@ -396,8 +396,8 @@ impl<'a> Walk64<'a> {
         numbers
     }
 
-    /// Whether the numbers of all lanes rise, or stay, from each step to the next: that is so where they are carried, and what 63
-    /// steps may add doesn't take the greatest of the first step's past 64 bits.
+    /// Whether the numbers of all lanes rise or stay from each step to the next: they do if they are carried and what 63 steps can
+    /// add doesn't take the greatest of the first step's past 64 bits.
     #[inline(always)]
     fn is_rising(&self, first: &[u64; 16]) -> bool
         requires { (lane : ℕ) → lane < 16 → slice_index first.now lane ≡ number_at self.now lane 0 }
@@ -409,8 +409,8 @@ impl<'a> Walk64<'a> {
         }
     }
 
-    /// What `greatest` answers over all rows where the numbers of each lane rise: those of the last step, or where `flipped` is
-    /// true of the first, decide.
+    /// The answer of `greatest` over all rows if the numbers of each lane rise: those of the last step decide, or those of the
+    /// first if `flipped` is true.
     #[inline(always)]
     fn greatest_of_rising(&self, flipped: bool, first: &[u64; 16], rows: &Mask) -> u64
         requires first { (lane : ℕ) → lane < 16 → slice_index first.now lane ≡ number_at self.now lane 0 }
@@ -424,9 +424,8 @@ impl<'a> Walk64<'a> {
         greatest_of_turned(flipped, &numbers)
     }
 
-    /// The greatest of the numbers of a mask's rows, or 0 over none. Where `flipped` is true, it is the greatest of how far the
-    /// numbers are below the greatest of 64 bits, which gives their least. Where all rows of rising lanes are taken, one step
-    /// decides.
+    /// The greatest of the numbers of a mask's rows, or 0 over none. If `flipped` is true, it is the greatest of how far the
+    /// numbers are below the greatest of 64 bits, which gives their least. If all rows of rising lanes are taken, one step decides.
     #[inline(always)]
     fn greatest(&self, flipped: bool, rows: &Mask) -> u64
         ensures value { result ≡ fold_to max 0 1024 (λ n. cond (has rows.now n) (turned 64 flipped (number_of_row self.now n)) 0) }
@@ -444,7 +443,7 @@ impl<'a> Walk64<'a> {
         self.greatest_by_steps(true, flipped, rows)
     }
 
-    /// What `greatest` answers, by all steps, where it is known whether all rows are taken.
+    /// The answer of `greatest`, by all steps; whether all rows are taken is known.
     #[inline(always)]
     fn greatest_by_steps(&self, are_all: bool, flipped: bool, rows: &Mask) -> u64
         requires { IsTrue are_all → (lane step : ℕ) → lane < 16 → step < 64 → has rows.now (row_at 64 lane step) ≡ true }
@@ -456,8 +455,8 @@ impl<'a> Walk64<'a> {
         greatest_of_turned(flipped, &all_shifted(&furthest, 1 << 63))
     }
 
-    /// For each lane, of the numbers of a mask's rows, the one that is greatest, or where `flipped` is true least, once they are
-    /// half on, where it is known whether all rows are taken.
+    /// For each lane, of the numbers of a mask's rows, the greatest, or the least if `flipped` is true, once they are shifted by
+    /// half; whether all rows are taken is known.
     #[inline(always)]
     fn furthest_of_lanes(&self, are_all: bool, flipped: bool, rows: &Mask) -> [u64; 16]
         requires { IsTrue are_all → (lane step : ℕ) → lane < 16 → step < 64 → has rows.now (row_at 64 lane step) ≡ true }
@@ -475,8 +474,7 @@ impl<'a> Walk64<'a> {
         furthest
     }
 
-    /// The greatest value of a mask's rows, none over none, where each row's number is how far its value is above the least of
-    /// 64 bits.
+    /// The greatest value of a mask's rows, none over none; each row's number is how far its value is above the least of 64 bits.
     #[inline(always)]
     pub(crate) fn greatest_value(&self, rows: &Mask) -> Option<i64>
         ensures { (value : ℕ → ℤ) → ((n : ℕ) → n < 1024 → pos (number_of_row self.now n) ≡ value n +ℤ pos (2 ^ 63))
@@ -486,8 +484,7 @@ impl<'a> Walk64<'a> {
         value_above(rows, greatest, 1 << 63)
     }
 
-    /// The least value of a mask's rows, none over none, where each row's number is how far its value is above the least of
-    /// 64 bits.
+    /// The least value of a mask's rows, none over none; each row's number is how far its value is above the least of 64 bits.
     #[inline(always)]
     pub(crate) fn least_value(&self, rows: &Mask) -> Option<i64>
         ensures { (value : ℕ → ℤ) → ((n : ℕ) → n < 1024 → pos (number_of_row self.now n) ≡ value n +ℤ pos (2 ^ 63))
@@ -521,7 +518,7 @@ impl<'a> Walk64<'a> {
         marks
     }
 
-    /// The rows whose number is neither below `first` nor above `last`. Where those are none or all, no word is read.
+    /// The rows whose number is neither below `first` nor above `last`. If these are none or all of the numbers, no word is read.
     #[inline(always)]
     fn rows_between(&self, first: u64, last: u64) -> Mask
         ensures rows { result ≡ rows_of (λ n. nat_le first (number_of_row self.now n) && nat_le (number_of_row self.now n) last) }
@@ -539,8 +536,8 @@ impl<'a> Walk64<'a> {
         mask_of_lanes(&marks)
     }
 
-    /// The rows whose value is neither below `low` nor above `high`, where each row's number is how far its value is above the
-    /// least of 64 bits. Where none or all of the values of 64 bits are, no word is read.
+    /// The rows whose value is neither below `low` nor above `high`; each row's number is how far its value is above the least of
+    /// 64 bits. If none or all of the values of 64 bits are, no word is read.
     #[inline(always)]
     pub(crate) fn values_between(&self, low: i64, high: i64) -> Mask
         ensures { (value : ℕ → ℤ) → ((n : ℕ) → n < 1024 → pos (number_of_row self.now n) ≡ value n +ℤ pos (2 ^ 63))
@@ -550,7 +547,7 @@ impl<'a> Walk64<'a> {
         self.rows_between(first, last)
     }
 
-    /// For each lane, the bits of the steps at which the number is equal to another walk's, or where `equal` is false, below it.
+    /// For each lane, the bits of the steps at which the number is equal to another walk's, or, if `equal` is false, below it.
     #[inline(always)]
     fn marks_beside(&self, equal: bool, other: &Walk64<'_>) -> [u64; 16]
         ensures { (lane step : ℕ) → lane < 16 → step < 64 → (bit_at (slice_index result lane) step == 1)
@@ -564,8 +561,8 @@ impl<'a> Walk64<'a> {
         left.marks_below(&right)
     }
 
-    /// For each lane, the bits of the steps at which the number is equal to another walk's, once both are half on. It stands apart,
-    /// as does `marks_below`, so that the compiler makes vectors of its loop.
+    /// For each lane, the bits of the steps at which the number is equal to another walk's, once both are shifted by half. It is a
+    /// function of its own, like `marks_below`, so that the compiler makes vectors of its loop.
     #[inline(never)]
     fn marks_equal(&self, other: &Walk64<'_>) -> [u64; 16]
         ensures { (lane step : ℕ) → lane < 16 → step < 64 → (bit_at (slice_index result lane) step == 1)
@@ -574,7 +571,7 @@ impl<'a> Walk64<'a> {
         self.marks_beside_half_on(true, other)
     }
 
-    /// For each lane, the bits of the steps at which the number is below another walk's, once both are half on.
+    /// For each lane, the bits of the steps at which the number is below another walk's, once both are shifted by half.
     #[inline(never)]
     fn marks_below(&self, other: &Walk64<'_>) -> [u64; 16]
         ensures { (lane step : ℕ) → lane < 16 → step < 64 → (bit_at (slice_index result lane) step == 1)
@@ -583,8 +580,8 @@ impl<'a> Walk64<'a> {
         self.marks_beside_half_on(false, other)
     }
 
-    /// For each lane, the bits of the steps at which the number is equal to another walk's, or where `equal` is false, below it, once
-    /// both are half on.
+    /// For each lane, the bits of the steps at which the number is equal to another walk's, or, if `equal` is false, below it, once
+    /// both are shifted by half.
     #[inline(always)]
     fn marks_beside_half_on(&self, equal: bool, other: &Walk64<'_>) -> [u64; 16]
         ensures { (lane step : ℕ) → lane < 16 → step < 64 → (bit_at (slice_index result lane) step == 1)
@@ -601,8 +598,8 @@ impl<'a> Walk64<'a> {
         marks
     }
 
-    /// The rows whose value is equal to another walk's, or where `equal` is false, less, where each row's number is how far its
-    /// value is above the least of 64 bits.
+    /// The rows whose value is equal to another walk's, or, if `equal` is false, less; each row's number is how far its value is
+    /// above the least of 64 bits.
     pub(crate) fn values_beside(&self, equal: bool, other: &Walk64<'_>) -> Mask
         ensures { (left right : ℕ → ℤ) → ((n : ℕ) → n < 1024 → pos (number_of_row self.now n) ≡ left n +ℤ pos (2 ^ 63))
             → ((n : ℕ) → n < 1024 → pos (number_of_row other.now n) ≡ right n +ℤ pos (2 ^ 63))

@@ -92,8 +92,8 @@ pub fn greatest_of_deltas(form: &Delta, rows: &Mask) -> Option<Option<i64>>
     }
 }
 
-/// The rows whose value is neither below `low` nor above `high`, or none at a lane width of 8. Where none or all of the values of
-/// the lane's bits are, no word is read.
+/// The rows whose value is neither below `low` nor above `high`, or none at a lane width of 8. If none or all of the values of the
+/// lane's bits are, no word is read.
 pub fn frame_within(form: &For, low: i64, high: i64) -> Option<Mask>
     ensures value { IfSome result (λ found. found ≡ rows_of (λ n. between low high (frame_value form.now n))) }
     ensures answers { is_some result ≡ nat_lt 8 form.now.lane_width }
@@ -106,8 +106,8 @@ pub fn frame_within(form: &For, low: i64, high: i64) -> Option<Mask>
     }
 }
 
-/// The rows whose value is neither below `low` nor above `high`, or none at a lane width of 8. Where none or all of the values of
-/// the lane's bits are, no word is read.
+/// The rows whose value is neither below `low` nor above `high`, or none at a lane width of 8. If none or all of the values of the
+/// lane's bits are, no word is read.
 pub fn deltas_within(form: &Delta, low: i64, high: i64) -> Option<Mask>
     ensures value { IfSome result (λ found. found ≡ rows_of (λ n. between low high (delta_value form.now n))) }
     ensures answers { is_some result ≡ nat_lt 8 form.now.lane_width }

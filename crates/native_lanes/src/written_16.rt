@@ -3,7 +3,7 @@ ghost use Rattle.std.specs.Prelude.{◌≡◌, ◌≢◌, ℕ, ◌+◌, ◌*◌,
 ghost use Rattle.transpose_order.specs.Place.{lane_of};
 ghost use Rattle.bit_interleave.specs.Range.{value_at};
 
-/// The value of 16 bits that is so far above the least of them.
+/// The value of 16 bits that is this far above the least of them.
 #[inline(always)]
 fn value_above(number: u16) -> i64
     ensures { pos number ≡ result +ℤ pos (2 ^ 15) }
