@@ -1,4 +1,4 @@
-//! Whether a vector may have a value of a range, told without a look at its rows.
+//! Whether a vector can have a value in a range, by what is known of all its values.
 ghost use Rattle.std.specs.Prelude.{◌≡◌, ℕ, ◌-◌, ◌^◌, ◌<◌, ◌≤◌, ◌&&◌, false, int_le, int_lt, pos, ◌-ℤ◌, ◌≤ℤ◌};
 ghost use Rattle.std.specs.List.{list_any};
 ghost use Rattle.frame_delta.specs.Frame.{IsFrameForm, frame_value};
@@ -50,7 +50,7 @@ pub(crate) fn is_plain(form: &For) -> bool
     top_of(form) < power_of_two(form.lane_width() - 1)
 }
 
-/// Whether the values that a frame's reference and width allow meet a range, where none of them can wrap.
+/// Whether the values that a frame's reference and width allow meet a range, if none of them can wrap.
 fn plain_may_have(form: &For, low: i128, high: i128) -> bool
     ensures { result ≡ reaches low high form.now.reference (top_value form.now) }
 {
@@ -124,9 +124,9 @@ fn dict_may_have(form: &Dict, low: i128, high: i128) -> bool
     )
 }
 
-/// Whether a vector may have a value that is neither below `low` nor above `high`. Where it answers false, no row has one, whether it
-/// is null or not. It goes by the reference and the width of a frame, the values of runs or the ends of a dictionary, and of deltas
-/// answers true. No row is looked at, and no pass is counted.
+/// Whether a vector can have a value that is neither below `low` nor above `high`. If it answers false, no row has one, whether it
+/// is null or not. It looks at the reference and the width of a frame, the values of runs or the ends of a dictionary; for deltas
+/// it answers true. No pass is counted.
 pub fn vector_may_have(vector: &CodedVector, low: i128, high: i128) -> bool
     ensures value { result ≡ coded_may_have vector.now.coded low high }
     ensures none { result ≡ false → (n : ℕ) → n < 1024 → between low high (value_in vector.now.coded n) ≡ false }

@@ -21,7 +21,7 @@ fn walk_of_codes(form: &Dict) -> Walk16<'_>
     Walk16::new(form.width(), form.codes().words_16(), false, [0; 64], 0)
 }
 
-/// A code, or where the least is asked for, how far it is below the greatest of 16 bits.
+/// A code, or, if the least is asked for, how far it is below the greatest of 16 bits.
 #[inline(always)]
 fn turned_code(side: Extremum, code: u16) -> u16
     ensures { result ≡ turned 16 (is_least side) code }
@@ -47,7 +47,7 @@ pub(crate) fn extreme_of_codes(side: Extremum, form: &Dict, rows: &Mask) -> Opti
     Some(values.get(usize::from(turned_code(side, found))))
 }
 
-/// How far the values of a step's codes are above the least of 64 bits, added up where the lane's bit of the step is set.
+/// How far the values of a step's codes are above the least of 64 bits, added up if the lane's bit of the step is set.
 #[inline(always)]
 fn sum_of_step(values: &[i64], codes: &[u16; 64], rows: &[u16; 64], step: usize) -> u128
     requires step { step < 16 }
@@ -96,7 +96,7 @@ fn are_narrow(form: &Dict) -> bool
     LEAST_NARROW <= values.get(0) && values.get(values.len() - 1) <= GREATEST_NARROW
 }
 
-/// A value where it is taken, else 0.
+/// A value if it is taken, otherwise 0.
 #[inline(always)]
 fn value_if(taken: bool, value: i64) -> i64
     ensures { result ≡ cond taken value (pos 0) }
@@ -104,7 +104,7 @@ fn value_if(taken: bool, value: i64) -> i64
     if taken { value } else { 0 }
 }
 
-/// The values of a step's codes, of a dictionary of values of 32 bits, added up where the lane's bit of the step is set.
+/// The values of a step's codes, of a dictionary of values of 32 bits, added up if the lane's bit of the step is set.
 #[inline(always)]
 fn narrow_sum_of_step(values: &[i64], codes: &[u16; 64], rows: &[u16; 64], step: usize) -> i64
     requires step { step < 16 }
@@ -141,7 +141,8 @@ fn narrow_sum_of_codes(form: &Dict, rows: &Mask) -> i64
     sum
 }
 
-/// The sum of the values of a mask's rows. Those of 32 bits are added as they are, and longer ones raised, so that no sum wraps.
+/// The sum of the values of a mask's rows. Those of 32 bits are added as they are, and longer ones are raised, so that no sum
+/// wraps.
 pub(crate) fn sum_of_codes(form: &Dict, rows: &Mask) -> i128
     ensures { result ≡ fold_to ◌+ℤ◌ (pos 0) 1024 (λ n. cond (has rows.now n) (dict_value form.now n) (pos 0)) }
 {
@@ -151,7 +152,7 @@ pub(crate) fn sum_of_codes(form: &Dict, rows: &Mask) -> i128
     raised_sum_of_codes(form, rows) as i128 - rows.count_below(1024) as i128 * (1 << 63)
 }
 
-/// The rows whose value is neither below `low` nor above `high`. Where the dictionary decides, no word is read.
+/// The rows whose value is neither below `low` nor above `high`. If the dictionary decides, no word is read.
 pub(crate) fn dict_between(form: &Dict, low: i64, high: i64) -> Mask
     ensures { result ≡ rows_of (λ n. between low high (dict_value form.now n)) }
 {

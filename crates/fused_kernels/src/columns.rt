@@ -75,8 +75,9 @@ pub(crate) fn rows_where(left: &[i64; 1024], op: Op, right: &[i64; 1024]) -> Mas
     }
 }
 
-/// The rows looked at at which the comparison of the two values holds, and those at which it doesn't, of two lanes of which no
-/// piece was given; their lane widths may differ. Rows of the mask that both cover and that are null in neither are looked at.
+/// Of the rows looked at, those at which the comparison of the two values holds, and those at which it doesn't. Neither of the two
+/// lanes has given a piece yet; their lane widths may differ. The rows looked at are those of the mask that both cover and that are
+/// null in neither.
 pub fn compare_columns<A: Lanes, B: Lanes>(
     left: &mut A,
     op: Op,

@@ -11,8 +11,8 @@ use crate::ranges::compare_range;
 use table_model::Op;
 use transpose_order::Mask;
 
-/// The range of numbers of 64 bits inside which a comparison with a literal holds, or where the third part is false, outside
-/// which it holds.
+/// The range of numbers of 64 bits inside which a comparison with a literal holds, or, if the third part is false, outside which it
+/// holds.
 pub(crate) fn range_of(op: Op, literal: i128) -> (i128, i128, bool)
     ensures { (value : ℤ) → FitsSigned w64 value → compared op value literal
         ≡ (if result.2 then between result.0 result.1 value else not (between result.0 result.1 value)) }
@@ -27,8 +27,8 @@ pub(crate) fn range_of(op: Op, literal: i128) -> (i128, i128, bool)
     }
 }
 
-/// The rows looked at at which the comparison of the value with a literal holds, and those at which it doesn't, of lanes of
-/// which no piece was given. Rows of the mask that are covered and not null are looked at. Where the literal takes more than
+/// Of the rows looked at, those at which the comparison of the value with a literal holds, and those at which it doesn't. The lanes
+/// have given no piece yet. The rows looked at are those of the mask that are covered and not null. If the literal takes more than
 /// 64 bits, no value is read.
 pub fn compare<L: Lanes>(lanes: &mut L, op: Op, literal: i128, mask: &Mask) -> (Mask, Mask)
     requires { (L.seen lanes.old).given ≡ 0 }

@@ -18,8 +18,8 @@ fn put_piece(piece: &[i64; 16], place: usize, values: &mut [i64; 1024])
     }
 }
 
-/// Writes the 1024 values of lanes of which no piece was given, in row order. At a row that isn't covered or is null, any
-/// value may stand.
+/// Writes the 1024 values of lanes, which have given no piece yet, in row order. A row that isn't covered or is null can get any
+/// value.
 pub fn decode_into<L: Lanes>(lanes: &mut L, values: &mut [i64; 1024])
     requires { (L.seen lanes.old).given ≡ 0 }
     ensures values { values.new ≡ (L.seen lanes.old).values }

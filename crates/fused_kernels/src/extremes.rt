@@ -28,7 +28,7 @@ impl Extremum {
         }
     }
 
-    /// The number, with its bits flipped where the least is asked for: of numbers so turned, the greatest is that of the extreme.
+    /// The number, with its bits flipped if the least is asked for. The greatest of such numbers is that of the extreme.
     #[inline(always)]
     pub(crate) fn turned(self, number: i64) -> i64
         ensures { result ≡ turned self number }
@@ -40,7 +40,7 @@ impl Extremum {
     }
 }
 
-/// Raises each of sixteen numbers to its lane's, turned, where the row's bit is set.
+/// Raises each of sixteen numbers to its lane's, flipped if the least is asked for, if the row's bit is set.
 #[inline(always)]
 fn raise(
     greatests: &mut [i64; 16],
@@ -70,8 +70,8 @@ fn greatest_of(numbers: &[i64; 16]) -> i64
     greatest
 }
 
-/// The least or the greatest value of the rows looked at, none over none, of lanes of which no piece was given. Rows of the mask
-/// that are covered and not null are looked at.
+/// The least or the greatest value of the rows looked at, none over none. The lanes have given no piece yet. The rows looked at are
+/// those of the mask that are covered and not null.
 pub fn extreme<L: Lanes>(side: Extremum, lanes: &mut L, mask: &Mask) -> Option<i64>
     requires { (L.seen lanes.old).given ≡ 0 }
     ensures value { result ≡ extreme side (values_looked_at (L.seen lanes.old) mask.now) }

@@ -26,8 +26,8 @@ pub trait Lanes {
     fn nulls(&self) -> Mask
         ensures { result ≡ (seen self.now).nulls };
 
-    /// The next piece, of which there are 64. Element i is the value at row `64 * i + place_in_word(lane_width, piece)`, where
-    /// so many pieces were given before. There is no other way to a value.
+    /// The next piece, of which there are 64. Element i is the value at row `64 * i + place_in_word(lane_width, piece)`, if `piece`
+    /// pieces were given before. There is no other way to a value.
     fn next_piece(&mut self) -> Simd<i64, 16>
         requires { (seen self.old).given < 64 }
         ensures piece { result ≡ next_of (seen self.old) }

@@ -26,7 +26,7 @@ impl Meter {
         Meter { passes: 0 }
     }
 
-    /// How many passes were made, or the greatest number where they were more.
+    /// How many passes were made, or the greatest number if there were more.
     pub fn count(&self) -> u128
         ensures { result ≡ self.now }
     {

@@ -1,4 +1,4 @@
-//! Comparisons of two coded vectors of which one has one value: the other is compared with that number.
+//! Comparisons of two coded vectors, one of which has a single value: the other is compared with that number.
 ghost use Rattle.std.specs.Prelude.{◌≡◌, ◌<◌, ℕ, IfSome, IsSome};
 ghost use Rattle.transpose_order.specs.Mask.{rows_of};
 ghost use Rattle.frame_delta.specs.Frame.{FrameForm, frame_value};
@@ -12,7 +12,7 @@ use segment_core::Coded;
 use table_model::Op;
 use transpose_order::Mask;
 
-/// The reference of a frame without packed numbers, which is its value at each row, or none where it has packed numbers.
+/// The reference of a frame without packed numbers, which is its value at each row; none if it has packed numbers.
 fn reference_alone(form: &For) -> Option<i64>
     ensures value { IfSome result (λ value. (n : ℕ) → frame_value form.now n ≡ value) }
     ensures answers { form.now.width ≡ 0 → IsSome result }
@@ -23,7 +23,7 @@ fn reference_alone(form: &For) -> Option<i64>
     None
 }
 
-/// The value that a vector has at each row where it is a frame without packed numbers, or none.
+/// The value that a vector has at each row if it is a frame without packed numbers; otherwise none.
 fn one_value_of(coded: &Coded) -> Option<i64>
     ensures value { IfSome result (λ value. (n : ℕ) → value_in coded.now n ≡ value) }
     ensures answers { (form : FrameForm) → coded.now ≡ InFor form → form.width ≡ 0 → IsSome result }
@@ -36,8 +36,8 @@ fn one_value_of(coded: &Coded) -> Option<i64>
     }
 }
 
-/// The rows at which a comparison of a vector's values with another's holds, where the other is a frame without packed numbers, or
-/// none. It may be none too where the vector's lanes are of 8 bits.
+/// The rows at which a comparison of a vector's values with another's holds, if the other is a frame without packed numbers;
+/// otherwise none. It can also be none if the vector's lanes have 8 bits.
 fn found_beside_right(left: &Coded, op: Op, right: &Coded) -> Option<Mask>
     ensures rows { IfSome result (λ found. found ≡ rows_of (λ n. compared op (value_in left.now n) (value_in right.now n))) }
     ensures answers { (form : FrameForm) → right.now ≡ InFor form → form.width ≡ 0 → 8 < lane_width_of left.now → IsSome result }
@@ -48,8 +48,8 @@ fn found_beside_right(left: &Coded, op: Op, right: &Coded) -> Option<Mask>
     }
 }
 
-/// The rows at which a comparison of two vectors' values holds, where one of them is a frame without packed numbers, or none. It
-/// may be none too where the other's lanes are of 8 bits.
+/// The rows at which a comparison of two vectors' values holds, if one of them is a frame without packed numbers; otherwise none.
+/// It can also be none if the other's lanes have 8 bits.
 pub(crate) fn found_beside_one(left: &Coded, op: Op, right: &Coded) -> Option<Mask>
     ensures rows { IfSome result (λ found. found ≡ rows_of (λ n. compared op (value_in left.now n) (value_in right.now n))) }
     ensures right { (form : FrameForm) → right.now ≡ InFor form → form.width ≡ 0 → 8 < lane_width_of left.now → IsSome result }

@@ -1,4 +1,4 @@
-//! The rows of a coded vector whose value is in a range, found by the way that its coding has.
+//! The rows of a coded vector whose value is in a range, found in the way of its coding.
 ghost use Rattle.std.specs.Prelude.{◌≡◌, ℕ, ◌<◌, ◌&&◌, not, IfSome, IsSome, if◌then◌else◌};
 ghost use Rattle.table_model.specs.Truth.{compared};
 ghost use Rattle.transpose_order.specs.Mask.{rows_of, has};
@@ -29,8 +29,8 @@ pub(crate) fn rows_of_vector(vector: &CodedVector, mask: &Mask) -> Mask
     rows_among(vector.rows(), &vector.null_rows(), mask)
 }
 
-/// The rows whose value is neither below `low` nor above `high`, or none at a lane width of 8 where values may wrap or a word has
-/// to be read.
+/// The rows whose value is neither below `low` nor above `high`. None at a lane width of 8 if values can wrap or a word has to be
+/// read.
 fn found_in_frame(form: &For, low: i64, high: i64) -> Option<Mask>
     ensures rows { IfSome result (λ found. found ≡ rows_of (λ n. between low high (frame_value form.now n))) }
     ensures answers { 8 < form.now.lane_width → IsSome result }
@@ -42,8 +42,7 @@ fn found_in_frame(form: &For, low: i64, high: i64) -> Option<Mask>
     }
 }
 
-/// The rows whose value is neither below `low` nor above `high`, or none where the lanes have to be looked at, which are of 8 bits
-/// then.
+/// The rows whose value is neither below `low` nor above `high`. None if the lanes have to be looked at, which have 8 bits then.
 fn found_by_coding(coded: &Coded, low: i64, high: i64) -> Option<Mask>
     ensures rows { IfSome result (λ found. found ≡ rows_of (λ n. between low high (value_in coded.now n))) }
     ensures wide { 8 < lane_width_of coded.now → IsSome result }
@@ -64,8 +63,7 @@ fn found_by_coding(coded: &Coded, low: i64, high: i64) -> Option<Mask>
     }
 }
 
-/// The rows whose value is neither below `low` nor above `high`, or none where the lanes have to be looked at, which are of 8 bits
-/// then.
+/// The rows whose value is neither below `low` nor above `high`. None if the lanes have to be looked at, which have 8 bits then.
 pub(crate) fn found_between(coded: &Coded, low: i128, high: i128) -> Option<Mask>
     ensures rows { IfSome result (λ found. found ≡ rows_of (λ n. between low high (value_in coded.now n))) }
     ensures wide { 8 < lane_width_of coded.now → IsSome result }
@@ -82,7 +80,7 @@ pub(crate) fn found_between(coded: &Coded, low: i128, high: i128) -> Option<Mask
     Some(found)
 }
 
-/// The rows found, or where `inside` is false, the others.
+/// The rows found, or, if `inside` is false, the others.
 pub(crate) fn held(found: &Mask, inside: bool) -> Mask
     ensures { result ≡ rows_of (λ n. if inside then has found.now n else not (has found.now n)) }
 {
@@ -92,8 +90,8 @@ pub(crate) fn held(found: &Mask, inside: bool) -> Mask
     found.not()
 }
 
-/// The rows at which a comparison of the value with a literal holds, or none where the lanes have to be looked at, which are of 8
-/// bits then.
+/// The rows at which a comparison of the value with a literal holds. None if the lanes have to be looked at, which have 8 bits
+/// then.
 pub(crate) fn found_by_literal(coded: &Coded, op: Op, literal: i128) -> Option<Mask>
     ensures rows { IfSome result (λ found. found ≡ rows_of (λ n. compared op (value_in coded.now n) literal)) }
     ensures wide { 8 < lane_width_of coded.now → IsSome result }

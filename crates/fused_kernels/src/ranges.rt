@@ -72,9 +72,9 @@ pub(crate) fn last_up_to(high: i128) -> i64
     high as i64
 }
 
-/// The rows looked at whose value is neither below `low` nor above `high`, and the other rows looked at, of lanes of which no
-/// piece was given. Rows of the mask that are covered and not null are looked at. Where no number of 64 bits is in the range,
-/// no value is read.
+/// Of the rows looked at, those whose value is neither below `low` nor above `high`, and the others. The lanes have given no piece
+/// yet. The rows looked at are those of the mask that are covered and not null. If no number of 64 bits is in the range, no value
+/// is read.
 pub fn compare_range<L: Lanes>(lanes: &mut L, low: i128, high: i128, mask: &Mask) -> (Mask, Mask)
     requires { (L.seen lanes.old).given ≡ 0 }
     ensures yes { result.0 ≡ rows_of (λ n. looked_at (L.seen lanes.old) mask.now n && between low high (value_at (L.seen lanes.old).values n)) }

@@ -33,7 +33,7 @@ fn write_distances(values: &[i64; 1024], reference: i64, codes: &mut [u16; 1024]
     }
 }
 
-/// Writes a reference and the numbers after it, so many in all.
+/// Writes a reference and the numbers that follow it, as many in all as are asked for.
 fn write_keys(reference: i64, count: usize, keys: &mut [i64; 1024])
     requires count { count ≤ 256 }
     requires top { (reference +ℤ pos count) ≤ℤ pos (2 ^ 63) }
@@ -82,7 +82,7 @@ fn write_packed(width: usize, words: &[u16], codes: &mut [u16; 1024])
 }
 
 /// Writes how far the value of each row of a frame is above its reference: the packed numbers, which lanes of 16 bits give as they
-/// stand. `values` is room for decoded values.
+/// are. `values` is room for decoded values.
 fn write_numbers(form: &For, reference: i64, values: &mut [i64; 1024], codes: &mut [u16; 1024])
     requires reference { reference ≡ form.now.reference }
     requires narrow { form.now.width ≤ 8 }
@@ -98,7 +98,7 @@ fn write_numbers(form: &For, reference: i64, values: &mut [i64; 1024], codes: &m
 }
 
 /// Writes the packed number of each row of a frame and the value that each number stands for, and answers how many numbers the
-/// width has. None where a value may wrap or the width is above 8.
+/// width has. None if a value can wrap or the width is above 8.
 fn frame_codes(form: &For, codes: &mut [u16; 1024], keys: &mut [i64; 1024]) -> Option<usize>
     ensures codes { IfSome result (λ count. AreCodes (InFor form.now) count codes.new keys.new) }
     ensures count { IfSome result (λ count. count ≡ 2 ^ form.now.width) }
@@ -142,8 +142,8 @@ fn dict_codes(form: &Dict, codes: &mut [u16; 1024], keys: &mut [i64; 1024]) -> u
     form.values().len()
 }
 
-/// Writes a code for each row and the value that each code stands for, and answers how many codes there are, or none where the coding
-/// has no codes.
+/// Writes a code for each row and the value that each code stands for, and answers how many codes there are. None if the coding has
+/// no codes.
 fn coded_codes(coded: &Coded, codes: &mut [u16; 1024], keys: &mut [i64; 1024]) -> Option<usize>
     ensures codes { IfSome result (λ count. AreCodes coded.now count codes.new keys.new) }
     ensures count { IfSome result (λ count. count ≡ code_count coded.now) }
@@ -158,7 +158,7 @@ fn coded_codes(coded: &Coded, codes: &mut [u16; 1024], keys: &mut [i64; 1024]) -
     }
 }
 
-/// A code where it is put, else another.
+/// A code if it is put there, otherwise another.
 #[inline(always)]
 fn code_if(put: bool, code: u16, other: u16) -> u16
     ensures { result ≡ cond put code other }
@@ -191,7 +191,7 @@ fn put_at(codes: &mut [u16; 1024], rows: &Mask, code: u16)
     }
 }
 
-/// Whether a frame's width has numbers for codes, and at most so many.
+/// Whether a frame's width has numbers for codes, and at most this many.
 fn frame_has_few(form: &For, most: usize) -> bool
     ensures { result ≡ true → 2 ^ form.now.width ≤ most }
 {
@@ -199,8 +199,8 @@ fn frame_has_few(form: &For, most: usize) -> bool
     width <= WIDEST && 1 << width <= most
 }
 
-/// Whether a vector's coding has codes, and at most so many, told without a look at its rows. A frame's are told by its width alone,
-/// so that it may have none yet where a value may wrap.
+/// Whether a vector's coding has codes, and at most this many, without a look at its rows. Of a frame only the width is looked at,
+/// so a frame may still have none if a value can wrap.
 pub fn vector_has_few_codes(vector: &CodedVector, most: usize) -> bool
     ensures { result ≡ true → code_count vector.now.coded ≤ most }
 {
@@ -212,10 +212,10 @@ pub fn vector_has_few_codes(vector: &CodedVector, most: usize) -> bool
     }
 }
 
-/// Writes a code for each row of a vector and the value that each code stands for, the values ascending from the first place on, and
-/// answers how many codes there are, at most 1024. A null row has that number as its code. The codes are the packed numbers of a
-/// frame of which no value can wrap, at a width up to 8, or a dictionary's; of other vectors it answers none, and the codes and keys
-/// are any. A row that isn't covered may have any code. The meter counts one pass more where it answers.
+/// Writes a code for each row of a vector and the value that each code stands for, the values ascending from the first place on,
+/// and answers how many codes there are, at most 1024. A null row has that number as its code. The codes are the packed numbers of
+/// a frame of which no value can wrap, at a width up to 8, or a dictionary's. For other vectors it answers none, and the codes and
+/// keys can be any. A row that isn't covered can have any code. The meter counts one pass more if it answers.
 pub fn vector_codes_into(
     vector: &CodedVector,
     codes: &mut [u16; 1024],

@@ -1,8 +1,8 @@
-//! How many rows of a mask stand before a row, by the counts of its whole words.
+//! How many rows of a mask come before a row, by the counts of its whole words.
 ghost use Rattle.std.specs.Prelude.{◌≡◌, ℕ, ◌*◌, ◌<◌, ◌≤◌, slice_index};
 ghost use Rattle.transpose_order.specs.Mask.{truth_at, count_below};
 
-/// How many rows of a mask stand before each of its words.
+/// How many rows of a mask come before each of its words.
 pub(crate) fn rows_before_words(words: &[u64; 16]) -> [usize; 16]
     ensures { (j : ℕ) → j < 16 → slice_index result j ≡ count_below (truth_at words.now) (64 * j) }
 {
@@ -15,7 +15,7 @@ pub(crate) fn rows_before_words(words: &[u64; 16]) -> [usize; 16]
     before
 }
 
-/// How many rows of a mask stand below `end`, from how many stand before each of its words. One word is looked at.
+/// How many rows of a mask are below `end`, from how many come before each of its words. One word is looked at.
 #[inline(always)]
 pub(crate) fn rows_below(words: &[u64; 16], before: &[usize; 16], end: usize) -> usize
     requires some { 0 < end }

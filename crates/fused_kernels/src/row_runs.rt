@@ -21,9 +21,9 @@ fn write_run_values(form: &Runs, values: &mut [i64; 1024])
     }
 }
 
-/// Writes the values of the runs of a vector in order, from the first place on, and answers the rows where a run starts after row 0.
-/// None where the vector isn't coded by runs: the values are as they were then. A run of rows that are null or aren't covered may
-/// have any value. The meter counts one pass more where it answers.
+/// Writes the values of the runs of a vector in order, from the first place on, and answers the rows where a run starts after row
+/// 0. None if the vector isn't coded by runs; then the values can be any. A run of rows that are null or aren't covered can have
+/// any value. The meter counts one pass more if it answers.
 pub fn vector_runs_into(
     vector: &CodedVector,
     values: &mut [i64; 1024],

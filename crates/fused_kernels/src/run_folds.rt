@@ -34,7 +34,7 @@ pub(crate) fn sum_of_runs(form: &Runs, rows: &Mask) -> i128
     sum
 }
 
-/// The least or the greatest of some values, and the greatest or the least of 64 bits over none.
+/// The least or the greatest of some values; over none, the greatest or the least of 64 bits.
 fn extreme_of_all(side: Extremum, values: &Values) -> i64
     ensures { result ≡ turned side (fold_to int_max (negsuc (2 ^ 63 - 1)) (length values.now.values) (λ i. turned side (value_at values.now.values i))) }
 {
@@ -69,8 +69,8 @@ fn extreme_of_rows(side: Extremum, form: &Runs, rows: &Mask) -> Option<i64>
     Some(side.turned(greatest))
 }
 
-/// The least or the greatest value of a mask's rows, none over none. Where the mask has all rows, none is looked for: each run has
-/// one at least.
+/// The least or the greatest value of a mask's rows, none over none. If the mask has all rows, none is searched for: each run has
+/// at least one.
 #[inline(always)]
 pub(crate) fn extreme_of_runs(side: Extremum, form: &Runs, rows: &Mask) -> Option<i64>
     ensures { result ≡ extreme_at side rows.now (run_value form.now) }

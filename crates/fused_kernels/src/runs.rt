@@ -23,7 +23,7 @@ fn set_run(words: &mut [u64; 16], first: usize, end: usize)
     }
 }
 
-/// Sets the rows from `first` up to `end`, which is not included, in the words of a mask, where that is asked.
+/// Sets the rows from `first` up to `end`, which is not included, in the words of a mask, if that is asked.
 #[inline(always)]
 fn set_run_if(words: &mut [u64; 16], first: usize, end: usize, set: bool)
     requires order { first < end }
@@ -47,7 +47,7 @@ pub(crate) fn is_one_between(values: &Values, low: i64, high: i64) -> bool
     false
 }
 
-/// The rows whose run's value is neither below `low` nor above `high`. Where that is no run's, no row is looked for.
+/// The rows whose run's value is neither below `low` nor above `high`. If no run has such a value, no row is searched for.
 pub(crate) fn runs_between(form: &Runs, low: i64, high: i64) -> Mask
     ensures { result ≡ rows_of (λ n. between low high (run_value form.now n)) }
 {

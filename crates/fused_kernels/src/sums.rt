@@ -10,7 +10,7 @@ use crate::lanes::{Lanes, next_values, rows_to_look_at};
 use native_lanes::sum_of_lanes;
 use transpose_order::{Mask, place_in_word, raised_if};
 
-/// How far each number of a piece is above the least of 64 bits where its row's bit is set, else 0.
+/// How far each number of a piece is above the least of 64 bits if its row's bit is set, otherwise 0.
 #[inline(always)]
 fn raised_at(numbers: &[i64; 16], words: &[u64; 16], place: usize) -> [u64; 16]
     requires { place < 64 }
@@ -36,9 +36,9 @@ fn add_halves(sums: &mut [u64; 16], numbers: &[u64; 16], shift: usize)
     }
 }
 
-/// The sum of the values of the rows looked at, 0 over none, of lanes of which no piece was given. Rows of the mask that are
-/// covered and not null are looked at. The halves of 32 bits of the values, raised by 2 to the power of 63, are added apart, so
-/// that no sum wraps.
+/// The sum of the values of the rows looked at, 0 over none. The lanes have given no piece yet. The rows looked at are those of the
+/// mask that are covered and not null. The halves of 32 bits of the values, raised by 2 to the power of 63, are added separately,
+/// so that no sum wraps.
 pub fn sum<L: Lanes>(lanes: &mut L, mask: &Mask) -> i128
     requires { (L.seen lanes.old).given ≡ 0 }
     ensures value { result ≡ total (values_looked_at (L.seen lanes.old) mask.now) }

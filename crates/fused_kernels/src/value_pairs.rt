@@ -17,8 +17,8 @@ use segment_core::Coded;
 use table_model::Op;
 use transpose_order::Mask;
 
-/// The rows at which a frame's value is equal to a vector's, or where `equal` is false, less, or none where the vector has no
-/// native lanes of the frame's width or that is 8.
+/// The rows at which a frame's value is equal to a vector's, or, if `equal` is false, less. None if the vector has no native lanes
+/// of the frame's width, or if that is 8.
 fn frame_beside(equal: bool, left: &For, right: &Coded) -> Option<Mask>
     ensures rows { IfSome result (λ found. found ≡ rows_of (λ n. value_passes equal (frame_value left.now n) (value_in right.now n))) }
     ensures answers { left.now.lane_width ≡ native_width right.now → 8 < left.now.lane_width → IsSome result }
@@ -37,8 +37,8 @@ fn frame_beside(equal: bool, left: &For, right: &Coded) -> Option<Mask>
     }
 }
 
-/// The rows at which the value of deltas is equal to a vector's, or where `equal` is false, less, or none where the vector has no
-/// native lanes of the deltas' width or that is 8.
+/// The rows at which the value of deltas is equal to a vector's, or, if `equal` is false, less. None if the vector has no native
+/// lanes of the deltas' width, or if that is 8.
 fn deltas_beside(equal: bool, left: &Delta, right: &Coded) -> Option<Mask>
     ensures rows { IfSome result (λ found. found ≡ rows_of (λ n. value_passes equal (delta_value left.now n) (value_in right.now n))) }
     ensures answers { left.now.lane_width ≡ native_width right.now → 8 < left.now.lane_width → IsSome result }
@@ -57,8 +57,8 @@ fn deltas_beside(equal: bool, left: &Delta, right: &Coded) -> Option<Mask>
     }
 }
 
-/// The rows at which a vector's value is equal to another's, or where `equal` is false, less, or none where they have no native
-/// lanes of one width above 8.
+/// The rows at which a vector's value is equal to another's, or, if `equal` is false, less. None if they have no native lanes of
+/// one width above 8.
 fn coded_beside(equal: bool, left: &Coded, right: &Coded) -> Option<Mask>
     ensures rows { IfSome result (λ found. found ≡ rows_of (λ n. value_passes equal (value_in left.now n) (value_in right.now n))) }
     ensures answers { native_width left.now ≡ native_width right.now → 8 < native_width left.now → IsSome result }
@@ -77,7 +77,7 @@ fn coded_beside(equal: bool, left: &Coded, right: &Coded) -> Option<Mask>
     }
 }
 
-/// What `coded_beside` answers, or where `turned` is true, what it answers of the two vectors by turns.
+/// The answer of `coded_beside`, or, if `turned` is true, its answer for the two vectors exchanged.
 fn turned_beside(equal: bool, turned: bool, left: &Coded, right: &Coded) -> Option<Mask>
     ensures rows { IfSome result (λ found. found ≡ rows_of (λ n.
         value_passes equal (cond turned (value_in right.now n) (value_in left.now n)) (cond turned (value_in left.now n) (value_in right.now n)))) }
@@ -91,19 +91,19 @@ fn turned_beside(equal: bool, turned: bool, left: &Coded, right: &Coded) -> Opti
     Some(found)
 }
 
-/// The one test of two values, for equality or for less, that tells whether they compare.
+/// The one test of two values, for equality or for less, that decides a comparison of them.
 #[derive(Drop)]
 struct LaneTest {
-    /// Whether the test is for equality, or else for less.
+    /// Whether the test is for equality; otherwise it is for less.
     equal: bool,
-    /// Whether it is of the right value beside the left.
+    /// Whether it compares the right value with the left one.
     turned: bool,
-    /// Whether the values compare where it holds, or else where it doesn't.
+    /// Whether the comparison holds if the test does; otherwise it holds if the test doesn't.
     holds: bool,
 }
 
 impl LaneTest {
-    /// The test that tells whether two values compare.
+    /// The test that decides a comparison of two values.
     fn of(op: Op) -> LaneTest
         ensures { (left right : ℤ) → compared op left right
             ≡ (if result.holds then value_passes result.equal (cond result.turned right left) (cond result.turned left right)
@@ -125,7 +125,7 @@ impl LaneTest {
     }
 }
 
-/// The rows at which a comparison of two vectors' values holds, or none where they have no native lanes of one width above 8.
+/// The rows at which a comparison of two vectors' values holds. None if they have no native lanes of one width above 8.
 pub(crate) fn found_beside(left: &Coded, op: Op, right: &Coded) -> Option<Mask>
     ensures rows { IfSome result (λ found. found ≡ rows_of (λ n. compared op (value_in left.now n) (value_in right.now n))) }
     ensures answers { native_width left.now ≡ native_width right.now → 8 < native_width left.now → IsSome result }

@@ -52,10 +52,10 @@ fn compare_range_by_lanes(
     compare_range(&mut VectorLanes::new(vector, meter), low, high, mask)
 }
 
-/// A vector's rows looked at at which the comparison of the value with a literal holds, and those at which it doesn't. Rows of
-/// the mask that are covered and not null are looked at. The meter counts one pass more. Runs are compared one by one, and the
-/// codes of a dictionary in place of its values; where the reference and the width of a frame or the ends of a dictionary decide,
-/// no word is read.
+/// Of a vector's rows looked at, those at which the comparison of the value with a literal holds, and those at which it doesn't.
+/// The rows looked at are those of the mask that are covered and not null. The meter counts one pass more. Runs are compared one by
+/// one, and the codes of a dictionary in place of its values. If the reference and the width of a frame or the ends of a dictionary
+/// decide, no word is read.
 pub fn compare_vector(
     vector: &CodedVector,
     op: Op,
@@ -76,8 +76,8 @@ pub fn compare_vector(
     }
 }
 
-/// A vector's rows looked at whose value is neither below `low` nor above `high`, and the other rows looked at. Rows of the mask
-/// that are covered and not null are looked at. The meter counts one pass more. It goes by the coding, as `compare_vector` does.
+/// Of a vector's rows looked at, those whose value is neither below `low` nor above `high`, and the others. The rows looked at are
+/// those of the mask that are covered and not null. The meter counts one pass more. It uses the coding, as `compare_vector` does.
 pub fn compare_vector_range(
     vector: &CodedVector,
     low: i128,
@@ -98,7 +98,7 @@ pub fn compare_vector_range(
     }
 }
 
-/// Whether a vector's values are decoded faster than its lanes are looked at: where it has runs or a dictionary.
+/// Whether a vector's values are decoded faster than its lanes are looked at: they are if it has runs or a dictionary.
 fn is_decoded_faster(vector: &CodedVector) -> bool {
     matches!(vector.coded(), Coded::Runs(_) | Coded::Dict(_))
 }
@@ -139,7 +139,7 @@ fn compare_decoded(left: &CodedVector, op: Op, right: &CodedVector, mask: &Mask)
     (rows.and(&found), rows.and_not(&found))
 }
 
-/// A comparison of two vectors' values, decoded where one of them has runs or a dictionary, else by their lanes.
+/// A comparison of two vectors' values: decoded if one of them has runs or a dictionary, otherwise by their lanes.
 fn compare_value_by_value(
     left: &CodedVector,
     op: Op,
@@ -161,7 +161,7 @@ fn compare_value_by_value(
     compare_vectors_by_lanes(left, op, right, mask, meter)
 }
 
-/// The rows at which a comparison of two vectors' values holds, or none where they have to be decoded or their lanes looked at.
+/// The rows at which a comparison of two vectors' values holds. None if they have to be decoded or their lanes looked at.
 fn found_of_both(left: &Coded, op: Op, right: &Coded) -> Option<Mask>
     ensures rows { IfSome result (λ found. found ≡ rows_of (λ n. compared op (value_in left.now n) (value_in right.now n))) }
     ensures right { (form : FrameForm) → right.now ≡ InFor form → form.width ≡ 0 → 8 < lane_width_of left.now → IsSome result }
@@ -174,8 +174,8 @@ fn found_of_both(left: &Coded, op: Op, right: &Coded) -> Option<Mask>
     }
 }
 
-/// The rows looked at at which the comparison of two vectors' values holds, and those at which it doesn't. Rows of the mask that
-/// both cover and that are null in neither are looked at. The meter counts two passes more.
+/// Of the rows looked at, those at which the comparison of two vectors' values holds, and those at which it doesn't. The rows
+/// looked at are those of the mask that both cover and that are null in neither. The meter counts two passes more.
 pub fn compare_vectors(
     left: &CodedVector,
     op: Op,

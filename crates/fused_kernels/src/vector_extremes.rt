@@ -132,8 +132,8 @@ fn by_coding(side: Extremum, vector: &CodedVector, mask: &Mask, meter: &mut Mete
     }
 }
 
-/// The least or the greatest value of a vector's rows looked at, none over none. Rows of the mask that are covered and not null
-/// are looked at. The meter counts one pass more.
+/// The least or the greatest value of a vector's rows looked at, none over none. The rows looked at are those of the mask that are
+/// covered and not null. The meter counts one pass more.
 pub fn vector_extreme(
     side: Extremum,
     vector: &CodedVector,
@@ -143,7 +143,7 @@ pub fn vector_extreme(
     ensures value { result ≡ extreme side (values_looked_at (vector_seen vector.now 0) mask.now) }
     ensures pass { meter.new ≡ raised 1 meter.old }
 {
-    // Each extreme has loops of its own, in which nothing asks for it.
+    // Each extreme has loops of its own, in which it is a constant.
     match side {
         Extremum::Least => by_coding(Extremum::Least, vector, mask, meter),
         Extremum::Greatest => by_coding(Extremum::Greatest, vector, mask, meter),

@@ -39,7 +39,7 @@ impl<'a> Model for VectorLanes<'a> {
 }
 
 impl<'a> VectorLanes<'a> {
-    /// The lanes of a vector, of which no piece was given. The meter counts one pass more.
+    /// The lanes of a vector, which have given no piece yet. The meter counts one pass more.
     pub fn new(vector: &'a CodedVector, meter: &mut Meter) -> Self
         ensures lanes { result ≡ vector_seen vector.now 0 }
         ensures pass { meter.new ≡ raised 1 meter.old }
@@ -55,7 +55,7 @@ impl<'a> VectorLanes<'a> {
     }
 }
 
-/// A piece of deltas. The sums are those of the piece before, where it is of the same lanes, and become those of this piece.
+/// A piece of deltas. The sums are those of the piece before, if it is of the same lanes, and become those of this piece.
 fn delta_piece(form: &Delta, piece: usize, sums: &mut [u64; 16]) -> Simd<i64, 16>
     requires piece { piece < 64 }
     requires before { piece % form.now.lane_width ≢ 0 → AreSums form.now (piece - 1) sums.old }
@@ -67,7 +67,7 @@ fn delta_piece(form: &Delta, piece: usize, sums: &mut [u64; 16]) -> Simd<i64, 16
     wrap_lanes(form.lane_width(), next)
 }
 
-/// The number of the run of a row, from that of the row before where it is known.
+/// The number of the run of a row, from that of the row before if it is known.
 #[inline(always)]
 fn run_after(form: &Runs, row: usize, known: bool, before: u64) -> usize
     requires row { row < 1024 }
@@ -91,8 +91,8 @@ fn value_of_run(form: &Runs, run: usize) -> i64
     form.values().get(run)
 }
 
-/// A piece of runs. The numbers are those of the runs of the piece before, where it is of the same lanes, and become those of
-/// this piece.
+/// A piece of runs. The numbers are those of the runs of the piece before, if it is of the same lanes, and become those of this
+/// piece.
 fn run_piece(form: &Runs, piece: usize, runs: &mut [u64; 16]) -> Simd<i64, 16>
     requires piece { piece < 64 }
     requires before { piece % form.now.lane_width ≢ 0 → AreRuns form.now (piece - 1) runs.old }

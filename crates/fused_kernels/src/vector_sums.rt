@@ -72,8 +72,8 @@ fn sum_by_deltas(vector: &CodedVector, form: &Delta, mask: &Mask, meter: &mut Me
     }
 }
 
-/// The sum of the values of a vector's rows looked at, 0 over none. Rows of the mask that are covered and not null are looked
-/// at. The meter counts one pass more.
+/// The sum of the values of a vector's rows looked at, 0 over none. The rows looked at are those of the mask that are covered and
+/// not null. The meter counts one pass more.
 pub fn vector_sum(vector: &CodedVector, mask: &Mask, meter: &mut Meter) -> i128
     ensures value { result ≡ total (values_looked_at (vector_seen vector.now 0) mask.now) }
     ensures pass { meter.new ≡ raised 1 meter.old }

@@ -10,8 +10,8 @@ use native_lanes::{decode_deltas, decode_frame};
 use run_dictionary::{Dict, Runs};
 use segment_core::{Coded, CodedVector};
 
-/// Writes a vector's 1024 values in row order. At a row that isn't covered or is null, any value may stand. The meter counts one
-/// pass more.
+/// Writes a vector's 1024 values in row order. A row that isn't covered or is null can get any value. The meter counts one pass
+/// more.
 pub fn decode_vector(vector: &CodedVector, values: &mut [i64; 1024], meter: &mut Meter)
     ensures values { values.new ≡ values_of vector.now.coded }
     ensures pass { meter.new ≡ raised 1 meter.old }
