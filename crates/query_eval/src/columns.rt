@@ -5,10 +5,10 @@ use crate::vector_id::VectorId;
 use table_model::{BatchName, Op, Schema};
 use transpose_order::Mask;
 
-/// A table's state as batches of vectors of up to 1024 rows, whose values come from counted calls alone.
+/// A table's state as batches of vectors of up to 1024 rows, whose rows' values are read by counted calls.
 ///
-/// Contracts see a schema, a state within its limits and a number of passes. A call over a mask looks at the rows of the mask
-/// that aren't null; a mask may have deleted rows and rows past the vector's end.
+/// Contracts see a schema, a state within its limits and a number of passes. A call over a mask looks at the rows of the mask that
+/// aren't null. A mask can have deleted rows and rows past the vector's end.
 pub trait Columns {
     ghost use Rattle.std.specs.Prelude.{◌≡◌, ◌<◌, ◌≤◌, ℕ, List, length, map, not, Some, ℤ, pos, int_le, slice_index_or};
     ghost use Rattle.std.specs.Prelude.{◌&&◌, false, IfSome, None};
@@ -34,7 +34,7 @@ pub trait Columns {
         ensures count { result ≡ batch_count (seen self.now).state }
         ensures limits { IsWithin (seen self.now).table (seen self.now).state };
 
-    /// The name of a batch; batches stand in ascending order of name.
+    /// The name of a batch; batches are in ascending order of name.
     fn name(&self, batch: usize) -> BatchName
         requires { batch < batch_count (seen self.now).state }
         ensures { result ≡ (batch_at (seen self.now).state batch).0 };
@@ -55,8 +55,9 @@ pub trait Columns {
         requires column { column < length (seen self.now).table.columns }
         ensures { result ≡ rows_of (λ n. is_null (whole (cell_at (vector_of (seen self.now).state id) column n))) };
 
-    /// Whether a column may have a value in a vector that is neither below `low` nor above `high`, by what is known of all its
-    /// values together, as the bounds of a frame or the ends of a dictionary: no row's value is looked at, and no pass is made.
+    /// Whether a column can have a value in a vector that is neither below `low` nor above `high`. If it answers false, no row has
+    /// one. It counts no pass: an implementation answers from what is known of all values together, such as the bounds of a frame
+    /// or the ends of a dictionary.
     fn may_have(&self, id: VectorId, column: usize, low: i128, high: i128) -> bool
         requires there { IsThere (seen self.now).state id.batch id.vector }
         requires column { column < length (seen self.now).table.columns }
@@ -142,9 +143,9 @@ pub trait Columns {
         ensures values { (n : ℕ) (z : ℤ) → n < 1024 → cell_at (vector_of (seen self.old).state id) column n ≡ Some z → slice_index_or values.new n (pos 0) ≡ z }
         ensures read { IsCounted (seen self.old) (seen self.new) 1 };
 
-    /// Writes the values of the runs of a column in order, from the first place on, and answers the rows where a run starts after row 0.
-    /// None where the column isn't coded by runs in the vector: nothing is read then, and the values are any. A run of rows that are
-    /// null or past the vector's end may have any value.
+    /// Writes the values of the runs of a column in order, from the first place on, and answers the rows where a run starts after
+    /// row 0. None if the column isn't coded by runs in the vector: no pass is counted then, and the values can be any. A run of
+    /// rows that are null or past the vector's end can have any value.
     fn runs_into(&mut self, id: VectorId, column: usize, values: &mut [i64; 1024]) -> Option<Mask>
         requires there { IsThere (seen self.old).state id.batch id.vector }
         requires column { column < length (seen self.old).table.columns }
@@ -152,9 +153,9 @@ pub trait Columns {
         ensures read { IfSome result (λ _. IsCounted (seen self.old) (seen self.new) 1) }
         ensures none { result ≡ None → seen self.new ≡ seen self.old };
 
-    /// Writes a code for each row of a column, and the value that each code stands for, ascending from the first place on, and answers
-    /// how many codes there are, which is the code of null and of a row past the vector's end. None where the column has no codes in
-    /// the vector or more than `most`: nothing is read then, and the codes and keys are any.
+    /// Writes a code for each row of a column, and the value that each code stands for, ascending from the first place on, and
+    /// answers how many codes there are, which is the code of null and of a row past the vector's end. None if the column has no
+    /// codes in the vector, or more than `most`: no pass is counted then, and the codes and keys can be any.
     fn codes_into(
         &mut self,
         id: VectorId,
@@ -170,7 +171,7 @@ pub trait Columns {
         ensures read { IfSome result (λ _. IsCounted (seen self.old) (seen self.new) 1) }
         ensures none { result ≡ None → seen self.new ≡ seen self.old };
 
-    /// How many passes over vectors were made, or the greatest number where they were more.
+    /// How many passes over vectors were made, or the greatest number if there were more.
     fn passes(&self) -> u128
         ensures { result ≡ (seen self.now).passes };
 }

@@ -9,7 +9,7 @@ use itoa::Buffer;
 use std::alloc::{AllocError, Global};
 use table_model::{Answer, AnswerRow, Field};
 
-/// What stands before a number with fewer than six digits.
+/// What is written in front of a number with fewer than six digits.
 const ZEROS: &[u8] = b"000000";
 
 /// The text of an answer: its heading's line, and a line for each row; fields are joined by commas, and each line ends with a

@@ -18,7 +18,7 @@ pub fn whole_field(value: Option<i64>) -> Field
     }
 }
 
-/// SUM of values of which there are so many, with this sum.
+/// SUM of values, given their number and their sum.
 pub fn sum_field(count: u128, sum: i128) -> Field
     ensures { (zs : List ℤ) → count ≡ length zs → sum ≡ total zs → result ≡ whole (total_or_null zs) }
 {
@@ -29,7 +29,7 @@ pub fn sum_field(count: u128, sum: i128) -> Field
     }
 }
 
-/// AVG of values of which there are so many, with this sum: in millionths, truncated toward zero.
+/// AVG of values, given their number and their sum: in millionths, truncated toward zero.
 pub fn mean_field(count: u128, sum: i128) -> Field
     requires count { count ≤ 2 ^ 96 }
     requires sum { IsWithin sum_limit sum }

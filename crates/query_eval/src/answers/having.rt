@@ -35,7 +35,7 @@ fn holds_of_millionths(op: Op, millionths: i128, whole: i128) -> bool
     }
 }
 
-/// The comparison of two fields: in millionths where one of them is a number of millionths, and unknown where one is null.
+/// The comparison of two fields: in millionths if one of them is a number of millionths, and unknown if one is null.
 fn compare_fields(op: Op, left: Field, right: Field) -> Truth
     ensures { result ≡ field_comparison op left right }
 {

@@ -40,7 +40,7 @@ fn function_text(alloc: Global, function: &SetFunction) -> Result<String, AllocE
     }
 }
 
-/// What stands over a column of the answer that has no alias.
+/// The heading of a column of the answer that has no alias.
 fn value_text(alloc: Global, value: &ItemValue) -> Result<String, AllocError>
     ensures { IfOk result (λ text. string_bytes text ≡ value_text value.now) }
 {
@@ -50,7 +50,7 @@ fn value_text(alloc: Global, value: &ItemValue) -> Result<String, AllocError>
     }
 }
 
-/// What stands over a column of the answer: its alias where it has one.
+/// The heading of a column of the answer: its alias if it has one.
 fn item_text(alloc: Global, item: &Item) -> Result<String, AllocError>
     ensures { IfOk result (λ text. string_bytes text ≡ item_text item.now) }
 {

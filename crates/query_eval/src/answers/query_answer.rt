@@ -12,10 +12,10 @@ use crate::tallies::Plan;
 use std::alloc::{AllocError, Global};
 use table_model::{Answer, Query};
 
-/// The answer of a query: that of its meaning over the rows that aren't deleted. It changes the number of passes alone.
+/// The answer of a query: that of its meaning over the rows that aren't deleted. It changes only the number of passes.
 ///
 /// Each mention of a column in the query takes at most one pass over each of the column's vectors that has a live row. It is
-/// refused for want of memory alone, and may then have taken passes.
+/// refused only if memory runs out, and can then have taken passes.
 pub fn answer<C: Columns>(
     alloc: Global,
     columns: &mut C,

@@ -74,8 +74,8 @@ impl Taken {
     }
 }
 
-/// Takes in the rows of a vector that a query keeps. A vector without a live row takes no pass, and of one without a kept row
-/// nothing is taken in.
+/// Takes in the rows of a vector that a query keeps. A vector without a live row takes no pass, and a vector without a kept row
+/// adds nothing.
 fn take_vector<C: Columns>(
     alloc: Global,
     columns: &mut C,

@@ -1,4 +1,4 @@
-//! Whether a condition of WHERE may be true in a vector, by what is known of all values of a column together: no row is looked at.
+//! Whether a condition of WHERE can be true in a vector, by what is known of all values of a column together. No pass is counted.
 ghost use Rattle.std.specs.Prelude.{◌≡◌, ◌<◌, false, length, Some};
 ghost use Rattle.table_model.specs.Answer.{whole};
 ghost use Rattle.table_model.specs.Condition.{between, is_among};
@@ -90,7 +90,7 @@ fn predicate_may_be_true<C: Columns>(columns: &C, id: VectorId, predicate: &Pred
     }
 }
 
-/// Whether a condition may be true in a vector. Where it may not, it is true at none of the vector's rows.
+/// Whether a condition can be true in a vector. If it can't, it is true at none of the vector's rows.
 #[cycle(bounds)]
 pub fn may_be_true<C: Columns>(columns: &C, id: VectorId, condition: &Condition) -> bool
     requires { IsThere (C.seen columns.now).state id.batch id.vector }
@@ -104,7 +104,7 @@ pub fn may_be_true<C: Columns>(columns: &C, id: VectorId, condition: &Condition)
     false
 }
 
-/// Whether a term may be true in a vector: it isn't where one of its factors isn't.
+/// Whether a term can be true in a vector: it can't if one of its factors can't.
 #[cycle(bounds)]
 fn term_may_be_true<C: Columns>(columns: &C, id: VectorId, term: &Term) -> bool
     requires { IsThere (C.seen columns.now).state id.batch id.vector }

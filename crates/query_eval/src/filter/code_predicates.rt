@@ -12,7 +12,7 @@ use crate::filter::pair::Pair;
 use table_model::Truth;
 use transpose_order::Mask;
 
-/// The greatest number of codes by which IN goes: the code of each literal is searched for among their keys.
+/// The greatest number of codes that IN uses: the code of each literal is searched for among their keys.
 pub const MOST_KEYS: usize = 256;
 
 /// Whether a key is a literal.
@@ -22,7 +22,7 @@ fn is_literal(key: i64, literal: i128) -> bool
     i128::from(key) == literal
 }
 
-/// The code below the count whose key is a literal, or `None` where none is.
+/// The code below the count whose key is a literal, or `None` if there is none.
 fn code_of(keys: &[i64; 1024], count: usize, literal: i128) -> Option<usize>
     requires { count ≤ 1024 }
     ensures within { IfSome result (λ code. code < count) }
@@ -37,7 +37,7 @@ fn code_of(keys: &[i64; 1024], count: usize, literal: i128) -> Option<usize>
     None
 }
 
-/// The rows of a mask that have the code of a literal, none where no key is the literal.
+/// The rows of a mask that have the code of a literal; none if no key is the literal.
 fn literal_rows(
     codes: &[u16; 1024],
     keys: &[i64; 1024],

@@ -12,7 +12,7 @@ use crate::vector_id::VectorId;
 use table_model::Condition;
 use transpose_order::Mask;
 
-/// A vector in which rows are kept, and which rows.
+/// A vector with kept rows, and which rows these are.
 #[derive(Drop)]
 pub struct KeptVector {
     pub id: VectorId,
@@ -24,13 +24,13 @@ pub(crate) fn has_rows(mask: &Mask) -> bool
     ensures some { IsTrue result → count_by (λ row. row) mask.now ≢ 0 }
     ensures none { result ≡ false → count_by (λ row. row) mask.now ≡ 0 }
 {
-    // That a mask has 1024 places is told by its words.
+    // Its words show that a mask has 1024 places.
     let _words = mask.words();
     mask.next_true(0) < 1024
 }
 
-/// The rows of a vector that aren't deleted and at which a condition is true. Where what is known of all values of a column shows
-/// that there are none, the vector's rows aren't looked at. A vector without a live row takes no pass.
+/// The rows of a vector that aren't deleted and at which a condition is true. If what is known of all values of a column shows that
+/// there are none, the vector's rows aren't looked at. A vector without a live row takes no pass.
 pub(crate) fn true_mask<C: Columns>(columns: &mut C, id: VectorId, condition: &Condition) -> Mask
     requires { IsThere (C.seen columns.old).state id.batch id.vector }
     ensures value { result ≡ kept_mask (C.seen columns.old).table (Some condition.now) (vector_of (C.seen columns.old).state id) }

@@ -13,7 +13,7 @@ use std::alloc::{AllocError, Global};
 use table_model::{BatchName, Condition, RowName};
 use transpose_order::{Mask, VECTOR_ROWS};
 
-/// Adds the names of the rows of a vector's mask, where the vector's first row has the ordinal `first`.
+/// Adds the names of the rows of a vector's mask; the vector's first row has the ordinal `first`.
 fn push_names(
     names: &mut Vec<RowName>,
     batch: BatchName,
@@ -56,8 +56,8 @@ fn match_batch<C: Columns>(
     Ok(())
 }
 
-/// The names of the rows that aren't deleted and at which a condition is true, in ascending order. It changes the number of passes
-/// alone.
+/// The names of the rows that aren't deleted and at which a condition is true, in ascending order. It changes only the number of
+/// passes.
 ///
 /// Each mention of a column takes at most one pass over each of the column's vectors that has a live row.
 pub fn matching<C: Columns>(

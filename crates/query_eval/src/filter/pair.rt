@@ -88,7 +88,7 @@ impl Pair {
         }
     }
 
-    /// IS TRUE and its kin, row by row, of a condition over the rows of a mask.
+    /// IS TRUE, IS FALSE and IS UNKNOWN, row by row, of a condition over the rows of a mask.
     pub fn asked(&self, is: IsTruth, mask: &Mask) -> Pair
         ensures { (t : ℕ → TruthValue) → IsPair mask.now t self.now → IsPair mask.now (λ n. asked is (t n)) result }
     {

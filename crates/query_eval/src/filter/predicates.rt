@@ -19,8 +19,8 @@ use crate::vector_id::VectorId;
 use table_model::{Literals, Operand};
 use transpose_order::Mask;
 
-/// BETWEEN of three sides at the rows of a mask: each column takes one pass. It stands apart from `between_sides`, and is never
-/// taken into it, since most conditions need no room for three decoded columns.
+/// BETWEEN of three sides at the rows of a mask: each column takes one pass. It is a function of its own and is never inlined into
+/// `between_sides`, since most conditions need no room for three decoded columns.
 #[inline(never)]
 fn between_decoded<C: Columns>(
     columns: &mut C,
@@ -43,7 +43,7 @@ fn between_decoded<C: Columns>(
     between_rows(&operand, &low, &high, mask)
 }
 
-/// BETWEEN of three sides at the rows of a mask: a column between two literals takes one pass, and else each column one.
+/// BETWEEN of three sides at the rows of a mask: a column between two literals takes one pass, and otherwise each column takes one.
 fn between_sides<C: Columns>(
     columns: &mut C,
     id: VectorId,
@@ -133,8 +133,8 @@ fn among_decoded<C: Columns>(
     among_values(&nulls, &values, literals, mask)
 }
 
-/// IN of a column at the rows of a mask, which takes one pass: by the codes of its rows where they are few, else by its decoded
-/// values. Its room is its own: most conditions need none.
+/// IN of a column at the rows of a mask, which takes one pass: by the codes of its rows if they are few, otherwise by its decoded
+/// values. It has its own room, since most conditions need none.
 #[inline(never)]
 fn among_column<C: Columns>(
     columns: &mut C,

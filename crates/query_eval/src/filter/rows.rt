@@ -15,10 +15,10 @@ use crate::tallies::equal_rows;
 use table_model::{Op, Truth};
 use transpose_order::Mask;
 
-/// So many literals are not gone through one by one over all values where few rows are looked at.
+/// With more literals than this, they are not compared one by one with all values if few rows are looked at.
 const MANY_LITERALS: usize = 5;
 
-/// So many rows cost with one literal what a look at all values for it costs.
+/// Comparing this many rows with one literal costs as much as comparing all values with it.
 const FEW_ROWS: usize = 256;
 
 /// BETWEEN of three cells.
@@ -97,7 +97,7 @@ fn among_by_row(nulls: &Mask, values: &[i64; 1024], literals: &[i128], mask: &Ma
     pair
 }
 
-/// A literal as a value of 64 bits, or `None` where it isn't one.
+/// A literal as a value of 64 bits, or `None` if it isn't one.
 fn value_of(literal: i128) -> Option<i64>
     ensures value { IfSome result (λ value. value ≡ literal) }
     ensures answers { FitsSigned w64 literal → IsSome result }
@@ -108,7 +108,7 @@ fn value_of(literal: i128) -> Option<i64>
     }
 }
 
-/// The rows whose value is a literal, or `None` where it doesn't fit 64 bits.
+/// The rows whose value is a literal, or `None` if it doesn't fit 64 bits.
 fn literal_rows(values: &[i64; 1024], literal: i128) -> Option<Mask>
     ensures answers { FitsSigned w64 literal → IsSome result }
     ensures rows { IfSome result (λ rows. rows ≡ rows_of (λ n. int_eq (slice_index_or values.now n (pos 0)) literal)) }
@@ -117,7 +117,7 @@ fn literal_rows(values: &[i64; 1024], literal: i128) -> Option<Mask>
     Some(equal_rows(values, value))
 }
 
-/// The rows whose value is one of the literals, or `None` where one of them doesn't fit 64 bits.
+/// The rows whose value is one of the literals, or `None` if one of them doesn't fit 64 bits.
 fn values_among(values: &[i64; 1024], literals: &[i128]) -> Option<Mask>
     ensures answers { All (FitsSigned w64) literals.now → IsSome result }
     ensures rows { IfSome result (λ found. found ≡ rows_among values.now literals.now) }
@@ -130,8 +130,8 @@ fn values_among(values: &[i64; 1024], literals: &[i128]) -> Option<Mask>
     Some(found)
 }
 
-/// IN of a column's cells at the rows of a mask, by the rows whose value is one of the literals: a null is unknown beside each
-/// literal, and false beside none.
+/// IN of a column's cells at the rows of a mask, by the rows whose value is one of the literals: a null is unknown compared with
+/// each literal, and false if there is no literal.
 fn among_found(nulls: &Mask, found: &Mask, literals: &[i128], mask: &Mask) -> Pair
     ensures { (values : List ℤ) → found.now ≡ rows_among values literals.now → IsPair mask.now (λ n. is_among (whole (value_unless nulls.now values n)) literals.now) result }
 {

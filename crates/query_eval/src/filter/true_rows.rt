@@ -1,8 +1,8 @@
 //! The rows of a vector at which a condition of WHERE is true.
 //!
-//! WHERE keeps a row where it is true and at no other truth value. So of an OR only the rows are looked at at which no term
-//! before is true, and of an AND only those at which all factors before are. Where a condition is false is asked under NOT and
-//! IS alone, of pairs of masks.
+//! WHERE keeps a row if it is true, and at no other truth value. So each term of an OR is evaluated only at the rows at which no
+//! earlier term is true, and each factor of an AND only at those at which all earlier factors are. The rows at which a condition is
+//! false matter only under NOT and IS, which use pairs of masks.
 ghost use Rattle.std.specs.Prelude.{◌≡◌, ◌≤◌, ◌+◌};
 ghost use Rattle.table_model.specs.Query.{formula_of_factor, formula_of_primary, formula_of_term, formula_of_test};
 ghost use Rattle.table_model.specs.Formula.{says};
@@ -19,7 +19,7 @@ use crate::vector_id::VectorId;
 use table_model::{Condition, Factor, Operand, Predicate, Primary, Term, Test};
 use transpose_order::Mask;
 
-/// The rows of a mask at which a condition is true: each mention of a column takes at most one pass, and none over no rows.
+/// The rows of a mask at which a condition is true: each mention of a column takes at most one pass, and none if there are no rows.
 #[cycle(rows)]
 pub fn condition_rows<C: Columns>(
     columns: &mut C,
@@ -54,7 +54,7 @@ fn term_rows<C: Columns>(columns: &mut C, id: VectorId, term: &Term, mask: &Mask
     rows
 }
 
-/// The rows of a mask at which a factor is true. Over no rows nothing is asked.
+/// The rows of a mask at which a factor is true. If there are no rows, nothing is evaluated.
 #[cycle(rows)]
 fn factor_rows<C: Columns>(columns: &mut C, id: VectorId, factor: &Factor, mask: &Mask) -> Mask
     requires there { IsThere (C.seen columns.old).state id.batch id.vector }

@@ -16,7 +16,7 @@ use crate::vector_id::VectorId;
 use table_model::{Condition, Factor, Predicate, Primary, Term, Test, Truth};
 use transpose_order::Mask;
 
-/// A predicate of WHERE at the rows of a mask: each mention of a column takes at most one pass, and none over no rows.
+/// A predicate of WHERE at the rows of a mask: each mention of a column takes at most one pass, and none if there are no rows.
 pub fn predicate_masks<C: Columns>(
     columns: &mut C,
     id: VectorId,
@@ -51,7 +51,7 @@ pub fn predicate_masks<C: Columns>(
     }
 }
 
-/// A condition of WHERE at the rows of a mask: each mention of a column takes at most one pass, and none over no rows.
+/// A condition of WHERE at the rows of a mask: each mention of a column takes at most one pass, and none if there are no rows.
 #[cycle(masks)]
 pub fn condition_masks<C: Columns>(
     columns: &mut C,

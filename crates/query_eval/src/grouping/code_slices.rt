@@ -18,8 +18,8 @@ use transpose_order::Mask;
 /// The greatest number of codes below that of null by which rows are sliced.
 pub const MOST_CODES: usize = 63;
 
-/// The slice of rows with a code, of which that at the count stands for null, and each below it for its key. A key that hasn't come
-/// before gets a new place.
+/// The slice of rows with a code. The code equal to the count stands for null, and each below it for its key. A new key gets a new
+/// place.
 fn slice_of(
     alloc: Global,
     places: &mut Places,
@@ -43,8 +43,8 @@ fn slice_of(
     })
 }
 
-/// Slices the rows of a mask by their codes: a code at the count stands for null, and each below it for its key. Each code that a row of
-/// the mask has is a slice, so no row is left; a code's key that hasn't come before gets a new place.
+/// Slices the rows of a mask by their codes: a code at the count stands for null, and each below it for its key. Each code that a
+/// row of the mask has is a slice, so no row is left. A new key gets a new place.
 pub fn slice_codes(
     alloc: Global,
     places: &mut Places,

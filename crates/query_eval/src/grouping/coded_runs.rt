@@ -10,8 +10,8 @@ use crate::grouping::split::Span;
 use std::alloc::{AllocError, Global};
 use transpose_order::Mask;
 
-/// Makes spans of the rows of a mask by the runs that they are in: a run with such a row is a span, with the place of its value, which
-/// is a new one where the value hasn't come before. No row of the mask is in none.
+/// Makes spans of the rows of a mask by the runs that they are in: a run with such a row is a span, with the place of its value,
+/// which is a new place if the value is new. Each row of the mask is in a span.
 pub fn span_runs(
     alloc: Global,
     places: &mut Places,
@@ -23,7 +23,7 @@ pub fn span_runs(
     ensures index { OnOk result (IsIndex places.old → IsIndex places.new) }
     ensures spanned { OnOk result (IsSlicing (run_key starts.now values.now) mask.now (rows_of (λ _. false)) places.old places.new (slices_of_spans mask.now spans.new.items)) }
 {
-    // That a mask has 1024 places is told by its words.
+    // Its words show that a mask has 1024 places.
     let _words = mask.words();
     spans.clear();
     let mut start = 0;

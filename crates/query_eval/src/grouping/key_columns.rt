@@ -81,7 +81,7 @@ impl KeyColumn {
     }
 }
 
-/// Makes so many columns, of which those that are there already keep their memory.
+/// Makes this many columns; those that are there already keep their memory.
 fn make_columns(columns: &mut Vec<KeyColumn>, count: usize) -> Result<(), AllocError>
     ensures { OnOk result (length columns.new.items ≡ count) }
 {

@@ -1,4 +1,4 @@
-//! Groups by their keys: the places of groups, and which rows of a vector are whose.
+//! Groups by their keys: the places of groups, and which rows of a vector belong to which group.
 
 mod code_slices;
 mod coded_runs;

@@ -16,10 +16,10 @@ pub struct Recent {
     place: usize,
 }
 
-/// The places of groups by their keys, from 0 on in the order in which the keys came.
+/// The places of groups by their keys, from 0 on, in the order in which the keys came.
 ///
-/// Where one column groups, the places of values are also remembered by the values' low bits, and that of null, so that few
-/// rows need a search.
+/// If one column groups, the places of values are also remembered by the values' low bits, and so is that of null, so that few rows
+/// need a search.
 #[derive(Drop)]
 pub struct Places {
     index: BTreeMap<Key, usize>,
@@ -33,7 +33,7 @@ fn slot_of(value: i64) -> usize {
     usize::from(low) + 256 * usize::from(high % 4)
 }
 
-/// Remembers a value's place in place of what was remembered there.
+/// Remembers a value's place, replacing what was remembered there.
 fn remember(recent: &mut Vec<Option<Recent>>, slot: usize, entry: Recent)
     ensures { (i : ℕ) (r : Recent) → slice_index_or recent.new.items i None ≡ Some r → (r ≡ entry) ⊎ (slice_index_or recent.old.items i None ≡ Some r) }
 {
@@ -69,7 +69,7 @@ impl Places {
         self.index
     }
 
-    /// The place of a key's group, a new one where the key hasn't come before.
+    /// The place of a key's group, which is a new one if the key is new.
     pub fn of_key(&mut self, alloc: Global, key: &Key) -> Result<usize, AllocError>
         ensures index { IfOk result (λ place. IsIndex self.old → IsIndex self.new) }
         ensures taken { IfOk result (λ place. IsTakenIn key.now place self.old.index self.new.index) }
@@ -93,7 +93,7 @@ impl Places {
         self.of_key(alloc, &key)
     }
 
-    /// The place of the group of a value in the one grouping column, a new one where the value hasn't come before.
+    /// The place of the group of a value in the one grouping column, which is a new one if the value is new.
     fn of_value(&mut self, alloc: Global, value: i64) -> Result<usize, AllocError>
         ensures index { IfOk result (λ place. IsIndex self.old → IsIndex self.new) }
         ensures taken { IfOk result (λ place. IsIndex self.old → IsTakenIn (Some value ∷ []) place self.old.index self.new.index) }
@@ -109,7 +109,7 @@ impl Places {
         Ok(place)
     }
 
-    /// The place of the group of null in the one grouping column, a new one where null hasn't come before.
+    /// The place of the group of null in the one grouping column, which is a new one if there was no null before.
     fn of_null(&mut self, alloc: Global) -> Result<usize, AllocError>
         ensures index { IfOk result (λ place. IsIndex self.old → IsIndex self.new) }
         ensures taken { IfOk result (λ place. IsIndex self.old → IsTakenIn (None ∷ []) place self.old.index self.new.index) }
@@ -122,8 +122,7 @@ impl Places {
         Ok(place)
     }
 
-    /// The place of the group of a cell in the one grouping column, which is null or a value; a new one where the cell hasn't
-    /// come before.
+    /// The place of the group of a cell, null or a value, in the one grouping column; it is a new one if the cell is new.
     pub fn of_row(&mut self, alloc: Global, null: bool, value: i64) -> Result<usize, AllocError>
         ensures index { IfOk result (λ place. IsIndex self.old → IsIndex self.new) }
         ensures taken { IfOk result (λ place. IsIndex self.old → IsTakenIn (cond null None (Some value) ∷ []) place self.old.index self.new.index) }

@@ -94,7 +94,7 @@ fn place_by_key(
     Ok(())
 }
 
-/// Writes the place of each row of a mask, by the grouping columns: by its cell where there is one, else by its key.
+/// Writes the place of each row of a mask: by its cell if there is one grouping column, otherwise by its key.
 pub fn place_each(
     alloc: Global,
     places: &mut Places,
@@ -117,7 +117,7 @@ pub fn place_each(
     Ok(())
 }
 
-/// Splits the kept rows of a vector by the grouping columns, each in at most one pass. A key that hasn't come before gets a new place.
+/// Splits the kept rows of a vector by the grouping columns, each in at most one pass. A new key gets a new place.
 pub fn place_rows<C: Columns>(
     alloc: Global,
     columns: &mut C,

@@ -1,6 +1,6 @@
 //! Spans and slices of a vector's kept rows by its decoded grouping columns: rows with one key each.
 //!
-//! Where rows with one key stand together in few runs, each run is a span; else a slice has all of its key's rows.
+//! If rows with one key are next to each other in few runs, each run is a span; otherwise a slice has all rows with its key.
 ghost use Rattle.std.specs.Prelude.{◌≡◌, ◌<◌, ◌≤◌, ◌+◌, ◌++◌, ◌&&◌, ℕ, false, IfOk, OnOk};
 ghost use Rattle.table_model.specs.State.{same_cells};
 ghost use Rattle.query_eval.specs.Keys.{IsSlicing, column_key};
@@ -24,7 +24,7 @@ const MOST_SLICES: usize = 16;
 /// How many slices are tried, however few rows they have.
 const TRIED_SLICES: usize = 4;
 
-/// How many rows slices have on average where more of them are worth it.
+/// How many rows slices need to have on average for more of them to be worth it.
 const WORTH_ROWS: usize = 64;
 
 /// Reads a row's key.
@@ -51,7 +51,7 @@ fn rows_like(columns: &[KeyColumn], row: usize, mask: &Mask) -> Mask
     rows
 }
 
-/// The place of a row's key, a new one where the key hasn't come before. `key` is room for the key.
+/// The place of a row's key, which is a new one if the key is new. `key` is room for the key.
 fn place_of(
     alloc: Global,
     places: &mut Places,
@@ -84,7 +84,7 @@ fn changes_in(columns: &[KeyColumn]) -> Mask
     changes
 }
 
-/// The slice of the rows of a mask with a row's key. A key that hasn't come before gets a new place. `key` is room for the key.
+/// The slice of the rows of a mask with a row's key. A new key gets a new place. `key` is room for the key.
 fn slice_at(
     alloc: Global,
     places: &mut Places,
@@ -106,12 +106,12 @@ fn slice_at(
     })
 }
 
-/// Whether one slice more is worth it after so many with so many rows in all.
+/// Whether one more slice is worth it, after this many with this many rows in all.
 fn is_worth(slices: usize, rows: usize) -> bool {
     slices < TRIED_SLICES || slices.saturating_mul(WORTH_ROWS) <= rows
 }
 
-/// Makes spans of the rows of a mask by runs, and gives the rows that are in none. A run ends where the key may change.
+/// Makes spans of the rows of a mask by runs, and gives the rows that are in none. A run ends where the key can change.
 fn slice_runs(
     alloc: Global,
     places: &mut Places,
@@ -124,7 +124,7 @@ fn slice_runs(
     ensures index { OnOk result (IsIndex places.old → IsIndex places.new) }
     ensures spanned { IfOk result (λ left. IsSlicing (column_key columns.now) mask.now left places.old places.new (slices_of_spans mask.now spans.new.items)) }
 {
-    // That a mask has 1024 places is told by its words.
+    // Its words show that a mask has 1024 places.
     let _words = mask.words();
     spans.clear();
     let mut start = 0;
@@ -144,7 +144,8 @@ fn slice_runs(
     Ok(left)
 }
 
-/// Slices the rows of a mask by their keys, and gives the rows that are in no slice: where the keys are many, they aren't worth it.
+/// Slices the rows of a mask by their keys, and gives the rows that are in no slice: if there are many keys, slices aren't worth
+/// it.
 fn slice_keys(
     alloc: Global,
     places: &mut Places,
@@ -172,7 +173,7 @@ fn slice_keys(
     Ok(left)
 }
 
-/// Makes spans of the rows of a mask, by runs where they are few, else slices, by keys, and gives the rows that are in none.
+/// Makes spans of the rows of a mask, by runs, if these are few, and otherwise slices, by keys; gives the rows that are in none.
 pub fn slice_rows(
     alloc: Global,
     places: &mut Places,

@@ -15,8 +15,8 @@ use crate::grouping::vector_keys::VectorKeys;
 use std::alloc::{AllocError, Global};
 use transpose_order::Mask;
 
-/// Kept rows of a vector with one key that stand together: those from row `first` up to `end`, which is not included; and the place
-/// of their group.
+/// Kept rows of a vector that are next to each other and have one key: those from row `first` up to `end`, which is not included;
+/// and the place of their group.
 #[derive(Clone, Copy, Debug)]
 pub struct Span {
     pub place: usize,
@@ -24,7 +24,7 @@ pub struct Span {
     pub end: usize,
 }
 
-/// Rows of a vector with one key, and the place of its group. Where the rows are split by codes, each has this code.
+/// Rows of a vector with one key, and the place of its group. If the rows are split by codes, each has this code.
 #[derive(Clone, Copy, Debug)]
 pub struct Slice {
     pub place: usize,
@@ -32,10 +32,10 @@ pub struct Slice {
     pub code: u16,
 }
 
-/// The kept rows of a vector: spans and slices of those with one key, the rows in none of them, and the places of these rows' groups.
-/// Where the slices are by codes, the code of each row.
+/// The kept rows of a vector: spans and slices of those with one key, the rows in none of them, and the places of these rows'
+/// groups. If the slices are by codes, the code of each row too.
 ///
-/// There is room for one vector after another, so that no vector takes memory once the spans and slices have theirs.
+/// The room serves one vector after another, so no vector takes memory once the spans and slices have theirs.
 #[derive(Drop)]
 pub struct Split {
     pub kept: Mask,
@@ -61,7 +61,7 @@ impl Split {
         }
     }
 
-    /// Splits the kept rows by the runs of one column, given by where they start, and their values.
+    /// Splits the kept rows by the runs of one column, given by the rows where they start, and their values.
     fn by_runs(
         &mut self,
         alloc: Global,
@@ -80,7 +80,7 @@ impl Split {
         Ok(())
     }
 
-    /// Splits the kept rows by their codes, of which so many stand for values.
+    /// Splits the kept rows by their codes, of which the first `count` stand for values.
     fn by_codes(
         &mut self,
         alloc: Global,
@@ -108,7 +108,7 @@ impl Split {
         Ok(())
     }
 
-    /// Splits the kept rows by decoded columns: in spans or slices, and where they aren't worth it row by row.
+    /// Splits the kept rows by decoded columns: in spans or slices, and row by row if these aren't worth it.
     fn by_columns(
         &mut self,
         alloc: Global,
@@ -133,7 +133,7 @@ impl Split {
         Ok(())
     }
 
-    /// Splits the kept rows by their keys. `values` are those of runs or codes. A key that hasn't come before gets a new place.
+    /// Splits the kept rows by their keys. `values` are those of runs or codes. A new key gets a new place.
     pub fn by_keys(
         &mut self,
         alloc: Global,

@@ -13,8 +13,8 @@ use crate::vector_id::VectorId;
 use std::alloc::AllocError;
 use transpose_order::Mask;
 
-/// How the keys of a vector's rows are known: by the runs of one grouping column, given by where they start, and their values; by codes
-/// for the rows, of which so many stand for values; or by the decoded columns.
+/// How the keys of a vector's rows are known: by the runs of one grouping column, given by the rows where they start, and their
+/// values; by codes of the rows and how many of them stand for values; or by the decoded columns.
 #[derive(Clone, Copy, Debug)]
 pub enum VectorKeys {
     Runs(Mask),
@@ -22,8 +22,8 @@ pub enum VectorKeys {
     Columns,
 }
 
-/// The runs of a column without nulls in a vector, in one pass, with their values. None where it isn't coded by runs or has nulls: nothing
-/// is read then.
+/// The runs of a column without nulls in a vector, in one pass, with their values. None if it isn't coded by runs or has nulls: no
+/// pass is counted then.
 fn read_runs<C: Columns>(
     columns: &mut C,
     id: VectorId,
@@ -42,8 +42,8 @@ fn read_runs<C: Columns>(
     columns.runs_into(id, column, values)
 }
 
-/// The keys of one grouping column as it is coded in a vector, in one pass. None where it has neither runs nor few codes, or is past
-/// the last column: nothing is read then.
+/// The keys of one grouping column as it is coded in a vector, in one pass. None if it has neither runs nor few codes, or is past
+/// the last column: no pass is counted then.
 fn read_coded<C: Columns>(
     columns: &mut C,
     id: VectorId,
@@ -69,8 +69,8 @@ fn read_coded<C: Columns>(
     }
 }
 
-/// Reads the keys of a vector's rows, each grouping column in at most one pass. Where one column groups, its runs or few codes are
-/// keys as they are; else the columns are decoded.
+/// Reads the keys of a vector's rows, each grouping column in at most one pass. If one column groups, its runs or few codes are
+/// keys as they are; otherwise the columns are decoded.
 pub fn read_keys<C: Columns>(
     columns: &mut C,
     id: VectorId,

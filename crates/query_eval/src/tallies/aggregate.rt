@@ -7,8 +7,8 @@ ghost use Rattle.query_eval.specs.Aggregate.{aggregate_of, same_aggregate};
 use crate::filter::place_of;
 use table_model::{ColumnMention, Fold, Schema, SetFunction};
 
-/// A set function, its column by its place in the schema. A place past the last column stands for a name that the schema
-/// hasn't: it has no value.
+/// A set function, its column by its place in the schema. A place past the last column stands for a name that the schema does not
+/// have: it has no value.
 #[derive(Clone, Copy, Debug)]
 pub enum Aggregate {
     /// `COUNT(*)`
@@ -21,7 +21,7 @@ pub enum Aggregate {
     },
 }
 
-/// The place of the column that a query mentions, and the number of columns for a name that the schema hasn't.
+/// The place of the column that a query mentions, or the number of columns for a name that the schema does not have.
 pub fn place_or_end(schema: &Schema, column: &ColumnMention) -> usize
     ensures { result ≡ place_of schema.now.columns column.now.name }
 {

@@ -46,7 +46,7 @@ fn add_packed(codes: &[u16; 1024], packed: &[i64; 1024], even: &mut [i64; 64], o
     }
 }
 
-/// Takes the values at the rows of a split's slices, which are by codes, but for the nulls, into the sums at their places. `packed` is
+/// Takes the values at the rows of a split's slices, which are by codes, except nulls, into the sums at their places. `packed` is
 /// room for packed values.
 pub fn sum_codes(
     tallies: &mut Vec<Tally>,

@@ -9,7 +9,7 @@ use std::alloc::{AllocError, Global};
 use std::collections::HashSet;
 use transpose_order::Mask;
 
-/// Whether a value is that of the row before, where there is one.
+/// Whether a value is that of the row before, if there is one.
 #[inline(always)]
 fn came_before(before: Option<i64>, value: i64) -> bool
     ensures { result ≡ true → before ≡ Some value }
@@ -20,7 +20,7 @@ fn came_before(before: Option<i64>, value: i64) -> bool
     }
 }
 
-/// Adds a value to a set that has the value of the row before. Where the two are the same, nothing is put in.
+/// Adds a value to a set that has the value of the row before. If the two are the same, nothing is added.
 #[inline(always)]
 fn add_after(set: &mut HashSet<i64>, before: Option<i64>, value: i64) -> Result<(), AllocError>
     requires { IfSome before (λ last. contains int_eq set.old last ≡ true) }
@@ -33,7 +33,7 @@ fn add_after(set: &mut HashSet<i64>, before: Option<i64>, value: i64) -> Result<
     Ok(())
 }
 
-/// Adds the values at the rows of a mask to a set. A value that is that of the row before is put in no second time.
+/// Adds the values at the rows of a mask to a set. A value that is that of the row before is not added again.
 pub(crate) fn add_values(
     set: &mut HashSet<i64>,
     rows: &Mask,
@@ -57,7 +57,7 @@ pub(crate) fn set_values(alloc: Global, set: &HashSet<i64>) -> Result<Vec<i64>, 
     ensures values { IfOk result (λ values. values.items ≡ set.now.keys) }
     ensures apart { IsDistinct int_eq set.now.keys }
 {
-    // The set's length tells that its values are distinct.
+    // The set's length shows that its values are distinct.
     let _count = set.len();
     set.iter().copied().collect(alloc)
 }

@@ -2,7 +2,7 @@
 ghost use Rattle.std.specs.Prelude.{◌≡◌};
 ghost use Rattle.query_eval.specs.Extreme.{extreme_of, further, shown_value};
 
-/// Of which end of some values a set function is.
+/// The end of some values that a set function asks for.
 #[derive(Clone, Copy, Debug)]
 pub enum Extreme {
     Least,
@@ -10,8 +10,8 @@ pub enum Extreme {
 }
 
 impl Extreme {
-    /// A value as it is shown, so that the greatest shown is that of the extreme: itself, or for the least its bits flipped. A
-    /// value shown twice is itself.
+    /// A value's representation, of which the greatest is that of the extreme: the value itself, or for the least the value with
+    /// its bits flipped. The representation of the representation is the value.
     #[inline(always)]
     pub(crate) fn shown(self, value: i64) -> i64
         ensures { result ≡ shown_value self value }

@@ -1,4 +1,4 @@
-//! Forms of values in which a loop over rows that stand together needs no mask.
+//! Forms of values for which a loop over adjacent rows needs no mask.
 ghost use Rattle.std.specs.Prelude.{◌≡◌, ◌==◌, ◌+◌, ◌<◌, ◌≤◌, ℕ, pos, slice_index_or};
 ghost use Rattle.std.specs.Int.{bit_at};
 ghost use Rattle.query_eval.specs.Forms.{AreFormed, formed, formed_none, taken_form};
@@ -9,12 +9,12 @@ use crate::tallies::bits::has_bit;
 use crate::tallies::extreme::Extreme;
 use transpose_order::Mask;
 
-/// What stands at a row in place of its value.
+/// What a row has in place of its value.
 #[derive(Clone, Copy, Debug)]
 pub enum Form {
     /// 2048 times the value and 1 more, which counts it; 0 for no value.
     Packed,
-    /// The value as it is shown of an extreme; the least number for no value.
+    /// The value's representation for an extreme; the least number for no value.
     Shown(Extreme),
 }
 
@@ -42,7 +42,7 @@ impl Form {
         }
     }
 
-    /// A value in the form where it is taken, else what stands for no value. There is no branch on that.
+    /// A value in the form if it is taken, otherwise what stands for no value. There is no branch on that.
     #[inline(always)]
     pub fn at(self, taken: bool, value: i64) -> i64
         requires { self ≡ forms.Packed → IsPackable value }
@@ -52,7 +52,7 @@ impl Form {
         if taken { formed } else { self.none() }
     }
 
-    /// Writes 64 values from row `first` on in the form, or that of no value where their bits aren't set. Bit `b` is row `first +
+    /// Writes 64 values from row `first` on in the form, or the form of no value if their bits aren't set. Bit `b` is row `first +
     /// b`.
     #[inline(always)]
     fn write_word(self, values: &[i64; 1024], word: u64, first: usize, room: &mut [i64; 1024])

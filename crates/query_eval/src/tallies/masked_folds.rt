@@ -80,7 +80,7 @@ pub fn count_at(rows: &Mask) -> usize
     ensures value { (values : List ℤ) → result ≡ length (values_at rows.now values) }
     ensures few { result ≤ 1024 }
 {
-    // That a mask has 1024 places is told by its words.
+    // Its words show that a mask has 1024 places.
     let _words = rows.words();
     rows.count()
 }
@@ -104,7 +104,7 @@ fn add_halves(values: &[i64; 1024], word: u64, first: usize, low: &mut u64, high
 }
 
 /// The halves of 32 bits of the values at the rows of a mask, raised by 2 to the power of 63 each: the sum of the low halves, and
-/// that of the high ones. Where 64 rows are none of the mask's, their values are not looked at.
+/// that of the high ones. If none of 64 rows is in the mask, their values are not looked at.
 fn sum_halves(values: &[i64; 1024], rows: &Mask) -> (u64, u64)
     ensures value { pos (result.0 + 2 ^ 32 * result.1) ≡ total (values_at rows.now values.now) +ℤ pos (2 ^ 63 * length (values_at rows.now values.now)) }
 {
@@ -155,11 +155,11 @@ fn raised_eight(values: &[i64; 1024], first: usize) -> [u64; 8]
     numbers
 }
 
-/// Each of the lowest eight bits of a word alone.
+/// Each of the lowest eight bits of a word by itself.
 const EIGHT_BITS: [u64; 8] = [1, 2, 4, 8, 16, 32, 64, 128];
 
 /// The lanes whose bit is set, with 0 in place of the others. The bits are compared with a constant, since processors of level
-/// x86-64-v2 shift all lanes by one number alone.
+/// x86-64-v2 can shift all lanes only by one number.
 #[inline(always)]
 fn lanes_if(bits: u64, lanes: Simd<u64, 8>) -> Simd<u64, 8>
     requires { length lanes ≡ 8 }
@@ -173,7 +173,7 @@ fn lanes_if(bits: u64, lanes: Simd<u64, 8>) -> Simd<u64, 8>
     found.simd_eq(wanted).select(lanes, none)
 }
 
-/// Adds to eight sums the short values at eight rows where their bits are set, raised by 2 to the power of 52 each. Bit `b` is row
+/// Adds to eight sums the short values at eight rows if their bits are set, raised by 2 to the power of 52 each. Bit `b` is row
 /// `first + b`.
 #[inline(always)]
 fn add_eight(values: &[i64; 1024], bits: u64, first: usize, sums: Simd<u64, 8>) -> Simd<u64, 8>
@@ -209,8 +209,8 @@ fn add_short(values: &[i64; 1024], word: u64, first: usize, sums: Simd<u64, 8>) 
     sums
 }
 
-/// The sum of the short values at the rows of a mask, raised by 2 to the power of 52 each. Where 64 rows are none of the mask's,
-/// their values are not looked at.
+/// The sum of the short values at the rows of a mask, raised by 2 to the power of 52 each. If none of 64 rows is in the mask, their
+/// values are not looked at.
 fn sum_short(values: &[i64; 1024], rows: &Mask) -> u64
     requires { AreShort values.now }
     ensures { pos result ≡ total (values_at rows.now values.now) +ℤ pos (2 ^ 52 * length (values_at rows.now values.now)) }
@@ -225,8 +225,8 @@ fn sum_short(values: &[i64; 1024], rows: &Mask) -> u64
     sums.strict_reduce_sum()
 }
 
-/// The sum of the values at the rows of a mask, 0 over none. Where it isn't known that the values are short, their halves of 32
-/// bits are added apart, so that no sum wraps.
+/// The sum of the values at the rows of a mask, 0 over none. If it isn't known that the values are short, their halves of 32 bits
+/// are added separately, so that no sum wraps.
 pub fn sum_at(values: &[i64; 1024], short: bool, rows: &Mask) -> i128
     requires { short ≡ true → AreShort values.now }
     ensures { result ≡ total (values_at rows.now values.now) }
@@ -239,8 +239,8 @@ pub fn sum_at(values: &[i64; 1024], short: bool, rows: &Mask) -> i128
     i128::from(low) + i128::from(high) * (1 << 32) - count * (1 << 63)
 }
 
-/// The greatest of a number and the values at the rows of a word, as they are shown of an extreme. Bit `b` of the word is row
-/// `first + b`. There is no branch a row: the compiler makes vectors of it.
+/// The greatest of a number and the representations of the values at the rows of a word. Bit `b` of the word is row `first + b`.
+/// There is no branch for a row, so the compiler makes vectors of it.
 #[inline(always)]
 fn top_in_word(extreme: Extreme, values: &[i64; 1024], word: u64, first: usize, top: i64) -> i64
     requires { first + 64 ≤ 1024 }
@@ -254,7 +254,7 @@ fn top_in_word(extreme: Extreme, values: &[i64; 1024], word: u64, first: usize, 
     top
 }
 
-/// The extreme of the values at the rows of a mask, `None` over none. Where 64 rows are none of the mask's, their values are not
+/// The extreme of the values at the rows of a mask, `None` over none. If none of 64 rows is in the mask, their values are not
 /// looked at.
 pub fn extreme_at(extreme: Extreme, values: &[i64; 1024], rows: &Mask) -> Option<i64>
     ensures { result ≡ extreme_of extreme (values_at rows.now values.now) }

@@ -1,4 +1,4 @@
-//! Values packed with a count, so that one sum tells how many there are and their sum.
+//! Values packed with a count, so that one sum gives both their number and their sum.
 ghost use Rattle.std.specs.Prelude.{◌≡◌, ◌≤◌, ◌<◌, ◌^◌, ◌+ℤ◌, List, ℤ, length, pos, true};
 ghost use Rattle.table_model.specs.Values.{total};
 ghost use Rattle.query_eval.specs.Packed.{ArePackable, ArePacked, IsPackable, packed_sum};

@@ -11,7 +11,7 @@ use crate::tallies::tally::Tally;
 use std::alloc::AllocError;
 use transpose_order::Mask;
 
-/// Counts a value, where one comes, in the tally at a place. Tallies of another kind stay as they are.
+/// Counts a value, if there is one, in the tally at a place. Tallies of another kind stay as they are.
 #[inline(always)]
 fn count_value(tallies: &mut Vec<Tally>, place: usize, comes: bool)
     ensures size { length tallies.new.items ≡ length tallies.old.items }
@@ -23,7 +23,7 @@ fn count_value(tallies: &mut Vec<Tally>, place: usize, comes: bool)
     }
 }
 
-/// Takes a value, where one comes, into the sum at a place. Tallies of another kind stay as they are.
+/// Takes a value, if there is one, into the sum at a place. Tallies of another kind stay as they are.
 #[inline(always)]
 fn sum_value(tallies: &mut Vec<Tally>, place: usize, value: i64, comes: bool)
     ensures size { length tallies.new.items ≡ length tallies.old.items }

@@ -17,7 +17,7 @@ use crate::tallies::tally::Tally;
 use std::alloc::AllocError;
 use transpose_order::Mask;
 
-/// Counts so many values in the tally at a place. Tallies of another kind stay as they are.
+/// Counts this many values in the tally at a place. Tallies of another kind stay as they are.
 pub fn count_more(tallies: &mut Vec<Tally>, place: usize, more: usize)
     ensures size { length tallies.new.items ≡ length tallies.old.items }
     ensures values { (added : List ℤ) → more ≡ length added → HaveAt kinds.Count place added tallies.old.items tallies.new.items }
@@ -28,7 +28,7 @@ pub fn count_more(tallies: &mut Vec<Tally>, place: usize, more: usize)
     }
 }
 
-/// Takes so many values, which have this sum, into the sum at a place. Tallies of another kind stay as they are.
+/// Takes this many values, with this sum, into the sum at a place. Tallies of another kind stay as they are.
 pub fn sum_more(tallies: &mut Vec<Tally>, place: usize, count: usize, sum: i128)
     ensures size { length tallies.new.items ≡ length tallies.old.items }
     ensures values { (added : List ℤ) → count ≡ length added → sum ≡ total added → HaveAt kinds.Sum place added tallies.old.items tallies.new.items }
@@ -39,7 +39,7 @@ pub fn sum_more(tallies: &mut Vec<Tally>, place: usize, count: usize, sum: i128)
     }
 }
 
-/// Takes values, of which this is the extreme, into the tally at a place. Tallies of another kind stay as they are.
+/// Takes values, with this extreme, into the tally at a place. Tallies of another kind stay as they are.
 pub fn extreme_more(tallies: &mut Vec<Tally>, place: usize, value: Option<i64>)
     ensures size { length tallies.new.items ≡ length tallies.old.items }
     ensures values { (extreme : AnExtreme) (added : List ℤ) → value ≡ extreme_of extreme added → HaveAt (kinds.Extreme extreme) place added tallies.old.items tallies.new.items }
@@ -50,7 +50,7 @@ pub fn extreme_more(tallies: &mut Vec<Tally>, place: usize, value: Option<i64>)
     }
 }
 
-/// Takes the values at the rows of a mask into the tally at a place. The values are short where `short` says so.
+/// Takes the values at the rows of a mask into the tally at a place. The values are short if `short` says so.
 pub fn add_slice(
     tallies: &mut Vec<Tally>,
     place: usize,
@@ -69,7 +69,7 @@ pub fn add_slice(
     Ok(())
 }
 
-/// Counts the rows of slices, but for the nulls, in the tallies at their places.
+/// Counts the rows of slices, except nulls, in the tallies at their places.
 pub fn count_slices(tallies: &mut Vec<Tally>, slices: &[Slice], nulls: &Mask)
     ensures size { length tallies.new.items ≡ length tallies.old.items }
     ensures held { (a : AnAggregate) (v : Vector) → aggregate_kind a ≡ kinds.Count → AreNulls a v nulls.now → HaveSlices a v slices.now tallies.old.items tallies.new.items }
@@ -80,8 +80,8 @@ pub fn count_slices(tallies: &mut Vec<Tally>, slices: &[Slice], nulls: &Mask)
     }
 }
 
-/// Takes the values at the rows of slices, but for the nulls, into the tallies at their places, of any kind. The values are short
-/// where `short` says so.
+/// Takes the values at the rows of slices, except nulls, into the tallies at their places, of any kind. The values are short if
+/// `short` says so.
 pub fn add_slices(
     tallies: &mut Vec<Tally>,
     values: &[i64; 1024],

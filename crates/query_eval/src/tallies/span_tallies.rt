@@ -1,4 +1,4 @@
-//! Tallies, a group each, as the spans of a vector's rows come: one step a span, over rows that stand together.
+//! Tallies, one for each group, as the spans of a vector's rows come: one step for each span, over adjacent rows.
 ghost use Rattle.std.specs.Prelude.{◌≡◌, ◌≤◌, Bool, List, ℤ, length, true, OnOk};
 ghost use Rattle.transpose_order.specs.Mask.{count_below, has};
 ghost use Rattle.query_eval.specs.Extreme.{extreme_of};
@@ -37,7 +37,7 @@ fn within_vector(span: Span) -> Span
     }
 }
 
-/// How many rows of a mask are below an end, where so many are below the one that was asked of last.
+/// How many rows of a mask are below an end, given how many are below the last end.
 fn count_again(rows: &Mask, end: usize, last: usize, below: usize) -> usize
     requires end { end ≤ 1024 }
     requires below { below ≡ count_below (has rows.now) last }
@@ -50,7 +50,7 @@ fn count_again(rows: &Mask, end: usize, last: usize, below: usize) -> usize
     }
 }
 
-/// Counts the rows of a mask that spans cover, but for the nulls, in the tallies at their places.
+/// Counts the rows of a mask that spans cover, except nulls, in the tallies at their places.
 pub fn count_spans(tallies: &mut Vec<Tally>, kept: &Mask, spans: &[Span], nulls: &Mask)
     ensures size { length tallies.new.items ≡ length tallies.old.items }
     ensures held { (a : AnAggregate) (v : Vector) → aggregate_kind a ≡ kinds.Count → AreNulls a v nulls.now → HaveSpans a v kept.now spans.now tallies.old.items tallies.new.items }
@@ -79,8 +79,8 @@ fn rows_between(rows: &Mask, first: usize, end: usize) -> Mask
     between
 }
 
-/// Takes the values at the rows of a mask that spans cover, but for the nulls, into the tallies at their places, of any kind. The
-/// values are short where `short` says so.
+/// Takes the values at the rows of a mask that spans cover, except nulls, into the tallies at their places, of any kind. The values
+/// are short if `short` says so.
 fn add_between(
     tallies: &mut Vec<Tally>,
     values: &[i64; 1024],
@@ -117,8 +117,8 @@ fn sum_between(packed: &[i64; 1024], first: usize, end: usize) -> i64
     sum
 }
 
-/// Takes the values at the rows of a mask that spans cover, but for the nulls, into the sums at their places. `packed` is room
-/// for packed values.
+/// Takes the values at the rows of a mask that spans cover, except nulls, into the sums at their places. `packed` is room for
+/// packed values.
 fn sum_spans(
     tallies: &mut Vec<Tally>,
     values: &[i64; 1024],
@@ -139,7 +139,7 @@ fn sum_spans(
     }
 }
 
-/// The greatest number from row `first` up to `end`, or the least number where there is none.
+/// The greatest number from row `first` up to `end`, or the least number if there is none.
 #[inline(always)]
 fn top_between(shown: &[i64; 1024], first: usize, end: usize) -> i64
     requires order { first ≤ end }
@@ -153,8 +153,8 @@ fn top_between(shown: &[i64; 1024], first: usize, end: usize) -> i64
     top
 }
 
-/// An extreme of the values at the rows of a mask from row `first` up to `end`, which are shown of it; `None` over none. Only
-/// where the greatest is the least number does it look whether there is a row.
+/// An extreme of the values at the rows of a mask from row `first` up to `end`, given by their representations; `None` over none.
+/// Only if the greatest is the least number does it look whether there is a row.
 fn extreme_between(
     shown: &[i64; 1024],
     extreme: Extreme,
@@ -173,8 +173,8 @@ fn extreme_between(
     Some(extreme.shown(top))
 }
 
-/// Takes the values at the rows of a mask that spans cover, but for the nulls, into the tallies at their places, which keep an
-/// extreme. `shown` is room for the values as they are shown of it.
+/// Takes the values at the rows of a mask that spans cover, except nulls, into the tallies at their places, which keep an extreme.
+/// `shown` is room for the values' representations.
 fn extreme_spans(
     tallies: &mut Vec<Tally>,
     extreme: Extreme,
@@ -196,8 +196,8 @@ fn extreme_spans(
     }
 }
 
-/// Takes the values at the rows of a mask that spans cover, but for the nulls, into the sums at their places: packed where they
-/// can be. `packed` is room for them.
+/// Takes the values at the rows of a mask that spans cover, except nulls, into the sums at their places, packed if they can be.
+/// `packed` is room for them.
 fn add_sums(
     tallies: &mut Vec<Tally>,
     values: &[i64; 1024],
@@ -217,8 +217,8 @@ fn add_sums(
     Ok(())
 }
 
-/// Takes the values at the rows of a mask that spans cover, but for the nulls, into the tallies at their places, which keep what
-/// `kind` says. `packed` is room for values that are packed, or shown of an extreme.
+/// Takes the values at the rows of a mask that spans cover, except nulls, into the tallies at their places, which keep what `kind`
+/// says. `packed` is room for packed values, or for representations for an extreme.
 pub fn add_spans(
     tallies: &mut Vec<Tally>,
     kind: TallyKind,

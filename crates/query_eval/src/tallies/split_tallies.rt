@@ -71,7 +71,7 @@ fn add_groups(
     Ok(())
 }
 
-/// Whether values are short, which only sums ask for; else false.
+/// Whether values are short, which only sums need; otherwise false.
 fn short_sums(kind: TallyKind, values: &[i64; 1024]) -> bool
     ensures { result ≡ true → AreShort values.now }
 {
@@ -81,7 +81,7 @@ fn short_sums(kind: TallyKind, values: &[i64; 1024]) -> bool
     }
 }
 
-/// Counts the rows of a split, but for the nulls, in the tallies at their places.
+/// Counts the rows of a split, except nulls, in the tallies at their places.
 fn count_split(tallies: &mut Vec<Tally>, split: &Split, nulls: &Mask)
     ensures size { length tallies.new.items ≡ length tallies.old.items }
     ensures held { (a : AnAggregate) (v : Vector) → aggregate_kind a ≡ kinds.Count → AreNulls a v nulls.now → HaveTaken a (rows_shared v split.now) tallies.old.items tallies.new.items }
@@ -95,7 +95,7 @@ fn count_split(tallies: &mut Vec<Tally>, split: &Split, nulls: &Mask)
     count_rows(tallies, &split.places, &rows);
 }
 
-/// Whether a split's slices are by codes, and values can be packed, which only sums ask for; else false.
+/// Whether a split's slices are by codes and values can be packed, which only sums need; otherwise false.
 fn are_coded_sums(kind: TallyKind, values: &[i64; 1024], split: &Split) -> bool
     ensures kind { result ≡ true → kind ≡ kinds.Sum }
     ensures packable { result ≡ true → ArePackable values.now }
@@ -107,7 +107,7 @@ fn are_coded_sums(kind: TallyKind, values: &[i64; 1024], split: &Split) -> bool
     }
 }
 
-/// Takes the values at the rows of a split's slices, but for the nulls, into the tallies at their places, which keep what `kind` says.
+/// Takes the values at the rows of a split's slices, except nulls, into the tallies at their places, which keep what `kind` says.
 fn add_sliced(
     tallies: &mut Vec<Tally>,
     kind: TallyKind,
@@ -129,7 +129,7 @@ fn add_sliced(
     Ok(())
 }
 
-/// Takes the values at the rows of a split, but for the nulls, into the tallies at their places, which keep what `kind` says. `packed`
+/// Takes the values at the rows of a split, except nulls, into the tallies at their places, which keep what `kind` says. `packed`
 /// is room for packed values.
 fn add_split(
     tallies: &mut Vec<Tally>,
@@ -159,8 +159,8 @@ fn add_split(
     Ok(())
 }
 
-/// Takes the values of a column at the rows of a split into the tallies at their places, in at most one pass: COUNT needs the
-/// nulls alone. A place past the last column has no value. `values` is room for the decoded column, and `packed` for its packed values.
+/// Takes the values of a column at the rows of a split into the tallies at their places, in at most one pass: COUNT needs only the
+/// nulls. A place past the last column has no value. `values` is room for the decoded column, and `packed` for its packed values.
 fn add_values<C: Columns>(
     columns: &mut C,
     kept: &KeptVector,
@@ -192,7 +192,7 @@ fn add_values<C: Columns>(
     Ok(())
 }
 
-/// Takes the rows of a split into the tallies of an aggregate, of which there are so many then.
+/// Takes the rows of a split into the tallies of an aggregate; afterwards there are `count` of them.
 fn add_column<C: Columns>(
     alloc: Global,
     columns: &mut C,
@@ -224,8 +224,9 @@ fn add_column<C: Columns>(
     Ok(())
 }
 
-/// Takes the rows of a split, which are the kept ones of a vector, into the tallies of some aggregates, of which there are so many
-/// each then. Each mention of a column takes at most one pass. `values` is room for a decoded column, and `packed` for its packed values.
+/// Takes the rows of a split, which are the kept ones of a vector, into the tallies of some aggregates; afterwards each has `count`
+/// of them. Each mention of a column takes at most one pass. `values` is room for a decoded column, and `packed` for its packed
+/// values.
 pub fn add_columns<C: Columns>(
     alloc: Global,
     columns: &mut C,

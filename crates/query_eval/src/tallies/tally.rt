@@ -42,9 +42,9 @@ pub struct Sums {
     sum: i128,
 }
 
-/// A set function under way: of the values so far, what the function needs.
+/// A set function under way: what it needs of the values so far.
 ///
-/// It is exact of up to 2^36 values of a column; no sum wraps, whatever the values are.
+/// It is exact for up to 2^36 values of a column. No sum wraps, whatever the values are.
 #[derive(Drop)]
 pub enum Tally {
     /// How many values there are.
@@ -57,7 +57,7 @@ pub enum Tally {
     Distinct(Box<HashSet<i64>>),
 }
 
-/// The sum of two values where 128 bits hold it, else the first.
+/// The sum of two values if 128 bits hold it, otherwise the first.
 fn added(a: i128, b: i128) -> i128
     ensures { FitsSigned w128 (a +ℤ b) → result ≡ a +ℤ b }
 {
@@ -67,7 +67,7 @@ fn added(a: i128, b: i128) -> i128
     }
 }
 
-/// A value where one comes, else 0.
+/// The value if there is one, otherwise 0.
 fn value_or_zero(value: i64, comes: bool) -> i64
     ensures { result ≡ cond comes value (pos 0) }
 {
@@ -92,7 +92,7 @@ impl Sums {
         self.sum = added(self.sum, i128::from(value));
     }
 
-    /// Takes in one value more where one comes. There is no branch on that, since at columns with nulls nothing foretells it.
+    /// Takes in one more value if there is one. There is no branch on that, since it can't be predicted at columns with nulls.
     fn add_where(&mut self, value: i64, comes: bool)
         ensures { (values : List ℤ) → AreTold values self.old → AreTold (values ++ cond comes (value ∷ []) []) self.new }
     {
@@ -101,7 +101,7 @@ impl Sums {
         self.sum = added(self.sum, i128::from(more));
     }
 
-    /// Takes in so many values more, which have this sum.
+    /// Takes in this many more values, with this sum.
     fn add_many(&mut self, count: usize, sum: i128)
         ensures { (values more : List ℤ) → count ≡ length more → sum ≡ total more → AreTold values self.old → AreTold (values ++ more) self.new }
     {
@@ -109,7 +109,7 @@ impl Sums {
         self.sum = added(self.sum, sum);
     }
 
-    /// Takes in the values at the rows of a mask, which are short where `short` says so.
+    /// Takes in the values at the rows of a mask, which are short if `short` says so.
     fn add_rows(&mut self, values: &[i64; 1024], short: bool, rows: &Mask)
         requires { short ≡ true → AreShort values.now }
         ensures { (before : List ℤ) → AreTold before self.old → AreTold (before ++ values_at rows.now values.now) self.new }
@@ -117,7 +117,7 @@ impl Sums {
         self.add_many(count_at(rows), sum_at(values, short, rows));
     }
 
-    /// AVG of the values, where the fold is that, and else SUM.
+    /// AVG of the values if the fold is that, otherwise SUM.
     fn field(self, fold: Fold) -> Field
         ensures { (values : List ℤ) → length values ≤ state_row_limit → AreSmall values → AreTold values self → kinds.Sum ≡ fold_kind false fold → result ≡ fold_value fold values }
     {
@@ -155,7 +155,7 @@ fn set_field(alloc: Global, fold: Fold, seen: &HashSet<i64>) -> Result<Field, Al
 }
 
 impl Tally {
-    /// The set function of no values. DISTINCT alone takes memory, for its set's place.
+    /// The set function of no values. Only DISTINCT takes memory, for its set.
     pub fn new(alloc: Global, kind: TallyKind) -> Result<Tally, AllocError>
         ensures values { IfOk result (λ tally. IsTally [] tally) }
         ensures kind { IfOk result (λ tally. kind_of tally ≡ kind) }
@@ -171,7 +171,7 @@ impl Tally {
         }
     }
 
-    /// Counts one value more where one comes. A tally of another kind stays as it is.
+    /// Counts one more value if there is one. A tally of another kind stays as it is.
     pub fn count_where(&mut self, comes: bool)
         ensures values { (values : List ℤ) (z : ℤ) → kind_of self.old ≡ kinds.Count → IsTally values self.old → IsTally (values ++ cond comes (z ∷ []) []) self.new }
         ensures kind { kind_of self.new ≡ kind_of self.old }
@@ -181,7 +181,7 @@ impl Tally {
         }
     }
 
-    /// Counts so many values more. A tally of another kind stays as it is.
+    /// Counts this many more values. A tally of another kind stays as it is.
     pub fn count_more(&mut self, more: usize)
         ensures values { (values added : List ℤ) → kind_of self.old ≡ kinds.Count → more ≡ length added → IsTally values self.old → IsTally (values ++ added) self.new }
         ensures kind { kind_of self.new ≡ kind_of self.old }
@@ -203,7 +203,7 @@ impl Tally {
         }
     }
 
-    /// Takes so many values more, which have this sum, into a sum. A tally of another kind stays as it is.
+    /// Takes this many more values, with this sum, into a sum. A tally of another kind stays as it is.
     pub fn sum_more(&mut self, count: usize, sum: i128)
         ensures values { (values more : List ℤ) → kind_of self.old ≡ kinds.Sum → count ≡ length more → sum ≡ total more → TakesMore values more self.old self.new }
         ensures kind { kind_of self.new ≡ kind_of self.old }
@@ -213,7 +213,7 @@ impl Tally {
         }
     }
 
-    /// Takes values more, of which this is the extreme, into the least or the greatest value. A tally of another kind stays as it is.
+    /// Takes more values, with this extreme, into the least or the greatest value. A tally of another kind stays as it is.
     pub fn extreme_more(&mut self, value: Option<i64>)
         ensures values { (extreme : AnExtreme) (values more : List ℤ) → kind_of self.old ≡ kinds.Extreme extreme → value ≡ extreme_of extreme more → TakesMore values more self.old self.new }
         ensures kind { kind_of self.new ≡ kind_of self.old }
@@ -223,7 +223,7 @@ impl Tally {
         }
     }
 
-    /// Takes one value more into a sum where one comes. A tally of another kind stays as it is.
+    /// Takes one more value into a sum if there is one. A tally of another kind stays as it is.
     pub fn sum_where(&mut self, value: i64, comes: bool)
         ensures values { (values : List ℤ) → kind_of self.old ≡ kinds.Sum → IsTally values self.old → IsTally (values ++ cond comes (value ∷ []) []) self.new }
         ensures kind { kind_of self.new ≡ kind_of self.old }
@@ -247,7 +247,7 @@ impl Tally {
         Ok(())
     }
 
-    /// Takes in the values at the rows of a mask, which are short where `short` says so.
+    /// Takes in the values at the rows of a mask, which are short if `short` says so.
     pub fn add_rows(
         &mut self,
         values: &[i64; 1024],

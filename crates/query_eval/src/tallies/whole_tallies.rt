@@ -135,7 +135,7 @@ fn tallied_fields(
     Ok(fields)
 }
 
-/// The one group of a query without GROUP BY, of all rows that were taken in, also of none.
+/// The one group of a query without GROUP BY: all rows that were taken in, even if there are none.
 pub fn whole_group(
     alloc: Global,
     aggregates: &[Aggregate],
