@@ -2,7 +2,7 @@
 ghost use Rattle.std.specs.Prelude.{◌≡◌, cond, ◌^◌, pos, ◌+ℤ◌};
 ghost use Rattle.std.specs.Int.{int_min, int_max};
 
-/// The lesser of two numbers where the second is taken, else the first.
+/// The lesser of two numbers if the second is taken, otherwise the first.
 #[inline(always)]
 pub fn lesser_if(taken: bool, least: i64, number: i64) -> i64
     ensures { result ≡ cond taken (int_min least number) least }
@@ -10,7 +10,7 @@ pub fn lesser_if(taken: bool, least: i64, number: i64) -> i64
     if taken { least.min(number) } else { least }
 }
 
-/// The greater of two numbers where the second is taken, else the first.
+/// The greater of two numbers if the second is taken, otherwise the first.
 #[inline(always)]
 pub fn greater_if(taken: bool, greatest: i64, number: i64) -> i64
     ensures { result ≡ cond taken (int_max greatest number) greatest }
@@ -22,7 +22,7 @@ pub fn greater_if(taken: bool, greatest: i64, number: i64) -> i64
     }
 }
 
-/// How far a number is above the least of 64 bits where it is taken, else 0.
+/// How far a number is above the least of 64 bits if it is taken, otherwise 0.
 #[inline(always)]
 pub fn raised_if(taken: bool, number: i64) -> u64
     ensures { pos result ≡ cond taken (number +ℤ pos (2 ^ 63)) (pos 0) }

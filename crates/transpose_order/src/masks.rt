@@ -162,7 +162,7 @@ impl Mask {
         count_rows(&self.words, end)
     }
 
-    /// The first true row at or after `from`, which is at most 1024, or 1024 where there is none.
+    /// The first true row at or after `from`, which is at most 1024, or 1024 if there is none.
     pub fn next_true(&self, from: usize) -> usize
         requires { from ≤ 1024 }
         ensures order { from ≤ result }
@@ -191,8 +191,8 @@ impl Mask {
         set_rows(&mut self.words, first, end, value);
     }
 
-    /// The truth values of a lane's rows at a lane width of 8, 16, 32 or 64 bits: bit `r` is the lane's row at step
-    /// `r`, and no bit stands above the width.
+    /// The truth values of a lane's rows at a lane width of 8, 16, 32 or 64 bits: bit `r` is the lane's row at step `r`, and no bit
+    /// above the width is set.
     pub fn piece(&self, lane_width: usize, lane: usize) -> u64
         requires width { IsLaneWidth lane_width }
         requires lane { lane < 1024 / lane_width }

@@ -1,4 +1,4 @@
-//! Where the 1024 rows of a vector stand in lanes of 8, 16, 32 or 64 bits.
+//! The places of the 1024 rows of a vector in lanes of 8, 16, 32 or 64 bits.
 ghost use Rattle.std.specs.Prelude.{◌≡◌, ◌/◌, ◌<◌, ◌≤◌};
 ghost use Rattle.transpose_order.specs.Place.{reversed, IsLaneWidth, group_bits, lane_of, step_of, row_at, position_of, place_of};
 ghost use Rattle.transpose_order.specs.Place.{PlacesAreDistinct, EveryPlaceIsARow, OneOrderServesEveryWidth, PiecesStandInWords};
@@ -89,7 +89,7 @@ pub fn one_order_serves_every_width()
     ensures { OneOrderServesEveryWidth }
 {}
 
-/// The law that the sixteen rows of a piece stand at one bit of a mask's sixteen words.
+/// The law that the sixteen rows of a piece are at one bit of a mask's sixteen words.
 pub fn pieces_stand_in_words()
     ensures { PiecesStandInWords }
 {}

@@ -20,7 +20,7 @@ pub(crate) fn combined<F: Fn(u64, u64) -> u64>(
     words
 }
 
-/// The word whose bits from `low` up to `high`, at most 64, which is not included, are set; one at least.
+/// The word whose bits from `low` up to `high`, at most 64, which is not included, are set; there is at least one.
 #[inline(always)]
 pub fn ones_between(low: usize, high: usize) -> u64
     requires order { low < high }
@@ -30,7 +30,7 @@ pub fn ones_between(low: usize, high: usize) -> u64
     (u64::MAX << low) & (u64::MAX >> (64 - high))
 }
 
-/// The same where none may be set.
+/// The same, if there can be none.
 fn ones_if_any(low: usize, high: usize) -> u64
     requires order { low ≤ high }
     requires within { high ≤ 64 }
@@ -85,7 +85,7 @@ pub(crate) fn count_rows(words: &[u64; 16], end: usize) -> usize
     count + rest.count_ones() as usize
 }
 
-/// The first true row at or after `from`, or 1024 where there is none.
+/// The first true row at or after `from`, or 1024 if there is none.
 pub(crate) fn next_row(words: &[u64; 16], from: usize) -> usize
     requires { from ≤ 1024 }
     ensures order { from ≤ result }
