@@ -1,4 +1,4 @@
-//! Which rows may stand in a batch of a table.
+//! Which rows a batch of a table can have.
 ghost use Rattle.std.specs.Prelude.{◌≡◌, ◌↔◌, IsOk};
 ghost use Rattle.table_model.specs.Outcome.{unless};
 ghost use Rattle.table_model.specs.Table.{fits, first_fault, row_fault, rows_fault, IsBatch};
@@ -9,10 +9,10 @@ use table_model::{Column, Refusal, Schema};
 /// The greatest number of rows in a batch.
 const MAX_ROWS: usize = 65_536;
 
-/// Whether the rows may stand in a batch of the table, or their first fault, as `check_rows` has it of a list of rows.
+/// Whether a batch of the table can have these rows, or their first fault, as `check_rows` has it for a list of rows.
 ///
-/// Refused are, in this order: no rows (`EmptyBatch`), more than 65,536 (`BatchTooLong`), and then row by row a row that has
-/// not one cell for each column (`WrongArity`), and from the left a cell outside its column's type (`OutOfType`).
+/// The refusals are, in this order: no rows (`EmptyBatch`), more than 65,536 (`BatchTooLong`), and then row by row a row with the
+/// wrong number of cells (`WrongArity`), and from the left a cell outside its column's type (`OutOfType`).
 #[tactic(auto, unfolding(table_model::specs::Table::rows_fault))]
 pub fn check_batch(schema: &Schema, rows: &RowBatch) -> Result<(), Refusal>
     ensures fault { result ≡ unless (rows_fault schema.now rows.now) }

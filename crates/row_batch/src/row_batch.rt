@@ -1,4 +1,4 @@
-//! Rows whose cells lie one after another.
+//! Rows whose cells follow each other in one list.
 ghost use Rattle.std.specs.Prelude.{◌≡◌, ◌==◌, ℕ, ◌+◌, ◌<◌, ◌≤◌, ◌++◌, ◌∷◌, [], None, length, map, take, drop, slice_index_or, IfOk, OnOk, OnErr};
 ghost use Rattle.row_batch.specs.Ends.{rows_from, AreEnds};
 
@@ -47,7 +47,7 @@ impl RowBatch {
         Ok(batch)
     }
 
-    /// Puts a row of these cells behind the others. Where memory is refused the rows stay as they were.
+    /// Adds a row of these cells after the others. If memory is refused the rows stay as they were.
     pub fn push_row(&mut self, cells: &[Option<i128>]) -> Result<(), AllocError>
         ensures ok { OnOk result (self.new ≡ self.old ++ cells.now ∷ []) }
         ensures err { OnErr result (self.new ≡ self.old) }
@@ -114,7 +114,7 @@ fn row_at<'a>(cells: &'a [Option<i128>], ends: &[usize], ordinal: usize) -> &'a 
     &cells[start..end]
 }
 
-/// Where the row of an ordinal starts and ends among so many cells, by the rows' ends.
+/// Where the row with an ordinal starts and ends among `count` cells, by the rows' ends.
 fn bounds_of(count: usize, ends: &[usize], ordinal: usize) -> (usize, usize)
     requires ends { AreEnds 0 ends.now count }
     requires row { ordinal < length ends.now }
@@ -126,7 +126,7 @@ fn bounds_of(count: usize, ends: &[usize], ordinal: usize) -> (usize, usize)
     (start_of(ends, ordinal), ends[ordinal])
 }
 
-/// Where the row of an ordinal starts among the cells, by the rows' ends.
+/// Where the row with an ordinal starts among the cells, by the rows' ends.
 fn start_of(ends: &[usize], ordinal: usize) -> usize
     requires { ordinal < length ends.now }
     ensures { result ≡ slice_index_or (0 ∷ ends.now) ordinal 0 }
