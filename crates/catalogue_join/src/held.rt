@@ -51,7 +51,7 @@ impl Held {
         self.runs.find(run_of(name)).is_some()
     }
 
-    /// Adds a name. Where memory is refused the set is as before.
+    /// Adds a name. If memory is refused the set is as before.
     pub fn insert(&mut self, name: BatchName) -> Result<(), AllocError>
         requires { IsTrue (is_proper_name name) }
         ensures ok { OnOk result (self.new ≡ set.insert self.old name) }
@@ -78,7 +78,7 @@ impl Held {
         })
     }
 
-    /// Adds the names of another set. Where memory is refused the set is as before.
+    /// Adds the names of another set. If memory is refused the set is as before.
     pub fn join(&mut self, other: &Held) -> Result<(), AllocError>
         ensures ok { OnOk result (self.new ≡ set.union self.old other.now) }
         ensures err { OnErr result (self.new ≡ self.old) }
@@ -87,7 +87,7 @@ impl Held {
         Ok(())
     }
 
-    /// The number up to which all numbers of an origin are held, from 1 on: 0 where number 1 is not.
+    /// The number up to which all numbers of an origin are held, from 1 on; 0 if number 1 is not.
     pub fn front(&self, origin: Origin) -> u32
         ensures { IsFront self.now origin result }
     {
@@ -139,7 +139,7 @@ impl Held {
         unreachable!()
     }
 
-    /// The names of this set that `other` lacks, in ascending order.
+    /// The names of this set that `other` does not have, in ascending order.
     pub fn missing_from(&self, other: &Held) -> Result<Vec<BatchName>, AllocError>
         ensures { IfOk result (λ names. IsListOf names.items (set.difference self.now other.now)) }
     {
@@ -150,7 +150,7 @@ impl Held {
         Ok(missing)
     }
 
-    // Appends the names of a run that this set lacks, by a binary search for each of them and for each run of this set that
+    // Appends the names of a run that this set does not have, by a binary search for each of them and for each run of this set that
     // has a name of the run.
     fn push_lacking(&self, run: Run, names: &mut Vec<BatchName>) -> Result<(), AllocError>
         ensures { OnOk result (names.new.items ≡ names.old.items ++ filter (lacks self.now) (names_of run)) }

@@ -6,7 +6,7 @@ use crate::span::Span;
 use std::alloc::{AllocError, Global};
 use std::marker::Model;
 
-// What is left of two ascending lists of ranges, seen as one list by where the ranges begin.
+// What is left of two ascending lists of ranges, seen as one list in the order in which the ranges begin.
 #[derive(Drop)]
 struct Merge<'a, S: Span> {
     ours: &'a [S],
@@ -49,7 +49,7 @@ impl<'a, S: Span> Merge<'a, S> {
     }
 }
 
-/// The ranges of two ascending lists in one list, where those that touch are one: one step for each range.
+/// The ranges of two ascending lists in one list, in which ranges that touch are joined; it takes one step for each range.
 pub(crate) fn joined<S: Span>(alloc: Global, ours: &[S], others: &[S]) -> Result<Vec<S>, AllocError>
     ensures { IfOk result (λ v. v.items ≡ bridged S.shape (merge S.shape ours.now others.now)) }
 {

@@ -110,7 +110,7 @@ impl<S: Span> Ranges<S> {
         })
     }
 
-    /// Adds the names of a range. Where memory is refused the set is as before. Where it has the range's first name it takes no
+    /// Adds the names of a range. If memory is refused the set is as before. If it has the range's first name already it takes no
     /// memory.
     pub fn insert(&mut self, range: S) -> Result<(), AllocError>
         requires not_empty { S.shape.low range ≤ S.shape.high range }
@@ -125,7 +125,7 @@ impl<S: Span> Ranges<S> {
     }
 }
 
-// Puts a range in its place, in one with those that it touches. Where its first name is in one of them it takes no memory.
+// Puts a range in its place, joined with those that it touches. If its first name is in one of them it takes no memory.
 fn put<S: Span>(ranges: &mut Vec<S>, range: S) -> Result<(), AllocError>
     requires rising { Rises S.shape 0 ranges.old.items }
     requires not_empty { S.shape.low range ≤ S.shape.high range }
@@ -146,7 +146,7 @@ fn put<S: Span>(ranges: &mut Vec<S>, range: S) -> Result<(), AllocError>
     Ok(())
 }
 
-// Puts one range in the place of those from `first` on and before `end`.
+// Puts one range in place of those from `first` on and before `end`.
 fn replace<S: Span>(ranges: &mut Vec<S>, first: usize, end: usize, range: S)
     requires order { first < end }
     requires within { end ≤ length ranges.old.items }

@@ -1,4 +1,4 @@
-//! Where names and ranges stand in an ascending list of ranges, by binary search.
+//! The places of names and ranges in an ascending list of ranges, by binary search.
 ghost use Rattle.std.specs.Prelude.{◌≡◌, ℕ, ◌≤◌, ◌<◌, ◌+◌, false, MatchOption, length, slice_index_or};
 ghost use Rattle.catalogue_join.specs.Span.{among, Rises, IsRangeAt, IsPlace, IsOverlap};
 
@@ -30,7 +30,7 @@ pub fn overlap<S: Span>(ranges: &[S], range: S) -> &[S]
     &ranges[first..end]
 }
 
-/// Where a range goes: behind how many ranges it begins apart, and how many it does not end apart before.
+/// Where a range goes: how many ranges end before it without touching it, and how many begin before it ends or touch it.
 pub fn place_of<S: Span>(ranges: &[S], range: S) -> (usize, usize)
     requires rising { Rises S.shape 0 ranges.now }
     requires not_empty { S.shape.low range ≤ S.shape.high range }
@@ -52,7 +52,7 @@ fn count_begun<S: Span>(ranges: &[S], at: S) -> usize
     ranges.partition_point(|range| range.begins_by(at))
 }
 
-// How many ranges end apart before `range`.
+// How many ranges end before `range` without touching it.
 fn count_apart_before<S: Span>(ranges: &[S], range: S) -> usize
     requires { Rises S.shape 0 ranges.now }
     ensures within { result ≤ length ranges.now }
@@ -62,7 +62,7 @@ fn count_apart_before<S: Span>(ranges: &[S], range: S) -> usize
     ranges.partition_point(|other| other.ends_before(range))
 }
 
-// How many ranges begin so early that `range` does not end apart before them.
+// How many ranges begin before `range` ends, or touch it.
 fn count_up_to_touching<S: Span>(ranges: &[S], range: S) -> usize
     requires { Rises S.shape 0 ranges.now }
     ensures within { result ≤ length ranges.now }

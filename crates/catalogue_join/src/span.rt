@@ -1,8 +1,8 @@
-//! What a type of ranges has to tell, so that one set of ranges serves names of every kind.
+//! What a type of ranges has to offer, so that one set of ranges serves names of every kind.
 ghost use Rattle.std.specs.Prelude.{◌≡◌, nat_le};
 ghost use Rattle.catalogue_join.specs.Span.{Shape, IsShape, apart};
 
-/// A range of names that lie side by side, its first and its last name included.
+/// A range of adjacent names, its first and its last name included.
 pub trait Span: Copy {
     ghost shape: { Shape Self };
 

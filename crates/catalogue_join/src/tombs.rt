@@ -60,7 +60,7 @@ impl Tombs {
         rows.iter().all(|row| self.holds(*row))
     }
 
-    /// Whether all rows of a batch that has so many, from 1 to 65,536, are in the set. It takes one search, and no memory.
+    /// Whether all rows of a batch with this many rows, from 1 to 65,536, are in the set. It takes one search, and no memory.
     pub fn holds_batch(&self, batch: BatchName, rows: usize) -> bool
         requires some { 1 ≤ rows }
         requires limit { rows ≤ row_limit }
@@ -83,7 +83,7 @@ impl Tombs {
         Tombs::of_each(alloc, &sorted)
     }
 
-    /// The set of some rows, which come in one after another: where they ascend each stands at the end.
+    /// The set of some rows, which are added one after another; if they ascend, each goes to the end.
     fn of_each(alloc: Global, rows: &[RowName]) -> Result<Tombs, AllocError>
         requires { All (λ (row : RowName). IsTrue (is_proper_name row.batch)) rows.now }
         ensures { IfOk result (λ tombs. tombs ≡ set.from_list rows.now) }
@@ -96,8 +96,8 @@ impl Tombs {
         Ok(tombs)
     }
 
-    /// Adds the rows of a batch from `first` to the ordinal `last`. Where memory is refused the set is as before. Where the rows
-    /// are deleted already it takes no memory.
+    /// Adds the rows of a batch from `first` to the ordinal `last`. If memory is refused the set is as before. If the rows are
+    /// deleted already it takes no memory.
     pub fn insert(&mut self, first: RowName, last: u16) -> Result<(), AllocError>
         requires proper { IsTrue (is_proper_name first.batch) }
         requires not_empty { first.ordinal ≤ last }
@@ -133,7 +133,7 @@ impl Tombs {
         })
     }
 
-    /// Adds the rows of another set. Where memory is refused the set is as before.
+    /// Adds the rows of another set. If memory is refused the set is as before.
     pub fn join(&mut self, other: &Tombs) -> Result<(), AllocError>
         ensures ok { OnOk result (self.new ≡ set.union self.old other.now) }
         ensures err { OnErr result (self.new ≡ self.old) }
@@ -174,7 +174,7 @@ impl Tombs {
     }
 }
 
-// The mask of a vector's first rows, at most 1024: of all rows at once, where the vector is full.
+// The mask of a vector's first rows, at most 1024: of all rows at once, if the vector is full.
 fn first_rows(rows: usize) -> Mask
     requires { rows ≤ 1024 }
     ensures { result ≡ rows_of (λ n. nat_lt n rows) }
