@@ -1,4 +1,4 @@
-//! What a test expects, and how it fails where that is not so.
+//! What a test expects, and how it fails if that is not so.
 
 ghost use Rattle.std.specs.Prelude.{IsErr, IsOk, IsTrue, ◌↔◌};
 
@@ -7,7 +7,7 @@ use std::test::Fail;
 
 /// What was found is what is wanted, or the test fails with both.
 ///
-/// A call takes less of a proof than `assert_eq!`, which writes out at each place how a failure is shown.
+/// A call is easier to prove than `assert_eq!`, which writes out at each use how a failure is shown.
 pub fn agree<T: PartialEq + Debug + Drop>(found: T, wanted: T) -> Result<(), Fail>
     ensures { IsOk result ↔ IsTrue (T.eq found wanted) }
 {
@@ -37,7 +37,7 @@ const REFUSED: &str = "a growth was refused, and all is as it was";
 /// The call answered otherwise, or what it was given is not as it was.
 const CHANGED: &str = "a growth was refused, and not all is as it was";
 
-/// The end of a test of which a growth was refused: it fails by one of two texts, which `tests/refused-memory` counts.
+/// The end of a test in which a growth was refused: it fails with one of two texts, which `tests/refused-memory` counts.
 pub fn growth_refused(is_as_it_was: bool) -> Result<(), Fail>
     ensures { IsErr result }
 {
