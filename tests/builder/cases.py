@@ -1,14 +1,17 @@
-"""Trials of the script `lanes`: what it has the toolchain prove and build, when, and what it says and does with the program.
+"""Trials of the script `lanes`: which program it runs and what it says of it, and what it has the toolchain prove and build if it is told to.
 
-The made-up crates are few: `left` and `right` stand on `ground`, `roof` on all three, and the program on `roof`; `shed` and
-the tests stand beside them. Each good run ends with the status of the program that the stub makes, 7.
+The made-up crates are few: `left` and `right` use `ground`, `roof` uses all three, and the program uses `roof`; `shed` and
+the tests are used by nothing. Each good run of the program ends with the status of the one that the stub makes, 7.
 """
 
 import os
+import shutil
 import signal
 import time
 
-from trial import SECONDS, STATUS, TOP, Differs, agree, has, libraries
+from trial import RELEASED, SECONDS, STATUS, TOP, Differs, agree, has, libraries
+
+NOBODY = 65534
 
 HOUSE = """# Each line names a crate and the libraries that it stands on, lowest first.
 ground:
@@ -35,19 +38,36 @@ def wrote(trial, *arguments, source="first source", given=""):
 
 
 def built(trial, run, source="first source"):
-    """That a run proved all libraries and built and ran the program."""
-    agree("status", run.status, STATUS)
-    agree("standard output", run.out, wrote(trial, source=source))
+    """That a run proved all libraries and built the program, which the next run then runs."""
+    agree("status", run.status, 0)
+    agree("standard output", run.out, "")
     agree("crates that were proved", run.checked(), BELOW)
     agree("the last call", run.last(), [("lanes", LINKED)])
+    ran_only(trial, trial.run(), source=source)
 
 
-def ran_only(trial, run, source="first source"):
-    """That a run called rt not at all, and ran the program."""
+def ran_only(trial, run, source="first source", note=""):
+    """That a run called rt not at all, said this, and ran the program."""
     agree("calls", run.calls, [])
     agree("status", run.status, STATUS)
     agree("standard output", run.out, wrote(trial, source=source))
-    agree("standard error", run.err, "said by the program\n")
+    agree("standard error", run.err, note + "said by the program\n")
+
+
+def other_sources(trial):
+    """What is said where the program is of other sources."""
+    return f"lanes: this program is of other sources than those in {trial.top}; ./lanes --build builds theirs\n"
+
+
+NONE = "lanes: there is no program that runs here; ./lanes --build builds one, which takes about an hour and needs the toolchain\n"
+
+
+def ran_nothing(run, *said):
+    """That a run called rt not at all, ran nothing, and said this."""
+    agree("calls", run.calls, [])
+    agree("status", run.status, 2)
+    agree("standard output", run.out, "")
+    agree("standard error", run.err, "".join(said))
 
 
 def first_run(trial):
@@ -56,9 +76,8 @@ def first_run(trial):
     while rest:
         rest = {library for name in rest for library in uses[name] if library in uses} - below
         below |= rest
-    run = trial.run("query", "a file", given=b"given")
-    agree("status", run.status, STATUS)
-    agree("standard output", run.out, wrote(trial, "query", "a file", given="given"))
+    run = trial.run("--build")
+    agree("status", run.status, 0)
     agree("crates that were proved", run.checked(), sorted(below))
     has("crates that were proved", run.checked(), "table_model", "column_file", "lanes_main", "command_line")
     agree("crates of tests that were proved", [name for name in run.checked() if name.endswith("_tests") or name == "test_support"], [])
@@ -68,58 +87,75 @@ def first_run(trial):
             if ends[library] > call.begin:
                 raise Differs(f"{call.crate} was begun before {library} had ended")
     agree("the last call", run.last(), [("lanes", LINKED)])
-    has("standard error", run.err, "lanes: building the program", f"lanes: proved {len(below)} of {len(below)}: ", "lanes: built\nsaid by the program\n")
+    has("standard error", run.err, "lanes: building the program", f"lanes: proved {len(below)} of {len(below)}: ", "lanes: built\n")
     agree("whether standard error has what rt prints", "rt prints" in run.err or "rt complains" in run.err, False)
+    run = trial.run("query", "a file", given=b"given")
+    agree("status", run.status, STATUS)
+    agree("standard output", run.out, wrote(trial, "query", "a file", given="given"))
+
+
+def unasked(trial):
+    """With no program, with one of other sources, and with a word beside --build nothing is built."""
+    trial.machine(instructions=V3)
+    for words in ([], ["query", "t"], ["--build", "now"]):
+        ran_nothing(trial.run(*words), "lanes: there is no released program for x86-64-v3\n", NONE)
+    built(trial, trial.run("--build"))
+    trial.write("crates/left/src/lib.rt", "other source")
+    ran_only(trial, trial.run(), note=other_sources(trial))
 
 
 def older_processor(trial):
     trial.machine(instructions="sse2 avx avx20")
-    run = trial.run()
-    agree("status", run.status, STATUS)
+    run = trial.run("--build")
+    agree("status", run.status, 0)
     agree("the last call", run.last(), [("lanes", "run -- --help")])
 
 
 def second_run(trial):
-    built(trial, trial.run())
-    ran_only(trial, trial.run())
+    built(trial, trial.run("--build"))
+    again = trial.run("--build")
+    agree("calls", again.calls, [])
+    agree("standard error", again.err, "lanes: the program of these sources is built already\n")
     os.utime(os.path.join(trial.top, "crates/ground/src/lib.rt"))
     ran_only(trial, trial.run())
     # Names are sorted otherwise in other languages, here all the other way round.
     trial.does("sort", '[ "$LC_ALL" = C ] || set -- -r "$@"')
+    os.utime(os.path.join(trial.top, "crates/ground/src/lib.rt"))
     ran_only(trial, trial.run(language="POSIX"))
 
 
 def changes_of_sources(trial):
-    built(trial, trial.run())
-    for name, text in [
-        ("ground/src/lib.rt", "other source"),
-        ("ground/src/deep/part.rt", "new source"),
-        ("left/specs/Lib.antt", "definitions"),
-        ("right/proofs/roof/Invariants.antt", "a proof"),
-        ("lanes/proofs/main.antt", "a proof"),
-    ]:
+    built(trial, trial.run("--build"))
+    for name, text in [("ground/src/lib.rt", "other source"), ("ground/src/deep/part.rt", "new source"), ("roof/src/lib.rt", "third source")]:
         trial.write(f"crates/{name}", text)
-        built(trial, trial.run())
-        ran_only(trial, trial.run())
-    trial.remove("crates/left/specs/Lib.antt")
-    built(trial, trial.run())
+        ran_only(trial, trial.run(), note=other_sources(trial))
+        built(trial, trial.run("--build"))
+    for name, text in [("left/specs/Lib.antt", "definitions"), ("right/proofs/roof/Invariants.antt", "a proof"), ("lanes/proofs/main.antt", "a proof")]:
+        trial.write(f"crates/{name}", text)
+        built(trial, trial.run("--build"))
     trial.write("crates.txt", HOUSE.replace("left: ground", "left: ground ported"))
-    built(trial, trial.run())
+    ran_only(trial, trial.run(), note=other_sources(trial))
+    built(trial, trial.run("--build"))
     trial.write("crates/lanes/src/main.rt", "second source")
-    built(trial, trial.run(), source="second source")
-    ran_only(trial, trial.run(), source="second source")
+    ran_only(trial, trial.run(), note=other_sources(trial))
+    built(trial, trial.run("--build"), source="second source")
+    # A file that is put in another's place is seen too, however old it is.
+    old = os.path.join(trial.top, "old")
+    trial.write("old", "first source")
+    os.utime(old, (1, 1))
+    os.replace(old, os.path.join(trial.top, "crates/lanes/src/main.rt"))
+    ran_only(trial, trial.run(), source="second source", note=other_sources(trial))
 
 
 def other_program(trial):
-    built(trial, trial.run())
+    built(trial, trial.run("--build"))
     # As a program of other sources, or for another processor, that the toolchain has built there.
     trial.write("crates/lanes/out/lanes", "#!/bin/sh\necho another program\n")
-    built(trial, trial.run())
     ran_only(trial, trial.run())
 
 
 def other_changes(trial):
-    built(trial, trial.run())
+    built(trial, trial.run("--build"))
     for name in [
         "shed/src/lib.rt",
         "roof_tests/src/lib.rt",
@@ -135,12 +171,12 @@ def other_changes(trial):
 
 
 def crate_that_fails(trial):
-    built(trial, trial.run())
+    built(trial, trial.run("--build"))
     trial.write("crates/lanes/src/main.rt", "second source")
     # The other one ends later, and the script waits for it.
     trial.does("left", "await 'right check'; echo 'the fault of left'; exit 1")
     trial.does("right", "await 'left check'; sleep 0.3")
-    run = trial.run()
+    run = trial.run("--build")
     agree("status", run.status, 2)
     agree("standard output", run.out, "")
     has("standard error", run.err, "rt complains of left", "the fault of left", "lanes: left is not proved\n")
@@ -148,33 +184,32 @@ def crate_that_fails(trial):
     agree("whether a check ran on when the script had ended", run.runs_on, False)
     agree("calls and how they ended", sorted((call.crate, call.arguments, call.status) for call in run.calls), [("ground", "check", 0), ("left", "check", 1), ("right", "check", 0)])
     trial.does("left")
-    built(trial, trial.run(), source="second source")
-    ran_only(trial, trial.run(), source="second source")
+    ran_only(trial, trial.run(), note=other_sources(trial))
+    built(trial, trial.run("--build"), source="second source")
 
 
 def first_crate_that_fails(trial):
     trial.does("ground", "exit 3")
-    run = trial.run()
+    run = trial.run("--build")
     agree("status", run.status, 2)
     agree("standard output", run.out, "")
     has("standard error", run.err, "lanes: ground is not proved\n")
     agree("crates that were proved", run.checked(), ["ground"])
     trial.does("ground")
-    built(trial, trial.run())
+    built(trial, trial.run("--build"))
 
 
 def program_that_fails(trial):
-    built(trial, trial.run())
+    built(trial, trial.run("--build"))
     trial.write("crates/lanes/src/main.rt", "second source")
     trial.does("lanes", "echo 'the fault of lanes'; exit 1")
-    run = trial.run()
+    run = trial.run("--build")
     agree("status", run.status, 2)
     agree("standard output", run.out, "")
     has("standard error", run.err, "the fault of lanes", "lanes: the program is not built\n")
     # What was linked before it failed must not pass for what the first source gives.
     trial.does("lanes")
     trial.write("crates/lanes/src/main.rt", "first source")
-    built(trial, trial.run())
     ran_only(trial, trial.run())
 
 
@@ -183,21 +218,21 @@ def check_whose_shell_is_killed(trial):
     trial.does("left", "kill_shell")
     for slow in ("", 'case "$*" in *crate=right*) sleep 0.4 ;; esac'):
         trial.does("awk", slow)
-        run = trial.run()
+        run = trial.run("--build")
         agree("status", run.status, 2)
         agree("standard output", run.out, "")
         has("standard error", run.err, "lanes: left is not proved\n")
         agree("crates that were proved", run.checked(), ["ground", "left", "right"])
     trial.does("awk")
     trial.does("left")
-    built(trial, trial.run())
+    built(trial, trial.run("--build"))
 
 
 def interrupt(trial, crate, which):
     """Signals a run to end while the stub is called in a crate, as Ctrl-C does: all that the run has started gets the signal."""
     # The stub waits in its own shell: a process that it starts just then might be missed by the signal.
     trial.does(crate, ': > "$TRIAL/there"; read -r -t 60 <> "$TRIAL/silence"')
-    process = trial.start()
+    process = trial.start("--build")
     latest = time.monotonic() + SECONDS
     while not os.path.exists(trial.at("there")):
         if process.poll() is not None or time.monotonic() > latest:
@@ -218,31 +253,27 @@ def interrupts(crate, which):
 
     def case(trial):
         interrupt(trial, crate, which)
-        built(trial, trial.run())
+        built(trial, trial.run("--build"))
         trial.write("crates/lanes/src/main.rt", "second source")
         interrupt(trial, crate, which)
-        built(trial, trial.run(), source="second source")
+        built(trial, trial.run("--build"), source="second source")
         trial.write("crates/lanes/src/main.rt", "third source")
         interrupt(trial, crate, which)
+        ran_only(trial, trial.run(), source="second source", note=other_sources(trial))
         trial.write("crates/lanes/src/main.rt", "second source")
-        run = trial.run()
-        agree("status", run.status, STATUS)
-        agree("standard output", run.out, wrote(trial, source="second source"))
         ran_only(trial, trial.run(), source="second source")
 
     return case
 
 
 def no_toolchain(trial):
-    run = trial.run(has_rt=False)
-    agree("status", run.status, 2)
-    agree("standard output", run.out, "")
-    agree("standard error", run.err, "lanes: the toolchain's command rt is not on the PATH\n")
-    built(trial, trial.run())
+    ran_nothing(trial.run("--build", has_rt=False), "lanes: the toolchain's command rt is not on the PATH\n")
+    built(trial, trial.run("--build"))
     ran_only(trial, trial.run(has_rt=False))
 
 
 def arguments_and_input(trial):
+    built(trial, trial.run("--build"))
     arguments = ["run", "", "two words", " ", "*", "--", "-n", "$HOME", "'", '"', "\\", "a\nb", "", "--help", ""]
     for _ in range(2):
         run = trial.run(*arguments, given=b"table 2 T A SMALLINT\nappend 1 (7)\n")
@@ -255,9 +286,9 @@ def side_by_side(trial):
     """Each of the two waits for the other to begin."""
     trial.does("left", "await 'right check'")
     trial.does("right", "await 'left check'")
-    run = trial.run()
-    built(trial, run)
+    run = trial.run("--build")
     agree("checks at once", run.most_at_once(), 2)
+    built(trial, run)
 
 
 def at_once(wanted, **machine):
@@ -267,8 +298,8 @@ def at_once(wanted, **machine):
         trial.machine(**machine)
         for name in ("one", "two", "three", "four"):
             trial.does(name, f"await check {wanted}; sleep 0.1")
-        run = trial.run()
-        agree("status", run.status, STATUS)
+        run = trial.run("--build")
+        agree("status", run.status, 0)
         agree("crates that were proved", run.checked(), ["four", "one", "three", "two"])
         agree("checks at once", run.most_at_once(), wanted)
 
@@ -282,12 +313,6 @@ V3 = f"{V2} abm avx avx2 bmi1 bmi2 f16c fma movbe"
 def ran_released(trial, run, level):
     """That a run called rt not at all, and ran the released program of this level."""
     ran_only(trial, run, source=f"a release for {level}")
-
-
-def built_instead(trial, run, *said):
-    """That a run said why it takes no release, and built the program."""
-    built(trial, run)
-    has("standard error", run.err, *said, "lanes: building the program")
 
 
 def released_program(trial):
@@ -304,15 +329,17 @@ def released_program(trial):
 def release_and_sources(trial):
     trial.machine(instructions=V3)
     trial.release(sources="another sum\n")
-    built(trial, trial.run())
+    ran_only(trial, trial.run(), source="a release for x86-64-v3", note=other_sources(trial))
     # What is built of the sources as they are comes first.
+    built(trial, trial.run("--build"))
     trial.release()
     ran_only(trial, trial.run())
     trial.write("crates/lanes/src/main.rt", "second source")
-    built(trial, trial.run(), source="second source")
-    # A crate that the program doesn't stand on, and a comment, leave the sum as it is.
+    ran_only(trial, trial.run(), note=other_sources(trial))
+    # A release of the sources as they are comes before a program of other ones.
     trial.release()
-    trial.remove("crates/lanes/out/lanes")
+    ran_released(trial, trial.run(), "x86-64-v3")
+    # A crate that the program doesn't use, and a comment, leave the sum as it is.
     trial.write("crates/shed/src/lib.rt", "other text")
     trial.write("crates.txt", "# A comment.\n\n" + HOUSE + "barn: shed\n")
     ran_released(trial, trial.run(), "x86-64-v3")
@@ -321,39 +348,72 @@ def release_and_sources(trial):
 def damaged_release(trial):
     trial.machine(instructions=V3)
     trial.release()
-    ran_released(trial, trial.run(), "x86-64-v3")
-    # What was taken out is taken out again where it isn't what the release says.
-    trial.write("release/unpacked/lanes-x86-64-v3", "#!/bin/sh\necho another program\n")
-    ran_released(trial, trial.run(), "x86-64-v3")
-    trial.remove("release/unpacked/lanes-x86-64-v3")
     trial.write("release/SHA256SUMS", f"{'0' * 64}  lanes-x86-64-v3\n")
-    built_instead(trial, trial.run(), "lanes: release/lanes-x86-64-v3.gz is not what release/SHA256SUMS says\n")
-    agree("whether something was left of it", os.listdir(os.path.join(trial.top, "release/unpacked")), [])
+    ran_nothing(trial.run(), f"lanes: {trial.top}/release/lanes-x86-64-v3.gz is not what {trial.top}/release/SHA256SUMS says\n", NONE)
+    agree("what was left of it", [name for name in os.listdir(os.path.join(trial.top, "release/unpacked")) if "x86" in name], [])
+    # Another release of the same name is taken out anew.
+    trial.release()
+    ran_released(trial, trial.run(), "x86-64-v3")
+    trial.release(program=RELEASED.replace("a release", "the next release"))
+    ran_only(trial, trial.run(), source="the next release for x86-64-v3")
 
 
 def processor_without_release(trial):
     trial.release()
     trial.machine(kind="aarch64")
-    built_instead(trial, trial.run(), "lanes: the released programs are for x86-64 processors, and this one is aarch64\n")
-    trial.remove("crates/lanes/out/lanes")
+    ran_nothing(trial.run(), "lanes: the released programs are for Linux on x86-64 processors, and this one is aarch64\n", NONE)
     trial.machine(instructions="sse2 cx16 popcnt ssse3 sse4_1 avx2")
-    built_instead(trial, trial.run(), "lanes: the released programs need a processor of the level x86-64-v2, and this one lacks sse4_2\n")
+    ran_nothing(trial.run(), "lanes: the released programs need a processor of the level x86-64-v2, and this one does not have sse4_2\n", NONE)
+    built(trial, trial.run("--build"))
 
 
 def release_that_does_not_start(trial):
     trial.machine(instructions=V3)
     trial.release(program="#!/no/such/loader\n")
-    built_instead(trial, trial.run(), "lanes: the released program does not start here, since the C library of this system is too old for it or another one\n")
+    for _ in range(2):
+        ran_nothing(trial.run(), "lanes: the released program does not start here: it needs glibc 2.34 or newer\n", NONE)
+
+
+def other_paths(trial):
+    """By symbolic links, one to another, and by a copy."""
+    trial.machine(instructions=V3)
+    trial.release()
+    first, second, copy = trial.at("first link"), os.path.join(trial.elsewhere, "lanes"), trial.at("copied")
+    os.symlink(os.path.join(trial.top, "lanes"), first)
+    os.symlink("../first link", second)
+    for script in (first, second):
+        ran_released(trial, trial.run(script=script), "x86-64-v3")
+    shutil.copy(os.path.join(trial.top, "lanes"), copy)
+    ran_nothing(trial.run(script=copy), "lanes: this is a copy of a clone's script: make a symbolic link to that one, or run ./install in the clone\n")
+
+
+def clone_of_another_user(trial):
+    """A clone that can't be written: the program is unpacked in a folder of the user's own."""
+    if os.getuid() != 0:
+        return
+    trial.machine(instructions=V3)
+    trial.release()
+    for folder in (trial.room, trial.at("home")):
+        os.chmod(folder, 0o777)
+    for _ in range(2):
+        ran_released(trial, trial.run(user=NOBODY), "x86-64-v3")
+    agree("whether the clone has it", os.path.exists(os.path.join(trial.top, "release/unpacked")), False)
+    run = trial.run("--build", user=NOBODY)
+    agree("standard error", run.err, f"lanes: {trial.top} can't be written, so nothing can be built there\n")
+    os.chmod(trial.at("home"), 0o755)
+    shutil.rmtree(trial.at("home/.cache"))
+    ran_nothing(trial.run(user=NOBODY), f"lanes: the released program can't be unpacked: neither {trial.top} nor a folder of the user can be written\n", NONE)
 
 
 CASES = [
-    ("the first run proves what the program stands on and nothing else, from below, and builds and runs the program", REPOSITORY, first_run),
+    ("--build proves what the program stands on and nothing else, from below, and builds the program", REPOSITORY, first_run),
     ("for a processor without AVX2 the toolchain chooses", HOUSE, older_processor),
-    ("a second run calls the toolchain not at all", HOUSE, second_run),
-    ("a change of a source builds again", HOUSE, changes_of_sources),
-    ("a program that another command put in its place is built again", HOUSE, other_program),
-    ("a change of anything else does not", HOUSE, other_changes),
-    ("a crate that is not proved is named, and no old program is run", HOUSE, crate_that_fails),
+    ("nothing is built unasked", HOUSE, unasked),
+    ("what is built is not built again", HOUSE, second_run),
+    ("after a change of a source the program is said to be of other ones", HOUSE, changes_of_sources),
+    ("a program that another command builds beside it does not matter", HOUSE, other_program),
+    ("nor does a change of anything else", HOUSE, other_changes),
+    ("a crate that is not proved is named", HOUSE, crate_that_fails),
     ("so it is where it is the first", HOUSE, first_crate_that_fails),
     ("a program that is not built is not run", HOUSE, program_that_fails),
     ("a crate is not proved where the shell of its check is killed", HOUSE, check_whose_shell_is_killed),
@@ -369,8 +429,10 @@ CASES = [
     ("there are never more at once than the memory has 2 GiB for", FOUR, at_once(3, memory=7)),
     ("with little memory there is one", FOUR, at_once(1, memory=1.5)),
     ("the released program of these sources is run at once, without the toolchain", HOUSE, released_program),
-    ("a release of other sources is not run, and what is built comes before a release", HOUSE, release_and_sources),
+    ("a release of other sources is run with a word of that, and the program that is of these sources comes first", HOUSE, release_and_sources),
     ("a release that is not what its sums say is not run", HOUSE, damaged_release),
     ("a processor that no release is for is named", HOUSE, processor_without_release),
     ("a release that does not start here is named", HOUSE, release_that_does_not_start),
+    ("a symbolic link runs the program, and a copy says what to do", HOUSE, other_paths),
+    ("a clone that the user can't write runs the program", HOUSE, clone_of_another_user),
 ]

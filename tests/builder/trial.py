@@ -60,6 +60,10 @@ def has(what, found, *parts):
             raise Differs(f"{what}: {found[-600:]!r} lacks {part!r}")
 
 
+def without_cache(environment):
+    return {name: value for name, value in environment.items() if name != "XDG_CACHE_HOME"}
+
+
 @dataclass
 class Call:
     """A call of rt: its crate's name, its arguments, the places in the log at which it begins and ends, and its status."""
@@ -118,7 +122,9 @@ class Trial:
         self.started = []
         shutil.copy(os.path.join(TOP, "lanes"), self.top)
         os.mkdir(os.path.join(self.top, "release"))
-        shutil.copy(os.path.join(TOP, "release/sources"), os.path.join(self.top, "release"))
+        for name in ("sources", "files.sh"):
+            shutil.copy(os.path.join(TOP, "release", name), os.path.join(self.top, "release"))
+        os.mkdir(self.at("home"))
         os.mkfifo(self.at("silence"))
         self.write("crates.txt", crates)
         for name in libraries(crates):
@@ -159,7 +165,7 @@ class Trial:
         with open(self.at("proc/meminfo"), "w") as file:
             file.write(f"MemTotal: {128 << 20} kB\nMemFree: {96 << 20} kB\nMemAvailable: {int(memory * (1 << 20))} kB\n")
         with open(self.at("proc/cpuinfo"), "w") as file:
-            file.write(f"flags : {instructions}\n")
+            file.write(f"flags : {instructions}\n" if kind == "x86_64" else "Features : fp asimd\n")
 
     def write(self, name, text):
         """A file of the copy."""
@@ -209,8 +215,8 @@ class Trial:
                 call.end, call.status = place, int(rest)
         return found
 
-    def start(self, *arguments, given=b"", has_rt=True, language="C"):
-        """Starts the script from another folder, in a process group of its own."""
+    def start(self, *arguments, given=b"", has_rt=True, language="C", script=None, user=None):
+        """Starts the script from another folder, in a process group of its own; by another path, or as another user, where one is given."""
         if os.path.exists(self.at("log")):
             os.remove(self.at("log"))
         with open(self.at("given"), "wb") as file:
@@ -220,12 +226,13 @@ class Trial:
         ends, held = os.pipe()
         with open(self.at("given"), "rb") as source, open(self.at("out"), "wb") as out, open(self.at("err"), "wb") as err:
             process = subprocess.Popen(
-                [os.path.join(self.top, "lanes"), *arguments],
+                [script or os.path.join(self.top, "lanes"), *arguments],
                 cwd=self.elsewhere,
                 stdin=source,
                 stdout=out,
                 stderr=err,
-                env={**os.environ, "PATH": path, "LC_ALL": language, "TRIAL": self.room},
+                env={**without_cache(os.environ), "PATH": path, "LC_ALL": language, "TRIAL": self.room, "HOME": self.at("home")},
+                user=user,
                 start_new_session=True,
                 pass_fds=[held],
                 # Where these tests run in the background they ignore interrupts, and the script would too.

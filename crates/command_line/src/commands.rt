@@ -13,17 +13,17 @@ use table_model::{BatchName, RowName};
 /// The program's version.
 const VERSION: &str = "0.2.0";
 
-/// What stands below the help of the program and that of `lanes run`.
+/// What is shown below the help of the program and that of `lanes run`.
 const SCRIPT_HELP: &str =
-    "A script is lines such as these, each of which has a reply:\n  table 2 T A SMALLINT\n  append 1 (7),(NULL)\n  query 1 SELECT COUNT(*) FROM T\nAll lines and replies are in docs/FORMATS.md, and examples/ has scripts to run.";
+    "A script has lines such as these, and each has a reply:\n  table 2 T A SMALLINT\n  append 1 (7),(NULL)\n  query 1 SELECT COUNT(*) FROM T\nAll lines and replies are in docs/FORMATS.md, and examples/ has scripts to run.";
 
-/// What stands below the help of `lanes merge`.
+/// What is shown below the help of `lanes merge`.
 const MERGE_HELP: &str =
-    "OUT is replaced whole, and what is refused leaves it as it was. OUT that is no regular file is written in place.";
+    "OUT is replaced as a whole, and stays as it was if the merge is refused. If OUT is not a regular file it is written in place.";
 
-/// What stands below the help of `lanes import`.
+/// What is shown below the help of `lanes import`.
 const IMPORT_HELP: &str =
-    "Rows become batches of 65,536 under names that are drawn at random, or that begin at O.N: a load that comes twice under\none name is held once.";
+    "Rows become batches of 65,536. Their names are drawn at random, or begin at O.N: a load that arrives twice under one name is\nheld once. Of several CSVs all are imported or none, one after another, under names that count on.";
 
 /// A command.
 #[derive(Clone, Copy, Debug, PartialEq, Eq)]
@@ -60,7 +60,7 @@ const VERBS: [Verb; 13] = [
     Verb::Run,
 ];
 
-/// What the arguments ask for; otherwise memory lacks, or the command line has a fault or asks for help.
+/// What the arguments ask for; otherwise there is no memory for it, or the command line has a fault or asks for help.
 pub fn read_request<'a>(alloc: Global, words: &'a [String]) -> Result<Request<'a>, Fault>
     ensures { IfErr result IsUnread }
 {
@@ -85,6 +85,7 @@ pub fn read_request<'a>(alloc: Global, words: &'a [String]) -> Result<Request<'a
 /// The program's commands.
 pub(crate) fn commands<'a>(alloc: Global) -> Result<Command<'a>, AllocError> {
     let mut command = Command::new(alloc, "lanes")
+        .bin_name("lanes")?
         .about("A replicated column store for one table of nullable integer columns")
         .version(VERSION)
         .after_help(SCRIPT_HELP)
@@ -93,6 +94,14 @@ pub(crate) fn commands<'a>(alloc: Global) -> Result<Command<'a>, AllocError> {
         command = command.subcommand(verb.command(alloc)?)?;
     }
     Ok(command)
+}
+
+/// What is said of an option that comes too late.
+const LATE_OPTION: &str = "options stand before FILE: a word behind it that begins with -- is none";
+
+/// Whether one of these words behind the first is written like an option. The first is taken as it is.
+fn has_late_option(words: &[&str]) -> bool {
+    words.iter().skip(1).any(|word| word.starts_with("--"))
 }
 
 /// A fault of the command line in what `clap` takes for texts, with the usage of a command.
@@ -137,7 +146,9 @@ impl Verb {
 
     /// How the command is read.
     fn command<'a>(self, alloc: Global) -> Result<Command<'a>, AllocError> {
-        let command = Command::new(alloc, self.name());
+        let name = self.name();
+        let called = format!(in alloc; "lanes {name}")?;
+        let command = Command::new(alloc, name).bin_name(called.as_str())?;
         match self {
             Verb::Run => run_command(alloc, command),
             Verb::Create => create_command(alloc, command),
@@ -166,6 +177,7 @@ impl Verb {
             Verb::Delete => Ok(Request::Delete {
                 file: text_of(given, "FILE"),
                 condition: text_of(given, "COND"),
+                is_quiet: given.get_flag("quiet"),
             }),
             Verb::DeleteRows => self.delete_rows_request(alloc, given),
             Verb::Query => self.query_request(alloc, given),
@@ -190,6 +202,7 @@ impl Verb {
             Verb::Merge => Ok(Request::Merge {
                 out: text_of(given, "OUT"),
                 files: texts_of(alloc, given, "IN")?,
+                is_quiet: given.get_flag("quiet"),
             }),
         }
     }
@@ -214,6 +227,7 @@ impl Verb {
                 file: text_of(given, "FILE"),
                 table: text_of(given, "TABLE"),
                 columns,
+                is_quiet: given.get_flag("quiet"),
             }),
             None => Err(self.fault(
                 alloc,
@@ -230,15 +244,24 @@ impl Verb {
             None => None,
             Some(text) => Some(self.batch_name(alloc, text)?),
         };
+        let names = given.get_strs("CSV").unwrap_or(&[]);
+        if has_late_option(names) {
+            return Err(self.fault(alloc, LATE_OPTION));
+        }
+        let csvs = words::sources(alloc, names)?;
+        if words::inputs(csvs.as_slice()) > 1 {
+            return Err(self.fault(alloc, "only one CSV can be -"));
+        }
         Ok(Request::Import {
             file: text_of(given, "FILE"),
-            csv: Source::named(text_of(given, "CSV")),
+            csvs,
             first,
             has_header: !given.get_flag("no-header"),
+            is_quiet: given.get_flag("quiet"),
         })
     }
 
-    /// The name of a batch that stands in an argument.
+    /// The name of a batch in an argument.
     fn batch_name(self, alloc: Global, text: &str) -> Result<BatchName, Fault>
         ensures { IfErr result IsUnread }
     {
@@ -251,7 +274,7 @@ impl Verb {
         }
     }
 
-    /// The ordinal that stands in an argument.
+    /// The ordinal in an argument.
     fn ordinal(self, alloc: Global, text: &str) -> Result<u16, Fault>
         ensures { IfErr result IsUnread }
     {
@@ -259,7 +282,7 @@ impl Verb {
             Some(ordinal) => Ok(ordinal),
             None => Err(self.fault(
                 alloc,
-                "FIRST and LAST are numbers of 1 to 10 digits, each at most 65535",
+                "FIRST and LAST are numbers of 1 to 5 digits, each at most 65535",
             )),
         }
     }
@@ -279,6 +302,7 @@ impl Verb {
             file: text_of(given, "FILE"),
             first: RowName { batch, ordinal },
             last,
+            is_quiet: given.get_flag("quiet"),
         })
     }
 
@@ -290,6 +314,9 @@ impl Verb {
             return Err(self.fault(alloc, "FORMAT is text, csv, json or table"));
         };
         let texts = texts_of(alloc, given, "SQL")?;
+        if has_late_option(texts.as_slice()) {
+            return Err(self.fault(alloc, LATE_OPTION));
+        }
         let queries = match texts.as_slice() {
             ["-"] => Queries::Lines,
             given if given.contains(&"-") => {
@@ -316,11 +343,12 @@ impl Verb {
         Ok(Request::Apply {
             file: text_of(given, "FILE"),
             offers,
+            is_quiet: given.get_flag("quiet"),
         })
     }
 }
 
-/// The word that was given for an argument that must be there.
+/// The word that was given for an argument that is required.
 fn text_of<'a>(given: &ArgMatches<'a>, argument: &str) -> &'a str {
     given.get_str(argument).unwrap_or("")
 }
@@ -338,7 +366,7 @@ fn texts_of<'a>(
     Ok(texts)
 }
 
-/// What `lanes run` asks for: a script from a file, or from standard input where none is named or its name is `-`.
+/// What `lanes run` asks for: a script from a file, or from standard input if none is named or its name is `-`.
 fn run_request<'a>(given: &ArgMatches<'a>) -> Request<'a> {
     let source = match given.get_str("SCRIPT") {
         Some(name) => Source::named(name),
@@ -350,7 +378,7 @@ fn run_request<'a>(given: &ArgMatches<'a>) -> Request<'a> {
     }
 }
 
-/// A word that must be there, taken as it is.
+/// A word that is required, taken as it is.
 fn word<'a>(alloc: Global, name: &'a str, help: &'a str) -> Arg<'a> {
     Arg::new(alloc, name)
         .help(help)
@@ -376,14 +404,19 @@ fn flag<'a>(alloc: Global, name: &'a str, help: &'a str) -> Arg<'a> {
         .help(help)
 }
 
+/// The option of commands that change a file, to say nothing when all is well.
+fn quiet<'a>(alloc: Global) -> Arg<'a> {
+    flag(alloc, "quiet", "Print nothing if all is well")
+}
+
 fn run_command<'a>(alloc: Global, command: Command<'a>) -> Result<Command<'a>, AllocError> {
     let script = Arg::new(alloc, "SCRIPT").help(
-        "The script's file, or - for standard input, as where none is named",
+        "The script's file, or - for standard input, which is read too if none is named",
     );
     let explain = flag(
         alloc,
         "explain",
-        "Say on standard error of each refused line its number and why it is refused",
+        "Say on standard error for each refused line its number and why it is refused",
     );
     command
         .about("Runs a script and writes its replies to standard output")
@@ -399,8 +432,9 @@ fn create_command<'a>(alloc: Global, command: Command<'a>) -> Result<Command<'a>
         "The columns' names and types: TINYINT, SMALLINT, INTEGER or BIGINT",
     );
     command
-        .about("Makes the file of an empty table")
-        .arg(first_word(alloc, "FILE", "The file that is made"))?
+        .about("Creates the file of an empty table")
+        .arg(quiet(alloc))?
+        .arg(first_word(alloc, "FILE", "The file that is created"))?
         .arg(word(alloc, "TABLE", "The table's name"))?
         .arg(columns.value_name("COL TYPE").num_args(1..))
 }
@@ -409,32 +443,35 @@ fn import_command<'a>(alloc: Global, command: Command<'a>) -> Result<Command<'a>
     let batch = Arg::new(alloc, "batch")
         .long("batch")
         .value_name("O.N")
-        .help("The name of the first batch, in place of one drawn at random")
+        .help("The name of the first batch, instead of one drawn at random")
         .allow_hyphen_values(true);
     let header = flag(
         alloc,
         "no-header",
-        "The first line has values, and no names of columns",
+        "The first line has values, not names of columns",
     );
     command
         .about("Inserts rows of comma-separated values")
         .after_help(IMPORT_HELP)
         .arg(batch)?
         .arg(header)?
+        .arg(quiet(alloc))?
         .arg(file(alloc))?
-        .arg(word(alloc, "CSV", "The values' file, or - for standard input"))
+        .arg(word(alloc, "CSV", "The files of values, or - for standard input").num_args(1..))
 }
 
 fn delete_command<'a>(alloc: Global, command: Command<'a>) -> Result<Command<'a>, AllocError> {
     command
-        .about("Deletes the rows at which a condition is true")
+        .about("Deletes the rows for which a condition is true")
+        .arg(quiet(alloc))?
         .arg(file(alloc))?
         .arg(word(alloc, "COND", "The condition, as in WHERE"))
 }
 
 fn delete_rows_command<'a>(alloc: Global, command: Command<'a>) -> Result<Command<'a>, AllocError> {
     command
-        .about("Deletes rows by their names, whether they are there or come later")
+        .about("Deletes rows by their names, whether they are there or arrive later")
+        .arg(quiet(alloc))?
         .arg(file(alloc))?
         .arg(word(alloc, "O.N", "The name of the rows' batch"))?
         .arg(word(alloc, "FIRST", "The first row's ordinal, from 0"))?
@@ -448,7 +485,7 @@ fn query_command<'a>(alloc: Global, command: Command<'a>) -> Result<Command<'a>,
         .help("The form of the answers: text, csv, json or table");
     command
         .about(
-            "Writes the answers of queries over a file, one after another; docs/SQL.md has the language",
+            "Writes the answers of queries, one after another; docs/SQL.md describes the language",
         )
         .arg(format)?
         .arg(file(alloc))?
@@ -473,19 +510,19 @@ fn dump_command<'a>(alloc: Global, command: Command<'a>) -> Result<Command<'a>, 
 
 fn inspect_command<'a>(alloc: Global, command: Command<'a>) -> Result<Command<'a>, AllocError> {
     command
-        .about("Writes what a file holds, and how its columns are coded")
+        .about("Writes what a file holds and how its columns are coded")
         .arg(file(alloc))
 }
 
 fn summary_command<'a>(alloc: Global, command: Command<'a>) -> Result<Command<'a>, AllocError> {
     command
-        .about("Writes the names of the batches that a file holds, for lanes offer")
+        .about("Writes the names of a file's batches, for lanes offer")
         .arg(file(alloc))
 }
 
 fn offer_command<'a>(alloc: Global, command: Command<'a>) -> Result<Command<'a>, AllocError> {
     command
-        .about("Writes what a file has beyond a summary, for lanes apply")
+        .about("Writes what a file has and a summary does not, for lanes apply")
         .arg(file(alloc))?
         .arg(word(
             alloc,
@@ -497,6 +534,7 @@ fn offer_command<'a>(alloc: Global, command: Command<'a>) -> Result<Command<'a>,
 fn apply_command<'a>(alloc: Global, command: Command<'a>) -> Result<Command<'a>, AllocError> {
     command
         .about("Applies offers, or other files of the same table, to a file")
+        .arg(quiet(alloc))?
         .arg(file(alloc))?
         .arg(word(alloc, "OFFER", "The offers' files, or - for standard input").num_args(1..))
 }
@@ -504,15 +542,16 @@ fn apply_command<'a>(alloc: Global, command: Command<'a>) -> Result<Command<'a>,
 fn check_command<'a>(alloc: Global, command: Command<'a>) -> Result<Command<'a>, AllocError> {
     command
         .about(
-            "Says whether a file is a canonical one, and how many batches and ranges of deletions it has",
+            "Says whether a file is in canonical form, and how many batches and ranges of deletions it has",
         )
         .arg(file(alloc))
 }
 
 fn merge_command<'a>(alloc: Global, command: Command<'a>) -> Result<Command<'a>, AllocError> {
     command
-        .about("Writes the canonical file of what all of some files hold")
+        .about("Writes the canonical file of all that some files hold")
         .after_help(MERGE_HELP)
+        .arg(quiet(alloc))?
         .arg(first_word(alloc, "OUT", "The file that is written"))?
         .arg(word(alloc, "IN", "The files that are merged, in this order").num_args(1..))
 }

@@ -71,7 +71,7 @@ pub fn not_for_a_terminal(alloc: Global) -> Fault {
 fn to_a_terminal(alloc: Global) -> Result<clap::Error, AllocError> {
     commands(alloc)?.error(
         ErrorKind::InvalidValue,
-        "what this command writes is bytes, and standard output is a terminal",
+        "this command writes binary data, and standard output is a terminal",
     )
 }
 

@@ -54,7 +54,7 @@ pub enum Request<'a> {
         /// Whether standard error says why each refused line is refused.
         is_explained: bool,
     },
-    /// `lanes create FILE TABLE COL TYPE [COL TYPE]..`: the canonical file of an empty table.
+    /// `lanes create [--quiet] FILE TABLE COL TYPE [COL TYPE]..`: the canonical file of an empty table.
     Create {
         /// The name of the file that is made.
         file: &'a str,
@@ -62,26 +62,32 @@ pub enum Request<'a> {
         table: &'a str,
         /// The names and types of its columns, at least one.
         columns: Vec<(&'a str, ColType)>,
+        /// Whether nothing is printed if all is well.
+        is_quiet: bool,
     },
-    /// `lanes import [--batch O.N] [--no-header] FILE CSV`: the rows of a text, inserted as new batches.
+    /// `lanes import [--batch O.N] [--no-header] [--quiet] FILE CSV..`: the rows of texts, inserted as new batches.
     Import {
         /// The file's name.
         file: &'a str,
-        /// Where the text is read from.
-        csv: Source<'a>,
-        /// The name of the first batch, where it isn't drawn.
+        /// Where the texts are read from, at least one.
+        csvs: Vec<Source<'a>>,
+        /// The name of the first batch, if it isn't drawn.
         first: Option<BatchName>,
-        /// Whether the text's first line has the columns' names.
+        /// Whether each text's first line has the columns' names.
         has_header: bool,
+        /// Whether nothing is printed if all is well.
+        is_quiet: bool,
     },
-    /// `lanes delete FILE COND`: the rows at which a condition is true, deleted.
+    /// `lanes delete [--quiet] FILE COND`: the rows for which a condition is true, deleted.
     Delete {
         /// The file's name.
         file: &'a str,
         /// The condition.
         condition: &'a str,
+        /// Whether nothing is printed if all is well.
+        is_quiet: bool,
     },
-    /// `lanes delete-rows FILE O.N FIRST LAST`: rows deleted by their names, held or not.
+    /// `lanes delete-rows [--quiet] FILE O.N FIRST LAST`: rows deleted by their names, held or not.
     DeleteRows {
         /// The file's name.
         file: &'a str,
@@ -89,6 +95,8 @@ pub enum Request<'a> {
         first: RowName,
         /// The last row's ordinal.
         last: u16,
+        /// Whether nothing is printed if all is well.
+        is_quiet: bool,
     },
     /// `lanes query [--format FORMAT] FILE SQL..`: the answers of queries over a file, one after another.
     Query {
@@ -123,23 +131,27 @@ pub enum Request<'a> {
         /// Where the summary is read from.
         summary: Source<'a>,
     },
-    /// `lanes apply FILE OFFER..`: what offers bring, applied to a file.
+    /// `lanes apply [--quiet] FILE OFFER..`: what offers bring, applied to a file.
     Apply {
         /// The file's name.
         file: &'a str,
         /// Where the offers are read from, at least one.
         offers: Vec<Source<'a>>,
+        /// Whether nothing is printed if all is well.
+        is_quiet: bool,
     },
     /// `lanes check FILE`: whether a file is a canonical one, and how much stands in it.
     Check {
         /// The file's name.
         file: &'a str,
     },
-    /// `lanes merge OUT IN..`: the canonical file of what all of some files hold.
+    /// `lanes merge [--quiet] OUT IN..`: the canonical file of what all of some files hold.
     Merge {
         /// The name of the file that is written.
         out: &'a str,
         /// The names of the files that are merged, at least one.
         files: Vec<&'a str>,
+        /// Whether nothing is printed if all is well.
+        is_quiet: bool,
     },
 }

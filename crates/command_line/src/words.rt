@@ -4,12 +4,15 @@ use crate::requests::{Format, Source};
 use std::alloc::{AllocError, Global};
 use table_model::{BatchName, ColType, Number, Origin};
 
-/// How many digits a number is written with at most.
+/// How many digits an origin or a batch's number has at most.
 const NUMBER_DIGITS: usize = 10;
 
-/// The number that 1 to 10 digits write.
-fn number(text: &str) -> Option<u64> {
-    let is_numeral = text.len() <= NUMBER_DIGITS && text.bytes().all(|byte| byte.is_ascii_digit());
+/// How many digits an ordinal has at most.
+const ORDINAL_DIGITS: usize = 5;
+
+/// The number that 1 digit and at most `most` write.
+fn number(text: &str, most: usize) -> Option<u64> {
+    let is_numeral = text.len() <= most && text.bytes().all(|byte| byte.is_ascii_digit());
     if is_numeral {
         text.parse::<u64>().ok()
     } else {
@@ -19,12 +22,12 @@ fn number(text: &str) -> Option<u64> {
 
 /// An origin or a batch's number: 1 to 10 digits, at most 4,294,967,295.
 fn small_number(text: &str) -> Option<u32> {
-    u32::try_from(number(text)?).ok()
+    u32::try_from(number(text, NUMBER_DIGITS)?).ok()
 }
 
-/// An ordinal: 1 to 10 digits, at most 65,535.
+/// An ordinal: 1 to 5 digits, at most 65,535.
 pub fn ordinal(text: &str) -> Option<u16> {
-    u16::try_from(number(text)?).ok()
+    u16::try_from(number(text, ORDINAL_DIGITS)?).ok()
 }
 
 /// The name of a batch: an origin, a point and a number. Either may be 0.

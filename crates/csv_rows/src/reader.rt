@@ -67,7 +67,7 @@ impl CsvReader {
     /// Reads the next rows: 65,536 of them, or fewer, possibly none, if they are the last.
     ///
     /// `BadCsv` and `LineTooLong` are the first fault of the text; `ReadFault` is answered only if the reader below failed or
-    /// gave more than 2^48 bytes. After an error only [`CsvReader::faulty_field`] is of use.
+    /// gave more than 2^48 bytes. After an error only [`CsvReader::line`] and [`CsvReader::faulty_field`] are of use.
     pub fn next_batch<R: Read>(
         &mut self,
         alloc: Global,
@@ -93,6 +93,11 @@ impl CsvReader {
             self.begin(alloc, reader)?;
         }
         self.rows(alloc, reader)
+    }
+
+    /// The line that was read last, without its end: after `BadCsv` the line at fault, which is empty if there is no header.
+    pub fn line(&self) -> &[u8] {
+        self.lines.line()
     }
 
     /// The first 40 bytes of a field of the line that was read last, by its column, counted from 1: after `BadCsv` those of the

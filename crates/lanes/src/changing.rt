@@ -1,12 +1,12 @@
 //! The commands that change a file: it is read, then held, read again and replaced whole.
 
 use crate::change::{Change, Done};
-use crate::failure::{Failure, OUTPUT};
+use crate::failure::{Failure, OUTPUT, is_of_a_text};
 use crate::inputs::{name_of, reader_of, source_of, unread};
 use command_line::Source;
 use csv_rows::{CsvError, CsvReader};
 use file_replacing::{Held, hold};
-use refusal_sentences::{CommandRefusal, Knowledge, Sentence};
+use refusal_sentences::{CommandRefusal, Fields, Knowledge, Sentence, Text};
 use replica_files::{Load, file_schema, read_csv};
 use replica_store::Offer;
 use std::alloc::Global;
@@ -25,24 +25,41 @@ pub fn create<R: Print + Files<File = File> + Clock + AllocGlobal>(
     file: &str,
     table: &str,
     columns: &[(&str, ColType)],
+    is_quiet: bool,
 ) -> Result<(), Failure> {
     if is_there(rt, file) {
         return Err(Failure::of_file(rt, CommandRefusal::Exists, file));
     }
-    change(rt, file, Change::Create { table, columns })
+    change(
+        rt,
+        file,
+        Change::Create { table, columns },
+        About::Nothing,
+        is_quiet,
+    )
 }
 
-/// Inserts the rows of comma-separated values.
+/// Inserts the rows of comma-separated values, of one text after another: all, or none.
 pub fn import<R: Print + Input + Files<File = File> + Clock + RandomSource + AllocGlobal>(
     rt: &R,
     file: &str,
-    csv: Source<'_>,
+    csvs: &[Source<'_>],
     first: Option<BatchName>,
     has_header: bool,
+    is_quiet: bool,
 ) -> Result<(), Failure> {
     let schema = schema_of(rt, file)?;
-    let mut reader = source_of(rt, csv);
-    let load = loaded(rt, csv, &mut reader, &schema, has_header)?;
+    let mut load = Load::new(rt.alloc(), &schema)?;
+    for csv in csvs {
+        add_rows(
+            rt,
+            *csv,
+            &mut source_of(rt, *csv),
+            &schema,
+            has_header,
+            &mut load,
+        )?;
+    }
     let words = match first {
         Some(_) => Ok([0; DRAWS]),
         None => random_words(rt),
@@ -51,17 +68,35 @@ pub fn import<R: Print + Input + Files<File = File> + Clock + RandomSource + All
         return Err(Failure::of(rt.alloc(), CommandRefusal::from(Refusal::ReadFault)));
     };
     let words = words.as_slice();
-    change(rt, file, Change::Import { load, first, words })
+    change(
+        rt,
+        file,
+        Change::Import { load, first, words },
+        About::Nothing,
+        is_quiet,
+    )
 }
 
-/// Deletes the rows at which a condition is true.
+/// Deletes the rows for which a condition is true.
 pub fn delete<R: Print + Files<File = File> + Clock + AllocGlobal>(
     rt: &R,
     file: &str,
     condition: &str,
+    is_quiet: bool,
 ) -> Result<(), Failure> {
-    let _schema = schema_of(rt, file)?;
-    change(rt, file, Change::Delete { condition })
+    let schema = schema_of(rt, file)?;
+    let text = Text {
+        text: condition,
+        is_condition: true,
+        schema: Some(&schema),
+    };
+    change(
+        rt,
+        file,
+        Change::Delete { condition },
+        About::Condition(text),
+        is_quiet,
+    )
 }
 
 /// Deletes rows by their names, held or not.
@@ -70,9 +105,16 @@ pub fn delete_rows<R: Print + Files<File = File> + Clock + AllocGlobal>(
     file: &str,
     first: RowName,
     last: u16,
+    is_quiet: bool,
 ) -> Result<(), Failure> {
     let _schema = schema_of(rt, file)?;
-    change(rt, file, Change::DeleteRows { first, last })
+    change(
+        rt,
+        file,
+        Change::DeleteRows { first, last },
+        About::Nothing,
+        is_quiet,
+    )
 }
 
 /// Applies offers, all or none.
@@ -80,8 +122,9 @@ pub fn apply<R: Print + Input + Files<File = File> + Clock + AllocGlobal>(
     rt: &R,
     file: &str,
     sources: &[Source<'_>],
+    is_quiet: bool,
 ) -> Result<(), Failure> {
-    let _schema = schema_of(rt, file)?;
+    let schema = schema_of(rt, file)?;
     let mut offers = Vec::new(rt.alloc());
     for source in sources {
         match column_file::read_offer(rt.alloc(), &mut source_of(rt, *source)) {
@@ -90,7 +133,22 @@ pub fn apply<R: Print + Input + Files<File = File> + Clock + AllocGlobal>(
         }
     }
     let offers = offers.as_slice();
-    change(rt, file, Change::Apply { offers })
+    let about = other_table(sources, offers, &schema);
+    change(rt, file, Change::Apply { offers }, about, is_quiet)
+}
+
+/// The first offer of another table, if there is one.
+fn other_table<'a>(sources: &[Source<'a>], offers: &'a [Offer], schema: &'a Schema) -> About<'a> {
+    for (source, offer) in sources.iter().zip(offers) {
+        if !offer.schema().same(schema) {
+            return About::OtherTable {
+                name: name_of(*source),
+                found: offer.schema(),
+                wanted: schema,
+            };
+        }
+    }
+    About::Nothing
 }
 
 /// Whether there is a file, a folder or a link of this name.
@@ -117,18 +175,18 @@ fn random_words<R: RandomSource>(rt: &R) -> io::Result<[u64; DRAWS]> {
     Ok(words)
 }
 
-/// The rows of comma-separated values, coded in batches.
-fn loaded<R: Files + AllocGlobal, D: Read>(
+/// Adds the rows of comma-separated values to a load, coded in batches.
+fn add_rows<R: Files + AllocGlobal, D: Read>(
     rt: &R,
     source: Source<'_>,
     reader: &mut Counted<D>,
     schema: &Schema,
     has_header: bool,
-) -> Result<Load, Failure> {
+    load: &mut Load,
+) -> Result<(), Failure> {
     let mut csv = CsvReader::new(rt.alloc(), schema, has_header)?;
-    let mut load = Load::new(rt.alloc(), schema)?;
-    match read_csv(rt.alloc(), &mut csv, reader, &mut load) {
-        Ok(()) => Ok(load),
+    match read_csv(rt.alloc(), &mut csv, reader, load) {
+        Ok(()) => Ok(()),
         Err(CsvError::Refused(refusal)) => Err(unread(rt, CommandRefusal::from(refusal), source)),
         Err(CsvError::LineTooLong { line }) => Err(fault_of_csv(
             rt.alloc(),
@@ -140,7 +198,7 @@ fn loaded<R: Files + AllocGlobal, D: Read>(
             rt.alloc(),
             source,
             CommandRefusal::BadCsv { line, column },
-            known_of_field(&csv, schema, column),
+            known_of_field(&csv, schema, has_header && line == 1, column),
         )),
     }
 }
@@ -163,10 +221,15 @@ fn fault_of_csv(
     )
 }
 
-/// What is known of a field that is refused. One of the header has no column.
-fn known_of_field<'a>(csv: &'a CsvReader, schema: &'a Schema, column: u64) -> Knowledge<'a> {
+/// What is known of a field that is refused, or of a line with the wrong number of them. A field of the header has no column.
+fn known_of_field<'a>(
+    csv: &'a CsvReader,
+    schema: &'a Schema,
+    is_header: bool,
+    column: u64,
+) -> Knowledge<'a> {
     if column == 0 {
-        return Knowledge::Nothing;
+        return Knowledge::Fields(Fields::new(csv.line(), b',', schema.columns(), is_header));
     }
     let text = csv.faulty_field(column);
     match csv.column_of(column) {
@@ -178,23 +241,41 @@ fn known_of_field<'a>(csv: &'a CsvReader, schema: &'a Schema, column: u64) -> Kn
                 text,
             }
         }
-        _ => Knowledge::Heading(text),
+        _ => Knowledge::Heading { text, schema },
     }
 }
 
-/// Changes a file under its lock, and says what came of it.
+/// What is known of a change, for the sentence of its refusal.
+#[derive(Clone, Copy)]
+enum About<'a> {
+    /// Nothing.
+    Nothing,
+    /// It is for the rows for which this condition is true.
+    Condition(Text<'a>),
+    /// This input of it is of another table than the file.
+    OtherTable {
+        name: &'a str,
+        found: &'a Schema,
+        wanted: &'a Schema,
+    },
+}
+
+/// Changes a file under its lock, and says what came of it unless that is to be quiet.
 fn change<R: Print + Files<File = File> + Clock + AllocGlobal>(
     rt: &R,
     file: &str,
     change: Change<'_>,
+    about: About<'_>,
+    is_quiet: bool,
 ) -> Result<(), Failure> {
     let done = match hold(rt, file) {
         Ok(held) => changed(rt, file, change, held),
         Err(refusal) => Err(not_held(rt, file, change, refusal)),
     };
     match done {
+        Ok(_) if is_quiet => Ok(()),
         Ok(done) => say(rt, &done),
-        Err(refusal) => Err(refused(rt, file, refusal)),
+        Err(refusal) => Err(refused(rt, file, refusal, about)),
     }
 }
 
@@ -261,8 +342,31 @@ fn not_held<R: Files + AllocGlobal>(
     }
 }
 
-/// A refusal of a change, with what it is said of: the file, unless it is an argument that is refused.
-fn refused<R: Files + AllocGlobal>(rt: &R, file: &str, refusal: CommandRefusal) -> Failure {
+/// A refusal of a change, with what it is said of: the file, unless it is an argument or another input that is refused.
+fn refused<R: Files + AllocGlobal>(
+    rt: &R,
+    file: &str,
+    refusal: CommandRefusal,
+    about: About<'_>,
+) -> Failure {
+    match (refusal, about) {
+        (CommandRefusal::Named(refusal), About::Condition(text)) if is_of_a_text(refusal) => {
+            Failure::of_text(rt.alloc(), refusal, "", text)
+        }
+        (
+            CommandRefusal::Named(Refusal::SchemaDiffers),
+            About::OtherTable {
+                name,
+                found,
+                wanted,
+            },
+        ) => Failure::of_tables(rt.alloc(), name, found, file, wanted),
+        _ => refused_alone(rt, file, refusal),
+    }
+}
+
+/// The same, if nothing is known of the change.
+fn refused_alone<R: Files + AllocGlobal>(rt: &R, file: &str, refusal: CommandRefusal) -> Failure {
     match refusal {
         CommandRefusal::Named(Refusal::BadRange(_)) => Failure::of_argument(rt.alloc(), refusal),
         CommandRefusal::Named(
@@ -270,10 +374,6 @@ fn refused<R: Files + AllocGlobal>(rt: &R, file: &str, refusal: CommandRefusal) 
             | Refusal::BadName
             | Refusal::BadSchema
             | Refusal::NumbersSpent
-            | Refusal::Syntax(_)
-            | Refusal::NumberTooLarge(_)
-            | Refusal::TooDeep
-            | Refusal::NoSuchColumn(_)
             | Refusal::Memory,
         ) => Failure::of(rt.alloc(), refusal),
         _ => Failure::of_file(rt, refusal, file),

@@ -1,12 +1,12 @@
 //! Why a command failed, and what a person is told of it.
 
 use command_line::Fault;
-use refusal_sentences::{CommandRefusal, Knowledge, Pointer, Sentence};
+use refusal_sentences::{CommandRefusal, Knowledge, Pointer, Sentence, Text};
 use std::alloc::{AllocError, AllocFailed, Global};
 use std::fs::{self, Files};
 use std::io::{ErrorKind, Write};
 use std::process::ExitCode;
-use table_model::Refusal;
+use table_model::{Refusal, Schema};
 
 /// What standard output is called in a sentence.
 pub const OUTPUT: &str = "standard output";
@@ -14,13 +14,16 @@ pub const OUTPUT: &str = "standard output";
 /// What standard input is called in a sentence.
 pub const INPUT: &str = "standard input";
 
+/// What is said of a file that isn't there and is named like an option.
+const NO_OPTION: &str =
+    "no such file or folder: options stand before FILE, and this command has none of this name";
+
 /// Why a command failed, and what is said of it below the line of the refusal.
 #[derive(Drop)]
 pub struct Failure {
     fault: Fault,
     sentence: Option<String>,
-    pointer: Option<Vec<u8>>,
-    is_for_terminals: bool,
+    pointer: Option<String>,
 }
 
 impl From<Fault> for Failure {
@@ -29,7 +32,6 @@ impl From<Fault> for Failure {
             fault,
             sentence: None,
             pointer: None,
-            is_for_terminals: false,
         }
     }
 }
@@ -53,13 +55,12 @@ impl<T: Drop> From<AllocFailed<T>> for Failure {
 }
 
 impl Failure {
-    /// A refusal with its sentence; without one where memory lacks for that.
+    /// A refusal with its sentence; without one if there is no memory for it.
     pub fn new(alloc: Global, sentence: Sentence<'_>) -> Failure {
         Failure {
             fault: Fault::from(sentence.refusal),
             sentence: format!(in alloc; "{sentence}\n").ok(),
             pointer: None,
-            is_for_terminals: false,
         }
     }
 
@@ -98,34 +99,41 @@ impl Failure {
         )
     }
 
-    /// The same failure, with the place in a query that is shown at a terminal.
-    pub fn with_pointer(self, pointer: Vec<u8>) -> Failure {
-        Failure {
-            pointer: Some(pointer),
-            ..self
-        }
-    }
-
-    /// The same failure, with the place in a query that it names.
-    pub fn pointing_at(self, alloc: Global, query: &str, refusal: Refusal) -> Failure {
-        let Some(pointer) = Pointer::new(query, refusal) else {
-            return self;
+    /// A refusal of an input of one table where a file has another one.
+    pub fn of_tables(
+        alloc: Global,
+        subject: &str,
+        found: &Schema,
+        of: &str,
+        wanted: &Schema,
+    ) -> Failure {
+        let sentence = Sentence {
+            refusal: CommandRefusal::from(Refusal::SchemaDiffers),
+            subject,
+            knowledge: Knowledge::Tables { found, wanted, of },
         };
-        match format!(in alloc; "{pointer}") {
-            Ok(text) => self.with_pointer(text.into_bytes()),
-            Err(_) => self,
-        }
+        Failure::new(alloc, sentence)
     }
 
-    /// The same failure, of which only a person at a terminal is told more than its line.
-    pub fn for_terminals(self) -> Failure {
+    /// A refusal of a text, which it may have a place in: that is shown at a terminal.
+    pub fn of_text(alloc: Global, refusal: Refusal, subject: &str, text: Text<'_>) -> Failure {
+        let sentence = Sentence {
+            refusal: CommandRefusal::from(refusal),
+            subject,
+            knowledge: Knowledge::Text(text),
+        };
+        let pointer = match Pointer::new(text.text, refusal) {
+            Some(pointer) => format!(in alloc; "{pointer}").ok(),
+            None => None,
+        };
         Failure {
-            is_for_terminals: true,
-            ..self
+            pointer,
+            ..Failure::new(alloc, sentence)
         }
     }
 
-    /// Tells the failure, and answers the status that it ends with.
+    /// Reports the failure, and answers the status that it ends with. Where standard error is no terminal the place in a text isn't
+    /// shown.
     pub fn report<R: Print + Eprint, N: Write>(
         &self,
         rt: &R,
@@ -134,48 +142,55 @@ impl Failure {
     ) -> ExitCode {
         let status = self.fault.report(rt);
         if let Some(text) = &self.sentence {
-            if is_terminal || !self.is_for_terminals {
-                let _ = notes.write_all(text.as_bytes());
-            }
+            let _ = notes.write_all(text.as_bytes());
         }
         if let Some(text) = &self.pointer {
             if is_terminal {
-                let _ = notes.write_all(text.as_slice());
+                let _ = notes.write_all(text.as_bytes());
             }
         }
         status
     }
 }
 
+/// Whether it is the text of a query or a condition that is refused, and not the file or the output.
+pub fn is_of_a_text(refusal: Refusal) -> bool {
+    matches!(
+        refusal,
+        Refusal::Syntax(_)
+            | Refusal::NoSuchTable
+            | Refusal::NoSuchColumn(_)
+            | Refusal::NotGrouped(_)
+            | Refusal::NumberTooLarge(_)
+            | Refusal::TooDeep
+    )
+}
+
 /// What is known of a file that can't be read.
 fn known_of_reading<R: Files>(rt: &R, name: &str) -> Knowledge<'static> {
     match fs::metadata(rt, name) {
-        Ok(found) if found.is_dir() => Knowledge::Folder,
-        Ok(_) => match fs::open(rt, name) {
-            Err(error) if error.kind() == ErrorKind::PermissionDenied => Knowledge::Forbidden,
-            _ => Knowledge::Nothing,
+        Ok(found) if found.is_dir() => Knowledge::Reason(ErrorKind::IsADirectory),
+        Ok(found) if found.is_file() => match fs::open(rt, name) {
+            Err(error) => Knowledge::Reason(error.kind()),
+            Ok(_) => Knowledge::Nothing,
         },
-        Err(error) => known_of(error.kind()),
+        Ok(_) => Knowledge::Nothing,
+        Err(error) if error.kind() == ErrorKind::NotFound && name.starts_with("--") => {
+            Knowledge::Advice(NO_OPTION)
+        }
+        Err(error) => Knowledge::Reason(error.kind()),
     }
 }
 
 /// What is known of a file that can't be written.
 fn known_of_writing<R: Files>(rt: &R, name: &str) -> Knowledge<'static> {
     match fs::metadata(rt, name) {
-        Ok(found) if found.is_dir() => Knowledge::Folder,
+        Ok(found) if found.is_dir() => Knowledge::Reason(ErrorKind::IsADirectory),
         Ok(_) => Knowledge::Nothing,
         Err(_) => match fs::metadata(rt, file_replacing::folder_of(name)) {
-            Ok(_) => Knowledge::Nothing,
-            Err(error) => known_of(error.kind()),
+            Ok(found) if found.is_dir() => Knowledge::Nothing,
+            Ok(_) => Knowledge::Reason(ErrorKind::NotADirectory),
+            Err(error) => Knowledge::Reason(error.kind()),
         },
-    }
-}
-
-/// What the kind of an error says.
-fn known_of(kind: ErrorKind) -> Knowledge<'static> {
-    match kind {
-        ErrorKind::NotFound => Knowledge::NoFile,
-        ErrorKind::PermissionDenied => Knowledge::Forbidden,
-        _ => Knowledge::Nothing,
     }
 }

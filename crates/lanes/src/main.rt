@@ -61,22 +61,41 @@ fn run<
             file,
             table,
             columns,
-        } => changing::create(rt, file, table, columns.as_slice())?,
+            is_quiet,
+        } => changing::create(rt, file, table, columns.as_slice(), is_quiet)?,
         Request::Import {
             file,
-            csv,
+            csvs,
             first,
             has_header,
-        } => changing::import(rt, file, csv, first, has_header)?,
-        Request::Delete { file, condition } => changing::delete(rt, file, condition)?,
-        Request::DeleteRows { file, first, last } => changing::delete_rows(rt, file, first, last)?,
-        Request::Apply { file, offers } => changing::apply(rt, file, offers.as_slice())?,
+            is_quiet,
+        } => changing::import(rt, file, csvs.as_slice(), first, has_header, is_quiet)?,
+        Request::Delete {
+            file,
+            condition,
+            is_quiet,
+        } => changing::delete(rt, file, condition, is_quiet)?,
+        Request::DeleteRows {
+            file,
+            first,
+            last,
+            is_quiet,
+        } => changing::delete_rows(rt, file, first, last, is_quiet)?,
+        Request::Apply {
+            file,
+            offers,
+            is_quiet,
+        } => changing::apply(rt, file, offers.as_slice(), is_quiet)?,
         Request::Dump { file, has_names } => reports::dump(rt, file, has_names)?,
         Request::Inspect { file } => reports::inspect(rt, file)?,
         Request::Summary { file } => reports::summary(rt, file, terminals.output)?,
         Request::Offer { file, summary } => reports::offer(rt, file, summary, terminals.output)?,
         Request::Check { file } => reports::check(rt, file)?,
-        Request::Merge { out, files } => merging::merge(rt, out, files.as_slice())?,
+        Request::Merge {
+            out,
+            files,
+            is_quiet,
+        } => merging::merge(rt, out, files.as_slice(), is_quiet)?,
     }
     Ok(ExitCode::SUCCESS)
 }

@@ -5,24 +5,27 @@ use crate::failure::Failure;
 use crate::inputs::{LazyFile, reader_of};
 use crate::output::Output;
 use refusal_sentences::CommandRefusal;
+use replica_files::file_schema;
 use std::fs::{self, File, Files};
 use std::io::{self, BufWriter, Write};
 use std::os::unix::fs::MetadataExt;
 use std::rt::Clock;
 use table_model::{Counted, Refusal};
 
-/// Writes the canonical file of what all of some files hold, of which there is at least one, and then `ok`. The files are judged
-/// in order. The one that is written is replaced whole, and where it is one of them it is held from the beginning.
+/// Writes the canonical file of what all of some files hold, of which there is at least one, and then `ok`, unless it is to be quiet
+/// or what is written is no regular file, since that may be standard output itself. The files are judged in order. The one that is written is replaced whole, and where it is one of them it is held from the beginning.
 pub fn merge<R: Print + Files<File = File> + Clock + AllocGlobal>(
     rt: &R,
     out: &str,
     names: &[&str],
+    is_quiet: bool,
 ) -> Result<(), Failure> {
     let mut readers = Vec::new(rt.alloc());
     for name in names {
         readers.push(reader_of(rt, *name))?;
     }
     let mut output = Output::new(rt, out);
+    let is_silent = is_quiet || output.is_special();
     if is_among(rt, out, names) {
         output.begin();
     }
@@ -31,11 +34,14 @@ pub fn merge<R: Print + Files<File = File> + Clock + AllocGlobal>(
         Err(refusal) => Err(output.abandon(refusal)),
     };
     if let Err(refusal) = outcome {
-        return Err(refused(rt, out, names, begun(readers), refusal).for_terminals());
+        return Err(refused(rt, out, names, begun(readers), refusal));
+    }
+    if is_silent {
+        return Ok(());
     }
     match Counted::new(io::writer(rt)).write_whole(b"ok\n") {
         Ok(()) => Ok(()),
-        Err(refusal) => Err(unwritten(rt.alloc(), refusal).for_terminals()),
+        Err(refusal) => Err(unwritten(rt.alloc(), refusal)),
     }
 }
 
@@ -97,6 +103,7 @@ fn refused<R: Files + AllocGlobal>(
         CommandRefusal::Busy | CommandRefusal::Named(Refusal::WriteFault) => {
             Failure::of_file(rt, refusal, out)
         }
+        CommandRefusal::Named(Refusal::SchemaDiffers) => of_other_table(rt, names, begun),
         CommandRefusal::Named(Refusal::Conflict(_) | Refusal::Memory) => {
             Failure::of(rt.alloc(), refusal)
         }
@@ -104,5 +111,19 @@ fn refused<R: Files + AllocGlobal>(
             Some(name) => Failure::of_file(rt, refusal, *name),
             None => Failure::of(rt.alloc(), refusal),
         },
+    }
+}
+
+/// A refusal of the last file that was begun, since its table is another one than that of the first.
+fn of_other_table<R: Files + AllocGlobal>(rt: &R, names: &[&str], begun: usize) -> Failure {
+    let refusal = Refusal::SchemaDiffers;
+    let (Some(first), Some(last)) = (names.first(), names.get(begun.saturating_sub(1))) else {
+        return Failure::from(refusal);
+    };
+    let wanted = file_schema(rt.alloc(), &mut reader_of(rt, *first));
+    let found = file_schema(rt.alloc(), &mut reader_of(rt, *last));
+    match (found, wanted) {
+        (Ok(found), Ok(wanted)) => Failure::of_tables(rt.alloc(), *last, &found, *first, &wanted),
+        _ => Failure::of_file(rt, CommandRefusal::from(refusal), *last),
     }
 }

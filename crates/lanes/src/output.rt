@@ -38,6 +38,11 @@ impl<'r, 'n, R: Files<File = File> + Clock + AllocGlobal> Output<'r, 'n, R> {
         }
     }
 
+    /// Whether it is no regular file, and so is written in place.
+    pub fn is_special(&self) -> bool {
+        is_special(self.rt, self.name)
+    }
+
     /// Opens or holds the file, where that wasn't done yet.
     pub fn begin(&mut self) {
         if matches!(self.state, State::Waiting) {

@@ -1,18 +1,22 @@
 //! Queries over a file: those of the command line, and those of lines of standard input.
 
 use crate::changing::unwritten;
-use crate::failure::{Failure, INPUT};
+use crate::failure::{Failure, INPUT, is_of_a_text};
 use crate::inputs::reader_of;
 use crate::query_lines::{Found, QueryLines};
 use crate::reports::{buffered, flushed, refused};
 use command_line::Format;
-use lanes_main::query_file_with_notes;
-use refusal_sentences::{CommandRefusal, Knowledge, Sentence};
+use lanes_main::query_file;
+use query_parser::{parse, resolve};
+use refusal_sentences::{CommandRefusal, Knowledge, Sentence, Text};
+use replica_files::file_schema;
 use replica_store::Store;
+use std::alloc::Global;
+use std::fmt;
 use std::fs::Files;
 use std::io::{self, Write};
-use std::str;
-use table_model::{Counted, Origin, Refusal};
+use std::str::{self, Utf8Error};
+use table_model::{Counted, Origin, Refusal, Schema};
 
 /// What a person at a terminal is asked with.
 const PROMPT: &str = "lanes> ";
@@ -36,16 +40,72 @@ fn answer_plainly<R: Print + Files + AllocGlobal>(
     file: &str,
     queries: &[&str],
 ) -> Result<(), Failure> {
-    let mut pointer = Vec::new(rt.alloc());
     let mut reader = reader_of(rt, file);
     let mut writer = Counted::new(io::writer(rt));
-    match query_file_with_notes(rt.alloc(), &mut reader, queries, &mut writer, &mut pointer) {
+    match query_file(rt.alloc(), &mut reader, queries, &mut writer) {
         Ok(()) => Ok(()),
-        Err(refusal) if is_of_a_query(refusal) => {
-            let failure = Failure::of(rt.alloc(), CommandRefusal::from(refusal));
-            Err(failure.with_pointer(pointer).for_terminals())
+        Err(refusal) if is_of_a_text(refusal) => Err(refused_among(rt, file, queries, refusal)),
+        Err(refusal) => Err(refused(rt, file, refusal)),
+    }
+}
+
+/// A refusal of one of the queries over a file: the first that is refused so. The file is read again for its table.
+fn refused_among<R: Files + AllocGlobal>(
+    rt: &R,
+    file: &str,
+    queries: &[&str],
+    refusal: Refusal,
+) -> Failure {
+    let Ok(schema) = file_schema(rt.alloc(), &mut reader_of(rt, file)) else {
+        return Failure::from(refusal);
+    };
+    for (index, query) in queries.iter().enumerate() {
+        if judged(rt.alloc(), query, &schema) == Err(refusal) {
+            return refused_query(
+                rt,
+                query,
+                place_among(index, queries.len()),
+                &schema,
+                refusal,
+            );
         }
-        Err(refusal) => Err(refused(rt, file, refusal).for_terminals()),
+    }
+    Failure::from(refusal)
+}
+
+/// What a query is refused as before anything is computed.
+fn judged(alloc: Global, query: &str, schema: &Schema) -> Result<(), Refusal> {
+    resolve(&parse(alloc, query)?, schema)
+}
+
+/// Where a query is among those of a command.
+#[derive(Clone, Copy)]
+enum Place {
+    /// It is the only one.
+    Alone,
+    /// Its number among the words, from 1.
+    Query(usize),
+    /// Its line of standard input, from 1.
+    Line(u64),
+}
+
+/// The place of a query of the command line, by its index.
+fn place_among(index: usize, count: usize) -> Place {
+    if count > 1 {
+        Place::Query(index.saturating_add(1))
+    } else {
+        Place::Alone
+    }
+}
+
+/// The place as the beginning of a sentence; nothing for a query alone.
+impl fmt::Display for Place {
+    fn fmt<W: fmt::Write>(&self, f: &mut fmt::Formatter<W>) -> fmt::Result {
+        match self {
+            Place::Alone => Ok(()),
+            Place::Query(number) => write!(f, "query {number}"),
+            Place::Line(number) => write!(f, "line {number}"),
+        }
     }
 }
 
@@ -56,13 +116,11 @@ fn answer_in_form<R: Print + Files + AllocGlobal>(
     queries: &[&str],
     format: Format,
 ) -> Result<(), Failure> {
-    let store = match opened(rt, file) {
-        Ok(store) => store,
-        Err(failure) => return Err(failure.for_terminals()),
-    };
-    for query in queries {
+    let store = opened(rt, file)?;
+    for (index, query) in queries.iter().enumerate() {
         if let Err(refusal) = answered(rt, &store, *query, format) {
-            return Err(refused_query(rt, *query, "", refusal).for_terminals());
+            let place = place_among(index, queries.len());
+            return Err(refused_query(rt, *query, place, store.schema(), refusal));
         }
     }
     Ok(())
@@ -132,21 +190,20 @@ fn answer_line<R: Print + AllocGlobal>(
     if line.is_empty() {
         return Ok(());
     }
-    let (query, outcome) = match str::from_utf8(line) {
-        Ok(query) => (query, answered(rt, store, query, format)),
-        Err(error) => ("", Err(Refusal::Syntax(error.valid_up_to() as u64))),
+    let query = match str::from_utf8(line) {
+        Ok(query) => query,
+        Err(error) => return Err(Stopped::Passed(not_utf8(rt.alloc(), number, &error))),
     };
-    match outcome {
+    match answered(rt, store, query, format) {
         Ok(()) => Ok(()),
         Err(Refusal::WriteFault) => Err(Stopped::Ended(unwritten(rt.alloc(), Refusal::WriteFault))),
-        Err(refusal) => {
-            let subject = format!(in rt.alloc(); "line {number}");
-            let subject = match &subject {
-                Ok(text) => text.as_str(),
-                Err(_) => "",
-            };
-            Err(Stopped::Passed(refused_query(rt, query, subject, refusal)))
-        }
+        Err(refusal) => Err(Stopped::Passed(refused_query(
+            rt,
+            query,
+            Place::Line(number),
+            store.schema(),
+            refusal,
+        ))),
     }
 }
 
@@ -180,16 +237,41 @@ fn opened<R: Files + AllocGlobal>(rt: &R, file: &str) -> Result<Store, Failure> 
     }
 }
 
+/// The refusal of a line that isn't UTF-8.
+fn not_utf8(alloc: Global, number: u64, error: &Utf8Error) -> Failure {
+    let refusal = Refusal::Syntax(error.valid_up_to() as u64);
+    let Ok(place) = Place::Line(number).to_string(alloc) else {
+        return Failure::from(refusal);
+    };
+    let sentence = Sentence {
+        refusal: CommandRefusal::from(refusal),
+        subject: place.as_str(),
+        knowledge: Knowledge::Advice("this is not UTF-8"),
+    };
+    Failure::new(alloc, sentence)
+}
+
 /// A refusal of a query, which is pointed at.
-fn refused_query<R: AllocGlobal>(rt: &R, query: &str, subject: &str, refusal: Refusal) -> Failure {
+fn refused_query<R: AllocGlobal>(
+    rt: &R,
+    query: &str,
+    place: Place,
+    schema: &Schema,
+    refusal: Refusal,
+) -> Failure {
     if refusal == Refusal::WriteFault {
         return unwritten(rt.alloc(), refusal);
     }
-    let sentence = Sentence {
-        subject,
-        ..Sentence::new(CommandRefusal::from(refusal))
+    let text = Text {
+        text: query,
+        is_condition: false,
+        schema: Some(schema),
     };
-    Failure::new(rt.alloc(), sentence).pointing_at(rt.alloc(), query, refusal)
+    let subject = match place.to_string(rt.alloc()) {
+        Ok(subject) => subject,
+        Err(_) => return Failure::from(refusal),
+    };
+    Failure::of_text(rt.alloc(), refusal, subject.as_str(), text)
 }
 
 /// A failed read of the lines of standard input.
@@ -199,17 +281,4 @@ fn unread_lines<R: AllocGlobal>(rt: &R, refusal: Refusal) -> Failure {
         ..Sentence::new(CommandRefusal::from(refusal))
     };
     Failure::new(rt.alloc(), sentence)
-}
-
-/// Whether it is a query that is refused, and not the file or the output.
-fn is_of_a_query(refusal: Refusal) -> bool {
-    matches!(
-        refusal,
-        Refusal::Syntax(_)
-            | Refusal::NoSuchTable
-            | Refusal::NoSuchColumn(_)
-            | Refusal::NotGrouped(_)
-            | Refusal::NumberTooLarge(_)
-            | Refusal::TooDeep
-    )
 }

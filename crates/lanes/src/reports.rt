@@ -2,7 +2,7 @@
 
 use crate::changing::unwritten;
 use crate::failure::Failure;
-use crate::inputs::{reader_of, source_of, unread};
+use crate::inputs::{name_of, reader_of, source_of, unread};
 use command_line::{Source, not_for_a_terminal};
 use lanes_main::check_file;
 use refusal_sentences::CommandRefusal;
@@ -25,7 +25,7 @@ pub fn check<R: Print + Files + AllocGlobal>(rt: &R, file: &str) -> Result<(), F
     let mut writer = Counted::new(io::writer(rt));
     match check_file(rt.alloc(), &mut reader_of(rt, file), &mut writer) {
         Ok(()) => Ok(()),
-        Err(refusal) => Err(refused(rt, file, refusal).for_terminals()),
+        Err(refusal) => Err(refused(rt, file, refusal)),
     }
 }
 
@@ -71,15 +71,20 @@ pub fn offer<R: Print + Input + Files + AllocGlobal>(
     if is_terminal {
         return Err(Failure::from(not_for_a_terminal(rt.alloc())));
     }
-    if let Err(refusal) = replica_files::file_schema(rt.alloc(), &mut reader_of(rt, file)) {
-        return Err(refused(rt, file, refusal));
-    }
+    let schema = match replica_files::file_schema(rt.alloc(), &mut reader_of(rt, file)) {
+        Ok(schema) => schema,
+        Err(refusal) => return Err(refused(rt, file, refusal)),
+    };
     let summary = match column_file::read_summary(rt.alloc(), &mut source_of(rt, source)) {
         Ok(summary) => summary,
         Err(refusal) => return Err(unread(rt, CommandRefusal::from(refusal), source)),
     };
     let mut writer = buffered(rt)?;
     let outcome = replica_files::offer(rt.alloc(), &mut reader_of(rt, file), &summary, &mut writer);
+    if outcome == Err(Refusal::SchemaDiffers) {
+        let name = name_of(source);
+        return Err(Failure::of_tables(rt.alloc(), name, summary.schema(), file, &schema));
+    }
     told(rt, file, outcome.and(flushed(writer)))
 }
 

@@ -35,7 +35,7 @@ pub fn run<R: Print + Input + Files + AllocGlobal, N: Write>(
     };
     match outcome {
         Ok(()) => Ok(()),
-        Err(Refusal::WriteFault) => Err(unwritten(rt.alloc(), Refusal::WriteFault).for_terminals()),
-        Err(refusal) => Err(unread(rt, CommandRefusal::from(refusal), source).for_terminals()),
+        Err(Refusal::WriteFault) => Err(unwritten(rt.alloc(), Refusal::WriteFault)),
+        Err(refusal) => Err(unread(rt, CommandRefusal::from(refusal), source)),
     }
 }

@@ -2,11 +2,18 @@
 #![tactic(auto)]
 
 mod command_refusal;
+mod csv_fault;
+mod meaning;
 mod pointer;
 mod quoted;
+mod reason;
 mod sentence;
+mod tables;
+mod text_fault;
 
 pub use command_refusal::CommandRefusal;
+pub use csv_fault::Fields;
 pub use pointer::Pointer;
 pub use quoted::{Printable, Quoted};
 pub use sentence::{Knowledge, Sentence};
+pub use text_fault::Text;

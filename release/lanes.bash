@@ -1,0 +1,34 @@
+# Completions of `lanes` for bash, made by release/manual from the help of the program.
+_lanes() {
+    local word=${COMP_WORDS[COMP_CWORD]} before=${COMP_WORDS[COMP_CWORD - 1]} options=
+    COMPREPLY=()
+    if [ "$COMP_CWORD" = 1 ]; then
+        mapfile -t COMPREPLY < <(compgen -W 'create import query delete delete-rows dump inspect summary offer apply check merge run help --help --version' -- "$word")
+        return
+    fi
+    case $before in
+        --batch) return ;;
+        --format) mapfile -t COMPREPLY < <(compgen -W 'text csv json table' -- "$word"); return ;;
+    esac
+    case ${COMP_WORDS[1]} in
+        create) options='--help' ;;
+        import) options='--batch --no-header --help' ;;
+        query) options='--format --help' ;;
+        delete) options='--help' ;;
+        delete-rows) options='--help' ;;
+        dump) options='--names --help' ;;
+        inspect) options='--help' ;;
+        summary) options='--help' ;;
+        offer) options='--help' ;;
+        apply) options='--help' ;;
+        check) options='--help' ;;
+        merge) options='--help' ;;
+        run) options='--explain --help' ;;
+    esac
+    if [[ $word == -* ]]; then
+        mapfile -t COMPREPLY < <(compgen -W "$options" -- "$word")
+    else
+        mapfile -t COMPREPLY < <(compgen -f -- "$word")
+    fi
+}
+complete -o filenames -F _lanes lanes
