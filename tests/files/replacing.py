@@ -137,7 +137,7 @@ def a_file_that_may_not_be_read_is_a_failed_read(room):
     how = as_nobody(room)
     room.ok("create", "t", "T", "A", "SMALLINT", **how)
     os.chmod(room.path("t"), 0)
-    room.refused("dump", "t", line="refused ReadFault", sentence="t: this may not be read", **how)
+    room.refused("dump", "t", line="refused ReadFault", sentence="t: permission denied: this may not be read", **how)
 
 
 def limited():

@@ -1,8 +1,9 @@
 //! The commands that change a file: it is read, then held, read again and replaced whole.
 
 use crate::change::{Change, Done};
-use crate::failure::{Failure, OUTPUT, is_of_a_text};
+use crate::failure::{Failure, is_of_a_text};
 use crate::inputs::{name_of, reader_of, source_of, unread};
+use crate::reports::write_line;
 use command_line::Source;
 use csv_rows::{CsvError, CsvReader};
 use file_replacing::{Held, hold};
@@ -383,19 +384,5 @@ fn refused_alone<R: Files + AllocGlobal>(rt: &R, file: &str, refusal: CommandRef
 /// Says what came of a change. Where that can't be written the file is changed all the same.
 fn say<R: Print + Files + AllocGlobal>(rt: &R, done: &Done) -> Result<(), Failure> {
     let line = format!(in rt.alloc(); "{done}\n")?;
-    match Counted::new(io::writer(rt)).write_whole(line.as_bytes()) {
-        Ok(()) => Ok(()),
-        Err(refusal) => Err(unwritten(rt.alloc(), refusal)),
-    }
-}
-
-/// A refusal of what goes to standard output.
-pub fn unwritten(alloc: Global, refusal: Refusal) -> Failure {
-    Failure::new(
-        alloc,
-        Sentence {
-            subject: OUTPUT,
-            ..Sentence::new(CommandRefusal::from(refusal))
-        },
-    )
+    write_line(rt, line.as_bytes())
 }

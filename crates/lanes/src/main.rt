@@ -11,6 +11,7 @@ mod queries;
 mod query_lines;
 mod reports;
 mod scripts;
+mod watched;
 
 use command_line::{Format, Queries, Request};
 use failure::Failure;
