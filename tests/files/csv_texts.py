@@ -146,7 +146,18 @@ def names_are_drawn_at_random(room):
     assert max(origins) > 2**28 and min(origins) >= 1
 
 
+def inspect_counts_all_vectors_of_a_batch(room):
+    """The first vector is 1,024 times 7: FOR at width 0, 7 bytes. The second ascends by 2: DELTA at width 0, 7 bytes and the first values of 64 lanes."""
+    room.ok("create", "t", "T", "A", "SMALLINT")
+    text = b"7\n" * 1024 + b"".join(b"%d\n" % value for value in range(0, 2048, 2))
+    room.ok("import", "--no-header", "--batch", "1.1", "t", "-", given=text)
+    bits = (7 + 7 + 64 * 2) * 8 / 2048
+    found = room.ok("inspect", "t").decode().splitlines()[-1].split()
+    assert found == ["A", "SMALLINT", "0", "2048", "0", "2046", "1", "1", "0", "0", f"{int(bits * 100) / 100:.2f}"], found
+
+
 TESTS = [
+    inspect_counts_all_vectors_of_a_batch,
     postgres_copy_with_a_header,
     postgres_copy_without_a_header,
     a_spreadsheet_with_a_mark_and_carriage_returns,

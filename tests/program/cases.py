@@ -27,6 +27,10 @@ SECOND_BATCH = file_of(b"T", batch(2, 1, 7))
 BOTH = file_of(b"T", batch(1, 1, 7), batch(2, 1, 7))
 THIRD_BATCH = file_of(b"T", batch(3, 1, 7))
 ALL_THREE = file_of(b"T", batch(1, 1, 7), batch(2, 1, 7), batch(3, 1, 7))
+EACH_OF_SIX = {f"b{origin}": file_of(b"T", batch(origin, 1, origin)) for origin in range(1, 7)}
+ALL_SIX = file_of(b"T", *(batch(origin, 1, origin) for origin in range(1, 7)))
+# Rows whose mean is -0.5: 0, as batch 1.1, and -1.
+MEAN = file_of(b"T", batch(1, 1, 0), batch(1, 2, 65_535))
 OTHER_TABLE = file_of(b"U", batch(1, 1, 7))
 
 # A folder d and the file in it.
@@ -114,6 +118,9 @@ CASES = [
     Case("the file that is written may be one that is merged", ["merge", "t", "t", "u"], 0, b"ok\n", files={"t": ONE_ROW, "u": SECOND_BATCH}, writes={"t": BOTH, "u": SECOND_BATCH}),
     Case("two files in either order are the same file", ["merge", "out", "u", "t"], 0, b"ok\n", files={"t": ONE_ROW, "u": SECOND_BATCH}, writes={"out": BOTH}),
     Case("of three files each is merged, the last too", ["merge", "out", "t", "u", "v"], 0, b"ok\n", files={"t": ONE_ROW, "u": SECOND_BATCH, "v": THIRD_BATCH}, writes={"out": ALL_THREE}),
+    Case("of six files each is merged", ["merge", "out", "b3", "b1", "b6", "b2", "b5", "b4"], 0, b"ok\n", files=EACH_OF_SIX, writes={"out": ALL_SIX}),
+    Case("a fault of the sixth is found", ["merge", "out", "b3", "b1", "b6", "b2", "b5", "b4"], 1, err=b"refused Truncated 41\nb4, byte 41: the bytes end too early\n", files={**EACH_OF_SIX, "b4": ONE_ROW[:41]}, writes={"out": None}),
+    Case("what is merged to standard output has nothing behind it", ["merge", "/dev/stdout", "t", "u"], 0, BOTH, files={"t": ONE_ROW, "u": SECOND_BATCH}),
     Case("of three queries each is answered, the last too", ["query", "t", "SELECT SUM(A) FROM T", "SELECT COUNT(*) FROM T", "SELECT MIN(A) N FROM T"], 0, b"SUM(A)\n7\nCOUNT(*)\n1\nN\n7\n", files={"t": ONE_ROW}),
     Case("a conflict is refused and leaves the file that is there", ["merge", "out", "t", "u"], 1, err=b"refused Conflict 1.1\nboth have a batch 1.1, with different rows\n", files={"t": ONE_ROW, "u": OTHER_ROW, "out": b"old"}, writes={"out": b"old"}),
     Case("another table is refused", ["merge", "out", "t", "u"], 1, err=b"refused SchemaDiffers\nu: this is of the table U (A SMALLINT), and t of T (A SMALLINT)\n", files={"t": ONE_ROW, "u": OTHER_TABLE}, writes={"out": None}),
@@ -178,17 +185,38 @@ CASES = [
     Case("but not where there are no rows", ["import", "--no-header", "--batch", "0.1", "t", "-"], 0, b"ok batches=0 new=0 rows=0\n", files={"t": ONE_ROW}, writes={"t": ONE_ROW}),
     Case("a field that is no number is refused with its place", ["import", "t", "v"], 1, err=b'refused BadCsv 3 1\nv, line 3, column A: "x" is not a whole number\n', files={"t": ONE_ROW, "v": b"A\n1\nx\n"}, writes={"t": ONE_ROW}),
     Case("the file is judged before the rows", ["import", "t", "v"], 1, err=b"refused Truncated 0\nt: this is empty: did the command before it fail?\n", files={"t": b"", "v": b"x"}),
-    Case("rows are deleted where a condition is true", ["delete", "t", "A = 7"], 0, b"ok 2\n", files={"t": BOTH}),
+    Case("rows are deleted for which a condition is true", ["delete", "t", "A = 7"], 0, b"ok 2\n", files={"t": BOTH}),
+    Case("a condition of a column that isn't there is refused with those that are", ["delete", "t", "B = 7"], 1, err=b'refused NoSuchColumn 0\nbyte 0: there is no column "B": the table has A\n', files={"t": BOTH}, writes={"t": BOTH}),
     Case("a condition that is true nowhere changes nothing", ["delete", "t", "A = 8"], 0, b"ok 0\n", files={"t": BOTH}, writes={"t": BOTH}),
     Case("a condition that is none is refused", ["delete", "t", "A ="], 1, err=b"refused Syntax 3\nbyte 3: the text ends too early; expected is a column or a whole number\n", files={"t": BOTH}, writes={"t": BOTH}),
     Case("rows are deleted by name", ["delete-rows", "t", "2.1", "0", "0"], 0, b"ok\n", files={"t": BOTH}),
     Case("a range that ends before it starts is refused", ["delete-rows", "t", "2.1", "1", "0"], 1, err=b"refused BadRange 0\nthe range ends before it starts\n", files={"t": BOTH}, writes={"t": BOTH}),
+    Case("an ordinal of more than five digits is a fault of the command line", ["delete-rows", "t", "2.1", "0", "000001"], 2, err=[b"FIRST and LAST are numbers of 1 to 5 digits"], files={"t": BOTH}, writes={"t": BOTH}),
     Case("an ordinal that is too great is a fault of the command line", ["delete-rows", "t", "2.1", "1", "65536"], 2, err=[b"FIRST and LAST are numbers"]),
     Case("rows are dumped", ["dump", "t"], 0, b"A\n7\n7\n", files={"t": BOTH}),
     Case("rows are dumped with their names", ["dump", "--names", "t"], 0, b"BATCH,ORDINAL,A\n1.1,0,7\n2.1,0,7\n", files={"t": BOTH}),
     Case("a query is answered as values", ["query", "--format", "csv", "t", "SELECT SUM(A),MIN(A) FROM T WHERE A = 1"], 0, b"SUM(A),MIN(A)\n,\n", files={"t": BOTH}),
     Case("a query is answered as objects", ["query", "--format", "json", "t", "SELECT A,COUNT(*) AS N,AVG(A) FROM T GROUP BY A"], 0, b'{"A":7,"N":2,"AVG(A)":7.000000}\n', files={"t": BOTH}),
     Case("a query is answered as a table", ["query", "--format", "table", "t", "SELECT A,SUM(A) FROM T GROUP BY A"], 0, b"A  SUM(A)\n-  ------\n7      14\n", files={"t": BOTH}),
+    *(
+        Case(f"of several queries each is answered as {form}", ["query", "--format", form, "t", "SELECT SUM(A) FROM T", "SELECT COUNT(*) AS N FROM T", "SELECT MAX(A) FROM T"], 0, wanted, files={"t": BOTH})
+        for form, wanted in {
+            "csv": b"SUM(A)\n14\nN\n2\nMAX(A)\n7\n",
+            "json": b'{"SUM(A)":14}\n{"N":2}\n{"MAX(A)":7}\n',
+            "table": b"SUM(A)\n------\n    14\nN\n-\n2\nMAX(A)\n------\n     7\n",
+        }.items()
+    ),
+    *(
+        Case(f"the first refusal ends them as {form} too", ["query", "--format", form, "t", "SELECT SUM(A) FROM T", "SELECT B FROM T", "SELECT COUNT(*) FROM T"], 1, wanted, b'refused NoSuchColumn 7\nquery 2, byte 7: there is no column "B": the table has A\n', files={"t": BOTH})
+        for form, wanted in {"csv": b"SUM(A)\n14\n", "json": b'{"SUM(A)":14}\n', "table": b"SUM(A)\n------\n    14\n"}.items()
+    ),
+    *(
+        Case(f"a mean of -0.5 has its sign as {form}", ["query", "--format", form, "t", "SELECT AVG(A) AS M FROM T"], 0, wanted, files={"t": MEAN})
+        for form, wanted in {"text": b"M\n-0.500000\n", "csv": b"M\n-0.500000\n", "json": b'{"M":-0.500000}\n', "table": b"        M\n---------\n-0.500000\n"}.items()
+    ),
+    Case("an option behind the first query is a fault of the command line", ["query", "t", "SELECT SUM(A) FROM T", "--format", "json"], 2, err=[b"options stand before FILE", b"Usage: lanes query [OPTIONS] <FILE> <SQL>..."], files={"t": BOTH}),
+    Case("the first query is taken as it is", ["query", "t", "--format"], 1, err=b"refused Syntax 0\nbyte 0: there are no comments\n", files={"t": BOTH}),
+    Case("a file that isn't there and is named like an option is said to be none", ["check", "--quick"], 1, err=b"refused ReadFault\n--quick: no such file or folder: options stand before FILE, and this command has none of this name\n"),
     Case("another form is a fault of the command line", ["query", "--format", "xml", "t", "SELECT A FROM T"], 2, err=[b"FORMAT is text, csv, json or table"]),
     Case("lines of standard input are queries", ["query", "t", "-"], 0, b"SUM(A)\n14\nCOUNT(*)\n2\n", input=b"SELECT SUM(A) FROM T\n\nSELECT COUNT(*) FROM T", files={"t": BOTH}),
     Case(
@@ -205,6 +233,17 @@ CASES = [
     Case("a file is an offer of itself", ["apply", "t", "u"], 0, b"ok batches=2 ranges=0\n", files={"t": ONE_ROW, "u": SECOND_BATCH}, writes={"t": BOTH}),
     Case("offers are applied all or not at all", ["apply", "t", "u", "v"], 1, err=b"refused Conflict 1.1\nboth have a batch 1.1, with different rows\n", files={"t": ONE_ROW, "u": SECOND_BATCH, "v": OTHER_ROW}, writes={"t": ONE_ROW}),
     Case("an offer of another table is refused", ["apply", "t", "u"], 1, err=b"refused SchemaDiffers\nu: this is of the table U (A SMALLINT), and t of T (A SMALLINT)\n", files={"t": ONE_ROW, "u": OTHER_TABLE}, writes={"t": ONE_ROW}),
+    Case("an offer that is empty is said to be", ["apply", "t", "-"], 1, err=b"refused Truncated 0\nstandard input: this is empty: did the command before it fail?\n", files={"t": ONE_ROW}, writes={"t": ONE_ROW}),
+    Case("of several offers the one of another table is named", ["apply", "t", "u", "v"], 1, err=b"refused SchemaDiffers\nv: this is of the table U (A SMALLINT), and t of T (A SMALLINT)\n", files={"t": ONE_ROW, "u": SECOND_BATCH, "v": OTHER_TABLE}, writes={"t": ONE_ROW}),
+    *(
+        Case(f"{words[0]} prints nothing if it is to be quiet", [words[0], "--quiet", *words[1:]], 0, b"", files={"t": ONE_ROW, "u": SECOND_BATCH, "rows": b"A\n7\n"})
+        for words in (["create", "new", "T", "A", "SMALLINT"], ["import", "t", "rows"], ["delete", "t", "A = 7"], ["delete-rows", "t", "1.1", "0", "0"], ["apply", "t", "u"], ["merge", "out", "t", "u"])
+    ),
+    Case("a refusal is said though it is to be quiet", ["import", "--quiet", "--no-header", "t", "-"], 1, err=b'refused BadCsv 1 1\nstandard input, line 1, column A: "x" is not a whole number\n', input=b"x\n", files={"t": ONE_ROW}, writes={"t": ONE_ROW}),
+    Case("several texts are imported under names that count on", ["import", "--batch", "2.1", "t", "rows", "-"], 0, b"ok batches=2 new=2 rows=2 first=2.1\n", input=b"A\n8\n", files={"t": ONE_ROW, "rows": b"A\n7\n"}, writes={"t": file_of(b"T", batch(1, 1, 7), batch(2, 1, 7), batch(2, 2, 8))}),
+    Case("of several texts all are imported or none", ["import", "t", "rows", "bad", "worse"], 1, err=b'refused BadCsv 2 1\nbad, line 2, column A: "x" is not a whole number\n', files={"t": ONE_ROW, "rows": b"A\n7\n", "bad": b"A\nx\n", "worse": b""}, writes={"t": ONE_ROW}),
+    Case("an option behind the first text is a fault of the command line", ["import", "t", "rows", "--batch", "1.1"], 2, err=[b"options stand before FILE"], files={"t": ONE_ROW, "rows": b"A\n7\n"}, writes={"t": ONE_ROW}),
+    Case("one text alone may be standard input", ["import", "t", "-", "-"], 2, err=[b"only one CSV can be -"], files={"t": ONE_ROW}),
     Case("one offer alone may be standard input", ["apply", "t", "-", "-"], 2, err=[b"only one OFFER can be -"]),
     Case("a summary isn't written to a terminal", ["summary", "t"], 2, err=[b"standard output is a terminal"], files={"t": ONE_ROW}, output_to="terminal"),
     Case("nor is an offer", ["offer", "t", "-"], 2, err=[b"standard output is a terminal"], files={"t": ONE_ROW}, output_to="terminal"),
