@@ -24,7 +24,7 @@ fn asked(alloc: Global, words: &[&str]) -> Result<String, AllocError> {
     }
 }
 
-const REQUESTS: [(&[&str], &str); 42] = [
+const REQUESTS: [(&[&str], &str); 44] = [
     (&["run"], "Run { source: Input, is_explained: false }"),
     (&["run", "-"], "Run { source: Input, is_explained: false }"),
     (
@@ -129,7 +129,15 @@ const REQUESTS: [(&[&str], &str); 42] = [
         &["dump", "--names", "f"],
         "Dump { file: \"f\", has_names: true }",
     ),
-    (&["inspect", "f"], "Inspect { file: \"f\" }"),
+    (
+        &["inspect", "f"],
+        "Inspect { file: \"f\", has_batches: false, form: Text }",
+    ),
+    (
+        &["inspect", "--batches", "--format", "json", "f"],
+        "Inspect { file: \"f\", has_batches: true, form: Json }",
+    ),
+    (&["inspect", "--format", "csv", "f"], "fault"),
     (&["summary", "f"], "Summary { file: \"f\" }"),
     (
         &["offer", "f", "-"],

@@ -3,9 +3,10 @@
 use crate::failure::Failure;
 use crate::inputs::{name_of, reader_of, source_of, unread};
 use crate::watched::{Cause, Watched};
-use command_line::{Source, not_for_a_terminal};
+use command_line::{ReportForm, Source, not_for_a_terminal};
 use lanes_main::check_file;
 use refusal_sentences::CommandRefusal;
+use replica_files::list_batches;
 use std::fs::Files;
 use std::io::{self, BufWriter, Printer, Write};
 use table_model::{Counted, Refusal};
@@ -38,10 +39,24 @@ pub fn dump<R: Print + Files + AllocGlobal>(
     told(rt, file, flushed(writer, outcome))
 }
 
-/// Writes what a file holds, and how its columns are coded.
-pub fn inspect<R: Print + Files + AllocGlobal>(rt: &R, file: &str) -> Result<(), Failure> {
+/// Writes what a file holds and how its columns are coded, or a list of its batches.
+pub fn inspect<R: Print + Files + AllocGlobal>(
+    rt: &R,
+    file: &str,
+    has_batches: bool,
+    form: ReportForm,
+) -> Result<(), Failure> {
+    let form = match form {
+        ReportForm::Text => replica_files::ReportForm::Text,
+        ReportForm::Json => replica_files::ReportForm::Json,
+    };
+    let mut reader = reader_of(rt, file);
     let mut writer = buffered(rt)?;
-    let outcome = replica_files::inspect(rt.alloc(), &mut reader_of(rt, file), &mut writer);
+    let outcome = if has_batches {
+        list_batches(rt.alloc(), &mut reader, form, &mut writer)
+    } else {
+        replica_files::inspect(rt.alloc(), &mut reader, form, &mut writer)
+    };
     told(rt, file, flushed(writer, outcome))
 }
 
