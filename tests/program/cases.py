@@ -32,6 +32,9 @@ ALL_SIX = file_of(b"T", *(batch(origin, 1, origin) for origin in range(1, 7)))
 # Rows whose mean is -0.5: 0, as batch 1.1, and -1.
 MEAN = file_of(b"T", batch(1, 1, 0), batch(1, 2, 65_535))
 OTHER_TABLE = file_of(b"U", batch(1, 1, 7))
+# All three, with deletions: of a batch that isn't held, of 2.1 past its only row, and of rows behind that of 3.1.
+RANGES = [(1, 7, 0, 65_535), (2, 1, 0, 9), (3, 1, 1, 9)]
+DELETED = ALL_THREE[:-8] + len(RANGES).to_bytes(8, "little") + b"".join(origin.to_bytes(4, "little") + number.to_bytes(4, "little") + first.to_bytes(2, "little") + last.to_bytes(2, "little") for origin, number, first, last in RANGES)
 
 # A folder d and the file in it.
 FOLDER = {"d/kept": b"old"}
@@ -195,6 +198,18 @@ CASES = [
     Case("an ordinal that is too great is a fault of the command line", ["delete-rows", "t", "2.1", "1", "65536"], 2, err=[b"FIRST and LAST are numbers"]),
     Case("rows are dumped", ["dump", "t"], 0, b"A\n7\n7\n", files={"t": BOTH}),
     Case("rows are dumped with their names", ["dump", "--names", "t"], 0, b"BATCH,ORDINAL,A\n1.1,0,7\n2.1,0,7\n", files={"t": BOTH}),
+    Case(
+        "a file is inspected as an object",
+        ["inspect", "--format", "json", "t"],
+        0,
+        b'{"table":"T","batches":2,"rows":2,"live":2,"ranges":0,"bytes":59,"columns":[{"column":"A","type":"SMALLINT","nulls":0,"values":2,"least":7,"greatest":7,"for":2,"delta":0,"rle":0,"dict":0,"bits":56.00}]}\n',
+        files={"t": BOTH},
+    ),
+    Case("what an empty file does not have is null", ["inspect", "--format", "json", "t"], 0, [b'"least":null,"greatest":null', b'"bits":null}]}\n'], files={"t": file_of(b"T")}),
+    Case("its batches are listed with their rows and their live rows", ["inspect", "--batches", "t"], 0, b"BATCH,ROWS,LIVE\n1.1,1,1\n2.1,1,0\n3.1,1,1\n", files={"t": DELETED}),
+    Case("and as objects", ["inspect", "--batches", "--format", "json", "t"], 0, b'{"batch":"1.1","rows":1,"live":1}\n{"batch":"2.1","rows":1,"live":0}\n{"batch":"3.1","rows":1,"live":1}\n', files={"t": DELETED}),
+    Case("an empty file has no batches", ["inspect", "--batches", "t"], 0, b"BATCH,ROWS,LIVE\n", files={"t": file_of(b"T")}),
+    Case("another form of a report is a fault of the command line", ["inspect", "--format", "csv", "t"], 2, err=[b"FORMAT is text or json"], files={"t": BOTH}),
     Case("a query is answered as values", ["query", "--format", "csv", "t", "SELECT SUM(A),MIN(A) FROM T WHERE A = 1"], 0, b"SUM(A),MIN(A)\n,\n", files={"t": BOTH}),
     Case("a query is answered as objects", ["query", "--format", "json", "t", "SELECT A,COUNT(*) AS N,AVG(A) FROM T GROUP BY A"], 0, b'{"A":7,"N":2,"AVG(A)":7.000000}\n', files={"t": BOTH}),
     Case("a query is answered as a table", ["query", "--format", "table", "t", "SELECT A,SUM(A) FROM T GROUP BY A"], 0, b"A  SUM(A)\n-  ------\n7      14\n", files={"t": BOTH}),
@@ -230,7 +245,8 @@ CASES = [
     ),
     Case("on a terminal lines are asked for", ["query", "t", "-"], 0, b"COUNT(*)\n2\n", b"lanes> lanes> ", input=b"SELECT COUNT(*) FROM T\n", files={"t": BOTH}, input_from="terminal"),
     Case("lines that are queries stand alone", ["query", "t", "-", "SELECT A FROM T"], 2, err=[b"SQL that is - is the only SQL"]),
-    Case("a file is an offer of itself", ["apply", "t", "u"], 0, b"ok batches=2 ranges=0\n", files={"t": ONE_ROW, "u": SECOND_BATCH}, writes={"t": BOTH}),
+    Case("a file is an offer of itself", ["apply", "t", "u"], 0, b"ok batches=2 ranges=0 new=1\n", files={"t": ONE_ROW, "u": SECOND_BATCH}, writes={"t": BOTH}),
+    Case("of several offers the new batches are counted once", ["apply", "t", "u", "v", "u", "t"], 0, b"ok batches=3 ranges=0 new=2\n", files={"t": ONE_ROW, "u": BOTH, "v": ALL_THREE}, writes={"t": ALL_THREE}),
     Case("offers are applied all or not at all", ["apply", "t", "u", "v"], 1, err=b"refused Conflict 1.1\nboth have a batch 1.1, with different rows\n", files={"t": ONE_ROW, "u": SECOND_BATCH, "v": OTHER_ROW}, writes={"t": ONE_ROW}),
     Case("an offer of another table is refused", ["apply", "t", "u"], 1, err=b"refused SchemaDiffers\nu: this is of the table U (A SMALLINT), and t of T (A SMALLINT)\n", files={"t": ONE_ROW, "u": OTHER_TABLE}, writes={"t": ONE_ROW}),
     Case("an offer that is empty is said to be", ["apply", "t", "-"], 1, err=b"refused Truncated 0\nstandard input: this is empty: did the command before it fail?\n", files={"t": ONE_ROW}, writes={"t": ONE_ROW}),
