@@ -3,6 +3,7 @@
 use crate::change::{Change, Done};
 use crate::failure::{Failure, is_of_a_text};
 use crate::inputs::{name_of, reader_of, source_of, unread};
+use crate::names::fault_of_names;
 use crate::reports::write_line;
 use command_line::Source;
 use csv_rows::{CsvError, CsvReader};
@@ -251,6 +252,8 @@ fn known_of_field<'a>(
 enum About<'a> {
     /// Nothing.
     Nothing,
+    /// It has a name that is none, as this sentence says.
+    Names(&'a str),
     /// It is for the rows for which this condition is true.
     Condition(Text<'a>),
     /// This input of it is of another table than the file.
@@ -362,6 +365,14 @@ fn refused<R: Files + AllocGlobal>(
                 wanted,
             },
         ) => Failure::of_tables(rt.alloc(), name, found, file, wanted),
+        (CommandRefusal::Named(Refusal::BadSchema), About::Names(words)) => {
+            let knowledge = Knowledge::Advice(words);
+            let sentence = Sentence {
+                knowledge,
+                ..Sentence::new(refusal)
+            };
+            Failure::new(rt.alloc(), sentence)
+        }
         _ => refused_alone(rt, file, refusal),
     }
 }

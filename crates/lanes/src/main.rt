@@ -6,6 +6,7 @@ mod changing;
 mod failure;
 mod inputs;
 mod merging;
+mod names;
 mod output;
 mod queries;
 mod query_lines;
