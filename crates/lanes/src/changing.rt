@@ -32,13 +32,12 @@ pub fn create<R: Print + Files<File = File> + Clock + AllocGlobal>(
     if is_there(rt, file) {
         return Err(Failure::of_file(rt, CommandRefusal::Exists, file));
     }
-    change(
-        rt,
-        file,
-        Change::Create { table, columns },
-        About::Nothing,
-        is_quiet,
-    )
+    let words = fault_of_names(rt.alloc(), table, columns)?;
+    let about = match &words {
+        Some(words) => About::Names(words.as_str()),
+        None => About::Nothing,
+    };
+    change(rt, file, Change::Create { table, columns }, about, is_quiet)
 }
 
 /// Inserts the rows of comma-separated values, of one text after another: all, or none.
