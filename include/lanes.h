@@ -176,7 +176,7 @@ uint8_t lanes_merge(const uint8_t *one, size_t one_length, const uint8_t *other,
  * number has no name. It is written where it fits. No name has more than 32 bytes. */
 size_t lanes_refusal(uint8_t number, uint8_t *out, size_t room);
 
-/* Gives a sentence for a refusal's number and place, as "byte 7: what stands here is not what the language has here", without a byte 0 at
+/* Gives a sentence for a refusal's number and place, as "byte 7: syntax error here", without a byte 0 at
  * its end, and answers how many bytes it has: 0 where the number has no sentence, or memory lacks. It is written where it fits. No sentence
  * has more than 256 bytes. */
 size_t lanes_sentence(uint8_t number, const lanes_place *place, uint8_t *out, size_t room);

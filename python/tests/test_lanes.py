@@ -54,8 +54,8 @@ class Queries(unittest.TestCase):
             counts(FIRST).query("SELECT VISITS FROM COUNTS")
         refused = caught.exception
         self.assertEqual((refused.number, refused.name, refused.place), (28, "NoSuchColumn", (7,)))
-        self.assertEqual(refused.sentence, "byte 7: the table has no such column")
-        self.assertEqual(str(refused), "NoSuchColumn 7: byte 7: the table has no such column")
+        self.assertEqual(refused.sentence, "byte 7: unknown column")
+        self.assertEqual(str(refused), "NoSuchColumn 7: byte 7: unknown column")
 
     def test_a_query_of_other_letters_is_refused_at_its_byte(self) -> None:
         with self.assertRaises(Refused) as caught:

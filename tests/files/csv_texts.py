@@ -98,18 +98,20 @@ FAULTS = (
     (b'A,B\n"1.0",2\n', [], "BadCsv 2 1", 'visits.csv, line 2, column A: ""1.0"" is not a whole number'),
     (b"A,B\n\x1b[2J\xff,2\n", [], "BadCsv 2 1", 'visits.csv, line 2, column A: "\\x1B[2J\\xFF" is not a whole number'),
     (b"A,B\n" + b"7" * 50 + b",2\n", [], "BadCsv 2 1", 'visits.csv, line 2, column A: "' + "7" * 40 + '" is not a whole number'),
-    (b"A,B\n1\n", [], "BadCsv 2 0", "visits.csv, line 2: the line has not one field for each column"),
-    (b"A,B\n1,2,3\n", [], "BadCsv 2 0", None),
-    (b"", [], "BadCsv 1 0", None),
-    (b"\nA,B\n", [], "BadCsv 1 0", None),
-    (b"A,C\n", [], "BadCsv 1 2", 'visits.csv, line 1, field 2: "C" is no column\'s name, or names one for the second time'),
-    (b"A,a\n", [], "BadCsv 1 2", None),
+    (b"A,B\n1\n", [], "BadCsv 2 0", "visits.csv, line 2: the line has 1 field, and the table has 2 columns"),
+    (b"A,B\n1,2,3\n", [], "BadCsv 2 0", "visits.csv, line 2: the line has 3 fields, and the table has 2 columns"),
+    (b"A;B\n1;2\n", [], "BadCsv 1 0", "visits.csv, line 1: the line has 1 field, and the table has 2 columns; semicolons seem to separate its fields"),
+    (b"\xff\xfeA\0", [], "BadCsv 1 0", "visits.csv, line 1: this is UTF-16: save it as UTF-8"),
+    (b"", [], "BadCsv 1 0", "visits.csv, line 1: the header is missing: did the command before it fail?"),
+    (b"\nA,B\n", [], "BadCsv 1 0", "visits.csv, line 1: the header is missing: did the command before it fail?"),
+    (b"A,C\n", [], "BadCsv 1 2", 'visits.csv, line 1, field 2: "C" is not a column of the table, which has A, B'),
+    (b"A,a\n", [], "BadCsv 1 2", 'visits.csv, line 1, field 2: "a" is there for the second time'),
     (b"1,2\n+5,2\n", ["--no-header"], "BadCsv 2 1", None),
     (b"1,2\n1, 5\n", ["--no-header"], "BadCsv 2 2", None),
     (b"1,2\nnull,5\n", ["--no-header"], "BadCsv 2 1", None),
     (b'1,2\n"",5\n', ["--no-header"], "BadCsv 2 1", None),
     (b"1,2\n1e3,5\n", ["--no-header"], "BadCsv 2 1", None),
-    (b"1,2\n" + b"1" * 1_048_577 + b"\n", ["--no-header"], "LineTooLong", "visits.csv, line 2: a line has more than 1,048,576 bytes"),
+    (b"1,2\n" + b"1" * 1_048_577 + b"\n", ["--no-header"], "LineTooLong", "visits.csv, line 2: the line has more than 1,048,576 bytes"),
 )
 
 
@@ -144,7 +146,18 @@ def names_are_drawn_at_random(room):
     assert max(origins) > 2**28 and min(origins) >= 1
 
 
+def inspect_counts_all_vectors_of_a_batch(room):
+    """The first vector is 1,024 times 7: FOR at width 0, 7 bytes. The second ascends by 2: DELTA at width 0, 7 bytes and the first values of 64 lanes."""
+    room.ok("create", "t", "T", "A", "SMALLINT")
+    text = b"7\n" * 1024 + b"".join(b"%d\n" % value for value in range(0, 2048, 2))
+    room.ok("import", "--no-header", "--batch", "1.1", "t", "-", given=text)
+    bits = (7 + 7 + 64 * 2) * 8 / 2048
+    found = room.ok("inspect", "t").decode().splitlines()[-1].split()
+    assert found == ["A", "SMALLINT", "0", "2048", "0", "2046", "1", "1", "0", "0", f"{int(bits * 100) / 100:.2f}"], found
+
+
 TESTS = [
+    inspect_counts_all_vectors_of_a_batch,
     postgres_copy_with_a_header,
     postgres_copy_without_a_header,
     a_spreadsheet_with_a_mark_and_carriage_returns,

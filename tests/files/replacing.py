@@ -32,7 +32,7 @@ def a_change_that_changes_nothing_leaves_the_file_and_no_lock(room):
     room.ok("delete", "t", "A = 7", prints=b"ok 0\n")
     room.ok("import", "--no-header", "--batch", "1.1", "t", "-", given=b"1,10\n2,20\n,30\n", prints=b"ok batches=1 new=0 rows=3 first=1.1\n")
     room.ok("import", "--no-header", "--batch", "0.0", "t", "-", prints=b"ok batches=0 new=0 rows=0\n")
-    room.ok("apply", "t", "t", prints=b"ok batches=1 ranges=0\n")
+    room.ok("apply", "t", "t", prints=b"ok batches=1 ranges=0 new=0\n")
     room.ok("delete-rows", "t", "5.5", "1", "2", prints=b"ok\n")
     changed = os.stat(room.path("t"))
     room.ok("delete-rows", "t", "5.5", "1", "2", prints=b"ok\n")
@@ -137,7 +137,7 @@ def a_file_that_may_not_be_read_is_a_failed_read(room):
     how = as_nobody(room)
     room.ok("create", "t", "T", "A", "SMALLINT", **how)
     os.chmod(room.path("t"), 0)
-    room.refused("dump", "t", line="refused ReadFault", sentence="t: this may not be read", **how)
+    room.refused("dump", "t", line="refused ReadFault", sentence="t: permission denied: this may not be read", **how)
 
 
 def limited():

@@ -97,6 +97,18 @@ def ranges_of(count):
     return count.to_bytes(8, "little") + b"".join((9).to_bytes(4, "little") + (9).to_bytes(4, "little") + 2 * (2 * place).to_bytes(2, "little") for place in range(count))
 
 
+def query_line(length):
+    """A query of so many bytes: white space in it is as long as is needed."""
+    return b"SELECT COUNT(*)" + b" " * (length - 21) + b"FROM T"
+
+
+def lines_of_queries(name, *lengths, refused=None):
+    """Queries of these lengths as lines of standard input, of which one may be too long."""
+    kept = [length for length in lengths if length != refused]
+    told = b"".join(b"refused LineTooLong\nline %d: the line has more than 1,048,576 bytes\n" % (lengths.index(length) + 1) for length in lengths if length == refused)
+    return Case(name, ["query", "t", "-"], 1 if refused else 0, b"COUNT(*)\n1\n" * len(kept), told, b"".join(query_line(length) + b"\n" for length in lengths), files={"t": SECOND_BATCH})
+
+
 FULL_FILE = file_of(b"T", *(batch(1, number, 7) for number in range(1, BATCHES + 1)))[:-8] + ranges_of(10_000)
 NO_BATCHES = file_of(b"T")
 
@@ -109,11 +121,14 @@ LIMIT_CASES = [
     many_groups(),
     long_where("a megabyte of OR is answered", "OR", 7, 2),
     long_where("a megabyte of AND is answered", "AND", 8, 0),
+    lines_of_queries("a query of exactly 1,048,576 bytes is answered, and one more byte is too long", LINE - 1, LINE, LINE + 1, 40, refused=LINE + 1),
+    # What is read at once is 65,536 bytes: the lines end before, at and behind its end, and at the end of the second.
+    lines_of_queries("queries whose lines lie across what is read at once are answered", 65_530, 40, 30, 65_436, 65_535, 65_536, 65_537, 200_000, 40),
     Case("a file of 1,048,576 batches and 10,000 ranges is checked", ["check", "t"], 0, b"ok batches=1048576 ranges=10000\n", files={"t": FULL_FILE}),
     Case("it is merged with itself to the same bytes", ["merge", "out", "t", "t"], 0, b"ok\n", files={"t": FULL_FILE}, writes={"out": FULL_FILE}),
     Case("it is queried", ["query", "t", "SELECT COUNT(*),SUM(A) FROM T"], 0, f"COUNT(*),SUM(A)\n{BATCHES},{7 * BATCHES}\n".encode(), files={"t": FULL_FILE}),
-    Case("one batch more is refused in a full file", ["merge", "out", "t", "u"], 1, err=b"refused Full\n", files={"t": FULL_FILE, "u": SECOND_BATCH}, writes={"out": None}),
-    Case("a file that claims a batch too many is refused", ["check", "t"], 1, err=b"refused BadCount 13\n", files={"t": NO_BATCHES[:13] + (BATCHES + 1).to_bytes(4, "little") + NO_BATCHES[17:]}),
-    Case("a file that claims batches that aren't there is cut short", ["check", "t"], 1, err=b"refused Truncated 17\n", files={"t": NO_BATCHES[:13] + BATCHES.to_bytes(4, "little")}),
-    Case("a file that claims ranges that aren't there is cut short", ["check", "t"], 1, err=b"refused Truncated 25\n", files={"t": NO_BATCHES[:17] + bytes([255] * 8)}),
+    Case("one batch more is refused in a full file", ["merge", "out", "t", "u"], 1, err=b"refused Full\nu: there is no room: a replica holds at most 1,048,576 batches, a script 65,536 messages\n", files={"t": FULL_FILE, "u": SECOND_BATCH}, writes={"out": None}),
+    Case("a file that claims a batch too many is refused", ["check", "t"], 1, err=b"refused BadCount 13\nt, byte 13: the count is out of range\n", files={"t": NO_BATCHES[:13] + (BATCHES + 1).to_bytes(4, "little") + NO_BATCHES[17:]}),
+    Case("a file that claims batches that aren't there is cut short", ["check", "t"], 1, err=b"refused Truncated 17\nt, byte 17: the bytes end too early\n", files={"t": NO_BATCHES[:13] + BATCHES.to_bytes(4, "little")}),
+    Case("a file that claims ranges that aren't there is cut short", ["check", "t"], 1, err=b"refused Truncated 25\nt, byte 25: the bytes end too early\n", files={"t": NO_BATCHES[:17] + bytes([255] * 8)}),
 ]

@@ -8,7 +8,7 @@ from files import BITS, Schema, State, file_bytes
 from answers import names_where, table_of
 from query_text import Fault, read_condition, read_query
 from scripts import NAMES, Maker
-from texts import MARK, dumped, in_form, inspected, read_rows
+from texts import MARK, batches_of, dumped, in_form, inspected, inspected_as_json, read_rows
 
 STRAY = ["+5", "1.0", "1e3", " 5", "5 ", "null", '""', '"5', '5"', "--1", "-", "9" * 31, '"1"2', "\\n", "x", "7\t", "\u00e9", '"NULL', "\\N\\N", "0x1"]
 FORMS = ("text", "csv", "json", "table")
@@ -146,7 +146,12 @@ class Site(Maker):
     # ---- what is read out
     def read_out(self):
         has_names = self.pick.random() < 0.5
-        return self.compared(["dump", *["--names"] * has_names, "t"], dumped(self.schema, self.state, has_names)) or self.compared(["inspect", "t"], inspected(self.schema, self.state))
+        return (
+            self.compared(["dump", *["--names"] * has_names, "t"], dumped(self.schema, self.state, has_names))
+            or self.compared(["inspect", "t"], inspected(self.schema, self.state))
+            or self.compared(["inspect", "--format", "json", "t"], inspected_as_json(self.schema, self.state))
+            or self.compared(["inspect", "--batches", "t"], batches_of(self.state))
+        )
 
     def ask(self):
         text = self.query().removeprefix("query  ")

@@ -122,10 +122,39 @@ def column_line(schema, state, column, stored):
     return [name, kind, str(len(cells) - len(values)), str(len(values)), least, greatest, *(str(codings.count(it)) for it in range(4)), bits]
 
 
+def counts_of(schema, state):
+    stored = sum(map(len, state.batches.values()))
+    return (("batches", len(state.batches)), ("rows", stored), ("live", len(state.live_rows())), ("ranges", len(state.ranges())), ("bytes", len(file_bytes(schema, state))))
+
+
+def lines_of_columns(schema, state):
+    stored = sum(map(len, state.batches.values()))
+    return [column_line(schema, state, column, stored) for column in range(len(schema.columns))]
+
+
+HEADINGS = ["COLUMN", "TYPE", "NULLS", "VALUES", "LEAST", "GREATEST", *CODINGS, "BITS"]
+
+
 def inspected(schema, state):
     """What `inspect` writes of a file."""
-    stored = sum(map(len, state.batches.values()))
-    counts = (("batches", len(state.batches)), ("rows", stored), ("live", len(state.live_rows())), ("ranges", len(state.ranges())), ("bytes", len(file_bytes(schema, state))))
-    head = "".join(f"{name} {count}\n" for name, count in counts)
-    lines = [column_line(schema, state, column, stored) for column in range(len(schema.columns))]
-    return f"table {schema.table}\n{head}\n" + aligned([["COLUMN", "TYPE", "NULLS", "VALUES", "LEAST", "GREATEST", *CODINGS, "BITS"], *lines])
+    head = "".join(f"{name} {count}\n" for name, count in counts_of(schema, state))
+    return f"table {schema.table}\n{head}\n" + aligned([HEADINGS, *lines_of_columns(schema, state)])
+
+
+def inspected_as_json(schema, state):
+    """What `inspect --format json` writes of a file."""
+    head = "".join(f',"{name}":{count}' for name, count in counts_of(schema, state))
+    columns = []
+    for line in lines_of_columns(schema, state):
+        values = [f'"{cell}"' if place < 2 else "null" if cell == "-" else str(cell) for place, cell in enumerate(line)]
+        columns.append("{" + ",".join(f'"{key.lower()}":{value}' for key, value in zip(HEADINGS, values)) + "}")
+    return f'{{"table":"{schema.table}"{head},"columns":[{",".join(columns)}]}}\n'
+
+
+def batches_of(state):
+    """What `inspect --batches` writes of a file."""
+    lines = ["BATCH,ROWS,LIVE"]
+    for (origin, number), rows in sorted(state.batches.items()):
+        live = sum((origin, number, at) not in state.deleted for at in range(len(rows)))
+        lines.append(f"{origin}.{number},{len(rows)},{live}")
+    return "".join(f"{line}\n" for line in lines)

@@ -142,9 +142,10 @@ class Story:
         """A pull: a summary, an offer for it, and its application, each to the next one through a pipe."""
         command = f'"$LANES" summary {site} | "$LANES" offer {other} - | "$LANES" apply {site} -'
         done = subprocess.run(["bash", "-o", "pipefail", "-c", command], cwd=self.room, env={**os.environ, "LANES": self.program}, capture_output=True, timeout=60)
+        had = len(self.states[site].batches)
         self.join(site, self.states[other])
-        ranges = len(self.states[site].ranges())
-        wanted = f"ok batches={len(self.states[site].batches)} ranges={ranges}\n".encode()
+        has, ranges = len(self.states[site].batches), len(self.states[site].ranges())
+        wanted = f"ok batches={has} ranges={ranges} new={has - had}\n".encode()
         assert done.returncode == 0 and done.stdout == wanted, f"the pull of {site} from {other} wrote {done.stdout!r} and {done.stderr!r}, not {wanted!r}"
 
     def pull(self, site):

@@ -185,9 +185,7 @@ impl Verb {
                 file: text_of(given, "FILE"),
                 has_names: given.get_flag("names"),
             }),
-            Verb::Inspect => Ok(Request::Inspect {
-                file: text_of(given, "FILE"),
-            }),
+            Verb::Inspect => self.inspect_request(alloc, given),
             Verb::Summary => Ok(Request::Summary {
                 file: text_of(given, "FILE"),
             }),
@@ -329,6 +327,24 @@ impl Verb {
             queries,
             format,
         })
+    }
+
+    /// What `lanes inspect` asks for.
+    fn inspect_request<'a>(
+        self,
+        alloc: Global,
+        given: &ArgMatches<'a>,
+    ) -> Result<Request<'a>, Fault>
+        ensures { IfErr result IsUnread }
+    {
+        match words::report_form(given.get_str("format").unwrap_or("text")) {
+            Some(form) => Ok(Request::Inspect {
+                file: text_of(given, "FILE"),
+                has_batches: given.get_flag("batches"),
+                form,
+            }),
+            None => Err(self.fault(alloc, "FORMAT is text or json")),
+        }
     }
 
     /// What `lanes apply` asks for.
@@ -509,8 +525,19 @@ fn dump_command<'a>(alloc: Global, command: Command<'a>) -> Result<Command<'a>, 
 }
 
 fn inspect_command<'a>(alloc: Global, command: Command<'a>) -> Result<Command<'a>, AllocError> {
+    let format = Arg::new(alloc, "format")
+        .long("format")
+        .value_name("FORMAT")
+        .help("The form of the report: text or json");
+    let batches = flag(
+        alloc,
+        "batches",
+        "List the batches instead: the name of each, its rows and its live rows",
+    );
     command
         .about("Writes what a file holds and how its columns are coded")
+        .arg(batches)?
+        .arg(format)?
         .arg(file(alloc))
 }
 

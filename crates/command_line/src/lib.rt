@@ -10,4 +10,4 @@ mod words;
 pub use commands::read_request;
 pub use fault::{Fault, not_for_a_terminal};
 pub use program_arguments::arguments;
-pub use requests::{Format, Queries, Request, Source};
+pub use requests::{Format, Queries, ReportForm, Request, Source};

@@ -35,7 +35,16 @@ pub enum Format {
     Table,
 }
 
-/// Where queries stand.
+/// The form of a report.
+#[derive(Clone, Copy, Debug, PartialEq, Eq)]
+pub enum ReportForm {
+    /// Lines for a person.
+    Text,
+    /// Objects.
+    Json,
+}
+
+/// Where queries are.
 #[derive(Debug, Drop)]
 pub enum Queries<'a> {
     /// In the lines of standard input.
@@ -114,10 +123,14 @@ pub enum Request<'a> {
         /// Whether each row's name stands before its values.
         has_names: bool,
     },
-    /// `lanes inspect FILE`: what a file holds, and how it is coded.
+    /// `lanes inspect [--batches] [--format FORMAT] FILE`: what a file holds and how it is coded, or a list of its batches.
     Inspect {
         /// The file's name.
         file: &'a str,
+        /// Whether the batches are listed instead.
+        has_batches: bool,
+        /// The form of the report.
+        form: ReportForm,
     },
     /// `lanes summary FILE`: the names of the batches that a file holds, as a message.
     Summary {

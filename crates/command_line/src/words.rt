@@ -1,6 +1,6 @@
 //! Words of a command line that are more than texts: names of batches, ordinals, columns with their types, forms of answers.
 
-use crate::requests::{Format, Source};
+use crate::requests::{Format, ReportForm, Source};
 use std::alloc::{AllocError, Global};
 use table_model::{BatchName, ColType, Number, Origin};
 
@@ -50,8 +50,17 @@ pub fn format(name: &str) -> Option<Format> {
     }
 }
 
-/// The columns of these names and types, each name before its type, which is written in any case. None where a name has no type, or
-/// a type isn't one.
+/// The form of reports of this name.
+pub fn report_form(name: &str) -> Option<ReportForm> {
+    match name {
+        "text" => Some(ReportForm::Text),
+        "json" => Some(ReportForm::Json),
+        _ => None,
+    }
+}
+
+/// The columns of these names and types, each name before its type, which is written in any case. None if a name has no type, or a
+/// type isn't one.
 pub fn columns<'a>(
     alloc: Global,
     words: &[&'a str],

@@ -2,6 +2,8 @@
 #![tactic(auto)]
 
 #[cfg(test)]
+mod knowledge_tests;
+#[cfg(test)]
 mod request_tests;
 #[cfg(test)]
 mod sentence_tests;

@@ -24,7 +24,7 @@ fn asked(alloc: Global, words: &[&str]) -> Result<String, AllocError> {
     }
 }
 
-const REQUESTS: [(&[&str], &str); 30] = [
+const REQUESTS: [(&[&str], &str); 44] = [
     (&["run"], "Run { source: Input, is_explained: false }"),
     (&["run", "-"], "Run { source: Input, is_explained: false }"),
     (
@@ -35,11 +35,11 @@ const REQUESTS: [(&[&str], &str); 30] = [
     (&["check", "-"], "Check { file: \"-\" }"),
     (
         &["merge", "out", "a", "b", "c"],
-        "Merge { out: \"out\", files: [\"a\", \"b\", \"c\"] }",
+        "Merge { out: \"out\", files: [\"a\", \"b\", \"c\"], is_quiet: false }",
     ),
     (
         &["merge", "-", "--x", "-b", "--help"],
-        "Merge { out: \"-\", files: [\"--x\", \"-b\", \"--help\"] }",
+        "Merge { out: \"-\", files: [\"--x\", \"-b\", \"--help\"], is_quiet: false }",
     ),
     (
         &["query", "t", "A", "B", "C"],
@@ -49,6 +49,12 @@ const REQUESTS: [(&[&str], &str); 30] = [
         &["query", "--format", "json", "t", "--format", "csv"],
         "Query { file: \"t\", queries: Texts([\"--format\", \"csv\"]), format: Json }",
     ),
+    (
+        &["query", "t", "--format"],
+        "Query { file: \"t\", queries: Texts([\"--format\"]), format: Text }",
+    ),
+    (&["query", "t", "A", "--format", "json"], "fault"),
+    (&["query", "t", "A", "-x", "-"], "fault"),
     (
         &["query", "--format=csv", "t", "-x"],
         "Query { file: \"t\", queries: Texts([\"-x\"]), format: Csv }",
@@ -64,15 +70,38 @@ const REQUESTS: [(&[&str], &str); 30] = [
         &[
             "create", "f", "t", "a", "smallint", "b", "TinyInt", "c", "BIGINT",
         ],
-        "Create { file: \"f\", table: \"t\", columns: [(\"a\", SmallInt), (\"b\", TinyInt), (\"c\", BigInt)] }",
+        "Create { file: \"f\", table: \"t\", columns: [(\"a\", SmallInt), (\"b\", TinyInt), (\"c\", BigInt)], is_quiet: false }",
     ),
     (&["create", "f", "t", "a", "smallint", "b"], "fault"),
     (&["create", "f", "t", "a", "text"], "fault"),
     (&["create", "f", "t"], "fault"),
     (
         &["import", "f", "-"],
-        "Import { file: \"f\", csv: Input, first: None, has_header: true }",
+        "Import { file: \"f\", csvs: [Input], first: None, has_header: true, is_quiet: false }",
     ),
+    (
+        &["import", "--quiet", "f", "c", "-", "-d"],
+        "Import { file: \"f\", csvs: [File(\"c\"), Input, File(\"-d\")], first: None, has_header: true, is_quiet: true }",
+    ),
+    (&["import", "f", "-", "-"], "fault"),
+    (&["import", "f", "c", "--batch", "1.1"], "fault"),
+    (
+        &["merge", "--quiet", "o", "a"],
+        "Merge { out: \"o\", files: [\"a\"], is_quiet: true }",
+    ),
+    (
+        &["apply", "--quiet", "o", "a"],
+        "Apply { file: \"o\", offers: [File(\"a\")], is_quiet: true }",
+    ),
+    (
+        &["create", "--quiet", "f", "t", "a", "BIGINT"],
+        "Create { file: \"f\", table: \"t\", columns: [(\"a\", BigInt)], is_quiet: true }",
+    ),
+    (
+        &["delete", "--quiet", "f", "A = 1"],
+        "Delete { file: \"f\", condition: \"A = 1\", is_quiet: true }",
+    ),
+    (&["check", "--quiet", "f"], "fault"),
     (
         &[
             "import",
@@ -82,24 +111,33 @@ const REQUESTS: [(&[&str], &str); 30] = [
             "-f",
             "--batch",
         ],
-        "Import { file: \"-f\", csv: File(\"--batch\"), first: Some(BatchName { origin: Origin(7), number: Number(0) }), has_header: false }",
+        "Import { file: \"-f\", csvs: [File(\"--batch\")], first: Some(BatchName { origin: Origin(7), number: Number(0) }), has_header: false, is_quiet: false }",
     ),
     (&["import", "--batch", "1.4294967296", "f", "c"], "fault"),
     (&["import", "--batch", "00000000001.1", "f", "c"], "fault"),
     (
         &["delete", "f", "-1 = A"],
-        "Delete { file: \"f\", condition: \"-1 = A\" }",
+        "Delete { file: \"f\", condition: \"-1 = A\", is_quiet: false }",
     ),
     (
-        &["delete-rows", "f", "1.2", "0", "0000065535"],
-        "DeleteRows { file: \"f\", first: RowName { batch: BatchName { origin: Origin(1), number: Number(2) }, ordinal: 0 }, last: 65535 }",
+        &["delete-rows", "--quiet", "f", "1.2", "00000", "65535"],
+        "DeleteRows { file: \"f\", first: RowName { batch: BatchName { origin: Origin(1), number: Number(2) }, ordinal: 0 }, last: 65535, is_quiet: true }",
     ),
     (&["delete-rows", "f", "1.2", "0", "65536"], "fault"),
+    (&["delete-rows", "f", "1.2", "0", "000001"], "fault"),
     (
         &["dump", "--names", "f"],
         "Dump { file: \"f\", has_names: true }",
     ),
-    (&["inspect", "f"], "Inspect { file: \"f\" }"),
+    (
+        &["inspect", "f"],
+        "Inspect { file: \"f\", has_batches: false, form: Text }",
+    ),
+    (
+        &["inspect", "--batches", "--format", "json", "f"],
+        "Inspect { file: \"f\", has_batches: true, form: Json }",
+    ),
+    (&["inspect", "--format", "csv", "f"], "fault"),
     (&["summary", "f"], "Summary { file: \"f\" }"),
     (
         &["offer", "f", "-"],
@@ -107,7 +145,7 @@ const REQUESTS: [(&[&str], &str); 30] = [
     ),
     (
         &["apply", "f", "a", "-", "b"],
-        "Apply { file: \"f\", offers: [File(\"a\"), Input, File(\"b\")] }",
+        "Apply { file: \"f\", offers: [File(\"a\"), Input, File(\"b\")], is_quiet: false }",
     ),
 ];
 
@@ -121,7 +159,7 @@ fn no_word_of_a_command_line_is_dropped_or_taken_for_another(rt: HostRuntime) ->
 }
 
 /// Command lines that lack a word, have one too many, or one that is malformed.
-const FAULTS: [&[&str]; 24] = [
+const FAULTS: [&[&str]; 23] = [
     &["apply", "f", "-", "-"],
     &["apply", "f"],
     &["offer", "f"],
@@ -141,7 +179,6 @@ const FAULTS: [&[&str]; 24] = [
     &["delete-rows", "f", "1.1", "-1", "1"],
     &["delete-rows", "f", "1.1", "", "1"],
     &["import", "f"],
-    &["import", "f", "c", "d"],
     &["import", "--batch", "1", "f", "c"],
     &["import", "--batch", ".1", "f", "c"],
     &["imports", "f", "c"],

@@ -2,6 +2,7 @@
 
 use refusal_sentences::{CommandRefusal, Knowledge, Pointer, Sentence};
 use std::alloc::{AllocError, Global};
+use std::io::ErrorKind;
 use std::test::Fail;
 use table_model::{BatchName, ColType, Number, Origin, Refusal};
 
@@ -12,23 +13,20 @@ const NAME: BatchName = BatchName {
 
 // Each of the 37 refusals, in order, and what is said of it where nothing more is known.
 const SENTENCES: [(Refusal, &str); 37] = [
-    (
-        Refusal::Memory,
-        "memory that was asked for is not to be had",
-    ),
+    (Refusal::Memory, "out of memory"),
     (
         Refusal::Conflict(NAME),
         "both have a batch 1.7, with different rows",
     ),
     (
         Refusal::Full,
-        "there is no room for more: the limit on batches or messages is reached",
+        "there is no room: a replica holds at most 1,048,576 batches, a script 65,536 messages",
     ),
-    (Refusal::EmptyBatch, "a batch has no rows"),
-    (Refusal::BatchTooLong, "a batch has more than 65,536 rows"),
+    (Refusal::EmptyBatch, "the batch has no rows"),
+    (Refusal::BatchTooLong, "the batch has more than 65,536 rows"),
     (
         Refusal::WrongArity(3),
-        "row 3: the row has not one cell for each column",
+        "row 3: the row has the wrong number of cells",
     ),
     (
         Refusal::OutOfType { row: 3, column: 2 },
@@ -40,48 +38,33 @@ const SENTENCES: [(Refusal, &str); 37] = [
     ),
     (
         Refusal::NumbersSpent,
-        "no names are left: numbers end at 4,294,967,295",
+        "no batch numbers are left: they end at 4,294,967,295",
     ),
     (
         Refusal::NoSuchVector,
         "there is no such batch, column or vector",
     ),
-    (
-        Refusal::BadName,
-        "an origin or a batch's number is from 1 on, and this one is 0",
-    ),
+    (Refusal::BadName, "origins and batch numbers start at 1"),
     (
         Refusal::BadSchema,
-        "a table has a name and 1 to 32 columns of different names, each a letter and up to 63 letters, digits or _, and no keyword",
+        "a table has a name and 1 to 32 columns of different names; a name is a letter and up to 63 letters, digits or _, and no keyword",
     ),
-    (
-        Refusal::Truncated(41),
-        "byte 41: the bytes end before a field does",
-    ),
+    (Refusal::Truncated(41), "byte 41: the bytes end too early"),
     (
         Refusal::BadMagic,
         "the first four bytes are not those of this format",
     ),
     (
         Refusal::BadVersion,
-        "the version of the format is not known, or not the one that these types have",
+        "the version of the format is unknown, or not the one that these column types have",
     ),
-    (
-        Refusal::BadOrder(41),
-        "byte 41: this does not come after what stands before it",
-    ),
-    (
-        Refusal::BadCount(41),
-        "byte 41: the count is outside its limits",
-    ),
-    (
-        Refusal::BadWidth(41),
-        "byte 41: the width is outside its limits",
-    ),
-    (Refusal::BadTag(41), "byte 41: the coding is not known"),
+    (Refusal::BadOrder(41), "byte 41: out of order"),
+    (Refusal::BadCount(41), "byte 41: the count is out of range"),
+    (Refusal::BadWidth(41), "byte 41: the width is out of range"),
+    (Refusal::BadTag(41), "byte 41: unknown coding"),
     (
         Refusal::BadMask(41),
-        "byte 41: the mask is outside the rules",
+        "byte 41: the mask of nulls breaks a rule",
     ),
     (
         Refusal::BadDictionary(41),
@@ -89,7 +72,7 @@ const SENTENCES: [(Refusal, &str); 37] = [
     ),
     (
         Refusal::BadCode(41),
-        "byte 41: the code is past its dictionary",
+        "byte 41: the code is past the end of its dictionary",
     ),
     (
         Refusal::BadRange(41),
@@ -101,20 +84,14 @@ const SENTENCES: [(Refusal, &str); 37] = [
     ),
     (
         Refusal::NotCanonical(41),
-        "byte 41: from here on it is not the one file of what it stands for",
+        "byte 41: not in canonical form from this byte on",
     ),
-    (
-        Refusal::Syntax(41),
-        "byte 41: what stands here is not what the language has here",
-    ),
-    (Refusal::NoSuchTable, "the table has another name"),
-    (
-        Refusal::NoSuchColumn(41),
-        "byte 41: the table has no such column",
-    ),
+    (Refusal::Syntax(41), "byte 41: syntax error here"),
+    (Refusal::NoSuchTable, "unknown table"),
+    (Refusal::NoSuchColumn(41), "byte 41: unknown column"),
     (
         Refusal::NotGrouped(41),
-        "byte 41: GROUP BY does not name this column",
+        "byte 41: this column must be in GROUP BY or inside a set function",
     ),
     (
         Refusal::NumberTooLarge(41),
@@ -124,10 +101,16 @@ const SENTENCES: [(Refusal, &str); 37] = [
         Refusal::TooDeep,
         "more than 64 parentheses are open at once",
     ),
-    (Refusal::LineTooLong, "a line has more than 1,048,576 bytes"),
+    (
+        Refusal::LineTooLong,
+        "the line has more than 1,048,576 bytes",
+    ),
     (Refusal::ReadFault, "this can't be read"),
     (Refusal::WriteFault, "this can't be written"),
-    (Refusal::BadLine, "this is no line of the script language"),
+    (
+        Refusal::BadLine,
+        "this is not a line of the script language",
+    ),
     (Refusal::NoSuchReplica, "there is no such replica"),
     (Refusal::NoSuchMessage, "there is no such message"),
 ];
@@ -183,6 +166,7 @@ fn a_sentence_names_its_input_and_what_is_known_beside(rt: HostRuntime) -> Resul
     let long = CommandRefusal::from(Refusal::LineTooLong);
     let range = CommandRefusal::from(Refusal::BadRange(0));
     let cut = CommandRefusal::from(Refusal::Truncated(41));
+    let empty = CommandRefusal::from(Refusal::Truncated(0));
     let cases = [
         (
             CSV,
@@ -198,12 +182,6 @@ fn a_sentence_names_its_input_and_what_is_known_beside(rt: HostRuntime) -> Resul
         ),
         (
             CSV,
-            "v",
-            Knowledge::Heading(b"X"),
-            "v, line 17, field 3: \"X\" is no column's name, or names one for the second time",
-        ),
-        (
-            CSV,
             "",
             Knowledge::Nothing,
             "line 17, field 3: the field is not a whole number",
@@ -212,7 +190,7 @@ fn a_sentence_names_its_input_and_what_is_known_beside(rt: HostRuntime) -> Resul
             NO_FIELD,
             "v",
             Knowledge::Nothing,
-            "v, line 17: the line has not one field for each column",
+            "v, line 17: the line has the wrong number of fields",
         ),
         (
             CommandRefusal::Exists,
@@ -229,28 +207,44 @@ fn a_sentence_names_its_input_and_what_is_known_beside(rt: HostRuntime) -> Resul
         (
             read,
             "site.lanes",
-            Knowledge::NoFile,
+            Knowledge::Reason(ErrorKind::NotFound),
             "site.lanes: no such file or folder",
         ),
-        (read, "d", Knowledge::Folder, "d: this is a folder"),
-        (read, "t", Knowledge::Forbidden, "t: this may not be read"),
+        (
+            read,
+            "d",
+            Knowledge::Reason(ErrorKind::IsADirectory),
+            "d: this is a folder",
+        ),
+        (
+            read,
+            "t",
+            Knowledge::Reason(ErrorKind::PermissionDenied),
+            "t: permission denied: this may not be read",
+        ),
+        (
+            read,
+            "t",
+            Knowledge::Reason(ErrorKind::TimedOut),
+            "t: this can't be read",
+        ),
         (
             write,
             "d/t",
-            Knowledge::NoFile,
+            Knowledge::Reason(ErrorKind::NotFound),
             "d/t: there is no such folder",
         ),
         (
             write,
             "t",
-            Knowledge::Forbidden,
-            "t: this may not be written",
+            Knowledge::Reason(ErrorKind::StorageFull),
+            "t: no space is left on the device",
         ),
         (
             long,
             "v",
             Knowledge::Line(2),
-            "v, line 2: a line has more than 1,048,576 bytes",
+            "v, line 2: the line has more than 1,048,576 bytes",
         ),
         (
             range,
@@ -259,10 +253,16 @@ fn a_sentence_names_its_input_and_what_is_known_beside(rt: HostRuntime) -> Resul
             "the range ends before it starts",
         ),
         (
+            empty,
+            "standard input",
+            Knowledge::Nothing,
+            "standard input: this is empty: did the command before it fail?",
+        ),
+        (
             cut,
             "t\u{1b}[2J",
             Knowledge::Nothing,
-            "t [2J, byte 41: the bytes end before a field does",
+            "t [2J, byte 41: the bytes end too early",
         ),
     ];
     for &(refusal, subject, knowledge, want) in &cases {

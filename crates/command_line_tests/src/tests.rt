@@ -24,16 +24,16 @@ fn text_of(alloc: Global, words: &[&str]) -> Result<String, AllocError> {
 }
 
 const PROGRAM_HELP: &str =
-    "A replicated column store for one table of nullable integer columns\n\nUsage: lanes <COMMAND>\n\nCommands:\n  create       Makes the file of an empty table\n  import       Inserts rows of comma-separated values\n  query        Writes the answers of queries over a file, one after another; docs/SQL.md has the language\n  delete       Deletes the rows at which a condition is true\n  delete-rows  Deletes rows by their names, whether they are there or come later\n  dump         Writes the rows as comma-separated values\n  inspect      Writes what a file holds, and how its columns are coded\n  summary      Writes the names of the batches that a file holds, for lanes offer\n  offer        Writes what a file has beyond a summary, for lanes apply\n  apply        Applies offers, or other files of the same table, to a file\n  check        Says whether a file is a canonical one, and how many batches and ranges of deletions it has\n  merge        Writes the canonical file of what all of some files hold\n  run          Runs a script and writes its replies to standard output\n  help         Print this message or the help of the given subcommand(s)\n\nOptions:\n  -h, --help     Print help\n  -V, --version  Print version\n\nA script is lines such as these, each of which has a reply:\n  table 2 T A SMALLINT\n  append 1 (7),(NULL)\n  query 1 SELECT COUNT(*) FROM T\nAll lines and replies are in docs/FORMATS.md, and examples/ has scripts to run.\n";
+    "A replicated column store for one table of nullable integer columns\n\nUsage: lanes <COMMAND>\n\nCommands:\n  create       Creates the file of an empty table\n  import       Inserts rows of comma-separated values\n  query        Writes the answers of queries, one after another; docs/SQL.md describes the language\n  delete       Deletes the rows for which a condition is true\n  delete-rows  Deletes rows by their names, whether they are there or arrive later\n  dump         Writes the rows as comma-separated values\n  inspect      Writes what a file holds and how its columns are coded\n  summary      Writes the names of a file's batches, for lanes offer\n  offer        Writes what a file has and a summary does not, for lanes apply\n  apply        Applies offers, or other files of the same table, to a file\n  check        Says whether a file is in canonical form, and how many batches and ranges of deletions it has\n  merge        Writes the canonical file of all that some files hold\n  run          Runs a script and writes its replies to standard output\n  help         Print this message or the help of the given subcommand(s)\n\nOptions:\n  -h, --help     Print help\n  -V, --version  Print version\n\nA script has lines such as these, and each has a reply:\n  table 2 T A SMALLINT\n  append 1 (7),(NULL)\n  query 1 SELECT COUNT(*) FROM T\nAll lines and replies are in docs/FORMATS.md, and examples/ has scripts to run.\n";
 
 const RUN_HELP: &str =
-    "Runs a script and writes its replies to standard output\n\nUsage: lanes run [OPTIONS] [SCRIPT]\n\nArguments:\n  [SCRIPT]  The script's file, or - for standard input, as where none is named\n\nOptions:\n      --explain  Say on standard error of each refused line its number and why it is refused\n  -h, --help     Print help\n\nA script is lines such as these, each of which has a reply:\n  table 2 T A SMALLINT\n  append 1 (7),(NULL)\n  query 1 SELECT COUNT(*) FROM T\nAll lines and replies are in docs/FORMATS.md, and examples/ has scripts to run.\n";
+    "Runs a script and writes its replies to standard output\n\nUsage: lanes run [OPTIONS] [SCRIPT]\n\nArguments:\n  [SCRIPT]  The script's file, or - for standard input, which is read too if none is named\n\nOptions:\n      --explain  Say on standard error for each refused line its number and why it is refused\n  -h, --help     Print help\n\nA script has lines such as these, and each has a reply:\n  table 2 T A SMALLINT\n  append 1 (7),(NULL)\n  query 1 SELECT COUNT(*) FROM T\nAll lines and replies are in docs/FORMATS.md, and examples/ has scripts to run.\n";
 
 const MERGE_HELP: &str =
-    "Writes the canonical file of what all of some files hold\n\nUsage: lanes merge <OUT> <IN>...\n\nArguments:\n  <OUT>    The file that is written\n  <IN>...  The files that are merged, in this order\n\nOptions:\n  -h, --help  Print help\n\nOUT is replaced whole, and what is refused leaves it as it was. OUT that is no regular file is written in place.\n";
+    "Writes the canonical file of all that some files hold\n\nUsage: lanes merge [OPTIONS] <OUT> <IN>...\n\nArguments:\n  <OUT>    The file that is written\n  <IN>...  The files that are merged, in this order\n\nOptions:\n      --quiet  Print nothing if all is well\n  -h, --help   Print help\n\nOUT is replaced as a whole, and stays as it was if the merge is refused. If OUT is not a regular file it is written in place.\n";
 
 // Help names each command and shows a script; a fault names what is wrong, the usage, and where help is.
-const TEXTS: [(&[&str], &str); 10] = [
+const TEXTS: [(&[&str], &str); 13] = [
     (&["lanes", "--help"], PROGRAM_HELP),
     (&["lanes", "help"], PROGRAM_HELP),
     (&["lanes", "run", "--help"], RUN_HELP),
@@ -50,6 +50,19 @@ const TEXTS: [(&[&str], &str); 10] = [
     (
         &["lanes", "bogus"],
         "error: unrecognized subcommand 'bogus'\n\nUsage: lanes <COMMAND>\n\nFor more information, try '--help'.\n",
+    ),
+    // However the program is called, it is told as lanes.
+    (
+        &["/opt/lanes-x86-64-v3", "run", "x", "y"],
+        "error: unexpected argument 'y' found\n\nUsage: lanes run [OPTIONS] [SCRIPT]\n\nFor more information, try '--help'.\n",
+    ),
+    (
+        &["./l", "query", "t", "A", "--x"],
+        "error: options stand before FILE: a word behind it that begins with -- is none\n\nUsage: lanes query [OPTIONS] <FILE> <SQL>...\n\nFor more information, try '--help'.\n",
+    ),
+    (
+        &["./l", "create", "t", "T", "A", "text"],
+        "error: each column is a name and its type, TINYINT, SMALLINT, INTEGER or BIGINT\n\nUsage: lanes create [OPTIONS] <FILE> <TABLE> <COL TYPE>...\n\nFor more information, try '--help'.\n",
     ),
     (&["lanes", "run"], ""),
     (&["lanes", "run", "x"], ""),

@@ -106,7 +106,8 @@ impl fmt::Display for Done {
             Done::Applied(applied) => {
                 let batches = applied.batches;
                 let ranges = applied.ranges;
-                write!(f, "ok batches={batches} ranges={ranges}")
+                let new = applied.new;
+                write!(f, "ok batches={batches} ranges={ranges} new={new}")
             }
         }
     }

@@ -1,8 +1,10 @@
 //! The commands that change a file: it is read, then held, read again and replaced whole.
 
 use crate::change::{Change, Done};
-use crate::failure::{Failure, OUTPUT, is_of_a_text};
+use crate::failure::{Failure, is_of_a_text};
 use crate::inputs::{name_of, reader_of, source_of, unread};
+use crate::names::fault_of_names;
+use crate::reports::write_line;
 use command_line::Source;
 use csv_rows::{CsvError, CsvReader};
 use file_replacing::{Held, hold};
@@ -30,13 +32,12 @@ pub fn create<R: Print + Files<File = File> + Clock + AllocGlobal>(
     if is_there(rt, file) {
         return Err(Failure::of_file(rt, CommandRefusal::Exists, file));
     }
-    change(
-        rt,
-        file,
-        Change::Create { table, columns },
-        About::Nothing,
-        is_quiet,
-    )
+    let words = fault_of_names(rt.alloc(), table, columns)?;
+    let about = match &words {
+        Some(words) => About::Names(words.as_str()),
+        None => About::Nothing,
+    };
+    change(rt, file, Change::Create { table, columns }, about, is_quiet)
 }
 
 /// Inserts the rows of comma-separated values, of one text after another: all, or none.
@@ -250,6 +251,8 @@ fn known_of_field<'a>(
 enum About<'a> {
     /// Nothing.
     Nothing,
+    /// It has a name that is none, as this sentence says.
+    Names(&'a str),
     /// It is for the rows for which this condition is true.
     Condition(Text<'a>),
     /// This input of it is of another table than the file.
@@ -361,6 +364,14 @@ fn refused<R: Files + AllocGlobal>(
                 wanted,
             },
         ) => Failure::of_tables(rt.alloc(), name, found, file, wanted),
+        (CommandRefusal::Named(Refusal::BadSchema), About::Names(words)) => {
+            let knowledge = Knowledge::Advice(words);
+            let sentence = Sentence {
+                knowledge,
+                ..Sentence::new(refusal)
+            };
+            Failure::new(rt.alloc(), sentence)
+        }
         _ => refused_alone(rt, file, refusal),
     }
 }
@@ -383,19 +394,5 @@ fn refused_alone<R: Files + AllocGlobal>(rt: &R, file: &str, refusal: CommandRef
 /// Says what came of a change. Where that can't be written the file is changed all the same.
 fn say<R: Print + Files + AllocGlobal>(rt: &R, done: &Done) -> Result<(), Failure> {
     let line = format!(in rt.alloc(); "{done}\n")?;
-    match Counted::new(io::writer(rt)).write_whole(line.as_bytes()) {
-        Ok(()) => Ok(()),
-        Err(refusal) => Err(unwritten(rt.alloc(), refusal)),
-    }
-}
-
-/// A refusal of what goes to standard output.
-pub fn unwritten(alloc: Global, refusal: Refusal) -> Failure {
-    Failure::new(
-        alloc,
-        Sentence {
-            subject: OUTPUT,
-            ..Sentence::new(CommandRefusal::from(refusal))
-        },
-    )
+    write_line(rt, line.as_bytes())
 }

@@ -1,5 +1,6 @@
 //! Why a command failed, and what a person is told of it.
 
+use crate::watched::Cause;
 use command_line::Fault;
 use refusal_sentences::{CommandRefusal, Knowledge, Pointer, Sentence, Text};
 use std::alloc::{AllocError, AllocFailed, Global};
@@ -9,7 +10,7 @@ use std::process::ExitCode;
 use table_model::{Refusal, Schema};
 
 /// What standard output is called in a sentence.
-pub const OUTPUT: &str = "standard output";
+const OUTPUT: &str = "standard output";
 
 /// What standard input is called in a sentence.
 pub const INPUT: &str = "standard input";
@@ -97,6 +98,20 @@ impl Failure {
                 knowledge,
             },
         )
+    }
+
+    /// A refusal of what goes to standard output.
+    pub fn of_output(alloc: Global, cause: Cause) -> Failure {
+        let knowledge = match cause.reason {
+            Some(kind) => Knowledge::Reason(kind),
+            None => Knowledge::Nothing,
+        };
+        let sentence = Sentence {
+            refusal: CommandRefusal::from(cause.refusal),
+            subject: OUTPUT,
+            knowledge,
+        };
+        Failure::new(alloc, sentence)
     }
 
     /// A refusal of an input of one table where a file has another one.

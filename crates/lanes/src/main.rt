@@ -6,11 +6,13 @@ mod changing;
 mod failure;
 mod inputs;
 mod merging;
+mod names;
 mod output;
 mod queries;
 mod query_lines;
 mod reports;
 mod scripts;
+mod watched;
 
 use command_line::{Format, Queries, Request};
 use failure::Failure;
@@ -87,7 +89,11 @@ fn run<
             is_quiet,
         } => changing::apply(rt, file, offers.as_slice(), is_quiet)?,
         Request::Dump { file, has_names } => reports::dump(rt, file, has_names)?,
-        Request::Inspect { file } => reports::inspect(rt, file)?,
+        Request::Inspect {
+            file,
+            has_batches,
+            form,
+        } => reports::inspect(rt, file, has_batches, form)?,
         Request::Summary { file } => reports::summary(rt, file, terminals.output)?,
         Request::Offer { file, summary } => reports::offer(rt, file, summary, terminals.output)?,
         Request::Check { file } => reports::check(rt, file)?,

@@ -1,13 +1,13 @@
 //! The merge of files.
 
-use crate::changing::unwritten;
 use crate::failure::Failure;
 use crate::inputs::{LazyFile, reader_of};
 use crate::output::Output;
+use crate::reports::write_line;
 use refusal_sentences::CommandRefusal;
 use replica_files::file_schema;
 use std::fs::{self, File, Files};
-use std::io::{self, BufWriter, Write};
+use std::io::{BufWriter, Write};
 use std::os::unix::fs::MetadataExt;
 use std::rt::Clock;
 use table_model::{Counted, Refusal};
@@ -39,10 +39,7 @@ pub fn merge<R: Print + Files<File = File> + Clock + AllocGlobal>(
     if is_silent {
         return Ok(());
     }
-    match Counted::new(io::writer(rt)).write_whole(b"ok\n") {
-        Ok(()) => Ok(()),
-        Err(refusal) => Err(unwritten(rt.alloc(), refusal)),
-    }
+    write_line(rt, b"ok\n")
 }
 
 /// Writes the canonical file of what all of some files hold.

@@ -1,10 +1,10 @@
 //! Queries over a file: those of the command line, and those of lines of standard input.
 
-use crate::changing::unwritten;
 use crate::failure::{Failure, INPUT, is_of_a_text};
 use crate::inputs::reader_of;
 use crate::query_lines::{Found, QueryLines};
 use crate::reports::{buffered, flushed, refused};
+use crate::watched::{Cause, Watched};
 use command_line::Format;
 use lanes_main::query_file;
 use query_parser::{parse, resolve};
@@ -41,11 +41,14 @@ fn answer_plainly<R: Print + Files + AllocGlobal>(
     queries: &[&str],
 ) -> Result<(), Failure> {
     let mut reader = reader_of(rt, file);
-    let mut writer = Counted::new(io::writer(rt));
-    match query_file(rt.alloc(), &mut reader, queries, &mut writer) {
+    let mut writer = Counted::new(Watched::new(io::writer(rt)));
+    let outcome = query_file(rt.alloc(), &mut reader, queries, &mut writer);
+    match writer.into_inner().ended(outcome) {
         Ok(()) => Ok(()),
-        Err(refusal) if is_of_a_text(refusal) => Err(refused_among(rt, file, queries, refusal)),
-        Err(refusal) => Err(refused(rt, file, refusal)),
+        Err(cause) if is_of_a_text(cause.refusal) => {
+            Err(refused_among(rt, file, queries, cause.refusal))
+        }
+        Err(cause) => Err(refused(rt, file, cause)),
     }
 }
 
@@ -66,7 +69,7 @@ fn refused_among<R: Files + AllocGlobal>(
                 query,
                 place_among(index, queries.len()),
                 &schema,
-                refusal,
+                Cause::from(refusal),
             );
         }
     }
@@ -118,9 +121,9 @@ fn answer_in_form<R: Print + Files + AllocGlobal>(
 ) -> Result<(), Failure> {
     let store = opened(rt, file)?;
     for (index, query) in queries.iter().enumerate() {
-        if let Err(refusal) = answered(rt, &store, *query, format) {
+        if let Err(cause) = answered(rt, &store, *query, format) {
             let place = place_among(index, queries.len());
-            return Err(refused_query(rt, *query, place, store.schema(), refusal));
+            return Err(refused_query(rt, *query, place, store.schema(), cause));
         }
     }
     Ok(())
@@ -196,13 +199,15 @@ fn answer_line<R: Print + AllocGlobal>(
     };
     match answered(rt, store, query, format) {
         Ok(()) => Ok(()),
-        Err(Refusal::WriteFault) => Err(Stopped::Ended(unwritten(rt.alloc(), Refusal::WriteFault))),
-        Err(refusal) => Err(Stopped::Passed(refused_query(
+        Err(cause) if cause.refusal == Refusal::WriteFault => {
+            Err(Stopped::Ended(Failure::of_output(rt.alloc(), cause)))
+        }
+        Err(cause) => Err(Stopped::Passed(refused_query(
             rt,
             query,
             Place::Line(number),
             store.schema(),
-            refusal,
+            cause,
         ))),
     }
 }
@@ -213,10 +218,10 @@ fn answered<R: Print + AllocGlobal>(
     store: &Store,
     query: &str,
     format: Format,
-) -> Result<(), Refusal> {
+) -> Result<(), Cause> {
     let mut writer = buffered(rt)?;
-    replica_files::answer(rt.alloc(), store, query, form_of(format), &mut writer)?;
-    flushed(writer)
+    let outcome = replica_files::answer(rt.alloc(), store, query, form_of(format), &mut writer);
+    flushed(writer, outcome)
 }
 
 /// The form of answers, as the call below names it.
@@ -233,7 +238,7 @@ fn form_of(format: Format) -> replica_files::Format {
 fn opened<R: Files + AllocGlobal>(rt: &R, file: &str) -> Result<Store, Failure> {
     match column_file::open(rt.alloc(), &mut reader_of(rt, file), Origin(1)) {
         Ok(store) => Ok(store),
-        Err(refusal) => Err(refused(rt, file, refusal)),
+        Err(refusal) => Err(refused(rt, file, Cause::from(refusal))),
     }
 }
 
@@ -257,11 +262,12 @@ fn refused_query<R: AllocGlobal>(
     query: &str,
     place: Place,
     schema: &Schema,
-    refusal: Refusal,
+    cause: Cause,
 ) -> Failure {
-    if refusal == Refusal::WriteFault {
-        return unwritten(rt.alloc(), refusal);
+    if cause.refusal == Refusal::WriteFault {
+        return Failure::of_output(rt.alloc(), cause);
     }
+    let refusal = cause.refusal;
     let text = Text {
         text: query,
         is_condition: false,

@@ -1,8 +1,8 @@
 //! Scripts.
 
-use crate::changing::unwritten;
 use crate::failure::Failure;
 use crate::inputs::{source_of, unread};
+use crate::watched::Watched;
 use command_line::Source;
 use lanes_main::{script, script_with_notes};
 use refusal_sentences::CommandRefusal;
@@ -27,15 +27,17 @@ pub fn run<R: Print + Input + Files + AllocGlobal, N: Write>(
         let _ = notes.write_all(WAITING.as_bytes());
     }
     let mut reader = source_of(rt, source);
-    let mut writer = Counted::new(io::writer(rt));
+    let mut writer = Counted::new(Watched::new(io::writer(rt)));
     let outcome = if is_explained {
         script_with_notes(rt.alloc(), &mut reader, &mut writer, notes)
     } else {
         script(rt.alloc(), &mut reader, &mut writer)
     };
-    match outcome {
+    match writer.into_inner().ended(outcome) {
         Ok(()) => Ok(()),
-        Err(Refusal::WriteFault) => Err(unwritten(rt.alloc(), Refusal::WriteFault)),
-        Err(refusal) => Err(unread(rt, CommandRefusal::from(refusal), source)),
+        Err(cause) if cause.refusal == Refusal::WriteFault => {
+            Err(Failure::of_output(rt.alloc(), cause))
+        }
+        Err(cause) => Err(unread(rt, CommandRefusal::from(cause.refusal), source)),
     }
 }

@@ -192,7 +192,7 @@ const NOTED: [(&str, &str); 13] = [
     ),
     (
         "table 1 T A SMALLINT\nquery 1\nquery 1 SELECT A FROM T\n",
-        "line 2: refused BadLine: a query is written query R SQL\nline 3: refused NotGrouped 7: GROUP BY does not name this column\n",
+        "line 2: refused BadLine: a query is written query R SQL\nline 3: refused NotGrouped 7: this column must be in GROUP BY or inside a set function\n",
     ),
     (
         "table 1 T A SMALLINT\nrecode 1 1.1 0 0\nrecode 1 11 0 0 FOR\nrecode 1 1.1 x 0 FOR\nrecode 1 1.1 0 x FOR\nrecode 1 1.1 0 0 for\nrecode 1 1.1 0 0 FOR RLE\n",

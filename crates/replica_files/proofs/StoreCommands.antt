@@ -203,17 +203,22 @@ applied_stops start now new all left offer was e so (inr lack) = inr lack
 pub applied_whole : (start now : Replica) (all : List OfferForm) (is : Bool) → AppliedSoFar start now all [] is → Makes (λ is_changed. tt) (λ (is_changed : Bool). is_changed) start (Ok is) now (applied_all start all)
 applied_whole start now all is so = (so.rest, so.same)
 
--- what is told once they were
-pub told_applied : (old new : Replica) (offers : List OfferForm) (is : Bool) (ranges : List RowRange) (count : ℕ)
-    → Makes (λ is_changed. tt) (λ (is_changed : Bool). is_changed) old (Ok is) new (applied_all old offers) → AreMaximal ranges → rows_in ranges ≡ new.state.deleted → count ≡ map.len new.state.batches
-    → applying offers old ≡ Ok ((count, length ranges), new)
-told_applied old new offers is ranges count made maximal rows batches =
-    ap (λ (m : Made (Unit {0})). m >>= λ (done : Unit {0} × Replica). let made : Made (ℕ × ℕ) = Ok ((map.len done.1.state.batches, length (ranges_of done.1.state.deleted)), done.1) in made) made.0
-    ∙ (λ i. let made : Made (ℕ × ℕ) = Ok ((sym batches i, length (ranges_are ranges new.state.deleted maximal rows i)), new) in made)
+-- what is told of a replica that was another one before
+told_of : Replica → Replica → Made (ℕ × ℕ × ℕ)
+told_of old new = Ok ((map.len new.state.batches, length (ranges_of new.state.deleted), map.len new.state.batches - map.len old.state.batches), new)
 
-pub untold_applied : {X : Type 0} (view : X → ℕ × ℕ) (changed : X → Bool) (old new : Replica) (offers : List OfferForm) (e : Refusal)
+-- what is told once they were
+pub told_applied : (old new : Replica) (offers : List OfferForm) (is : Bool) (ranges : List RowRange) (count fresh : ℕ)
+    → Makes (λ is_changed. tt) (λ (is_changed : Bool). is_changed) old (Ok is) new (applied_all old offers) → AreMaximal ranges → rows_in ranges ≡ new.state.deleted → count ≡ map.len new.state.batches
+    → fresh ≡ map.len new.state.batches - map.len old.state.batches
+    → applying offers old ≡ Ok ((count, length ranges, fresh), new)
+told_applied old new offers is ranges count fresh made maximal rows batches more =
+    ap (λ (m : Made (Unit {0})). m >>= λ (done : Unit {0} × Replica). told_of old done.1) made.0
+    ∙ (λ i. let made : Made (ℕ × ℕ × ℕ) = Ok ((sym batches i, length (ranges_are ranges new.state.deleted maximal rows i), sym more i), new) in made)
+
+pub untold_applied : {X : Type 0} (view : X → ℕ × ℕ × ℕ) (changed : X → Bool) (old new : Replica) (offers : List OfferForm) (e : Refusal)
     → Makes {X = Bool} (λ is_changed. tt) (λ (is_changed : Bool). is_changed) old (Err e) new (applied_all old offers) → Makes {X = X} view changed old (Err e) new (applying offers old)
-untold_applied view changed old new offers e (inl refused) = inl (ap (λ (m : Made (Unit {0})). m >>= λ (done : Unit {0} × Replica). let made : Made (ℕ × ℕ) = Ok ((map.len done.1.state.batches, length (ranges_of done.1.state.deleted)), done.1) in made) refused)
+untold_applied view changed old new offers e (inl refused) = inl (ap (λ (m : Made (Unit {0})). m >>= λ (done : Unit {0} × Replica). told_of old done.1) refused)
 untold_applied view changed old new offers e (inr lack) = inr lack
 
 -- ---- what a merge of files may be refused as

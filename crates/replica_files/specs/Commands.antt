@@ -1,5 +1,5 @@
 -- What a command makes of a replica in a file, and what a call says that does so over a reader and a writer.
-use Rattle.std.specs.Prelude.{◌≡◌, ◌⊎◌, ℕ, Bool, true, false, List, [], ◌∷◌, length, Option, Some, None, Result, Ok, Err}
+use Rattle.std.specs.Prelude.{◌≡◌, ◌⊎◌, ℕ, ◌-◌, Bool, true, false, List, [], ◌∷◌, length, Option, Some, None, Result, Ok, Err}
 use Rattle.std.specs.FinMap as map
 use Rattle.std.specs.FinSet as set
 use Rattle.std.specs.Io.KnownBytes.{Appends}
@@ -122,9 +122,10 @@ abbrev pub applied_all : Replica → List OfferForm → Made (Unit {0})
 applied_all r [] = Ok (tt, r)
 applied_all r (offer ∷ offers) = applied r offer >>= λ done. applied_all done.1 offers
 
--- and how many batches and maximal ranges of deleted rows there are then
-abbrev pub applying : List OfferForm → Replica → Made (ℕ × ℕ)
-applying offers r = applied_all r offers >>= λ done. Ok ((map.len done.1.state.batches, length (ranges_of done.1.state.deleted)), done.1)
+-- and how many batches and maximal ranges of deleted rows there are then, and how many of the batches weren't there before
+abbrev pub applying : List OfferForm → Replica → Made (ℕ × ℕ × ℕ)
+applying offers r = applied_all r offers >>= λ done.
+    Ok ((map.len done.1.state.batches, length (ranges_of done.1.state.deleted), map.len done.1.state.batches - map.len r.state.batches), done.1)
 
 -- merge: what files hold is merged into a replica, file by file
 abbrev pub merged_with : Replica → List (List ℕ) → Result Replica Refusal

@@ -20,6 +20,8 @@ pub struct Applied {
     pub batches: u32,
     /// How many maximal ranges of deleted rows.
     pub ranges: u64,
+    /// How many of the batches the file lacked before.
+    pub new: u32,
     /// Whether one of the offers had something that the file lacked, so that the file has changed.
     pub is_changed: bool,
 }
@@ -51,13 +53,16 @@ fn apply_all(alloc: Global, store: &mut Store, offers: &[Offer]) -> Result<bool,
 
 /// Applies offers to a store, one after another, and tells what the store has then.
 fn apply_offers(alloc: Global, store: &mut Store, offers: &[Offer]) -> Result<Applied, Refusal>
-    ensures makes { Makes (λ done. (done.batches, done.ranges)) (λ done. done.is_changed) store.old.replica result store.new.replica (applying offers.now store.old.replica) }
+    ensures makes { Makes (λ done. (done.batches, done.ranges, done.new)) (λ done. done.is_changed) store.old.replica result store.new.replica (applying offers.now store.old.replica) }
     ensures uncounted { IfErr result (λ e. IsTrue (is_uncounted e)) }
 {
+    let before = store.batches();
     let is_changed = apply_all(alloc, store, offers)?;
+    let batches = store.batches();
     Ok(Applied {
-        batches: store.batches() as u32,
+        batches: batches as u32,
         ranges: store.tombs().ranges().len() as u64,
+        new: batches.saturating_sub(before) as u32,
         is_changed,
     })
 }
@@ -73,7 +78,7 @@ pub fn apply<R: Read, W: Write>(
     offers: &[Offer],
     writer: &mut Counted<W>,
 ) -> Result<Applied, Refusal>
-    ensures made { Changes (λ done. (done.batches, done.ranges)) (λ done. done.is_changed) result (R.remaining reader.old.0) (W.contents writer.old.0) (W.contents writer.new.0) (applying offers.now) }
+    ensures made { Changes (λ done. (done.batches, done.ranges, done.new)) (λ done. done.is_changed) result (R.remaining reader.old.0) (W.contents writer.old.0) (W.contents writer.new.0) (applying offers.now) }
     ensures unwritten { IfErr result (λ e. e ≢ WriteFault → W.contents writer.new.0 ≡ W.contents writer.old.0) }
     ensures end { OnOk result (IsAtEnd (R.remaining reader.new.0)) }
     ensures within { OnOk result (IsWithin (R.remaining reader.old.0)) }

@@ -17,12 +17,17 @@ impl Line {
         Line { cells }
     }
 
-    /// How many bytes a cell has; none where there is no such cell.
-    fn width(&self, column: usize) -> usize {
+    /// A cell, from the left and from 0; empty if there is no such cell.
+    pub(crate) fn cell(&self, column: usize) -> &str {
         match self.cells.get(column) {
-            Some(cell) => cell.len(),
-            None => 0,
+            Some(cell) => cell.as_str(),
+            None => "",
         }
+    }
+
+    /// How many bytes a cell has; none if there is no such cell.
+    fn width(&self, column: usize) -> usize {
+        self.cell(column).len()
     }
 }
 
@@ -64,10 +69,7 @@ fn push_line(out: &mut Vec<u8>, line: &Line, widths: &[usize]) -> Result<(), All
         if column > 0 {
             out.extend_from_slice(GAP.as_bytes())?;
         }
-        match line.cells.get(column) {
-            Some(cell) => push_cell(out, cell.as_str(), widths[column])?,
-            None => push_cell(out, "", widths[column])?,
-        }
+        push_cell(out, line.cell(column), widths[column])?;
     }
     out.extend_from_slice(b"\n")
 }

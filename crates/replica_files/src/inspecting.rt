@@ -4,6 +4,7 @@ ghost use Rattle.std.specs.Io.KnownBytes.{IsAtEnd};
 ghost use Rattle.table_model.specs.Faults.{IsWithin};
 ghost use Rattle.table_model.specs.declared.refusal.Refusal.TheVariants.{WriteFault};
 
+use crate::columns_json::push_objects;
 use crate::columns_text::{Line, aligned};
 use crate::stored::{file_bytes, parts_of, stored_rows};
 use column_file::open;
@@ -17,6 +18,22 @@ use table_model::{Column, Counted, Field, Origin, Refusal};
 const HEADINGS: [&str; 11] = [
     "COLUMN", "TYPE", "NULLS", "VALUES", "LEAST", "GREATEST", "FOR", "DELTA", "RLE", "DICT", "BITS",
 ];
+
+/// The keys of the objects of columns, and how many of them are of texts.
+const KEYS: [&str; 11] = [
+    "column", "type", "nulls", "values", "least", "greatest", "for", "delta", "rle", "dict", "bits",
+];
+
+const TEXTS: usize = 2;
+
+/// The form of a report.
+#[derive(Clone, Copy, Debug, PartialEq, Eq)]
+pub enum ReportForm {
+    /// Lines for a person.
+    Text,
+    /// JSON in one line, or in one line for each of several things.
+    Json,
+}
 
 /// The figures of a column's live rows.
 #[derive(Drop)]
@@ -141,34 +158,62 @@ fn count_in(fields: &[Field]) -> i128 {
     }
 }
 
-/// What is told of a store whose file has so many bytes.
-fn report(alloc: Global, store: &Store) -> Result<Vec<u8>, Refusal> {
+/// What is reported of a store.
+fn report(alloc: Global, store: &Store, form: ReportForm) -> Result<Vec<u8>, Refusal> {
     let table = store.schema().table();
     let batches = store.batches();
     let rows = stored_rows(store);
     let live = live_rows(alloc, store)?;
     let ranges = store.tombs().ranges().len();
     let bytes = file_bytes(alloc, store)?;
-    let counts = format!(in alloc;
-        "table {table}\nbatches {batches}\nrows {rows}\nlive {live}\nranges {ranges}\nbytes {bytes}\n\n"
-    )?;
-    let lines = column_lines(alloc, store)?;
-    let columns = aligned(alloc, &heading_line(alloc)?, lines.as_slice())?;
+    let counts = match form {
+        ReportForm::Text => format!(in alloc;
+            "table {table}\nbatches {batches}\nrows {rows}\nlive {live}\nranges {ranges}\nbytes {bytes}\n\n"
+        )?,
+        ReportForm::Json => format!(in alloc;
+            "{{\"table\":\"{table}\",\"batches\":{batches},\"rows\":{rows},\"live\":{live},\"ranges\":{ranges},\"bytes\":{bytes},\"columns\":"
+        )?,
+    };
     let mut out = counts.into_bytes();
-    out.extend_from_slice(columns.as_slice())?;
+    push_columns(
+        alloc,
+        &mut out,
+        column_lines(alloc, store)?.as_slice(),
+        form,
+    )?;
     Ok(out)
+}
+
+/// Puts what is reported of columns behind a text.
+fn push_columns(
+    alloc: Global,
+    out: &mut Vec<u8>,
+    lines: &[Line],
+    form: ReportForm,
+) -> Result<(), AllocError> {
+    match form {
+        ReportForm::Text => {
+            let columns = aligned(alloc, &heading_line(alloc)?, lines)?;
+            out.extend_from_slice(columns.as_slice())
+        }
+        ReportForm::Json => {
+            push_objects(out, &KEYS, lines, TEXTS)?;
+            out.extend_from_slice(b"}\n")
+        }
+    }
 }
 
 /// Writes what a file holds: the table's name; how many batches, stored rows, live rows, ranges of deleted rows and bytes; and a line
 /// a column with its name, its type, how many live rows are null there and how many aren't, the least and the greatest live value,
 /// how many vectors have each coding, and how many bits a stored value takes, the bytes of headers and null masks with them. What
-/// isn't there is `-`.
+/// isn't there is `-`. As JSON it is an object in one line, whose `columns` are objects, and what isn't there is `null`.
 ///
 /// Refused are, in this order, what [`open`] refuses; `Memory`, which may come in the place of any of it; `WriteFault`. Only with the
 /// last anything is written: a front.
 pub fn inspect<R: Read, W: Write>(
     alloc: Global,
     reader: &mut Counted<R>,
+    form: ReportForm,
     writer: &mut Counted<W>,
 ) -> Result<(), Refusal>
     ensures unwritten { IfErr result (λ e. e ≢ WriteFault → W.contents writer.new.0 ≡ W.contents writer.old.0) }
@@ -177,6 +222,6 @@ pub fn inspect<R: Read, W: Write>(
     ensures kept { OnOk result ((reader.new.1 ≡ reader.old.1) × (writer.new.1 ≡ writer.old.1)) }
 {
     let store = open(alloc, reader, Origin(1))?;
-    let text = report(alloc, &store)?;
+    let text = report(alloc, &store, form)?;
     writer.write_whole(text.as_slice())
 }

@@ -3,6 +3,7 @@
 
 mod answering;
 mod applying;
+mod columns_json;
 mod columns_text;
 mod csv_reading;
 mod deleting;
@@ -12,6 +13,7 @@ mod file_writing;
 mod importing;
 mod inspecting;
 mod laws;
+mod listing;
 mod load;
 mod making;
 mod merging;
@@ -25,8 +27,9 @@ pub use deleting::{Deleted, DeletedRows, delete, delete_rows};
 pub use dumping::dump;
 pub use exchange::{offer, summary};
 pub use importing::{Imported, import};
-pub use inspecting::inspect;
+pub use inspecting::{ReportForm, inspect};
 pub use laws::{drawn_names_are_free, file_laws};
+pub use listing::list_batches;
 pub use load::Load;
 pub use making::{create, file_schema};
 pub use merging::merge;

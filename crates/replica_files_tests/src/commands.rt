@@ -3,8 +3,8 @@
 use column_file::{read_offer, read_summary};
 use csv_rows::{CsvError, CsvReader};
 use replica_files::{
-    Applied, Load, apply, create, delete, delete_rows, dump, file_schema, import, inspect, merge,
-    offer, read_csv, summary,
+    Applied, Load, ReportForm, apply, create, delete, delete_rows, dump, file_schema, import,
+    inspect, merge, offer, read_csv, summary,
 };
 use replica_store::Offer;
 use std::alloc::Global;
@@ -130,7 +130,12 @@ pub fn dumped(alloc: Global, file: &[u8], has_names: bool) -> Result<Vec<u8>, Re
 /// What is told of a file.
 pub fn inspected(alloc: Global, file: &[u8]) -> Result<Vec<u8>, Refusal> {
     let mut writer = Counted::new(Vec::new(alloc));
-    inspect(alloc, &mut Counted::new(file), &mut writer)?;
+    inspect(
+        alloc,
+        &mut Counted::new(file),
+        ReportForm::Text,
+        &mut writer,
+    )?;
     Ok(writer.into_inner())
 }
 

@@ -4,7 +4,7 @@
 use crate::commands::{Command, file_of, loaded, name, row};
 use column_file::read_offer;
 use replica_files::{
-    apply, create, delete, delete_rows, dump, import, inspect, merge, offer, summary,
+    ReportForm, apply, create, delete, delete_rows, dump, import, inspect, merge, offer, summary,
 };
 use replica_store::{Offer, Summary};
 use std::alloc::Global;
@@ -158,7 +158,7 @@ fn a_refused_inspection_writes_nothing(rt: HostRuntime) -> Result<(), Fail> {
     let mut room = [0; ROOM];
     let mut reader = Counted::new(file.as_slice());
     let mut writer = Counted::new(room.as_mut_slice());
-    let outcome = inspect(rt.alloc(), &mut reader, &mut writer);
+    let outcome = inspect(rt.alloc(), &mut reader, ReportForm::Text, &mut writer);
     let failures = (reader.failures(), writer.failures());
     ends(outcome, failures, &room)
 }

@@ -2,7 +2,7 @@
 use crate::commands::{Command, file_of, loaded, name, row, summarized};
 use column_file::{read_offer, read_summary};
 use replica_files::{
-    apply, create, delete, delete_rows, dump, import, inspect, merge, offer, summary,
+    ReportForm, apply, create, delete, delete_rows, dump, import, inspect, merge, offer, summary,
 };
 use std::alloc::Global;
 use std::test::Fail;
@@ -76,7 +76,7 @@ fn called<'a>(
             merge(alloc, reader, readers.as_mut_slice(), writer)
         }
         Call::Dump => dump(alloc, reader, true, writer),
-        Call::Inspect => inspect(alloc, reader, writer),
+        Call::Inspect => inspect(alloc, reader, ReportForm::Text, writer),
     }
 }
 

@@ -169,6 +169,7 @@ fn sites_that_pull_from_each_other_have_the_same_bytes(rt: HostRuntime) -> Resul
     let (told, pulled) = applied(alloc, mine.as_slice(), &[message.as_slice()])?;
     agree_at("batches", told.batches, 2)?;
     agree_at("ranges", told.ranges, 2)?;
+    agree_at("new", told.new, 1)?;
     agree_at("changed", told.is_changed, true)?;
     let text = dumped(alloc, pulled.as_slice(), false)?;
     assert!(rt; text.as_slice() == b"A,B\n10,20\n-3,\n4,9000000000\n".as_slice());
@@ -184,6 +185,7 @@ fn sites_that_pull_from_each_other_have_the_same_bytes(rt: HostRuntime) -> Resul
     // What was taken once changes nothing.
     let (again, nothing) = applied(alloc, pulled.as_slice(), &[message.as_slice()])?;
     agree_at("again", again.is_changed, false)?;
+    agree_at("nothing new", again.new, 0)?;
     assert!(rt; nothing.as_slice().is_empty());
     Ok(())
 }

@@ -1,0 +1,306 @@
+//! What sentences say of queries, lines of values and tables.
+
+use refusal_sentences::{CommandRefusal, Fields, Knowledge, Sentence, Text};
+use std::test::Fail;
+use table_model::{ColType, Refusal, Schema};
+
+// A query, why it is refused, and what is said of it. The table is VISITS with the columns SITE and HITS. The places are those that
+// docs/SQL.md gives.
+const QUERIES: [(&str, Refusal, &str); 33] = [
+    (
+        "SELECT * FROM VISITS",
+        Refusal::Syntax(7),
+        "byte 7: a query lists grouping columns and set functions: lanes dump writes the rows",
+    ),
+    (
+        "SELECT SITE FROM VISITS ORDER BY SITE",
+        Refusal::Syntax(24),
+        "byte 24: there is no ORDER BY: rows ascend by the columns of GROUP BY; sort the answer, as by sort",
+    ),
+    (
+        "SELECT COUNT(*) FROM VISITS limit 3",
+        Refusal::Syntax(28),
+        "byte 28: there is no LIMIT: cut the answer, as by head",
+    ),
+    (
+        "SELECT COUNT(*) FROM VISITS;",
+        Refusal::Syntax(27),
+        "byte 27: there is no semicolon: a query ends with its text",
+    ),
+    (
+        "SELECT COUNT(*) FROM VISITS WHERE SITE != 1",
+        Refusal::Syntax(39),
+        "byte 39: not equal is written <>",
+    ),
+    (
+        "SELECT COUNT(*) FROM VISITS WHERE SITE == 1",
+        Refusal::Syntax(40),
+        "byte 40: equal is written =",
+    ),
+    (
+        "SELECT SUM(HITS * 2) FROM VISITS",
+        Refusal::Syntax(16),
+        "byte 16: there is no arithmetic: compute with the answer",
+    ),
+    (
+        "SELECT SUM(HITS) / 2 FROM VISITS",
+        Refusal::Syntax(17),
+        "byte 17: there is no arithmetic: compute with the answer",
+    ),
+    (
+        "SELECT \"SITE\" FROM VISITS",
+        Refusal::Syntax(7),
+        "byte 7: names are not quoted: write the name alone, in either case",
+    ),
+    (
+        "SELECT CASE WHEN SITE = 1 THEN 1 END FROM VISITS",
+        Refusal::Syntax(17),
+        "byte 17: there is no CASE: ask a query for each case, with its condition in WHERE",
+    ),
+    (
+        "SELECT MEDIAN(HITS) FROM VISITS",
+        Refusal::Syntax(13),
+        "byte 13: there is no such function: set functions are COUNT, SUM, AVG, MIN and MAX",
+    ),
+    (
+        "SELECT DISTINCT SITE FROM VISITS",
+        Refusal::Syntax(7),
+        "byte 7: there is no SELECT DISTINCT: name the columns in GROUP BY too",
+    ),
+    (
+        "SELECT COUNT(1) FROM VISITS",
+        Refusal::Syntax(13),
+        "byte 13: COUNT(*) counts rows, and a set function takes a column",
+    ),
+    (
+        "SELECT SITE FROM VISITS GROUP BY 1",
+        Refusal::Syntax(33),
+        "byte 33: GROUP BY names its columns: there are no numbers for them",
+    ),
+    (
+        "SELECT VISITS.SITE FROM VISITS",
+        Refusal::Syntax(13),
+        "byte 13: a column is named alone, without its table",
+    ),
+    (
+        "SELECT COUNT(*) FROM VISITS WHERE HITS > 1.5",
+        Refusal::Syntax(42),
+        "byte 42: numbers are whole: a mean too is compared with a whole number",
+    ),
+    (
+        "SELECT COUNT(*) FROM VISITS WHERE SITE = 'paris'",
+        Refusal::Syntax(41),
+        "byte 41: there are no texts: values are whole numbers",
+    ),
+    (
+        "SELECT COUNT(*) FROM VISITS -- all",
+        Refusal::Syntax(28),
+        "byte 28: there are no comments",
+    ),
+    (
+        "SELECT COUNT(*) FROM VISITS JOIN T",
+        Refusal::Syntax(28),
+        "byte 28: there are no joins: a query asks one table",
+    ),
+    (
+        "SELECT COUNT(*) FROM (SELECT SITE FROM VISITS)",
+        Refusal::Syntax(21),
+        "byte 21: \"(\" is not possible here; expected is the table's name",
+    ),
+    (
+        "DELETE FROM VISITS",
+        Refusal::Syntax(0),
+        "byte 0: a query changes nothing: lanes delete deletes rows",
+    ),
+    (
+        "",
+        Refusal::Syntax(0),
+        "byte 0: the text ends too early; expected is SELECT",
+    ),
+    (
+        "SELECT COUNT(*)",
+        Refusal::Syntax(15),
+        "byte 15: the text ends too early; expected is FROM and the table's name",
+    ),
+    (
+        "SELECT COUNT(*) FROM VISITS WHERE",
+        Refusal::Syntax(33),
+        "byte 33: the text ends too early; expected is a condition",
+    ),
+    (
+        "SELECT COUNT(*) AS SUM FROM VISITS",
+        Refusal::Syntax(19),
+        "byte 19: \"SUM\" is not possible here; expected is a name that is no keyword",
+    ),
+    (
+        "SELEKT COUNT(*) FROM VISITS",
+        Refusal::Syntax(0),
+        "byte 0: \"SELEKT\" is not possible here; expected is SELECT",
+    ),
+    (
+        "SELECT COUNT(*) FROM VISITS SITE",
+        Refusal::Syntax(28),
+        "byte 28: \"SITE\" is not possible here",
+    ),
+    (
+        "SELECT SUM(QTY) FROM VISITS",
+        Refusal::NoSuchColumn(11),
+        "byte 11: there is no column \"QTY\": the table has SITE, HITS",
+    ),
+    (
+        "SELECT COUNT(*) FROM visit",
+        Refusal::NoSuchTable,
+        "there is no table \"visit\": this file has VISITS",
+    ),
+    (
+        "SELECT SITE, COUNT(*) FROM VISITS",
+        Refusal::NotGrouped(7),
+        "byte 7: \"SITE\" must be in GROUP BY or inside a set function",
+    ),
+    (
+        "SELECT",
+        Refusal::TooDeep,
+        "more than 64 parentheses are open at once",
+    ),
+    (
+        "SELECT",
+        Refusal::NumberTooLarge(3),
+        "byte 3: the number has more than 30 digits",
+    ),
+    // A place that is past the text is taken for its end.
+    (
+        "SELECT",
+        Refusal::Syntax(99),
+        "byte 99: the text ends too early; expected is a column or a set function",
+    ),
+];
+
+#[test]
+fn a_query_is_refused_with_what_to_write_instead(rt: HostRuntime) -> Result<(), Fail> {
+    let columns = [("SITE", ColType::SmallInt), ("HITS", ColType::Integer)];
+    let schema = Schema::new(rt.alloc(), "VISITS", &columns)?;
+    for &(text, refusal, want) in &QUERIES {
+        let sentence = Sentence {
+            refusal: CommandRefusal::from(refusal),
+            subject: "",
+            knowledge: Knowledge::Text(Text {
+                text,
+                is_condition: false,
+                schema: Some(&schema),
+            }),
+        };
+        let said = sentence.to_string(rt.alloc())?;
+        assert!(rt; said.as_str() == want, "said {said}");
+    }
+    Ok(())
+}
+
+// A line of the wrong number of fields for three columns, whether it is a header, and what is said of it.
+const LINES: [(&[u8], bool, &str); 10] = [
+    (
+        b"1,2",
+        false,
+        "the line has 2 fields, and the table has 3 columns",
+    ),
+    (
+        b"1,2,3,",
+        false,
+        "the line has 4 fields, and the table has 3 columns",
+    ),
+    (
+        b"1;2;3",
+        false,
+        "the line has 1 field, and the table has 3 columns; semicolons seem to separate its fields",
+    ),
+    (
+        b"A\tB\tC",
+        true,
+        "the line has 1 field, and the table has 3 columns; tabs seem to separate its fields",
+    ),
+    (
+        b"1|2|3",
+        false,
+        "the line has 1 field, and the table has 3 columns; bars seem to separate its fields",
+    ),
+    (
+        b"1;2",
+        false,
+        "the line has 1 field, and the table has 3 columns",
+    ),
+    (
+        b"",
+        true,
+        "the header is missing: did the command before it fail?",
+    ),
+    (b"\xff\xfeA\0", true, "this is UTF-16: save it as UTF-8"),
+    (
+        b"\x1f\x8b\x08",
+        true,
+        "this is packed by gzip: unpack it, as by gzip -dc",
+    ),
+    (
+        b"PK\x03\x04",
+        true,
+        "this is a zip file or a workbook: save it as CSV",
+    ),
+];
+
+#[test]
+fn a_line_is_refused_with_how_many_fields_it_has(rt: HostRuntime) -> Result<(), Fail> {
+    for &(line, is_header, want) in &LINES {
+        let fields = Fields::new(line, b',', 3, is_header);
+        let said = fields.to_string(rt.alloc())?;
+        assert!(rt; said.as_str() == want, "said {said}");
+    }
+    Ok(())
+}
+
+#[test]
+fn tables_and_headings_are_named(rt: HostRuntime) -> Result<(), Fail> {
+    let columns = [("SITE", ColType::SmallInt), ("HITS", ColType::Integer)];
+    let schema = Schema::new(rt.alloc(), "VISITS", &columns)?;
+    let other = Schema::new(rt.alloc(), "U", &[("A", ColType::TinyInt)])?;
+    let heading = |text| Knowledge::Heading {
+        text,
+        schema: &schema,
+    };
+    let header = CommandRefusal::BadCsv { line: 1, column: 2 };
+    let differs = CommandRefusal::from(Refusal::SchemaDiffers);
+    let tables = Knowledge::Tables {
+        found: &other,
+        wanted: &schema,
+        of: "t",
+    };
+    let cases = [
+        (
+            header,
+            heading(b"\"QTY\""),
+            "v, line 1, field 2: \"\"QTY\"\" is not a column of the table, which has SITE, HITS",
+        ),
+        (
+            header,
+            heading(b"site"),
+            "v, line 1, field 2: \"site\" is there for the second time",
+        ),
+        (
+            differs,
+            tables,
+            "v: this is of the table U (A TINYINT), and t of VISITS (SITE SMALLINT, HITS INTEGER)",
+        ),
+        (
+            CommandRefusal::from(Refusal::ReadFault),
+            Knowledge::Advice("what to do"),
+            "v: what to do",
+        ),
+    ];
+    for &(refusal, knowledge, want) in &cases {
+        let sentence = Sentence {
+            refusal,
+            subject: "v",
+            knowledge,
+        };
+        let said = sentence.to_string(rt.alloc())?;
+        assert!(rt; said.as_str() == want, "said {said}");
+    }
+    Ok(())
+}
