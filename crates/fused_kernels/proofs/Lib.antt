@@ -9,7 +9,6 @@ pub mod RunLemmas
 pub mod FoundLemmas
 pub mod RunFoldLemmas
 pub mod RowsLemmas
-pub mod BoundsLemmas
 pub mod CodeLemmas
 pub mod CodeRangeLemmas
 pub mod CodeSumLemmas

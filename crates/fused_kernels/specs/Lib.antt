@@ -1,4 +1,3 @@
-pub mod Bounds
 pub mod Extremes
 pub mod RowRuns
 pub mod Seen

@@ -27,7 +27,6 @@ mod vector_lanes;
 mod vector_sums;
 mod vector_values;
 
-pub use bounds::vector_may_have;
 pub use columns::compare_columns;
 pub use comparisons::compare;
 pub use counts::count;

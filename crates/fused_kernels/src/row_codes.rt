@@ -1,5 +1,5 @@
 //! Codes of a vector's rows, each of which stands for one value: the packed numbers of a frame, or a dictionary's codes.
-ghost use Rattle.std.specs.Prelude.{◌≡◌, ◌≢◌, ◌==◌, ℕ, ◌+◌, ◌*◌, ◌%◌, ◌^◌, ◌<◌, ◌≤◌, IfSome, IsSome, is_some, cond, length, slice_index, pos, ◌+ℤ◌, ◌-◌, ◌-ℤ◌, ◌≤ℤ◌, int_lt, true};
+ghost use Rattle.std.specs.Prelude.{◌≡◌, ◌≢◌, ◌==◌, ℕ, ◌+◌, ◌*◌, ◌%◌, ◌^◌, ◌<◌, ◌≤◌, IfSome, IsSome, None, is_some, cond, length, slice_index, pos, ◌+ℤ◌, ◌-◌, ◌-ℤ◌, ◌≤ℤ◌, int_lt, true};
 ghost use Rattle.std.specs.Int.{bit_at};
 ghost use Rattle.transpose_order.specs.Mask.{has};
 ghost use Rattle.transpose_order.specs.Place.{lane_of, step_of};
@@ -103,6 +103,7 @@ fn frame_codes(form: &For, codes: &mut [u16; 1024], keys: &mut [i64; 1024]) -> O
     ensures codes { IfSome result (λ count. AreCodes (InFor form.now) count codes.new keys.new) }
     ensures count { IfSome result (λ count. count ≡ 2 ^ form.now.width) }
     ensures answers { form.now.width ≤ 8 → IsPlain form.now → IsSome result }
+    ensures none { result ≡ None → (codes.new ≡ codes.old) × (keys.new ≡ keys.old) }
 {
     let width = form.width();
     if width > WIDEST || !is_plain(form) {
@@ -149,6 +150,7 @@ fn coded_codes(coded: &Coded, codes: &mut [u16; 1024], keys: &mut [i64; 1024]) -
     ensures count { IfSome result (λ count. count ≡ code_count coded.now) }
     ensures frames { (form : FrameForm) → coded.now ≡ InFor form → form.width ≤ 8 → IsPlain form → IsSome result }
     ensures dict { (form : DictForm) → coded.now ≡ InDict form → IsSome result }
+    ensures none { result ≡ None → (codes.new ≡ codes.old) × (keys.new ≡ keys.old) }
 {
     match coded {
         Coded::For(form) => frame_codes(form.get(), codes, keys),
@@ -215,7 +217,7 @@ pub fn vector_has_few_codes(vector: &CodedVector, most: usize) -> bool
 /// Writes a code for each row of a vector and the value that each code stands for, the values ascending from the first place on,
 /// and answers how many codes there are, at most 1024. A null row has that number as its code. The codes are the packed numbers of
 /// a frame of which no value can wrap, at a width up to 8, or a dictionary's. For other vectors it answers none, and the codes and
-/// keys can be any. A row that isn't covered can have any code. The meter counts one pass more if it answers.
+/// keys are as they were. A row that isn't covered can have any code. The meter counts one pass more if it answers.
 pub fn vector_codes_into(
     vector: &CodedVector,
     codes: &mut [u16; 1024],
@@ -226,6 +228,7 @@ pub fn vector_codes_into(
     ensures count { IfSome result (λ count. count ≡ code_count vector.now.coded) }
     ensures frames { (form : FrameForm) → vector.now.coded ≡ InFor form → form.width ≤ 8 → IsPlain form → IsSome result }
     ensures dict { (form : DictForm) → vector.now.coded ≡ InDict form → IsSome result }
+    ensures none { result ≡ None → (codes.new ≡ codes.old) × (keys.new ≡ keys.old) }
     ensures pass { meter.new ≡ cond (is_some result) (raised 1 meter.old) meter.old }
 {
     let count = coded_codes(vector.coded(), codes, keys)?;

@@ -1,5 +1,5 @@
 //! The runs of a coded vector: the rows where they start, and their values in order.
-ghost use Rattle.std.specs.Prelude.{◌≡◌, ℕ, ◌<◌, IfSome, IsSome, is_some, cond, length};
+ghost use Rattle.std.specs.Prelude.{◌≡◌, ℕ, ◌<◌, IfSome, IsSome, None, is_some, cond, length};
 ghost use Rattle.bit_interleave.specs.Range.{value_at};
 ghost use Rattle.run_dictionary.specs.Runs.{RunForm};
 ghost use Rattle.segment_core.specs.declared.coded.Coded.TheVariants.{Runs as InRuns};
@@ -22,7 +22,7 @@ fn write_run_values(form: &Runs, values: &mut [i64; 1024])
 }
 
 /// Writes the values of the runs of a vector in order, from the first place on, and answers the rows where a run starts after row
-/// 0. None if the vector isn't coded by runs; then the values can be any. A run of rows that are null or aren't covered can have
+/// 0. None if the vector isn't coded by runs; then the values are as they were. A run of rows that are null or aren't covered can have
 /// any value. The meter counts one pass more if it answers.
 pub fn vector_runs_into(
     vector: &CodedVector,
@@ -31,6 +31,7 @@ pub fn vector_runs_into(
 ) -> Option<Mask>
     ensures runs { IfSome result (λ starts. AreRowRuns vector.now starts values.new) }
     ensures answers { (form : RunForm) → vector.now.coded ≡ InRuns form → IsSome result }
+    ensures none { result ≡ None → values.new ≡ values.old }
     ensures pass { meter.new ≡ cond (is_some result) (raised 1 meter.old) meter.old }
 {
     match vector.coded() {

@@ -7,7 +7,6 @@ pub mod PredicateLemmas
 pub mod FormulaLemmas
 pub mod AnswerTexts
 pub mod KeptLemmas
-pub mod BoundsLemmas
 pub mod Lifted
 pub mod KeptSteps
 pub mod SeenLemmas

@@ -20,10 +20,6 @@ pub record IsPair (mask : List Bool) (t : ℕ → Truth) (pair : Pair) : Type 0 
   pub yes : pair.yes ≡ yes_of mask t
   pub no : pair.no ≡ no_of mask t
 
--- a truth value is true at no row of a vector
-pub record IsNowhere (t : ℕ → Truth) : Type 0 where
-  pub none : (n : ℕ) → n < 1024 → is_true (t n) ≡ false
-
 -- an operand at a row of a vector
 abbrev pub operand_at : Table → Vector → Operand → ℕ → Field
 operand_at table v operand n = at_row table.columns (row_at v n) operand

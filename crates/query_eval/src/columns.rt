@@ -5,13 +5,13 @@ use crate::vector_id::VectorId;
 use table_model::{BatchName, Op, Schema};
 use transpose_order::Mask;
 
-/// A table's state as batches of vectors of up to 1024 rows, whose rows' values are read by counted calls.
+/// A table's state as batches of vectors of up to 1024 rows, whose values come from counted calls alone.
 ///
 /// Contracts see a schema, a state within its limits and a number of passes. A call over a mask looks at the rows of the mask that
 /// aren't null. A mask can have deleted rows and rows past the vector's end.
 pub trait Columns {
     ghost use Rattle.std.specs.Prelude.{◌≡◌, ◌<◌, ◌≤◌, ℕ, List, length, map, not, Some, ℤ, pos, int_le, slice_index_or};
-    ghost use Rattle.std.specs.Prelude.{◌&&◌, false, IfSome, None};
+    ghost use Rattle.std.specs.Prelude.{◌&&◌, IfSome, None};
     ghost use Rattle.table_model.specs.Condition.{is_null};
     ghost use Rattle.table_model.specs.Answer.{whole};
     ghost use Rattle.query_eval.specs.Coded.{AreCodes, AreRuns};
@@ -20,7 +20,7 @@ pub trait Columns {
     ghost use Rattle.table_model.specs.Values.{total, least, greatest};
     ghost use Rattle.transpose_order.specs.Mask.{rows_of};
     ghost use Rattle.query_eval.specs.Pairs.{yes_of, no_of};
-    ghost use Rattle.query_eval.specs.Where.{IsNowhere, cell_between};
+    ghost use Rattle.query_eval.specs.Where.{cell_between};
     ghost use Rattle.query_eval.specs.Vector.{IsThere, IsWithin, batch_at, batch_count, vector_count, is_live, cell_at, looked_at, vector_of};
 
     ghost seen: { Self → Seen };
@@ -54,14 +54,6 @@ pub trait Columns {
         requires there { IsThere (seen self.now).state id.batch id.vector }
         requires column { column < length (seen self.now).table.columns }
         ensures { result ≡ rows_of (λ n. is_null (whole (cell_at (vector_of (seen self.now).state id) column n))) };
-
-    /// Whether a column can have a value in a vector that is neither below `low` nor above `high`. If it answers false, no row has
-    /// one. It counts no pass: an implementation answers from what is known of all values together, such as the bounds of a frame
-    /// or the ends of a dictionary.
-    fn may_have(&self, id: VectorId, column: usize, low: i128, high: i128) -> bool
-        requires there { IsThere (seen self.now).state id.batch id.vector }
-        requires column { column < length (seen self.now).table.columns }
-        ensures { result ≡ false → IsNowhere (λ n. cell_between (cell_at (vector_of (seen self.now).state id) column n) (Some low) (Some high)) };
 
     /// The rows of a mask at which the comparison of a column with a literal is true, and those at which it is false.
     fn compare(
@@ -144,18 +136,18 @@ pub trait Columns {
         ensures read { IsCounted (seen self.old) (seen self.new) 1 };
 
     /// Writes the values of the runs of a column in order, from the first place on, and answers the rows where a run starts after
-    /// row 0. None if the column isn't coded by runs in the vector: no pass is counted then, and the values can be any. A run of
+    /// row 0. None if the column isn't coded by runs in the vector: no pass is counted then, and the values are as they were. A run of
     /// rows that are null or past the vector's end can have any value.
     fn runs_into(&mut self, id: VectorId, column: usize, values: &mut [i64; 1024]) -> Option<Mask>
         requires there { IsThere (seen self.old).state id.batch id.vector }
         requires column { column < length (seen self.old).table.columns }
         ensures runs { IfSome result (λ starts. AreRuns (vector_of (seen self.old).state id) column starts values.new) }
         ensures read { IfSome result (λ _. IsCounted (seen self.old) (seen self.new) 1) }
-        ensures none { result ≡ None → seen self.new ≡ seen self.old };
+        ensures none { result ≡ None → (seen self.new ≡ seen self.old) × (values.new ≡ values.old) };
 
     /// Writes a code for each row of a column, and the value that each code stands for, ascending from the first place on, and
     /// answers how many codes there are, which is the code of null and of a row past the vector's end. None if the column has no
-    /// codes in the vector, or more than `most`: no pass is counted then, and the codes and keys can be any.
+    /// codes in the vector, or more than `most`: no pass is counted then, and the codes and keys are as they were.
     fn codes_into(
         &mut self,
         id: VectorId,
@@ -169,7 +161,7 @@ pub trait Columns {
         ensures codes { IfSome result (λ count. AreCodes (vector_of (seen self.old).state id) column count codes.new keys.new) }
         ensures few { IfSome result (λ count. count ≤ most) }
         ensures read { IfSome result (λ _. IsCounted (seen self.old) (seen self.new) 1) }
-        ensures none { result ≡ None → seen self.new ≡ seen self.old };
+        ensures none { result ≡ None → (seen self.new ≡ seen self.old) × ((codes.new ≡ codes.old) × (keys.new ≡ keys.old)) };
 
     /// How many passes over vectors were made, or the greatest number if there were more.
     fn passes(&self) -> u128

@@ -29,7 +29,6 @@ use Rattle.query_eval.specs.Below.{passing_below}
 use Rattle.query_eval.specs.Grouping.{as_list}
 use Rattle.query_eval.specs.Pairs.{yes_of}
 use Rattle.query_eval_tests.specs.PlainRows.{plain_name, plain_state, plain_vector}
-use Rattle.query_eval.specs.Where.{IsNowhere}
 use Rattle.table_model.specs.declared.truth.Truth.{Truth}
 use Rattle.query_eval.specs.Vector.{Vector, IsThere, IsWithin, batch_at, batch_count, vector_count, vector_at, row_at, cell_at, is_live, looked_at}
 
@@ -219,12 +218,3 @@ cell_at_fits table rows vector column n z h l e = one (cases_lt (1024 * vector +
 
 pub compared_same : (op : Op) (x y l m : Option ℤ) → x ≡ y → l ≡ m → comparison op x l ≡ comparison op y m
 compared_same op x y l m e f = ap (λ z. comparison op z l) e ∙ ap (comparison op y) f
-
--- ---- bounds
--- where a condition is true at no row of the whole mask, it is so nowhere
-pub nowhere_true : (all found : List Bool) (t : ℕ → Truth) → all ≡ rows_of (λ _. true) → found ≡ yes_of all t → ((n : ℕ) → n < 1024 → has found n ≡ false) → IsNowhere t
-unfolding yes_of
-nowhere_true all found t e y h = record {
-  none = λ n l. sym (ap (λ b. b && is_true (t n)) (ap (λ m. has m n) e ∙ has-rows_of (λ _. true) n l))
-      ∙ sym (has-rows_of (λ k. has all k && is_true (t k)) n l) ∙ ap (λ m. has m n) (sym y) ∙ h n l;
-}

@@ -14,7 +14,7 @@ ghost use Rattle.query_eval.specs.Decoded.{decoded_at};
 ghost use Rattle.query_eval_tests.specs.PlainCoding.{shown_at};
 ghost use Rattle.query_eval_tests.specs.PlainRows.{plain_vector};
 ghost use Rattle.query_eval.specs.Vector.{cell_at, is_live, looked_at};
-ghost use Rattle.query_eval.specs.Where.{IsNowhere, IsPair};
+ghost use Rattle.query_eval.specs.Where.{IsPair};
 
 use crate::plain_coding::{PlainCoding, run_starts, write_codes, write_keys, write_runs};
 use query_eval::{Columns, Decoded, Extreme, Pair, VectorId};
@@ -296,14 +296,6 @@ impl Columns for PlainColumns {
         self.nulls_at(column, id.vector)
     }
 
-    fn may_have(&self, id: VectorId, column: usize, low: i128, high: i128) -> bool {
-        let cells = self.decoded(column, id.vector);
-        let lows = Decoded::Fixed(Some(low));
-        let highs = Decoded::Fixed(Some(high));
-        let pair = range_rows(&cells, &lows, &highs, &Mask::all());
-        pair.yes.next_true(0) < 1024
-    }
-
     fn compare(
         &mut self,
         id: VectorId,
@@ -407,9 +399,11 @@ impl Columns for PlainColumns {
             return None;
         }
         let count = numbers as usize;
-        if !write_codes(&nulls, &values, first, count, codes) {
+        let mut made = [0; 1024];
+        if !write_codes(&nulls, &values, first, count, &mut made) {
             return None;
         }
+        *codes = made;
         write_keys(first, count, keys);
         self.count_passes(1);
         Some(count)

@@ -27,7 +27,6 @@ use Rattle.fused_kernels.specs.RowRuns.{AreRowCodes, AreRowRuns}
 use Rattle.query_eval.specs.Coded.{AreCodes, AreRuns, cell_of_code}
 use Rattle.query_eval.specs.Pairs.{yes_of, no_of}
 use Rattle.query_eval.specs.Vector.{Vector, cell_at, looked_at}
-use Rattle.query_eval.specs.Where.{IsNowhere}
 use Rattle.query_eval.proofs.Lifted.{rows_of-alike, shown_if}
 use Rattle.store_view.specs.View.{HasCells}
 use Rattle.store_view.proofs.CellLemmas.{cell_past}
@@ -121,19 +120,6 @@ pub range_no : (coded : VectorForm) (v : Vector) (column : ℕ) → HasCells cod
     ≡ no_of mask (λ n. and_of (comparison GreaterOrEqual (cell_at v column n) (Some low)) (comparison LessOrEqual (cell_at v column n) (Some high)))
 unfolding no_of
 range_no coded v column h low high mask = rows_of-like _ _ (λ n small. outside_one _ (has mask n) _ low high (cell_at v column n) (looked coded v column h mask n small))
-
--- where no value is in a range, BETWEEN is true at no row
-pub range_nowhere : (coded : VectorForm) (v : Vector) (column : ℕ) → HasCells coded v column → (low high : ℤ) → ((n : ℕ) → n < 1024 → between low high (value_in coded.coded n) ≡ false) →
-    IsNowhere (λ n. and_of (comparison GreaterOrEqual (cell_at v column n) (Some low)) (comparison LessOrEqual (cell_at v column n) (Some high)))
-range_nowhere coded v column h low high none = record {
-  none = λ n small.
-      let all : List Bool = rows_of (λ _. true) in
-      let truth : Bool = is_true (range_truth low high (cell_at v column n)) in
-      let seen_here : Bool = seen.looked_at (vector_seen coded 0) all n in
-      sym (ap (λ b. b && truth) (has-rows_of (λ _. true) n small))
-      ∙ sym (range_one seen_here (has all n) (value_in coded.coded n) low high (cell_at v column n) (looked coded v column h all n small))
-      ∙ ap (λ b. seen_here && b) (none n small) ∙ and-false seen_here;
-}
 
 -- ---- two columns
 pair_one : (op : Op) (a b m : Bool) (x y : ℤ) (c d : Option ℤ) → cond a (Some x) None ≡ cond m c None → cond b (Some y) None ≡ cond m d None →

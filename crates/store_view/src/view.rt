@@ -7,18 +7,17 @@ ghost use Rattle.table_model.specs.declared.op.Op.TheVariants.{GreaterOrEqual, L
 ghost use Rattle.table_model.specs.Values.{total, least, greatest};
 ghost use Rattle.query_eval.specs.Pairs.{yes_of, no_of};
 ghost use Rattle.table_model.specs.Passes.{raised};
-ghost use Rattle.query_eval.specs.Where.{IsNowhere};
 ghost use Rattle.query_eval.specs.Vector.{IsThere, vector_of, cell_at, looked_at};
 ghost use Rattle.store_view.specs.View.{HasCells};
 
 use fused_kernels::{
     Extremum, Meter, compare_vector, compare_vector_range, compare_vectors, count, decode_vector,
-    vector_codes_into, vector_extreme, vector_has_few_codes, vector_may_have, vector_runs_into,
+    vector_codes_into, vector_extreme, vector_has_few_codes, vector_runs_into,
     vector_sum,
 };
 use query_eval::{Columns, VectorId};
 use replica_store::Store;
-use segment_core::{Coded, CodedVector};
+use segment_core::CodedVector;
 use std::marker::Model;
 use table_model::{BatchName, Op, Schema};
 use transpose_order::{Mask, VECTOR_ROWS};
@@ -91,11 +90,6 @@ fn put_past(codes: &mut [u16; 1024], covered: usize, code: u16)
     }
 }
 
-/// Whether a vector's values are coded by runs. Their values are those of rows, so only counted calls look at them.
-fn has_runs(vector: &CodedVector) -> bool {
-    matches!(vector.coded(), Coded::Runs(_))
-}
-
 impl<'a> Columns for StoreView<'a> {
     ghost seen = { λ v. record { table = v.table; state = v.state; passes = v.passes } };
 
@@ -125,14 +119,6 @@ impl<'a> Columns for StoreView<'a> {
     fn nulls(&self, id: VectorId, column: usize) -> Mask {
         let found = vector_in(self.store, id, column);
         missing_rows(found)
-    }
-
-    fn may_have(&self, id: VectorId, column: usize, low: i128, high: i128) -> bool {
-        let found = vector_in(self.store, id, column);
-        if has_runs(found) {
-            return true;
-        }
-        vector_may_have(found, low, high)
     }
 
     fn compare(

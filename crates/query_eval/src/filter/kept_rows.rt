@@ -6,7 +6,6 @@ ghost use Rattle.query_eval.specs.Mentions.{condition_mentions};
 ghost use Rattle.query_eval.specs.Vector.{IsThere, vector_of};
 
 use crate::columns::Columns;
-use crate::filter::bounds::may_be_true;
 use crate::filter::true_rows::condition_rows;
 use crate::vector_id::VectorId;
 use table_model::Condition;
@@ -29,16 +28,12 @@ pub(crate) fn has_rows(mask: &Mask) -> bool
     mask.next_true(0) < 1024
 }
 
-/// The rows of a vector that aren't deleted and at which a condition is true. If what is known of all values of a column shows that
-/// there are none, the vector's rows aren't looked at. A vector without a live row takes no pass.
+/// The rows of a vector that aren't deleted and at which a condition is true. A vector without a live row takes no pass.
 pub(crate) fn true_mask<C: Columns>(columns: &mut C, id: VectorId, condition: &Condition) -> Mask
     requires { IsThere (C.seen columns.old).state id.batch id.vector }
     ensures value { result ≡ kept_mask (C.seen columns.old).table (Some condition.now) (vector_of (C.seen columns.old).state id) }
     ensures read { IsRead (C.seen columns.old) (C.seen columns.new) (cond (has_live (vector_of (C.seen columns.old).state id)) (condition_mentions condition.now) 0) }
 {
-    if !may_be_true(columns, id, condition) {
-        return Mask::none();
-    }
     let live = columns.live(id);
     if !has_rows(&live) {
         return live;

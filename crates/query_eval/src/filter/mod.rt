@@ -1,6 +1,5 @@
 //! Conditions of WHERE as masks over the rows of a vector, and the names of the rows at which one is true.
 
-mod bounds;
 mod code_predicates;
 mod column_places;
 mod decoded;

@@ -1,13 +1,8 @@
--- Where the bounds leave no row, and without a live row, none is kept; else those at which the condition is true.
+-- Without a live row none is kept; else those at which the condition is true.
 use Rattle.std.proofs.Common.{Some, refl}
 use Rattle.query_eval.specs.Vector.{vector_at}
-use Rattle.query_eval.proofs.BoundsLemmas.{kept-outside}
 use Rattle.query_eval.proofs.KeptLemmas.{kept-nowhere, kept-where, live-some, passes-where}
 use Rattle.query_eval.proofs.filter.kept_rows.true_mask.Goals as goal
-
-pub returns-then-not-may_be_true-clause-value : goal.returns-then-not-may_be_true-clause-value
-returns-then-not-may_be_true-clause-value g c =
-    kept-outside (g.C.Columns.seen c.args.columns.now).table c.args.condition.now (vector_at (g.C.Columns.seen c.args.columns.now).state c.args.id.batch c.args.id.vector) c.none.result c.none.ensures (c.may_be_true.ensures c.if-not-may_be_true.true)
 
 pub returns-then-not-has_rows-clause-value : goal.returns-then-not-has_rows-clause-value
 returns-then-not-has_rows-clause-value g c =
