@@ -1,5 +1,5 @@
 //! Codes of a vector's rows, each of which stands for one value: the packed numbers of a frame, or a dictionary's codes.
-ghost use Rattle.std.specs.Prelude.{◌≡◌, ◌≢◌, ◌==◌, ℕ, ◌+◌, ◌*◌, ◌%◌, ◌^◌, ◌<◌, ◌≤◌, IfSome, IsSome, None, ◌×◌, is_some, cond, length, slice_index, pos, ◌+ℤ◌, ◌-◌, ◌-ℤ◌, ◌≤ℤ◌, int_lt, true};
+ghost use Rattle.std.specs.Prelude.{◌≡◌, ◌≢◌, ◌==◌, ℕ, ◌+◌, ◌*◌, ◌%◌, ◌^◌, ◌<◌, ◌≤◌, IfSome, IsSome, None, is_some, cond, length, slice_index, pos, ◌+ℤ◌, ◌-◌, ◌-ℤ◌, ◌≤ℤ◌, int_lt, true};
 ghost use Rattle.std.specs.Int.{bit_at};
 ghost use Rattle.transpose_order.specs.Mask.{has};
 ghost use Rattle.transpose_order.specs.Place.{lane_of, step_of};

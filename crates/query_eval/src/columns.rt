@@ -11,7 +11,7 @@ use transpose_order::Mask;
 /// that aren't null; a mask may have deleted rows and rows past the vector's end.
 pub trait Columns {
     ghost use Rattle.std.specs.Prelude.{◌≡◌, ◌<◌, ◌≤◌, ℕ, List, length, map, not, Some, ℤ, pos, int_le, slice_index_or};
-    ghost use Rattle.std.specs.Prelude.{◌&&◌, ◌×◌, IfSome, None};
+    ghost use Rattle.std.specs.Prelude.{◌&&◌, IfSome, None};
     ghost use Rattle.table_model.specs.Condition.{is_null};
     ghost use Rattle.table_model.specs.Answer.{whole};
     ghost use Rattle.query_eval.specs.Coded.{AreCodes, AreRuns};
