@@ -1,14 +1,14 @@
 #!/usr/bin/env python3
 """Times the program on canonical files and prints a table: how long it takes to check a file, to open it and to export it again, at a
-quarter, a half and the whole of some batches, and how much memory a check takes at its peak beside a bound, also of files whose counts
+quarter, a half and the whole of some batches, and how much memory a check takes at its peak, compared with a bound, also of files whose counts
 claim more than their bytes hold and of files that are made to take much memory for their bytes.
 
 The batches are those of the script T.lanes in the folder that --data names (a `table` line and then `append` lines of one replica), or
 of a script of the bench's own. A time is the least processor time of some runs of a process, less that of a file with no batch: `open` is a query
-that reads no vector, `export` a merge of one file less `open`. Beside them stand the times of bench/files/plain.rs, which reads the
+that reads no vector, `export` a merge of one file less `open`. They are compared with the times of bench/files/plain.rs, which reads the
 file into vectors and writes them again with no checks; and with --beside PROGRAM those of a program that is run as
 `PROGRAM T.csv TURNS FILE` on the folder's T.csv and prints the lines `read ms, no checks`, a tab and a number, and `canonical check
-ms`, a tab, `all`, a tab and a number, which are medians of the time that passes: so is then what stands beside them.
+ms`, a tab, `all`, a tab and a number, which are medians by the clock: so are then those that they are compared with.
 """
 import argparse, os, pathlib, random, shutil, statistics, subprocess, sys, tempfile, time
 
@@ -16,7 +16,7 @@ TOP = pathlib.Path(__file__).resolve().parent.parent
 PLAIN = TOP / "bench" / "files" / "plain.rs"
 QUERY = "SELECT COUNT(*) FROM T"
 BOUND = "3 times the bytes, 256 bytes for each vector, and 64 for each range and each name of a batch"
-KNOWN = "Of a file of few bytes the peak tells the pages of the buffer that is read through, and little else."
+KNOWN = "For a file of few bytes the peak is mostly the pages of the buffer that it is read through."
 HEAD = b"FLCF" + bytes([1, 0, 1, 0, 1]) + b"T" + bytes([2, 1]) + b"A"
 
 
@@ -110,7 +110,7 @@ def numbers(values, size):
 
 
 def head_of(kind, columns, batches):
-    """What stands before the batches in a file of so many columns of a type, given by its bytes, C00 and so on."""
+    """What comes before the batches in a file of so many columns of a type, given by its bytes, C00 and so on."""
     names = b"".join(bytes([kind, 3]) + f"C{column:02}".encode() for column in range(columns))
     return b"FLCF" + bytes([1, 0, columns, 0, 1]) + b"T" + names + batches.to_bytes(4, "little")
 
@@ -145,7 +145,7 @@ def wide_in_deltas():
 
 
 def narrow_runs(chance):
-    """A SMALLINT vector of 600 runs, canonical: no other coding of so many values that lie so far apart is as short."""
+    """A SMALLINT vector of 600 runs, canonical: no other coding of so many values that are so far apart is as short."""
     starts = sum(1 << row for row in chance.sample(range(1, 1024), 599))
     return bytes([0, 2, 1]) + (600).to_bytes(2, "little") + starts.to_bytes(128, "little") + numbers(chance.sample(range(-(2**15), 2**15), 600), 2)
 
@@ -240,7 +240,7 @@ def print_extremes(program, folder):
 
 
 def print_peaks(program, files, folder):
-    """The peak memory of a check of each file beside the bound that is wanted."""
+    """The peak memory of a check of each file, compared with the bound."""
     if not shutil.which("time"):
         print("\nPeak memory isn't measured: there is no program `time`.")
         return

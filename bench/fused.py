@@ -1,7 +1,7 @@
 #!/usr/bin/env python3
-"""Times the proved kernels over coded vectors beside plain Rust over the same coded words, and prints Markdown tables of both.
+"""Times the proved kernels over coded vectors compared with plain Rust over the same coded words, and prints Markdown tables of both.
 
-What it builds stands in a folder outside the repository, which a later run takes up again: there the crates are proved
+What it builds is in a folder outside the repository, which a later run takes up again: there the crates are proved
 once, which takes some minutes. It needs the commands rt and rustc.
 """
 import sys
@@ -29,7 +29,7 @@ def print_least(names, best):
 def main():
     given = options(__doc__, "fused").parse_args()
     names, best = measured(given, libraries_below("fused_kernels"), "fused_times", TOP / "bench" / "fused")
-    print(f"Values a nanosecond; the ratio is Rattle's by plain Rust's, in bold where it is below {SLOW}.")
+    print(f"Values a nanosecond; the ratio is Rattle's by plain Rust's, in bold if it is below {SLOW}.")
     print_tables(names, best, ratio_of)
     print_least(names, best)
 

@@ -1,5 +1,5 @@
 #!/usr/bin/env python3
-"""Times GROUP BY through the program, and tells how much memory it takes beyond the table: 10, 1,000 and 100,000 groups.
+"""Times GROUP BY through the program, and prints how much memory it takes in addition to the table: 10, 1,000 and 100,000 groups.
 
     python3 bench/groups.py [--program PROGRAM] [--rows N] [--runs N]
 

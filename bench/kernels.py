@@ -1,7 +1,7 @@
 #!/usr/bin/env python3
-"""Times the proved kernels of packing and of the codings beside plain Rust, and prints Markdown tables of both.
+"""Times the proved kernels of packing and of the codings compared with plain Rust, and prints Markdown tables of both.
 
-What it builds stands in a folder outside the repository, which a later run takes up again: there the crates are proved
+What it builds is in a folder outside the repository, which a later run takes up again: there the crates are proved
 once, which takes some minutes. It needs the commands rt and rustc.
 """
 import sys
@@ -20,7 +20,7 @@ def ratio_of(proved, plain):
 def main():
     given = options(__doc__, "kernels").parse_args()
     names, best = measured(given, libraries_below("frame_delta", "run_dictionary"), "lane_kernels", TOP / "bench" / "kernels")
-    print(f"Values a nanosecond; the ratio is plain Rust's by Rattle's, in bold where it is above {SLOW}.")
+    print(f"Values a nanosecond; the ratio is plain Rust's by Rattle's, in bold if it is above {SLOW}.")
     print_tables(names, best, ratio_of)
 
 

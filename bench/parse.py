@@ -1,7 +1,7 @@
 #!/usr/bin/env python3
-"""Times the proved parser of queries beside plain Rust, and prints a Markdown table of both.
+"""Times the proved parser of queries compared with plain Rust, and prints a Markdown table of both.
 
-What it builds stands in a folder outside the repository, which a later run takes up again: there the crates are proved
+What it builds is in a folder outside the repository, which a later run takes up again: there the crates are proved
 once, which takes some minutes. It needs the commands rt and rustc.
 """
 import argparse, os, pathlib, subprocess, sys

@@ -6,7 +6,7 @@
 FOLDER holds T.flcf and T.csv, the canonical file and the rows of one table of counts that sites report (SITE SMALLINT, DAY
 INTEGER, KIND SMALLINT, EVENTS BIGINT, ERRORS INTEGER, TOTAL BIGINT). PROGRAM beside is run as `PROGRAM FOLDER/T.csv N` and
 prints lines `query NAME MS,MS,.. ANSWER`; the bench then prints both sides and their ratio, and says where the answers differ.
-Q10 is timed beside a plain loop that unpacks each vector and puts each value into a set (queries/distinct.rs), where `rustc` is
+Q10 is compared with a plain loop that unpacks each vector and puts each value into a set (queries/distinct.rs), if `rustc` is
 there, since a program beside may read bounds and dictionaries alone.
 Without a folder, lanes is timed alone, on 400,000 rows of its own.
 
@@ -89,7 +89,7 @@ def beside(other, folder, runs):
 
 
 def plain_loop(room):
-    """The program of Q10's plain loop, or nothing where there is no compiler."""
+    """The program of Q10's plain loop, or nothing if there is no compiler."""
     if not shutil.which("rustc"):
         return None
     made = os.path.join(room, "distinct")
@@ -116,7 +116,7 @@ def main():
             time_of, answer = milliseconds(given.program, os.path.join(folder, "T.flcf"), query, given.runs)
             line = f"{name} {time_of:9.3f} ms"
             if name in others:
-                line += f" {others[name][0]:9.3f} ms beside, ratio {time_of / others[name][0]:8.2f}"
+                line += f" {others[name][0]:9.3f} ms of the other program, ratio {time_of / others[name][0]:8.2f}"
                 line += "" if others[name][1] == answer else f", ANSWERS DIFFER: {answer[:80]} and {others[name][1][:80]}"
             print(line)
 

@@ -45,7 +45,7 @@ def merged_batches(count):
 
 
 def scattered_deletes(count):
-    """Two replicas delete so many single rows each, no two side by side, and merge."""
+    """Two replicas delete so many single rows each, no two adjacent, and merge."""
     yield "table 2 T A SMALLINT\n"
     for replica, first in ((1, 0), (2, 2)):
         for i in range(count):
@@ -71,7 +71,7 @@ def merged_from_above(count):
 
 
 def batches_below(count):
-    """One replica takes as many batches from another, and appends so many that stand before them."""
+    """One replica takes as many batches from another, and appends batches that come before them, this many of each."""
     yield from merged_from_above(count)
     for i in range(count):
         yield f"append 1 {one_row(i)}\n"

@@ -1,7 +1,7 @@
 #!/usr/bin/env python3
 """Times segments on a table of six columns: building, canonical, copy, write_bytes and read_bytes, and what they take.
 
-What it builds stands in a folder outside the repository, which a later run takes up again: there the crates are proved
+What it builds is in a folder outside the repository, which a later run takes up again: there the crates are proved
 once, which takes some minutes. It needs the command rt. With --beside it also runs a program that prints, for the same file
 of rows, lines 'encode ms', 'read ms, no checks' and 'canonical check ms all', each with a tab and a number, and gives the
 ratios of both.
@@ -54,7 +54,7 @@ def build(folder, cpu):
 
 
 def figures(words):
-    """What a program prints: a number for each name, where a line ends in a tab and a number."""
+    """What a program prints: a number for each name, if a line ends in a tab and a number."""
     lines = subprocess.run(words, stdout=subprocess.PIPE, text=True, check=True).stdout.splitlines()
     found = {}
     for line in lines:
@@ -72,7 +72,7 @@ def least(found, words):
 
 def print_times(ours, theirs):
     beside = {"check_rows and build": "encode ms", "canonical": "canonical check ms all", "read_bytes": "read ms, no checks"}
-    print("| Call | ms | ns a value | beside, ms | ratio |\n|---|---:|---:|---:|---:|")
+    print("| Call | ms | ns a value | the other program, ms | ratio |\n|---|---:|---:|---:|---:|")
     for name in ("check_rows", "check_rows and build", "canonical", "copy", "write_bytes", "read_bytes"):
         other = theirs.get(beside.get(name))
         ratio = [f"{other:.2f}", f"{ours[name] / 1e6 / other:.2f}"] if other else ["", ""]
@@ -83,7 +83,7 @@ def print_sizes(ours):
     disk, vectors, parts, own = (ours[name] for name in ("bytes on disk", "vectors", "bytes of parts", "bytes of vectors"))
     values = 6 * ours["rows"]
     print(f"\nOn disk {disk:.0f} bytes, {disk / values:.3f} a value; in memory {parts + own:.0f}, {(parts + own) / values:.3f} a value,")
-    print(f"{(parts + own) / disk:.2f} times as many: {parts:.0f} in parts, and {own / vectors:.1f} a vector beside them.")
+    print(f"{(parts + own) / disk:.2f} times as many: {parts:.0f} in parts, and {own / vectors:.1f} a vector in addition.")
 
 
 def main():

@@ -1,4 +1,4 @@
-"""Speeds of proved kernels beside those of plain Rust: what both benches of kernels measure, and print as Markdown tables.
+"""Speeds of proved kernels compared with those of plain Rust: what both benches of kernels measure, and print as Markdown tables.
 
 A timing program prints a line for each kernel, lane width and data: these, Rattle's values a nanosecond and plain Rust's, with
 tabs between.
@@ -33,7 +33,7 @@ def options(usage, folder):
 
 
 def measured(given, libraries, name, sources):
-    """Builds a bench's programs, for the default processor and for WIDER where this machine runs that, and times them.
+    """Builds a bench's programs, for the default processor, and for WIDER if this machine runs that, and times them.
 
     Gives the processors' names and the best speeds for each."""
     folder = given.folder.resolve()
@@ -44,7 +44,7 @@ def measured(given, libraries, name, sources):
 
 
 def ratio_text(ratio, is_slow):
-    """A ratio with two decimals, in bold where it is slow."""
+    """A ratio with two decimals, in bold if it is slow."""
     return f"**{ratio:.2f}**" if is_slow else f"{ratio:.2f}"
 
 

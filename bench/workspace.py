@@ -14,19 +14,19 @@ def say(text):
 
 
 def run(words, folder):
-    """Runs a command, and stops with what it wrote where it fails."""
+    """Runs a command, and stops with what it wrote if it fails."""
     done = subprocess.run(words, cwd=folder, stdout=subprocess.PIPE, stderr=subprocess.STDOUT, text=True)
     if done.returncode:
         sys.exit(f"{done.stdout[-4000:]}\n{words[0]} failed in {folder}")
 
 
 def usual_folder(name):
-    """Where the workspace of a bench stands if no other folder is named."""
+    """Where the workspace of a bench is if no other folder is named."""
     return pathlib.Path(tempfile.gettempdir()) / f"lanes-{name}-{os.getuid()}"
 
 
 def libraries_below(*names):
-    """The crates of those names and all that they stand on, lowest first, each with its libraries as crates.txt has them."""
+    """The crates of those names and all that they use, lowest first, each with its libraries as crates.txt has them."""
     lines = [line.partition(":") for line in (TOP / "crates.txt").read_text().splitlines() if not line.startswith("#")]
     below = {name: libraries.split() for name, _, libraries in lines}
     wanted = set()
@@ -37,7 +37,7 @@ def libraries_below(*names):
 
 
 def copy_crate(name, folder):
-    """Copies a crate's sources, and its kept proof work where the folder has none of its own."""
+    """Copies a crate's sources, and its kept proof work if the folder has none of its own."""
     source, crate = TOP / "crates" / name, folder / "crates" / name
     for part in ("src", "specs", "proofs"):
         shutil.rmtree(crate / part, ignore_errors=True)
@@ -52,7 +52,7 @@ def copy_crate(name, folder):
 
 
 def write_workspace(folder, libraries, name, sources, row):
-    """Writes a workspace of the libraries, each with those that it stands on, and of the bench's own crate over them.
+    """Writes a workspace of the libraries, each with those that it uses, and of the bench's own crate over them.
 
     The crate's files get their ending .rt here, since the gate stops at a .rt file that belongs to none of the repository's
     crates; `row` is its line in crates.txt, after the name."""

@@ -46,7 +46,9 @@ def definition(name, files):
 def stated(page):
     """The files of the page's statements. The script ends here if one isn't there, or a law isn't in them."""
     found = []
-    for clause, laws, places in rows(page, STATED):
+    for row in rows(page, STATED):
+        len(row) == 3 or sys.exit(f"docs/THEOREM.md: the row of `{row[0]}` does not have three cells")
+        clause, laws, places = row
         files = [CRATES / place for place in quoted(places)]
         for file in files:
             file.exists() or sys.exit(f"docs/THEOREM.md: there is no file {file.relative_to(TOP)}, in which `{clause}` is stated")
@@ -68,8 +70,8 @@ def compare(page, files):
         code = one_line(definition(name, files) or "")
         code.endswith(" " + one_line(block)) or sys.exit(f"docs/THEOREM.md: {name} is not quoted as the code has it")
     told = " ".join(map(one_line, statements))
-    for code, _ in rows(page, ALOUD):
-        for part in quoted(code)[0].split(".."):
+    for row in rows(page, ALOUD):
+        for part in quoted(row[0])[0].split(".."):
             one_line(part) in told or sys.exit(f"docs/THEOREM.md: `{part.strip()}` is read aloud, and is in no statement that the page quotes")
 
 

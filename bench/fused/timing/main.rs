@@ -1,4 +1,4 @@
-//! Times the proved kernels over coded vectors beside plain Rust in one process, after a check that both give the same.
+//! Times the proved kernels over coded vectors compared with plain Rust in one process, after a check that both give the same.
 mod data;
 mod forms;
 mod mixed;

@@ -8,7 +8,7 @@ use std::hint::black_box;
 
 const VECTORS: usize = 16;
 
-/// Stops where the two sides differ.
+/// Stops if the two sides differ.
 fn check<U: Word, C: Coding<U> + ProvedCoding>(values: &[i64; 1024]) {
     let bytes = <C as Coding<U>>::size(values);
     assert_eq!([C::proved_size(values, U::BITS), C::proved_encode(values, U::BITS)], [bytes; 2]);

@@ -1,4 +1,4 @@
-//! Times the proved kernels beside plain Rust in one process, after a check that both give the same.
+//! Times the proved kernels compared with plain Rust in one process, after a check that both give the same.
 mod coding_times;
 mod numbers;
 mod packing_times;

@@ -23,7 +23,7 @@ impl<U: Word> Packing<U> {
         Packing { width, values, words }
     }
 
-    /// Stops where a side's kernels don't give what the values and the words are.
+    /// Stops if a side's kernels give other values or words.
     fn check(&self, side: &Kernels<U>) {
         let Packing { width, values, words } = self;
         let mut packed = vec![U::ONES; words.len()];

@@ -1,4 +1,4 @@
-//! The words that lanes are made of, and where the rows of a vector stand in them.
+//! The words that lanes are made of, and the places of a vector's rows in them.
 use std::ops::{BitAnd, BitOr, BitOrAssign, Shl, Shr};
 
 /// One of the unsigned integers of 8, 16, 32 and 64 bits.

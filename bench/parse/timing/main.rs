@@ -1,4 +1,4 @@
-//! Times the proved parser beside a plain tokenizer and descent in one process, after a check that both give the same.
+//! Times the proved parser compared with a plain tokenizer and descent in one process, after a check that both give the same.
 mod digest;
 mod plain_parser;
 mod plain_query;

@@ -144,8 +144,8 @@ impl Cluster {
         Ok(Reply::Done)
     }
 
-    /// Deletes a replica's rows at which the condition that a text is is true. That there is no such replica is reported before the
-    /// text is read.
+    /// Deletes a replica's rows at which a condition, given as a text, is true. That there is no such replica is reported before
+    /// the text is read.
     fn delete_where(
         &mut self,
         alloc: Global,

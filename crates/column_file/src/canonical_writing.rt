@@ -17,7 +17,7 @@ use std::alloc::{AllocError, Global};
 use std::io::Write;
 use table_model::{BatchName, Counted, Refusal, RowName, Schema};
 
-/// A canonical copy of a segment, or none where it is canonical itself.
+/// A canonical copy of a segment, or none if the segment is canonical itself.
 fn canonical_copy(alloc: Global, segment: &Segment) -> Result<Option<Segment>, AllocError>
     ensures { IfOk result (λ made. chosen segment.now made ≡ canonical_again segment.now) }
 {
@@ -43,7 +43,7 @@ fn canonical_copies(
     Ok(made)
 }
 
-/// The copy that was made of a segment, or the segment itself where none was.
+/// The copy that was made of a segment, or the segment itself if none was made.
 fn chosen<'a>(held: &'a Segment, made: &'a Option<Segment>) -> &'a Segment
     ensures { result.now ≡ chosen held.now made.now }
 {
@@ -123,12 +123,12 @@ fn write_canonical<W: Write>(
     write_ranges(writer, deleted)
 }
 
-/// Writes the canonical file of a store's schema and state: version 1, all batches in ascending order of name, each vector in its
-/// canonical form, a null mask exactly where a vector has a null, and the deletions as maximal ranges. No own origin, order of
-/// arrival or coding is told by it.
+/// Writes the canonical file of a store's schema and state: in the version of the schema, with all batches in ascending order of
+/// name, each vector in its canonical form, a null mask exactly if a vector has a null, and the deletions as maximal ranges. It
+/// does not show the own origin, the order of arrival or any coding of the store.
 ///
-/// Refused are `Memory`, where there is none for the canonical copies of segments that aren't canonical, before anything is written,
-/// and then a write that fails (`WriteFault`); a front of the bytes was written then.
+/// The refusals are `Memory`, if there is none for the canonical copies of segments that aren't canonical, before anything is
+/// written; and then a write that fails (`WriteFault`), after which a beginning of the bytes was written.
 pub fn export<W: Write>(
     alloc: Global,
     store: &Store,

@@ -1,4 +1,4 @@
-//! Comparing bytes with others as these are written, so that the others stand nowhere.
+//! Comparing bytes with others while these are written, so that the others are kept nowhere.
 ghost use Rattle.std.specs.Prelude.{◌≡◌, ◌<◌, [], length, OnErr, IfOk, IsOk, IsTrue, Some};
 ghost use Rattle.std.specs.Io.{ReadsAtMost, WritesAtMost};
 ghost use Rattle.std.specs.Io.KnownBytes.{Keeps, WriteAppends};
@@ -10,7 +10,7 @@ use std::io::Write;
 use std::marker::Model;
 use table_model::Refusal;
 
-/// The first place where two texts differ, or the length of the shorter where it is a front of the other.
+/// The first place where two texts differ, or the length of the shorter one if the other begins with it.
 pub(crate) fn first_difference(a: &[u8], b: &[u8]) -> usize
     ensures { result ≡ first_difference a.now b.now }
 {
@@ -23,8 +23,9 @@ pub(crate) fn first_difference(a: &[u8], b: &[u8]) -> usize
     shorter
 }
 
-/// A writer that takes the bytes that are expected and, where another comes, that one; from then on it answers an error. Contracts
-/// see the expected bytes and what came, and as its contents both, so that a call which only writes can't change the expected ones.
+/// A writer that takes the bytes that are expected, and the first byte that differs from them; from then on it answers an error.
+/// Contracts see the expected bytes and what came, and both as its contents, so that a call which only writes can't change the
+/// expected ones.
 #[derive(Drop)]
 pub(crate) struct Comparison<'a> {
     expected: &'a [u8],
@@ -55,7 +56,7 @@ impl<'a> Comparison<'a> {
         }
     }
 
-    /// The first place where what came differs from what was expected, or the length of the shorter.
+    /// The first place where what came differs from what was expected, or the length of the shorter one.
     pub(crate) fn place(&self) -> usize
         ensures { result ≡ first_difference self.now.0 self.now.1 }
     {
@@ -79,8 +80,8 @@ impl<'a> Comparison<'a> {
         self.other.is_some()
     }
 
-    /// What it says of a text that was written to it with this outcome: nothing where exactly what was expected came, else
-    /// `NotCanonical` with the first place that differs, and `Memory` where the writing ended before there was one.
+    /// What it says of a text that was written to it with this outcome: nothing if exactly what was expected came; otherwise
+    /// `NotCanonical` with the first place that differs, or `Memory` if the writing ended before there was one.
     pub(crate) fn verdict(&self, outcome: Result<(), Refusal>) -> Result<(), Refusal>
         ensures { result ≡ verdict self.now outcome }
     {

@@ -19,7 +19,7 @@ use table_model::{BatchName, Number, Origin, Refusal, RowName, Schema};
 /// What a container begins with.
 pub(crate) const CONTAINER: [u8; 4] = *b"FLCF";
 
-/// How many rows a batch has, 1 to 65,536, and what stands after that.
+/// How many rows a batch has, 1 to 65,536, and what comes after that.
 #[tactic(auto, unfolding(crate::specs::ContainerBytes::row_count))]
 fn read_row_count(total: usize, bytes: &[u8]) -> Result<(usize, &[u8]), Refusal>
     ensures read { Reads (λ x. (x.0, x.1.now)) result (row_count.read total bytes.now) }
@@ -38,7 +38,7 @@ fn is_after_batches(front: &[(BatchName, Segment)], name: BatchName) -> bool
     front.is_empty() || precedes(front[front.len() - 1].0, name)
 }
 
-/// The name of a batch, after the batches before it, and what stands after it.
+/// The name of a batch, after the batches before it, and what comes after it.
 #[tactic(auto, unfolding(crate::specs::SummaryBytes::batch_name))]
 fn read_name_after<'a>(
     total: usize,
@@ -55,7 +55,8 @@ fn read_name_after<'a>(
     Ok((name, rest))
 }
 
-/// The segment of so many rows, 1 to 65,536, of a table, where `rest` is what is left of the bytes, and what stands after it.
+/// The segment of this many rows, 1 to 65,536, of a table, at the front of `rest`, which is what is left of the bytes, and what
+/// comes after it.
 fn read_segment<'a>(
     alloc: Global,
     schema: &Schema,
@@ -75,13 +76,13 @@ fn read_segment<'a>(
 {
     let at = bytes.len().saturating_sub(rest.len());
     let (segment, next) = Segment::read_bytes(alloc, schema, rows, bytes, at)?;
-    // `rows` ensures that the vectors are those of so many rows.
+    // `rows` ensures that the vectors are those of this many rows.
     let _rows = segment.rows();
     let (_, after) = bytes.split_at(next.min(bytes.len()));
     Ok((segment, after))
 }
 
-/// The batch at the front of what is left, after the batches before it, and what stands after it.
+/// The batch at the front of what is left, after the batches before it, and what comes after it.
 #[tactic(auto, unfolding(crate::specs::ContainerBytes::batch))]
 fn read_batch<'a>(
     alloc: Global,
@@ -102,7 +103,7 @@ fn read_batch<'a>(
     Ok((name, segment, after))
 }
 
-/// So many batches at the front of what is left, and what stands after them.
+/// This many batches at the front of what is left, and what comes after them.
 fn read_batch_list<'a>(
     alloc: Global,
     schema: &Schema,
@@ -124,7 +125,7 @@ fn read_batch_list<'a>(
     Ok((found, rest))
 }
 
-/// The batches at the front of what is left, and what stands after them.
+/// The batches at the front of what is left, and what comes after them.
 #[tactic(auto, unfolding(crate::specs::ContainerBytes::batches))]
 fn read_batches<'a>(
     alloc: Global,
@@ -140,7 +141,7 @@ fn read_batches<'a>(
     read_batch_list(alloc, schema, bytes, after_count, count)
 }
 
-/// A batch's name and two ordinals, whatever they are, at the front, and what stands after them.
+/// A batch's name and two ordinals, whatever they are, at the front, and what comes after them.
 #[tactic(auto, unfolding(crate::specs::ContainerBytes::range_parts, crate::specs::SummaryBytes::any_name))]
 fn read_range_parts(total: usize, bytes: &[u8]) -> Result<((RowName, u16), &[u8]), Refusal>
     ensures read { Reads (λ x. (deleted_of x.0, x.1.now)) result (range_parts.read total bytes.now) }
@@ -178,7 +179,7 @@ fn begins_after(front: &[(RowName, u16)], range: (RowName, u16)) -> bool
     front.is_empty() || ends_before(front[front.len() - 1], range)
 }
 
-/// The range of deleted rows at the front, after the ranges before it, and what stands after it.
+/// The range of deleted rows at the front, after the ranges before it, and what comes after it.
 #[tactic(auto, unfolding(crate::specs::ContainerBytes::range))]
 fn read_range<'a>(
     total: usize,
@@ -201,7 +202,7 @@ fn read_range<'a>(
     Ok((found, rest))
 }
 
-/// So many ranges at the front, and what stands after them.
+/// This many ranges at the front, and what comes after them.
 fn read_range_list(
     alloc: Global,
     total: usize,
@@ -220,7 +221,7 @@ fn read_range_list(
     Ok((found, rest))
 }
 
-/// The ranges at the front, and what stands after them.
+/// The ranges at the front, and what comes after them.
 #[tactic(auto, unfolding(crate::specs::ContainerBytes::ranges))]
 fn read_ranges(
     alloc: Global,
@@ -233,8 +234,8 @@ fn read_ranges(
     read_range_list(alloc, total, rest, count)
 }
 
-/// The schema, the batches and the ranges of a container. Refused is the first fault of the bytes, or a want of memory, which may
-/// come in the place of any of them. What is held is in proportion to the bytes that are there.
+/// The schema, the batches and the ranges of a container. The refusal is the first fault of the bytes, or `Memory`, which can come
+/// in place of any of them. The memory it takes is in proportion to the bytes that are there.
 #[tactic(auto, unfolding(crate::specs::ContainerBytes::container))]
 pub(crate) fn read_container(
     alloc: Global,

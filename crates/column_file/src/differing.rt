@@ -1,4 +1,4 @@
-//! Finding where bytes that aren't the canonical file of what they hold differ from it: in the first vector that isn't canonical. So
+//! Finding where bytes that aren't the canonical file of their content differ from it: in the first vector that isn't canonical. So
 //! no other vector's canonical form is made.
 ghost use Rattle.std.specs.Prelude.{◌≡◌, ◌<◌, length, map, slice_index_or, [], IfOk, IfErr, MatchOption, OnOk};
 ghost use Rattle.std.specs.List.{All};
@@ -68,8 +68,8 @@ fn put_first_other(alloc: Global, segment: &mut Segment) -> Result<(), Refusal>
     segment.recode(alloc, column as u32, vector as u32, coding)
 }
 
-/// Whether each segment is canonical. A segment remembers that it is, so that an export doesn't judge it again; of the first one that
-/// isn't, the first vector that isn't is put into its canonical form.
+/// Whether each segment is canonical. A segment remembers that it is, so that an export doesn't check it again. In the first
+/// segment that isn't, the first vector that isn't is put into its canonical form.
 pub(crate) fn judge_batches(
     alloc: Global,
     entries: &mut Vec<(BatchName, Segment)>,

@@ -8,14 +8,14 @@ use std::alloc::Global;
 use std::io::Read;
 use table_model::{Counted, READ_LIMIT, Refusal};
 
-/// How many bytes are asked for at once.
+/// How many bytes one read asks for.
 const CHUNK: usize = 65_536;
 
-/// How many times is read at most: each round but the last reads a byte at least.
+/// The most reads: each round but the last reads at least a byte.
 const ROUNDS: u64 = READ_LIMIT + 1;
 
-/// What a reader has, read to its end through a buffer. `ReadFault` where a read fails or more than 2^48 bytes come, and `Memory`
-/// where there is none for what came.
+/// What a reader has, read to its end through a buffer. `ReadFault` if a read fails or more than 2^48 bytes come, and `Memory` if
+/// there is none for what came.
 fn read_through<R: Read>(
     alloc: Global,
     reader: &mut Counted<R>,
@@ -47,8 +47,8 @@ fn read_through<R: Read>(
     Err(Refusal::ReadFault)
 }
 
-/// What a reader has, read to its end. `ReadFault` where a read fails or more than 2^48 bytes come, and `Memory` where there is
-/// none for what came.
+/// What a reader has, read to its end. `ReadFault` if a read fails or more than 2^48 bytes come, and `Memory` if there is none for
+/// what came.
 pub(crate) fn read_input<R: Read>(
     alloc: Global,
     reader: &mut Counted<R>,

@@ -21,7 +21,7 @@ pub fn containers_and_bytes_come_back()
 {}
 
 /// The law that a canonical file opens to the table and the state that it was exported from, that no other table or state has it,
-/// and that bytes open to one table and state. [`export`](crate::export) ensures what this asks of a table and a state.
+/// and that bytes open to one table and state. [`export`](crate::export) ensures what this requires of a table and a state.
 pub fn files_and_states_come_back()
     ensures opens { FilesOpen }
     ensures same { SameFileSameState }
@@ -29,14 +29,16 @@ pub fn files_and_states_come_back()
 {}
 
 /// The law that the bytes of an offer are read as the same offer, codings included, and those of a summary as the same summary.
-/// [`write_offer`](crate::write_offer) and [`write_summary`](crate::write_summary) ensure what this asks of an offer and a summary.
+/// [`write_offer`](crate::write_offer) and [`write_summary`](crate::write_summary) ensure what this requires of an offer and a
+/// summary.
 pub fn offers_and_summaries_are_read_again()
     ensures offers { OffersAreReadAgain }
     ensures summaries { SummariesAreReadAgain }
 {}
 
-/// The law of the two versions. The version that is written is 2 exactly where the table has a column of 8 bits. Without one a state's
-/// canonical file is byte for byte that of version 1. What version 1 accepted is read as the same: files, offers and summaries.
+/// The law of the two versions. The version that is written is 2 exactly if the table has a column of 8 bits. Without one, a
+/// state's canonical file is byte for byte that of version 1. What version 1 accepted is read as the same: files, offers and
+/// summaries.
 pub fn first_version_is_kept()
     ensures field { VersionsAreWritten }
     ensures bytes { FirstFilesStay }

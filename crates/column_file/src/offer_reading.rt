@@ -30,7 +30,7 @@ pub(crate) fn tombs_of(alloc: Global, deleted: &[(RowName, u16)]) -> Result<Tomb
     Ok(tombs)
 }
 
-/// The offer that bytes are. Refused is their first fault, or a want of memory, which may come in the place of any of them.
+/// The offer that bytes are. The refusal is their first fault, or `Memory`, which can come in place of any of them.
 pub(crate) fn offer_in(alloc: Global, bytes: &[u8]) -> Result<Offer, Refusal>
     ensures { Reads (λ x. x) result (offer_read bytes.now) }
 {
@@ -41,9 +41,9 @@ pub(crate) fn offer_in(alloc: Global, bytes: &[u8]) -> Result<Offer, Refusal>
 
 /// The offer that a reader has, which is read to its end first.
 ///
-/// Refused are `ReadFault` where a read fails or more than 2^48 bytes come, and then the first fault of the bytes, whose place is
-/// told where it has one. It grows as it reads, so `Memory` may come in the place of any of them. What is held is in proportion to
-/// the bytes that are there.
+/// The refusals are `ReadFault` if a read fails or more than 2^48 bytes come, and then the first fault of the bytes, with its place
+/// if it has one. It grows as it reads, so `Memory` can come in place of any of them. The memory it takes is in proportion to the
+/// bytes that are there.
 pub fn read_offer<R: Read>(alloc: Global, reader: &mut Counted<R>) -> Result<Offer, Refusal>
     ensures read { Judges (λ x. x) result (R.remaining reader.old.0) offer_read }
     ensures refused { IfErr result (λ e. IsTrue (is_refusal_of_offer e)) }

@@ -59,8 +59,8 @@ fn are_same_pairs(a: &[(RowName, u16)], b: &[(RowName, u16)]) -> bool
         .all(|(range, other)| same_range(*range, *other))
 }
 
-/// The batches and deletions that a canonical file holds. Refused is the first fault of the bytes, then `NotCanonical`, or a want
-/// of memory, which may come in the place of any of them. The canonical file is compared as it is written, and stands nowhere.
+/// The batches and deletions of a canonical file. The refusal is the first fault of the bytes, then `NotCanonical`; or `Memory`,
+/// which can come in place of any of them. The canonical file is compared while it is written, and is kept nowhere.
 fn canonical_in(alloc: Global, bytes: &[u8]) -> Result<Offer, Refusal>
     ensures read { Reads (λ x. x) result (canonical_read bytes.now) }
     ensures segments { IfOk result (λ o. AreCanonicalOf o.schema o.state.batches o.segments) }
@@ -80,11 +80,11 @@ fn canonical_in(alloc: Global, bytes: &[u8]) -> Result<Offer, Refusal>
     Ok(Offer::from_parts(schema, batches, tombs))
 }
 
-/// The store of an own origin that has what a canonical file holds. The reader is read to its end first.
+/// The store of an own origin with the content of a canonical file. The reader is read to its end first.
 ///
-/// Refused are `BadName` where the own origin is 0, before anything is read; `ReadFault` where a read fails or more than 2^48 bytes
-/// come; the first fault of the bytes; and last `NotCanonical` with the first byte that differs from the canonical file of what the
-/// input stands for. It grows as it reads, so `Memory` may come in the place of any of them but the first.
+/// The refusals are `BadName` if the own origin is 0, before anything is read; `ReadFault` if a read fails or more than 2^48 bytes
+/// come; the first fault of the bytes; and last `NotCanonical` with the first byte that differs from the canonical file of the
+/// input's content. It grows as it reads, so `Memory` can come in place of any of them but the first.
 pub fn open<R: Read>(alloc: Global, reader: &mut Counted<R>, own: Origin) -> Result<Store, Refusal>
     ensures read { Judges (λ store. store.replica) result (R.remaining reader.old.0) (opened_from own) }
 

@@ -12,7 +12,7 @@ use segment_core::{place_of, read_number};
 use std::alloc::Global;
 use table_model::{ColType, MAX_COLUMNS, MAX_WORD, Refusal, Schema, is_identifier, same_word};
 
-/// The text of 1 to 64 bytes at the front, and what stands after it.
+/// The text of 1 to 64 bytes at the front, and what comes after it.
 #[tactic(auto, unfolding(crate::specs::SchemaBytes::text))]
 fn read_text(total: usize, bytes: &[u8]) -> Result<(&[u8], &[u8]), Refusal>
     ensures read { Reads (λ x. (x.0.now, x.1.now)) result (text.read total bytes.now) }
@@ -43,7 +43,7 @@ fn is_name(text: &[u8]) -> bool
     is_identifier(text) && is_upper(text)
 }
 
-/// The name at the front, and what stands after it.
+/// The name at the front, and what comes after it.
 #[tactic(auto, unfolding(crate::specs::SchemaBytes::name))]
 fn read_name(total: usize, bytes: &[u8]) -> Result<(&str, &[u8]), Refusal>
     ensures read { Reads (λ x. (x.0.now, x.1.now)) result (name.read total bytes.now) }
@@ -59,7 +59,7 @@ fn read_name(total: usize, bytes: &[u8]) -> Result<(&str, &[u8]), Refusal>
     Ok((name, rest))
 }
 
-/// The column type at the front, in a version, and what stands after it.
+/// The column type at the front, in a version, and what comes after it.
 #[tactic(auto, unfolding(crate::specs::SchemaBytes::column_type))]
 fn read_column_type(version: u64, total: usize, bytes: &[u8]) -> Result<(ColType, &[u8]), Refusal>
     ensures read { Reads (λ x. (x.0, x.1.now)) result ((column_type version).read total bytes.now) }
@@ -81,7 +81,7 @@ fn is_name_among(columns: &[(&str, ColType)], name: &str) -> bool
         .any(|column| same_word(column.0.as_bytes(), name.as_bytes()))
 }
 
-/// The column at the front, which must not have the name of one before it, and what stands after it.
+/// The column at the front, which must not have the name of one before it, and what comes after it.
 #[tactic(auto, unfolding(crate::specs::SchemaBytes::column))]
 fn read_column<'a>(
     version: u64,
@@ -100,7 +100,7 @@ fn read_column<'a>(
     Ok((name, column_type, rest))
 }
 
-/// So many columns at the front, and what stands after them.
+/// This many columns at the front, and what comes after them.
 fn read_columns<'a>(
     alloc: Global,
     version: u64,
@@ -120,7 +120,7 @@ fn read_columns<'a>(
     Ok((columns, rest))
 }
 
-/// How many columns there are, 1 to 32, and what stands after that.
+/// How many columns there are, 1 to 32, and what comes after that.
 #[tactic(auto, unfolding(crate::specs::SchemaBytes::column_count))]
 fn read_column_count(total: usize, bytes: &[u8]) -> Result<(usize, &[u8]), Refusal>
     ensures read { Reads (λ x. (x.0, x.1.now)) result (column_count.read total bytes.now) }
@@ -133,8 +133,8 @@ fn read_column_count(total: usize, bytes: &[u8]) -> Result<(usize, &[u8]), Refus
     Ok((count as usize, rest))
 }
 
-/// The schema in a version at the front of what is left of an input of `total` bytes, and what stands after it. Refused is the first
-/// fault: `Truncated`, `BadCount` at the count, or `BadSchema`. It grows as it reads, so `Memory` may come in the place of any of
+/// The schema in a version at the front of what is left of an input of `total` bytes, and what comes after it. The refusal is the
+/// first fault: `Truncated`, `BadCount` at the count, or `BadSchema`. It grows as it reads, so `Memory` can come in place of any of
 /// them.
 #[tactic(auto, unfolding(crate::specs::SchemaBytes::schema))]
 pub fn read_schema(

@@ -23,7 +23,7 @@ use table_model::{BatchName, Counted, Number, Origin, Refusal, Schema, same_text
 /// What a summary begins with.
 pub(crate) const SUMMARY: [u8; 4] = *b"FLSM";
 
-/// What stands after the bytes that a format begins with: `BadMagic` where they are others.
+/// What comes after the bytes that a format begins with; `BadMagic` if these are others.
 fn read_magic<'a>(total: usize, bytes: &'a [u8], magic: &[u8]) -> Result<&'a [u8], Refusal>
     ensures read { Reads (λ x. (magic.now, x.now)) result ((constant magic.now Refusal.BadMagic).read total bytes.now) }
     ensures fault { IfErr result (λ e. IsTrue (is_fault_of_summary e)) }
@@ -38,7 +38,7 @@ fn read_magic<'a>(total: usize, bytes: &'a [u8], magic: &[u8]) -> Result<&'a [u8
     Ok(rest)
 }
 
-/// The version, 1 or 2, and what stands after it.
+/// The version, 1 or 2, and what comes after it.
 #[tactic(auto, unfolding(crate::specs::SummaryBytes::version))]
 fn read_version(total: usize, bytes: &[u8]) -> Result<(u64, &[u8]), Refusal>
     ensures read { Reads (λ x. (x.0, x.1.now)) result (version.read total bytes.now) }
@@ -51,7 +51,7 @@ fn read_version(total: usize, bytes: &[u8]) -> Result<(u64, &[u8]), Refusal>
     Ok((version, rest))
 }
 
-/// The schema that a format begins with, after its own bytes and the version in which the schema stands, and what stands after it.
+/// The schema that a format begins with, after its own bytes and the schema's version, and what comes after it.
 #[tactic(auto, unfolding(crate::specs::SummaryBytes::head))]
 pub(crate) fn read_head<'a>(
     alloc: Global,
@@ -70,7 +70,7 @@ pub(crate) fn read_head<'a>(
     Ok((schema, rest))
 }
 
-/// The proper name at the front, and what stands after it.
+/// The proper name at the front, and what comes after it.
 #[tactic(auto, unfolding(crate::specs::SummaryBytes::proper_name, crate::specs::SummaryBytes::any_name))]
 pub(crate) fn read_proper_name(total: usize, bytes: &[u8]) -> Result<(BatchName, &[u8]), Refusal>
     ensures read { Reads (λ x. (x.0, x.1.now)) result (proper_name.read total bytes.now) }
@@ -102,7 +102,7 @@ fn is_after(front: &[BatchName], name: BatchName) -> bool
     front.is_empty() || precedes(front[front.len() - 1], name)
 }
 
-/// The name at the front, after the names before it, and what stands after it.
+/// The name at the front, after the names before it, and what comes after it.
 #[tactic(auto, unfolding(crate::specs::SummaryBytes::batch_name))]
 fn read_batch_name<'a>(
     total: usize,
@@ -119,7 +119,7 @@ fn read_batch_name<'a>(
     Ok((name, rest))
 }
 
-/// So many names in strictly ascending order, and what stands after them.
+/// This many names in strictly ascending order, and what comes after them.
 fn read_batch_names(
     alloc: Global,
     total: usize,
@@ -138,7 +138,7 @@ fn read_batch_names(
     Ok((names, rest))
 }
 
-/// How many names there are, at most 1,048,576, and what stands after that.
+/// How many names there are, at most 1,048,576, and what comes after that.
 #[tactic(auto, unfolding(crate::specs::SummaryBytes::name_count))]
 pub(crate) fn read_name_count(total: usize, bytes: &[u8]) -> Result<(usize, &[u8]), Refusal>
     ensures read { Reads (λ x. (x.0, x.1.now)) result (name_count.read total bytes.now) }
@@ -151,7 +151,7 @@ pub(crate) fn read_name_count(total: usize, bytes: &[u8]) -> Result<(usize, &[u8
     Ok((count as usize, rest))
 }
 
-/// The names at the front, and what stands after them.
+/// The names at the front, and what comes after them.
 #[tactic(auto, unfolding(crate::specs::SummaryBytes::names))]
 fn read_names(alloc: Global, total: usize, bytes: &[u8]) -> Result<(Vec<BatchName>, &[u8]), Refusal>
     ensures { Reads (λ x. (x.0.items, x.1.now)) result (names.read total bytes.now) }
@@ -160,9 +160,9 @@ fn read_names(alloc: Global, total: usize, bytes: &[u8]) -> Result<(Vec<BatchNam
     read_batch_names(alloc, total, rest, count)
 }
 
-/// The schema and the batch names, in strictly ascending order, of a summary. Refused is the first fault of the bytes:
-/// `Truncated`, `BadMagic`, `BadVersion`, `BadSchema`, `BadName`, `BadCount`, `BadOrder` or `TrailingBytes`. It grows as it
-/// reads, so `Memory` may come in the place of any of them.
+/// The schema and the batch names, in strictly ascending order, of a summary. Refused is the first fault of the bytes: `Truncated`,
+/// `BadMagic`, `BadVersion`, `BadSchema`, `BadName`, `BadCount`, `BadOrder` or `TrailingBytes`. It grows as it reads, so `Memory`
+/// can come in place of any of them.
 #[tactic(auto, unfolding(crate::specs::SummaryBytes::summary))]
 pub fn read_summary_bytes(alloc: Global, bytes: &[u8]) -> Result<(Schema, Vec<BatchName>), Refusal>
     ensures { Reads (λ x. (x.0, x.1.items)) result (read_whole summary bytes.now) }
@@ -188,7 +188,7 @@ fn held_of(alloc: Global, names: &[BatchName]) -> Result<Held, AllocError>
     Ok(held)
 }
 
-/// The summary that bytes are. Refused is their first fault, or a want of memory, which may come in the place of any of them.
+/// The summary that bytes are. The refusal is their first fault, or `Memory`, which can come in place of any of them.
 fn summary_in(alloc: Global, bytes: &[u8]) -> Result<Summary, Refusal>
     ensures { Reads (λ x. x) result (summary_read bytes.now) }
 {
@@ -199,9 +199,9 @@ fn summary_in(alloc: Global, bytes: &[u8]) -> Result<Summary, Refusal>
 
 /// The summary that a reader has, which is read to its end first.
 ///
-/// Refused are `ReadFault` where a read fails or more than 2^48 bytes come, and then the first fault of the bytes: `Truncated`,
+/// The refusals are `ReadFault` if a read fails or more than 2^48 bytes come, and then the first fault of the bytes: `Truncated`,
 /// `BadMagic`, `BadVersion`, `BadSchema`, `BadName`, `BadCount`, `BadOrder` or `TrailingBytes`. It grows as it reads, so `Memory`
-/// may come in the place of any of them.
+/// can come in place of any of them.
 pub fn read_summary<R: Read>(alloc: Global, reader: &mut Counted<R>) -> Result<Summary, Refusal>
     ensures read { Judges (λ x. x) result (R.remaining reader.old.0) summary_read }
     ensures refused { IfErr result (λ e. IsTrue (is_refusal_of_summary e)) }

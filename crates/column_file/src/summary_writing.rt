@@ -19,7 +19,7 @@ use segment_core::{write_number, write_whole};
 use std::io::Write;
 use table_model::{BatchName, Counted, Number, Refusal, Schema};
 
-/// Writes what a format begins with: its own four bytes, the version in which a schema stands, and the schema.
+/// Writes what a format begins with: its own four bytes, the schema's version, and the schema.
 pub(crate) fn write_head<W: Write>(
     writer: &mut Counted<W>,
     magic: &[u8],

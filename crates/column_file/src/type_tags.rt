@@ -1,4 +1,4 @@
-//! The numbers that stand for column types in files, a value's number of bytes, and the version in which a schema stands.
+//! The numbers that stand for column types in files, a value's number of bytes, and the version of a schema.
 ghost use Rattle.std.specs.Prelude.{◌≡◌, cond, Some, None};
 ghost use Rattle.column_file.specs.SchemaBytes.{tag_of, is_type_tag, type_tagged, has_tiny, version_of};
 
@@ -39,7 +39,7 @@ fn has_tiny(schema: &Schema) -> bool
         .any(|column| column.column_type().bits() == 8)
 }
 
-/// The version in which a schema stands: 2 exactly where it has a column of 8 bits, else 1.
+/// The version of a schema: 2 exactly if it has a column of 8 bits, otherwise 1.
 pub(crate) fn version_of(schema: &Schema) -> u64
     ensures { result ≡ version_of schema.now }
 {

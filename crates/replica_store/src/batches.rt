@@ -22,11 +22,11 @@ use std::marker::Model;
 use std::mem;
 use table_model::{BatchName, Origin, Refusal};
 
-/// The batches by name, as segments, and the set of the names. Contracts see the own origin that parts them, and beside it a
-/// finite map from names to segments.
+/// The batches by name, as segments, and the set of the names. Contracts see the own origin that divides them, and a finite map
+/// from names to segments.
 ///
-/// They lie in two vectors in ascending order: those of origins up to the own one, of which the own ones are the last, and those
-/// of greater origins. So a batch that is appended goes in at the end of the first, and moves no other.
+/// They are in two vectors in ascending order: those of origins up to the own one, of which the own ones are the last, and those of
+/// greater origins. So an appended batch goes to the end of the first and moves no other.
 #[derive(Drop)]
 pub(crate) struct Batches {
     own: Origin,
@@ -188,9 +188,9 @@ impl Batches {
         lacked > room || count_lacked(&self.held, second) > room - lacked
     }
 
-    /// Takes in copies of the other batches whose names aren't here, as they are coded there. The others come in two parts that
-    /// follow each other, and `names` are the names of all of them. It takes as many steps as there are batches on both sides, and
-    /// for each of the others a search among the runs of names.
+    /// Adds copies of the other batches whose names aren't here, as they are coded there. The others come in two parts that follow
+    /// each other, and `names` are the names of all of them. It takes as many steps as there are batches on both sides, and for
+    /// each of the others a search among the runs of names.
     pub fn join(
         &mut self,
         alloc: Global,
@@ -217,7 +217,7 @@ impl Batches {
         Ok(())
     }
 
-    /// Puts in a batch of a proper name that isn't there. One that is the last of its part moves no other.
+    /// Adds a batch with a proper name that isn't there. One that is the last of its part moves no other.
     pub fn insert(&mut self, name: BatchName, segment: Segment) -> Result<(), AllocError>
         requires proper { IsTrue (is_proper_name name) }
         requires new { map.get self.old.segments name ≡ None }
@@ -256,7 +256,7 @@ impl Batches {
         Ok(())
     }
 
-    /// Puts a vector of a batch into another coding, where there is one; no row changes.
+    /// Puts a vector of a batch into another coding, if the vector is there; no row changes.
     pub fn recode(
         &mut self,
         alloc: Global,
@@ -362,7 +362,7 @@ fn hold_live(
     Ok(())
 }
 
-/// Adds the name of the batch where it has a row that isn't among the deleted ones.
+/// Adds the name of the batch if it has a row that isn't among the deleted ones.
 fn hold_if_live(
     held: &mut Held,
     entry: &(BatchName, Segment),
@@ -389,7 +389,7 @@ fn room_for(
     Vec::with_capacity(alloc, ours.len().saturating_add(fresh.len()))
 }
 
-/// Puts in a batch of a proper name that isn't there, and its name among the names. Where memory is refused both are as before.
+/// Adds a batch with a proper name that isn't there, and its name to the names. If memory is refused both are as before.
 fn put_new(
     entries: &mut Vec<(BatchName, Segment)>,
     held: &mut Held,
@@ -456,7 +456,7 @@ fn place(entries: &[(BatchName, Segment)], name: BatchName) -> usize
     entries.partition_point(|entry| entry.0 < name)
 }
 
-/// The greatest number of the origin: that of the last batch whose origin isn't greater, if it is this one.
+/// The greatest number of the origin: that of the last batch whose origin isn't greater, if it has this origin.
 fn last_number(entries: &[(BatchName, Segment)], own: Origin) -> u32
     requires { T (map.is_sorted name_cmp entries.now) }
     ensures { result ≡ greatest_number own entries.now }

@@ -3,15 +3,15 @@ ghost use Rattle.replica_store.specs.ExchangeLaws.{ExchangeLaws};
 ghost use Rattle.replica_store.specs.ForgetStoreLaws.{ForgetStoreLaws};
 ghost use Rattle.replica_store.specs.MergeLaws.{MergeLaws, KeepingLaws};
 
-/// A merge is refused with `Conflict` exactly where the states don't agree, by the least name that has two lists of rows.
-/// Merges that answer Ok make the same state in both orders and in both bracketings, and a second merge changes nothing.
+/// A merge is refused as `Conflict` exactly if the states don't agree, with the least name that has two lists of rows. Merges that
+/// answer Ok make the same state in both orders and in both bracketings, and a second merge changes nothing.
 pub fn merge_laws()
     ensures { MergeLaws }
 {}
 
 /// An offer that was made for a summary, applied to a replica that holds every batch that the summary listed and agrees with the
 /// server as it was then, gives the join of both states, however late and however often. What the replica gained before the offer
-/// came is kept, and an offer that was applied once changes nothing when it comes again.
+/// came is kept. An offer that was applied once changes nothing when it comes again.
 pub fn exchange_laws()
     ensures { ExchangeLaws }
 {}

@@ -1,4 +1,4 @@
-//! Offers: batches and deletions of a replica, for another that lacks them.
+//! Offers: batches and deletions of a replica, for another that does not have them.
 ghost use Rattle.std.specs.Prelude.{◌≡◌, ◌<◌, ◌≤◌, length, slice_get, Some, IsTrue, IfOk};
 ghost use Rattle.std.specs.FinMap as map;
 ghost use Rattle.table_model.specs.Name.{is_proper_name};
@@ -19,7 +19,7 @@ use std::marker::Model;
 use table_model::{BatchName, Origin, Refusal, Schema};
 
 /// Batches of a table, as segments with their codings, and deleted rows, which a replica offers to another. Contracts see the
-/// schema, the state that they are, and beside that the segments.
+/// schema, the state that they are, and in addition the segments.
 #[derive(Drop)]
 pub struct Offer {
     schema: Schema,
@@ -59,7 +59,7 @@ impl Offer {
 
     /// The store of an own origin that has exactly the batches and deletions of the offer.
     ///
-    /// `BadName` is answered where the origin is 0; else `Memory`, where there is none for the set of names.
+    /// `BadName` is answered if the origin is 0; otherwise `Memory`, if there is none for the set of names.
     pub fn into_store(self, alloc: Global, own: Origin) -> Result<Store, Refusal>
         ensures value { Gives (λ store. store.replica) result (opened own self) }
         ensures segments { IfOk result (λ store. store.segments ≡ self.segments) }

@@ -36,10 +36,10 @@ pub const MAX_BATCHES: usize = 1_048_576;
 /// The greatest number that a batch may have.
 const LAST_NUMBER: u32 = u32::MAX;
 
-/// One replica of a table. Contracts see it as the replica, which is a schema, an own origin and a state, and beside that the
-/// segments in which its batches lie, with their codings.
+/// One replica of a table. Contracts see it as the replica, which is a schema, an own origin and a state, and in addition the
+/// segments of its batches, with their codings.
 ///
-/// A call that is refused leaves the store as it was, codings included. Want of memory comes after every other refusal.
+/// A call that is refused leaves the store as it was, codings included. `Memory` comes after every other refusal.
 #[derive(Drop)]
 pub struct Store {
     schema: Schema,
@@ -63,7 +63,7 @@ impl Model for Store {
 impl Store {
     /// A store of the table with no batch, whose own batches will be of this origin.
     ///
-    /// `BadName` is answered where the origin is 0; else `Memory`, where there is none.
+    /// `BadName` is answered if the origin is 0; otherwise `Memory`, if there is none.
     pub fn new(alloc: Global, schema: &Schema, own: Origin) -> Result<Store, Refusal>
         ensures value { Gives (λ store. store.replica) result (new_replica schema.now own) }
         ensures segments { IfOk result (λ store. store.segments ≡ map.empty) }
@@ -152,10 +152,10 @@ impl Store {
         &self.tombs
     }
 
-    /// Puts the rows in as a batch of the own origin, with one more than the greatest number that is held of it, else 1.
+    /// Adds the rows as a batch of the own origin, with one more than the greatest number that is held of it, or 1.
     ///
-    /// Refused are, in this order: the faults of [`check_rows`], `NumbersSpent` where 4,294,967,295 is held, `Full` where
-    /// 1,048,576 batches are held, `Memory`.
+    /// The refusals are, in this order: the faults of [`check_rows`], `NumbersSpent` if 4,294,967,295 is held, `Full` if 1,048,576
+    /// batches are held, `Memory`.
     pub fn append(&mut self, alloc: Global, rows: &[Row]) -> Result<BatchName, Refusal>
         ensures acts { Acts (λ name. name) self.old.replica result self.new.replica (appended self.old.replica rows.now) }
         ensures segments { IfOk result (λ name. self.new.segments ≡ map.insert self.old.segments name (canonical_segment self.old.replica.schema rows.now)) }
@@ -166,11 +166,11 @@ impl Store {
         Ok(name)
     }
 
-    /// Puts the rows in as the batch of this name.
+    /// Adds the rows as the batch of this name.
     ///
-    /// Refused are, in this order: the faults of [`check_rows`], `BadName` where the origin or the number is 0, `Conflict`
-    /// where the name is held with other rows, `Full` where 1,048,576 batches are held, `Memory`. A name that is held with the
-    /// same rows is `Already`, also in a full store, and takes no memory.
+    /// The refusals are, in this order: the faults of [`check_rows`], `BadName` if the origin or the number is 0, `Conflict` if the
+    /// name is held with other rows, `Full` if 1,048,576 batches are held, `Memory`. A name that is held with the same rows is
+    /// `Already`, even in a full store, and takes no memory.
     pub fn insert(
         &mut self,
         alloc: Global,
@@ -192,7 +192,7 @@ impl Store {
         }
     }
 
-    /// Puts the rows in as `append` does, with the same answers, of rows that lie in a batch.
+    /// Adds the rows of a `RowBatch` as `append` does, with the same answers.
     pub fn append_batch(&mut self, alloc: Global, rows: &RowBatch) -> Result<BatchName, Refusal>
         ensures acts { Acts (λ name. name) self.old.replica result self.new.replica (appended self.old.replica rows.now) }
         ensures segments { IfOk result (λ name. self.new.segments ≡ map.insert self.old.segments name (canonical_segment self.old.replica.schema rows.now)) }
@@ -203,7 +203,7 @@ impl Store {
         Ok(name)
     }
 
-    /// Puts the rows in as `insert` does, with the same answers, of rows that lie in a batch.
+    /// Adds the rows of a `RowBatch` as `insert` does, with the same answers.
     pub fn insert_batch(
         &mut self,
         alloc: Global,
@@ -225,10 +225,10 @@ impl Store {
         }
     }
 
-    /// Deletes the rows of a batch from the first to the ordinal `last`, both included, held here or not.
+    /// Deletes the rows of a batch from the first to the ordinal `last`, both included, whether they are held here or not.
     ///
-    /// Refused are, in this order: `BadName` where the batch's origin or number is 0, `BadRange` where `last` is less than
-    /// the first ordinal, `Memory`. Where the rows are deleted already it takes no memory.
+    /// The refusals are, in this order: `BadName` if the batch's origin or number is 0, `BadRange` if `last` is less than the first
+    /// ordinal, `Memory`. If the rows are deleted already it takes no memory.
     pub fn delete(&mut self, _alloc: Global, first: RowName, last: u16) -> Result<(), Refusal>
         ensures acts { Acts (λ done. done) self.old.replica result self.new.replica (deleted_rows self.old.replica first last) }
         ensures segments { self.new.segments ≡ self.old.segments }
@@ -240,9 +240,9 @@ impl Store {
         Ok(())
     }
 
-    /// Deletes some rows, held here or not, in whatever order and however often they come.
+    /// Deletes some rows, whether they are held here or not, in any order and with any repeats.
     ///
-    /// Refused are, in this order: `BadName` where the origin or the number of a row's batch is 0, `Memory`. Where all of them are
+    /// The refusals are, in this order: `BadName` if the origin or the number of a row's batch is 0, `Memory`. If all of them are
     /// deleted already it takes no memory.
     pub fn delete_all(&mut self, alloc: Global, rows: &[RowName]) -> Result<(), Refusal>
         ensures acts { Acts (λ done. done) self.old.replica result self.new.replica (deleted_names self.old.replica rows.now) }
@@ -277,10 +277,10 @@ impl Store {
         Ok(())
     }
 
-    /// Takes in the other store's batches and deletions, so that the state becomes the join of both.
+    /// Adds the other store's batches and deletions, so that the state becomes the join of both.
     ///
-    /// Refused are, in this order: `SchemaDiffers`, `Conflict` with the least name that has two lists of rows, `Full` where
-    /// the union has more than 1,048,576 batches, `Memory`. The own origin stays. Where nothing is lacked it takes no memory.
+    /// The refusals are, in this order: `SchemaDiffers`, `Conflict` with the least name that has two lists of rows, `Full` if the
+    /// union has more than 1,048,576 batches, `Memory`. The own origin stays. If nothing is missing it takes no memory.
     pub fn merge(&mut self, alloc: Global, other: &Store) -> Result<(), Refusal>
         ensures acts { Acts (λ done. done) self.old.replica result self.new.replica (merged self.old.replica other.now.replica) }
         ensures segments { OnOk result (self.new.segments ≡ union_of self.old.segments other.now.segments) }
@@ -296,7 +296,7 @@ impl Store {
         Ok(())
     }
 
-    /// The names of the batches that are held, by which another replica tells what to offer. `Memory` is answered where there is
+    /// The names of the batches that are held, from which another replica sees what to offer. `Memory` is answered if there is
     /// none.
     pub fn summary(&self, alloc: Global) -> Result<Summary, Refusal>
         ensures { Gives (λ summary. summary) result (Ok (summary_of self.now.replica)) }
@@ -306,9 +306,9 @@ impl Store {
         Ok(Summary::from_parts(schema, names))
     }
 
-    /// Copies of the batches whose names the summary lacks, as they are coded here, and of all deletions.
+    /// Copies of the batches that the summary does not name, as they are coded here, and of all deletions.
     ///
-    /// Refused are, in this order: `SchemaDiffers`, `Memory`.
+    /// The refusals are, in this order: `SchemaDiffers`, `Memory`.
     pub fn offer(&self, alloc: Global, summary: &Summary) -> Result<Offer, Refusal>
         ensures state { Gives (λ offer. offer.state) result (offered self.now.replica summary.now) }
         ensures schema { IfOk result (λ offer. offer.schema ≡ self.now.replica.schema) }
@@ -324,11 +324,11 @@ impl Store {
         Ok(Offer::from_parts(schema, entries, tombs))
     }
 
-    /// Takes in an offer's batches and deletions, as a merge with a store that has them. A batch that is held keeps its codings,
-    /// and one that comes has those of the offer.
+    /// Adds an offer's batches and deletions, as a merge with a store that has them. A batch that is held keeps its codings, and a
+    /// new one has those of the offer.
     ///
-    /// Refused are, in this order: `SchemaDiffers`, `Conflict` with the least name that has two lists of rows, `Full` where
-    /// the union has more than 1,048,576 batches, `Memory`. The own origin stays. Where nothing is lacked it takes no memory.
+    /// The refusals are, in this order: `SchemaDiffers`, `Conflict` with the least name that has two lists of rows, `Full` if the
+    /// union has more than 1,048,576 batches, `Memory`. The own origin stays. If nothing is missing it takes no memory.
     pub fn apply(&mut self, alloc: Global, offer: &Offer) -> Result<(), Refusal>
         ensures acts { Acts (λ done. done) self.old.replica result self.new.replica (applied self.old.replica offer.now) }
         ensures segments { OnOk result (self.new.segments ≡ union_of self.old.segments offer.now.segments) }
@@ -350,7 +350,7 @@ impl Store {
     /// Puts a vector of a batch into another coding, in the least form that the coding has; no row changes. Columns and vectors
     /// count from 0.
     ///
-    /// Refused are, in this order: `NoSuchVector` where the batch isn't held or has no such column or vector, `Memory`.
+    /// The refusals are, in this order: `NoSuchVector` if the batch isn't held or has no such column or vector, `Memory`.
     pub fn recode(
         &mut self,
         alloc: Global,
@@ -455,7 +455,7 @@ impl Store {
         }
     }
 
-    /// Puts in the rows of a batch that was decided on.
+    /// Adds the rows of the batch that was decided on.
     fn add(&mut self, alloc: Global, name: BatchName, rows: &[Row]) -> Result<(), AllocError>
         requires proper { IsTrue (is_proper_name name) }
         requires new { map.get self.old.replica.state.batches name ≡ None }
@@ -469,7 +469,7 @@ impl Store {
         self.put(name, segment)
     }
 
-    /// Puts in the rows of a batch that was decided on, which lie in a batch.
+    /// Adds the rows of a `RowBatch` as the batch that was decided on.
     fn add_batch(
         &mut self,
         alloc: Global,
@@ -488,7 +488,7 @@ impl Store {
         self.put(name, segment)
     }
 
-    /// Puts in a segment of the table as a batch that was decided on.
+    /// Adds a segment of the table as the batch that was decided on.
     fn put(&mut self, name: BatchName, segment: Segment) -> Result<(), AllocError>
         requires proper { IsTrue (is_proper_name name) }
         requires new { map.get self.old.replica.state.batches name ≡ None }

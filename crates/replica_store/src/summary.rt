@@ -8,7 +8,7 @@ use std::alloc::Global;
 use std::marker::Model;
 use table_model::{Refusal, Schema};
 
-/// The names of the batches that a replica of a table has, at most 1,048,576, by which another replica tells what to offer.
+/// The names of the batches that a replica of a table has, at most 1,048,576, from which another replica sees what to offer.
 /// Contracts see the schema and the set of the names.
 #[derive(Drop)]
 pub struct Summary {
@@ -29,7 +29,7 @@ impl Model for Summary {
 }
 
 impl Summary {
-    /// The summary of a table without names. `Memory` is answered where there is none for the schema.
+    /// The summary of a table without names. `Memory` is answered if there is none for the schema.
     pub fn empty(alloc: Global, schema: &Schema) -> Result<Summary, Refusal>
         ensures { Gives (λ summary. summary) result (Ok (empty_summary schema.now)) }
     {

@@ -13,7 +13,7 @@ use replica_store::Store;
 use std::alloc::Global;
 use table_model::{Answer, Refusal, RowName};
 
-/// The answer of the query that a text is, over the rows of a store that aren't deleted.
+/// The answer to a query, given as a text, over the rows of a store that aren't deleted.
 ///
 /// The refusals are, in this order: `Syntax`, `NumberTooLarge` and `TooDeep`, the one whose token comes first; `NoSuchTable`;
 /// `NoSuchColumn`; `NotGrouped`; `Memory`. The text is read as it is taken apart, so `Memory` may come in place of any.
@@ -27,7 +27,7 @@ pub fn ask(alloc: Global, store: &Store, text: &str) -> Result<Answer, Refusal>
     Ok(answer)
 }
 
-/// The names of a store's rows that aren't deleted and at which the condition that a text is is true, in ascending order.
+/// The names of a store's rows that aren't deleted and at which a condition, given as a text, is true, in ascending order.
 ///
 /// The refusals are, in this order: `Syntax`, `NumberTooLarge` and `TooDeep`, the one whose token comes first; `NoSuchColumn`;
 /// `Memory`. The text is read as it is taken apart, so `Memory` may come in place of any.

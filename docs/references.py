@@ -1,0 +1,41 @@
+#!/usr/bin/env python3
+"""Checks what pages refer to: that each link to another file leads to one, and that docs/GLOSSARY.md names for each word a file that
+defines it. It prints what is wrong, and the status is then 1."""
+import pathlib, re, sys
+
+TOP = pathlib.Path(__file__).resolve().parent.parent
+PAGES = ["*.md", "docs/*.md", "tests/*.md", "examples/*.md", "bench/**/*.md", "crates/*/README.md"]
+
+
+def dead_links():
+    """The links of pages that lead nowhere."""
+    for page in [page for pattern in PAGES for page in sorted(TOP.glob(pattern))]:
+        for link in re.findall(r"\]\(([^)#]+)[^)]*\)", page.read_text()):
+            if "://" not in link and not (page.parent / link).exists():
+                yield f"{page.relative_to(TOP)}: there is no {link}"
+
+
+def defines(places, word):
+    """Whether one of the places of a row, each a crate and a file of its specs, defines a word."""
+    files = [TOP / "crates" / crate / "specs" / f"{name}.antt" for crate, name in re.findall(r"`(\w+)`, `(\w+)`", places)]
+    return any(file.exists() and re.search(rf"\bpub (?:record |data )?{word}\b", file.read_text()) for file in files)
+
+
+def lost_words():
+    """The words of the glossary that the files of their rows don't define."""
+    for line in (TOP / "docs" / "GLOSSARY.md").read_text().splitlines():
+        cells = line.strip("| ").split(" | ")
+        if len(cells) == 3 and re.search(r"`\w+`, `\w+`", cells[2]):
+            for word in re.findall(r"`(\w+)[^`]*`", cells[0]):
+                if not defines(cells[2], word):
+                    yield f"docs/GLOSSARY.md: {word} is not defined in {cells[2]}"
+
+
+def main():
+    wrong = [*dead_links(), *lost_words()]
+    print("".join(f"{line}\n" for line in wrong), end="")
+    sys.exit(1 if wrong else 0)
+
+
+if __name__ == "__main__":
+    main()
