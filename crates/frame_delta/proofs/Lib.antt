@@ -9,3 +9,5 @@ pub mod LeastDelta
 pub mod DifferenceLemmas
 pub mod TurnLemmas
 pub mod SameValues
+pub mod SpanLemmas
+pub mod PlaceSpans

@@ -8,6 +8,7 @@ use Rattle.bit_interleave.specs.Arithmetic.{integer_width, least_width}
 use Rattle.bit_interleave.specs.Packing.{packed_value}
 use Rattle.bit_interleave.specs.PackedWords.{PackedWords, FitLanes, HasWidth, words_packing}
 use Rattle.bit_interleave.specs.Range.{AreInRange, value_at}
+use Rattle.bit_interleave.specs.Places.{by_place}
 use Rattle.frame_delta.specs.Extremes.{least_among, greatest_among}
 
 -- a frame: the lane width, the bits of a packed number, the reference, and the packed numbers' words
@@ -64,6 +65,11 @@ pub record IsFrameForm (form : FrameForm) : Type 0 where
   pub packed : HasWidth form.words form.width
   pub fit : FitLanes form.words
   pub reference : FitsSigned (integer_width form.lane_width) form.reference
+
+-- each value is r plus its row's number, of numbers by places, modulo two to the power of t, read as signed
+abbrev pub AreAbove : ℕ → ℤ → List ℕ → List ℤ → Type 0
+AreAbove t r numbers values =
+    (n : ℕ) → n < 1024 → value_at values n ≡ int_wrap (integer_width t) (r +ℤ pos (by_place numbers n))
 
 -- the least form of some values decodes to them
 abbrev pub LeastFrameGivesBack : Type 0

@@ -1,16 +1,18 @@
 //! Vectors coded by deltas.
-ghost use Rattle.std.specs.Prelude.{◌≡◌, ◌≢◌, ℕ, ◌+◌, ◌-◌, ◌*◌, ◌/◌, ◌%◌, ◌<◌, ◌≤◌, ◌↔◌, map, length, slice_index, IsTrue, IfOk};
+ghost use Rattle.std.specs.Prelude.{◌≡◌, ◌≢◌, ℕ, ℤ, List, ◌+◌, ◌-◌, ◌*◌, ◌/◌, ◌%◌, ◌<◌, ◌≤◌, ◌↔◌, map, length, slice_index, IsTrue, IfOk};
 ghost use Rattle.std.specs.Int.{w64, cast_unsigned};
 ghost use Rattle.std.specs.Int.RustNames.{FitsSigned};
 ghost use Rattle.transpose_order.specs.Place.{IsLaneWidth};
 ghost use Rattle.bit_interleave.specs.Arithmetic.{integer_width};
 ghost use Rattle.bit_interleave.specs.PackedWords.{HasWidth};
 ghost use Rattle.bit_interleave.specs.Range.{AreInRange, value_at};
+ghost use Rattle.frame_delta.specs.Frame.{AreAbove};
 ghost use Rattle.frame_delta.specs.Delta.{IsDeltaForm, AreSums, delta_value, delta_values, least_delta, delta_bytes};
 
 use crate::differences::{bases_of, differences_within, fill_first_steps, starts_at_zero};
 use crate::extremes::{Frame, gaps_above, spread_of};
 use crate::pieces::{added, put_four, raised};
+use crate::spans::{LaneSpread, differences_at};
 use bit_interleave::{LaneWord, Values, Words, step_at, wrap};
 use std::alloc::{AllocError, Global};
 use std::marker::Model;
@@ -100,6 +102,15 @@ fn write_sums<U: LaneWord>(
         put_four(bits, a, b, c, d, places, values);
         sums = d;
     }
+}
+
+/// The payload's bytes at a width of packed numbers.
+fn bytes_at(lane_width: usize, width: usize) -> u16
+    requires lane_width { IsLaneWidth lane_width }
+    requires width { width ≤ 64 }
+    ensures { result ≡ lane_width / 8 + 128 + 128 * width }
+{
+    (lane_width / 8 + 128 + 128 * width) as u16
 }
 
 impl Delta {
@@ -223,6 +234,25 @@ impl Delta {
         let any = numbers[1];
         fill_first_steps(lane_width, any, &mut numbers);
         spread_of(&numbers).is_tight(lane_width, width, self.least)
+    }
+
+    /// Whether the least form of values has a payload of fewer than `bound` bytes. The values are told by numbers by places: each is
+    /// one number r more than its row's, modulo two to the power of `lane_width`, which is 8, 16, 32 or 64. It looks at no more
+    /// places than it takes to see that the bytes are as many.
+    pub fn is_below(lane_width: usize, numbers: &[u64; 1024], bound: u16) -> bool
+        requires lane_width { IsLaneWidth lane_width }
+        ensures { (values : List ℤ) (r : ℤ) → length values ≡ 1024 → AreAbove lane_width r numbers.now values → IsTrue result ↔ (delta_bytes (least_delta lane_width values) < bound) }
+    {
+        let mut so_far = LaneSpread::of(differences_at(lane_width, numbers, 1));
+        for place in 2..64 {
+            if place % 16 == 0 && bytes_at(lane_width, so_far.spread().width(lane_width)) >= bound {
+                return false;
+            }
+            if place & (lane_width - 1) != 0 {
+                so_far = so_far.with(differences_at(lane_width, numbers, place));
+            }
+        }
+        bytes_at(lane_width, so_far.spread().width(lane_width)) < bound
     }
 
     /// The lane width in bits: 8, 16, 32 or 64.
