@@ -11,7 +11,6 @@ use Rattle.transpose_order.specs.MaskWords.{length-rows_of, get_or-rows_of, rows
 use Rattle.transpose_order.proofs.WidthLemmas.{at_widths}
 use Rattle.bit_interleave.specs.Arithmetic.{integer_width, least_width}
 use Rattle.bit_interleave.specs.Range.{AreInRange, value_at}
-use Rattle.frame_delta.specs.Extremes.{IsSpread}
 use Rattle.frame_delta.specs.Frame.{least_value, greatest_value, frame_width, gaps_above}
 use Rattle.frame_delta.specs.Delta.{is_later, difference_at, differences_within, least_difference, greatest_difference, delta_width, later_gaps}
 use Rattle.frame_delta.proofs.ExtremeLemmas.{least_among-unique, greatest_among-unique}

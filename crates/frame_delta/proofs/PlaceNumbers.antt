@@ -1,15 +1,14 @@
 -- What numbers by places tell of the values of a form.
-use Rattle.std.proofs.Common.{◌≡◌, ◌≢◌, ℕ, zero, suc, ◌+◌, ◌-◌, ◌*◌, ◌/◌, ◌%◌, ◌^◌, ◌<◌, ◌≤◌, ◌↔◌, ℤ, pos, neg_ℤ, ◌+ℤ◌, Bool, true, false, List, length, get_or, refl, sym, ap, ◌∙◌, subst, arith}
-use Rattle.std.specs.Int.{w8, w16, w32, w64, int_wrap, cast_signed, cast_unsigned}
+use Rattle.std.proofs.Common.{◌≡◌, ◌≢◌, ℕ, zero, suc, ◌+◌, ◌-◌, ◌%◌, ◌^◌, ◌<◌, ◌≤◌, ℤ, pos, neg_ℤ, ◌+ℤ◌, Bool, List, get_or, refl, sym, ap, ◌∙◌, arith}
+use Rattle.std.specs.Int.{w8, w16, w32, w64, int_wrap, cast_unsigned}
 use Rattle.std.specs.Int.RustNames.{FitsSigned}
-use Rattle.std.specs.List.{All}
 use Rattle.std.proofs.Math.Nat.{pow-le-pow_right}
 use Rattle.std.proofs.lemmas.Int.{ints, int_wrap_fits, int_wrap-add_same, SFits-int_wrap, of_z-to_z}
 use Rattle.std.proofs.lemmas.List.Elements.{All-get_or}
 use Rattle.transpose_order.specs.Place.{IsLaneWidth, lane_of, step_of}
 use Rattle.transpose_order.proofs.WidthLemmas.{at_widths}
 use Rattle.bit_interleave.specs.Arithmetic.{integer_width}
-use Rattle.bit_interleave.specs.Packing.{packed_value, packed, unpacked}
+use Rattle.bit_interleave.specs.Packing.{packed_value, unpacked}
 use Rattle.bit_interleave.specs.PackedWords.{PackedWords, HasWidth, FitLanes, words_packing}
 use Rattle.bit_interleave.specs.Places.{by_place}
 use Rattle.bit_interleave.specs.Range.{value_at}
@@ -18,7 +17,7 @@ use Rattle.bit_interleave.proofs.ValueLemmas.{get_or-unpacked, length-unpacked, 
 use Rattle.bit_interleave.proofs.WrapLemmas.{int_wrap_pos}
 use Rattle.frame_delta.specs.Extremes.{IsSpread}
 use Rattle.frame_delta.specs.Frame.{FrameForm, frame_value, frame_values, ArePacked, TellApart, AreAbove}
-use Rattle.frame_delta.specs.Delta.{DeltaForm, delta_of, delta_at, delta_value, delta_values}
+use Rattle.frame_delta.specs.Delta.{DeltaForm, delta_at, delta_value, delta_values}
 use Rattle.frame_delta.proofs.FrameLemmas.{value_at-frame_values}
 use Rattle.frame_delta.proofs.DeltaLemmas.{at_start_or_on, step_wraps, deltas_add_up, value_at-delta_values}
 use Rattle.frame_delta.proofs.LeastDelta.{row_before}
@@ -72,11 +71,10 @@ sums_apart t x y r width h k e =
     ∙ ap (int_wrap (integer_width t)) (back y))
 
 pub tell_apart : (t : ℕ) (r : ℤ) (numbers : List ℕ) (values : List ℤ) → IsLaneWidth t → ((n : ℕ) → n < 1024 → by_place numbers n < 2 ^ t) → AreAbove t r numbers values → TellApart numbers values
-tell_apart t r numbers values width small above m n h k =
-    (
-      λ same. above m h ∙ ap (λ x. int_wrap (integer_width t) (r +ℤ pos x)) same ∙ sym (above n k),
-      λ same. sums_apart t (by_place numbers m) (by_place numbers n) r width (small m h) (small n k) (sym (above m h) ∙ same ∙ above n k),
-    )
+tell_apart t r numbers values width small above m n h k = (
+  λ same. above m h ∙ ap (λ x. int_wrap (integer_width t) (r +ℤ pos x)) same ∙ sym (above n k),
+  λ same. sums_apart t (by_place numbers m) (by_place numbers n) r width (small m h) (small n k) (sym (above m h) ∙ same ∙ above n k),
+)
 
 -- ---- a frame's numbers
 pub frame_above : (form : FrameForm) (numbers : List ℕ) → ArePacked form.lane_width form.width form.words.numbers numbers → AreAbove form.lane_width form.reference numbers (frame_values form)

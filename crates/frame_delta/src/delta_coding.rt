@@ -107,12 +107,7 @@ fn write_sums<U: LaneWord>(
 
 /// The sums before those of a place, 0 to 63: the bases at the first steps of their lanes, and else the sums so far.
 #[inline(always)]
-fn sums_before(
-    lane_width: usize,
-    row: usize,
-    sums: Simd<u64, 16>,
-    bases: &Values,
-) -> Simd<u64, 16>
+fn sums_before(lane_width: usize, row: usize, sums: Simd<u64, 16>, bases: &Values) -> Simd<u64, 16>
     requires lane_width { IsLaneWidth lane_width }
     requires row { row < 64 }
     requires sums { length sums ≡ 16 }
@@ -129,12 +124,7 @@ fn sums_before(
 
 /// Adds up numbers by places within the lanes, with a base and a least delta: each becomes its row's value, in as many bits as the
 /// lanes have.
-fn write_sums_by_places(
-    lane_width: usize,
-    least: i64,
-    bases: &Values,
-    numbers: &mut [u64; 1024],
-)
+fn write_sums_by_places(lane_width: usize, least: i64, bases: &Values, numbers: &mut [u64; 1024])
     requires lane_width { IsLaneWidth lane_width }
     requires base_count { length bases.now.values ≡ 1024 / lane_width }
     requires bases { AreInRange lane_width bases.now.values }
@@ -271,7 +261,8 @@ impl Delta {
     pub fn unpack(&self, numbers: &mut [u64; 1024])
         ensures { ArePacked self.now.lane_width self.now.width self.now.words.numbers numbers.new }
     {
-        self.words.unpack_by_places(self.words.packed_width(), numbers);
+        self.words
+            .unpack_by_places(self.words.packed_width(), numbers);
     }
 
     /// Makes numbers that tell the values of the packed numbers by places, which `unpack` writes: each is the bits of its row's value,

@@ -1,7 +1,6 @@
 -- A place's sums are those of the rows before, or the bases, and what the place adds.
-use Rattle.std.proofs.Common.{◌≡◌, ◌≢◌, ℕ, ◌+◌, ◌-◌, ◌*◌, ◌/◌, ◌%◌, ◌^◌, ◌<◌, ◌≤◌, ◌⊎◌, inl, inr, ℤ, pos, ◌+ℤ◌, of_z, to_z, List, length, get_or, sym, ap, ◌∙◌, subst, arith, rules, FitsSigned}
+use Rattle.std.proofs.Common.{◌≡◌, ◌≢◌, ℕ, ◌+◌, ◌-◌, ◌*◌, ◌/◌, ◌%◌, ◌^◌, ◌<◌, pos, ◌+ℤ◌, of_z, to_z, length, get_or, sym, ap, ◌∙◌, subst, arith, rules, FitsSigned}
 use Rattle.std.specs.Int.{w64, int_wrap, cast_unsigned}
-use Rattle.std.proofs.lemmas.Bool.{cases_lt}
 use Rattle.transpose_order.specs.Place.{lane_of}
 use Rattle.bit_interleave.specs.Arithmetic.{integer_width}
 use Rattle.bit_interleave.specs.Places.{by_place}

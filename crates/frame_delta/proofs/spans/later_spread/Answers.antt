@@ -19,13 +19,13 @@ loop-place-preserved c =
     let g : ℕ → ℕ = λ n. by_place c.args.numbers.now n in
     let step = step_of_mask t place c.requires in
     elim c.if-place-lane_width-ne0.branch [
-      then-place-lane_width-ne0 w ↦
-      subst (λ (s : LaneSpread). IsLaneSpan (LaterBefore t (place + 1)) g s.least s.greatest) (sym w.so_far-is)
-      (later_span_goes_on t place g w.at-then-place-lane_width-ne0.result c.loop-place.so_far.least c.loop-place.so_far.greatest w.with-so_far.result.least w.with-so_far.result.greatest c.requires c.loop-place-test.true (λ e. w.if-place-lane_width-ne0.true (step ∙ e)) c.loop-place.invariant
-      (λ i h. w.at-then-place-lane_width-ne0.ensures.lanes i h ∙ number_at_place c.args.numbers.now place i c.loop-place-test.true h) w.with-so_far.ensures.least w.with-so_far.ensures.greatest)
-    | else-place-lane_width-ne0 w ↦
-      subst (λ (s : LaneSpread). IsLaneSpan (LaterBefore t (place + 1)) g s.least s.greatest) (sym w.so_far-is)
-      (later_span_skips t place g c.loop-place.so_far.least c.loop-place.so_far.greatest c.requires (sym step ∙ w.if-place-lane_width-ne0.false) c.loop-place.invariant)
+      | then-place-lane_width-ne0 w ↦
+          subst (λ (s : LaneSpread). IsLaneSpan (LaterBefore t (place + 1)) g s.least s.greatest) (sym w.so_far-is)
+          (later_span_goes_on t place g w.at-then-place-lane_width-ne0.result c.loop-place.so_far.least c.loop-place.so_far.greatest w.with-so_far.result.least w.with-so_far.result.greatest c.requires c.loop-place-test.true (λ e. w.if-place-lane_width-ne0.true (step ∙ e)) c.loop-place.invariant
+          (λ i h. w.at-then-place-lane_width-ne0.ensures.lanes i h ∙ number_at_place c.args.numbers.now place i c.loop-place-test.true h) w.with-so_far.ensures.least w.with-so_far.ensures.greatest)
+      | else-place-lane_width-ne0 w ↦
+          subst (λ (s : LaneSpread). IsLaneSpan (LaterBefore t (place + 1)) g s.least s.greatest) (sym w.so_far-is)
+          (later_span_skips t place g c.loop-place.so_far.least c.loop-place.so_far.greatest c.requires (sym step ∙ w.if-place-lane_width-ne0.false) c.loop-place.invariant)
     ]
 
 pub returns : goal.returns

@@ -1,5 +1,4 @@
 -- The extremes of the later numbers of the places so far, in each lane.
-use Rattle.std.proofs.Common.{ℕ}
 use Rattle.bit_interleave.specs.Places.{by_place}
 use Rattle.frame_delta.proofs.SpanLemmas.{IsLaneSpan}
 use Rattle.frame_delta.proofs.PlaceSpans.{LaterBefore}

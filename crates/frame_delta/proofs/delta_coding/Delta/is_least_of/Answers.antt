@@ -1,5 +1,5 @@
 -- The form is the least one exactly where each lane starts at 0 and the packed numbers are tight after that.
-use Rattle.std.proofs.Common.{◌≡◌, ℕ, ◌<◌, List, ℤ, Bool, false, get_or, of_z, to_z, sym, ap, ◌∙◌, subst, rules, FitsSigned, IsTrue}
+use Rattle.std.proofs.Common.{◌≡◌, ℕ, ◌<◌, List, ℤ, Bool, false, get_or, of_z, to_z, sym, ◌∙◌, subst, rules, FitsSigned, IsTrue}
 use Rattle.std.specs.Int.{w64}
 use Rattle.std.proofs.lemmas.Int.{to_z-of_z}
 use Rattle.std.proofs.lemmas.Bool.{false≢true}

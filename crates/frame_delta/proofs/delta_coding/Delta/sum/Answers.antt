@@ -1,5 +1,5 @@
 -- The sums within the lanes are the values.
-use Rattle.std.proofs.Common.{◌≡◌, ℕ, List, ℤ, pos, of_z, to_z, sym, ap, ◌∙◌, subst, rules, FitsSigned}
+use Rattle.std.proofs.Common.{◌≡◌, ℕ, ℤ, pos, of_z, to_z, sym, ap, ◌∙◌, subst, rules, FitsSigned}
 use Rattle.std.specs.Int.{w64}
 use Rattle.std.proofs.lemmas.Int.{to_z-of_z}
 use Rattle.bit_interleave.specs.PackedWords.{PackedWords, packed_width}

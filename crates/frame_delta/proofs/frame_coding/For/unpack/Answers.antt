@@ -1,5 +1,5 @@
 -- Each packed number is what its row's value is above the reference.
-use Rattle.std.proofs.Common.{List, subst}
+use Rattle.std.proofs.Common.{subst}
 use Rattle.frame_delta.specs.Frame.{FrameForm, frame_values, ArePacked, TellApart, AreAbove}
 use Rattle.frame_delta.proofs.PlaceNumbers.{packed_small, tell_apart, frame_above}
 use Rattle.frame_delta.proofs.frame_coding.For.unpack.Goals as goal
