@@ -265,8 +265,8 @@ impl Delta {
             .unpack_by_places(self.words.packed_width(), numbers);
     }
 
-    /// Makes numbers that tell the values of the packed numbers by places, which `unpack` writes: each is the bits of its row's value,
-    /// as many as the lane width.
+    /// Adds up the packed numbers by places, which `unpack` writes, within the lanes: each becomes the bits of its row's value, as many
+    /// as the lane width. So rows of the same value have the same number.
     pub fn sum(&self, numbers: &mut [u64; 1024])
         requires { ArePacked self.now.lane_width self.now.width self.now.words.numbers numbers.old }
         ensures values { AreAbove self.now.lane_width (pos 0) numbers.new (delta_values self.now) }
@@ -297,9 +297,9 @@ impl Delta {
         later_spread(lane_width, numbers).is_tight(lane_width, width, self.least)
     }
 
-    /// Whether the least form of values has a payload of fewer than `bound` bytes. The values are told by numbers by places: each is
-    /// one number r more than its row's, modulo two to the power of `lane_width`, which is 8, 16, 32 or 64. It looks at no more
-    /// places than it takes to see that the bytes are as many.
+    /// Whether the payload of the least form of 1024 values has fewer bytes than `bound`, from numbers by places: each value is its
+    /// row's number plus one and the same number, modulo two to the power of `lane_width`, which is 8, 16, 32 or 64. It stops at the
+    /// first rows that need as many bytes.
     pub fn is_below(lane_width: usize, numbers: &[u64; 1024], bound: u16) -> bool
         requires lane_width { IsLaneWidth lane_width }
         ensures { (values : List ℤ) (r : ℤ) → length values ≡ 1024 → AreAbove lane_width r numbers.now values → IsTrue result ↔ (delta_bytes (least_delta lane_width values) < bound) }

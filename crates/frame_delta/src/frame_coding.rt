@@ -201,9 +201,9 @@ impl For {
         spread_of(numbers).is_tight(self.words.lane_width(), self.width, self.reference)
     }
 
-    /// Whether the least form of values has a payload of fewer than `bound` bytes. The values are told by numbers by places: each is
-    /// its row's number modulo two to the power of `lane_width`, which is 8, 16, 32 or 64, read as signed. It looks at no more
-    /// places than it takes to see that the bytes are as many.
+    /// Whether the payload of the least form of 1024 values has fewer bytes than `bound`, from numbers by places: each value is its
+    /// row's number modulo two to the power of `lane_width`, which is 8, 16, 32 or 64, read as signed. It stops at the first rows
+    /// that need as many bytes.
     pub fn is_below(lane_width: usize, numbers: &[u64; 1024], bound: u16) -> bool
         requires lane_width { IsLaneWidth lane_width }
         ensures { (values : List ℤ) → length values ≡ 1024 → AreAbove lane_width (pos 0) numbers.now values → IsTrue result ↔ (frame_bytes (least_frame lane_width values) < bound) }

@@ -60,7 +60,7 @@ pub(crate) fn low_bits(lane_width: usize, lanes: Simd<u64, 16>) -> Simd<u64, 16>
 }
 
 /// The least and the greatest of the numbers so far in each of sixteen lanes.
-#[derive(Drop)]
+#[derive(Clone, Copy)]
 pub(crate) struct LaneSpread {
     least: [u64; 16],
     greatest: [u64; 16],
@@ -98,11 +98,11 @@ impl LaneSpread {
     }
 
     /// The least and the greatest of all lanes.
-    pub(crate) fn spread(&self) -> Spread
-        ensures low { (i : ℕ) → i < 16 → result.least ≤ slice_index self.now.least i }
-        ensures high { (i : ℕ) → i < 16 → slice_index self.now.greatest i ≤ result.greatest }
-        ensures low_reached { (i : ℕ) × (i < 16) × (result.least ≡ slice_index self.now.least i) }
-        ensures high_reached { (i : ℕ) × (i < 16) × (result.greatest ≡ slice_index self.now.greatest i) }
+    pub(crate) fn spread(self) -> Spread
+        ensures low { (i : ℕ) → i < 16 → result.least ≤ slice_index self.least i }
+        ensures high { (i : ℕ) → i < 16 → slice_index self.greatest i ≤ result.greatest }
+        ensures low_reached { (i : ℕ) × (i < 16) × (result.least ≡ slice_index self.least i) }
+        ensures high_reached { (i : ℕ) × (i < 16) × (result.greatest ≡ slice_index self.greatest i) }
     {
         let mut least = self.least[0];
         let mut greatest = self.greatest[0];

@@ -13,8 +13,8 @@ reached_max x g n h old (inr more) = (old.0, old.1, omega (arith, old.2))
 
 pub loop-i-preserved : goal.loop-i-preserved
 loop-i-preserved c =
-    let f = slice_index c.args.self.now.least in
-    let g = slice_index c.args.self.now.greatest in
+    let f = slice_index c.args.self.least in
+    let g = slice_index c.args.self.greatest in
     let n = c.loop-i.i in
     let lower = reached_min c.loop-i.least f n c.loop-i-test.true c.loop-i.invariant.low_reached (cases_lt c.loop-i.least (f n)) in
     let higher = reached_max c.loop-i.greatest g n c.loop-i-test.true c.loop-i.invariant.high_reached (cases_lt c.loop-i.greatest (g n)) in
