@@ -13,3 +13,4 @@ pub mod WordsLemmas
 pub mod ValueLemmas
 pub mod WordBytesLemmas
 pub mod ValuesLemmas
+pub mod PlacesLemmas

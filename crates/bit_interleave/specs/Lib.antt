@@ -1,5 +1,6 @@
 pub mod Arithmetic
 pub mod Range
+pub mod Places
 pub mod Packing
 pub mod PackedWords
 pub mod StoredWords

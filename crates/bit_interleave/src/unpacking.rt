@@ -2,6 +2,7 @@
 ghost use Rattle.std.specs.Prelude.{◌≡◌, ℕ, ◌+◌, ◌*◌, ◌/◌, ◌%◌, ◌<◌, ◌≤◌, ◌^◌, map, length, slice_index, bit_or, ◌≢◌};
 ghost use Rattle.std.specs.Simd.Lanes.{Each1, zip2};
 ghost use Rattle.bit_interleave.specs.Packing.{sixteen_of, packed_value, unpacked};
+ghost use Rattle.bit_interleave.specs.Places.{by_place};
 
 use crate::lane_word::LaneWord;
 use std::simd::prelude::*;
@@ -108,8 +109,8 @@ pub(crate) fn unpack_into<U: LaneWord, V: LaneWord>(
     }
 }
 
-/// Writes the sixteen lanes of a piece one after another, from sixteen times their place on.
-fn put_place(lanes: Simd<u64, 16>, place: usize, numbers: &mut [u64; 1024])
+/// Writes the sixteen numbers of a place, 0 to 63, of numbers by places: they are one after another, from sixteen times the place on.
+pub fn put_place(lanes: Simd<u64, 16>, place: usize, numbers: &mut [u64; 1024])
     requires lanes { length lanes ≡ 16 }
     requires place { place < 64 }
     ensures long { length numbers.new ≡ 1024 }
@@ -127,7 +128,7 @@ pub fn unpack_by_places<U: LaneWord>(width: usize, words: &[U], numbers: &mut [u
     requires width { width ≤ U.BITS }
     requires words { length words.now ≡ width * (1024 / U.BITS) }
     ensures long { length numbers.new ≡ 1024 }
-    ensures numbers { (n : ℕ) → n < 1024 → slice_index numbers.new (16 * (n % 64) + n / 64) ≡ slice_index (unpacked U.BITS width (map U.number words.now)) n }
+    ensures numbers { (n : ℕ) → n < 1024 → by_place numbers.new n ≡ slice_index (unpacked U.BITS width (map U.number words.now)) n }
 {
     let bits = U::BITS;
     for piece in 0..64 {

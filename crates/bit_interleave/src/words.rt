@@ -6,6 +6,7 @@ ghost use Rattle.transpose_order.specs.Place.{IsLaneWidth};
 ghost use Rattle.bit_interleave.specs.Packing.{sixteen_of, packed_value, unpacked, packed};
 ghost use Rattle.bit_interleave.specs.PackedWords.{PackedWords, words_packing, HasWidth, FitLanes, packed_width};
 ghost use Rattle.bit_interleave.specs.PackedBytes.{bytes_of, words_of_bytes};
+ghost use Rattle.bit_interleave.specs.Places.{by_place};
 
 use crate::lane_word::LaneWord;
 use crate::packing::pack_from;
@@ -236,7 +237,7 @@ impl Words {
     /// at row `64 * i + p`.
     pub fn unpack_by_places(&self, width: usize, numbers: &mut [u64; 1024])
         requires { HasWidth self.now width }
-        ensures numbers { (n : ℕ) → n < 1024 → slice_index numbers.new (16 * (n % 64) + n / 64) ≡ slice_index (unpacked self.now.lane_width width self.now.numbers) n }
+        ensures numbers { (n : ℕ) → n < 1024 → by_place numbers.new n ≡ slice_index (unpacked self.now.lane_width width self.now.numbers) n }
         ensures back { self.now ≡ words_packing self.now.lane_width width (unpacked self.now.lane_width width self.now.numbers) }
     {
         match &self.stored {

@@ -1,5 +1,5 @@
 -- The gap between two numbers is what the one is above the other, and a sum that does not fall below its first number has not wrapped.
-use Rattle.std.proofs.Common.{◌≡◌, ℕ, ◌^◌, ◌<◌, ◌≤◌, ℤ, pos, negsuc, ◌+ℤ◌, ◌≤ℤ◌, refl, arith}
+use Rattle.std.proofs.Common.{◌≡◌, ℕ, ◌^◌, ◌<◌, ℤ, pos, negsuc, ◌+ℤ◌, ◌≤ℤ◌, refl, arith}
 use Rattle.std.specs.Int.{w8, w16, w32, w64, int_wrap, int_gap}
 use Rattle.std.specs.Int.RustNames.{FitsSigned}
 use Rattle.std.proofs.lemmas.Int.{ints, int_wrap_fits}

@@ -9,3 +9,6 @@ pub mod LeastDelta
 pub mod DifferenceLemmas
 pub mod TurnLemmas
 pub mod SameValues
+pub mod SpanLemmas
+pub mod PlaceSpans
+pub mod PlaceNumbers

@@ -9,6 +9,7 @@ use Rattle.bit_interleave.specs.Arithmetic.{integer_width, least_width}
 use Rattle.bit_interleave.specs.Packing.{packed_value}
 use Rattle.bit_interleave.specs.PackedWords.{PackedWords, FitLanes, HasWidth, words_packing}
 use Rattle.bit_interleave.specs.Range.{AreInRange, value_at}
+use Rattle.bit_interleave.specs.Places.{by_place}
 use Rattle.frame_delta.specs.Extremes.{least_among, greatest_among}
 
 -- a form by deltas: the lane width, the bits of a packed number, the least delta, the bases in lane order, and the packed
@@ -51,6 +52,11 @@ is_later t n = not (n % t == 0)
 -- the difference of a later row from the row before, modulo two to the power of t, read as signed
 unfoldable pub difference_at : ℕ → List ℤ → ℕ → ℤ
 difference_at t values n = int_wrap (integer_width t) (value_at values n -ℤ value_at values (n - 1))
+
+-- the difference of row n's number from that of the row before, of numbers by places, modulo two to the power of t, read as signed
+unfoldable pub number_difference : ℕ → List ℕ → ℕ → ℤ
+number_difference t numbers n =
+    int_wrap (integer_width t) (pos (by_place numbers n) -ℤ pos (by_place numbers (n - 1)))
 
 -- the difference at each row, and at step 0, which has none, that of row 1
 unfoldable pub differences_within : ℕ → List ℤ → List ℤ

@@ -1,6 +1,6 @@
 -- The least and the greatest of the numbers that pass a test.
-use Rattle.std.specs.Prelude.{◌≡◌, ◌<◌, ◌≤◌, true, ℕ, zero, suc, ℤ, pos, ◌+ℤ◌, ◌≤ℤ◌, ◌↔◌, Bool, cond}
-use Rattle.std.specs.Int.{int_min, int_max, int_wrap}
+use Rattle.std.specs.Prelude.{◌≡◌, ◌<◌, ◌≤◌, true, ℕ, zero, suc, ◌-◌, ◌*◌, ◌^◌, ℤ, pos, negsuc, ◌+ℤ◌, ◌≤ℤ◌, ◌↔◌, Bool, cond}
+use Rattle.std.specs.Int.{int_min, int_max, int_wrap, int_gap}
 use Rattle.bit_interleave.specs.Arithmetic.{integer_width, least_width}
 
 -- the least of `first` and the f n of the n below k that pass p
@@ -46,3 +46,7 @@ pub record IsTightFrame (t width : ℕ) (reference : ℤ) (low high : ℕ) : Typ
   pub zero : low ≡ 0
   pub least : width ≡ least_width high
   pub stays : reference ≤ℤ int_wrap (integer_width t) (reference +ℤ pos high)
+
+-- how far a number of t bits is above the least of them, in the highest t of 64 bits: such numbers are in the order of signed ones
+unfoldable pub at_top : ℕ → ℤ → ℕ
+at_top t z = 2 ^ (64 - t) * int_gap (negsuc (2 ^ (t - 1) - 1)) z

@@ -1,17 +1,20 @@
 //! Vectors coded by deltas.
-ghost use Rattle.std.specs.Prelude.{◌≡◌, ◌≢◌, ℕ, ◌+◌, ◌-◌, ◌*◌, ◌/◌, ◌%◌, ◌<◌, ◌≤◌, ◌↔◌, map, length, slice_index, IsTrue, IfOk};
-ghost use Rattle.std.specs.Int.{w64, cast_unsigned};
+ghost use Rattle.std.specs.Prelude.{◌≡◌, ◌≢◌, ℕ, ℤ, pos, ◌+ℤ◌, List, ◌+◌, ◌-◌, ◌*◌, ◌/◌, ◌%◌, ◌^◌, ◌<◌, ◌≤◌, ◌↔◌, map, length, slice_index, IsTrue, IfOk};
+ghost use Rattle.std.specs.Int.{w64, int_wrap, cast_unsigned};
 ghost use Rattle.std.specs.Int.RustNames.{FitsSigned};
-ghost use Rattle.transpose_order.specs.Place.{IsLaneWidth};
+ghost use Rattle.transpose_order.specs.Place.{IsLaneWidth, lane_of};
 ghost use Rattle.bit_interleave.specs.Arithmetic.{integer_width};
 ghost use Rattle.bit_interleave.specs.PackedWords.{HasWidth};
+ghost use Rattle.bit_interleave.specs.Places.{by_place};
 ghost use Rattle.bit_interleave.specs.Range.{AreInRange, value_at};
+ghost use Rattle.frame_delta.specs.Frame.{ArePacked, TellApart, AreAbove};
 ghost use Rattle.frame_delta.specs.Delta.{IsDeltaForm, AreSums, delta_value, delta_values, least_delta, delta_bytes};
 
 use crate::differences::{bases_of, differences_within, fill_first_steps, starts_at_zero};
-use crate::extremes::{Frame, gaps_above, spread_of};
+use crate::extremes::{Frame, gaps_above};
 use crate::pieces::{added, put_four, raised};
-use bit_interleave::{LaneWord, Values, Words, step_at, wrap};
+use crate::spans::{LaneSpread, at, differences_at, later_spread, low_bits};
+use bit_interleave::{LaneWord, Values, Words, put_place, step_at, wrap};
 use std::alloc::{AllocError, Global};
 use std::marker::Model;
 use std::simd::prelude::*;
@@ -100,6 +103,51 @@ fn write_sums<U: LaneWord>(
         put_four(bits, a, b, c, d, places, values);
         sums = d;
     }
+}
+
+/// The sums before those of a place, 0 to 63: the bases at the first steps of their lanes, and else the sums so far.
+#[inline(always)]
+fn sums_before(lane_width: usize, row: usize, sums: Simd<u64, 16>, bases: &Values) -> Simd<u64, 16>
+    requires lane_width { IsLaneWidth lane_width }
+    requires row { row < 64 }
+    requires sums { length sums ≡ 16 }
+    requires base_count { length bases.now.values ≡ 1024 / lane_width }
+    ensures long { length result ≡ 16 }
+    ensures first { row % lane_width ≡ 0 → (i : ℕ) → i < 16 → slice_index result i ≡ cast_unsigned w64 (value_at bases.now.values (lane_of lane_width (64 * i + row))) }
+    ensures later { row % lane_width ≢ 0 → result ≡ sums }
+{
+    if row & (lane_width - 1) != 0 {
+        return sums;
+    }
+    base_bits(bases, place(lane_width, row).0)
+}
+
+/// Adds up numbers by places within the lanes, with a base and a least delta: each becomes its row's value, in as many bits as the
+/// lanes have.
+fn write_sums_by_places(lane_width: usize, least: i64, bases: &Values, numbers: &mut [u64; 1024])
+    requires lane_width { IsLaneWidth lane_width }
+    requires base_count { length bases.now.values ≡ 1024 / lane_width }
+    requires bases { AreInRange lane_width bases.now.values }
+    ensures first { (n : ℕ) → n < 1024 → n % lane_width ≡ 0 → int_wrap (integer_width lane_width) (pos (by_place numbers.new n)) ≡ int_wrap (integer_width lane_width) (value_at bases.now.values (lane_of lane_width n) +ℤ (least +ℤ pos (by_place numbers.old n))) }
+    ensures later { (n : ℕ) → n < 1024 → n % lane_width ≢ 0 → int_wrap (integer_width lane_width) (pos (by_place numbers.new n)) ≡ int_wrap (integer_width lane_width) (int_wrap (integer_width lane_width) (pos (by_place numbers.new (n - 1))) +ℤ (least +ℤ pos (by_place numbers.old n))) }
+    ensures fit { (n : ℕ) → n < 1024 → by_place numbers.new n < 2 ^ lane_width }
+{
+    let by = least.cast_unsigned();
+    let mut sums = Simd::splat(0);
+    for row in 0..64 {
+        let before = sums_before(lane_width, row, sums, bases);
+        sums = added(raised(before, by), at(numbers, row));
+        put_place(low_bits(lane_width, sums), row, numbers);
+    }
+}
+
+/// The payload's bytes at a width of packed numbers.
+fn bytes_at(lane_width: usize, width: usize) -> u16
+    requires lane_width { IsLaneWidth lane_width }
+    requires width { width ≤ 64 }
+    ensures { result ≡ lane_width / 8 + 128 + 128 * width }
+{
+    (lane_width / 8 + 128 + 128 * width) as u16
 }
 
 impl Delta {
@@ -209,20 +257,63 @@ impl Delta {
         added(raised(from, self.least.cast_unsigned()), numbers)
     }
 
+    /// Writes the packed numbers by places: number `16 * p + i` is that of row `64 * i + p`.
+    pub fn unpack(&self, numbers: &mut [u64; 1024])
+        ensures { ArePacked self.now.lane_width self.now.width self.now.words.numbers numbers.new }
+    {
+        self.words
+            .unpack_by_places(self.words.packed_width(), numbers);
+    }
+
+    /// Adds up the packed numbers by places, which `unpack` writes, within the lanes: each becomes the bits of its row's value, as many
+    /// as the lane width. So rows of the same value have the same number.
+    pub fn sum(&self, numbers: &mut [u64; 1024])
+        requires { ArePacked self.now.lane_width self.now.width self.now.words.numbers numbers.old }
+        ensures values { AreAbove self.now.lane_width (pos 0) numbers.new (delta_values self.now) }
+        ensures apart { TellApart numbers.new (delta_values self.now) }
+    {
+        write_sums_by_places(self.words.lane_width(), self.least, &self.bases, numbers);
+    }
+
     /// Whether this is the least form of the values that it decodes to, part for part.
     pub fn is_least(&self) -> bool
         ensures { IsTrue result ↔ (self.now ≡ least_delta self.now.lane_width (delta_values self.now)) }
     {
-        let lane_width = self.words.lane_width();
-        let width = self.words.packed_width();
         let mut numbers = [0; 1024];
-        self.words.unpack(width, &mut numbers);
-        if !starts_at_zero(lane_width, &numbers) {
+        self.unpack(&mut numbers);
+        self.is_least_of(&numbers)
+    }
+
+    /// Whether this is the least form of the values that it decodes to, from its packed numbers by places, which `unpack` writes.
+    pub fn is_least_of(&self, numbers: &[u64; 1024]) -> bool
+        requires { ArePacked self.now.lane_width self.now.width self.now.words.numbers numbers.now }
+        ensures { IsTrue result ↔ (self.now ≡ least_delta self.now.lane_width (delta_values self.now)) }
+    {
+        let lane_width = self.words.lane_width();
+        if !starts_at_zero(lane_width, numbers) {
             return false;
         }
-        let any = numbers[1];
-        fill_first_steps(lane_width, any, &mut numbers);
-        spread_of(&numbers).is_tight(lane_width, width, self.least)
+        let width = self.words.packed_width();
+        later_spread(lane_width, numbers).is_tight(lane_width, width, self.least)
+    }
+
+    /// Whether the payload of the least form of 1024 values has fewer bytes than `bound`, from numbers by places: each value is its
+    /// row's number plus one and the same number, modulo two to the power of `lane_width`, which is 8, 16, 32 or 64. It stops at the
+    /// first rows that need as many bytes.
+    pub fn is_below(lane_width: usize, numbers: &[u64; 1024], bound: u16) -> bool
+        requires lane_width { IsLaneWidth lane_width }
+        ensures { (values : List ℤ) (r : ℤ) → length values ≡ 1024 → AreAbove lane_width r numbers.now values → IsTrue result ↔ (delta_bytes (least_delta lane_width values) < bound) }
+    {
+        let mut so_far = LaneSpread::of(differences_at(lane_width, numbers, 1));
+        for place in 2..64 {
+            if place % 16 == 2 && bytes_at(lane_width, so_far.spread().width(lane_width)) >= bound {
+                return false;
+            }
+            if place & (lane_width - 1) != 0 {
+                so_far = so_far.with(differences_at(lane_width, numbers, place));
+            }
+        }
+        bytes_at(lane_width, so_far.spread().width(lane_width)) < bound
     }
 
     /// The lane width in bits: 8, 16, 32 or 64.

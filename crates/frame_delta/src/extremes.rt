@@ -1,5 +1,6 @@
 //! The least and the greatest of a vector's values, and distances above the least.
-ghost use Rattle.std.specs.Prelude.{◌≡◌, ℕ, ◌<◌, ◌≤◌, ◌≤ℤ◌, ◌↔◌, true, slice_index, IsTrue};
+ghost use Rattle.std.specs.Prelude.{◌≡◌, ℕ, ◌-◌, ◌/◌, ◌^◌, ◌<◌, ◌≤◌, ◌≤ℤ◌, ◌↔◌, true, slice_index, IsTrue};
+ghost use Rattle.bit_interleave.specs.Arithmetic.{least_width};
 ghost use Rattle.bit_interleave.specs.Range.{AreInRange, value_at};
 ghost use Rattle.frame_delta.specs.Extremes.{IsSpread, IsTightFrame};
 ghost use Rattle.transpose_order.specs.Place.{IsLaneWidth};
@@ -78,6 +79,16 @@ pub(crate) fn spread_of(numbers: &[u64; 1024]) -> Spread
 }
 
 impl Spread {
+    /// The least width that holds how far the greatest number is above the least, of numbers in the highest `lane_width` of 64 bits.
+    pub(crate) fn width(&self, lane_width: usize) -> usize
+        requires lane_width { IsLaneWidth lane_width }
+        requires order { self.now.least ≤ self.now.greatest }
+        ensures value { result ≡ least_width ((self.now.greatest - self.now.least) / 2 ^ (64 - lane_width)) }
+        ensures bound { result ≤ 64 }
+    {
+        width_of((self.greatest - self.least) >> (64 - lane_width))
+    }
+
     /// Whether packed numbers of this spread are the least form over a reference: some number is 0, the width is the
     /// least for the greatest number, and the reference plus that one doesn't wrap.
     pub(crate) fn is_tight(&self, lane_width: usize, width: usize, reference: i64) -> bool

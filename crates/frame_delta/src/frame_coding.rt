@@ -1,15 +1,16 @@
 //! Vectors coded by frame of reference.
-ghost use Rattle.std.specs.Prelude.{◌≡◌, ◌+◌, ◌*◌, ◌/◌, ◌<◌, ◌≤◌, ◌↔◌, ℕ, ℤ, List, map, length, IsTrue, IfOk};
+ghost use Rattle.std.specs.Prelude.{◌≡◌, ◌+◌, ◌*◌, ◌/◌, ◌<◌, ◌≤◌, ◌↔◌, ℕ, ℤ, pos, List, map, length, IsTrue, IfOk};
 ghost use Rattle.std.specs.Int.RustNames.{FitsSigned};
 ghost use Rattle.transpose_order.specs.Place.{IsLaneWidth, place_of};
 ghost use Rattle.bit_interleave.specs.Arithmetic.{integer_width};
 ghost use Rattle.bit_interleave.specs.Packing.{sixteen_of};
 ghost use Rattle.bit_interleave.specs.PackedWords.{HasWidth};
 ghost use Rattle.bit_interleave.specs.Range.{AreInRange, value_at};
-ghost use Rattle.frame_delta.specs.Frame.{IsFrameForm, frame_value, frame_values, least_frame, frame_bytes};
+ghost use Rattle.frame_delta.specs.Frame.{IsFrameForm, frame_value, frame_values, least_frame, frame_bytes, ArePacked, TellApart, AreAbove};
 
 use crate::extremes::{Frame, gaps_above, spread_of};
 use crate::pieces::{put_four, raised};
+use crate::spans::{LaneSpread, at, ordered};
 use bit_interleave::{LaneWord, Words, step_at, wrap_lanes, wrapping_sum_with};
 use std::alloc::{AllocError, Global};
 use std::marker::Model;
@@ -55,6 +56,15 @@ fn write_values<U: LaneWord>(width: usize, reference: i64, words: &[U], values: 
         let places = place_in_word(bits, piece) / 4;
         put_four(bits, a, b, c, d, places, values);
     }
+}
+
+/// The payload's bytes at a width of packed numbers.
+fn bytes_at(lane_width: usize, width: usize) -> u16
+    requires lane_width { IsLaneWidth lane_width }
+    requires width { width ≤ 64 }
+    ensures { result ≡ lane_width / 8 + 128 * width }
+{
+    (lane_width / 8 + 128 * width) as u16
 }
 
 impl For {
@@ -164,13 +174,48 @@ impl For {
         wrap_lanes(lane_width, raised(numbers, self.reference.cast_unsigned()))
     }
 
+    /// Writes the packed numbers by places: number `16 * p + i` is that of row `64 * i + p`. Each value is the reference plus its
+    /// row's number, modulo two to the power of the lane width, and rows of the same value have the same number.
+    pub fn unpack(&self, numbers: &mut [u64; 1024])
+        ensures packed { ArePacked self.now.lane_width self.now.width self.now.words.numbers numbers.new }
+        ensures values { AreAbove self.now.lane_width self.now.reference numbers.new (frame_values self.now) }
+        ensures apart { TellApart numbers.new (frame_values self.now) }
+    {
+        self.words.unpack_by_places(self.width, numbers);
+    }
+
     /// Whether this is the least form of the values that it decodes to, part for part.
     pub fn is_least(&self) -> bool
         ensures { IsTrue result ↔ (self.now ≡ least_frame self.now.lane_width (frame_values self.now)) }
     {
         let mut numbers = [0; 1024];
-        self.words.unpack_by_places(self.width, &mut numbers);
-        spread_of(&numbers).is_tight(self.words.lane_width(), self.width, self.reference)
+        self.unpack(&mut numbers);
+        self.is_least_of(&numbers)
+    }
+
+    /// Whether this is the least form of the values that it decodes to, from its packed numbers by places, which `unpack` writes.
+    pub fn is_least_of(&self, numbers: &[u64; 1024]) -> bool
+        requires { ArePacked self.now.lane_width self.now.width self.now.words.numbers numbers.now }
+        ensures { IsTrue result ↔ (self.now ≡ least_frame self.now.lane_width (frame_values self.now)) }
+    {
+        spread_of(numbers).is_tight(self.words.lane_width(), self.width, self.reference)
+    }
+
+    /// Whether the payload of the least form of 1024 values has fewer bytes than `bound`, from numbers by places: each value is its
+    /// row's number modulo two to the power of `lane_width`, which is 8, 16, 32 or 64, read as signed. It stops at the first rows
+    /// that need as many bytes.
+    pub fn is_below(lane_width: usize, numbers: &[u64; 1024], bound: u16) -> bool
+        requires lane_width { IsLaneWidth lane_width }
+        ensures { (values : List ℤ) → length values ≡ 1024 → AreAbove lane_width (pos 0) numbers.now values → IsTrue result ↔ (frame_bytes (least_frame lane_width values) < bound) }
+    {
+        let mut so_far = LaneSpread::of(ordered(lane_width, at(numbers, 0)));
+        for place in 1..64 {
+            if place % 16 == 1 && bytes_at(lane_width, so_far.spread().width(lane_width)) >= bound {
+                return false;
+            }
+            so_far = so_far.with(ordered(lane_width, at(numbers, place)));
+        }
+        bytes_at(lane_width, so_far.spread().width(lane_width)) < bound
     }
 
     /// The lane width in bits: 8, 16, 32 or 64.

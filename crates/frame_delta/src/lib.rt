@@ -7,6 +7,7 @@ mod extremes;
 mod frame_coding;
 mod laws;
 mod pieces;
+mod spans;
 
 pub use delta_coding::Delta;
 pub use frame_coding::For;

@@ -1,5 +1,5 @@
 -- Each piece is written to its place, and each row is one lane of one piece.
-use Rattle.std.proofs.Common.{◌≡◌, ℕ, ◌+◌, ◌*◌, ◌/◌, ◌%◌, ◌^◌, ◌<◌, ◌≤◌, map, get_or, slice_index, sym, ap, subst, ◌∙◌, arith, below_more, rules}
+use Rattle.std.proofs.Common.{◌≡◌, ℕ, ◌+◌, ◌*◌, ◌/◌, ◌%◌, ◌<◌, map, get_or, sym, ap, subst, ◌∙◌, arith, below_more}
 use Rattle.transpose_order.specs.Place.{IsLaneWidth, lane_of, step_of, place_of}
 use Rattle.transpose_order.specs.MaskWords.{get_or-rows_of}
 use Rattle.bit_interleave.specs.Packing.{packed_value, unpacked}
