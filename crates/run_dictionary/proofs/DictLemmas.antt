@@ -23,6 +23,7 @@ use Rattle.bit_interleave.proofs.ValueLemmas.{length-unpacked, get_or-unpacked, 
 use Rattle.bit_interleave.proofs.WordsLemmas.{All-packed}
 use Rattle.bit_interleave.proofs.RoundTrip.{unpacked-packed}
 use Rattle.bit_interleave.proofs.LeastWidthLemmas.{least_width-holds, least_width-least}
+use Rattle.bit_interleave.specs.Places.{by_place}
 use Rattle.bit_interleave.specs.Range.{value_at, AreInRange}
 use Rattle.run_dictionary.specs.Dict.{DictForm, IsDictForm, IsAscending, distinct, packed_code, code_at, code_of, dict_value, dict_values, least_dict}
 use Rattle.run_dictionary.proofs.OrderLemmas.{Has, Has-get_or, place_of_member, Ascends, Ascends-distinct, Has-distinct, Has-from_distinct, distinct_is, length-le_from_members, length-distinct, less_not_equal, less_from_test}
@@ -312,6 +313,18 @@ pub packed_codes_read : (width : ℕ) (codes : PackedWords) (xs : List ℕ) → 
 packed_codes_read width codes xs sixteen is n h =
     ap (λ xs. get_or xs n 0) (is ∙ ap (λ t. unpacked t width codes.numbers) sixteen) ∙ packed_code-unpacked width codes n h
 
+-- codes by places
+pub codes_by_place : (width : ℕ) (codes : PackedWords) (xs : List ℕ) → codes.lane_width ≡ 16 → ((n : ℕ) → n < 1024 → by_place xs n ≡ get_or (unpacked codes.lane_width width codes.numbers) n 0) → (n : ℕ) → n < 1024 → by_place xs n ≡ packed_code width codes n
+codes_by_place width codes xs sixteen is n h =
+    is n h ∙ ap (λ t. get_or (unpacked t width codes.numbers) n 0) sixteen ∙ packed_code-unpacked width codes n h
+
+-- codes are equal exactly where the values are
+pub codes_alike : (form : DictForm) → IsDictForm form → (m n : ℕ) → m < 1024 → n < 1024 → (code_at form m ≡ code_at form n) ↔ (value_at (dict_values form) m ≡ value_at (dict_values form) n)
+codes_alike form f m n a b = (
+  λ e. get_or-dict_values form m (pos 0) a ∙ ap (value_at form.values) e ∙ sym (get_or-dict_values form n (pos 0) b),
+  λ e. same_place form.values (Ascends-from_neighbours form.values f.rises) (code_at form m) (code_at form n) (f.codes m a) (f.codes n b) (sym (get_or-dict_values form m (pos 0) a) ∙ e ∙ get_or-dict_values form n (pos 0) b),
+)
+
 pub codes_read : (form : DictForm) → IsDictForm form → (xs : List ℕ) → xs ≡ unpacked form.codes.lane_width form.width form.codes.numbers → (n : ℕ) → n < 1024 → get_or xs n 0 ≡ code_at form n
 codes_read form f xs is n h = packed_codes_read form.width form.codes xs f.words is n h
 
@@ -349,6 +362,16 @@ at_most_later xs h i j d l m = by_order (cases_lt i j)
     by_order (inl g) =
         at_most _ _ (subst (λ (z : ℤ). z <ℤ get_or xs j d) (get_or_default xs i (pos 0) d (omega arith))
         (subst (λ (z : ℤ). get_or xs i (pos 0) <ℤ z) (get_or_default xs j (pos 0) d m) (less_at xs (Ascends-from_neighbours xs h) i j g m)))
+
+-- the first value and the last are the ends of all, and those of rows where each place is used
+pub values_between : (form : DictForm) → IsDictForm form → (n : ℕ) → n < 1024 → (get_or form.values 0 (pos 0) ≤ℤ dict_value form n) × (dict_value form n ≤ℤ get_or form.values (length form.values - 1) (pos 0))
+values_between form f n h = (
+  at_most_later form.values f.rises 0 (code_at form n) (pos 0) (omega arith) (f.codes n h),
+  at_most_later form.values f.rises (code_at form n) (length form.values - 1) (pos 0) (omega (arith, f.codes n h)) (omega (arith, f.codes n h)),
+)
+
+pub row_of_place : (form : DictForm) → IsDictForm form → form ≡ least_dict form.lane_width (dict_values form) → (k : ℕ) → k < length form.values → (n : ℕ) × (n < 1024) × (dict_value form n ≡ get_or form.values k (pos 0))
+row_of_place form f e k h = let r = (used-from_least form f e).1 k h in (r.0, r.1, ap (value_at form.values) r.2)
 
 -- before a value below a number all are below it
 pub below_before : (xs : List ℤ) (low : ℤ) (middle k : ℕ) → IsAscending xs → middle < length xs → get_or xs middle (pos 0) <ℤ low → k < middle + 1 → get_or xs k (pos 0) <ℤ low

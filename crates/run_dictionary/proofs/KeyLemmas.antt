@@ -16,7 +16,7 @@ use Rattle.run_dictionary.proofs.OrderLemmas.{Has, Has-append, Has-append_left, 
 use Rattle.run_dictionary.proofs.DictLemmas.{not_less_from_test}
 
 -- ---- one more value
-decided : (z : ℤ) (xs : List ℤ) → Has z xs ⊎ (Has z xs → ⊥)
+pub decided : (z : ℤ) (xs : List ℤ) → Has z xs ⊎ (Has z xs → ⊥)
 decided z [] = inr (λ h. elim h [ ])
 decided z (x ∷ xs) = by_test (cases_Bool (int_eq z x)) (decided z xs)
   where
@@ -26,7 +26,7 @@ decided z (x ∷ xs) = by_test (cases_Bool (int_eq z x)) (decided z xs)
     by_test (inr e) (inr n) = inr (λ h. elim h [ inl s ↦ both_ways _ e ((Decides-int_eq z x).1 s) | inr g ↦ n g ])
 
 -- lists with the same members have the same distinct values
-distinct-same : (xs ys : List ℤ) → ((z : ℤ) → Has z xs → Has z ys) → ((z : ℤ) → Has z ys → Has z xs) → distinct xs ≡ distinct ys
+pub distinct-same : (xs ys : List ℤ) → ((z : ℤ) → Has z xs → Has z ys) → ((z : ℤ) → Has z ys → Has z xs) → distinct xs ≡ distinct ys
 distinct-same xs ys f g =
     distinct_is ys (distinct xs) (Ascends-distinct xs) (λ z h. Has-distinct z xs (g z h)) (λ z h. f z (Has-from_distinct z xs h))
 

@@ -8,3 +8,7 @@ pub mod RangeLemmas
 pub mod KeyLemmas
 pub mod SizeLemmas
 pub mod SightLemmas
+pub mod DistinctLemmas
+pub mod PlaceCounts
+pub mod BelowLemmas
+pub mod ExtremeLemmas

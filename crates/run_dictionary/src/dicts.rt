@@ -1,9 +1,10 @@
 //! Dictionary coding: the distinct values of a vector, and a packed code for each row.
-ghost use Rattle.std.specs.Prelude.{◌≡◌, ℕ, ◌+◌, ◌*◌, ◌<◌, ◌≤◌, ◌≤ℤ◌, ◌↔◌, IsTrue, IsSome, IfSome, IfOk, length, FitsSigned};
+ghost use Rattle.std.specs.Prelude.{◌≡◌, ℕ, ◌+◌, ◌*◌, ◌<◌, ◌≤◌, ◌≤ℤ◌, ◌↔◌, IsTrue, IsSome, IfSome, IfOk, ℤ, List, length, FitsSigned};
 ghost use Rattle.transpose_order.specs.Place.{IsLaneWidth, place_of};
 ghost use Rattle.bit_interleave.specs.PackedWords.{HasWidth};
 ghost use Rattle.bit_interleave.specs.Arithmetic.{integer_width};
 ghost use Rattle.bit_interleave.specs.Packing.{sixteen_of};
+ghost use Rattle.bit_interleave.specs.Places.{by_place};
 ghost use Rattle.bit_interleave.specs.Range.{AreInRange, value_at};
 ghost use Rattle.run_dictionary.specs.Dict.{IsDictForm, IsAscending, AreCodesBelow, code_at, dict_value, dict_values, least_dict, dict_bytes, CodesStandInLanes, LeastDictIsAForm, LeastDictGivesBack, LeastDictIsFewest};
 
@@ -11,6 +12,7 @@ use crate::codes::{
     all_used, are_below, first_from, values_at, write_codes, write_distinct, write_values,
 };
 use crate::counting::{count_distinct_to, most_values, payload_bytes};
+use crate::seen::more_distinct;
 use bit_interleave::{Values, Words, width_of};
 use std::alloc::{AllocError, Global};
 use std::marker::Model;
@@ -62,6 +64,18 @@ impl Dict {
         if size < bound { Some(size) } else { None }
     }
 
+    /// Whether the least dictionary of 1024 values takes fewer bytes than a bound. Of the values it is given numbers that are
+    /// equal exactly where the values are, such as the packed numbers of a frame: number `16 * p + i` is that of row
+    /// `64 * i + p`. The lane width is 8, 16, 32 or 64. It stops at the first distinct number that is too many.
+    pub fn is_below(lane_width: usize, numbers: &[u64; 1024], bound: u16) -> bool
+        requires { IsLaneWidth lane_width }
+        ensures { (values : List ℤ) → length values ≡ 1024
+            → ((m n : ℕ) → m < 1024 → n < 1024 → (by_place numbers.now m ≡ by_place numbers.now n) ↔ (value_at values m ≡ value_at values n))
+            → IsTrue result ↔ (dict_bytes (least_dict lane_width values) < bound) }
+    {
+        !more_distinct(numbers, most_values(lane_width, bound))
+    }
+
     /// The least form of 1024 values: their distinct values, and the least width for the greatest code. The values, in row order,
     /// are in the range of `lane_width` bits, signed, which are 8, 16, 32 or 64. Where memory is refused, an `AllocError`.
     pub fn encode(
@@ -92,7 +106,7 @@ impl Dict {
         ensures { IsTrue result ↔ AreCodesBelow width codes.now count }
     {
         let mut unpacked = [0; 1024];
-        codes.unpack(width, &mut unpacked);
+        codes.unpack_by_places(width, &mut unpacked);
         are_below(&unpacked, count)
     }
 
@@ -177,9 +191,32 @@ impl Dict {
     {
         let width = self.codes.packed_width();
         let mut codes = [0; 1024];
-        self.codes.unpack(width, &mut codes);
+        self.codes.unpack_by_places(width, &mut codes);
         let count = self.values.len();
         width == width_of(count as u64 - 1) && all_used(&codes, count)
+    }
+
+    /// Writes the rows' codes by places: number `16 * p + i` is the code of row `64 * i + p`. Two codes are equal exactly where the
+    /// rows' values are.
+    pub fn write_codes(&self, codes: &mut [u64; 1024])
+        ensures codes { (n : ℕ) → n < 1024 → by_place codes.new n ≡ code_at self.now n }
+        ensures below { (n : ℕ) → n < 1024 → by_place codes.new n < length self.now.values }
+        ensures alike { (m n : ℕ) → m < 1024 → n < 1024
+            → (by_place codes.new m ≡ by_place codes.new n) ↔ (value_at (dict_values self.now) m ≡ value_at (dict_values self.now) n) }
+    {
+        self.codes
+            .unpack_by_places(self.codes.packed_width(), codes);
+    }
+
+    /// The least and the greatest of the 1024 values, where this is the least form of them: the dictionary's first value and its
+    /// last.
+    pub fn ends(&self) -> (i64, i64)
+        requires { self.now ≡ least_dict self.now.lane_width (dict_values self.now) }
+        ensures bounds { (n : ℕ) → n < 1024 → (result.0 ≤ℤ dict_value self.now n) × (dict_value self.now n ≤ℤ result.1) }
+        ensures least { (n : ℕ) × (n < 1024) × (dict_value self.now n ≡ result.0) }
+        ensures greatest { (n : ℕ) × (n < 1024) × (dict_value self.now n ≡ result.1) }
+    {
+        (self.values.get(0), self.values.get(self.values.len() - 1))
     }
 
     /// The same vector in memory of its own. Where memory is refused, an `AllocError`.

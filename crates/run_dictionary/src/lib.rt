@@ -4,8 +4,10 @@
 mod codes;
 mod counting;
 mod dicts;
+mod places;
 mod run_words;
 mod runs;
+mod seen;
 
 pub use dicts::{
     Dict, codes_stand_in_lanes, least_dict_gives_back, least_dict_is_a_form, least_dict_is_fewest,

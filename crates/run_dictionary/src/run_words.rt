@@ -1,5 +1,5 @@
 //! Where the runs of 1024 values start, and what they have.
-ghost use Rattle.std.specs.Prelude.{◌≡◌, ◌≢◌, ◌==◌, ◌↔◌, ℕ, suc, ◌+◌, ◌-◌, ◌*◌, ◌<◌, ◌≤◌, true, false, IsTrue, take, length, slice_index_or, ℤ, pos};
+ghost use Rattle.std.specs.Prelude.{◌≡◌, ◌≢◌, ◌==◌, ◌↔◌, ℕ, suc, ◌+◌, ◌-◌, ◌*◌, ◌<◌, ◌≤◌, ◌≤ℤ◌, true, false, IsTrue, take, length, slice_index_or, ℤ, pos};
 ghost use Rattle.std.specs.Int.{bit_at};
 ghost use Rattle.transpose_order.specs.Mask.{rows_of, has, count_below};
 ghost use Rattle.bit_interleave.specs.Range.{value_at};
@@ -135,4 +135,20 @@ pub(crate) fn all_differ(runs: &[i64]) -> bool
         }
     }
     true
+}
+
+/// The least and the greatest of some values.
+pub(crate) fn extremes(values: &[i64]) -> (i64, i64)
+    requires { 0 < length values.now }
+    ensures bounds { (k : ℕ) → k < length values.now → (result.0 ≤ℤ value_at values.now k) × (value_at values.now k ≤ℤ result.1) }
+    ensures least { (k : ℕ) × (k < length values.now) × (value_at values.now k ≡ result.0) }
+    ensures greatest { (k : ℕ) × (k < length values.now) × (value_at values.now k ≡ result.1) }
+{
+    let mut least = values[0];
+    let mut greatest = values[0];
+    for k in 1..values.len() {
+        least = least.min(values[k]);
+        greatest = greatest.max(values[k]);
+    }
+    (least, greatest)
 }

@@ -1,12 +1,19 @@
 //! Run-length coding: where runs of equal values start, and the value of each.
-ghost use Rattle.std.specs.Prelude.{◌≡◌, ℕ, ◌+◌, ◌<◌, ◌≤◌, ◌↔◌, IsTrue, IfOk, false, List, length, FitsSigned};
+ghost use Rattle.std.specs.Prelude.{◌≡◌, ℕ, ◌+◌, ◌<◌, ◌≤◌, ◌≤ℤ◌, ◌↔◌, IsTrue, IfOk, false, ℤ, List, length, FitsSigned};
 ghost use Rattle.transpose_order.specs.Mask.{has};
 ghost use Rattle.transpose_order.specs.Place.{IsLaneWidth};
 ghost use Rattle.bit_interleave.specs.Arithmetic.{integer_width};
-ghost use Rattle.bit_interleave.specs.Range.{AreInRange};
+ghost use Rattle.bit_interleave.specs.Places.{by_place};
+ghost use Rattle.bit_interleave.specs.Range.{AreInRange, value_at};
+ghost use Rattle.run_dictionary.specs.Dict.{least_dict, dict_bytes};
 ghost use Rattle.run_dictionary.specs.Runs.{IsRunForm, run_of, run_value, run_values, least_runs, run_bytes, LeastRunsAreAForm, LeastRunsGiveBack, LeastRunsAreFewest};
 
-use crate::run_words::{all_differ, changes, count_changes, write_changed, write_rows};
+use crate::counting::most_values;
+use crate::places::changes_reach;
+use crate::seen::more_values;
+use crate::run_words::{
+    all_differ, changes, count_changes, extremes, write_changed, write_rows,
+};
 use bit_interleave::Values;
 use std::alloc::{AllocError, Global};
 use std::marker::Model;
@@ -40,6 +47,19 @@ impl Runs {
         ensures { result ≡ run_bytes (least_runs lane_width values.now) }
     {
         128 + ((count_changes(values) + 1) * lane_width / 8) as u16
+    }
+
+    /// Whether the least runs of 1024 values take fewer bytes than a bound. Of the values it is given numbers that are equal
+    /// exactly where the values are, such as the packed numbers of a frame or the codes of a dictionary: number `16 * p + i` is
+    /// that of row `64 * i + p`. The lane width is 8, 16, 32 or 64. It stops at the first change that is too many.
+    pub fn is_below(lane_width: usize, numbers: &[u64; 1024], bound: u16) -> bool
+        requires { IsLaneWidth lane_width }
+        ensures { (values : List ℤ) → length values ≡ 1024
+            → ((m n : ℕ) → m < 1024 → n < 1024 → (by_place numbers.now m ≡ by_place numbers.now n) ↔ (value_at values m ≡ value_at values n))
+            → IsTrue result ↔ (run_bytes (least_runs lane_width values) < bound) }
+    {
+        let most = (bound as usize).saturating_sub(129) / (lane_width / 8);
+        !changes_reach(numbers, most)
     }
 
     /// The least form of 1024 values: a run starts exactly where a value differs from the one before. The values, in row order,
@@ -123,6 +143,26 @@ impl Runs {
     {
         let mut room = [0; 1024];
         all_differ(self.values.in_room(&mut room))
+    }
+
+    /// The least and the greatest of the 1024 values, which are those of the runs.
+    pub fn extremes(&self) -> (i64, i64)
+        ensures bounds { (n : ℕ) → n < 1024 → (result.0 ≤ℤ run_value self.now n) × (run_value self.now n ≤ℤ result.1) }
+        ensures least { (n : ℕ) × (n < 1024) × (run_value self.now n ≡ result.0) }
+        ensures greatest { (n : ℕ) × (n < 1024) × (run_value self.now n ≡ result.1) }
+    {
+        let mut room = [0; 1024];
+        extremes(self.values.in_room(&mut room))
+    }
+
+    /// Whether the least dictionary of the 1024 values takes fewer bytes than a bound. The distinct values are those of the runs,
+    /// and it stops at the first that is too many.
+    pub fn dictionary_is_below(&self, bound: u16) -> bool
+        ensures { IsTrue result ↔ (dict_bytes (least_dict self.now.lane_width (run_values self.now)) < bound) }
+    {
+        let most = most_values(self.values.lane_width(), bound);
+        let mut room = [0; 1024];
+        !more_values(self.values.in_room(&mut room), most)
     }
 
     /// The same vector in memory of its own. Where memory is refused, an `AllocError`.
