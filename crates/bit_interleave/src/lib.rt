@@ -25,6 +25,6 @@ pub use laws::{
     words_and_bytes_come_back,
 };
 pub use packing::{pack, pack_at};
-pub use unpacking::{step, step_at, unpack, unpack_at, unpack_by_places};
+pub use unpacking::{put_place, step, step_at, unpack, unpack_at, unpack_by_places};
 pub use values::Values;
 pub use words::Words;

@@ -109,8 +109,8 @@ pub(crate) fn unpack_into<U: LaneWord, V: LaneWord>(
     }
 }
 
-/// Writes the sixteen lanes of a piece one after another, from sixteen times their place on.
-fn put_place(lanes: Simd<u64, 16>, place: usize, numbers: &mut [u64; 1024])
+/// Writes the sixteen numbers of a place, 0 to 63, of numbers by places: they are one after another, from sixteen times the place on.
+pub fn put_place(lanes: Simd<u64, 16>, place: usize, numbers: &mut [u64; 1024])
     requires lanes { length lanes ≡ 16 }
     requires place { place < 64 }
     ensures long { length numbers.new ≡ 1024 }

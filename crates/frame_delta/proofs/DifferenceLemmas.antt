@@ -11,7 +11,6 @@ use Rattle.transpose_order.specs.MaskWords.{length-rows_of, get_or-rows_of, rows
 use Rattle.transpose_order.proofs.WidthLemmas.{at_widths}
 use Rattle.bit_interleave.specs.Arithmetic.{integer_width, least_width}
 use Rattle.bit_interleave.specs.Range.{AreInRange, value_at}
-use Rattle.frame_delta.specs.Extremes.{IsSpread}
 use Rattle.frame_delta.specs.Frame.{least_value, greatest_value, frame_width, gaps_above}
 use Rattle.frame_delta.specs.Delta.{is_later, difference_at, differences_within, least_difference, greatest_difference, delta_width, later_gaps}
 use Rattle.frame_delta.proofs.ExtremeLemmas.{least_among-unique, greatest_among-unique}
@@ -151,19 +150,3 @@ least_below_filled t values filled is n h = by_step (is_later t n) refl
     by_step : (b : Bool) → is_later t n ≡ b → least_difference t values ≤ℤ value_at filled n
     by_step true e = subst (λ (z : ℤ). least_difference t values ≤ℤ z) (sym (is.later n h e)) (least_difference_below t values n h e)
     by_step false e = subst (λ (z : ℤ). least_difference t values ≤ℤ z) (sym (is.first n h e)) (le_self (least_difference t values))
-
--- ---- the extremes of numbers of which one at a later row stands at step 0
-later_one : (t : ℕ) (numbers filled : List ℕ) (x k : ℕ) → IsLaneWidth t → ((n other : ℕ) → n < 1024 → is_later t n ≡ false → get_or filled n other ≡ get_or numbers 1 0) → ((n other : ℕ) → is_later t n ≡ true → get_or filled n other ≡ get_or numbers n other) → k < 1024 → x ≡ get_or filled k 0 → (n : ℕ) × (n < 1024) × (is_later t n ≡ true) × (x ≡ get_or numbers n 0)
-later_one t numbers filled x k width first later h is = by_step (is_later t k) refl
-  where
-    by_step : (b : Bool) → is_later t k ≡ b → (n : ℕ) × (n < 1024) × (is_later t n ≡ true) × (x ≡ get_or numbers n 0)
-    by_step true e = (k, h, e, is ∙ later k 0 e)
-    by_step false e = (1, omega arith, row_one_is_later t width, is ∙ first k 0 h e)
-
-pub spread_of_filled : (t : ℕ) (numbers filled : List ℕ) (low high : ℕ) → IsLaneWidth t → ((n other : ℕ) → n < 1024 → is_later t n ≡ false → get_or filled n other ≡ get_or numbers 1 0) → ((n other : ℕ) → is_later t n ≡ true → get_or filled n other ≡ get_or numbers n other) → IsSpread (λ _. true) (λ n. get_or filled n 0) low high → IsSpread (is_later t) (λ n. get_or numbers n 0) low high
-spread_of_filled t numbers filled low high width first later spread = record {
-  low_bound = λ n h e. omega (arith, spread.low_bound n h refl, later n 0 e);
-  high_bound = λ n h e. omega (arith, spread.high_bound n h refl, later n 0 e);
-  low_reached = later_one t numbers filled low spread.low_reached.0 width first later spread.low_reached.1 spread.low_reached.3;
-  high_reached = later_one t numbers filled high spread.high_reached.0 width first later spread.high_reached.1 spread.high_reached.3;
-}

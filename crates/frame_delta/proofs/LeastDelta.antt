@@ -53,7 +53,7 @@ unfolding delta_value
 delta_here c n h = value_at-delta_values c n h
 
 -- the row before a later row is the step before
-row_before : (t n : ℕ) → IsLaneWidth t → n < 1024 → n % t ≢ 0 → (lane_of t (n - 1) ≡ lane_of t n) × (step_of t n ≡ suc (step_of t (n - 1)))
+pub row_before : (t n : ℕ) → IsLaneWidth t → n < 1024 → n % t ≢ 0 → (lane_of t (n - 1) ≡ lane_of t n) × (step_of t n ≡ suc (step_of t (n - 1)))
 row_before t n width =
     at_widths (λ t. n < 1024 → n % t ≢ 0 → (lane_of t (n - 1) ≡ lane_of t n) × (step_of t n ≡ suc (step_of t (n - 1))))
     (λ h k. (omega arith, omega arith)) (λ h k. (omega arith, omega arith)) (λ h k. (omega arith, omega arith)) (λ h k. (omega arith, omega arith)) t width

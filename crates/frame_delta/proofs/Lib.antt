@@ -11,3 +11,4 @@ pub mod TurnLemmas
 pub mod SameValues
 pub mod SpanLemmas
 pub mod PlaceSpans
+pub mod PlaceNumbers

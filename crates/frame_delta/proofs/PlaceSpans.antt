@@ -6,17 +6,17 @@ use Rattle.std.proofs.lemmas.Bool.{cases_lt, false≢true}
 use Rattle.std.proofs.lemmas.Bool.Decides.{nat_tests}
 use Rattle.std.proofs.lemmas.Nat.{and_mask}
 use Rattle.std.proofs.lemmas.Int.{ints, int_wrap-add_left, int_wrap-sub_right, SFits-int_wrap}
-use Rattle.transpose_order.specs.Place.{IsLaneWidth}
+use Rattle.transpose_order.specs.Place.{IsLaneWidth, lane_of}
 use Rattle.transpose_order.proofs.WidthLemmas.{at_widths}
 use Rattle.bit_interleave.specs.Arithmetic.{integer_width, least_width}
 use Rattle.bit_interleave.specs.Places.{by_place}
 use Rattle.bit_interleave.specs.Range.{value_at}
-use Rattle.frame_delta.specs.Extremes.{at_top}
+use Rattle.frame_delta.specs.Extremes.{at_top, IsSpread}
 use Rattle.frame_delta.specs.Frame.{AreAbove, greatest_value, frame_width, least_frame, frame_bytes}
 use Rattle.frame_delta.specs.Delta.{is_later, difference_at, number_difference, greatest_difference, delta_width, least_delta, delta_bytes}
 use Rattle.frame_delta.proofs.FramedLemmas.{least_of, greatest_of}
 use Rattle.frame_delta.proofs.FrameLemmas.{least_value_is, greatest_value_is, frame_width_is}
-use Rattle.frame_delta.proofs.DeltaLemmas.{later_is, later_was, row_one_is_later, difference_fits, least_difference_is, greatest_difference_is, delta_width_is}
+use Rattle.frame_delta.proofs.DeltaLemmas.{later_is, later_was, first_is, row_one_is_later, difference_fits, least_difference_is, greatest_difference_is, delta_width_is}
 use Rattle.frame_delta.proofs.SpanLemmas.{IsSpan, IsLaneSpan, AreSome, span_of_place, span_with_place, span_of_same, span_of_equal, width_of_some, width_of_all}
 
 -- ---- places
@@ -45,6 +45,38 @@ later_at_place t place i width h some =
 not_at_place : (t place n : ℕ) → IsLaneWidth t → place % t ≡ 0 → is_later t n ≡ true → n % 64 ≢ place
 not_at_place t place n width none later e =
     later_was t n later (sym (place_step t n width) ∙ ap (λ p. p % t) e ∙ none)
+
+pub first_at_place : (t place i : ℕ) → IsLaneWidth t → place < 64 → place % t ≡ 0 → is_later t (64 * i + place) ≡ false
+first_at_place t place i width h none =
+    first_is t (64 * i + place) (sym (place_step t (64 * i + place) width) ∙ ap (λ p. p % t) (row_at_place place i h) ∙ none)
+
+pub step_of_place : (t place n : ℕ) → IsLaneWidth t → n % 64 ≡ place → n % t ≡ place % t
+step_of_place t place n width e = sym (place_step t n width) ∙ ap (λ p. p % t) e
+
+-- the first row of 64 is the first of its lane
+pub some_place : (t n : ℕ) → IsLaneWidth t → n % t ≢ 0 → n % 64 ≢ 0
+some_place t n width =
+    at_widths (λ t. n % t ≢ 0 → n % 64 ≢ 0) (λ some e. some (omega (arith, e))) (λ some e. some (omega (arith, e))) (λ some e. some (omega (arith, e))) (λ some e. some (omega (arith, e))) t width
+
+-- the lanes of a place are one after another
+pub lane_of_place : (t place i : ℕ) → IsLaneWidth t → place < 64 → i < 16 → lane_of t (64 * i + place) ≡ lane_of t place + i
+lane_of_place t place i width =
+    at_widths (λ t. place < 64 → i < 16 → lane_of t (64 * i + place) ≡ lane_of t place + i) (λ h k. omega (arith, h, k)) (λ h k. omega (arith, h, k)) (λ h k. omega (arith, h, k)) (λ h k. omega (arith, h, k)) t width
+
+pub lanes_of_place : (t place : ℕ) → IsLaneWidth t → place < 64 → lane_of t place + 16 ≤ 1024 / t
+lanes_of_place t place width =
+    at_widths (λ t. place < 64 → lane_of t place + 16 ≤ 1024 / t) (λ h. omega (arith, h)) (λ h. omega (arith, h)) (λ h. omega (arith, h)) (λ h. omega (arith, h)) t width
+
+pub lanes_below : (t : ℕ) → IsLaneWidth t → 1024 / t < 1024
+lanes_below t width = at_widths (λ t. 1024 / t < 1024) (omega arith) (omega arith) (omega arith) (omega arith) t width
+
+-- a row of the places so far, or of this one
+pub before_or_here : (P : Type 0) (n place : ℕ) → n % 64 < place + 1 → (n % 64 < place → P) → (n % 64 ≡ place → P) → P
+before_or_here P n place near before here = by_case (cases_lt (n % 64) place)
+  where
+    by_case : (n % 64 < place) ⊎ (place ≤ n % 64) → P
+    by_case (inl less) = before less
+    by_case (inr more) = here (omega (arith, near, more))
 
 -- ---- later rows of the places so far
 abbrev pub LaterBefore : ℕ → ℕ → ℕ → Type 0
@@ -80,6 +112,15 @@ later_span_skips t place g least greatest width none span =
     (λ n h p. (omega (arith, p.0), p.1))
     (λ n h q. let other = not_at_place t place n width none q.1 in (omega (arith, q.0, other), q.1))
     span
+
+-- at the end, all later rows
+pub spread_of_later : (t : ℕ) (g : ℕ → ℕ) (low high : ℕ) → IsSpan (LaterBefore t 64) g low high → IsSpread (is_later t) g low high
+spread_of_later t g low high span = record {
+  low_bound = λ n h p. span.low_bound n h (omega arith, p);
+  high_bound = λ n h p. span.high_bound n h (omega arith, p);
+  low_reached = (span.low_at, span.low_within, span.low_passes.1, span.low_reached);
+  high_reached = (span.high_at, span.high_within, span.high_passes.1, span.high_reached);
+}
 
 -- ---- all rows of the places so far
 pub span_starts : (g : ℕ → ℕ) (lanes least greatest : List ℕ) → ((i : ℕ) → i < 16 → get_or lanes i 0 ≡ g (64 * i + 0)) → ((i : ℕ) → i < 16 → get_or least i 0 ≡ get_or lanes i 0) → ((i : ℕ) → i < 16 → get_or greatest i 0 ≡ get_or lanes i 0) → IsLaneSpan (λ n. n % 64 < 1) g least greatest

@@ -1,5 +1,5 @@
 -- The least and the greatest of numbers in the order of signed ones have the width of the signed ones' range.
-use Rattle.std.proofs.Common.{◌≡◌, ℕ, ◌+◌, ◌-◌, ◌*◌, ◌/◌, ◌%◌, ◌^◌, ◌<◌, ◌≤◌, ◌⊎◌, inl, inr, ℤ, pos, negsuc, ◌+ℤ◌, ◌-ℤ◌, ◌≤ℤ◌, Bool, true, false, cond, nat_lt, min, max, List, map, length, get_or, replicate, sym, ap, ◌∙◌, arith}
+use Rattle.std.proofs.Common.{◌≡◌, ℕ, ◌+◌, ◌-◌, ◌*◌, ◌/◌, ◌%◌, ◌^◌, ◌<◌, ◌≤◌, ◌⊎◌, inl, inr, ℤ, pos, negsuc, ◌+ℤ◌, ◌-ℤ◌, ◌≤ℤ◌, Bool, true, false, cond, nat_lt, min, max, List, map, length, get_or, bit_and, replicate, sym, ap, ◌∙◌, arith}
 use Rattle.std.specs.Int.{w8, w16, w32, w64, int_wrap, int_gap, cast_signed}
 use Rattle.std.specs.Int.RustNames.{FitsSigned}
 use Rattle.std.specs.Simd.Lanes.{zip2, sel_l, top}
@@ -10,6 +10,7 @@ use Rattle.std.proofs.lemmas.Simd.{length-zip2, get_or-zip2, get_or-replicate, l
 use Rattle.transpose_order.specs.Place.{IsLaneWidth}
 use Rattle.transpose_order.proofs.WidthLemmas.{at_widths}
 use Rattle.bit_interleave.specs.Arithmetic.{integer_width, least_width}
+use Rattle.bit_interleave.proofs.BitLemmas.{low_ones}
 use Rattle.bit_interleave.proofs.LeastWidthLemmas.{least_width-holds, least_width-least}
 use Rattle.bit_interleave.proofs.GapLemmas.{gap_back, gap_within}
 use Rattle.bit_interleave.proofs.WrapLemmas.{int_wrap_pos, int_wrap-mod}
@@ -66,6 +67,32 @@ length-ordered t lanes long =
     let moved = zip2 (λ a b. a * 2 ^ b % 2 ^ 64) lanes up in
     let count = length-zip2 (λ (a b : ℕ). a * 2 ^ b % 2 ^ 64) lanes up (long ∙ sym (length-replicate 16 (64 - t))) ∙ long in
     length-zip2 (λ a b. (a + b) % 2 ^ 64) moved (replicate 16 (2 ^ 63)) (count ∙ sym (length-replicate 16 (2 ^ 63))) ∙ count
+
+-- the low bits of a lane
+pub low_bits_lane : (t i : ℕ) (lanes : List ℕ) → t ≤ 64 → length lanes ≡ 16 → i < 16 → get_or (zip2 bit_and lanes (replicate 16 ((2 ^ 64 - 1) / 2 ^ (64 - t)))) i 0 ≡ get_or lanes i 0 % 2 ^ t
+low_bits_lane t i lanes within long h =
+    let mask = (2 ^ 64 - 1) / 2 ^ (64 - t) in
+    get_or-zip2 bit_and lanes (replicate 16 mask) i 0 0 0 (omega (arith, long)) (omega (arith, length-replicate 16 mask))
+    ∙ ap (bit_and (get_or lanes i 0)) (get_or-replicate 16 i mask 0 h)
+    ∙ low_ones (get_or lanes i 0) t within
+
+pub length-low_bits : (t : ℕ) (lanes : List ℕ) → length lanes ≡ 16 → length (zip2 bit_and lanes (replicate 16 ((2 ^ 64 - 1) / 2 ^ (64 - t)))) ≡ 16
+length-low_bits t lanes long =
+    length-zip2 bit_and lanes (replicate 16 ((2 ^ 64 - 1) / 2 ^ (64 - t))) (long ∙ sym (length-replicate 16 ((2 ^ 64 - 1) / 2 ^ (64 - t)))) ∙ long
+
+-- a number's low bits wrap as the number does
+pub low_bits_wrap : (t x : ℕ) → IsLaneWidth t → int_wrap (integer_width t) (pos (x % 2 ^ t)) ≡ int_wrap (integer_width t) (pos x)
+low_bits_wrap t x width =
+    at_widths (λ t. int_wrap (integer_width t) (pos (x % 2 ^ t)) ≡ int_wrap (integer_width t) (pos x))
+    (rw (int_wrap_pos w8 (x % 2 ^ 8), int_wrap_pos w8 x) (ap (cast_signed w8) (omega arith)))
+    (rw (int_wrap_pos w16 (x % 2 ^ 16), int_wrap_pos w16 x) (ap (cast_signed w16) (omega arith)))
+    (rw (int_wrap_pos w32 (x % 2 ^ 32), int_wrap_pos w32 x) (ap (cast_signed w32) (omega arith)))
+    (rw (int_wrap_pos w64 (x % 2 ^ 64), int_wrap_pos w64 x) (ap (cast_signed w64) (omega arith)))
+    t width
+
+pub low_below : (t x : ℕ) → IsLaneWidth t → x % 2 ^ t < 2 ^ t
+low_below t x width =
+    at_widths (λ t. x % 2 ^ t < 2 ^ t) (omega arith) (omega arith) (omega arith) (omega arith) t width
 
 -- a difference of 64 bits wraps as the numbers' difference does
 pub wrapped_bits_difference : (t a b : ℕ) → IsLaneWidth t → b < 2 ^ 64 → int_wrap (integer_width t) (pos ((a + (2 ^ 64 - b)) % 2 ^ 64)) ≡ int_wrap (integer_width t) (pos a -ℤ pos b)

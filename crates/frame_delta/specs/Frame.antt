@@ -1,11 +1,11 @@
 -- Frame of reference: each value is a reference plus a packed number.
-use Rattle.std.specs.Prelude.{◌≡◌, ◌<◌, ◌≤◌, ◌≤ℤ◌, length, ℕ, ◌+◌, ◌*◌, ◌/◌, ℤ, pos, ◌+ℤ◌, true, List}
+use Rattle.std.specs.Prelude.{◌≡◌, ◌<◌, ◌≤◌, ◌≤ℤ◌, ◌↔◌, length, slice_index, ℕ, ◌+◌, ◌*◌, ◌/◌, ℤ, pos, ◌+ℤ◌, true, List}
 use Rattle.std.specs.Int.{int_wrap, int_gap}
 use Rattle.std.specs.Int.RustNames.{FitsSigned}
 use Rattle.transpose_order.specs.Place.{IsLaneWidth, lane_of, step_of}
 use Rattle.transpose_order.specs.Mask.{rows_of}
 use Rattle.bit_interleave.specs.Arithmetic.{integer_width, least_width}
-use Rattle.bit_interleave.specs.Packing.{packed_value}
+use Rattle.bit_interleave.specs.Packing.{packed_value, unpacked}
 use Rattle.bit_interleave.specs.PackedWords.{PackedWords, FitLanes, HasWidth, words_packing}
 use Rattle.bit_interleave.specs.Range.{AreInRange, value_at}
 use Rattle.bit_interleave.specs.Places.{by_place}
@@ -65,6 +65,16 @@ pub record IsFrameForm (form : FrameForm) : Type 0 where
   pub packed : HasWidth form.words form.width
   pub fit : FitLanes form.words
   pub reference : FitsSigned (integer_width form.lane_width) form.reference
+
+-- numbers by places are those that words of t bits pack at w bits
+abbrev pub ArePacked : ℕ → ℕ → List ℕ → List ℕ → Type 0
+ArePacked t w words numbers =
+    (n : ℕ) → n < 1024 → by_place numbers n ≡ slice_index (unpacked t w words) n
+
+-- two rows have the same number by places exactly when they have the same value
+abbrev pub TellApart : List ℕ → List ℤ → Type 0
+TellApart numbers values =
+    (m n : ℕ) → m < 1024 → n < 1024 → (by_place numbers m ≡ by_place numbers n) ↔ (value_at values m ≡ value_at values n)
 
 -- each value is r plus its row's number, of numbers by places, modulo two to the power of t, read as signed
 abbrev pub AreAbove : ℕ → ℤ → List ℕ → List ℤ → Type 0

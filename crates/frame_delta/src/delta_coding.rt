@@ -1,19 +1,20 @@
 //! Vectors coded by deltas.
-ghost use Rattle.std.specs.Prelude.{◌≡◌, ◌≢◌, ℕ, ℤ, List, ◌+◌, ◌-◌, ◌*◌, ◌/◌, ◌%◌, ◌<◌, ◌≤◌, ◌↔◌, map, length, slice_index, IsTrue, IfOk};
-ghost use Rattle.std.specs.Int.{w64, cast_unsigned};
+ghost use Rattle.std.specs.Prelude.{◌≡◌, ◌≢◌, ℕ, ℤ, pos, ◌+ℤ◌, List, ◌+◌, ◌-◌, ◌*◌, ◌/◌, ◌%◌, ◌^◌, ◌<◌, ◌≤◌, ◌↔◌, map, length, slice_index, IsTrue, IfOk};
+ghost use Rattle.std.specs.Int.{w64, int_wrap, cast_unsigned};
 ghost use Rattle.std.specs.Int.RustNames.{FitsSigned};
-ghost use Rattle.transpose_order.specs.Place.{IsLaneWidth};
+ghost use Rattle.transpose_order.specs.Place.{IsLaneWidth, lane_of};
 ghost use Rattle.bit_interleave.specs.Arithmetic.{integer_width};
 ghost use Rattle.bit_interleave.specs.PackedWords.{HasWidth};
+ghost use Rattle.bit_interleave.specs.Places.{by_place};
 ghost use Rattle.bit_interleave.specs.Range.{AreInRange, value_at};
-ghost use Rattle.frame_delta.specs.Frame.{AreAbove};
+ghost use Rattle.frame_delta.specs.Frame.{ArePacked, TellApart, AreAbove};
 ghost use Rattle.frame_delta.specs.Delta.{IsDeltaForm, AreSums, delta_value, delta_values, least_delta, delta_bytes};
 
 use crate::differences::{bases_of, differences_within, fill_first_steps, starts_at_zero};
-use crate::extremes::{Frame, gaps_above, spread_of};
+use crate::extremes::{Frame, gaps_above};
 use crate::pieces::{added, put_four, raised};
-use crate::spans::{LaneSpread, differences_at};
-use bit_interleave::{LaneWord, Values, Words, step_at, wrap};
+use crate::spans::{LaneSpread, at, differences_at, later_spread, low_bits};
+use bit_interleave::{LaneWord, Values, Words, put_place, step_at, wrap};
 use std::alloc::{AllocError, Global};
 use std::marker::Model;
 use std::simd::prelude::*;
@@ -101,6 +102,42 @@ fn write_sums<U: LaneWord>(
         let places = place_in_word(bits, piece) / 4;
         put_four(bits, a, b, c, d, places, values);
         sums = d;
+    }
+}
+
+/// The sums before those of a place, 0 to 63: the bases at the first steps of their lanes, and else the sums so far.
+#[inline(always)]
+fn sums_before(lane_width: usize, row: usize, sums: Simd<u64, 16>, bases: &Values) -> Simd<u64, 16>
+    requires lane_width { IsLaneWidth lane_width }
+    requires row { row < 64 }
+    requires sums { length sums ≡ 16 }
+    requires base_count { length bases.now.values ≡ 1024 / lane_width }
+    ensures long { length result ≡ 16 }
+    ensures first { row % lane_width ≡ 0 → (i : ℕ) → i < 16 → slice_index result i ≡ cast_unsigned w64 (value_at bases.now.values (lane_of lane_width (64 * i + row))) }
+    ensures later { row % lane_width ≢ 0 → result ≡ sums }
+{
+    if row & (lane_width - 1) != 0 {
+        return sums;
+    }
+    base_bits(bases, place(lane_width, row).0)
+}
+
+/// Adds up numbers by places within the lanes, with a base and a least delta: each becomes its row's value, in as many bits as the
+/// lanes have.
+fn write_sums_by_places(lane_width: usize, least: i64, bases: &Values, numbers: &mut [u64; 1024])
+    requires lane_width { IsLaneWidth lane_width }
+    requires base_count { length bases.now.values ≡ 1024 / lane_width }
+    requires bases { AreInRange lane_width bases.now.values }
+    ensures first { (n : ℕ) → n < 1024 → n % lane_width ≡ 0 → int_wrap (integer_width lane_width) (pos (by_place numbers.new n)) ≡ int_wrap (integer_width lane_width) (value_at bases.now.values (lane_of lane_width n) +ℤ (least +ℤ pos (by_place numbers.old n))) }
+    ensures later { (n : ℕ) → n < 1024 → n % lane_width ≢ 0 → int_wrap (integer_width lane_width) (pos (by_place numbers.new n)) ≡ int_wrap (integer_width lane_width) (int_wrap (integer_width lane_width) (pos (by_place numbers.new (n - 1))) +ℤ (least +ℤ pos (by_place numbers.old n))) }
+    ensures fit { (n : ℕ) → n < 1024 → by_place numbers.new n < 2 ^ lane_width }
+{
+    let by = least.cast_unsigned();
+    let mut sums = Simd::splat(0);
+    for row in 0..64 {
+        let before = sums_before(lane_width, row, sums, bases);
+        sums = added(raised(before, by), at(numbers, row));
+        put_place(low_bits(lane_width, sums), row, numbers);
     }
 }
 
@@ -220,20 +257,44 @@ impl Delta {
         added(raised(from, self.least.cast_unsigned()), numbers)
     }
 
+    /// Writes the packed numbers by places: number `16 * p + i` is that of row `64 * i + p`.
+    pub fn unpack(&self, numbers: &mut [u64; 1024])
+        ensures { ArePacked self.now.lane_width self.now.width self.now.words.numbers numbers.new }
+    {
+        self.words
+            .unpack_by_places(self.words.packed_width(), numbers);
+    }
+
+    /// Makes numbers that tell the values of the packed numbers by places, which `unpack` writes: each is the bits of its row's value,
+    /// as many as the lane width.
+    pub fn sum(&self, numbers: &mut [u64; 1024])
+        requires { ArePacked self.now.lane_width self.now.width self.now.words.numbers numbers.old }
+        ensures values { AreAbove self.now.lane_width (pos 0) numbers.new (delta_values self.now) }
+        ensures apart { TellApart numbers.new (delta_values self.now) }
+    {
+        write_sums_by_places(self.words.lane_width(), self.least, &self.bases, numbers);
+    }
+
     /// Whether this is the least form of the values that it decodes to, part for part.
     pub fn is_least(&self) -> bool
         ensures { IsTrue result ↔ (self.now ≡ least_delta self.now.lane_width (delta_values self.now)) }
     {
-        let lane_width = self.words.lane_width();
-        let width = self.words.packed_width();
         let mut numbers = [0; 1024];
-        self.words.unpack(width, &mut numbers);
-        if !starts_at_zero(lane_width, &numbers) {
+        self.unpack(&mut numbers);
+        self.is_least_of(&numbers)
+    }
+
+    /// Whether this is the least form of the values that it decodes to, from its packed numbers by places, which `unpack` writes.
+    pub fn is_least_of(&self, numbers: &[u64; 1024]) -> bool
+        requires { ArePacked self.now.lane_width self.now.width self.now.words.numbers numbers.now }
+        ensures { IsTrue result ↔ (self.now ≡ least_delta self.now.lane_width (delta_values self.now)) }
+    {
+        let lane_width = self.words.lane_width();
+        if !starts_at_zero(lane_width, numbers) {
             return false;
         }
-        let any = numbers[1];
-        fill_first_steps(lane_width, any, &mut numbers);
-        spread_of(&numbers).is_tight(lane_width, width, self.least)
+        let width = self.words.packed_width();
+        later_spread(lane_width, numbers).is_tight(lane_width, width, self.least)
     }
 
     /// Whether the least form of values has a payload of fewer than `bound` bytes. The values are told by numbers by places: each is
@@ -245,7 +306,7 @@ impl Delta {
     {
         let mut so_far = LaneSpread::of(differences_at(lane_width, numbers, 1));
         for place in 2..64 {
-            if place % 16 == 0 && bytes_at(lane_width, so_far.spread().width(lane_width)) >= bound {
+            if place % 16 == 2 && bytes_at(lane_width, so_far.spread().width(lane_width)) >= bound {
                 return false;
             }
             if place & (lane_width - 1) != 0 {

@@ -1,11 +1,13 @@
 //! The differences of neighbours within the lanes of a vector. A lane is as many rows one after another as it has bits.
-ghost use Rattle.std.specs.Prelude.{◌≡◌, ℕ, ◌/◌, ◌<◌, ◌-ℤ◌, ◌↔◌, true, false, slice_index, slice_index_or, IsTrue, IfOk};
+ghost use Rattle.std.specs.Prelude.{◌≡◌, ℕ, ◌/◌, ◌<◌, ◌-ℤ◌, ◌↔◌, true, false, slice_index_or, IsTrue, IfOk};
 ghost use Rattle.std.specs.Int.{int_wrap};
 ghost use Rattle.transpose_order.specs.Place.{IsLaneWidth, row_at};
 ghost use Rattle.bit_interleave.specs.Arithmetic.{integer_width};
+ghost use Rattle.bit_interleave.specs.Places.{by_place};
 ghost use Rattle.bit_interleave.specs.Range.{value_at};
 ghost use Rattle.frame_delta.specs.Delta.{is_later, difference_at, differences_within, bases_of};
 
+use crate::spans::{LaneSpread, at};
 use bit_interleave::{Values, wrapping_difference};
 use std::alloc::{AllocError, Global};
 use transpose_order::row_at;
@@ -81,13 +83,15 @@ pub(crate) fn bases_of(
     Values::from_slice(alloc, lane_width, &bases[..lanes])
 }
 
-/// Whether each packed number at step 0 is 0.
+/// Whether each packed number at step 0 is 0, of numbers by places.
 pub(crate) fn starts_at_zero(lane_width: usize, numbers: &[u64; 1024]) -> bool
     requires { IsLaneWidth lane_width }
-    ensures { IsTrue result ↔ ((n : ℕ) → n < 1024 → is_later lane_width n ≡ false → slice_index numbers.now n ≡ 0) }
+    ensures { IsTrue result ↔ ((n : ℕ) → n < 1024 → is_later lane_width n ≡ false → by_place numbers.now n ≡ 0) }
 {
-    for lane in 0..1024 / lane_width {
-        if numbers[lane_width * lane] != 0 {
+    for place in 0..64 {
+        if place & (lane_width - 1) == 0
+            && LaneSpread::of(at(numbers, place)).spread().greatest != 0
+        {
             return false;
         }
     }

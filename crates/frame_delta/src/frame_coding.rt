@@ -6,7 +6,7 @@ ghost use Rattle.bit_interleave.specs.Arithmetic.{integer_width};
 ghost use Rattle.bit_interleave.specs.Packing.{sixteen_of};
 ghost use Rattle.bit_interleave.specs.PackedWords.{HasWidth};
 ghost use Rattle.bit_interleave.specs.Range.{AreInRange, value_at};
-ghost use Rattle.frame_delta.specs.Frame.{IsFrameForm, frame_value, frame_values, least_frame, frame_bytes, AreAbove};
+ghost use Rattle.frame_delta.specs.Frame.{IsFrameForm, frame_value, frame_values, least_frame, frame_bytes, ArePacked, TellApart, AreAbove};
 
 use crate::extremes::{Frame, gaps_above, spread_of};
 use crate::pieces::{put_four, raised};
@@ -174,13 +174,31 @@ impl For {
         wrap_lanes(lane_width, raised(numbers, self.reference.cast_unsigned()))
     }
 
+    /// Writes the packed numbers by places: number `16 * p + i` is that of row `64 * i + p`. Each value is the reference plus its
+    /// row's number, modulo two to the power of the lane width, and rows of the same value have the same number.
+    pub fn unpack(&self, numbers: &mut [u64; 1024])
+        ensures packed { ArePacked self.now.lane_width self.now.width self.now.words.numbers numbers.new }
+        ensures values { AreAbove self.now.lane_width self.now.reference numbers.new (frame_values self.now) }
+        ensures apart { TellApart numbers.new (frame_values self.now) }
+    {
+        self.words.unpack_by_places(self.width, numbers);
+    }
+
     /// Whether this is the least form of the values that it decodes to, part for part.
     pub fn is_least(&self) -> bool
         ensures { IsTrue result ↔ (self.now ≡ least_frame self.now.lane_width (frame_values self.now)) }
     {
         let mut numbers = [0; 1024];
-        self.words.unpack_by_places(self.width, &mut numbers);
-        spread_of(&numbers).is_tight(self.words.lane_width(), self.width, self.reference)
+        self.unpack(&mut numbers);
+        self.is_least_of(&numbers)
+    }
+
+    /// Whether this is the least form of the values that it decodes to, from its packed numbers by places, which `unpack` writes.
+    pub fn is_least_of(&self, numbers: &[u64; 1024]) -> bool
+        requires { ArePacked self.now.lane_width self.now.width self.now.words.numbers numbers.now }
+        ensures { IsTrue result ↔ (self.now ≡ least_frame self.now.lane_width (frame_values self.now)) }
+    {
+        spread_of(numbers).is_tight(self.words.lane_width(), self.width, self.reference)
     }
 
     /// Whether the least form of values has a payload of fewer than `bound` bytes. The values are told by numbers by places: each is

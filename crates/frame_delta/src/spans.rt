@@ -1,10 +1,11 @@
 //! The least and the greatest of numbers by places, sixteen rows at a time.
-ghost use Rattle.std.specs.Prelude.{◌≡◌, ℕ, ◌+◌, ◌*◌, ◌<◌, ◌≤◌, min, max, pos, length, slice_index};
+ghost use Rattle.std.specs.Prelude.{◌≡◌, ℕ, ◌+◌, ◌*◌, ◌%◌, ◌^◌, ◌<◌, ◌≤◌, min, max, pos, length, slice_index};
 ghost use Rattle.std.specs.Int.{int_wrap};
 ghost use Rattle.transpose_order.specs.Place.{IsLaneWidth};
 ghost use Rattle.bit_interleave.specs.Arithmetic.{integer_width};
-ghost use Rattle.frame_delta.specs.Extremes.{at_top};
-ghost use Rattle.frame_delta.specs.Delta.{number_difference};
+ghost use Rattle.bit_interleave.specs.Places.{by_place};
+ghost use Rattle.frame_delta.specs.Extremes.{at_top, IsSpread};
+ghost use Rattle.frame_delta.specs.Delta.{is_later, number_difference};
 
 use crate::extremes::Spread;
 use std::simd::prelude::*;
@@ -45,6 +46,17 @@ pub(crate) fn differences_at(
     ensures lanes { (i : ℕ) → i < 16 → slice_index result i ≡ at_top lane_width (number_difference lane_width numbers.now (64 * i + place)) }
 {
     ordered(lane_width, at(numbers, place) - at(numbers, place - 1))
+}
+
+/// The low `lane_width` bits of each of sixteen numbers.
+#[inline(always)]
+pub(crate) fn low_bits(lane_width: usize, lanes: Simd<u64, 16>) -> Simd<u64, 16>
+    requires lane_width { IsLaneWidth lane_width }
+    requires lanes { length lanes ≡ 16 }
+    ensures long { length result ≡ 16 }
+    ensures lanes { (i : ℕ) → i < 16 → slice_index result i ≡ slice_index lanes i % 2 ^ lane_width }
+{
+    lanes & Simd::splat(u64::MAX >> (64 - lane_width))
 }
 
 /// The least and the greatest of the numbers so far in each of sixteen lanes.
@@ -100,4 +112,18 @@ impl LaneSpread {
         }
         Spread { least, greatest }
     }
+}
+
+/// The least and the greatest of the numbers at later steps of their lanes, of numbers by places.
+pub(crate) fn later_spread(lane_width: usize, numbers: &[u64; 1024]) -> Spread
+    requires { IsLaneWidth lane_width }
+    ensures { IsSpread (is_later lane_width) (λ n. by_place numbers.now n) result.least result.greatest }
+{
+    let mut so_far = LaneSpread::of(at(numbers, 1));
+    for place in 2..64 {
+        if place & (lane_width - 1) != 0 {
+            so_far = so_far.with(at(numbers, place));
+        }
+    }
+    so_far.spread()
 }

@@ -3,9 +3,10 @@ use Rattle.std.proofs.Common.{◌≡◌, ◌+◌, ◌*◌, ◌/◌, ◌%◌, ◌
 use Rattle.std.specs.Int.{w64}
 use Rattle.std.proofs.lemmas.Int.{to_z-of_z}
 use Rattle.frame_delta.specs.Extremes.{IsSpread, IsTightFrame}
-use Rattle.frame_delta.specs.Frame.{FrameForm, frame_values, least_frame}
+use Rattle.frame_delta.specs.Frame.{FrameForm, frame_values, least_frame, ArePacked}
+use Rattle.frame_delta.proofs.PlaceNumbers.{words_back}
 use Rattle.frame_delta.proofs.LeastFrame.{numbers_of_frame, tight_is_least, least_is_tight}
-use Rattle.frame_delta.proofs.frame_coding.For.is_least.Goals as goal
+use Rattle.frame_delta.proofs.frame_coding.For.is_least_of.Goals as goal
 
 spread_by_places : (xs ys : List ℕ) (low high : ℕ) → ((n : ℕ) → n < 1024 → get_or xs (16 * (n % 64) + n / 64) 0 ≡ get_or ys n 0) → IsSpread (λ _. true) (λ n. get_or xs n 0) low high → IsSpread (λ _. true) (λ n. get_or ys n 0) low high
 spread_by_places xs ys low high same spread =
@@ -28,7 +29,9 @@ returns c =
     let low = c.spread_of.result.least in
     let high = c.spread_of.result.greatest in
     let form : FrameForm = record { lane_width = words.lane_width; width = c.self.inside.width; reference = r; words = words } in
-    let spread : IsSpread (λ _. true) (λ n. get_or (numbers_of_frame form) n 0) low high = spread_by_places c.unpack_by_places.new.numbers (numbers_of_frame form) low high c.unpack_by_places.ensures.numbers c.spread_of.ensures in
+    let packs = subst (λ (f : FrameForm). ArePacked f.lane_width f.width f.words.numbers c.args.numbers.now) (sym c.self.view_is) c.requires in
+    let back = words_back words c.self.inside.width c.self.invariant.lane_width c.self.invariant.fit c.self.invariant.packed in
+    let spread : IsSpread (λ _. true) (λ n. get_or (numbers_of_frame form) n 0) low high = spread_by_places c.args.numbers.now (numbers_of_frame form) low high packs c.spread_of.ensures in
     let fits : FitsSigned w64 r = search rules in
     let same = to_z-of_z w64 r fits in
     let there = subst (λ (t : ℕ). IsTrue c.is_tight.result → IsTightFrame t form.width r low high) c.lane_width.ensures.value
@@ -36,6 +39,6 @@ returns c =
     let here = subst (λ (t : ℕ). IsTightFrame t form.width r low high → IsTrue c.is_tight.result) c.lane_width.ensures.value
     (subst (λ (z : ℤ). IsTightFrame c.lane_width.result form.width z low high → IsTrue c.is_tight.result) same c.is_tight.ensures.1) in
     subst (λ (f : FrameForm). (IsTrue c.is_tight.result → f ≡ least_frame f.lane_width (frame_values f)) × (f ≡ least_frame f.lane_width (frame_values f) → IsTrue c.is_tight.result)) c.self.view_is (
-      λ yes. tight_is_least form low high c.self.invariant.lane_width c.self.invariant.packed.fits c.self.invariant.reference c.unpack_by_places.ensures.back spread (there yes),
+      λ yes. tight_is_least form low high c.self.invariant.lane_width c.self.invariant.packed.fits c.self.invariant.reference back spread (there yes),
       λ is. here (least_is_tight form low high c.self.invariant.lane_width c.self.invariant.packed.fits c.self.invariant.reference spread is),
     )
