@@ -1,5 +1,5 @@
 -- Lists of which the same places have equal elements have as many distinct values; the loop that marks and counts numbers.
-use Rattle.std.proofs.Common.{◌≡◌, ◌≢◌, ℕ, zero, suc, ◌+◌, ◌-◌, ◌*◌, ◌/◌, ◌%◌, ◌^◌, of_z, ◌<◌, ◌≤◌, ◌==◌, Bool, true, false, cond, ℤ, pos, negsuc, rules, ◌↔◌, List, [], ◌∷◌, ◌++◌, map, take, drop, length, get_or, set, replicate, FitsSigned, ◌⊎◌, inl, inr, refl, sym, ap, ◌∙◌, subst, arith}
+use Rattle.std.proofs.Common.{◌≡◌, ℕ, zero, suc, ◌+◌, ◌*◌, ◌/◌, ◌%◌, ◌^◌, of_z, ◌<◌, ◌≤◌, ◌==◌, Bool, true, false, cond, ℤ, pos, negsuc, rules, ◌↔◌, List, [], ◌∷◌, ◌++◌, map, take, drop, length, get_or, set, replicate, FitsSigned, ◌⊎◌, inl, inr, refl, sym, ap, ◌∙◌, subst, arith}
 use Rattle.std.specs.Int.{w64, cast_signed, cast_unsigned}
 use Rattle.std.proofs.lemmas.Int.{of_z-to_z}
 use Rattle.std.proofs.lemmas.Bool.{cases_lt, cases_Bool, both_ways, eqb-true, eqb-false}

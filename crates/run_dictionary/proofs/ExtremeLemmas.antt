@@ -1,5 +1,5 @@
 -- The lesser of a value that is reached and one more is reached, and so is the greater.
-use Rattle.std.proofs.Common.{◌≡◌, ℕ, ◌<◌, Bool, true, false, ℤ, int_lt, ◌≤ℤ◌, ◌<ℤ◌, List, length, ◌⊎◌, inl, inr, ◌∙◌, sym, arith}
+use Rattle.std.proofs.Common.{◌≡◌, ℕ, ◌<◌, true, false, ℤ, int_lt, ◌≤ℤ◌, ◌<ℤ◌, List, length, ◌⊎◌, inl, inr, ◌∙◌, arith}
 use Rattle.std.specs.Int.{int_min, int_max}
 use Rattle.std.proofs.lemmas.Int.{ints, clamps}
 use Rattle.std.proofs.lemmas.Bool.{cases_Bool}

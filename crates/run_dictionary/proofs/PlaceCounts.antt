@@ -1,10 +1,10 @@
 -- The count over all rows of those that pass a test is the sum of the counts over the rows of each place.
-use Rattle.std.proofs.Common.{◌≡◌, ℕ, zero, suc, ◌+◌, ◌-◌, ◌*◌, ◌/◌, ◌%◌, ◌<◌, ◌≤◌, ◌==◌, Bool, true, false, cond, not, eqb, ℤ, pos, List, get_or, ◌⊎◌, inl, inr, refl, sym, ap, ◌∙◌, subst, arith}
+use Rattle.std.proofs.Common.{◌≡◌, ℕ, zero, suc, ◌+◌, ◌-◌, ◌*◌, ◌/◌, ◌%◌, ◌<◌, ◌≤◌, Bool, true, false, cond, not, eqb, ℤ, pos, List, get_or, ◌⊎◌, inl, inr, refl, sym, ap, ◌∙◌, arith}
 use Rattle.std.specs.Ordering.{int_eq}
 use Rattle.std.proofs.lemmas.Bool.{cases_Bool, eqb-true, eqb-false, false_from_ne_true}
 use Rattle.std.proofs.lemmas.Bool.Decides.{Decides-int_eq}
 use Rattle.transpose_order.specs.Mask.{count_below}
-use Rattle.transpose_order.proofs.MaskLemmas.{count_below-zero, count_below-suc, count_below-same, count_below-le, count_below-add}
+use Rattle.transpose_order.proofs.MaskLemmas.{count_below-zero, count_below-suc, count_below-same, count_below-add}
 use Rattle.bit_interleave.specs.Places.{by_place}
 use Rattle.run_dictionary.specs.Runs.{changes_at}
 use Rattle.run_dictionary.proofs.CountLemmas.{count_below-no}
@@ -75,7 +75,6 @@ count_at_places-rises p m (suc k) =
 pub changes_at-index : (numbers : List ℕ) (n here before : ℕ) → 16 * (n % 64) + n / 64 ≡ here → 16 * ((n - 1) % 64) + (n - 1) / 64 ≡ before → changes_at (λ n. pos (by_place numbers n)) n ≡ not (eqb (get_or numbers here 0) (get_or numbers before 0))
 changes_at-index numbers n here before e f =
     changes_at-is (λ n. pos (by_place numbers n)) n ∙ ap not (same_test (by_place numbers n) (by_place numbers (n - 1))) ∙ ap (λ k. not (eqb (get_or numbers k 0) (by_place numbers (n - 1)))) e ∙ ap (λ k. not (eqb (get_or numbers here 0) (get_or numbers k 0))) f
-
   where
     same_test : (a b : ℕ) → int_eq (pos a) (pos b) ≡ eqb a b
     same_test a b = by_test (cases_Bool (eqb a b))

@@ -10,10 +10,8 @@ ghost use Rattle.run_dictionary.specs.Runs.{IsRunForm, run_of, run_value, run_va
 
 use crate::counting::most_values;
 use crate::places::changes_reach;
+use crate::run_words::{all_differ, changes, count_changes, extremes, write_changed, write_rows};
 use crate::seen::more_values;
-use crate::run_words::{
-    all_differ, changes, count_changes, extremes, write_changed, write_rows,
-};
 use bit_interleave::Values;
 use std::alloc::{AllocError, Global};
 use std::marker::Model;

@@ -1,5 +1,5 @@
 -- The changes at some places are no more than all.
-use Rattle.std.proofs.Common.{◌≡◌, ℕ, ◌+◌, ◌-◌, ◌*◌, ◌≤◌, true, suc, ℤ, pos, ap, ◌∙◌, refl, arith}
+use Rattle.std.proofs.Common.{◌≡◌, ℕ, ◌+◌, ◌-◌, ◌*◌, suc, ℤ, pos, ap, ◌∙◌, refl, arith}
 use Rattle.std.proofs.lemmas.Bool.{leb-true, le-leb}
 use Rattle.transpose_order.specs.Mask.{count_below}
 use Rattle.transpose_order.proofs.MaskLemmas.{count_below-le}

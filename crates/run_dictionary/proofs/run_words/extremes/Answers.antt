@@ -1,6 +1,6 @@
 -- A value more is not below the least and not above the greatest.
-use Rattle.std.proofs.Common.{rules, below_more, ◌≡◌, ℕ, ◌+◌, ◌<◌, ℤ, pos, ◌≤ℤ◌, FitsSigned, of_z, to_z, length, get_or, refl, sym, ◌∙◌, subst, arith}
-use Rattle.std.specs.Int.{w64, int_min, int_max}
+use Rattle.std.proofs.Common.{rules, below_more, ◌≡◌, ℕ, ◌+◌, ◌<◌, ℤ, pos, ◌≤ℤ◌, FitsSigned, get_or, sym, ◌∙◌, subst, arith}
+use Rattle.std.specs.Int.{w64}
 use Rattle.std.proofs.lemmas.Int.{ints, to_z-of_z}
 use Rattle.bit_interleave.specs.Range.{value_at}
 use Rattle.run_dictionary.proofs.ExtremeLemmas.{reached_min, reached_max}

@@ -1,6 +1,5 @@
 -- the values so far are from the least to the greatest, which are values
-use Rattle.std.proofs.Common.{◌≡◌, ℕ, ◌<◌, ◌≤ℤ◌, length, FitsSigned}
-use Rattle.std.specs.Int.{w64}
+use Rattle.std.proofs.Common.{◌≡◌, ℕ, ◌<◌, ◌≤ℤ◌, length}
 use Rattle.bit_interleave.specs.Range.{value_at}
 use Rattle.run_dictionary.proofs.run_words.extremes.Given as goal
 

@@ -1,7 +1,6 @@
 -- A mark that was not there is one more.
 use Rattle.std.proofs.Common.{◌<◌, pos, false, get_or, length, ◌∙◌, arith}
 use Rattle.std.proofs.lemmas.List.{length-map}
-use Rattle.std.proofs.Math.ListN.{get_or-map}
 use Rattle.run_dictionary.specs.Keys.{mark_of, marks_of}
 use Rattle.run_dictionary.proofs.KeyLemmas.{at_most_one}
 use Rattle.run_dictionary.proofs.SightLemmas.{one_unless}

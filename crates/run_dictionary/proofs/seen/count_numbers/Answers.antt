@@ -1,6 +1,6 @@
 -- Numbers of 64 bits are equal where they are read as equal signed ones.
-use Rattle.std.proofs.Common.{rules, ◌≡◌, ◌<◌, ◌^◌, ℕ, refl, arith, FitsSigned, of_z, to_z, length, map, pos, get_or, ◌∙◌}
-use Rattle.std.specs.Int.{w64, cast_signed}
+use Rattle.std.proofs.Common.{rules, refl, arith, FitsSigned, of_z, to_z, ◌∙◌}
+use Rattle.std.specs.Int.{w64}
 use Rattle.std.proofs.lemmas.Int.{to_z-of_z}
 use Rattle.run_dictionary.proofs.DistinctLemmas.{distinct-signed, all_same-values}
 use Rattle.run_dictionary.proofs.seen.count_numbers.Goals as goal

@@ -1,5 +1,5 @@
 -- There are no more distinct numbers than numbers, no fewer than marks, and as many as marks where the numbers are small.
-use Rattle.std.proofs.Common.{rules, ◌≡◌, ◌<◌, IsTrue, length, map, pos, not, true, false, get_or, sym, ap, ◌∙◌, refl, arith}
+use Rattle.std.proofs.Common.{◌≡◌, length, map, pos, not, true, false, sym, ap, ◌∙◌, refl, arith}
 use Rattle.std.proofs.lemmas.Bool.{both_ways}
 use Rattle.std.proofs.lemmas.List.{length-map}
 use Rattle.run_dictionary.specs.Dict.{distinct}

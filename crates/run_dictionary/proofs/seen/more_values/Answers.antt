@@ -1,5 +1,5 @@
 -- Values are equal exactly where their bits are.
-use Rattle.std.proofs.Common.{◌≡◌, ◌<◌, ℕ, pos, map, take, length, arith}
+use Rattle.std.proofs.Common.{◌≡◌, pos, map, take, length, arith}
 use Rattle.run_dictionary.specs.Dict.{distinct}
 use Rattle.run_dictionary.proofs.DistinctLemmas.{distinct-bits}
 use Rattle.run_dictionary.proofs.seen.more_values.Goals as goal

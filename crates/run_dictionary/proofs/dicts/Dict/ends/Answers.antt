@@ -1,5 +1,5 @@
 -- A dictionary ascends, and each of its places is used.
-use Rattle.std.proofs.Common.{rules, ◌≡◌, ℕ, ◌-◌, ◌<◌, ℤ, pos, ◌≤ℤ◌, FitsSigned, of_z, to_z, length, get_or, sym, ap, ◌∙◌, subst, arith}
+use Rattle.std.proofs.Common.{rules, ◌≡◌, ◌-◌, ℤ, pos, ◌≤ℤ◌, FitsSigned, of_z, to_z, length, get_or, sym, ap, ◌∙◌, subst, arith}
 use Rattle.std.specs.Int.{w64}
 use Rattle.std.proofs.lemmas.Int.{to_z-of_z}
 use Rattle.bit_interleave.specs.PackedWords.{packed_width}

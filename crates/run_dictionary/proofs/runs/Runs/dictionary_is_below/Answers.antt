@@ -1,6 +1,5 @@
 -- The distinct values of the rows are those of the runs.
-use Rattle.std.proofs.Common.{◌↔◌, ◌<◌, ℕ, ℤ, List, IsTrue, not, length, sym, ap, ◌∙◌, subst, arith}
-use Rattle.transpose_order.specs.Place.{IsLaneWidth}
+use Rattle.std.proofs.Common.{◌↔◌, ◌<◌, ℕ, IsTrue, not, length, ap, ◌∙◌, subst, arith}
 use Rattle.run_dictionary.specs.Runs.{RunForm, run_values}
 use Rattle.run_dictionary.specs.Dict.{distinct, least_dict, dict_bytes}
 use Rattle.run_dictionary.proofs.StepLemmas.{run_of-bound}

@@ -1,5 +1,5 @@
 -- The values of the rows are those of the runs, each of which has a row.
-use Rattle.std.proofs.Common.{ℕ, suc, ◌≡◌, ◌+◌, ◌<◌, ℤ, pos, ◌≤ℤ◌, List, length, get_or, sym, ap, ◌∙◌, subst, arith}
+use Rattle.std.proofs.Common.{ℕ, suc, ◌≡◌, ◌<◌, ℤ, pos, ◌≤ℤ◌, List, length, get_or, sym, ap, ◌∙◌, subst, arith}
 use Rattle.transpose_order.specs.Mask.{has}
 use Rattle.bit_interleave.specs.Range.{value_at}
 use Rattle.run_dictionary.specs.Runs.{RunForm, run_of, run_value}
