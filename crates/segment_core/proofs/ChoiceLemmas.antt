@@ -1,5 +1,6 @@
 -- The first coding of fewest bytes is found by comparing one after another.
-use Rattle.std.proofs.Common.{◌≡◌, ℕ, ◌<◌, ◌≤◌, ◌⊎◌, inl, inr, ◌*◌, ◌/◌, length, Bool, true, false, nat_lt, cond, ℤ, List, Option, IsSome, is_some, ◌↔◌, refl, sym, ◌∙◌, ap, subst, arith}
+use Rattle.std.proofs.Common.{◌≡◌, ℕ, ◌<◌, ◌≤◌, ◌⊎◌, inl, inr, ◌*◌, ◌/◌, length, Bool, true, false, nat_lt, cond, ℤ, List, Option, IsSome, is_some, IsTrue, ◌↔◌, refl, sym, ◌∙◌, ap, subst, arith}
+use Rattle.std.proofs.lemmas.Bool.{cases_lt}
 use Rattle.std.proofs.lemmas.Bool.Decides.{nat_tests}
 use Rattle.transpose_order.specs.Place.{IsLaneWidth}
 use Rattle.run_dictionary.specs.Dict.{distinct}
@@ -163,3 +164,113 @@ bare_frame_is_first t values w long bare =
       | inr (inr (inr is)) ↦ rw is (omega arith)
     ] in
     frame_is_first (least_bytes t values) (omega (arith, bare)) (omega (arith, bare, small)) (omega (arith, bare, some))
+
+-- ---- the first coding of fewest bytes is the only one that is
+unique_at : (a b : Coding) → (place_in_order a < place_in_order b → ⊥) → (place_in_order b < place_in_order a → ⊥) → a ≡ b
+unique_at For For l m = refl
+unique_at For Delta l m = absurd (l (omega arith))
+unique_at For Runs l m = absurd (l (omega arith))
+unique_at For Dict l m = absurd (l (omega arith))
+unique_at Delta For l m = absurd (m (omega arith))
+unique_at Delta Delta l m = refl
+unique_at Delta Runs l m = absurd (l (omega arith))
+unique_at Delta Dict l m = absurd (l (omega arith))
+unique_at Runs For l m = absurd (m (omega arith))
+unique_at Runs Delta l m = absurd (m (omega arith))
+unique_at Runs Runs l m = refl
+unique_at Runs Dict l m = absurd (l (omega arith))
+unique_at Dict For l m = absurd (m (omega arith))
+unique_at Dict Delta l m = absurd (m (omega arith))
+unique_at Dict Runs l m = absurd (m (omega arith))
+unique_at Dict Dict l m = refl
+
+only_first : (bytes : Coding → ℕ) (a b : Coding) → IsFirstFewest bytes a → IsFirstFewest bytes b → place_in_order a < place_in_order b → ⊥
+only_first bytes a b f g l = let less = g.first a l in let most = f.fewest b in omega arith
+
+first_fewest_only : (bytes : Coding → ℕ) (a b : Coding) → IsFirstFewest bytes a → IsFirstFewest bytes b → a ≡ b
+first_fewest_only bytes a b f g = unique_at a b (only_first bytes a b f g) (only_first bytes b a g f)
+
+-- a coding is chosen exactly where none takes fewer bytes and each before it takes more
+pub chosen_is : (bytes : Coding → ℕ) (coding : Coding) → (first_fewest bytes ≡ coding) ↔ IsFirstFewest bytes coding
+chosen_is bytes coding = (
+  λ e. subst (λ (x : Coding). IsFirstFewest bytes x) e (first_fewest_is bytes),
+  λ h. first_fewest_only bytes (first_fewest bytes) coding (first_fewest_is bytes) h,
+)
+
+-- ---- each coding by its three comparisons
+each_fewest : (bytes : Coding → ℕ) (chosen : Coding) → bytes chosen ≤ bytes For → bytes chosen ≤ bytes Delta → bytes chosen ≤ bytes Runs → bytes chosen ≤ bytes Dict → (other : Coding) → bytes chosen ≤ bytes other
+each_fewest bytes chosen a b c d For = a
+each_fewest bytes chosen a b c d Delta = b
+each_fewest bytes chosen a b c d Runs = c
+each_fewest bytes chosen a b c d Dict = d
+
+before_deltas : (bytes : Coding → ℕ) (n : ℕ) → n < bytes For → (other : Coding) → place_in_order other < 1 → n < bytes other
+before_deltas bytes n a For l = a
+before_deltas bytes n a Delta l = absurd (omega arith)
+before_deltas bytes n a Runs l = absurd (omega arith)
+before_deltas bytes n a Dict l = absurd (omega arith)
+
+before_runs : (bytes : Coding → ℕ) (n : ℕ) → n < bytes For → n < bytes Delta → (other : Coding) → place_in_order other < 2 → n < bytes other
+before_runs bytes n a b For l = a
+before_runs bytes n a b Delta l = b
+before_runs bytes n a b Runs l = absurd (omega arith)
+before_runs bytes n a b Dict l = absurd (omega arith)
+
+before_dictionary : (bytes : Coding → ℕ) (n : ℕ) → n < bytes For → n < bytes Delta → n < bytes Runs → (other : Coding) → place_in_order other < 3 → n < bytes other
+before_dictionary bytes n a b c For l = a
+before_dictionary bytes n a b c Delta l = b
+before_dictionary bytes n a b c Runs l = c
+before_dictionary bytes n a b c Dict l = absurd (omega arith)
+
+-- FOR is chosen where no other takes fewer bytes
+pub frame_chosen : (bytes : Coding → ℕ) → (first_fewest bytes ≡ For) ↔ ((bytes For ≤ bytes Delta) × (bytes For ≤ bytes Runs) × (bytes For ≤ bytes Dict))
+frame_chosen bytes = (
+  λ e. let h = (chosen_is bytes For).0 e in (h.fewest Delta, h.fewest Runs, h.fewest Dict),
+  λ h. (chosen_is bytes For).1 (record { fewest = each_fewest bytes For (omega arith) h.0 h.1 h.2; first = λ other l. absurd (omega arith) }),
+)
+
+-- DELTA is chosen where FOR takes more bytes and no other fewer
+pub deltas_chosen : (bytes : Coding → ℕ) → (first_fewest bytes ≡ Delta) ↔ ((bytes Delta < bytes For) × (bytes Delta ≤ bytes Runs) × (bytes Delta ≤ bytes Dict))
+deltas_chosen bytes = (
+  λ e. let h = (chosen_is bytes Delta).0 e in (h.first For (omega arith), h.fewest Runs, h.fewest Dict),
+  λ h. (chosen_is bytes Delta).1 (record { fewest = each_fewest bytes Delta (omega (arith, h.0)) (omega arith) h.1 h.2; first = before_deltas bytes (bytes Delta) h.0 }),
+)
+
+-- RLE is chosen where FOR and DELTA take more bytes and DICT no fewer
+pub runs_chosen : (bytes : Coding → ℕ) → (first_fewest bytes ≡ Runs) ↔ ((bytes Runs < bytes For) × (bytes Runs < bytes Delta) × (bytes Runs ≤ bytes Dict))
+runs_chosen bytes = (
+  λ e. let h = (chosen_is bytes Runs).0 e in (h.first For (omega arith), h.first Delta (omega arith), h.fewest Dict),
+  λ h. (chosen_is bytes Runs).1 (record { fewest = each_fewest bytes Runs (omega (arith, h.0)) (omega (arith, h.1)) (omega arith) h.2; first = before_runs bytes (bytes Runs) h.0 h.1 }),
+)
+
+-- DICT is chosen where each other takes more bytes
+pub dictionary_chosen : (bytes : Coding → ℕ) → (first_fewest bytes ≡ Dict) ↔ ((bytes Dict < bytes For) × (bytes Dict < bytes Delta) × (bytes Dict < bytes Runs))
+dictionary_chosen bytes = (
+  λ e. let h = (chosen_is bytes Dict).0 e in (h.first For (omega arith), h.first Delta (omega arith), h.first Runs (omega arith)),
+  λ h. (chosen_is bytes Dict).1 (record { fewest = each_fewest bytes Dict (omega (arith, h.0)) (omega (arith, h.1)) (omega (arith, h.2)) (omega arith); first = before_dictionary bytes (bytes Dict) h.0 h.1 h.2 }),
+)
+
+-- ---- the same of values
+pub choice_of_frame : (t : ℕ) (values : List ℤ) → (choice t values ≡ For) ↔ ((least_bytes t values For ≤ least_bytes t values Delta) × (least_bytes t values For ≤ least_bytes t values Runs) × (least_bytes t values For ≤ least_bytes t values Dict))
+unfolding choice
+choice_of_frame t values = frame_chosen (least_bytes t values)
+
+pub choice_of_deltas : (t : ℕ) (values : List ℤ) → (choice t values ≡ Delta) ↔ ((least_bytes t values Delta < least_bytes t values For) × (least_bytes t values Delta ≤ least_bytes t values Runs) × (least_bytes t values Delta ≤ least_bytes t values Dict))
+unfolding choice
+choice_of_deltas t values = deltas_chosen (least_bytes t values)
+
+pub choice_of_runs : (t : ℕ) (values : List ℤ) → (choice t values ≡ Runs) ↔ ((least_bytes t values Runs < least_bytes t values For) × (least_bytes t values Runs < least_bytes t values Delta) × (least_bytes t values Runs ≤ least_bytes t values Dict))
+unfolding choice
+choice_of_runs t values = runs_chosen (least_bytes t values)
+
+pub choice_of_dictionary : (t : ℕ) (values : List ℤ) → (choice t values ≡ Dict) ↔ ((least_bytes t values Dict < least_bytes t values For) × (least_bytes t values Dict < least_bytes t values Delta) × (least_bytes t values Dict < least_bytes t values Runs))
+unfolding choice
+choice_of_dictionary t values = dictionary_chosen (least_bytes t values)
+
+-- what is not below a bound is at least the bound
+pub at_least : (b : Bool) (bytes bound : ℕ) → (IsTrue b ↔ (bytes < bound)) → b ≡ false → bound ≤ bytes
+at_least b bytes bound h e = by_order (cases_lt bytes bound)
+  where
+    by_order : (bytes < bound) ⊎ (bound ≤ bytes) → bound ≤ bytes
+    by_order (inl l) = absurd (let t : b ≡ true = h.1 l in cc)
+    by_order (inr l) = l

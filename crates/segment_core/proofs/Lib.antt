@@ -1,6 +1,8 @@
 pub mod CodedLemmas
 pub mod ChoiceLemmas
 pub mod FillLemmas
+pub mod RepeatLemmas
+pub mod NumberLemmas
 pub mod SameCells
 pub mod VectorLemmas
 pub mod GatherLemmas

@@ -1,8 +1,10 @@
 pub mod Cover
 pub mod KeptCover
 pub mod Fill
+pub mod Repeats
 pub mod Coded
 pub mod Choice
+pub mod CanonicalForm
 pub mod CodedVector
 pub mod Segment
 pub mod Format

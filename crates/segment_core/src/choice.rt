@@ -1,5 +1,5 @@
 //! The canonical choice among the four codings.
-ghost use Rattle.std.specs.Prelude.{◌≡◌, if◌then◌else◌, nat_lt, is_some};
+ghost use Rattle.std.specs.Prelude.{◌≡◌, ◌↔◌, if◌then◌else◌, nat_lt, is_some, IsTrue};
 ghost use Rattle.transpose_order.specs.Place.{IsLaneWidth};
 ghost use Rattle.bit_interleave.specs.Range.{AreInRange};
 ghost use Rattle.segment_core.specs.Choice.{choice, least_bytes, IsFirstFewest};
@@ -58,4 +58,13 @@ pub(crate) fn choose(values: &[i64; 1024], lane_width: usize) -> Coding
     let of_two = frame.or_fewer(Coding::Delta, Delta::size(values, lane_width));
     let of_three = of_two.or_fewer(Coding::Runs, Runs::size(values, lane_width));
     of_three.or_dictionary(Dict::size_below(values, lane_width, of_three.bytes))
+}
+
+/// Whether a coding is the one that is chosen for 1024 values.
+pub(crate) fn is_chosen(coding: Coding, values: &[i64; 1024], lane_width: usize) -> bool
+    requires lane_width { IsLaneWidth lane_width }
+    requires fit { AreInRange lane_width values.now }
+    ensures { IsTrue result ↔ (choice lane_width values.now ≡ coding) }
+{
+    choose(values, lane_width) == coding
 }

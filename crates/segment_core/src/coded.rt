@@ -4,9 +4,15 @@ ghost use Rattle.transpose_order.specs.Place.{IsLaneWidth};
 ghost use Rattle.bit_interleave.specs.Arithmetic.{integer_width};
 ghost use Rattle.bit_interleave.specs.Range.{AreInRange};
 ghost use Rattle.segment_core.specs.Coded.{value_in, values_of, lane_width_of, coding_of, payload_bytes, least_form, IsCodedForm};
+ghost use Rattle.segment_core.specs.CanonicalForm.{IsCanonicalForm};
 
 use crate::boxed::Boxed;
 use crate::coding::Coding;
+use crate::deltas::are_canonical_deltas;
+use crate::dictionaries::is_canonical_dictionary;
+use crate::frames::is_canonical_frame;
+use crate::repeats::RepeatingRows;
+use crate::runs::are_canonical_runs;
 use frame_delta::{Delta, For};
 use run_dictionary::{Dict, Runs};
 use std::alloc::{AllocError, Global};
@@ -119,6 +125,19 @@ impl Coded {
             Coded::Delta(form) => form.get().is_least(),
             Coded::Runs(form) => form.get().is_least(),
             Coded::Dict(form) => form.get().is_least(),
+        }
+    }
+
+    /// Whether these are the canonical form of a vector that is filled by their values: the values repeat as the fill asks, the
+    /// form is their least, and its coding is the one that is chosen for them.
+    pub(crate) fn is_canonical(&self, repeating: &RepeatingRows) -> bool
+        ensures { IsTrue result ↔ IsCanonicalForm repeating.now.rows repeating.now.valueless self.now }
+    {
+        match self {
+            Coded::For(form) => is_canonical_frame(form.get(), repeating),
+            Coded::Delta(form) => are_canonical_deltas(form.get(), repeating),
+            Coded::Runs(form) => are_canonical_runs(form.get(), repeating),
+            Coded::Dict(form) => is_canonical_dictionary(form.get(), repeating),
         }
     }
 

@@ -16,7 +16,8 @@ use crate::choice::choose;
 use crate::coded::Coded;
 use crate::coding::Coding;
 use crate::cover::Cover;
-use crate::fill::{fill, is_filled};
+use crate::fill::fill;
+use crate::repeats::RepeatingRows;
 use crate::same_form::same_form;
 use frame_delta::{Delta, For};
 use run_dictionary::{Dict, Runs};
@@ -138,14 +139,6 @@ impl CodedVector {
         fill(values, self.rows(), &self.null_rows());
     }
 
-    /// Whether the decoded values are the filled vector.
-    fn is_filled(&self, values: &[i64; 1024]) -> bool
-        requires { values.now ≡ values_of self.now.coded }
-        ensures { IsTrue result ↔ (values.now ≡ filled (cells_of self.now)) }
-    {
-        is_filled(values, self.rows(), &self.null_rows())
-    }
-
     /// Writes the filled vector, each value in the range of the lane width.
     fn write_filled(&self, values: &mut [i64; 1024])
         ensures values { values.new ≡ filled (cells_of self.now) }
@@ -203,15 +196,8 @@ impl CodedVector {
     pub fn is_canonical(&self) -> bool
         ensures { IsTrue result ↔ (self.now ≡ canonical_vector (lane_width_of self.now.coded) (cells_of self.now)) }
     {
-        let mut values = [0; 1024];
-        self.coded.decode(&mut values);
-        if !self.is_filled(&values) {
-            return false;
-        }
-        if !self.coded.is_least() {
-            return false;
-        }
-        choose(&values, self.coded.lane_width()) == self.coded.coding()
+        let repeating = RepeatingRows::of(self.rows(), &self.null_rows());
+        self.coded.is_canonical(&repeating)
     }
 
     /// Whether two vectors have the same cells, whatever their codings. It takes no memory.

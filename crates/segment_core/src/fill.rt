@@ -5,7 +5,6 @@ ghost use Rattle.table_model.specs.Values.{present};
 ghost use Rattle.bit_interleave.specs.Range.{value_at};
 ghost use Rattle.segment_core.specs.Fill.{first_or, last_or, filled_at, filled, cells_under};
 
-use crate::same_form::same_values;
 use transpose_order::Mask;
 
 /// Fills a vector of `rows` rows, 1024 at most: each row that is null, and each past the rows, takes the value of the nearest
@@ -20,20 +19,6 @@ pub(crate) fn fill(values: &mut [i64; 1024], rows: usize, nulls: &Mask)
     let first = first_present(values, rows, nulls);
     let latest = fill_rows(values, rows, nulls, first);
     fill_rest(values, rows, latest);
-}
-
-/// Whether a vector of `rows` rows, 1024 at most, has at each row what `fill` gives it. A filled copy is made only where there is
-/// something to fill.
-pub(crate) fn is_filled(values: &[i64; 1024], rows: usize, nulls: &Mask) -> bool
-    requires { rows ≤ 1024 }
-    ensures { IsTrue result ↔ (values.now ≡ filled (cells_under rows nulls.now values.now)) }
-{
-    if is_full(rows, nulls) {
-        return true;
-    }
-    let mut full = *values;
-    fill(&mut full, rows, nulls);
-    same_values(values.as_slice(), full.as_slice())
 }
 
 /// Fills the rows that are null with the latest value before each, or the first of all, and answers the last.
@@ -65,7 +50,7 @@ fn fill_rest(values: &mut [i64; 1024], rows: usize, last: i64)
 }
 
 /// Whether each of 1024 rows has a value, so that there is nothing to fill.
-fn is_full(rows: usize, nulls: &Mask) -> bool
+pub(crate) fn is_full(rows: usize, nulls: &Mask) -> bool
     requires { rows ≤ 1024 }
     ensures { IsTrue result ↔ ((n : ℕ) → n < 1024 → (n < rows) × (has nulls.now n ≡ false)) }
 {

@@ -23,13 +23,6 @@ fn same_words(words: &Words, others: &Words) -> bool
     }
 }
 
-/// Whether two lists of values are the same.
-pub(crate) fn same_values(values: &[i64], others: &[i64]) -> bool
-    ensures { IsTrue result ↔ (values.now ≡ others.now) }
-{
-    values == others
-}
-
 /// Whether two masks have the same rows.
 pub(crate) fn same_mask(mask: &Mask, other: &Mask) -> bool
     ensures { IsTrue result ↔ (mask.now ≡ other.now) }

@@ -1,0 +1,49 @@
+-- Numbers by places tell a vector's values apart, so that what repeats is seen at the numbers.
+use Rattle.std.proofs.Common.{◌≡◌, ◌↔◌, ℕ, ◌+◌, ◌-◌, ◌*◌, ◌/◌, ◌%◌, ◌<◌, Bool, true, false, ℤ, pos, ◌+ℤ◌, List, length, get_or, sym, ◌∙◌, ap, arith}
+use Rattle.std.specs.Int.{w64, int_wrap, cast_unsigned}
+use Rattle.std.specs.Int.RustNames.{FitsSigned}
+use Rattle.std.proofs.lemmas.Int.{ints, int_wrap_fits}
+use Rattle.transpose_order.specs.Place.{IsLaneWidth}
+use Rattle.bit_interleave.specs.Arithmetic.{integer_width}
+use Rattle.bit_interleave.specs.Range.{value_at, AreInRange}
+use Rattle.bit_interleave.specs.Places.{by_place, index_of_row}
+use Rattle.bit_interleave.proofs.PlacesLemmas.{index_of_row-below, row_of_index-index_of_row}
+use Rattle.bit_interleave.proofs.WrapLemmas.{int_wrap-bits, fits_wide}
+use Rattle.frame_delta.specs.Frame.{AreAbove}
+use Rattle.frame_delta.proofs.FrameLemmas.{column_fits}
+use Rattle.segment_core.specs.Repeats.{Repeats, RepeatByPlace}
+use Rattle.segment_core.specs.CanonicalForm.{TellApart, AreSigned}
+
+-- ---- rows that repeat
+pub repeat_by_place : (rows : List Bool) (numbers : List ℕ) (values : List ℤ) → TellApart numbers values → RepeatByPlace rows numbers ↔ ((n : ℕ) → 0 < n → n < 1024 → get_or rows n false ≡ true → value_at values n ≡ value_at values (n - 1))
+repeat_by_place rows numbers values apart = (
+  λ h n some l m. (apart n (n - 1) l (omega arith)).0 (h n some l m),
+  λ h n some l m. (apart n (n - 1) l (omega arith)).1 (h n some l m),
+)
+
+-- the values repeat as the fill asks exactly where the numbers do, and the first is 0 where it has to be
+pub repeats_are : (rows : List Bool) (valueless : Bool) (numbers : List ℕ) (values : List ℤ) → TellApart numbers values → Repeats rows valueless values ↔ (RepeatByPlace rows numbers × (valueless ≡ true → value_at values 0 ≡ pos 0))
+repeats_are rows valueless numbers values apart = (
+  λ h. ((repeat_by_place rows numbers values apart).1 h.each, h.zero),
+  λ h. record { each = (repeat_by_place rows numbers values apart).0 h.0; zero = h.1 },
+)
+
+-- ---- values as numbers
+pub signed_above : (t : ℕ) (numbers : List ℕ) (values : List ℤ) → IsLaneWidth t → length values ≡ 1024 → AreInRange t values → AreSigned numbers values → AreAbove t (pos 0) numbers values
+signed_above t numbers values w long range are n l =
+    let fits : FitsSigned (integer_width t) (value_at values n) = column_fits t values n (omega arith) range in
+    let wide : FitsSigned w64 (value_at values n) = fits_wide t (value_at values n) w fits in
+    sym (ap (λ x. int_wrap (integer_width t) (pos 0 +ℤ pos x)) (are n l)
+    ∙ ap (int_wrap (integer_width t)) (let e : pos 0 +ℤ pos (cast_unsigned w64 (value_at values n)) ≡ pos (cast_unsigned w64 (value_at values n)) = omega (arith, ints) in e)
+    ∙ int_wrap-bits t (value_at values n) w wide ∙ int_wrap_fits (integer_width t) (value_at values n) fits)
+
+pub signed_tell_apart : (t : ℕ) (numbers : List ℕ) (values : List ℤ) → IsLaneWidth t → length values ≡ 1024 → AreInRange t values → AreSigned numbers values → TellApart numbers values
+signed_tell_apart t numbers values w long range are m n l k =
+    let above = signed_above t numbers values w long range are in (
+      λ e. above m l ∙ ap (λ x. int_wrap (integer_width t) (pos 0 +ℤ pos x)) e ∙ sym (above n k),
+      λ e. are m l ∙ ap (cast_unsigned w64) e ∙ sym (are n k),
+    )
+
+pub signed_at : (numbers : List ℕ) (values : List ℤ) → ((q : ℕ) → q < 1024 → get_or numbers q 0 ≡ cast_unsigned w64 (value_at values (64 * (q % 16) + q / 16))) → AreSigned numbers values
+signed_at numbers values h n l =
+    h (index_of_row n) (index_of_row-below n l) ∙ ap (λ k. cast_unsigned w64 (value_at values k)) (row_of_index-index_of_row n l)
