@@ -3,6 +3,7 @@ pub mod ChoiceLemmas
 pub mod FillLemmas
 pub mod RepeatLemmas
 pub mod NumberLemmas
+pub mod ChosenLemmas
 pub mod SameCells
 pub mod VectorLemmas
 pub mod GatherLemmas

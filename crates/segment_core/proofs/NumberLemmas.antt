@@ -9,10 +9,13 @@ use Rattle.bit_interleave.specs.Range.{value_at, AreInRange}
 use Rattle.bit_interleave.specs.Places.{by_place, index_of_row}
 use Rattle.bit_interleave.proofs.PlacesLemmas.{index_of_row-below, row_of_index-index_of_row}
 use Rattle.bit_interleave.proofs.WrapLemmas.{int_wrap-bits, fits_wide}
-use Rattle.frame_delta.specs.Frame.{AreAbove}
+use Rattle.frame_delta.specs.Frame.{TellApart, AreAbove}
 use Rattle.frame_delta.proofs.FrameLemmas.{column_fits}
+use Rattle.run_dictionary.specs.Dict.{DictForm, code_at, dict_values}
 use Rattle.segment_core.specs.Repeats.{Repeats, RepeatByPlace}
-use Rattle.segment_core.specs.CanonicalForm.{TellApart, AreSigned}
+use Rattle.segment_core.specs.CanonicalForm.{AreSigned}
+use Rattle.segment_core.specs.declared.coded.Coded.TheVariants.{Dict as InDictionary}
+use Rattle.segment_core.proofs.CodedLemmas.{value_at-values_of}
 
 -- ---- rows that repeat
 pub repeat_by_place : (rows : List Bool) (numbers : List ℕ) (values : List ℤ) → TellApart numbers values → RepeatByPlace rows numbers ↔ ((n : ℕ) → 0 < n → n < 1024 → get_or rows n false ≡ true → value_at values n ≡ value_at values (n - 1))
@@ -37,13 +40,14 @@ signed_above t numbers values w long range are n l =
     ∙ ap (int_wrap (integer_width t)) (let e : pos 0 +ℤ pos (cast_unsigned w64 (value_at values n)) ≡ pos (cast_unsigned w64 (value_at values n)) = omega (arith, ints) in e)
     ∙ int_wrap-bits t (value_at values n) w wide ∙ int_wrap_fits (integer_width t) (value_at values n) fits)
 
-pub signed_tell_apart : (t : ℕ) (numbers : List ℕ) (values : List ℤ) → IsLaneWidth t → length values ≡ 1024 → AreInRange t values → AreSigned numbers values → TellApart numbers values
-signed_tell_apart t numbers values w long range are m n l k =
-    let above = signed_above t numbers values w long range are in (
-      λ e. above m l ∙ ap (λ x. int_wrap (integer_width t) (pos 0 +ℤ pos x)) e ∙ sym (above n k),
-      λ e. are m l ∙ ap (cast_unsigned w64) e ∙ sym (are n k),
-    )
-
 pub signed_at : (numbers : List ℕ) (values : List ℤ) → ((q : ℕ) → q < 1024 → get_or numbers q 0 ≡ cast_unsigned w64 (value_at values (64 * (q % 16) + q / 16))) → AreSigned numbers values
 signed_at numbers values h n l =
     h (index_of_row n) (index_of_row-below n l) ∙ ap (λ k. cast_unsigned w64 (value_at values k)) (row_of_index-index_of_row n l)
+
+-- the values of a dictionary at codes by places
+pub dictionary_signed : (form : DictForm) (dictionary : List ℤ) (codes numbers : List ℕ) → dictionary ≡ form.values → ((n : ℕ) → n < 1024 → by_place codes n ≡ code_at form n) → ((k : ℕ) → k < 1024 → get_or numbers k 0 ≡ cast_unsigned w64 (value_at dictionary (get_or codes k 0))) → AreSigned numbers (dict_values form)
+dictionary_signed form dictionary codes numbers same are h n l =
+    h (index_of_row n) (index_of_row-below n l)
+    ∙ ap (λ (xs : List ℤ). cast_unsigned w64 (value_at xs (get_or codes (index_of_row n) 0))) same
+    ∙ ap (λ k. cast_unsigned w64 (value_at form.values k)) (are n l)
+    ∙ ap (cast_unsigned w64) (sym (value_at-values_of (InDictionary form) n l))

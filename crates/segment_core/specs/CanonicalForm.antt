@@ -14,11 +14,6 @@ pub record IsCanonicalForm (rows : List Bool) (valueless : Bool) (c : Coded) : T
   pub least : c ≡ least_form (coding_of c) (lane_width_of c) (values_of c)
   pub chosen : choice (lane_width_of c) (values_of c) ≡ coding_of c
 
--- two rows have the same number, of numbers by places, exactly where they have the same value
-abbrev pub TellApart : List ℕ → List ℤ → Type 0
-TellApart numbers values =
-    (m n : ℕ) → m < 1024 → n < 1024 → (by_place numbers m ≡ by_place numbers n) ↔ (value_at values m ≡ value_at values n)
-
 -- numbers by places that are the values, read without a sign as 64 bits
 abbrev pub AreSigned : List ℕ → List ℤ → Type 0
 AreSigned numbers values =

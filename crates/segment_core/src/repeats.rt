@@ -1,5 +1,5 @@
 //! The rows of a vector that repeat the row before if the vector is filled.
-ghost use Rattle.std.specs.Prelude.{◌≡◌, ◌↔◌, ◌<◌, ◌≤◌, ℕ, ℤ, List, length, slice_index, IsTrue};
+ghost use Rattle.std.specs.Prelude.{◌≡◌, ◌↔◌, ◌<◌, ◌≤◌, ℕ, ℤ, pos, true, List, length, slice_index, IsTrue};
 ghost use Rattle.std.specs.Int.{bit_at};
 ghost use Rattle.segment_core.specs.Fill.{filled, cells_under};
 ghost use Rattle.segment_core.specs.Repeats.{Repeats, RepeatByPlace, RepeatsAt, RepeatsFirst};
@@ -52,6 +52,13 @@ impl RepeatingRows {
             }
         }
         true
+    }
+
+    /// Whether a value may be that of row 0: any, if a row has a value, else 0.
+    pub(crate) fn allow_first(&self, value: i64) -> bool
+        ensures { IsTrue result ↔ (self.now.valueless ≡ true → value ≡ pos 0) }
+    {
+        !self.valueless || value == 0
     }
 
     /// Whether each of the rows repeats the number of the row before, of numbers by places.

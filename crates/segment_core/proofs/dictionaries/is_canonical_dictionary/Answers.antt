@@ -1,0 +1,29 @@
+-- The codes tell the values apart, so that what is asked of the values is seen at the codes.
+use Rattle.std.proofs.Common.{◌≡◌, ◌↔◌, IsTrue, true, false, ℤ, pos, w64, FitsSigned, refl, sym, ◌∙◌, ap, subst, rules, arith}
+use Rattle.std.proofs.lemmas.Int.{to_z-of_z}
+use Rattle.bit_interleave.specs.Range.{value_at}
+use Rattle.run_dictionary.specs.Dict.{DictForm}
+use Rattle.segment_core.specs.declared.coded.Coded.TheVariants.{Dict as InDictionary}
+use Rattle.segment_core.proofs.CodedLemmas.{value_at-values_of}
+use Rattle.segment_core.proofs.ChosenLemmas.{is_canonical_form}
+use Rattle.segment_core.proofs.dictionaries.is_canonical_dictionary.Goals as goal
+
+pub returns-then-not-allow_first : goal.returns-then-not-allow_first
+returns-then-not-allow_first c =
+    let form : DictForm = c.args.form.now in
+    let fits : FitsSigned w64 c.value.result = search rules in
+    let allow = subst (λ (z : ℤ). IsTrue false ↔ (c.args.repeating.now.valueless ≡ true → z ≡ pos 0)) (to_z-of_z w64 c.value.result fits) c.if-not-allow_first.ensures in (
+      λ no. absurd (cc),
+      λ h. allow.1 (λ v. c.value.ensures.value ∙ sym (value_at-values_of (InDictionary form) 0 (omega arith)) ∙ h.filled.zero v),
+    )
+
+pub returns : goal.returns
+returns c =
+    let form : DictForm = c.args.form.now in
+    let fits : FitsSigned w64 c.value.result = search rules in
+    let allow = subst (λ (z : ℤ). IsTrue true ↔ (c.args.repeating.now.valueless ≡ true → z ≡ pos 0)) (to_z-of_z w64 c.value.result fits) c.if-not-allow_first.ensures in (
+      λ yes. is_canonical_form c.args.repeating.now.rows c.args.repeating.now.valueless c.write_codes.new.codes (InDictionary form) c.write_codes.ensures.alike
+          (λ v. value_at-values_of (InDictionary form) 0 (omega arith) ∙ sym c.value.ensures.value ∙ allow.0 refl v)
+          (c.if-not-hold.ensures.0 refl) (ap InDictionary (c.if-not-is_least.ensures.0 refl)) (c.is_dictionary_chosen.ensures.0 yes),
+      λ h. c.is_dictionary_chosen.ensures.1 h.chosen,
+    )

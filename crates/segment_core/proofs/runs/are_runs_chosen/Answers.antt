@@ -1,0 +1,60 @@
+-- RLE is chosen where FOR and DELTA take more bytes and DICT no fewer.
+use Rattle.std.proofs.Common.{◌≡◌, ◌↔◌, IsTrue, true, false, not, ℕ, ◌+◌, ◌<◌, ◌≤◌, ◌≤ℤ◌, ℤ, pos, List, w64, FitsSigned, refl, sym, ◌∙◌, ap, subst, rules, arith}
+use Rattle.std.proofs.lemmas.Int.{to_z-of_z}
+use Rattle.bit_interleave.specs.Range.{value_at}
+use Rattle.frame_delta.specs.Frame.{AreAbove, frame_bytes, least_frame}
+use Rattle.frame_delta.specs.Delta.{delta_bytes, least_delta}
+use Rattle.run_dictionary.specs.Runs.{RunForm, run_bytes, run_values}
+use Rattle.run_dictionary.specs.Dict.{dict_bytes, least_dict}
+use Rattle.segment_core.specs.Choice.{least_bytes}
+use Rattle.segment_core.specs.declared.coding.Coding.TheVariants.{For, Delta, Runs, Dict}
+use Rattle.segment_core.specs.declared.coded.Coded.TheVariants.{Runs as InRuns}
+use Rattle.segment_core.proofs.CodedLemmas.{length-values_of, value_at-values_of}
+use Rattle.segment_core.proofs.ChoiceLemmas.{at_least, choice_of_runs}
+use Rattle.segment_core.proofs.ChosenLemmas.{not_fewest, not_first, not_below, runs_win, frame_of_ends}
+use Rattle.segment_core.proofs.NumberLemmas.{signed_above}
+use Rattle.segment_core.proofs.runs.are_runs_chosen.Goals as goal
+
+pub returns-then-frame_bytes-bytes : goal.returns-then-frame_bytes-bytes
+returns-then-frame_bytes-bytes c =
+    let form : RunForm = c.args.form.now in
+    let values : List ℤ = run_values form in
+    let bytes : ℕ = c.bytes_len-bytes.result in
+    let own : bytes ≡ least_bytes form.lane_width values Runs = c.bytes_len-bytes.ensures ∙ ap run_bytes c.requires in
+    let size = frame_of_ends (InRuns form) c.lane_width-lane_width.result c.frame_bytes.result c.extremes-least.result.0 c.extremes-least.result.1 c.lane_width-lane_width.ensures.form c.lane_width-lane_width.ensures.value c.frame_bytes.ensures c.extremes-least.ensures.bounds c.extremes-least.ensures.least c.extremes-least.ensures.greatest in
+    let most = subst (λ (n : ℕ). n ≤ bytes) size c.if-frame_bytes-bytes.true in (
+      λ no. absurd (cc),
+      λ e. absurd (not_first form.lane_width values Runs For bytes own (omega arith) most e),
+    )
+
+pub returns-then-dictionary_is_below : goal.returns-then-dictionary_is_below
+returns-then-dictionary_is_below c =
+    let form : RunForm = c.args.form.now in
+    let values : List ℤ = run_values form in
+    let bytes : ℕ = c.bytes_len-bytes.result in
+    let own : bytes ≡ least_bytes form.lane_width values Runs = c.bytes_len-bytes.ensures ∙ ap run_bytes c.requires in (
+      λ no. absurd (cc),
+      λ e. absurd (not_fewest form.lane_width values Runs Dict bytes own (c.if-dictionary_is_below.ensures.0 refl) e),
+    )
+
+pub returns : goal.returns
+returns c =
+    let form : RunForm = c.args.form.now in
+    let t : ℕ = c.lane_width-lane_width.result in
+    let values : List ℤ = run_values form in
+    let bytes : ℕ = c.bytes_len-bytes.result in
+    let numbers : List ℕ = c.write_by_places.new.numbers in
+    let own : bytes ≡ least_bytes form.lane_width values Runs = c.bytes_len-bytes.ensures ∙ ap run_bytes c.requires in
+    let is : t ≡ form.lane_width = c.lane_width-lane_width.ensures.value in
+    let size = frame_of_ends (InRuns form) t c.frame_bytes.result c.extremes-least.result.0 c.extremes-least.result.1 c.lane_width-lane_width.ensures.form is c.frame_bytes.ensures c.extremes-least.ensures.bounds c.extremes-least.ensures.least c.extremes-least.ensures.greatest in
+    let frame = subst (λ (n : ℕ). bytes < n) size c.if-frame_bytes-bytes.false in
+    let dictionary = at_least false (dict_bytes (least_dict form.lane_width values)) bytes c.if-dictionary_is_below.ensures refl in
+    let decoded = signed_above form.lane_width numbers c.decode.new.values c.lane_width-lane_width.ensures.form.lane_width c.decode.array_long c.decode.ensures.fit c.write_by_places.ensures in
+    let own_values = subst (λ (xs : List ℤ). AreAbove form.lane_width (pos 0) numbers xs) c.decode.ensures.values decoded in
+    let above = subst (λ (u : ℕ). AreAbove u (pos 0) numbers values) (sym is) own_values in
+    let last = subst (λ (u : ℕ). IsTrue (not c.is_below.result) ↔ (bytes + 1 ≤ delta_bytes (least_delta u values))) is (not_below c.is_below.result (delta_bytes (least_delta t values)) (bytes + 1) (c.is_below.ensures values (pos 0) (length-values_of (InRuns form)) above)) in (
+      λ yes. let more : bytes + 1 ≤ delta_bytes (least_delta form.lane_width values) = last.0 yes in
+          let deltas : bytes < delta_bytes (least_delta form.lane_width values) = omega arith in
+          runs_win form.lane_width values bytes own frame deltas dictionary,
+      λ e. let deltas = subst (λ (n : ℕ). n < delta_bytes (least_delta form.lane_width values)) (sym own) ((choice_of_runs form.lane_width values).0 e).1 in last.1 (omega arith),
+    )
