@@ -140,7 +140,7 @@ pub fn apply<R: Print + Input + Files<File = File> + Clock + AllocGlobal>(
 
 /// The first offer of another table, if there is one.
 fn other_table<'a>(sources: &[Source<'a>], offers: &'a [Offer], schema: &'a Schema) -> About<'a> {
-    for (source, offer) in sources.iter().zip(offers) {
+    for (source, offer) in sources.iter().zip(offers.iter()) {
         if !offer.schema().same(schema) {
             return About::OtherTable {
                 name: name_of(*source),

@@ -62,8 +62,8 @@ fn refused_among<R: Files + AllocGlobal>(
     let cause = Cause::from(refusal);
     for (index, query) in queries.iter().enumerate() {
         let place = place_among(index, queries.len());
-        if place == Place::Alone || judged(rt.alloc(), query, &schema) == Err(refusal) {
-            return refused_query(rt, query, place, schema.as_ref(), cause);
+        if place == Place::Alone || judged(rt.alloc(), *query, &schema) == Err(refusal) {
+            return refused_query(rt, *query, place, schema.as_ref(), cause);
         }
     }
     Failure::from(refusal)
