@@ -265,11 +265,11 @@ def main():
     options = argparse.ArgumentParser(description=__doc__, formatter_class=argparse.RawDescriptionHelpFormatter)
     options.add_argument("--data", type=pathlib.Path, help="a folder with T.lanes, and for --beside with T.csv")
     options.add_argument("--beside", help="another program that reads and checks the file")
-    options.add_argument("--program", help="the built program; without it ./lanes builds it")
+    options.add_argument("--program", help="the built program; without it ./lanes --build builds it")
     options.add_argument("--runs", type=int, default=9, help="how often each process runs: the least time counts")
     given = options.parse_args()
     if not given.program:
-        subprocess.run([TOP / "lanes", "--help"], stdout=subprocess.DEVNULL, check=True)
+        subprocess.run([TOP / "lanes", "--build"], stdout=subprocess.DEVNULL, check=True)
     program = given.program or str(TOP / "crates" / "lanes" / "out" / "lanes")
     lines = (given.data / "T.lanes").read_text().splitlines(keepends=True) if given.data else list(own_script())
     batches = [line for line in lines if line.startswith("append ")]

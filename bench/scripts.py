@@ -3,14 +3,14 @@
 
     python3 bench/scripts.py [--program PROGRAM] [--runs N]
 
-Without a program named it is the one that ./lanes builds. Of several runs of a script the least time counts.
+Without a program named it is the one that ./lanes --build builds. Of several runs of a script the least time counts.
 
 A peak of less than about 20 MiB is not seen: it is what this program itself takes when it starts the other.
 """
 import argparse, os, subprocess, sys, tempfile, time
 
 TOP = os.path.dirname(os.path.dirname(os.path.abspath(__file__)))
-# What the command ./lanes runs, once it has built it.
+# What ./lanes --build leaves here too.
 BUILT = os.path.join(TOP, "crates", "lanes", "out", "lanes")
 
 
@@ -126,7 +126,7 @@ def main():
     asked.add_argument("--runs", type=int, default=3)
     given = asked.parse_args()
     if not given.program:
-        subprocess.run([os.path.join(TOP, "lanes"), "--help"], stdout=subprocess.DEVNULL, check=True)
+        subprocess.run([os.path.join(TOP, "lanes"), "--build"], stdout=subprocess.DEVNULL, check=True)
         given.program = BUILT
     for name, lines in scripts():
         run(given, name, lines)

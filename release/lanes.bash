@@ -11,18 +11,18 @@ _lanes() {
         --format) mapfile -t COMPREPLY < <(compgen -W 'text csv json table' -- "$word"); return ;;
     esac
     case ${COMP_WORDS[1]} in
-        create) options='--help' ;;
-        import) options='--batch --no-header --help' ;;
+        create) options='--quiet --help' ;;
+        import) options='--batch --no-header --quiet --help' ;;
         query) options='--format --help' ;;
-        delete) options='--help' ;;
-        delete-rows) options='--help' ;;
+        delete) options='--quiet --help' ;;
+        delete-rows) options='--quiet --help' ;;
         dump) options='--names --help' ;;
-        inspect) options='--help' ;;
+        inspect) options='--batches --format --help' ;;
         summary) options='--help' ;;
         offer) options='--help' ;;
-        apply) options='--help' ;;
+        apply) options='--quiet --help' ;;
         check) options='--help' ;;
-        merge) options='--help' ;;
+        merge) options='--quiet --help' ;;
         run) options='--explain --help' ;;
     esac
     if [[ $word == -* ]]; then

@@ -85,11 +85,12 @@ pub fn delete<R: Print + Files<File = File> + Clock + AllocGlobal>(
     condition: &str,
     is_quiet: bool,
 ) -> Result<(), Failure> {
-    let schema = schema_of(rt, file)?;
+    let found = schema_of(rt, file)?;
+    let schema = Some(&found);
     let text = Text {
         text: condition,
         is_condition: true,
-        schema: Some(&schema),
+        schema,
     };
     change(
         rt,
@@ -134,22 +135,33 @@ pub fn apply<R: Print + Input + Files<File = File> + Clock + AllocGlobal>(
         }
     }
     let offers = offers.as_slice();
-    let about = other_table(sources, offers, &schema);
+    let about = match other_table(offers, &schema) {
+        Some((index, found)) => About::OtherTable {
+            name: name_at(sources, index),
+            found,
+            wanted: &schema,
+        },
+        None => About::Nothing,
+    };
     change(rt, file, Change::Apply { offers }, about, is_quiet)
 }
 
-/// The first offer of another table, if there is one.
-fn other_table<'a>(sources: &[Source<'a>], offers: &'a [Offer], schema: &'a Schema) -> About<'a> {
-    for (source, offer) in sources.iter().zip(offers) {
+/// The first offer of another table, if there is one: its index, and its table.
+fn other_table<'a>(offers: &'a [Offer], schema: &Schema) -> Option<(usize, &'a Schema)> {
+    for (index, offer) in offers.iter().enumerate() {
         if !offer.schema().same(schema) {
-            return About::OtherTable {
-                name: name_of(*source),
-                found: offer.schema(),
-                wanted: schema,
-            };
+            return Some((index, offer.schema()));
         }
     }
-    About::Nothing
+    None
+}
+
+/// What a source is called in a sentence, by its index.
+fn name_at<'a>(sources: &[Source<'a>], index: usize) -> &'a str {
+    match sources.get(index) {
+        Some(source) => name_of(*source),
+        None => "",
+    }
 }
 
 /// Whether there is a file, a folder or a link of this name.

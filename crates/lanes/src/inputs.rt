@@ -4,9 +4,10 @@ use crate::failure::{Failure, INPUT};
 use command_line::Source;
 use either::Either;
 use refusal_sentences::{CommandRefusal, Sentence};
+use replica_files::file_schema;
 use std::fs::{self, Files};
 use std::io::{self, Read};
-use table_model::Counted;
+use table_model::{Counted, Schema};
 
 /// A file that is opened at the first read and closed at its end.
 #[derive(Drop)]
@@ -70,6 +71,14 @@ pub fn source_of<'r, 'n, R: Input + Files>(
     match source {
         Source::Input => Counted::new(Either::Left(rt.reader())),
         Source::File(name) => Counted::new(Either::Right(LazyFile::new(rt, name))),
+    }
+}
+
+/// The schema of a file that was read before, for a sentence. None if it can't be read twice, as a pipe can't.
+pub fn schema_again<R: Files + AllocGlobal>(rt: &R, name: &str) -> Option<Schema> {
+    match fs::metadata(rt, name) {
+        Ok(found) if found.is_file() => file_schema(rt.alloc(), &mut reader_of(rt, name)).ok(),
+        _ => None,
     }
 }
 

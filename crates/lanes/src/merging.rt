@@ -1,11 +1,10 @@
 //! The merge of files.
 
 use crate::failure::Failure;
-use crate::inputs::{LazyFile, reader_of};
+use crate::inputs::{LazyFile, reader_of, schema_again};
 use crate::output::Output;
 use crate::reports::write_line;
 use refusal_sentences::CommandRefusal;
-use replica_files::file_schema;
 use std::fs::{self, File, Files};
 use std::io::{BufWriter, Write};
 use std::os::unix::fs::MetadataExt;
@@ -117,10 +116,10 @@ fn of_other_table<R: Files + AllocGlobal>(rt: &R, names: &[&str], begun: usize) 
     let (Some(first), Some(last)) = (names.first(), names.get(begun.saturating_sub(1))) else {
         return Failure::from(refusal);
     };
-    let wanted = file_schema(rt.alloc(), &mut reader_of(rt, *first));
-    let found = file_schema(rt.alloc(), &mut reader_of(rt, *last));
-    match (found, wanted) {
-        (Ok(found), Ok(wanted)) => Failure::of_tables(rt.alloc(), *last, &found, *first, &wanted),
+    match (schema_again(rt, *last), schema_again(rt, *first)) {
+        (Some(found), Some(wanted)) => {
+            Failure::of_tables(rt.alloc(), *last, &found, *first, &wanted)
+        }
         _ => Failure::of_file(rt, CommandRefusal::from(refusal), *last),
     }
 }

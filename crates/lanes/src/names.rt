@@ -14,7 +14,7 @@ pub fn fault_of_names(
     if let Some(fault) = fault_of_name(alloc, table)? {
         return Ok(Some(fault));
     }
-    for (index, (name, _)) in columns.iter().enumerate() {
+    for (index, &(name, _)) in columns.iter().enumerate() {
         if let Some(fault) = fault_of_name(alloc, name)? {
             return Ok(Some(fault));
         }
@@ -35,7 +35,7 @@ pub fn fault_of_names(
 
 /// Whether a name is one of those of columns, in either case.
 fn is_among(name: &str, columns: &[(&str, ColType)]) -> bool {
-    for (other, _) in columns {
+    for &(other, _) in columns {
         if same_word(name.as_bytes(), other.as_bytes()) {
             return true;
         }

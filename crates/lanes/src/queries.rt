@@ -1,7 +1,7 @@
 //! Queries over a file: those of the command line, and those of lines of standard input.
 
 use crate::failure::{Failure, INPUT, is_of_a_text};
-use crate::inputs::reader_of;
+use crate::inputs::{reader_of, schema_again};
 use crate::query_lines::{Found, QueryLines};
 use crate::reports::{buffered, flushed, refused};
 use crate::watched::{Cause, Watched};
@@ -9,7 +9,6 @@ use command_line::Format;
 use lanes_main::query_file;
 use query_parser::{parse, resolve};
 use refusal_sentences::{CommandRefusal, Knowledge, Sentence, Text};
-use replica_files::file_schema;
 use replica_store::Store;
 use std::alloc::Global;
 use std::fmt;
@@ -52,37 +51,35 @@ fn answer_plainly<R: Print + Files + AllocGlobal>(
     }
 }
 
-/// A refusal of one of the queries over a file: the first that is refused so. The file is read again for its table.
+/// A refusal of one of the queries over a file: the first that is refused so. For its table the file is read again, if it can be.
 fn refused_among<R: Files + AllocGlobal>(
     rt: &R,
     file: &str,
     queries: &[&str],
     refusal: Refusal,
 ) -> Failure {
-    let Ok(schema) = file_schema(rt.alloc(), &mut reader_of(rt, file)) else {
-        return Failure::from(refusal);
-    };
+    let schema = schema_again(rt, file);
+    let cause = Cause::from(refusal);
     for (index, query) in queries.iter().enumerate() {
-        if judged(rt.alloc(), query, &schema) == Err(refusal) {
-            return refused_query(
-                rt,
-                query,
-                place_among(index, queries.len()),
-                &schema,
-                Cause::from(refusal),
-            );
+        let place = place_among(index, queries.len());
+        if place == Place::Alone || judged(rt.alloc(), *query, &schema) == Err(refusal) {
+            return refused_query(rt, *query, place, schema.as_ref(), cause);
         }
     }
     Failure::from(refusal)
 }
 
-/// What a query is refused as before anything is computed.
-fn judged(alloc: Global, query: &str, schema: &Schema) -> Result<(), Refusal> {
-    resolve(&parse(alloc, query)?, schema)
+/// What a query is refused as before anything is computed, as far as the table is known.
+fn judged(alloc: Global, query: &str, schema: &Option<Schema>) -> Result<(), Refusal> {
+    let query = parse(alloc, query)?;
+    match schema {
+        Some(schema) => resolve(&query, schema),
+        None => Ok(()),
+    }
 }
 
 /// Where a query is among those of a command.
-#[derive(Clone, Copy)]
+#[derive(Clone, Copy, PartialEq, Eq)]
 enum Place {
     /// It is the only one.
     Alone,
@@ -123,7 +120,7 @@ fn answer_in_form<R: Print + Files + AllocGlobal>(
     for (index, query) in queries.iter().enumerate() {
         if let Err(cause) = answered(rt, &store, *query, format) {
             let place = place_among(index, queries.len());
-            return Err(refused_query(rt, *query, place, store.schema(), cause));
+            return Err(refused_query(rt, *query, place, Some(store.schema()), cause));
         }
     }
     Ok(())
@@ -206,7 +203,7 @@ fn answer_line<R: Print + AllocGlobal>(
             rt,
             query,
             Place::Line(number),
-            store.schema(),
+            Some(store.schema()),
             cause,
         ))),
     }
@@ -261,7 +258,7 @@ fn refused_query<R: AllocGlobal>(
     rt: &R,
     query: &str,
     place: Place,
-    schema: &Schema,
+    schema: Option<&Schema>,
     cause: Cause,
 ) -> Failure {
     if cause.refusal == Refusal::WriteFault {
@@ -271,7 +268,7 @@ fn refused_query<R: AllocGlobal>(
     let text = Text {
         text: query,
         is_condition: false,
-        schema: Some(schema),
+        schema,
     };
     let subject = match place.to_string(rt.alloc()) {
         Ok(subject) => subject,

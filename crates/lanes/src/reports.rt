@@ -118,7 +118,10 @@ pub fn flushed<W: Write + Drop>(
 ) -> Result<(), Cause> {
     let mut buffer = writer.into_inner();
     let outcome = match outcome {
-        Ok(()) => buffer.flush().or(Err(Refusal::WriteFault)),
+        Ok(()) => match buffer.flush() {
+            Ok(()) => Ok(()),
+            Err(_) => Err(Refusal::WriteFault),
+        },
         Err(refusal) => Err(refusal),
     };
     let (watched, _) = buffer.into_parts();

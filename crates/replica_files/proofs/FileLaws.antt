@@ -1,5 +1,5 @@
 -- Each command adds to what its file holds, since what it makes is the state of more operations; and a state has one file.
-use Rattle.std.specs.Prelude.{◌≡◌, ℕ, Bool, true, false, cond, ◌==◌, nat_le, List, [], ◌∷◌, ◌++◌, length, Option, Some, None, Result, Ok, Err}
+use Rattle.std.specs.Prelude.{◌≡◌, ℕ, ◌-◌, Bool, true, false, cond, ◌==◌, nat_le, List, [], ◌∷◌, ◌++◌, length, Option, Some, None, Result, Ok, Err}
 use Rattle.std.proofs.Common.{refl, sym, ap, subst, ◌∙◌, append_assoc}
 use Rattle.std.specs.FinMap as map
 use Rattle.std.specs.FinSet as set
@@ -82,9 +82,9 @@ applied-adds table ops r new (offer ∷ offers) done schema state agree e =
 apply_holds : (offers : List OfferForm) → AddsTo (applying offers) (λ table ops. operations_in offers)
 apply_holds offers input table ops old new answer h is made read =
     let same = held_is input table ops old h is in
-    let told : Unit {0} × Replica → (ℕ × ℕ) × Replica = λ done. ((map.len done.1.state.batches, length (ranges_of done.1.state.deleted)), done.1) in
-    let parts = bound_parts (applied_all old offers) (λ (done : Unit {0} × Replica). let made : Made (ℕ × ℕ) = Ok (told done) in made) (answer, new) made in
-    let last : parts.0.1 ≡ new = ap (λ (p : (ℕ × ℕ) × Replica). p.1) (ok_one (told parts.0) (answer, new) parts.2) in
+    let told : Unit {0} × Replica → (ℕ × ℕ × ℕ) × Replica = λ done. ((map.len done.1.state.batches, length (ranges_of done.1.state.deleted), map.len done.1.state.batches - map.len old.state.batches), done.1) in
+    let parts = bound_parts (applied_all old offers) (λ (done : Unit {0} × Replica). let made : Made (ℕ × ℕ × ℕ) = Ok (told done) in made) (answer, new) made in
+    let last : parts.0.1 ≡ new = ap (λ (p : (ℕ × ℕ × ℕ) × Replica). p.1) (ok_one (told parts.0) (answer, new) parts.2) in
     let adds : Adds table ops (operations_in offers) parts.0.1 = applied-adds table ops old parts.0.1 offers parts.0.0 (ap (λ (r : Replica). r.schema) same) (ap (λ (r : Replica). r.state) same) h.agree parts.1 in
     held_then table ops (operations_in offers) new (subst (λ (r : Replica). Adds table ops (operations_in offers) r) last adds) read
 

@@ -204,7 +204,7 @@ pub applied_whole : (start now : Replica) (all : List OfferForm) (is : Bool) →
 applied_whole start now all is so = (so.rest, so.same)
 
 -- what is told of a replica that was another one before
-told_of : Replica → Replica → Made (ℕ × ℕ × ℕ)
+abbrev told_of : Replica → Replica → Made (ℕ × ℕ × ℕ)
 told_of old new = Ok ((map.len new.state.batches, length (ranges_of new.state.deleted), map.len new.state.batches - map.len old.state.batches), new)
 
 -- what is told once they were
