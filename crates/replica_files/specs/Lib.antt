@@ -3,4 +3,5 @@ pub mod Commands
 pub mod CsvLoads
 pub mod Dumps
 pub mod FileLaws
+pub mod Forgetting
 pub mod Loads
