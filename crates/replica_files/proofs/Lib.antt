@@ -6,6 +6,7 @@ pub mod DumpLines
 pub mod FileLaws
 pub mod FileMerges
 pub mod ForgetCounts
+pub mod ForgetFiles
 pub mod Imports
 pub mod LoadedBatches
 pub mod OperationSets

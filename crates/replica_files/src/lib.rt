@@ -28,7 +28,7 @@ pub use exchange::{offer, summary};
 pub use forgetting::{Forgotten, forget};
 pub use importing::{Imported, import};
 pub use inspecting::inspect;
-pub use laws::{drawn_names_are_free, file_laws};
+pub use laws::{drawn_names_are_free, file_laws, forget_file_laws};
 pub use load::Load;
 pub use making::{create, file_schema};
 pub use merging::merge;
