@@ -90,6 +90,11 @@ pub enum Request<'a> {
         /// The last row's ordinal.
         last: u16,
     },
+    /// `lanes forget FILE`: the batches of which every row is deleted, dropped.
+    Forget {
+        /// The file's name.
+        file: &'a str,
+    },
     /// `lanes query [--format FORMAT] FILE SQL..`: the answers of queries over a file, one after another.
     Query {
         /// The file's name.

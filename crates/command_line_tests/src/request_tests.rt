@@ -24,7 +24,7 @@ fn asked(alloc: Global, words: &[&str]) -> Result<String, AllocError> {
     }
 }
 
-const REQUESTS: [(&[&str], &str); 30] = [
+const REQUESTS: [(&[&str], &str); 31] = [
     (&["run"], "Run { source: Input, is_explained: false }"),
     (&["run", "-"], "Run { source: Input, is_explained: false }"),
     (
@@ -95,6 +95,7 @@ const REQUESTS: [(&[&str], &str); 30] = [
         "DeleteRows { file: \"f\", first: RowName { batch: BatchName { origin: Origin(1), number: Number(2) }, ordinal: 0 }, last: 65535 }",
     ),
     (&["delete-rows", "f", "1.2", "0", "65536"], "fault"),
+    (&["forget", "f"], "Forget { file: \"f\" }"),
     (
         &["dump", "--names", "f"],
         "Dump { file: \"f\", has_names: true }",
@@ -121,7 +122,9 @@ fn no_word_of_a_command_line_is_dropped_or_taken_for_another(rt: HostRuntime) ->
 }
 
 /// Command lines that lack a word, have one too many, or one that is malformed.
-const FAULTS: [&[&str]; 24] = [
+const FAULTS: [&[&str]; 26] = [
+    &["forget"],
+    &["forget", "f", "f"],
     &["apply", "f", "-", "-"],
     &["apply", "f"],
     &["offer", "f"],

@@ -75,6 +75,15 @@ pub fn delete_rows<R: Print + Files<File = File> + Clock + AllocGlobal>(
     change(rt, file, Change::DeleteRows { first, last })
 }
 
+/// Drops the batches of which every row is deleted.
+pub fn forget<R: Print + Files<File = File> + Clock + AllocGlobal>(
+    rt: &R,
+    file: &str,
+) -> Result<(), Failure> {
+    let _schema = schema_of(rt, file)?;
+    change(rt, file, Change::Forget)
+}
+
 /// Applies offers, all or none.
 pub fn apply<R: Print + Input + Files<File = File> + Clock + AllocGlobal>(
     rt: &R,

@@ -70,6 +70,7 @@ fn run<
         } => changing::import(rt, file, csv, first, has_header)?,
         Request::Delete { file, condition } => changing::delete(rt, file, condition)?,
         Request::DeleteRows { file, first, last } => changing::delete_rows(rt, file, first, last)?,
+        Request::Forget { file } => changing::forget(rt, file)?,
         Request::Apply { file, offers } => changing::apply(rt, file, offers.as_slice())?,
         Request::Dump { file, has_names } => reports::dump(rt, file, has_names)?,
         Request::Inspect { file } => reports::inspect(rt, file)?,
