@@ -1,6 +1,6 @@
 -- How many batches and rows a forget drops is how many there were before but aren't after; where it drops none nothing changes.
-use Rattle.std.specs.Prelude.{◌≡◌, ◌⊎◌, ℕ, zero, suc, slice_get, ◌+◌, ◌-◌, ◌≤◌, Option, Some, None, Bool, true, false, cond, not, ◌==◌, T, List, [], ◌∷◌, filter, length, map as each, Result, Ok, Err, IsOk, IsTrue}
-use Rattle.std.proofs.Common.{refl, sym, ap, ◌∙◌, inl, inr, arith, drop}
+use Rattle.std.specs.Prelude.{◌≡◌, ◌⊎◌, ℕ, zero, suc, slice_get, ◌+◌, ◌-◌, ◌≤◌, Some, Bool, true, false, cond, not, ◌==◌, List, [], ◌∷◌, filter, length, Ok, Err, IsOk, IsTrue}
+use Rattle.std.proofs.Common.{refl, sym, ap, ◌∙◌, inr, arith, drop}
 use Rattle.std.proofs.lemmas.Bool.Decides.{nat_tests}
 use Rattle.std.proofs.lemmas.List.{drop_all}
 use Rattle.std.specs.FinMap as map

@@ -1,10 +1,10 @@
 -- What commands leave of a file in which batches were forgotten is what is left of the state of all that it took.
-use Rattle.std.specs.Prelude.{◌≡◌, ◌⊎◌, ℕ, List, [], ◌∷◌, ◌++◌, length, filter, Option, Some, None, Result, Ok, Err, IsTrue, is_some}
+use Rattle.std.specs.Prelude.{◌≡◌, ℕ, List, [], ◌∷◌, ◌++◌, length, Option, Some, None, Result, Ok, Err, IsTrue, is_some}
 use Rattle.std.proofs.Common.{refl, sym, ap, subst, ◌∙◌, inl, inr, append_assoc}
 use Rattle.std.specs.FinMap as map
 use Rattle.std.specs.FinSet as set
-use Rattle.table_model.specs.Name.{name_cmp, row_name_cmp}
-use Rattle.table_model.specs.Operation.{Operation, Insert, Delete, Among, AreAgreeing, SameOperations, inserts_of, deletes_of, state_of, operations_of}
+use Rattle.table_model.specs.Name.{row_name_cmp}
+use Rattle.table_model.specs.Operation.{Operation, Insert, Among, AreAgreeing, inserts_of, state_of, operations_of}
 use Rattle.table_model.specs.Query.{QueryShape}
 use Rattle.table_model.specs.Reading.{◌>>=◌}
 use Rattle.table_model.specs.State.{State, Batch, Agree, join}
@@ -19,8 +19,7 @@ use Rattle.forgotten_batches.specs.ForgetHistory.{TookListed}
 use Rattle.forgotten_batches.proofs.Rests.{forgets_all, rows_at, dead_first}
 use Rattle.query_parser.specs.Descent.{query_of, condition_of}
 use Rattle.query_parser.specs.Resolve.{resolved, resolved_condition}
-use Rattle.replica_store.specs.Exchange.{SummaryForm, OfferForm, offering, applied, summary_of}
-use Rattle.replica_store.specs.ExchangeLaws.{IsOffer}
+use Rattle.replica_store.specs.Exchange.{OfferForm, offering, applied, summary_of}
 use Rattle.replica_store.specs.Replica.{Replica, with_deleted, delete_fault, deleted_rows, rows_between, merged}
 use Rattle.replica_store.proofs.ForgetAnswers.{forget_store_laws_hold}
 use Rattle.replica_store.proofs.Limits.{ok_unless}
@@ -28,7 +27,7 @@ use Rattle.replica_store.proofs.MergeAnswers.{is_merge, made_of}
 use Rattle.replica_store.proofs.Names.{contains-names_of}
 use Rattle.store_view.specs.Asked.{query_answer, answer_where, unless_refused, condition_names}
 use Rattle.column_file.specs.Files.{canonical_file, ranges_of}
-use Rattle.replica_files.specs.Commands.{held_in, file_of, as_held, Made, deleting, applied_all, applying, merged_with, merged_files}
+use Rattle.replica_files.specs.Commands.{held_in, file_of, as_held, Made, deleting, applied_all, applying, merged_with}
 use Rattle.replica_files.specs.FileLaws.{replica_of, Holds, inserts, deletes, deletes_found, deletes_where, operations_in, all_of}
 use Rattle.replica_files.specs.Forgetting.{forgetting}
 use Rattle.replica_files.specs.ForgetFileLaws.{StandsFor, AddsToStanding, EachStandsFor, MergesStand, PullsStand, MeansWhole, AnswersAlike, SameForgottenFiles, ForgetFileLaws}

@@ -1,6 +1,5 @@
 -- What was there before and isn't after is what is told.
-use Rattle.std.proofs.Common.{◌≡◌, ◌∙◌, ◌-◌, ◌==◌, not}
-use Rattle.std.specs.FinMap as map
+use Rattle.std.proofs.Common.{◌∙◌, ◌-◌, ◌==◌, not}
 use Rattle.std.proofs.lemmas.Result.{err_from_is_err_and}
 use Rattle.replica_files.specs.declared.forgetting.Forgotten.{Forgotten}
 use Rattle.replica_files.proofs.ForgetCounts.{forget_ok, forget_refused, forget_uncounted}

@@ -1,5 +1,5 @@
 -- The rows of one batch more are counted; at the end none is left.
-use Rattle.std.proofs.Common.{◌≡◌, ◌∙◌, ◌≤◌, length, arith, ap, sym}
+use Rattle.std.proofs.Common.{◌≤◌, length, arith}
 use Rattle.std.specs.FinMap as map
 use Rattle.replica_store.specs.Replica.{entries_of}
 use Rattle.replica_files.proofs.ForgetCounts.{rows_next, rows_end}
