@@ -1,5 +1,5 @@
 #!/usr/bin/env python3
-"""Lists the definitions on which the main theorem's statement rests, and counts their lines: what a reader has to believe.
+"""Lists the definitions on which the statements of both theorems rest, and counts their lines: what a reader has to believe.
 
 It begins at the files that state the theorem and follows the imports of definitions, file by file. It writes that part of
 docs/THEOREM.md anew; with --check it only tells whether the page is fresh, by its status.
@@ -8,8 +8,8 @@ import pathlib, re, sys
 
 TOP = pathlib.Path(__file__).resolve().parent.parent
 CRATES = TOP / "crates"
-# Where the theorem is stated: of histories, of scripts, of merges, and of files of the first version.
-STATED = ["cluster_history/History", "lanes_main/ScriptRun", "replica_store/MergeLaws", "table_model/JoinLaws", "column_file/FirstVersion"]
+# Where the theorems are stated: of histories, of scripts, of merges, of files of the first version, and of files that forget.
+STATED = ["cluster_history/History", "lanes_main/ScriptRun", "replica_store/MergeLaws", "table_model/JoinLaws", "column_file/FirstVersion", "replica_files/ForgetFileLaws"]
 IMPORT = re.compile(r"^use Rattle\.(\w+)\.specs\.([\w.]+?)(?:\.\{| as |\.?$)", re.M)
 BEGIN, END = "<!-- written by docs/believed.py -->", "<!-- until here -->"
 
