@@ -36,6 +36,7 @@ def a_change_that_changes_nothing_leaves_the_file_and_no_lock(room):
     room.ok("delete-rows", "t", "5.5", "1", "2", prints=b"ok\n")
     changed = os.stat(room.path("t"))
     room.ok("delete-rows", "t", "5.5", "1", "2", prints=b"ok\n")
+    room.ok("forget", "t", prints=b"ok batches=0 rows=0\n")
     after = os.stat(room.path("t"))
     assert before.st_ino != changed.st_ino and changed.st_ino == after.st_ino and changed.st_mtime_ns == after.st_mtime_ns
     room.only("t")
@@ -127,6 +128,7 @@ def a_folder_without_the_right_to_write_is_a_failed_write(room):
         room.refused("import", "--no-header", "t", "-", given=b"3\n", line="refused WriteFault", **how)
         room.refused("import", "--no-header", "--batch", "0.1", "t", "-", given=b"3\n", line="refused BadName", **how)
         room.refused("delete", "t", "A = 7", line="refused WriteFault", **how)
+        room.refused("forget", "t", line="refused WriteFault", **how)
         room.refused("delete", "t", "A", line="refused Syntax 1", **how)
     finally:
         os.chmod(room.folder, 0o755)

@@ -86,7 +86,9 @@ def a_file_that_another_holds_is_busy_after_ten_seconds(room):
     with open(room.path(LOCK), "wb") as lock:
         fcntl.flock(lock, fcntl.LOCK_EX)
         started = time.monotonic()
+        forgetting = room.start("forget", "t")
         room.refused("import", "--no-header", "t", "-", given=b"3,40\n", line="refused Busy", sentence="t: another command has had the file for ten seconds")
+        assert forgetting.communicate(timeout=60)[1].startswith(b"refused Busy\n")
         assert 9 < time.monotonic() - started < 20
         room.refused("import", "--no-header", "t", "-", given=b"x,40\n", line="refused BadCsv 1 1")
         room.ok("query", "t", "SELECT COUNT(*) FROM T", prints=b"COUNT(*)\n3\n")
@@ -144,6 +146,34 @@ def a_killed_import_leaves_the_file_whole(room):
     room.only("rows", "t")
 
 
+def a_killed_forget_leaves_the_file_whole(room):
+    room.put("rows", rows_text(600_000))
+    room.make()
+    room.ok("import", "--no-header", "--batch", "2.1", "t", "rows")
+    for number in range(2, 10):
+        room.ok("delete-rows", "t", f"2.{number}", "0", "65535", prints=b"ok\n")
+    held = room.get("t")
+    started = time.monotonic()
+    room.ok("forget", "t", prints=f"ok batches=8 rows={8 * 65_536}\n".encode())
+    whole = time.monotonic() - started
+    replaced = room.get("t")
+    assert len(replaced) < len(held)
+    pick, killed = random.Random(3), 0
+    for _ in range(KILLS // 2):
+        room.put("t", held)
+        with room.start("forget", "t") as forgetting:
+            time.sleep(whole * pick.uniform(0.3, 1.02))
+            forgetting.send_signal(signal.SIGKILL)
+            forgetting.communicate(timeout=60)
+            killed += forgetting.returncode == -signal.SIGKILL
+        assert room.get("t") in (held, replaced), "the file is neither the old one nor the new one"
+        # The next forget goes on, and leaves no lock.
+        room.ok("forget", "t")
+        assert room.get("t") == replaced
+        room.only("rows", "t")
+    assert killed > KILLS // 8, f"only {killed} of {KILLS // 2} were killed in time"
+
+
 def a_killed_merge_leaves_the_file_whole(room):
     room.make("u", rows=rows_text(600_000))
     held = room.make()
@@ -172,5 +202,6 @@ TESTS = [
     a_lock_that_is_a_link_is_never_followed,
     a_file_that_changes_its_table_meanwhile_is_refused,
     a_killed_import_leaves_the_file_whole,
+    a_killed_forget_leaves_the_file_whole,
     a_killed_merge_leaves_the_file_whole,
 ]

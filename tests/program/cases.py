@@ -10,14 +10,16 @@ FIRST = b"table 2 T A SMALLINT\nappend 1 (7)\nmerge 2 1\nquery 2 SELECT COUNT(*)
 FIRST_REPLIES = b"ok\nok 1.1\nok\nok 1\nCOUNT(*)\n1\n"
 
 
-def batch(origin, number, value):
-    """A batch of one row of one SMALLINT column: FOR at width 0, so that its bytes are the name, the row count and the value."""
-    return origin.to_bytes(4, "little") + number.to_bytes(4, "little") + bytes(2) + bytes([0, 0, 0, 0, 0]) + value.to_bytes(2, "little")
+def batch(origin, number, value, rows=1):
+    """A batch of equal rows of one SMALLINT column: FOR at width 0, so that its bytes are the name, the row count less one and the value."""
+    return origin.to_bytes(4, "little") + number.to_bytes(4, "little") + (rows - 1).to_bytes(2, "little") + bytes(5) + value.to_bytes(2, "little")
 
 
-def file_of(table, *batches):
-    """The canonical file of a table with the one column A SMALLINT, without deletions."""
-    return b"FLCF" + bytes([1, 0, 1, 0, 1]) + table + bytes([2, 1]) + b"A" + len(batches).to_bytes(4, "little") + b"".join(batches) + bytes(8)
+def file_of(table, *batches, ranges=()):
+    """The canonical file of a table with the one column A SMALLINT; a range is an origin, a number and the first and last ordinal."""
+    head = b"FLCF" + bytes([1, 0, 1, 0, 1]) + table + bytes([2, 1]) + b"A" + len(batches).to_bytes(4, "little")
+    deletions = b"".join(part.to_bytes(size, "little") for range in ranges for part, size in zip(range, (4, 4, 2, 2)))
+    return head + b"".join(batches) + len(ranges).to_bytes(8, "little") + deletions
 
 
 # The canonical file of T(A SMALLINT) with the batch 1.1 of one row, 7: 42 bytes; and files like it.
@@ -43,7 +45,11 @@ FOLDER = {"d/kept": b"old"}
 WIDER = ONE_ROW[:29] + b"\x01" + ONE_ROW[30:34] + bytes(128) + ONE_ROW[34:]
 
 # All commands.
-COMMANDS = ["create", "import", "query", "delete", "delete-rows", "dump", "inspect", "summary", "offer", "apply", "check", "merge", "run"]
+COMMANDS = ["create", "import", "query", "delete", "delete-rows", "forget", "dump", "inspect", "summary", "offer", "apply", "check", "merge", "run"]
+
+
+# Batches of one row and of two, and which rows of them are deleted.
+ONE, TWO = batch(1, 1, 7), batch(2, 1, 8, rows=2)
 
 
 @dataclass
@@ -65,6 +71,21 @@ class Case:
     output_to: str = "pipe"
     errors_to: str = "pipe"
 
+
+def forgets(name, ranges, dropped, left):
+    """A forget of a file of both batches with these ranges deleted: what it says, and the batches that stay."""
+    return Case(name, ["forget", "t"], 0, dropped, files={"t": file_of(b"T", ONE, TWO, ranges=ranges)}, writes={"t": file_of(b"T", *left, ranges=ranges), ".t.lanes-lock": None})
+
+
+FORGETS = [
+    forgets("where no row is deleted no batch is dropped", [], b"ok batches=0 rows=0\n", [ONE, TWO]),
+    forgets("a batch of which every row is deleted is dropped, and its deletion stays", [(2, 1, 0, 1)], b"ok batches=1 rows=2\n", [ONE]),
+    forgets("a batch with one live row stays", [(2, 1, 0, 0)], b"ok batches=0 rows=0\n", [ONE, TWO]),
+    forgets("a batch whose first row lives stays", [(2, 1, 1, 65_535)], b"ok batches=0 rows=0\n", [ONE, TWO]),
+    forgets("a batch is dropped where rows past its end are deleted too", [(2, 1, 0, 65_535)], b"ok batches=1 rows=2\n", [ONE]),
+    forgets("rows deleted in advance of a batch stay deleted", [(1, 2, 0, 9)], b"ok batches=0 rows=0\n", [ONE, TWO]),
+    forgets("all batches are dropped where every row is deleted", [(1, 1, 0, 0), (2, 1, 0, 1)], b"ok batches=2 rows=3\n", []),
+]
 
 CASES = [
     Case("a script from standard input has its replies", ["run"], 0, FIRST_REPLIES, input=FIRST),
@@ -200,6 +221,11 @@ CASES = [
     Case("a range that ends before it starts is refused", ["delete-rows", "t", "2.1", "1", "0"], 1, err=b"refused BadRange 0\nthe range ends before it starts\n", files={"t": BOTH}, writes={"t": BOTH}),
     Case("an ordinal of more than five digits is a fault of the command line", ["delete-rows", "t", "2.1", "0", "000001"], 2, err=[b"FIRST and LAST are numbers of 1 to 5 digits"], files={"t": BOTH}, writes={"t": BOTH}),
     Case("an ordinal that is too great is a fault of the command line", ["delete-rows", "t", "2.1", "1", "65536"], 2, err=[b"FIRST and LAST are numbers"]),
+    *FORGETS,
+    Case("forget wants a file", ["forget"], 2, err=[b"FILE"]),
+    Case("help of forget says when to forget", ["forget", "--help"], 0, [b"Usage: lanes forget <FILE>", b"Pull from the other sites first", b"docs/COMMANDS.md"]),
+    Case("a file that isn't there can't forget", ["forget", "t"], 1, err=b"refused ReadFault\nt: no such file or folder\n", writes={"t": None}),
+    Case("a file that is cut short can't forget", ["forget", "t"], 1, err=[b"refused Truncated 41\n"], files={"t": ONE_ROW[:41]}, writes={"t": ONE_ROW[:41], ".t.lanes-lock": None}),
     Case("rows are dumped", ["dump", "t"], 0, b"A\n7\n7\n", files={"t": BOTH}),
     Case("rows are dumped with their names", ["dump", "--names", "t"], 0, b"BATCH,ORDINAL,A\n1.1,0,7\n2.1,0,7\n", files={"t": BOTH}),
     Case(

@@ -112,6 +112,10 @@ def lines_of_queries(name, *lengths, refused=None):
 FULL_FILE = file_of(b"T", *(batch(1, number, 7) for number in range(1, BATCHES + 1)))[:-8] + ranges_of(10_000)
 NO_BATCHES = file_of(b"T")
 
+# Each batch but the last is deleted.
+ALL_BATCHES = [batch(1, number, 7) for number in range(1, BATCHES + 1)]
+ALL_RANGES = [(1, number, 0, 0) for number in range(1, BATCHES)]
+
 LIMIT_CASES = [
     full_replica(),
     full_union(),
@@ -127,6 +131,14 @@ LIMIT_CASES = [
     Case("a file of 1,048,576 batches and 10,000 ranges is checked", ["check", "t"], 0, b"ok batches=1048576 ranges=10000\n", files={"t": FULL_FILE}),
     Case("it is merged with itself to the same bytes", ["merge", "out", "t", "t"], 0, b"ok\n", files={"t": FULL_FILE}, writes={"out": FULL_FILE}),
     Case("it is queried", ["query", "t", "SELECT COUNT(*),SUM(A) FROM T"], 0, f"COUNT(*),SUM(A)\n{BATCHES},{7 * BATCHES}\n".encode(), files={"t": FULL_FILE}),
+    Case(
+        "a million batches are forgotten in one command",
+        ["forget", "t"],
+        0,
+        f"ok batches={BATCHES - 1} rows={BATCHES - 1}\n".encode(),
+        files={"t": file_of(b"T", *ALL_BATCHES, ranges=ALL_RANGES)},
+        writes={"t": file_of(b"T", ALL_BATCHES[-1], ranges=ALL_RANGES)},
+    ),
     Case("one batch more is refused in a full file", ["merge", "out", "t", "u"], 1, err=b"refused Full\nu: there is no room: a replica holds at most 1,048,576 batches, a script 65,536 messages\n", files={"t": FULL_FILE, "u": SECOND_BATCH}, writes={"out": None}),
     Case("a file that claims a batch too many is refused", ["check", "t"], 1, err=b"refused BadCount 13\nt, byte 13: the count is out of range\n", files={"t": NO_BATCHES[:13] + (BATCHES + 1).to_bytes(4, "little") + NO_BATCHES[17:]}),
     Case("a file that claims batches that aren't there is cut short", ["check", "t"], 1, err=b"refused Truncated 17\nt, byte 17: the bytes end too early\n", files={"t": NO_BATCHES[:13] + BATCHES.to_bytes(4, "little")}),

@@ -27,7 +27,7 @@ class Site(Maker):
     def tell(self):
         """The first command that the program answers otherwise, or None."""
         words = [word for name, kind in self.schema.columns for word in (name.lower(), kind.lower())]
-        steps = [self.load] * 5 + [self.load_again, self.delete, self.delete, self.delete_rows] + [self.read_out] * 2 + [self.ask] * 5
+        steps = [self.load] * 5 + [self.load_again, self.delete, self.delete, self.delete_rows, self.delete_rows, self.forget] + [self.read_out] * 2 + [self.ask] * 5
         if self.said("create", "t", "t", *words) != (0, b"ok\n", b""):
             return "create"
         for step in self.pick.choices(steps, k=STEPS):
@@ -142,6 +142,10 @@ class Site(Maker):
         else:
             self.state.deleted.update((origin, number, at) for at in range(first, last + 1))
         return self.compared(["delete-rows", "t", f"{origin}.{number}", str(first), str(last)], wanted)
+
+    def forget(self):
+        batches, rows = self.state.forget()
+        return self.compared(["forget", "t"], f"ok batches={batches} rows={rows}\n")
 
     # ---- what is read out
     def read_out(self):

@@ -55,6 +55,11 @@ class State:
     def live_rows(self):
         return [row for _, row in self.live_named()]
 
+    def forget(self):
+        """Drops the batches of which every row is deleted, and says how many there were and how many rows they had."""
+        dead = [name for name, rows in self.batches.items() if all((*name, at) in self.deleted for at in range(len(rows)))]
+        return len(dead), sum(len(self.batches.pop(name)) for name in dead)
+
 
 def number(size, value):
     return value.to_bytes(size, "little")

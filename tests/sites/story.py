@@ -25,27 +25,40 @@ CONDITIONS = (
 
 
 class Story:
+    ACTS = ("load", "load", "load_drawn", "load_again", "delete", "delete_rows", "pull", "pull", "merge", "apply_file", "late_offer")
+
     def __init__(self, program, room, number):
         self.program, self.room, self.pick = program, room, random.Random(number)
         self.states = {site: State() for site in SITES}
         # Loads that were made: the first name, the rows, and the text, so that they come again.
         self.loads = []
-        # Messages that were kept: an offer's bytes, and the state that it brings.
+        # Messages that were kept: the site that asked, an offer's bytes, what the site had then, and what the other one had.
         self.kept = []
 
     def tell(self, steps):
+        self.begin()
+        for _ in range(steps):
+            self.step()
+        self.take_all()
+        self.agree()
+
+    def begin(self):
         for site in SITES:
             self.run("create", site, "visits", *(word for column in COLUMNS for word in column), prints=b"ok\n")
-        for _ in range(steps):
-            act = self.pick.choice((self.load, self.load, self.load_drawn, self.load_again, self.delete, self.delete_rows, self.pull, self.pull, self.merge, self.apply_file, self.late_offer))
-            site = self.pick.choice(SITES)
-            act(site)
-            self.compare(site)
+
+    def step(self):
+        """What one site does, which is the answer."""
+        act, site = getattr(self, self.pick.choice(self.ACTS)), self.pick.choice(SITES)
+        act(site)
+        self.compare(site)
+        return site
+
+    def take_all(self):
+        """Each site pulls from each other, until all have the same."""
         for _ in range(2):
             for site in SITES:
                 for other in SITES:
                     self.take(site, other)
-        self.agree()
 
     def run(self, *words, given=b"", prints=None):
         """What a command writes; it has to end well."""
@@ -152,14 +165,19 @@ class Story:
         other = self.pick.choice(SITES)
         if self.pick.random() < 0.3:
             offer = self.run("offer", other, "-", given=self.run("summary", site))
-            self.kept.append((offer, State(dict(self.states[site].batches), set()), State(dict(self.states[other].batches), set(self.states[other].deleted))))
+            self.kept.append((site, offer, State(dict(self.states[site].batches), set()), State(dict(self.states[other].batches), set(self.states[other].deleted))))
         self.take(site, other)
 
+    def kept_for(self, site):
+        """The offers that the site may take: all of them, since no site forgets what its summary listed."""
+        return self.kept
+
     def late_offer(self, site):
-        """An offer that was kept, wherever it was meant for: it brings the batches that its summary lacked, and all deletions."""
-        if not self.kept:
+        """An offer that was kept, maybe for another site: it brings the batches that its summary lacked, and all deletions."""
+        kept = self.kept_for(site)
+        if not kept:
             return
-        offer, asked, served = self.pick.choice(self.kept)
+        _, offer, asked, served = self.pick.choice(kept)
         self.run("apply", site, "-", given=offer)
         brought = {name: rows for name, rows in served.batches.items() if name not in asked.batches}
         self.join(site, State(brought, served.deleted))

@@ -25,6 +25,10 @@ const MERGE_HELP: &str =
 const IMPORT_HELP: &str =
     "Rows become batches of 65,536. Their names are drawn at random, or begin at O.N: a load that arrives twice under one name is\nheld once. Of several CSVs all are imported or none, one after another, under names that count on.";
 
+/// What stands below the help of `lanes forget`.
+const FORGET_HELP: &str =
+    "Pull from the other sites first. Deletions stay, and a batch's name stays used up for ever: docs/COMMANDS.md says when to forget.";
+
 /// A command.
 #[derive(Clone, Copy, Debug, PartialEq, Eq)]
 enum Verb {
@@ -33,6 +37,7 @@ enum Verb {
     Import,
     Delete,
     DeleteRows,
+    Forget,
     Query,
     Dump,
     Inspect,
@@ -44,12 +49,13 @@ enum Verb {
 }
 
 /// All commands, in the order of the help.
-const VERBS: [Verb; 13] = [
+const VERBS: [Verb; 14] = [
     Verb::Create,
     Verb::Import,
     Verb::Query,
     Verb::Delete,
     Verb::DeleteRows,
+    Verb::Forget,
     Verb::Dump,
     Verb::Inspect,
     Verb::Summary,
@@ -123,6 +129,7 @@ impl Verb {
             Verb::Import => "import",
             Verb::Delete => "delete",
             Verb::DeleteRows => "delete-rows",
+            Verb::Forget => "forget",
             Verb::Query => "query",
             Verb::Dump => "dump",
             Verb::Inspect => "inspect",
@@ -155,6 +162,7 @@ impl Verb {
             Verb::Import => import_command(alloc, command),
             Verb::Delete => delete_command(alloc, command),
             Verb::DeleteRows => delete_rows_command(alloc, command),
+            Verb::Forget => forget_command(alloc, command),
             Verb::Query => query_command(alloc, command),
             Verb::Dump => dump_command(alloc, command),
             Verb::Inspect => inspect_command(alloc, command),
@@ -180,6 +188,10 @@ impl Verb {
                 is_quiet: given.get_flag("quiet"),
             }),
             Verb::DeleteRows => self.delete_rows_request(alloc, given),
+            Verb::Forget => Ok(Request::Forget {
+                file: text_of(given, "FILE"),
+                is_quiet: given.get_flag("quiet"),
+            }),
             Verb::Query => self.query_request(alloc, given),
             Verb::Dump => Ok(Request::Dump {
                 file: text_of(given, "FILE"),
@@ -492,6 +504,14 @@ fn delete_rows_command<'a>(alloc: Global, command: Command<'a>) -> Result<Comman
         .arg(word(alloc, "O.N", "The name of the rows' batch"))?
         .arg(word(alloc, "FIRST", "The first row's ordinal, from 0"))?
         .arg(word(alloc, "LAST", "The last row's ordinal"))
+}
+
+fn forget_command<'a>(alloc: Global, command: Command<'a>) -> Result<Command<'a>, AllocError> {
+    command
+        .about("Drops the batches of which every row is deleted; no answer changes")
+        .after_help(FORGET_HELP)
+        .arg(quiet(alloc))?
+        .arg(file(alloc))
 }
 
 fn query_command<'a>(alloc: Global, command: Command<'a>) -> Result<Command<'a>, AllocError> {

@@ -107,6 +107,13 @@ pub enum Request<'a> {
         /// Whether nothing is printed if all is well.
         is_quiet: bool,
     },
+    /// `lanes forget [--quiet] FILE`: the batches of which every row is deleted, dropped.
+    Forget {
+        /// The file's name.
+        file: &'a str,
+        /// Whether nothing is printed if all is well.
+        is_quiet: bool,
+    },
     /// `lanes query [--format FORMAT] FILE SQL..`: the answers of queries over a file, one after another.
     Query {
         /// The file's name.

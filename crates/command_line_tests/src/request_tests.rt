@@ -24,7 +24,7 @@ fn asked(alloc: Global, words: &[&str]) -> Result<String, AllocError> {
     }
 }
 
-const REQUESTS: [(&[&str], &str); 44] = [
+const REQUESTS: [(&[&str], &str); 45] = [
     (&["run"], "Run { source: Input, is_explained: false }"),
     (&["run", "-"], "Run { source: Input, is_explained: false }"),
     (
@@ -126,6 +126,10 @@ const REQUESTS: [(&[&str], &str); 44] = [
     (&["delete-rows", "f", "1.2", "0", "65536"], "fault"),
     (&["delete-rows", "f", "1.2", "0", "000001"], "fault"),
     (
+        &["forget", "f"],
+        "Forget { file: \"f\", is_quiet: false }",
+    ),
+    (
         &["dump", "--names", "f"],
         "Dump { file: \"f\", has_names: true }",
     ),
@@ -159,7 +163,9 @@ fn no_word_of_a_command_line_is_dropped_or_taken_for_another(rt: HostRuntime) ->
 }
 
 /// Command lines that lack a word, have one too many, or one that is malformed.
-const FAULTS: [&[&str]; 23] = [
+const FAULTS: [&[&str]; 25] = [
+    &["forget"],
+    &["forget", "f", "f"],
     &["apply", "f", "-", "-"],
     &["apply", "f"],
     &["offer", "f"],

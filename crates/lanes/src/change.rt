@@ -1,7 +1,8 @@
 //! What a command changes in a file, and what it says of that.
 
 use replica_files::{
-    Applied, Deleted, DeletedRows, Imported, Load, apply, create, delete, delete_rows, import,
+    Applied, Deleted, DeletedRows, Forgotten, Imported, Load, apply, create, delete, delete_rows,
+    forget, import,
 };
 use replica_store::Offer;
 use std::alloc::Global;
@@ -32,6 +33,8 @@ pub enum Change<'a> {
         first: RowName,
         last: u16,
     },
+    /// It drops the batches of which every row is deleted.
+    Forget,
     /// It applies offers.
     Apply {
         offers: &'a [Offer],
@@ -60,6 +63,7 @@ impl<'a> Change<'a> {
             Change::DeleteRows { first, last } => {
                 Ok(Done::DeletedRows(delete_rows(alloc, reader, first, last, writer)?))
             }
+            Change::Forget => Ok(Done::Forgotten(forget(alloc, reader, writer)?)),
             Change::Apply { offers } => Ok(Done::Applied(apply(alloc, reader, offers, writer)?)),
         }
     }
@@ -77,6 +81,7 @@ pub enum Done {
     Imported(Imported),
     Deleted(Deleted),
     DeletedRows(DeletedRows),
+    Forgotten(Forgotten),
     Applied(Applied),
 }
 
@@ -88,6 +93,7 @@ impl Done {
             Done::Imported(imported) => imported.new > 0,
             Done::Deleted(deleted) => deleted.rows > 0,
             Done::DeletedRows(deleted) => deleted.is_changed,
+            Done::Forgotten(forgotten) => forgotten.batches > 0,
             Done::Applied(applied) => applied.is_changed,
         }
     }
@@ -102,6 +108,11 @@ impl fmt::Display for Done {
             Done::Deleted(deleted) => {
                 let rows = deleted.rows;
                 write!(f, "ok {rows}")
+            }
+            Done::Forgotten(forgotten) => {
+                let batches = forgotten.batches;
+                let rows = forgotten.rows;
+                write!(f, "ok batches={batches} rows={rows}")
             }
             Done::Applied(applied) => {
                 let batches = applied.batches;

@@ -119,6 +119,16 @@ pub fn delete_rows<R: Print + Files<File = File> + Clock + AllocGlobal>(
     )
 }
 
+/// Drops the batches of which every row is deleted.
+pub fn forget<R: Print + Files<File = File> + Clock + AllocGlobal>(
+    rt: &R,
+    file: &str,
+    is_quiet: bool,
+) -> Result<(), Failure> {
+    let _schema = schema_of(rt, file)?;
+    change(rt, file, Change::Forget, About::Nothing, is_quiet)
+}
+
 /// Applies offers, all or none.
 pub fn apply<R: Print + Input + Files<File = File> + Clock + AllocGlobal>(
     rt: &R,

@@ -88,6 +88,7 @@ fn run<
             offers,
             is_quiet,
         } => changing::apply(rt, file, offers.as_slice(), is_quiet)?,
+        Request::Forget { file, is_quiet } => changing::forget(rt, file, is_quiet)?,
         Request::Dump { file, has_names } => reports::dump(rt, file, has_names)?,
         Request::Inspect {
             file,

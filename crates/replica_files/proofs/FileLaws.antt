@@ -25,11 +25,11 @@ use Rattle.replica_files.specs.declared.importing.Imported.{Imported}
 use Rattle.replica_files.specs.FileLaws.{replica_of, Holds, AddsTo, inserts, deletes, deletes_found, deletes_where, operations_in, EachHolds, all_of, SameFiles, OffersBring, StartsEmpty, MergesHold, FileLaws}
 use Rattle.replica_files.proofs.OperationSets.{Adds, merge-adds, delete-adds, state_of-inserts, named_agree}
 
-ok_one : {X : Type 0} (x y : X) → ◌≡◌ {A = Result X Refusal} (Ok x) (Ok y) → x ≡ y
+pub ok_one : {X : Type 0} (x y : X) → ◌≡◌ {A = Result X Refusal} (Ok x) (Ok y) → x ≡ y
 ok_one x y e = cc
 
 -- what an answer after an answer is made of
-bound_parts : {X Y : Type 0} (x : Result X Refusal) (next : X → Result Y Refusal) (y : Y) → (x >>= next) ≡ Ok y → (p : X) × (x ≡ Ok p) × (next p ≡ Ok y)
+pub bound_parts : {X Y : Type 0} (x : Result X Refusal) (next : X → Result Y Refusal) (y : Y) → (x >>= next) ≡ Ok y → (p : X) × (x ≡ Ok p) × (next p ≡ Ok y)
 bound_parts (Ok p) next y e = (p, refl, e)
 bound_parts (Err f) next y e = cc
 

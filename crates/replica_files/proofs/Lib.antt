@@ -5,6 +5,8 @@ pub mod DrawnNames
 pub mod DumpLines
 pub mod FileLaws
 pub mod FileMerges
+pub mod ForgetCounts
+pub mod ForgetFiles
 pub mod Imports
 pub mod LoadedBatches
 pub mod OperationSets

@@ -28,7 +28,7 @@ pub record Adds (table : Table) (ops more : List Operation) (new : Replica) : Ty
   pub agree : AreAgreeing (more ++ ops)
 
 -- a batch among operations that agree is what their state has
-get-state_of : (ops : List Operation) (n : BatchName) (b : Batch) → AreAgreeing ops → Among (Insert n b) ops → map.get (state_of ops).batches n ≡ Some b
+pub get-state_of : (ops : List Operation) (n : BatchName) (b : Batch) → AreAgreeing ops → Among (Insert n b) ops → map.get (state_of ops).batches n ≡ Some b
 unfolding state_of
 get-state_of ops n b agree h =
     let found = found-Among ops n b h in
@@ -64,7 +64,7 @@ among-append op (x ∷ ops) more (inl e) = inl (inl e)
 among-append op (x ∷ ops) more (inr h) = elim (among-append op ops more h) as (λ _. Among op (x ∷ ops) ⊎ Among op more) [ inl g ↦ inl (inr g) | inr g ↦ inr g ]
 
 -- both sets together: their state is the join, where they agree with each other
-state_of-append : (ops more : List Operation) → Agree (state_of ops) (state_of more) → join (state_of ops) (state_of more) ≡ state_of (more ++ ops)
+pub state_of-append : (ops more : List Operation) → Agree (state_of ops) (state_of more) → join (state_of ops) (state_of more) ≡ state_of (more ++ ops)
 unfolding state_of
 state_of-append ops more agree = same_states _ _
     (same_maps _ _ (λ q.

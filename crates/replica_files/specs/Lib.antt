@@ -3,4 +3,6 @@ pub mod Commands
 pub mod CsvLoads
 pub mod Dumps
 pub mod FileLaws
+pub mod ForgetFileLaws
+pub mod Forgetting
 pub mod Loads

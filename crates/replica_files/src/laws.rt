@@ -1,5 +1,6 @@
-//! Laws of files and of imports, each the contract of a function that does nothing.
+//! Laws of files, of forgetting and of imports, each the contract of a function that does nothing.
 ghost use Rattle.replica_files.specs.FileLaws.{FileLaws};
+ghost use Rattle.replica_files.specs.ForgetFileLaws.{ForgetFileLaws};
 ghost use Rattle.replica_files.specs.Loads.{DrawnNamesAreFree};
 
 /// What a file holds is a set of operations, and its bytes are the canonical file of the state that these make. A new file holds
@@ -8,6 +9,15 @@ ghost use Rattle.replica_files.specs.Loads.{DrawnNamesAreFree};
 /// by whatever messages it came.
 pub fn file_laws()
     ensures { FileLaws }
+{}
+
+/// What a file stands for is a set of operations, and it is the canonical file of the state that these make without some batches of
+/// which every row is deleted. Import, delete, delete-rows, apply, merge and pulls add to what a file stands for what they add to what a
+/// file holds, where names agree over all of it; a forget adds nothing. So files that took the same inserts and deletes, in any order,
+/// with any repeats, merges, exchanges and forgets, answer each query alike, by its meaning over the rows not deleted; and once each
+/// has forgotten they have the same bytes.
+pub fn forget_file_laws()
+    ensures { ForgetFileLaws }
 {}
 
 /// The names that an import draws from random words are proper and consecutive, and none of them is held or has a deleted row.

@@ -1,6 +1,9 @@
 //! How a store's columns lie in vectors, and how long its file is.
-ghost use Rattle.std.specs.Prelude.{◌<◌, length};
+ghost use Rattle.std.specs.Prelude.{◌≡◌, ◌<◌, length};
+ghost use Rattle.replica_store.specs.Replica.{entries_of};
 ghost use Rattle.replica_store.specs.Segments.{IsStored};
+ghost use Rattle.replica_files.specs.Forgetting.{batches_of};
+ghost use Rattle.replica_files.specs.Loads.{row_count};
 
 use column_file::export;
 use replica_store::Store;
@@ -83,11 +86,13 @@ pub(crate) fn parts_of(store: &Store, column: usize) -> ColumnParts {
 }
 
 /// How many rows a store's batches have, deleted ones among them.
-pub(crate) fn stored_rows(store: &Store) -> u64 {
+pub(crate) fn stored_rows(store: &Store) -> u64
+    ensures { result ≡ row_count (batches_of (entries_of store.now.replica)) }
+{
     let mut rows: u64 = 0;
     for index in 0..store.batches() {
         let (_, segment) = store.batch(index);
-        rows = rows.saturating_add(segment.rows() as u64);
+        rows += segment.rows() as u64;
     }
     rows
 }

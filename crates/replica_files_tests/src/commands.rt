@@ -3,7 +3,7 @@
 use column_file::{read_offer, read_summary};
 use csv_rows::{CsvError, CsvReader};
 use replica_files::{
-    Applied, Load, ReportForm, apply, create, delete, delete_rows, dump, file_schema, import,
+    Applied, Load, ReportForm, apply, create, delete, delete_rows, dump, file_schema, forget, import,
     inspect, merge, offer, read_csv, summary,
 };
 use replica_store::Offer;
@@ -35,15 +35,18 @@ pub enum Command {
     Delete(&'static str),
     /// Deletes rows from one, by its batch's origin and number and its ordinal, up to an ordinal.
     DeleteRows((u32, u32, u16), u16),
+    /// Drops the batches of which every row is deleted.
+    Forget,
 }
 
 /// What a command answered, in numbers: an import the batches, how many are new and the rows; a delete the rows; a delete of rows
-/// whether one was deleted.
+/// whether one was deleted; a forget the batches and their rows.
 #[derive(Clone, Copy, Debug, PartialEq, Eq)]
 pub enum Answer {
     Imported(u32, u32, u64),
     Deleted(u64),
     DeletedRows(bool),
+    Forgotten(u32, u64),
 }
 
 /// A refusal of a fault of a text in the place of its own.
@@ -93,6 +96,10 @@ pub fn done(alloc: Global, file: &[u8], command: Command) -> Result<(Answer, Vec
             let first = row(origin, number, ordinal);
             let made = delete_rows(alloc, &mut reader, first, last, &mut writer)?;
             Answer::DeletedRows(made.is_changed)
+        }
+        Command::Forget => {
+            let made = forget(alloc, &mut reader, &mut writer)?;
+            Answer::Forgotten(made.batches, made.rows)
         }
     };
     Ok((answer, writer.into_inner()))

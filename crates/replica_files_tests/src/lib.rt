@@ -4,6 +4,8 @@
 #[cfg(test)]
 mod commands;
 #[cfg(test)]
+mod forget_tests;
+#[cfg(test)]
 mod format_tests;
 #[cfg(test)]
 mod refused_tests;

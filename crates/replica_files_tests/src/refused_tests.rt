@@ -4,7 +4,8 @@
 use crate::commands::{Command, file_of, loaded, name, row};
 use column_file::read_offer;
 use replica_files::{
-    ReportForm, apply, create, delete, delete_rows, dump, import, inspect, merge, offer, summary,
+    ReportForm, apply, create, delete, delete_rows, dump, forget, import, inspect, merge, offer,
+    summary,
 };
 use replica_store::{Offer, Summary};
 use std::alloc::Global;
@@ -97,6 +98,25 @@ fn a_refused_delete_of_rows_writes_nothing(rt: HostRuntime) -> Result<(), Fail> 
     let mut reader = Counted::new(file.as_slice());
     let mut writer = Counted::new(room.as_mut_slice());
     let outcome = delete_rows(rt.alloc(), &mut reader, row(3, 3, 3), 4, &mut writer);
+    let failures = (reader.failures(), writer.failures());
+    ends(outcome.map(|_| ()), failures, &room)
+}
+
+#[test]
+fn a_refused_forget_writes_nothing(rt: HostRuntime) -> Result<(), Fail> {
+    let file = file_of(
+        rt.alloc(),
+        &COLUMNS,
+        &[
+            Command::Import((1, 1), "A\n1\n2\n"),
+            Command::Import((1, 2), "A\n3\n"),
+            Command::DeleteRows((1, 1, 0), 1),
+        ],
+    )?;
+    let mut room = [0; ROOM];
+    let mut reader = Counted::new(file.as_slice());
+    let mut writer = Counted::new(room.as_mut_slice());
+    let outcome = forget(rt.alloc(), &mut reader, &mut writer);
     let failures = (reader.failures(), writer.failures());
     ends(outcome.map(|_| ()), failures, &room)
 }

@@ -2,7 +2,8 @@
 use crate::commands::{Command, file_of, loaded, name, row, summarized};
 use column_file::{read_offer, read_summary};
 use replica_files::{
-    ReportForm, apply, create, delete, delete_rows, dump, import, inspect, merge, offer, summary,
+    ReportForm, apply, create, delete, delete_rows, dump, forget, import, inspect, merge, offer,
+    summary,
 };
 use std::alloc::Global;
 use std::test::Fail;
@@ -13,9 +14,11 @@ use test_support::agree_at;
 const COLUMNS: [(&str, ColType); 1] = [("a", ColType::SmallInt)];
 
 /// What the file holds.
-const BEFORE: [Command; 2] = [
+const BEFORE: [Command; 4] = [
     Command::Import((1, 1), "a\n1\n2\n3\n"),
     Command::DeleteRows((1, 1, 0), 0),
+    Command::Import((1, 2), "a\n4\n"),
+    Command::DeleteRows((1, 2, 0), 0),
 ];
 
 /// The calls over a file, each of which writes something.
@@ -24,6 +27,7 @@ enum Call {
     Import,
     Delete,
     DeleteRows,
+    Forget,
     Apply,
     Summary,
     Offer,
@@ -53,6 +57,10 @@ fn called<'a>(
         }
         Call::DeleteRows => {
             delete_rows(alloc, reader, row(1, 1, 0), 1, writer)?;
+            Ok(())
+        }
+        Call::Forget => {
+            forget(alloc, reader, writer)?;
             Ok(())
         }
         Call::Apply => {
@@ -178,6 +186,16 @@ fn a_delete_of_rows_stops_at_each_read(rt: HostRuntime) -> Result<(), Fail> {
 #[test]
 fn a_delete_of_rows_stops_at_each_write(rt: HostRuntime) -> Result<(), Fail> {
     stops_at_writes(rt.alloc(), Call::DeleteRows)
+}
+
+#[test]
+fn a_forget_stops_at_each_read(rt: HostRuntime) -> Result<(), Fail> {
+    stops_at_reads(rt.alloc(), Call::Forget)
+}
+
+#[test]
+fn a_forget_stops_at_each_write(rt: HostRuntime) -> Result<(), Fail> {
+    stops_at_writes(rt.alloc(), Call::Forget)
 }
 
 #[test]

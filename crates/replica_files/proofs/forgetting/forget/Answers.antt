@@ -1,0 +1,50 @@
+-- The file is read, the command acts on its replica, and the file is written anew where that changed.
+use Rattle.std.proofs.Common.{not, ◌==◌, refl}
+use Rattle.std.proofs.lemmas.Result.{err_from_is_err_and}
+use Rattle.table_model.specs.Faults.{GaveMore}
+use Rattle.replica_store.specs.Segments.{StoreForm}
+use Rattle.replica_files.specs.Forgetting.{forgetting}
+use Rattle.replica_files.specs.declared.forgetting.Forgotten.{Forgotten}
+use Rattle.replica_files.proofs.CommandSteps.{opening_changes, reading_counts, command_changes, command_counts, unwritten_changes, written_changes, writing_is, writing_none, writing_counts}
+use Rattle.replica_files.proofs.forgetting.forget.Goals as goal
+
+pub returns-in_err-store-clause-made : goal.returns-in_err-store-clause-made
+returns-in_err-store-clause-made g c =
+    let p = err_from_is_err_and c.from_residual.result c.from_residual.ensures.1 in
+    rw (p.1, p.2) (opening_changes {X = Forgotten} (λ (store : StoreForm). store.replica) (λ (d : Forgotten). (d.batches, d.rows)) (λ (d : Forgotten). not (d.batches == 0)) c.in_err-store.field-0.0 (g.R.Read.remaining c.args.reader.now.0) (g.W.Write.contents c.args.writer.now.0) forgetting c.in_err-store.ensures.read)
+
+pub returns-in_err-store-clause-fault : goal.returns-in_err-store-clause-fault
+returns-in_err-store-clause-fault g c =
+    let p = err_from_is_err_and c.from_residual.result c.from_residual.ensures.1 in
+    rw (p.1, p.2) (reading_counts (GaveMore (g.R.Read.remaining c.args.reader.now.0) (g.R.Read.remaining c.open.new.reader.0)) c.in_err-store.field-0.0 c.args.reader.now.1 c.open.new.reader.1 c.args.writer.now.1 c.in_err-store.ensures.refused c.in_err-store.ensures.fault)
+
+pub returns-in_err-done-clause-made : goal.returns-in_err-done-clause-made
+returns-in_err-done-clause-made g c =
+    let p = err_from_is_err_and c.from_residual-in_err-done.result c.from_residual-in_err-done.ensures.1 in
+    rw (p.1, p.2) (command_changes {X = Forgotten} (λ (store : StoreForm). store.replica) c.in_ok-store.store (λ (d : Forgotten). (d.batches, d.rows)) (λ (d : Forgotten). not (d.batches == 0)) c.in_err-done.field-0.0 (g.R.Read.remaining c.args.reader.now.0) (g.W.Write.contents c.args.writer.now.0) c.forget_dead.new.store.replica forgetting c.in_ok-store.ensures.read c.in_err-done.ensures.makes)
+
+pub returns-in_err-done-clause-fault : goal.returns-in_err-done-clause-fault
+returns-in_err-done-clause-fault g c =
+    let p = err_from_is_err_and c.from_residual-in_err-done.result c.from_residual-in_err-done.ensures.1 in
+    rw (p.1, p.2) (command_counts (GaveMore (g.R.Read.remaining c.args.reader.now.0) (g.R.Read.remaining c.open.new.reader.0)) c.in_err-done.field-0.0 c.args.reader.now.1 c.open.new.reader.1 c.args.writer.now.1 c.in_ok-store.ensures.kept c.in_err-done.ensures.uncounted)
+
+pub returns-in_err-write_changed-clause-made : goal.returns-in_err-write_changed-clause-made
+returns-in_err-write_changed-clause-made g c =
+    let p = err_from_is_err_and c.from_residual-in_err-write_changed.result c.from_residual-in_err-write_changed.ensures.1 in
+    rw (p.1, p.2) (unwritten_changes (λ (store : StoreForm). store.replica) c.in_ok-store.store (λ (d : Forgotten). (d.batches, d.rows)) (λ (d : Forgotten). not (d.batches == 0)) c.in_ok-done.done _ c.in_err-write_changed.field-0.0 (g.R.Read.remaining c.args.reader.now.0) (g.W.Write.contents c.args.writer.now.0) (g.W.Write.contents c.write_changed.new.writer.0) c.forget_dead.new.store.replica forgetting c.in_ok-store.ensures.read c.in_ok-done.ensures.makes c.in_err-write_changed.ensures.put)
+
+pub returns-in_err-write_changed-clause-unwritten : goal.returns-in_err-write_changed-clause-unwritten
+returns-in_err-write_changed-clause-unwritten g c =
+    let p = err_from_is_err_and c.from_residual-in_err-write_changed.result c.from_residual-in_err-write_changed.ensures.1 in
+    rw (p.1, p.2) (writing_none _ c.in_err-write_changed.field-0.0 (g.W.Write.contents c.args.writer.now.0) (g.W.Write.contents c.write_changed.new.writer.0) c.forget_dead.new.store.replica c.in_err-write_changed.ensures.put)
+
+pub returns-in_err-write_changed-clause-fault : goal.returns-in_err-write_changed-clause-fault
+returns-in_err-write_changed-clause-fault g c =
+    let p = err_from_is_err_and c.from_residual-in_err-write_changed.result c.from_residual-in_err-write_changed.ensures.1 in
+    let why = writing_is _ c.in_err-write_changed.field-0.0 (g.W.Write.contents c.args.writer.now.0) (g.W.Write.contents c.write_changed.new.writer.0) c.forget_dead.new.store.replica c.in_err-write_changed.ensures.put in
+    rw (p.1, p.2) (writing_counts (GaveMore (g.R.Read.remaining c.args.reader.now.0) (g.R.Read.remaining c.open.new.reader.0)) c.in_err-write_changed.field-0.0 c.args.reader.now.1 c.open.new.reader.1 c.args.writer.now.1 c.write_changed.new.writer.1 c.in_ok-store.ensures.kept why c.in_err-write_changed.ensures.fault)
+
+pub returns-clause-made : goal.returns-clause-made
+returns-clause-made g c =
+    written_changes (λ (store : StoreForm). store.replica) c.in_ok-store.store (λ (d : Forgotten). (d.batches, d.rows)) (λ (d : Forgotten). not (d.batches == 0)) c.in_ok-done.done _ (g.R.Read.remaining c.args.reader.now.0) (g.W.Write.contents c.args.writer.now.0) (g.W.Write.contents c.write_changed.new.writer.0) c.forget_dead.new.store.replica forgetting
+    refl c.in_ok-store.ensures.read c.in_ok-done.ensures.makes c.in_ok-write_changed.ensures.put

@@ -1,0 +1,61 @@
+//! Forgetting batches of a replica in a file of which every row is deleted.
+ghost use Rattle.std.specs.Prelude.{◌≡◌, ◌≢◌, ◌==◌, not, IsTrue, IfErr, OnOk};
+ghost use Rattle.std.specs.Io.KnownBytes.{IsAtEnd};
+ghost use Rattle.table_model.specs.Faults.{IsWithin, GaveMore, CountsBoth};
+ghost use Rattle.table_model.specs.declared.refusal.Refusal.TheVariants.{WriteFault};
+ghost use Rattle.replica_files.specs.Commands.{Changes, Makes, is_uncounted};
+ghost use Rattle.replica_files.specs.Forgetting.{forgetting};
+
+use crate::file_writing::write_changed;
+use crate::stored::stored_rows;
+use column_file::open;
+use replica_store::Store;
+use std::alloc::Global;
+use std::io::{Read, Write};
+use table_model::{Counted, Origin, Refusal};
+
+/// What a forget dropped. The file has changed where it dropped a batch.
+#[derive(Clone, Copy, Debug, PartialEq, Eq)]
+pub struct Forgotten {
+    /// How many batches, at most 1,048,576.
+    pub batches: u32,
+    /// How many rows they had, all of them deleted.
+    pub rows: u64,
+}
+
+/// Drops the batches of a store of which every row is deleted.
+fn forget_dead(alloc: Global, store: &mut Store) -> Result<Forgotten, Refusal>
+    ensures makes { Makes (λ done. (done.batches, done.rows)) (λ done. not (done.batches == 0)) store.old.replica result store.new.replica (forgetting store.old.replica) }
+    ensures uncounted { IfErr result (λ e. IsTrue (is_uncounted e)) }
+{
+    let batches = store.batches();
+    let rows = stored_rows(store);
+    store.forget(alloc)?;
+    Ok(Forgotten {
+        batches: batches.saturating_sub(store.batches()) as u32,
+        rows: rows.saturating_sub(stored_rows(store)),
+    })
+}
+
+/// Drops the batches of a file of which every row is deleted, and writes the file anew where there are such. Their deletions stay, so
+/// that no query is answered otherwise, and a batch that comes again comes with its rows deleted.
+///
+/// Refused are, in this order, what [`open`] refuses; `Memory`, which may come in the place of any of it; `WriteFault`. Only with the
+/// last anything is written: a front.
+pub fn forget<R: Read, W: Write>(
+    alloc: Global,
+    reader: &mut Counted<R>,
+    writer: &mut Counted<W>,
+) -> Result<Forgotten, Refusal>
+    ensures made { Changes (λ done. (done.batches, done.rows)) (λ done. not (done.batches == 0)) result (R.remaining reader.old.0) (W.contents writer.old.0) (W.contents writer.new.0) forgetting }
+    ensures unwritten { IfErr result (λ e. e ≢ WriteFault → W.contents writer.new.0 ≡ W.contents writer.old.0) }
+    ensures end { OnOk result (IsAtEnd (R.remaining reader.new.0)) }
+    ensures within { OnOk result (IsWithin (R.remaining reader.old.0)) }
+    ensures kept { OnOk result ((reader.new.1 ≡ reader.old.1) × (writer.new.1 ≡ writer.old.1)) }
+    ensures fault { IfErr result (λ e. CountsBoth (GaveMore (R.remaining reader.old.0) (R.remaining reader.new.0)) e reader.old.1 reader.new.1 writer.old.1 writer.new.1) }
+{
+    let mut store = open(alloc, reader, Origin(1))?;
+    let done = forget_dead(alloc, &mut store)?;
+    write_changed(alloc, &store, done.batches != 0, writer)?;
+    Ok(done)
+}
