@@ -1,10 +1,11 @@
 /* lanes.h: a replicated column store for one table of nullable integer columns, over files in memory.
  *
- * Each call is given bytes and gives bytes. It reads and writes no file, opens nothing, prints nothing, and keeps nothing once it has
- * returned. So any number of threads may call at once.
+ * Each call is given bytes and gives bytes. It reads and writes no file, opens nothing on a disk, and prints nothing. A call without a
+ * handle keeps nothing once it has returned. So any number of threads may call at once.
  *
- * Who owns what. All memory is the caller's. A call changes its room, *length and *place, and nothing else. What it needs while it runs
- * it takes from malloc, and has given back when it returns.
+ * Who owns what. All memory is the caller's. A call changes its room, *length, *place and its handles, and nothing else. The memory that
+ * it needs while it runs comes from malloc, and is freed when it returns. What lanes_open keeps comes from malloc too, and is freed when
+ * the last handle of it is closed.
  *
  * Bytes that go in are a pointer and a length in bytes. The pointer is never null, also where the length is 0; it may be the same as
  * another one that is only read, and must not overlap what the call writes.
@@ -40,6 +41,8 @@ extern "C" {
  *   LANES_OUT_OF_TYPE   first: the row, from 0; second: the column, from 0
  *   LANES_BAD_CSV       first: the line, from 1; second: its field, from 1, or 0 for a wrong number of fields
  *   LANES_LINE_TOO_LONG first: the line, from 1
+ *   each refusal of a query of lanes_queries
+ *                       second: the query, from 0
  *   LANES_TRUNCATED, LANES_BAD_ORDER, LANES_BAD_COUNT, LANES_BAD_WIDTH, LANES_BAD_TAG, LANES_BAD_MASK, LANES_BAD_DICTIONARY,
  *   LANES_BAD_CODE, LANES_BAD_RANGE, LANES_TRAILING_BYTES, LANES_NOT_CANONICAL, LANES_SYNTAX, LANES_NO_SUCH_COLUMN,
  *   LANES_NOT_GROUPED, LANES_NUMBER_TOO_LARGE
@@ -90,7 +93,8 @@ enum {
     LANES_BAD_LINE = 35,
     LANES_NO_SUCH_REPLICA = 36,
     LANES_NO_SUCH_MESSAGE = 37,
-    LANES_BAD_CSV = 38
+    LANES_BAD_CSV = 38,
+    LANES_NOT_OPEN = 39
 };
 
 /* Makes the file of an empty table. The words are the table's name and, column by column, the column's name and its type, with one
@@ -114,6 +118,16 @@ uint8_t lanes_check(const uint8_t *file, size_t file_length, uint8_t *out, size_
  * LANES_TOO_DEEP; LANES_NO_SUCH_TABLE; LANES_NO_SUCH_COLUMN, LANES_NOT_GROUPED. Their places are bytes of the query. */
 uint8_t lanes_query(const uint8_t *file, size_t file_length, const uint8_t *sql, size_t sql_length, uint8_t *out, size_t room,
                     size_t *length, lanes_place *place);
+
+/* Answers several queries over a file that is opened once. `sqls` has a line feed between each two queries, and none at its end.
+ *
+ * Gives: the texts of the answers, one after another, each as lanes_query gives it. The answer of query i, from 0, ends in front of the
+ * byte ends[i] of `out`, and the next one begins there. `ends` has room for ends_room numbers. It is written where there is room for
+ * all of them, also when `out` has too little room, and else it is as it was. It is never null, and overlaps nothing.
+ * Refused, in this order: the file's first fault; the first query that lanes_query refuses, with what that refuses it as. place->second
+ * says which query it is, from 0, and place->first is a byte of that query. */
+uint8_t lanes_queries(const uint8_t *file, size_t file_length, const uint8_t *sqls, size_t sqls_length, uint8_t *out, size_t room,
+                      size_t *ends, size_t ends_room, size_t *length, lanes_place *place);
 
 /* Gives the live rows as comma-separated values, as lanes_import takes them: a line of the columns' names, and a line for each row, in
  * order of row name; a null is an empty field. With has_names the columns BATCH and ORDINAL, which name the row, come first.
@@ -171,6 +185,44 @@ uint8_t lanes_apply(const uint8_t *file, size_t file_length, const uint8_t *offe
  * lists of rows; LANES_FULL. */
 uint8_t lanes_merge(const uint8_t *one, size_t one_length, const uint8_t *other, size_t other_length, uint8_t *out, size_t room,
                     size_t *length, lanes_place *place);
+
+/* A handle of a file that stays open, so that many queries are answered of one opening. A handle is closed, or what lanes_open or
+ * lanes_share made of it. A program must keep these rules:
+ *
+ *   - Set a handle to LANES_CLOSED before its first use. Change nothing in it after that.
+ *   - Give one handle to one call at a time. Different handles, also those of one file, may be used by different threads at once.
+ *   - Move a handle, but don't use a copy of it as well. A second handle comes from lanes_share. `table` and `other` of lanes_share are two
+ *     different handles.
+ *   - Hand a handle to another thread by the start or the end of a thread, by a lock, or by a sequentially consistent atomic.
+ *   - Close each open handle once you are done with it. The order doesn't matter: what was opened is freed with the last handle of it.
+ *   - Don't use a handle in the forked child of a process with threads, nor in a signal handler.
+ */
+typedef struct lanes_table {
+    void *opened;
+} lanes_table;
+
+#define LANES_CLOSED {NULL}
+
+/* Opens a file. The file is checked once, and the handle keeps what it holds. The bytes of the file may be changed or freed then.
+ *
+ * A handle that was open before is closed, when 0 is answered. When the call is refused the handle is as it was.
+ * Refused: the file's first fault. */
+uint8_t lanes_open(const uint8_t *file, size_t file_length, lanes_table *table, lanes_place *place);
+
+/* Gives a second handle of what a first handle has, for another thread. Nothing is copied. What `other` had before is closed.
+ *
+ * Answers 0; LANES_NOT_OPEN when `table` is closed; or LANES_MEMORY. When it doesn't answer 0, `other` is as it was. */
+uint8_t lanes_share(lanes_table *table, lanes_table *other);
+
+/* Answers a query over the file that a handle is of, without opening that file again.
+ *
+ * Gives: what lanes_query gives of that file.
+ * Refused: LANES_NOT_OPEN when the handle is closed; else what lanes_query refuses of that file. */
+uint8_t lanes_ask(lanes_table *table, const uint8_t *sql, size_t sql_length, uint8_t *out, size_t room, size_t *length,
+                  lanes_place *place);
+
+/* Closes a handle. Closing a closed one does nothing. */
+void lanes_close(lanes_table *table);
 
 /* Gives the name of a refusal's number, as "NotCanonical", without a byte 0 at its end, and answers how many bytes it has: 0 where the
  * number has no name. It is written where it fits. No name has more than 32 bytes. */

@@ -6,7 +6,7 @@ import ctypes
 import os
 import re
 import secrets
-from typing import Mapping, NamedTuple, Union
+from typing import Iterable, Mapping, NamedTuple, Optional, Union
 
 from . import calls
 from .answer import Answer
@@ -28,13 +28,15 @@ class BatchName(NamedTuple):
 class Table:
     """What a replica of a table holds. It never changes, and any number of threads may use it at once.
 
-    Tables are equal where they hold the same, which is where their bytes are the same.
+    Queries are asked of one opening: the file is judged once, when the table is opened, or at the first query of a table that a call
+    made. Tables are equal where they hold the same, which is where their bytes are the same.
     """
 
-    __slots__ = ("_file",)
+    __slots__ = ("_file", "_opened")
 
     def __init__(self, file: calls.Input) -> None:
         self._file = file
+        self._opened: Optional[calls.Opened] = None
 
     @classmethod
     def create(cls, name: str, columns: Mapping[str, str]) -> Table:
@@ -55,22 +57,31 @@ class Table:
         """The table of a file. The file isn't copied: its bytes are used where the system has them.
 
         The file may be replaced by another one meanwhile, as `save` and the program `lanes` do, and this table is as it was. It must not
-        be overwritten in its place. Nothing is judged yet: the first call refuses a file that is none, and so does `check`.
+        be overwritten in its place.
 
         Raises:
             OSError: the file can't be opened.
+            Refused: the file's first fault.
         """
         descriptor = os.open(path, os.O_RDONLY | os.O_CLOEXEC)
         try:
             length = os.fstat(descriptor).st_size
-            return cls(calls.Mapped(descriptor, length) if length else b"")
+            table = cls(calls.Mapped(descriptor, length) if length else b"")
         finally:
             os.close(descriptor)
+        table._asked()
+        return table
 
     @classmethod
     def from_bytes(cls, file: Union[bytes, bytearray, memoryview]) -> Table:
-        """The table of a file's bytes. Nothing is judged yet."""
-        return cls(bytes(file))
+        """The table of a file's bytes.
+
+        Raises:
+            Refused: the file's first fault.
+        """
+        table = cls(bytes(file))
+        table._asked()
+        return table
 
     def to_bytes(self) -> bytes:
         """The canonical file."""
@@ -98,10 +109,10 @@ class Table:
             raise
 
     def check(self) -> tuple[int, int]:
-        """How many batches there are, and how many maximal ranges of deleted rows.
+        """How many batches there are, and how many maximal ranges of deleted rows. The file is judged anew.
 
         Raises:
-            Refused: the first fault of the file, as each other call raises it.
+            Refused: the first fault of the file.
         """
         line = calls.given(calls.CHECK, _ROOM, self._file).decode()
         found = re.fullmatch(r"ok batches=(\d+) ranges=(\d+)\n", line)
@@ -114,7 +125,18 @@ class Table:
         Raises:
             Refused: a fault of the query with its byte, as `Syntax`, or of the file.
         """
-        return Answer.from_text(calls.given(calls.QUERY, _ROOM, self._file, sql.encode()).decode())
+        return Answer.from_text(self._asked().ask(_ROOM, sql.encode()).decode())
+
+    def queries(self, sqls: Iterable[str]) -> list[Answer]:
+        """The answers of several queries, in order.
+
+        Raises:
+            Refused: the fault of the first query that has one.
+            TypeError: `sqls` is one text, and not several.
+        """
+        if isinstance(sqls, str):
+            raise TypeError("queries takes several texts; query takes one")
+        return [self.query(sql) for sql in sqls]
 
     def dump(self, names: bool = False) -> str:
         """The live rows as comma-separated values below a heading; with names the columns BATCH and ORDINAL come first."""
@@ -183,6 +205,16 @@ class Table:
         """
         offered = bytes(offer)
         return Table(calls.given(calls.APPLY, self._length() + len(offered) + _ROOM, self._file, offered))
+
+    def _asked(self) -> calls.Opened:
+        """What queries are asked of. Two threads that ask first at the same time may both open it; one opening stays."""
+        opened = self._opened
+        if opened is None:
+            opened = self._opened = calls.Opened(self._file)
+        return opened
+
+    def __reduce__(self) -> tuple[object, ...]:
+        return Table.from_bytes, (self.to_bytes(),)
 
     def _length(self) -> int:
         return len(self._file) if isinstance(self._file, bytes) else self._file.length

@@ -5,15 +5,18 @@ from __future__ import annotations
 import doctest
 import os
 import pathlib
+import pickle
 import subprocess
 import sys
 import tempfile
 import threading
 import unittest
+import unittest.mock
 from decimal import Decimal
 
 import lanes
 from lanes import BatchName, Refused, Table
+from lanes.calls import Opened, _Place, _refused
 
 TOP = pathlib.Path(__file__).resolve().parent.parent.parent
 
@@ -28,6 +31,23 @@ def counts(*loads: tuple[str, tuple[int, int]]) -> Table:
 
 FIRST = ("SITE,HITS\n1,10\n1,7\n2,\n", (1, 1))
 SECOND = ("HITS,SITE\n20,3\n30,1\n", (2, 1))
+THIRD = ("SITE,HITS\n4,400\n", (3, 1))
+
+
+class Openings:
+    """Counts how often a file is opened while it is patched in."""
+
+    def __init__(self, case: unittest.TestCase) -> None:
+        self.count = 0
+        whole = Opened.__init__
+
+        def counted(opened: Opened, file: object) -> None:
+            self.count += 1
+            whole(opened, file)  # type: ignore[arg-type]
+
+        patch = unittest.mock.patch.object(Opened, "__init__", counted)
+        patch.start()
+        case.addCleanup(patch.stop)
 
 
 class Queries(unittest.TestCase):
@@ -63,6 +83,38 @@ class Queries(unittest.TestCase):
         self.assertEqual((caught.exception.name, caught.exception.place), ("Syntax", (7,)))
 
 
+    def test_several_queries_are_answered_in_order(self) -> None:
+        table = counts(FIRST)
+        sums, sites = table.queries(["SELECT SUM(HITS) FROM COUNTS", "SELECT SITE FROM COUNTS GROUP BY SITE"])
+        self.assertEqual((sums.headings, list(sums), list(sites)), (["SUM(HITS)"], [(17,)], [(1,), (2,)]))
+        self.assertEqual(table.queries([]), [])
+        with self.assertRaises(Refused) as caught:
+            table.queries(["SELECT SUM(HITS) FROM COUNTS", "SELECT VISITS FROM COUNTS", "SELECT"])
+        self.assertEqual((caught.exception.name, caught.exception.place), ("NoSuchColumn", (7,)))
+        with self.assertRaises(TypeError):
+            table.queries("SELECT SUM(HITS) FROM COUNTS")
+
+    def test_a_file_is_judged_once_for_all_its_queries(self) -> None:
+        file = counts(FIRST).to_bytes()
+        openings = Openings(self)
+        table = Table.from_bytes(file)
+        self.assertEqual(openings.count, 1)
+        for _ in range(20):
+            self.assertEqual(table.query("SELECT SUM(HITS) FROM COUNTS"), [(17,)])
+        self.assertEqual(openings.count, 1)
+        made = table.delete("HITS < 10").merge(counts(SECOND))
+        self.assertEqual(openings.count, 1)
+        self.assertEqual([list(answer) for answer in made.queries(["SELECT SUM(HITS) FROM COUNTS"] * 20)], [[(60,)]] * 20)
+        self.assertEqual(openings.count, 2)
+
+    def test_a_closed_handle_is_told_by_name(self) -> None:
+        opened = Opened(counts(FIRST).to_bytes())
+        opened.__del__()
+        with self.assertRaises(Refused) as caught:
+            opened.ask(16, b"SELECT SUM(HITS) FROM COUNTS")
+        self.assertEqual((caught.exception.number, caught.exception.name, caught.exception.place), (39, "NotOpen", ()))
+
+
 class Changes(unittest.TestCase):
     def test_merges_agree_in_any_order_and_with_repeats(self) -> None:
         one, other = counts(FIRST), counts(SECOND)
@@ -71,6 +123,15 @@ class Changes(unittest.TestCase):
         self.assertEqual(hash(both), hash(other.merge(one)))
         self.assertEqual(both.query("SELECT COUNT(*),SUM(HITS) FROM COUNTS"), [(5, 67)])
         self.assertEqual(both.check(), (2, 0))
+
+    def test_a_merge_of_three_tables_has_the_rows_of_all(self) -> None:
+        merged = counts(FIRST).merge(counts(SECOND), counts(THIRD))
+        self.assertEqual(merged, counts(FIRST, SECOND, THIRD))
+        self.assertEqual(merged.query("SELECT SITE,SUM(HITS) FROM COUNTS GROUP BY SITE"), [(1, 47), (2, None), (3, 20), (4, 400)])
+
+    def test_draws_of_two_tables_differ(self) -> None:
+        names = {counts().import_csv("1,1\n", heading=False).dump(names=True).splitlines()[1].split(",")[0] for _ in range(8)}
+        self.assertEqual(len(names), 8)
 
     def test_a_delete_leaves_the_table_that_it_was_asked_of(self) -> None:
         table = counts(FIRST)
@@ -162,13 +223,23 @@ class Files(unittest.TestCase):
         self.assertEqual(opened, counts(FIRST))
         self.assertEqual(Table.open(pathlib.Path(self.path)), counts(SECOND))
 
-    def test_what_is_no_file_is_refused_by_the_first_call(self) -> None:
+    def test_what_is_no_file_is_refused_when_it_is_opened(self) -> None:
         for content, name in [(b"", "Truncated"), (b"no file", "BadMagic"), (counts(FIRST).to_bytes()[:-1], "Truncated")]:
             pathlib.Path(self.path).write_bytes(content)
             with self.subTest(content=content), self.assertRaises(Refused) as caught:
-                Table.open(self.path).check()
+                Table.open(self.path)
             self.assertEqual(caught.exception.name, name)
             self.assertEqual(pathlib.Path(self.path).read_bytes(), content)
+            with self.subTest(content=content), self.assertRaises(Refused) as caught:
+                Table.from_bytes(content)
+            self.assertEqual(caught.exception.name, name)
+
+    def test_a_table_goes_to_another_process_as_its_file(self) -> None:
+        counts(FIRST).save(self.path)
+        for table in counts(FIRST), Table.open(self.path):
+            other = pickle.loads(pickle.dumps(table))
+            self.assertEqual(other, table)
+            self.assertEqual(other.query("SELECT SUM(HITS) FROM COUNTS"), [(17,)])
 
     def test_the_mode_of_a_file_is_kept(self) -> None:
         counts().save(self.path)
@@ -186,14 +257,18 @@ class Files(unittest.TestCase):
 
 
 class Threads(unittest.TestCase):
-    def test_eight_threads_get_what_one_gets(self) -> None:
-        table = Table.create("T", {"A": "INTEGER"}).import_csv("".join(f"{n % 97}\n" for n in range(5_000)), heading=False, batch=(1, 1))
-        wanted = table.query("SELECT A,COUNT(*) FROM T GROUP BY A")
+    SQL = "SELECT A,COUNT(*) FROM T GROUP BY A"
+    ROWS = "".join(f"{n % 97}\n" for n in range(5_000))
+
+    def ask_in_eight_threads(self, table: Table, wanted: list[lanes.Row]) -> None:
+        """Asks a table in eight threads that begin at once."""
         differing: list[str] = []
+        gate = threading.Barrier(8)
 
         def ask() -> None:
+            gate.wait()
             for _ in range(10):
-                if table.query("SELECT A,COUNT(*) FROM T GROUP BY A") != wanted:
+                if table.query(self.SQL) != wanted:
                     differing.append("rows")
 
         threads = [threading.Thread(target=ask) for _ in range(8)]
@@ -202,6 +277,35 @@ class Threads(unittest.TestCase):
         for thread in threads:
             thread.join()
         self.assertEqual(differing, [])
+
+    def test_eight_threads_get_what_one_gets(self) -> None:
+        table = Table.create("T", {"A": "INTEGER"}).import_csv(self.ROWS, heading=False, batch=(1, 1))
+        self.ask_in_eight_threads(Table.from_bytes(table.to_bytes()), list(table.query(self.SQL)))
+
+    def test_eight_threads_may_be_the_first_to_ask(self) -> None:
+        wanted = [(n, 52 if n < 53 else 51) for n in range(97)]
+        self.ask_in_eight_threads(Table.create("T", {"A": "INTEGER"}).import_csv(self.ROWS, heading=False, batch=(1, 1)), wanted)
+
+    def test_a_table_that_is_let_go_leaves_its_threads_their_answers(self) -> None:
+        table = Table.create("T", {"A": "INTEGER"}).import_csv(self.ROWS, heading=False, batch=(1, 1))
+        answers: list[int] = []
+        threads = [threading.Thread(target=lambda held: answers.append(len(held.query(self.SQL))), args=(table,)) for _ in range(8)]
+        for thread in threads:
+            thread.start()
+        del table
+        for thread in threads:
+            thread.join()
+        self.assertEqual(answers, [97] * 8)
+
+
+def whole_sentence(name: str, shown: str, sentence: str) -> str:
+    """The sentence at the place (70000, 3), from the name with its values and the sentence as the page shows them."""
+    if name == "Conflict":
+        return sentence.replace("O.N", "70000.3")
+    if name == "LineTooLong":
+        return f"line 70000: {sentence}"
+    places = {"AT": "byte 70000: ", "ROW": "row 70000: ", "ROW COLUMN": "row 70000, column 3: "}
+    return places.get(shown.strip("`").partition(" ")[2], "") + sentence
 
 
 class Module(unittest.TestCase):
@@ -215,15 +319,17 @@ class Module(unittest.TestCase):
 
     def test_its_sentences_are_those_of_the_page(self) -> None:
         page = (TOP / "docs" / "REFUSALS.md").read_text()
+        told = []
         for line in page.splitlines():
             cells = [cell.strip() for cell in line.strip("|").split("|")]
-            if cells[0].isdigit() and int(cells[0]) <= 38:
-                from lanes.calls import _Place, _refused
-
-                refused = _refused(int(cells[0]), _Place(1, 2))
+            if cells[0].isdigit():
+                refused = _refused(int(cells[0]), _Place(70_000, 3))
                 self.assertEqual(refused.name, cells[1].strip("`").split()[0])
-                if refused.name not in ("Conflict", "BadCsv"):
-                    self.assertTrue(refused.sentence.endswith(cells[2]), refused.sentence)
+                self.assertEqual(refused.sentence, whole_sentence(refused.name, cells[1], cells[2]))
+                told.append(int(cells[0]))
+        self.assertEqual(told, [*range(1, 38), 39])
+        self.assertEqual(_refused(38, _Place(70_000, 3)).sentence, "line 70000, field 3: the field is not a whole number")
+        self.assertEqual(_refused(38, _Place(70_000, 0)).sentence, "line 70000: the line has not one field for each column")
 
     def test_it_is_loaded_in_a_second(self) -> None:
         ran = subprocess.run([sys.executable, "-c", "import lanes"], env={**os.environ, "PYTHONPATH": str(TOP / "python")}, timeout=10, check=True)

@@ -50,8 +50,14 @@ static uint8_t imports(const uint8_t *file, size_t file_length, const uint8_t *o
     return lanes_import(file, file_length, other, other_length, true, 0, 0, words, 2, out, room, length, place);
 }
 
-static call_on_two *const CALLS[] = {checks, dumps, summarizes, creates, imports, lanes_query, lanes_delete, lanes_offer, lanes_apply, lanes_merge};
-static const char *const NAMES[] = {"check", "dump", "summary", "create", "import", "query", "delete", "offer", "apply", "merge"};
+static uint8_t answers_all(const uint8_t *file, size_t file_length, const uint8_t *other, size_t other_length, uint8_t *out, size_t room,
+                           size_t *length, lanes_place *place) {
+    size_t ends[2];
+    return lanes_queries(file, file_length, other, other_length, out, room, ends, 2, length, place);
+}
+
+static call_on_two *const CALLS[] = {checks, dumps, summarizes, creates, imports, lanes_query, lanes_delete, lanes_offer, lanes_apply, lanes_merge, answers_all};
+static const char *const NAMES[] = {"check", "dump", "summary", "create", "import", "query", "delete", "offer", "apply", "merge", "queries"};
 enum { COUNT = sizeof CALLS / sizeof *CALLS };
 
 /* What was told of one call, and the room as it is then. */
@@ -83,7 +89,7 @@ static bool is_untouched(const uint8_t *out, size_t from) {
 
 /* Whether what was told is as lanes.h has it: a refusal writes nothing, and an answer nothing but itself, where it fits. */
 static bool is_as_promised(const told *seen, size_t room) {
-    if (seen->number != 0) return seen->number <= LANES_BAD_CSV && seen->length == 0 && is_untouched(seen->out, 0);
+    if (seen->number != 0) return seen->number <= LANES_NOT_OPEN && seen->length == 0 && is_untouched(seen->out, 0);
     if (seen->place.first != 0 || seen->place.second != 0) return false;
     return is_untouched(seen->out, seen->length <= room ? seen->length : 0);
 }
@@ -139,8 +145,10 @@ static inputs make_inputs(void) {
         free(made.others[3 + at].at);
         made.others[3 + at] = copy_of(texts[at], strlen(texts[at]));
     }
+    static const char queries[] = "SELECT A FROM T WHERE B > 3\nSELECT COUNT(*) FROM T";
+    bytes both = bytes_of(queries);
     for (size_t call = 7; call < COUNT; call++) {
-        bytes from = call == 7 ? summary : other;
+        bytes from = call == 7 ? summary : call == 10 ? both : other;
         free(made.others[call].at);
         made.others[call] = copy_of(from.at, from.length);
     }
@@ -182,8 +190,8 @@ static void try_refusals(const inputs *good) {
     bytes nothing = bytes_of(""), file = good->file, noise = bytes_of("\xff\xfe no file");
     for (size_t call = 0; call < COUNT; call++) {
         if (CALLS[call] == creates) continue;
-        if (call < 7) expect_refused("no bytes", call, nothing, good->others[call], LANES_TRUNCATED, 0, 0);
-        if (call < 7) expect_refused("no file", call, noise, good->others[call], LANES_BAD_MAGIC, 0, 0);
+        if (call < 7 || call == 10) expect_refused("no bytes", call, nothing, good->others[call], LANES_TRUNCATED, 0, 0);
+        if (call < 7 || call == 10) expect_refused("no file", call, noise, good->others[call], LANES_BAD_MAGIC, 0, 0);
     }
     expect_refused("no schema", 3, file, nothing, LANES_BAD_SCHEMA, 0, 0);
     expect_refused("a type that there isn't", 3, file, bytes_of("T A FLOAT"), LANES_BAD_SCHEMA, 0, 0);
@@ -229,7 +237,7 @@ static void try_sentences(void) {
     uint8_t out[ROOM];
     lanes_place place = {7, 3};
     for (unsigned number = 0; number < 256; number++) {
-        bool is_named = number >= 1 && number <= LANES_BAD_CSV;
+        bool is_named = number >= 1 && number <= LANES_NOT_OPEN;
         memset(out, FILLER, ROOM);
         size_t length = lanes_refusal((uint8_t)number, out, ROOM);
         expect((length != 0) == is_named && length <= 32 && is_untouched(out, length), "a name");

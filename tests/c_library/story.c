@@ -1,4 +1,5 @@
-/* Two sites keep a replica each of one table, load rows, delete some, and merge. It is C11 and C++17 alike. */
+/* Two sites keep a replica each of one table, load rows, delete some, and merge; what is merged is opened and asked. It is C11 and C++17
+ * alike. */
 #include "bytes.h"
 
 static bytes import_rows(bytes file, const char *csv, uint32_t origin, uint32_t number) {
@@ -16,10 +17,19 @@ static void print_answer(bytes file, const char *sql) {
     free(answer.at);
 }
 
+static void print_asked(lanes_table *table, const char *sql) {
+    bytes answer;
+    TAKE(answer, lanes_ask(table, text_of(sql), strlen(sql), out, room, &length, &place));
+    printf("%s\n%.*s", sql, (int)answer.length, (const char *)answer.at);
+    free(answer.at);
+}
+
 int main(void) {
     static const char table[] = "COUNTS SITE SMALLINT HITS INTEGER";
     static const char old_rows[] = "HITS < 10";
     bytes empty, first, loaded, second, one, two, line;
+    lanes_table opened = LANES_CLOSED;
+    lanes_place at;
 
     TAKE(empty, lanes_create(text_of(table), strlen(table), out, room, &length, &place));
     loaded = import_rows(empty, "SITE,HITS\n1,10\n1,7\n2,\n", 1, 1);
@@ -34,11 +44,17 @@ int main(void) {
     printf("%.*s", (int)line.length, (const char *)line.at);
     print_answer(one, "SELECT SITE,COUNT(*),SUM(HITS),AVG(HITS) FROM COUNTS GROUP BY SITE");
 
+    uint8_t refused = lanes_open(one.at, one.length, &opened, &at);
+    if (refused != LANES_OK) end_at("lanes_open", refused, at);
+    free(one.at); /* the handle keeps what it needs */
+    print_asked(&opened, "SELECT COUNT(*) FROM COUNTS");
+    print_asked(&opened, "SELECT MAX(HITS) FROM COUNTS WHERE SITE = 1");
+    lanes_close(&opened);
+
     free(empty.at);
     free(loaded.at);
     free(first.at);
     free(second.at);
-    free(one.at);
     free(two.at);
     free(line.at);
     return 0;

@@ -66,6 +66,8 @@ imports_of (Ok bytes) load first words file text has_heading loads h = (load, lo
 imports_of (Err (faults.Refused e)) load first words file text has_heading loads h = tt
 imports_of (Err (faults.BadCsv line column)) load first words file text has_heading loads h = absurd h
 imports_of (Err (faults.LineTooLong line)) load first words file text has_heading loads h = absurd h
+imports_of (Err (faults.OfQuery refusal query)) load first words file text has_heading loads h = absurd h
+imports_of (Err faults.NotOpen) load first words file text has_heading loads h = absurd h
 
 -- the same, over readers that had the file and the text
 pub text_fault : (e : CsvError) (csv : Reading) (schema : Table) (file input text given : List ℕ) (has_heading : Bool) → input ≡ file → given ≡ text → schema_in input ≡ Ok schema → csv ≡ at_start schema has_heading

@@ -1,2 +1,6 @@
 pub mod Givings
+pub mod HandleFields
 pub mod Importings
+pub mod LooseValues
+pub mod Openings
+pub mod QueryRuns

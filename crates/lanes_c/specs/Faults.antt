@@ -39,17 +39,26 @@ place_of (refusals.NotGrouped at) = pair at 0
 place_of (refusals.NumberTooLarge at) = pair at 0
 place_of other = nowhere
 
--- the number of a fault: a refusal's own, and 38 for comma-separated values outside the grammar
+-- the number of a fault: a refusal's own, 38 for comma-separated values outside the grammar, and 39 for a closed handle
 abbrev pub number_of_fault : Fault → ℕ
 number_of_fault (faults.Refused refusal) = number_of refusal
 number_of_fault (faults.BadCsv line column) = 38
 number_of_fault (faults.LineTooLong line) = 32
+number_of_fault (faults.OfQuery refusal query) = number_of refusal
+number_of_fault faults.NotOpen = 39
 
--- the place of a fault
+-- the place of a fault; that of one query of several has the query, from 0, beside the byte
 abbrev pub place_of_fault : Fault → Place
 place_of_fault (faults.Refused refusal) = place_of refusal
 place_of_fault (faults.BadCsv line column) = pair line column
 place_of_fault (faults.LineTooLong line) = pair line 0
+place_of_fault (faults.OfQuery refusal query) = pair (place_of refusal).first query
+place_of_fault faults.NotOpen = nowhere
+
+-- a refusal as that of one query of several
+abbrev pub of_query : Fault → ℕ → Fault
+of_query (faults.Refused refusal) query = faults.OfQuery refusal query
+of_query other query = other
 
 -- a refusal as C is told: writing into memory fails only where memory lacks
 abbrev pub told : Refusal → Fault

@@ -24,6 +24,7 @@ abbrev pub IsFaultOfText : List ℕ → List ℕ → Bool → Fault → Type 0
 IsFaultOfText file text has_heading (faults.Refused e) = Unit {0}
 IsFaultOfText file text has_heading (faults.BadCsv line column) = (r : Replica) × (held_in file ≡ Ok r) × (csv_rows r.schema has_heading text ≡ Err (csv.BadCsv line column))
 IsFaultOfText file text has_heading (faults.LineTooLong line) = (r : Replica) × (held_in file ≡ Ok r) × (csv_rows r.schema has_heading text ≡ Err (csv.LineTooLong line))
+IsFaultOfText file text has_heading other = ⊥
 
 -- the name of these numbers; none where both are 0
 abbrev pub name_given : ℕ → ℕ → Option BatchName

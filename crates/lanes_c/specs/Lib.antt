@@ -1,6 +1,9 @@
 pub mod Calls
 pub mod Faults
+pub mod Handles
 pub mod Importing
 pub mod Names
+pub mod Opened
+pub mod Queries
 pub mod Rooms
 pub mod Taking

@@ -14,9 +14,9 @@ abbrev pub given_by : Result (Vec ℕ) Fault → Given
 given_by (Ok bytes) = Ok bytes.items
 given_by (Err fault) = Err fault
 
--- bytes stand at a room's front where they fit; else the room is as it was
-abbrev pub filled : List ℕ → List ℕ → List ℕ
-filled bytes room = cond (nat_le (length bytes) (length room)) (bytes ++ drop (length bytes) room) room
+-- bytes or numbers stand at a room's front where they fit; else the room is as it was
+abbrev pub filled : {X : Type 0} → List X → List X → List X
+filled items room = cond (nat_le (length items) (length room)) (items ++ drop (length items) room) room
 
 -- 0 is answered with bytes, and else the fault's number
 abbrev pub number_told : Given → ℕ

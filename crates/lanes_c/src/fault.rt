@@ -1,6 +1,6 @@
 //! Why a call gave nothing, as C is told: a number and a place.
 ghost use Rattle.std.specs.Prelude.{◌≡◌};
-ghost use Rattle.lanes_c.specs.Faults.{number_of_fault, place_of, place_of_fault, nowhere, pair, told, told_of_csv};
+ghost use Rattle.lanes_c.specs.Faults.{number_of_fault, place_of, place_of_fault, nowhere, of_query, pair, told, told_of_csv};
 ghost use Rattle.lanes_c.specs.declared.fault.Fault.TheVariants.{Refused};
 ghost use Rattle.table_model.specs.declared.refusal.Refusal.TheVariants.{Memory};
 
@@ -14,7 +14,7 @@ use table_model::Refusal;
 pub struct Place {
     /// A byte of the input from 0; a row from 0; the origin of a batch; a line from 1.
     pub first: u64,
-    /// A column from 0; the number of a batch; a field of a line from 1, and 0 for a wrong number of fields.
+    /// A column from 0; the number of a batch; a field of a line from 1, and 0 for a wrong number of fields; a query of several from 0.
     pub second: u64,
 }
 
@@ -27,6 +27,10 @@ pub enum Fault {
     BadCsv { line: u64, column: u64 },
     /// A line of comma-separated values that is too long.
     LineTooLong { line: u64 },
+    /// A query of several: what it is refused as, and which one it is, from 0.
+    OfQuery { refusal: Refusal, query: u64 },
+    /// A handle that is closed.
+    NotOpen,
 }
 
 /// A refusal as it is told: what is written into memory fails to be written only where memory lacks.
@@ -63,6 +67,9 @@ impl From<AllocError> for Fault {
 
 /// The number of `BadCsv`, which is no refusal of the table's own calls.
 pub const BAD_CSV: u8 = 38;
+
+/// The number of `NotOpen`, which is no refusal of the table's own calls.
+pub const NOT_OPEN: u8 = 39;
 
 impl Place {
     /// No place.
@@ -114,7 +121,7 @@ impl Place {
 }
 
 impl Fault {
-    /// The number that C is answered: a refusal's own, and 38 for `BadCsv`.
+    /// The number that C is answered: a refusal's own, 38 for `BadCsv`, and 39 for `NotOpen`.
     pub fn number(self) -> u8
         ensures { result ≡ number_of_fault self }
     {
@@ -122,6 +129,18 @@ impl Fault {
             Fault::Refused(refusal) => refusal.number(),
             Fault::BadCsv { .. } => BAD_CSV,
             Fault::LineTooLong { .. } => Refusal::LineTooLong.number(),
+            Fault::OfQuery { refusal, .. } => refusal.number(),
+            Fault::NotOpen => NOT_OPEN,
+        }
+    }
+
+    /// The same fault as that of one query of several, from 0.
+    pub fn of_query(self, query: u64) -> Fault
+        ensures { result ≡ of_query self query }
+    {
+        match self {
+            Fault::Refused(refusal) => Fault::OfQuery { refusal, query },
+            other => other,
         }
     }
 
@@ -136,6 +155,11 @@ impl Fault {
                 second: column,
             },
             Fault::LineTooLong { line } => Place::at(line),
+            Fault::OfQuery { refusal, query } => Place {
+                first: Place::of(refusal).first,
+                second: query,
+            },
+            Fault::NotOpen => Place::nowhere(),
         }
     }
 }

@@ -1,18 +1,27 @@
-//! What a program in C may ask of a table's files in memory. Each call is given bytes and gives bytes, and keeps nothing.
+//! What a program in C may ask of a table's files in memory. Each call is given bytes and gives bytes; a handle alone keeps what it was
+//! opened of, until it is closed.
 #![tactic(auto)]
 
 mod changing;
 mod fault;
+mod handle;
+mod loose;
 mod merging;
 mod messages;
 mod names;
+mod opening;
+mod queries;
 mod reading;
 mod room;
+mod shared;
 mod taking;
 
 pub use changing::{lanes_create, lanes_delete, lanes_import};
 pub use fault::Place;
+pub use handle::Table;
 pub use merging::lanes_merge;
 pub use messages::{lanes_apply, lanes_offer, lanes_summary};
 pub use names::{lanes_refusal, lanes_sentence, lanes_version};
+pub use opening::{lanes_ask, lanes_close, lanes_open, lanes_share};
+pub use queries::lanes_queries;
 pub use reading::{lanes_check, lanes_dump, lanes_query};

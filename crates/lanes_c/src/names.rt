@@ -4,7 +4,7 @@ ghost use Rattle.table_model.specs.RefusalText.{number_of};
 ghost use Rattle.lanes_c.specs.Names.{IsNameOf};
 ghost use Rattle.lanes_c.specs.Rooms.{IsFilled};
 
-use crate::fault::{BAD_CSV, Place};
+use crate::fault::{BAD_CSV, NOT_OPEN, Place};
 use crate::room::fill;
 use refusal_sentences::{CommandRefusal, Knowledge, Sentence};
 use std::alloc::{AllocError, Global};
@@ -112,6 +112,9 @@ fn name_of(number: u8) -> &'static str
     if number == BAD_CSV {
         return "BadCsv";
     }
+    if number == NOT_OPEN {
+        return "NotOpen";
+    }
     match refusal_of(number, Place::nowhere()) {
         Some(refusal) => refusal.name(),
         None => "",
@@ -136,6 +139,9 @@ fn sentence_of(alloc: Global, number: u8, place: Place) -> Result<String, AllocE
             column: place.second,
         };
         return format!(in alloc; "{}", Sentence::new(refusal));
+    }
+    if number == NOT_OPEN {
+        return format!(in alloc; "{}", "no file is open in this handle");
     }
     let Some(refusal) = refusal_of(number, place) else {
         return Ok(String::new(alloc));

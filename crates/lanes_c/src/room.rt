@@ -4,13 +4,13 @@ ghost use Rattle.lanes_c.specs.Rooms.{filled, given_by, number_told, room_left, 
 
 use crate::fault::{Fault, Place};
 
-/// Puts bytes at a room's front where they fit, and else leaves the room as it is.
-pub(crate) fn fill(bytes: &[u8], room: &mut [u8])
-    ensures { room.new ≡ filled bytes.now room.old }
+/// Puts bytes or numbers at a room's front where they fit, and else leaves the room as it is.
+pub(crate) fn fill<T: Copy>(items: &[T], room: &mut [T])
+    ensures { room.new ≡ filled items.now room.old }
 {
-    if bytes.len() <= room.len() {
-        let (front, _) = room.split_at_mut(bytes.len());
-        front.copy_from_slice(bytes);
+    if items.len() <= room.len() {
+        let (front, _) = room.split_at_mut(items.len());
+        front.copy_from_slice(items);
     }
 }
 
