@@ -1,0 +1,19 @@
+-- Nobody else does anything.
+use Rattle.std.proofs.Common.{ℕ, List, [], ◌∷◌, ◌++◌, Option, Some, None, ◌≡◌, ◌≢◌, true, false, inl, refl, sym, ap, ◌∙◌, subst, append_assoc, Bool}
+use Rattle.file_replacing.specs.Event.{Event, Renamed, Settled}
+use Rattle.file_replacing.specs.Disk.{Disk, Takes}
+use Rattle.file_replacing.specs.Safe.{LeavesAlone, Others, RunAlone}
+
+module _ (lock name : List ℕ) where
+  -- nobody else does anything
+  pub alone : (laters : List (Option (List ℕ))) (d : Disk) → Others lock name laters d d
+  alone laters d = record {
+    mine = refl;
+    place = refl;
+    clean = refl;
+    locked = refl;
+    kept = λ k. k;
+    left = λ c l. inl l;
+    shown = λ c l. inl l;
+    held = λ has. record { leads = refl; bytes = refl; synced = refl; old = λ c l. l; reads = λ c r. r; apart = λ a. a };
+  }
