@@ -8,8 +8,8 @@ import pathlib, re, sys
 
 TOP = pathlib.Path(__file__).resolve().parent.parent
 CRATES = TOP / "crates"
-# Where the theorem is stated: of histories, of scripts, of merges, and of files of the first version.
-STATED = ["cluster_history/History", "lanes_main/ScriptRun", "replica_store/MergeLaws", "table_model/JoinLaws", "column_file/FirstVersion"]
+# Where the theorem is stated: of histories, of scripts, of merges, of files of the first version, and of crashes.
+STATED = ["cluster_history/History", "lanes_main/ScriptRun", "replica_store/MergeLaws", "table_model/JoinLaws", "column_file/FirstVersion", "file_commands/CrashLaws"]
 IMPORT = re.compile(r"^use Rattle\.(\w+)\.specs\.([\w.]+?)(?:\.\{| as |\.?$)", re.M)
 BEGIN, END = "<!-- written by docs/believed.py -->", "<!-- until here -->"
 

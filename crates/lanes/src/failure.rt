@@ -1,7 +1,7 @@
 //! Why a command failed, and what a person is told of it.
 
 use command_line::Fault;
-use refusal_sentences::{CommandRefusal, Knowledge, Pointer, Sentence};
+use refusal_sentences::{CommandRefusal, Knowledge, Pointer, Printable, Sentence};
 use std::alloc::{AllocError, AllocFailed, Global};
 use std::fs::{self, Files};
 use std::io::{ErrorKind, Write};
@@ -96,6 +96,19 @@ impl Failure {
                 knowledge,
             },
         )
+    }
+
+    /// A failed write, since what has the name of a file's lock is no lock that can be taken.
+    pub fn of_lock(alloc: Global, lock: &str) -> Failure {
+        let name = Printable(lock);
+        Failure {
+            fault: Fault::from(Refusal::WriteFault),
+            sentence: format!(in alloc;
+                "{name}: this is in the way: the lock of the file has this name, and this is no lock that can be taken\n"
+            ).ok(),
+            pointer: None,
+            is_for_terminals: false,
+        }
     }
 
     /// The same failure, with the place in a query that is shown at a terminal.
