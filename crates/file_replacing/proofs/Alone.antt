@@ -1,8 +1,7 @@
 -- Nobody else does anything.
-use Rattle.std.proofs.Common.{ℕ, List, [], ◌∷◌, ◌++◌, Option, Some, None, ◌≡◌, ◌≢◌, true, false, inl, refl, sym, ap, ◌∙◌, subst, append_assoc, Bool}
-use Rattle.file_replacing.specs.Event.{Event, Renamed, Settled}
-use Rattle.file_replacing.specs.Disk.{Disk, Takes}
-use Rattle.file_replacing.specs.Safe.{LeavesAlone, Others, RunAlone}
+use Rattle.std.proofs.Common.{ℕ, List, Option, inl, refl}
+use Rattle.file_replacing.specs.Disk.{Disk}
+use Rattle.file_replacing.specs.Safe.{Others}
 
 module _ (lock name : List ℕ) where
   -- nobody else does anything

@@ -1,5 +1,5 @@
 -- An error has a call that failed.
-use Rattle.std.proofs.Common.{◌≡◌, ◌⊎◌, inl, inr, List, [], ◌∷◌, ◌++◌, Result, Ok, Err, OnErr, refl, sym, ◌∙◌, ap, append_assoc}
+use Rattle.std.proofs.Common.{◌≡◌, inl, inr, List, [], ◌∷◌, ◌++◌, Result, Ok, Err, OnErr, refl, sym, ◌∙◌, ap, append_assoc}
 use Rattle.file_replacing.specs.Event.{Event, Synced}
 use Rattle.std.specs.Result.{is_ok}
 use Rattle.file_replacing.specs.Failed.{Fails, AnyFails, HasFailed}

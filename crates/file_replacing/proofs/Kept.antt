@@ -1,11 +1,10 @@
 -- What the calls keep for the next command.
-use Rattle.std.proofs.Common.{◌≡◌, ◌≢◌, ◌⊎◌, inl, inr, ⊎_elim, ℕ, Bool, true, false, ◌&&◌, List, [], ◌∷◌, Option, Some, None, refl, sym, ◌∙◌, ap, subst}
-use Rattle.std.specs.Str.{bytes_eq}
+use Rattle.std.proofs.Common.{◌≡◌, ◌≢◌, ◌⊎◌, inl, inr, ⊎_elim, ℕ, true, false, List, [], ◌∷◌, Option, Some, None, refl, sym, ◌∙◌, ap, subst}
 use Rattle.std.proofs.lemmas.Bool.{cond-true, cond-false}
 use Rattle.file_replacing.specs.Event.{Event, Opened, Locked, Compared, Emptied, Wrote, Synced, Renamed, Removed, Settled, Read, unanswered}
-use Rattle.file_replacing.specs.Disk.{Disk, Names, lead, move, Reaches, MayName, MayHold, Has, MayLeave, IsApart, IsFresh, led, moved, opened, Takes}
-use Rattle.file_replacing.specs.Safe.{HasLock, LeavesAlone, Others, Run, Moment, IsHeld, IsKept, IsOurs, AllOurs, Restarts}
-use Rattle.file_replacing.proofs.Lemmas.{other_name, same_bytes, led_names, has_along, leaves_led}
+use Rattle.file_replacing.specs.Disk.{Disk, Names, lead, move, Reaches, MayName, IsApart, IsFresh, led, moved, opened, Takes}
+use Rattle.file_replacing.specs.Safe.{Run, Moment, IsKept, IsOurs, AllOurs, Restarts}
+use Rattle.file_replacing.proofs.Lemmas.{other_name, same_bytes, led_names}
 
 some_none : (file : ℕ) → None ≡ Some file → ⊥
 some_none file e = cc

@@ -1,10 +1,10 @@
 -- What the calls leave as it was.
-use Rattle.std.proofs.Common.{◌≡◌, ◌≢◌, ◌⊎◌, inl, inr, ℕ, ◌+◌, ◌≤◌, ◌==◌, Bool, true, false, cond, List, [], ◌∷◌, ◌++◌, length, take, drop, Option, Some, None, refl, sym, ◌∙◌, ap, subst, arith, eqb, ⊎_elim}
+use Rattle.std.proofs.Common.{◌≡◌, ◌≢◌, ◌⊎◌, inl, inr, ℕ, ◌+◌, Bool, true, false, List, ◌++◌, length, drop, Option, Some, None, refl, sym, ◌∙◌, ap, arith}
 use Rattle.std.specs.Str.{bytes_eq}
-use Rattle.std.proofs.lemmas.Bool.{eq-eqb, ne_eqb, cond-true, cond-false, false_from_ne_true, cases_eq}
+use Rattle.std.proofs.lemmas.Bool.{eq-eqb, ne_eqb, cond-true, cond-false, false_from_ne_true}
 use Rattle.std.proofs.lemmas.Slice.Eq.{bytes_eq-Decides}
 use Rattle.std.proofs.lemmas.List.{take_all, drop_all, append-nil}
-use Rattle.file_replacing.specs.Disk.{Disk, Names, lead, move, Reaches, MayName, MayHold, Has, MayLeave, MayShow, Reads, IsApart, led, moved, filled, overlaid}
+use Rattle.file_replacing.specs.Disk.{Disk, Names, lead, move, MayName, MayHold, Has, MayLeave, IsApart, led, moved, filled, overlaid}
 
 pub other_name : (n m : List ℕ) → n ≢ m → bytes_eq n m ≡ false
 other_name n m ne = false_from_ne_true _ (λ e. ne ((bytes_eq-Decides n m).0 e))

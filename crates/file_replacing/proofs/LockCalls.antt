@@ -1,5 +1,5 @@
 -- Calls on a lock, one after another.
-use Rattle.std.proofs.Common.{◌≡◌, ◌≢◌, ℕ, Bool, true, false, not, List, [], ◌∷◌, ◌++◌, refl, sym, ◌∙◌, ap, append_assoc}
+use Rattle.std.proofs.Common.{◌≡◌, ◌≢◌, ℕ, Bool, true, List, [], ◌∷◌, ◌++◌, refl, sym, ◌∙◌, ap, append_assoc}
 use Rattle.file_replacing.specs.Event.{Event, Opened, Locked, Compared}
 use Rattle.file_replacing.specs.Safe.{TakesLock}
 use Rattle.file_replacing.specs.Locking.{IsLocking, AllLocking, OnlyLocks}
@@ -28,8 +28,8 @@ module _ (lock : List ℕ) where
       → got ≡ true → same ≡ true → TakesLock lock name h0 h3
   taken name apart got same h0 h1 h2 h3 first second third is_got is_same =
       takes_lock lock name apart h0 h3 (
-        third
-        ∙ ap (λ (h : List Event). Compared lock same ∷ h) (second ∙ ap (λ (h : List Event). Locked got ∷ h) first)
-        ∙ ap (λ (b : Bool). Compared lock b ∷ Locked got ∷ Opened lock true ∷ h0) is_same
-        ∙ ap (λ (b : Bool). Compared lock true ∷ Locked b ∷ Opened lock true ∷ h0) is_got
+      third
+      ∙ ap (λ (h : List Event). Compared lock same ∷ h) (second ∙ ap (λ (h : List Event). Locked got ∷ h) first)
+      ∙ ap (λ (b : Bool). Compared lock b ∷ Locked got ∷ Opened lock true ∷ h0) is_same
+      ∙ ap (λ (b : Bool). Compared lock true ∷ Locked b ∷ Opened lock true ∷ h0) is_got
       )

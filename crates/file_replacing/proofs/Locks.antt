@@ -1,9 +1,9 @@
 -- The calls that have a lock.
-use Rattle.std.proofs.Common.{◌≡◌, ◌≢◌, ◌⊎◌, inl, inr, ⊎_elim, ℕ, Bool, true, false, IsTrue, List, [], ◌∷◌, ◌++◌, Option, Some, None, refl, sym, ◌∙◌, ap, subst, append_assoc}
+use Rattle.std.proofs.Common.{◌≡◌, ◌≢◌, ◌⊎◌, inl, inr, ⊎_elim, ℕ, true, false, List, [], ◌∷◌, ◌++◌, Option, Some, None, refl, sym, ◌∙◌, ap, subst, append_assoc}
 use Rattle.std.specs.List.{Contains}
-use Rattle.file_replacing.specs.Event.{Event, Opened, Locked, Compared, Emptied, Wrote, Synced, Renamed, Removed, Settled, Read, unanswered}
-use Rattle.file_replacing.specs.Disk.{Disk, MayLeave, IsApart, led, opened, Takes}
-use Rattle.file_replacing.specs.Safe.{HasLock, LeavesAlone, Others, Run, Moment, IsHeld, IsKept, IsOurs, AllOurs, StaysKept, TakesLock, StaysOld}
+use Rattle.file_replacing.specs.Event.{Event, Opened, Locked, Compared, Removed, Read, unanswered}
+use Rattle.file_replacing.specs.Disk.{Disk, MayLeave, IsApart, Takes}
+use Rattle.file_replacing.specs.Safe.{Others, Run, Moment, IsHeld, IsKept, IsOurs, AllOurs, StaysKept, TakesLock, StaysOld}
 use Rattle.file_replacing.specs.Locking.{IsLocking, AllLocking, OnlyLocks}
 use Rattle.file_replacing.proofs.Lemmas.{leaves_led}
 use Rattle.file_replacing.proofs.Kept.{kept_run, kept_moment}

@@ -1,7 +1,7 @@
 -- A lock that was renamed is gone.
-use Rattle.std.proofs.Common.{◌≡◌, ◌≢◌, ℕ, Bool, true, false, List, [], ◌∷◌, ◌++◌, None, refl, sym, ◌∙◌, ap, append_assoc}
+use Rattle.std.proofs.Common.{◌≡◌, ◌≢◌, ℕ, Bool, true, false, List, [], ◌∷◌, ◌++◌, None, sym, ◌∙◌, ap, append_assoc}
 use Rattle.file_replacing.specs.Event.{Event, Renamed, Settled}
-use Rattle.file_replacing.specs.Disk.{Disk, Takes}
+use Rattle.file_replacing.specs.Disk.{Disk}
 use Rattle.file_replacing.specs.Safe.{RunAlone, LeavesNoLock}
 use Rattle.file_replacing.proofs.Kept.{none_moved}
 use Rattle.file_replacing.proofs.Splits.{alone_split}

@@ -1,14 +1,14 @@
 -- A run of calls in turn leaves the old bytes or the new ones.
-use Rattle.std.proofs.Common.{◌≡◌, ◌≢◌, ◌⊎◌, inl, inr, ⊎_elim, ℕ, ◌+◌, ◌≤◌, Bool, true, false, ◌&&◌, List, [], ◌∷◌, ◌++◌, length, take, drop, Option, Some, None, refl, sym, ◌∙◌, ap, subst, arith, length-append, length-take}
+use Rattle.std.proofs.Common.{◌≡◌, ◌≢◌, ◌⊎◌, inl, inr, ⊎_elim, ℕ, ◌+◌, ◌≤◌, Bool, true, false, ◌&&◌, List, [], ◌∷◌, ◌++◌, length, take, Option, Some, None, refl, sym, ◌∙◌, ap, subst, arith, length-append, length-take}
 use Rattle.std.specs.List.{Contains}
 use Rattle.std.specs.Str.{bytes_eq}
-use Rattle.std.proofs.lemmas.Bool.{cond-true, cond-false, eq-eqb, and_parts, ne_eqb, cases_eq, cases_Bool}
+use Rattle.std.proofs.lemmas.Bool.{cond-true, cond-false, eq-eqb, and_parts, ne_eqb}
 use Rattle.std.proofs.lemmas.Slice.Eq.{bytes_eq-Decides}
 use Rattle.file_replacing.specs.Event.{Event, Opened, Locked, Compared, Emptied, Wrote, Synced, Renamed, Removed, Settled, Read, unanswered}
-use Rattle.file_replacing.specs.Disk.{Disk, Names, MayName, MayHold, Has, MayLeave, MayShow, IsApart, led, moved, filled, overlaid, Takes}
-use Rattle.file_replacing.specs.Safe.{HasLock, LeavesAlone, Others, Run, Moment, IsHeld, OldOrNew, IsNew, IsOld, IsInPlace}
+use Rattle.file_replacing.specs.Disk.{Disk, Names, MayHold, Has, MayLeave, MayShow, IsApart, moved, filled, overlaid, Takes}
+use Rattle.file_replacing.specs.Safe.{HasLock, Others, Run, Moment, IsHeld, OldOrNew, IsNew, IsOld, IsInPlace}
 use Rattle.file_replacing.specs.Phase.{Phase, Holding, Dirty, Filled, Ready, InPlace, Stored, Unsure, Back, Gone, GoneUnsure, Bad, emptied, wrote, synced, renamed, renamed_from, removed, settled, compared, next, phase_after, Goes}
-use Rattle.file_replacing.proofs.Lemmas.{same_bytes, has_along, holds_other, leaves_filled, leaves_led, moved_names, has_synced, mine_filled, at_end}
+use Rattle.file_replacing.proofs.Lemmas.{same_bytes, has_along, leaves_filled, leaves_led, moved_names, has_synced, mine_filled, at_end}
 
 module _ (lock name new : List ℕ) where
   -- a call out of turn stays so

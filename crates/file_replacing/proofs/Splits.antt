@@ -1,8 +1,8 @@
 -- A run of calls, and then of others.
-use Rattle.std.proofs.Common.{◌≡◌, ◌⊎◌, inl, inr, ℕ, List, [], ◌∷◌, ◌++◌, Option, refl}
-use Rattle.file_replacing.specs.Event.{Event, unanswered}
-use Rattle.file_replacing.specs.Disk.{Disk, Takes}
-use Rattle.file_replacing.specs.Safe.{Others, Run, Moment, RunAlone}
+use Rattle.std.proofs.Common.{◌⊎◌, inl, inr, ℕ, List, [], ◌∷◌, ◌++◌, Option, refl}
+use Rattle.file_replacing.specs.Event.{Event}
+use Rattle.file_replacing.specs.Disk.{Disk}
+use Rattle.file_replacing.specs.Safe.{Run, Moment, RunAlone}
 use Rattle.file_replacing.proofs.Alone.{alone}
 
 module _ (lock name : List ℕ) (laters : List (Option (List ℕ))) where

@@ -1,5 +1,5 @@
 -- How the calls lead from phase to phase.
-use Rattle.std.proofs.Common.{◌≡◌, ◌≢◌, ℕ, zero, suc, ◌-◌, Result, Ok, Err, OnOk, OnErr, ◌+◌, ◌≤◌, Bool, true, false, List, [], ◌∷◌, ◌++◌, length, take, drop, Option, Some, None, refl, sym, ◌∙◌, ap, subst, append_assoc, arith}
+use Rattle.std.proofs.Common.{◌≡◌, ◌≢◌, ℕ, zero, suc, ◌-◌, Result, Ok, Err, OnOk, OnErr, ◌+◌, Bool, true, List, [], ◌∷◌, ◌++◌, length, take, drop, refl, sym, ◌∙◌, ap, append_assoc, arith}
 use Rattle.std.specs.Str.{bytes_eq}
 use Rattle.std.proofs.lemmas.Slice.Eq.{bytes_eq-Decides}
 use Rattle.std.specs.Result.{is_ok}
@@ -9,7 +9,7 @@ use Rattle.file_replacing.specs.Event.{Event, Wrote, Renamed, Removed, Compared}
 use Rattle.file_replacing.specs.declared.outcome.Replaced.{Replaced}
 use Rattle.file_replacing.specs.declared.outcome.Replaced.TheVariants.{Synced, Unsynced}
 use Rattle.file_replacing.specs.Outcome.{phase_of}
-use Rattle.file_replacing.specs.Phase.{Phase, Dirty, Filled, Ready, InPlace, Stored, Unsure, Back, Gone, GoneUnsure, Bad, next, removed, renamed, phase_after, Goes, GoesBack}
+use Rattle.file_replacing.specs.Phase.{Phase, Dirty, Filled, Ready, Unsure, Back, Gone, GoneUnsure, Bad, next, removed, renamed, phase_after, Goes, GoesBack}
 
 pub same_name : (n : List ℕ) → bytes_eq n n ≡ true
 same_name n = (bytes_eq-Decides n n).1 refl

@@ -1,12 +1,12 @@
 -- Of a command that takes the lock and replaces the file, and of one that reads the file first.
-use Rattle.std.proofs.Common.{◌≡◌, ◌≢◌, ◌⊎◌, inl, inr, ⊎_elim, ℕ, List, [], ◌∷◌, ◌++◌, Option, Some, None, refl, sym, ◌∙◌, ap, subst, append_assoc}
+use Rattle.std.proofs.Common.{◌≡◌, ◌≢◌, ◌⊎◌, inl, inr, ⊎_elim, ℕ, List, [], ◌∷◌, ◌++◌, Option, Some, sym, ◌∙◌, ap, subst, append_assoc}
 use Rattle.std.specs.List.{Contains}
 use Rattle.std.proofs.lemmas.List.{append_cancel_right}
 use Rattle.file_replacing.specs.Event.{Event, Read}
-use Rattle.file_replacing.specs.Disk.{Disk, MayLeave, MayShow, Reads}
+use Rattle.file_replacing.specs.Disk.{Disk, MayLeave, Reads}
 use Rattle.file_replacing.specs.Locking.{OnlyLocks}
-use Rattle.file_replacing.specs.Safe.{LeavesAlone, Others, Run, Moment, IsHeld, IsKept, TakesLock, StaysOld, OldOrNew, IsNew, IsOld, IsInPlace}
-use Rattle.file_replacing.specs.Whole.{OldOrNewThroughout, HoldingThenReplacing, OldOrChanged, IsChanged, IsChangedInPlace, IsUnchanged}
+use Rattle.file_replacing.specs.Safe.{Run, Moment, IsHeld, OldOrNew, IsNew, IsOld, IsInPlace}
+use Rattle.file_replacing.specs.Whole.{HoldingThenReplacing, OldOrChanged, IsChanged, IsChangedInPlace, IsUnchanged}
 use Rattle.file_replacing.proofs.Splits.{run_is_moment, moment_split, run_split}
 use Rattle.file_replacing.proofs.Locks.{held_on, stays_old, old_moment}
 

@@ -1,10 +1,9 @@
 -- The premises can be met: there is a disk on which the lock is had, and a run of all calls from it.
-use Rattle.std.proofs.Common.{◌≡◌, ◌≢◌, ◌⊎◌, inl, inr, ℕ, ◌+◌, ◌==◌, if◌then◌else◌, ◌≤◌, Bool, true, false, List, [], ◌∷◌, length, take, Option, Some, None, refl, sym, ◌∙◌, ap, arith}
-use Rattle.std.specs.Str.{bytes_eq}
+use Rattle.std.proofs.Common.{◌≡◌, ◌≢◌, inl, inr, ℕ, ◌+◌, ◌==◌, if◌then◌else◌, true, false, List, [], ◌∷◌, length, take, Option, Some, None, refl, sym, ◌∙◌, ap, arith}
 use Rattle.std.proofs.lemmas.Bool.{cond-true, cond-false}
-use Rattle.file_replacing.specs.Event.{Event, Emptied, Wrote, Synced, Renamed, Settled}
-use Rattle.file_replacing.specs.Disk.{Disk, Names, MayName, led, moved, filled, overlaid, lead}
-use Rattle.file_replacing.specs.Safe.{HasLock, Run, IsHeld, IsKept}
+use Rattle.file_replacing.specs.Event.{Emptied, Wrote, Synced, Renamed, Settled}
+use Rattle.file_replacing.specs.Disk.{Disk, Names, MayName, moved, filled, overlaid, lead}
+use Rattle.file_replacing.specs.Safe.{Run, IsHeld}
 use Rattle.file_replacing.proofs.Alone.{alone}
 use Rattle.file_replacing.proofs.Lemmas.{other_name, same_bytes}
 

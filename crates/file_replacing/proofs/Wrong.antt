@@ -1,10 +1,10 @@
 -- The statements are false of the histories of wrong bodies.
-use Rattle.std.proofs.Common.{◌≡◌, ◌≢◌, ◌⊎◌, inl, inr, ⊎_elim, ℕ, ◌+◌, ◌≤◌, ◌<◌, Bool, true, false, ◌==◌, if◌then◌else◌, List, [], ◌∷◌, length, take, Option, Some, None, refl, sym, ◌∙◌, ap, subst, arith}
+use Rattle.std.proofs.Common.{◌≡◌, ◌≢◌, ◌⊎◌, inl, inr, ⊎_elim, ℕ, ◌+◌, true, false, ◌==◌, if◌then◌else◌, List, [], ◌∷◌, length, take, Option, Some, None, refl, sym, ◌∙◌, ap, subst, arith}
 use Rattle.std.specs.List.{Contains}
 use Rattle.std.proofs.lemmas.Bool.{cond-true, cond-false}
-use Rattle.file_replacing.specs.Event.{Event, Opened, Emptied, Wrote, Synced, Renamed, Removed, Settled}
+use Rattle.file_replacing.specs.Event.{Event, Opened, Emptied, Wrote, Synced, Renamed, Removed}
 use Rattle.file_replacing.specs.Disk.{Disk, Names, MayName, MayHold, MayLeave, MayShow, led, moved, filled, opened, overlaid}
-use Rattle.file_replacing.specs.Safe.{HasLock, LeavesAlone, Others, Run, Moment, IsHeld, IsKept}
+use Rattle.file_replacing.specs.Safe.{Others, Run, Moment, IsHeld}
 use Rattle.file_replacing.proofs.Lemmas.{same_bytes, other_name, led_names, has_along}
 use Rattle.file_replacing.proofs.Kept.{led_both}
 use Rattle.file_replacing.proofs.Alone.{alone}

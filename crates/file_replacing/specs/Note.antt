@@ -1,5 +1,5 @@
 -- How a call is noted: by numbers, of which the first says which call and the second whether it succeeded, and by its texts.
-use Rattle.std.specs.Prelude.{ℕ, Bool, true, false, List, [], ◌∷◌, ◌==◌, map, slice_index, Option, Some, None, if◌then◌else◌}
+use Rattle.std.specs.Prelude.{ℕ, Bool, true, false, List, ◌==◌, map, slice_index, Option, Some, None, if◌then◌else◌}
 use Rattle.file_replacing.specs.Event.{Event, Opened, Locked, Compared, Emptied, Wrote, Synced, Renamed, Removed, Settled, Read}
 
 abbrev pub Noted : Type 0

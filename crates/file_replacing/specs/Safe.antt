@@ -1,5 +1,5 @@
 -- What a crash at any moment leaves, beside other processes.
-use Rattle.std.specs.Prelude.{◌≡◌, ◌≢◌, ◌⊎◌, ℕ, Bool, true, List, [], ◌∷◌, ◌++◌, Option, Some, None, Contains}
+use Rattle.std.specs.Prelude.{◌≡◌, ◌≢◌, ◌⊎◌, ℕ, true, List, [], ◌∷◌, ◌++◌, Option, Some, None, Contains}
 use Rattle.file_replacing.specs.Event.{Event, Opened, Renamed, Removed, unanswered}
 use Rattle.file_replacing.specs.Disk.{Disk, Names, MayName, MayHold, MayLeave, MayShow, Reads, IsApart, Takes}
 

@@ -1,5 +1,5 @@
 -- Of a command that takes the lock and replaces the file, and of one that reads the file first.
-use Rattle.std.specs.Prelude.{◌≡◌, ◌≢◌, ◌⊎◌, ℕ, List, ◌++◌, Option, Some, Contains}
+use Rattle.std.specs.Prelude.{◌≡◌, ◌⊎◌, ℕ, List, ◌++◌, Option, Some, Contains}
 use Rattle.file_replacing.specs.Event.{Event}
 use Rattle.file_replacing.specs.Disk.{Disk, MayLeave, MayShow, Reads}
 use Rattle.file_replacing.specs.Safe.{Run, Moment, IsHeld, IsKept, TakesLock, StaysOld, OldOrNew}

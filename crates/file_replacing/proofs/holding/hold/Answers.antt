@@ -1,5 +1,4 @@
-use Rattle.std.proofs.Common.{◌≡◌, ◌≢◌, List, ℕ, OnOk, subst}
-use Rattle.file_replacing.specs.Event.{Event}
+use Rattle.std.proofs.Common.{List, ℕ, OnOk}
 use Rattle.file_replacing.specs.Safe.{TakesLock, StaysOld, StaysKept}
 use Rattle.file_replacing.specs.Locking.{OnlyLocks}
 use Rattle.file_replacing.proofs.LongerNames.{longer_is_other, along}
@@ -14,7 +13,7 @@ pub returns-clause-any_moment : goal.returns-clause-any_moment
 returns-clause-any_moment g c =
     let apart = longer_is_other _ _ _ _ c.args.place.now.longer c.lock.ensures c.name.ensures in
     along (λ (l n : List ℕ). StaysOld l n (g.F.Folder.history c.args.folder.now) (g.F.Folder.history c.lock_and_take_mode.new.folder)) c.lock.result.now _ c.name.result.now _ c.lock.ensures c.name.ensures
-        (stays_old c.lock.result.now c.name.result.now apart _ _ c.lock_and_take_mode.ensures.locks)
+    (stays_old c.lock.result.now c.name.result.now apart _ _ c.lock_and_take_mode.ensures.locks)
 
 pub returns-clause-locks : goal.returns-clause-locks
 returns-clause-locks g c =
@@ -24,4 +23,4 @@ pub returns-clause-kept : goal.returns-clause-kept
 returns-clause-kept g c =
     let apart = longer_is_other _ _ _ _ c.args.place.now.longer c.lock.ensures c.name.ensures in
     along (λ (l n : List ℕ). StaysKept l n (g.F.Folder.history c.args.folder.now) (g.F.Folder.history c.lock_and_take_mode.new.folder)) c.lock.result.now _ c.name.result.now _ c.lock.ensures c.name.ensures
-        (stays_kept c.lock.result.now c.name.result.now apart _ _ c.lock_and_take_mode.ensures.locks)
+    (stays_kept c.lock.result.now c.name.result.now apart _ _ c.lock_and_take_mode.ensures.locks)

@@ -1,5 +1,5 @@
-use Rattle.std.proofs.Common.{◌≡◌, List, [], ◌∷◌, true, false, refl}
-use Rattle.file_replacing.specs.Event.{Event, Opened, Locked, Compared, Removed}
+use Rattle.std.proofs.Common.{[], ◌∷◌, true, refl}
+use Rattle.file_replacing.specs.Event.{Opened, Locked, Compared}
 use Rattle.file_replacing.proofs.Steps.{on_err}
 use Rattle.file_replacing.proofs.Failing.{fails_now, fails_later}
 use Rattle.file_replacing.proofs.LockCalls.{one, more, taken}
@@ -51,4 +51,4 @@ pub returns-in-Err-clause-cause : goal.returns-in-Err-clause-cause
 returns-in-Err-clause-cause g c =
     let lock = c.args.lock.now in
     fails_later _ _ _ (Opened lock true ∷ []) c.in_ok-open.ensures
-        (fails_later _ _ _ (Locked _ ∷ []) c.in_ok-try_lock.ensures (fails_later _ _ _ (Compared lock _ ∷ []) c.is_named.ensures (fails_now _ _ _ c.in-Err.ensures refl)))
+    (fails_later _ _ _ (Locked _ ∷ []) c.in_ok-try_lock.ensures (fails_later _ _ _ (Compared lock _ ∷ []) c.is_named.ensures (fails_now _ _ _ c.in-Err.ensures refl)))

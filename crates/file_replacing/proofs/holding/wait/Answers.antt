@@ -1,4 +1,4 @@
-use Rattle.std.proofs.Common.{rules, ◌≡◌, ◌≢◌, List, ℕ, true}
+use Rattle.std.proofs.Common.{rules, ◌≡◌, true}
 use Rattle.file_replacing.proofs.Locks.{takes_at_last}
 use Rattle.file_replacing.proofs.LockCalls.{joined}
 use Rattle.file_replacing.proofs.holding.wait.Goals as goal

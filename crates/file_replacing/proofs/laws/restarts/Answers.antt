@@ -1,4 +1,4 @@
-use Rattle.std.proofs.Common.{◌≡◌, ◌≢◌, ℕ, List, Option, Some, None, sym, subst}
+use Rattle.std.proofs.Common.{ℕ, List, Option, Some, None, sym, subst}
 use Rattle.file_replacing.specs.Disk.{Disk, MayHold, MayLeave, Reads}
 use Rattle.file_replacing.specs.Safe.{Restarts}
 use Rattle.file_replacing.proofs.Kept.{kept_restart}

@@ -1,8 +1,8 @@
-use Rattle.std.proofs.Common.{◌≡◌, ◌≢◌, List, ℕ, Result, Ok, Err, OnOk, OnErr, IfOk, refl, ◌∙◌}
+use Rattle.std.proofs.Common.{List, ℕ, Result, Ok, Err, OnOk, OnErr, IfOk, ◌∙◌}
 use Rattle.std.specs.Result.{is_ok}
 use Rattle.file_replacing.specs.declared.outcome.Replaced.{Replaced}
 use Rattle.file_replacing.specs.Event.{Event}
-use Rattle.file_replacing.specs.Phase.{Phase, Holding, Ready, Stored, Gone, Bad, Goes, GoesInTurn}
+use Rattle.file_replacing.specs.Phase.{Holding, Ready, Gone, Goes, GoesInTurn}
 use Rattle.file_replacing.specs.Outcome.{phase_of}
 use Rattle.file_replacing.specs.Safe.{LeavesNoLock}
 use Rattle.file_replacing.specs.Failed.{HasFailed}

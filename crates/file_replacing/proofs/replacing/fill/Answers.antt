@@ -1,6 +1,5 @@
-use Rattle.std.proofs.Common.{refl, ap, ◌∙◌, ◌∷◌, [], List, false}
-use Rattle.file_replacing.specs.Event.{Event, Emptied, Synced, Settled}
-use Rattle.file_replacing.specs.Phase.{Phase, Holding, Filled}
+use Rattle.std.proofs.Common.{refl, []}
+use Rattle.file_replacing.specs.Phase.{Holding}
 use Rattle.file_replacing.proofs.Steps.{starts, stays, goes_on, joins, back, joins_back, on_err, ends_ok, ends_err}
 use Rattle.file_replacing.proofs.Failing.{fails_now, fails_later, ends_failed}
 use Rattle.file_replacing.proofs.replacing.fill.Goals as goal

@@ -1,6 +1,6 @@
-use Rattle.std.proofs.Common.{◌≡◌, refl, ap, ◌∙◌, true, false, List, ◌∷◌}
-use Rattle.file_replacing.specs.Event.{Event, Compared}
-use Rattle.file_replacing.specs.Phase.{Phase, Ready, InPlace, Stored, Unsure, Back, GoneUnsure}
+use Rattle.std.proofs.Common.{refl, ap, ◌∙◌, true, false, ◌∷◌}
+use Rattle.file_replacing.specs.Event.{Compared}
+use Rattle.file_replacing.specs.Phase.{Ready, InPlace, Unsure, Back, GoneUnsure}
 use Rattle.std.specs.Result.{is_ok}
 use Rattle.file_replacing.proofs.Steps.{starts, goes_on, renames, removes, compares, gone_unsure_in_turn, unsure_in_turn}
 use Rattle.file_replacing.proofs.NoLock.{no_lock}

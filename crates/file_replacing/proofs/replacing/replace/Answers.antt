@@ -1,12 +1,10 @@
-use Rattle.std.proofs.Common.{◌≡◌, ◌≢◌, List, ℕ, Result, Ok, Err, OnOk, OnErr, IfOk, refl, sym, ◌∙◌, ap, subst}
+use Rattle.std.proofs.Common.{◌≡◌, ◌≢◌, List, ℕ, Result, Ok, Err, OnOk, IfOk}
 use Rattle.std.specs.Prelude.{IsErrOf}
-use Rattle.std.specs.String.{string_bytes}
-use Rattle.file_replacing.specs.declared.outcome.ReplaceError.{ReplaceError}
 use Rattle.file_replacing.specs.declared.outcome.ReplaceError.TheVariants.{Unchanged}
 use Rattle.file_replacing.specs.declared.outcome.Replaced.{Replaced}
 use Rattle.file_replacing.specs.declared.outcome.Replaced.TheVariants.{Synced, Unsynced}
 use Rattle.file_replacing.specs.Event.{Event}
-use Rattle.file_replacing.specs.Phase.{Phase, Holding, Stored, Goes}
+use Rattle.file_replacing.specs.Phase.{Holding, Goes}
 use Rattle.file_replacing.specs.Outcome.{phase_of}
 use Rattle.file_replacing.specs.Safe.{OldOrNew, IsNew, IsOld, IsInPlace, LeavesNoLock, OnlyOurs, StaysKept}
 use Rattle.file_replacing.proofs.Sound.{old_or_new, is_new, is_old, is_in_place, new_in_place}

@@ -1,6 +1,5 @@
-use Rattle.std.proofs.Common.{◌≡◌, ◌≤◌, ◌+◌, ◌-◌, ◌++◌, ℕ, List, ap, refl, length, length-take, length-drop, take, drop, Some, None, [], arith, ◌∙◌, sym, subst}
-use Rattle.file_replacing.specs.Event.{Event, Wrote}
-use Rattle.file_replacing.specs.Phase.{Phase, Dirty, Filled, Goes, GoesBack}
+use Rattle.std.proofs.Common.{refl, length-take, length-drop, arith}
+use Rattle.file_replacing.specs.Phase.{Dirty}
 use Rattle.file_replacing.proofs.Steps.{goes_on, back, one_more, on_err}
 use Rattle.file_replacing.proofs.Failing.{fails_now, fails_later}
 use Rattle.file_replacing.proofs.replacing.write_all.Goals as goal
