@@ -45,43 +45,29 @@ impl<'a> Change<'a> {
         folder: &mut F,
         place: &Place,
     ) -> Result<Done, Refusal> {
-        match self {
+        let (answer, replaced) = match self {
             Change::Create { table, columns } => {
                 let replaced = file_commands::create(alloc, folder, place, table, columns)?;
-                Ok(Done {
-                    answer: Answer::Created,
-                    replaced: Some(replaced),
-                })
+                (Answer::Created, Some(replaced))
             }
             Change::Import { load, first, words } => {
                 let done = file_commands::import(alloc, folder, place, load, first, words)?;
-                Ok(Done {
-                    answer: Answer::Imported(done.answer),
-                    replaced: done.replaced,
-                })
+                (Answer::Imported(done.answer), done.replaced)
             }
             Change::Delete { condition } => {
                 let done = file_commands::delete(alloc, folder, place, condition)?;
-                Ok(Done {
-                    answer: Answer::Deleted(done.answer),
-                    replaced: done.replaced,
-                })
+                (Answer::Deleted(done.answer), done.replaced)
             }
             Change::DeleteRows { first, last } => {
                 let done = file_commands::delete_rows(alloc, folder, place, first, last)?;
-                Ok(Done {
-                    answer: Answer::DeletedRows(done.answer),
-                    replaced: done.replaced,
-                })
+                (Answer::DeletedRows(done.answer), done.replaced)
             }
             Change::Apply { offers } => {
                 let done = file_commands::apply(alloc, folder, place, offers)?;
-                Ok(Done {
-                    answer: Answer::Applied(done.answer),
-                    replaced: done.replaced,
-                })
+                (Answer::Applied(done.answer), done.replaced)
             }
-        }
+        };
+        Ok(Done { answer, replaced })
     }
 
     /// Whether the change would be refused of a file as it is, whose lock can't be had.

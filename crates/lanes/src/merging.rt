@@ -21,10 +21,7 @@ pub fn merge<R: Print + Eprint + Files<File = File> + Clock + AllocGlobal>(
     names: &[&str],
 ) -> Result<(), Failure> {
     let outcome = if is_special(rt, out) {
-        match merged_files(rt, names, names) {
-            Ok(bytes) => write_in_place(rt, out, bytes.as_slice()),
-            Err(failure) => Err(failure),
-        }
+        fill(rt, out, names)
     } else {
         replace(rt, out, names)
     };
@@ -35,6 +32,16 @@ pub fn merge<R: Print + Eprint + Files<File = File> + Clock + AllocGlobal>(
         Ok(()) => Ok(()),
         Err(refusal) => Err(unwritten(rt.alloc(), refusal).for_terminals()),
     }
+}
+
+/// Writes what all of some files hold to what is no regular file.
+fn fill<R: Files + AllocGlobal>(rt: &R, out: &str, names: &[&str]) -> Result<(), Failure> {
+    let mut sources = Vec::new(rt.alloc());
+    for name in names {
+        sources.push(*name)?;
+    }
+    let bytes = merged_files(rt, names, sources.as_slice())?;
+    write_in_place(rt, out, bytes.as_slice())
 }
 
 /// Replaces a file by what all of some files hold. Those that are the file itself are read under the name that its lock is of, so that a
