@@ -8,7 +8,7 @@ import re
 import secrets
 from typing import Iterable, Mapping, NamedTuple, Optional, Union
 
-from . import calls
+from . import calls, replacing
 from .answer import Answer
 
 #: How much room an answer's text is given at first, and a file beside its inputs.
@@ -88,25 +88,14 @@ class Table:
         return bytes(self._file)
 
     def save(self, path: Union[str, os.PathLike[str]]) -> None:
-        """Writes the file, in one step: whoever opens it meets the old one or the new one, whole.
+        """Writes the file, in one step: whoever opens it meets the old one or the new one, whole, also after a crash. The program `lanes`
+        takes the same lock.
 
         Raises:
+            TimeoutError: another process has had the file for ten seconds. It is as it was.
             OSError: the file can't be written. It is as it was.
         """
-        target = os.path.realpath(path)
-        part = os.path.join(os.path.dirname(target), f".lanes-{secrets.token_hex(8)}")
-        descriptor = os.open(part, os.O_WRONLY | os.O_CREAT | os.O_EXCL | os.O_CLOEXEC, 0o666)
-        try:
-            with os.fdopen(descriptor, "wb") as file:
-                if os.path.exists(target):
-                    os.fchmod(file.fileno(), os.stat(target).st_mode & 0o7777)
-                file.write(self.to_bytes())
-                file.flush()
-                os.fsync(file.fileno())
-            os.replace(part, target)
-        except BaseException:
-            os.unlink(part)
-            raise
+        replacing.replace(path, self.to_bytes())
 
     def check(self) -> tuple[int, int]:
         """How many batches there are, and how many maximal ranges of deleted rows. The file is judged anew.

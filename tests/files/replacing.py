@@ -1,5 +1,6 @@
 """How a file is replaced: whole, with its mode, through links, in an order of system calls that no crash can spoil, or not at all."""
 
+import fcntl
 import os
 import random
 import re
@@ -8,6 +9,7 @@ import shutil
 import signal
 import stat
 import subprocess
+import time
 
 from room import Lacking, rows_text
 
@@ -91,6 +93,83 @@ def a_symbolic_link_stays_one(room):
     room.only("link", "real")
 
 
+def taken(room, lock):
+    """A lock that this test has, as a file."""
+    file = open(room.path(lock), "wb")
+    fcntl.flock(file, fcntl.LOCK_EX)
+    return file
+
+
+def a_link_that_is_switched_while_a_command_waits_loses_nothing(room):
+    for words, given in ((("import", "--no-header", "--batch", "9.1", "link", "-"), b"9,9\n"), (("merge", "link", "link", "more"), b"")):
+        room.make("t")
+        room.ok("create", "u", "T", "A", "SMALLINT", "B", "BIGINT")
+        room.ok("import", "--no-header", "--batch", "2.1", "u", "-", given=b"2,2\n")
+        room.ok("create", "more", "T", "A", "SMALLINT", "B", "BIGINT")
+        room.ok("import", "--no-header", "--batch", "9.1", "more", "-", given=b"9,9\n")
+        other = room.get("u")
+        os.symlink("t", room.path("link"))
+        with taken(room, LOCK):
+            with room.start(*words, stdin=subprocess.PIPE) as waiting:
+                waiting.stdin.write(given)
+                waiting.stdin.close()
+                time.sleep(0.7)
+                os.symlink("u", room.path("new"))
+                os.rename(room.path("new"), room.path("link"))
+                os.remove(room.path(LOCK))
+                assert waiting.wait(60) == 0, f"it said {waiting.stderr.read()!r}"
+        assert room.get("u") == other
+        room.ok("query", "t", "SELECT COUNT(*),SUM(A) FROM T", prints=b"COUNT(*),SUM(A)\n4,12\n")
+        for name in room.names():
+            os.remove(room.path(name))
+
+
+def a_hard_link_to_the_file_that_has_the_locks_name_is_no_lock(room):
+    held = room.make()
+    os.link(room.path("t"), room.path(LOCK))
+    room.ok("delete", "t", "A = 7", prints=b"ok 0\n")
+    assert room.get("t") == held
+    os.link(room.path("t"), room.path(LOCK))
+    room.refused("delete", "t", "A = ", line="refused Syntax 4")
+    assert room.get("t") == held
+    os.link(room.path("t"), room.path(LOCK))
+    room.ok("import", "--no-header", "--batch", "2.1", "t", "-", given=b"3,40\n")
+    room.ok("check", "t", prints=b"ok batches=2 ranges=0\n")
+    room.only("t")
+
+
+def what_is_no_lock_and_has_its_name_is_told_by_name(room):
+    held = room.make()
+    sentence = f"{room.path(LOCK)}: this is in the way: the lock of the file has this name, and this is no lock that can be taken"
+    os.symlink("elsewhere", room.path(LOCK))
+    room.refused("delete", "t", "A = 1", line="refused WriteFault", sentence=sentence)
+    room.refused("delete", "t", "A = ", line="refused Syntax 4")
+    room.only(LOCK, "t")
+    room.put("elsewhere", b"something")
+    room.refused("delete", "t", "A = 1", line="refused WriteFault", sentence=sentence)
+    assert room.get("elsewhere") == b"something"
+    os.remove(room.path(LOCK))
+    os.mkdir(room.path(LOCK))
+    room.refused("delete", "t", "A = 1", line="refused WriteFault", sentence=sentence)
+    assert room.get("t") == held
+
+
+def a_lock_that_another_user_left_is_replaced(room):
+    if os.getuid() != 0:
+        raise Lacking("only root has another user's rights")
+    how = as_nobody(room)
+    room.ok("create", "t", "T", "A", "SMALLINT", **how)
+    for mode in (0o666, 0o644, 0o600, 0o222):
+        room.put(LOCK, b"left")
+        os.chmod(room.path(LOCK), mode)
+        if mode == 0o600:
+            room.refused("delete", "t", "A = 1", line="refused WriteFault", **how)
+            os.remove(room.path(LOCK))
+        else:
+            room.ok("import", "--no-header", "t", "-", given=b"3\n", **how)
+            assert not os.path.exists(room.path(LOCK)) and os.stat(room.path("t")).st_uid == NOBODY
+
+
 def another_hard_link_keeps_the_old_file(room):
     held = room.make()
     os.link(room.path("t"), room.path("other"))
@@ -135,6 +214,20 @@ def a_folder_without_the_right_to_write_is_a_failed_write(room):
     assert room.get("t") == held
 
 
+def a_folder_that_can_not_be_opened_is_a_failed_write_before_the_file_is_replaced(room):
+    how = as_nobody(room)
+    room.ok("create", "t", "T", "A", "SMALLINT", **how)
+    held = room.get("t")
+    os.chmod(room.folder, 0o300)
+    try:
+        if how:
+            for _ in range(2):
+                room.refused("import", "--no-header", "--batch", "1.1", "t", "-", given=b"3\n", line="refused WriteFault", **how)
+    finally:
+        os.chmod(room.folder, 0o755)
+    assert room.get("t") == held and not os.path.exists(room.path(LOCK))
+
+
 def a_file_that_may_not_be_read_is_a_failed_read(room):
     how = as_nobody(room)
     room.ok("create", "t", "T", "A", "SMALLINT", **how)
@@ -142,19 +235,32 @@ def a_file_that_may_not_be_read_is_a_failed_read(room):
     room.refused("dump", "t", line="refused ReadFault", sentence="t: permission denied: this may not be read", **how)
 
 
-def limited():
-    """A process that may write files of 64 KiB, and is told so by an error."""
-    signal.signal(signal.SIGXFSZ, signal.SIG_IGN)
-    resource.setrlimit(resource.RLIMIT_FSIZE, (65_536, 65_536))
+def limited(count):
+    """What makes a process one that may write files of so many bytes, and is told so by an error."""
+
+    def limit():
+        signal.signal(signal.SIGXFSZ, signal.SIG_IGN)
+        resource.setrlimit(resource.RLIMIT_FSIZE, (count, count))
+
+    return limit
 
 
 def a_file_that_has_no_room_leaves_the_old_one(room):
     held = room.make()
     pick = random.Random(3)
     rows = "".join(f"{pick.randrange(30_000)},{pick.randrange(2**62)}\n" for _ in range(70_000)).encode()
-    room.refused("import", "--no-header", "t", "-", given=rows, line="refused WriteFault", sentence="t: this can't be written", preexec_fn=limited)
+    room.refused("import", "--no-header", "t", "-", given=rows, line="refused WriteFault", sentence="t: this can't be written", preexec_fn=limited(65_536))
     assert room.get("t") == held
     room.only("t")
+
+
+def a_file_without_room_for_its_last_bytes_leaves_the_old_one(room):
+    held = room.make()
+    for count in (1, 50, len(held)):
+        room.refused("import", "--no-header", "t", "-", given=b"3,40\n", line="refused WriteFault", sentence="t: this can't be written", preexec_fn=limited(count))
+        room.refused("merge", "t", "t", line="refused WriteFault", preexec_fn=limited(count - 1))
+        assert room.get("t") == held
+        room.only("t")
 
 
 def what_is_said_to_a_full_device_is_a_failed_write_and_the_file_is_replaced(room):
@@ -183,28 +289,37 @@ def a_merge_into_a_device_is_written_in_place(room):
     room.only("pipe", "t")
 
 
-def the_system_calls_stand_in_their_order(room):
+CALLS = "openat,flock,ftruncate,fchmod,chmod,write,fsync,fdatasync,rename,renameat,renameat2,unlink,unlinkat"
+
+
+def traced(room, options=()):
+    """What strace says of an import into d/t, which ends well, and what the import says on standard error."""
     if shutil.which("strace") is None:
         raise Lacking("strace is not installed")
-    room.make()
-    calls = "openat,flock,ftruncate,fchmod,chmod,write,fsync,fdatasync,rename,renameat,renameat2,unlink,unlinkat"
-    words = ["strace", "-f", "-y", "-o", "trace", "-e", f"trace={calls}", room.program, "import", "--no-header", "t", "-"]
+    os.mkdir(room.path("d"))
+    room.make("d/t")
+    words = ["strace", "-f", "-y", "-o", "trace", "-e", f"trace={CALLS}", *options, room.program, "import", "--no-header", "d/t", "-"]
     done = subprocess.run(words, input=b"3,40\n", cwd=room.folder, capture_output=True, timeout=60)
-    if done.returncode != 0 or not os.path.exists(room.path("trace")):
+    if not os.path.exists(room.path("trace")) or not room.get("trace"):
         raise Lacking(f"strace can't trace: {done.stderr[-200:]!r}")
-    trace = room.get("trace").decode()
+    assert done.returncode == 0, f"it ended with {done.returncode} and said {done.stderr!r}"
+    return room.get("trace").decode(), done.stderr
+
+
+def the_system_calls_stand_in_their_order(room):
+    trace, _ = traced(room)
     steps = (
         r"openat\(.*t\", O_RDONLY",
-        r"openat\(.*\.t\.lanes-lock\", .*O_CREAT",
+        r"openat\(.*\.t\.lanes-lock\", .*O_CREAT\|O_EXCL",
         r"flock\(.*lanes-lock>, LOCK_EX\|LOCK_NB\) += 0",
-        r"ftruncate\(.*lanes-lock>, 0\)",
         r"f?chmod\(.*lanes-lock",
         r"openat\(.*t\", O_RDONLY",
+        r"openat\(.*/d\", O_RDONLY",
+        r"ftruncate\(.*lanes-lock>, 0\)",
         r"write\(.*lanes-lock>",
         r"fsync\(.*lanes-lock>\)",
         r"rename.*\.t\.lanes-lock\".*t\"",
-        r"openat\(.*O_RDONLY",
-        r"fsync\(",
+        r"fsync\([0-9]+<[^>]*/d>\) += 0",
         r"write\(1<.*ok batches=1",
     )
     place = 0
@@ -212,7 +327,29 @@ def the_system_calls_stand_in_their_order(room):
         found = re.compile(step).search(trace, place)
         assert found, f"{step} doesn't stand in its place in\n{trace[-2000:]}"
         place = found.end()
-    assert "unlink" not in trace
+    assert "unlink" not in trace and trace.count("rename") == 1 and trace.count("fsync(") == 2
+
+
+def a_folder_that_can_not_be_synced_is_told_and_the_file_is_replaced(room):
+    trace, told = traced(room, options=("-e", "inject=fsync:error=EIO:when=2"))
+    assert "INJECTED" in trace
+    assert told == b"d/t: this was replaced, but its folder could not be synced: a loss of power may bring the old file back\n"
+    room.ok("check", "d/t", prints=b"ok batches=2 ranges=0\n")
+    assert os.listdir(room.path("d")) == ["t"]
+
+
+def a_file_that_can_not_be_synced_is_a_failed_write(room):
+    os.mkdir(room.path("e"))
+    held = room.make("e/t")
+    if shutil.which("strace") is None:
+        raise Lacking("strace is not installed")
+    for fault in ("fsync:error=EIO:when=1", "write:error=EIO:when=1", "rename,renameat,renameat2:error=EIO"):
+        words = ["strace", "-f", "-o", "trace", "-e", f"inject={fault}", room.program, "import", "--no-header", "e/t", "-"]
+        done = subprocess.run(words, input=b"3,40\n", cwd=room.folder, capture_output=True, timeout=60)
+        if not os.path.exists(room.path("trace")) or not room.get("trace"):
+            raise Lacking(f"strace can't trace: {done.stderr[-200:]!r}")
+        assert done.returncode == 1 and done.stderr.startswith(b"refused WriteFault\n"), f"it said {done.stderr!r}"
+        assert room.get("e/t") == held and os.listdir(room.path("e")) == ["t"]
 
 
 TESTS = [
@@ -222,13 +359,21 @@ TESTS = [
     the_mode_is_kept,
     a_new_file_has_the_usual_mode,
     a_symbolic_link_stays_one,
+    a_link_that_is_switched_while_a_command_waits_loses_nothing,
+    a_hard_link_to_the_file_that_has_the_locks_name_is_no_lock,
+    what_is_no_lock_and_has_its_name_is_told_by_name,
+    a_lock_that_another_user_left_is_replaced,
     another_hard_link_keeps_the_old_file,
     a_lock_that_a_crash_left_is_taken,
     a_lock_that_may_not_be_written_is_taken_too,
     a_folder_without_the_right_to_write_is_a_failed_write,
+    a_folder_that_can_not_be_opened_is_a_failed_write_before_the_file_is_replaced,
     a_file_that_may_not_be_read_is_a_failed_read,
     a_file_that_has_no_room_leaves_the_old_one,
+    a_file_without_room_for_its_last_bytes_leaves_the_old_one,
     what_is_said_to_a_full_device_is_a_failed_write_and_the_file_is_replaced,
     a_merge_into_a_device_is_written_in_place,
     the_system_calls_stand_in_their_order,
+    a_folder_that_can_not_be_synced_is_told_and_the_file_is_replaced,
+    a_file_that_can_not_be_synced_is_a_failed_write,
 ]

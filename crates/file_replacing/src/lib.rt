@@ -1,8 +1,23 @@
-//! Files that are replaced whole: a file's lock is the new file, which takes the old one's place once it is written.
+//! Files that are replaced whole, whatever moment a crash comes at: a file's lock is the new file, which takes the old one's place once it
+//! is written.
 #![tactic(auto)]
 
-mod held;
+mod folder;
+mod holding;
+mod laws;
 mod names;
+mod outcome;
+mod place;
+mod record;
+mod replacing;
+mod system;
 
-pub use held::{Held, hold};
+pub use folder::Folder;
+pub use holding::{HoldError, hold, try_hold};
+pub use laws::{holding_then_replacing, restarts};
 pub use names::folder_of;
+pub use outcome::{ReplaceError, Replaced};
+pub use place::Place;
+pub use record::Record;
+pub use replacing::replace;
+pub use system::SystemFolder;

@@ -1,4 +1,6 @@
 //! The names that stand beside a file's.
+ghost use Rattle.std.specs.Prelude.{◌<◌, IfOk, length};
+ghost use Rattle.std.specs.String.{string_bytes};
 
 use std::alloc::{AllocError, Global};
 
@@ -10,10 +12,21 @@ pub fn folder_of(name: &str) -> &str {
     }
 }
 
-/// The name of a file's lock: `.NAME.lanes-lock` beside it.
-pub fn lock_of(alloc: Global, name: &str) -> Result<String, AllocError> {
-    match name.rsplit_once('/') {
-        None => format!(in alloc; ".{name}.lanes-lock"),
-        Some((folder, last)) => format!(in alloc; "{folder}/.{last}.lanes-lock"),
-    }
+/// The name of a file's lock, which is longer: `.NAME.lanes-lock` beside it.
+pub fn lock_of(alloc: Global, name: &str) -> Result<String, AllocError>
+    ensures { IfOk result (λ lock. length name.now < length (string_bytes lock)) }
+{
+    let mut lock = String::new(alloc);
+    let last = match name.rsplit_once('/') {
+        None => name,
+        Some((folder, last)) => {
+            lock.push_str(folder)?;
+            lock.push_str("/")?;
+            last
+        }
+    };
+    lock.push_str(".")?;
+    lock.push_str(last)?;
+    lock.push_str(".lanes-lock")?;
+    Ok(lock)
 }

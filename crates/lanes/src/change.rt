@@ -1,13 +1,11 @@
 //! What a command changes in a file, and what it says of that.
 
-use replica_files::{
-    Applied, Deleted, DeletedRows, Forgotten, Imported, Load, apply, create, delete, delete_rows,
-    forget, import,
-};
+use file_replacing::{Folder, Place, Replaced};
+use replica_files::{Applied, Deleted, DeletedRows, Forgotten, Imported, Load};
 use replica_store::Offer;
 use std::alloc::Global;
 use std::fmt;
-use std::io::{Read, Write};
+use std::io::{self, Read};
 use table_model::{BatchName, ColType, Counted, Refusal, RowName};
 
 /// What a command changes in a file.
@@ -42,29 +40,62 @@ pub enum Change<'a> {
 }
 
 impl<'a> Change<'a> {
-    /// Reads the file, and writes the one that it becomes, where anything changes.
-    pub fn act<R: Read, W: Write>(
+    /// Changes a file whose lock is had, and gives the lock back.
+    pub fn make<F: Folder>(
         self,
         alloc: Global,
-        reader: &mut Counted<R>,
-        writer: &mut Counted<W>,
+        folder: &mut F,
+        place: &Place,
     ) -> Result<Done, Refusal> {
-        match self {
+        let (answer, replaced) = match self {
             Change::Create { table, columns } => {
-                create(alloc, table, columns, writer)?;
-                Ok(Done::Created)
+                let replaced = file_commands::create(alloc, folder, place, table, columns)?;
+                (Answer::Created, Some(replaced))
             }
             Change::Import { load, first, words } => {
-                Ok(Done::Imported(import(alloc, reader, load, first, words, writer)?))
+                let done = file_commands::import(alloc, folder, place, load, first, words)?;
+                (Answer::Imported(done.answer), done.replaced)
             }
             Change::Delete { condition } => {
-                Ok(Done::Deleted(delete(alloc, reader, condition, writer)?))
+                let done = file_commands::delete(alloc, folder, place, condition)?;
+                (Answer::Deleted(done.answer), done.replaced)
             }
             Change::DeleteRows { first, last } => {
-                Ok(Done::DeletedRows(delete_rows(alloc, reader, first, last, writer)?))
+                let done = file_commands::delete_rows(alloc, folder, place, first, last)?;
+                (Answer::DeletedRows(done.answer), done.replaced)
             }
-            Change::Forget => Ok(Done::Forgotten(forget(alloc, reader, writer)?)),
-            Change::Apply { offers } => Ok(Done::Applied(apply(alloc, reader, offers, writer)?)),
+            Change::Forget => {
+                let done = file_commands::forget(alloc, folder, place)?;
+                (Answer::Forgotten(done.answer), done.replaced)
+            }
+            Change::Apply { offers } => {
+                let done = file_commands::apply(alloc, folder, place, offers)?;
+                (Answer::Applied(done.answer), done.replaced)
+            }
+        };
+        Ok(Done { answer, replaced })
+    }
+
+    /// Whether the change would be refused of a file as it is, whose lock can't be had.
+    pub fn judge<R: Read>(self, alloc: Global, reader: &mut Counted<R>) -> Result<(), Refusal> {
+        let mut nowhere = Counted::new(io::sink());
+        match self {
+            Change::Create { table, columns } => {
+                replica_files::create(alloc, table, columns, &mut nowhere)
+            }
+            Change::Import { load, first, words } => {
+                replica_files::import(alloc, reader, load, first, words, &mut nowhere).map(|_| ())
+            }
+            Change::Delete { condition } => {
+                replica_files::delete(alloc, reader, condition, &mut nowhere).map(|_| ())
+            }
+            Change::DeleteRows { first, last } => {
+                replica_files::delete_rows(alloc, reader, first, last, &mut nowhere).map(|_| ())
+            }
+            Change::Forget => replica_files::forget(alloc, reader, &mut nowhere).map(|_| ()),
+            Change::Apply { offers } => {
+                replica_files::apply(alloc, reader, offers, &mut nowhere).map(|_| ())
+            }
         }
     }
 
@@ -74,9 +105,9 @@ impl<'a> Change<'a> {
     }
 }
 
-/// What came of a change.
+/// What a command answers.
 #[derive(Drop)]
-pub enum Done {
+enum Answer {
     Created,
     Imported(Imported),
     Deleted(Deleted),
@@ -85,36 +116,36 @@ pub enum Done {
     Applied(Applied),
 }
 
+/// What came of a change.
+#[derive(Drop)]
+pub struct Done {
+    answer: Answer,
+    replaced: Option<Replaced>,
+}
+
 impl Done {
-    /// Whether the file is another one now.
-    pub fn is_change(&self) -> bool {
-        match self {
-            Done::Created => true,
-            Done::Imported(imported) => imported.new > 0,
-            Done::Deleted(deleted) => deleted.rows > 0,
-            Done::DeletedRows(deleted) => deleted.is_changed,
-            Done::Forgotten(forgotten) => forgotten.batches > 0,
-            Done::Applied(applied) => applied.is_changed,
-        }
+    /// Whether the file was replaced, and its folder could not be synced.
+    pub fn is_unsynced(&self) -> bool {
+        self.replaced == Some(Replaced::Unsynced)
     }
 }
 
 /// The line that a command says of what it did, without its end.
 impl fmt::Display for Done {
     fn fmt<W: fmt::Write>(&self, f: &mut fmt::Formatter<W>) -> fmt::Result {
-        match self {
-            Done::Created | Done::DeletedRows(_) => f.write_str("ok"),
-            Done::Imported(imported) => write_import(imported, f),
-            Done::Deleted(deleted) => {
+        match &self.answer {
+            Answer::Created | Answer::DeletedRows(_) => f.write_str("ok"),
+            Answer::Imported(imported) => write_import(imported, f),
+            Answer::Deleted(deleted) => {
                 let rows = deleted.rows;
                 write!(f, "ok {rows}")
             }
-            Done::Forgotten(forgotten) => {
+            Answer::Forgotten(forgotten) => {
                 let batches = forgotten.batches;
                 let rows = forgotten.rows;
                 write!(f, "ok batches={batches} rows={rows}")
             }
-            Done::Applied(applied) => {
+            Answer::Applied(applied) => {
                 let batches = applied.batches;
                 let ranges = applied.ranges;
                 let new = applied.new;

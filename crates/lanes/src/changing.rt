@@ -1,4 +1,4 @@
-//! The commands that change a file: it is read, then held, read again and replaced whole.
+//! The commands that change a file: it is read, then its lock is taken, and it is read again and replaced whole.
 
 use crate::change::{Change, Done};
 use crate::failure::{Failure, is_of_a_text};
@@ -7,13 +7,13 @@ use crate::names::fault_of_names;
 use crate::reports::write_line;
 use command_line::Source;
 use csv_rows::{CsvError, CsvReader};
-use file_replacing::{Held, hold};
-use refusal_sentences::{CommandRefusal, Fields, Knowledge, Sentence, Text};
+use file_replacing::{Folder, HoldError, Place, SystemFolder, hold};
+use refusal_sentences::{CommandRefusal, Fields, Knowledge, Printable, Sentence, Text};
 use replica_files::{Load, file_schema, read_csv};
 use replica_store::Offer;
 use std::alloc::Global;
 use std::fs::{self, File, Files};
-use std::io::{self, BufWriter, Read, Write};
+use std::io::{self, Read};
 use std::random::RandomSource;
 use std::rt::Clock;
 use table_model::{BatchName, ColType, Counted, Refusal, RowName, Schema};
@@ -22,7 +22,7 @@ use table_model::{BatchName, ColType, Counted, Refusal, RowName, Schema};
 const DRAWS: usize = 16;
 
 /// Makes the file of an empty table.
-pub fn create<R: Print + Files<File = File> + Clock + AllocGlobal>(
+pub fn create<R: Print + Eprint + Files<File = File> + Clock + AllocGlobal>(
     rt: &R,
     file: &str,
     table: &str,
@@ -41,7 +41,7 @@ pub fn create<R: Print + Files<File = File> + Clock + AllocGlobal>(
 }
 
 /// Inserts the rows of comma-separated values, of one text after another: all, or none.
-pub fn import<R: Print + Input + Files<File = File> + Clock + RandomSource + AllocGlobal>(
+pub fn import<R: Print + Eprint + Input + Files<File = File> + Clock + RandomSource + AllocGlobal>(
     rt: &R,
     file: &str,
     csvs: &[Source<'_>],
@@ -79,7 +79,7 @@ pub fn import<R: Print + Input + Files<File = File> + Clock + RandomSource + All
 }
 
 /// Deletes the rows for which a condition is true.
-pub fn delete<R: Print + Files<File = File> + Clock + AllocGlobal>(
+pub fn delete<R: Print + Eprint + Files<File = File> + Clock + AllocGlobal>(
     rt: &R,
     file: &str,
     condition: &str,
@@ -102,7 +102,7 @@ pub fn delete<R: Print + Files<File = File> + Clock + AllocGlobal>(
 }
 
 /// Deletes rows by their names, held or not.
-pub fn delete_rows<R: Print + Files<File = File> + Clock + AllocGlobal>(
+pub fn delete_rows<R: Print + Eprint + Files<File = File> + Clock + AllocGlobal>(
     rt: &R,
     file: &str,
     first: RowName,
@@ -130,7 +130,7 @@ pub fn forget<R: Print + Files<File = File> + Clock + AllocGlobal>(
 }
 
 /// Applies offers, all or none.
-pub fn apply<R: Print + Input + Files<File = File> + Clock + AllocGlobal>(
+pub fn apply<R: Print + Eprint + Input + Files<File = File> + Clock + AllocGlobal>(
     rt: &R,
     file: &str,
     sources: &[Source<'_>],
@@ -285,85 +285,71 @@ enum About<'a> {
     },
 }
 
-/// Changes a file under its lock, and says what came of it unless that is to be quiet.
-fn change<R: Print + Files<File = File> + Clock + AllocGlobal>(
+/// Changes a file under its lock, and says what came of it unless that is to be quiet. A symbolic link is followed once, at the beginning:
+/// what is locked is what is read and replaced.
+fn change<R: Print + Eprint + Files<File = File> + Clock + AllocGlobal>(
     rt: &R,
     file: &str,
     change: Change<'_>,
     about: About<'_>,
     is_quiet: bool,
 ) -> Result<(), Failure> {
-    let done = match hold(rt, file) {
-        Ok(held) => changed(rt, file, change, held),
-        Err(refusal) => Err(not_held(rt, file, change, refusal)),
-    };
-    match done {
-        Ok(_) if is_quiet => Ok(()),
-        Ok(done) => say(rt, &done),
+    let place = Place::followed(rt, file)?;
+    let mut folder = SystemFolder::new(rt);
+    if let Err(error) = hold(rt, &mut folder, &place) {
+        return Err(not_held(rt, file, &place, change, error, about));
+    }
+    match changed(rt, change, &mut folder, &place) {
+        Ok(done) => say(rt, file, &done, is_quiet),
         Err(refusal) => Err(refused(rt, file, refusal, about)),
     }
 }
 
-/// Changes a file that is held, and lets it go.
+/// Changes a file whose lock is had, and gives the lock back.
 fn changed<R: Files<File = File> + AllocGlobal>(
     rt: &R,
-    file: &str,
     change: Change<'_>,
-    held: Held,
+    folder: &mut SystemFolder<'_, R>,
+    place: &Place,
 ) -> Result<Done, CommandRefusal> {
-    let mut held = held;
-    if change.is_creation() && is_there(rt, file) {
-        held.leave(rt);
+    if change.is_creation() && is_there(rt, place.name()) {
+        let _ = folder.remove(place.lock());
         return Err(CommandRefusal::Exists);
     }
-    match written(rt, file, change, &mut held) {
-        Ok(done) if done.is_change() => {
-            held.replace(rt)?;
-            Ok(done)
-        }
-        Ok(done) => {
-            held.leave(rt);
-            Ok(done)
-        }
-        Err(refusal) => {
-            held.leave(rt);
-            Err(CommandRefusal::from(refusal))
-        }
-    }
+    Ok(change.make(rt.alloc(), folder, place)?)
 }
 
-/// Writes what a file becomes to its lock.
-fn written<R: Files<File = File> + AllocGlobal>(
-    rt: &R,
-    file: &str,
-    change: Change<'_>,
-    held: &mut Held,
-) -> Result<Done, Refusal> {
-    let Ok(buffer) = BufWriter::new(rt.alloc(), held.file()) else {
-        return Err(Refusal::Memory);
-    };
-    let mut writer = Counted::new(buffer);
-    let done = change.act(rt.alloc(), &mut reader_of(rt, file), &mut writer)?;
-    match writer.into_inner().flush() {
-        Ok(()) => Ok(done),
-        Err(_) => Err(Refusal::WriteFault),
-    }
-}
-
-/// What a change of a file that can't be held is refused as: a write that fails comes after all that the change itself is refused as.
+/// What a change of a file whose lock is not had is refused as. That the lock can't be made comes after all that the change itself is
+/// refused as.
 fn not_held<R: Files + AllocGlobal>(
     rt: &R,
     file: &str,
+    place: &Place,
     change: Change<'_>,
-    refusal: CommandRefusal,
-) -> CommandRefusal {
-    if refusal != CommandRefusal::Named(Refusal::WriteFault) {
-        return refusal;
+    error: HoldError,
+    about: About<'_>,
+) -> Failure {
+    if error == HoldError::Busy {
+        return Failure::of_file(rt, CommandRefusal::Busy, file);
     }
-    let mut writer = Counted::new(io::sink());
-    match change.act(rt.alloc(), &mut reader_of(rt, file), &mut writer) {
-        Ok(_) => refusal,
-        Err(earlier) => CommandRefusal::from(earlier),
+    match change.judge(rt.alloc(), &mut reader_of(rt, place.name())) {
+        Ok(()) => unlocked(rt, file, place, error),
+        Err(earlier) => refused(rt, file, CommandRefusal::from(earlier), about),
+    }
+}
+
+/// The refusal of a file whose lock is not had: of the lock, where something else has its name.
+pub fn unlocked<R: Files + AllocGlobal>(
+    rt: &R,
+    file: &str,
+    place: &Place,
+    error: HoldError,
+) -> Failure {
+    let refusal = CommandRefusal::from(Refusal::WriteFault);
+    match error {
+        HoldError::Busy => Failure::of_file(rt, CommandRefusal::Busy, file),
+        HoldError::Unmade => Failure::of_file(rt, refusal, file),
+        HoldError::InTheWay => Failure::of_lock(rt.alloc(), place.lock()),
     }
 }
 
@@ -414,7 +400,28 @@ fn refused_alone<R: Files + AllocGlobal>(rt: &R, file: &str, refusal: CommandRef
 }
 
 /// Says what came of a change. Where that can't be written the file is changed all the same.
-fn say<R: Print + Files + AllocGlobal>(rt: &R, done: &Done) -> Result<(), Failure> {
+fn say<R: Print + Eprint + Files + AllocGlobal>(
+    rt: &R,
+    file: &str,
+    done: &Done,
+    is_quiet: bool,
+) -> Result<(), Failure> {
     let line = format!(in rt.alloc(); "{done}\n")?;
-    write_line(rt, line.as_bytes())
+    let told = if is_quiet {
+        Ok(())
+    } else {
+        write_line(rt, line.as_bytes())
+    };
+    if done.is_unsynced() {
+        say_unsynced(rt, file);
+    }
+    told
+}
+
+/// Says on standard error that a file was replaced, and its folder could not be synced.
+pub fn say_unsynced<R: Eprint>(rt: &R, file: &str) {
+    let name = Printable(file);
+    let _ = eprintln!(rt;
+        "{name}: this was replaced, but its folder could not be synced: a loss of power may bring the old file back"
+    );
 }

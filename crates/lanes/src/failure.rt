@@ -2,7 +2,7 @@
 
 use crate::watched::Cause;
 use command_line::Fault;
-use refusal_sentences::{CommandRefusal, Knowledge, Pointer, Sentence, Text};
+use refusal_sentences::{CommandRefusal, Knowledge, Pointer, Printable, Sentence, Text};
 use std::alloc::{AllocError, AllocFailed, Global};
 use std::fs::{self, Files};
 use std::io::{ErrorKind, Write};
@@ -98,6 +98,18 @@ impl Failure {
                 knowledge,
             },
         )
+    }
+
+    /// A failed write, since what has the name of a file's lock is no lock that can be taken.
+    pub fn of_lock(alloc: Global, lock: &str) -> Failure {
+        let name = Printable(lock);
+        Failure {
+            fault: Fault::from(Refusal::WriteFault),
+            sentence: format!(in alloc;
+                "{name}: this is in the way: the lock of the file has this name, and this is no lock that can be taken\n"
+            ).ok(),
+            pointer: None,
+        }
     }
 
     /// A refusal of what goes to standard output.

@@ -1,0 +1,13 @@
+use Rattle.std.specs.Prelude.{ℕ, List, ◌==◌, not, Ok}
+use Rattle.std.specs.Global.{Vec}
+use Rattle.std.proofs.Common.{ap, sym, refl, ◌∙◌, Bor}
+use Rattle.replica_files.specs.Forgetting.{forgetting}
+use Rattle.replica_files.specs.declared.forgetting.Forgotten.{Forgotten}
+use Rattle.file_commands.proofs.CrashProofs.{changes_at}
+use Rattle.file_commands.proofs.forgetting.forgotten.Goals as goal
+
+pub returns-in-Ok : goal.returns-in-Ok
+returns-in-Ok c =
+    changes_at (λ (d : Forgotten). let answer : ℕ × ℕ = (d.batches, d.rows) in answer) (λ (d : Forgotten). not (d.batches == 0)) (Ok c.in-Ok.answer) forgetting c.args.file.now _ _ _ _
+    (ap (λ (w : Bor (List ℕ) × ℕ). w.0.now) c.new-2.ensures) (ap (λ (w : Vec ℕ × ℕ). w.0.items) c.new-writer.ensures ∙ c.new.ensures.items)
+    (sym (ap (λ (w : Vec ℕ). w.items) c.into_inner.ensures)) c.in-Ok.ensures.made

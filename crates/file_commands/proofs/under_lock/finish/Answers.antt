@@ -1,0 +1,24 @@
+use Rattle.std.proofs.Common.{refl}
+use Rattle.std.proofs.lemmas.Result.{err_from_is_err_and}
+use Rattle.file_commands.proofs.CrashProofs.{finishes, changed_any, left_any}
+use Rattle.file_commands.proofs.under_lock.finish.Goals as goal
+
+pub returns-in_err-how-clause-any_moment : goal.returns-in_err-how-clause-any_moment
+returns-in_err-how-clause-any_moment g c = changed_any _ _ _ _ _ c.args.is_changed c.if-is_changed.true c.put.ensures.any_moment
+
+pub returns-in_err-how-clause-fault : goal.returns-in_err-how-clause-fault
+returns-in_err-how-clause-fault g c =
+    let p = err_from_is_err_and c.from_residual.result c.from_residual.ensures.1 in
+    rw (p.1, p.2) (c.in_err-how.ensures.fault, c.if-is_changed.true)
+
+pub returns-in_ok-how-clause-any_moment : goal.returns-in_ok-how-clause-any_moment
+returns-in_ok-how-clause-any_moment g c = changed_any _ _ _ _ _ c.args.is_changed c.if-is_changed.true c.put.ensures.any_moment
+
+pub returns-in_ok-how-clause-finished : goal.returns-in_ok-how-clause-finished
+returns-in_ok-how-clause-finished g c = finishes _ _ _ _ _ c.in_ok-how.how c.args.is_changed c.if-is_changed.true c.in_ok-how.ensures.synced c.in_ok-how.ensures.in_place
+
+pub returns-else-is_changed-clause-any_moment : goal.returns-else-is_changed-clause-any_moment
+returns-else-is_changed-clause-any_moment g c = left_any _ _ _ _ _ c.args.is_changed c.if-is_changed.false c.leave.ensures
+
+pub returns-else-is_changed-clause-finished : goal.returns-else-is_changed-clause-finished
+returns-else-is_changed-clause-finished g c = (c.if-is_changed.false, c.leave.ensures)

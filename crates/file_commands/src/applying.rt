@@ -1,0 +1,50 @@
+//! Applying offers to a file.
+ghost use Rattle.std.specs.Prelude.{◌≢◌, [], Some, Ok, IfOk, IfErr};
+ghost use Rattle.std.specs.String.{string_bytes};
+ghost use Rattle.table_model.specs.declared.refusal.Refusal.TheVariants.{WriteFault};
+ghost use Rattle.file_replacing.specs.Safe.{StaysOld};
+ghost use Rattle.replica_files.specs.Commands.{Changes, applying};
+ghost use Rattle.file_commands.specs.CrashLaws.{BeforeOrAfter, HasAnswered};
+
+use crate::Outcome;
+use crate::under_lock::{finish, leave, read_file, refusal_in_memory};
+use file_replacing::{Folder, Place};
+use replica_files::Applied;
+use replica_store::Offer;
+use std::alloc::Global;
+use table_model::{Counted, Refusal};
+
+/// What applying offers answers, and the bytes that it wrote, which are none where nothing changed.
+fn applied(alloc: Global, file: &[u8], offers: &[Offer]) -> Result<(Applied, Vec<u8>), Refusal>
+    ensures { IfOk result (λ made. Changes (λ answer. (answer.batches, answer.ranges)) (λ answer. answer.is_changed) (Ok made.0) (Some file.now) (Some []) (Some made.1.items) (applying offers.now)) }
+{
+    let mut writer = Counted::new(Vec::new(alloc));
+    match replica_files::apply(alloc, &mut Counted::new(file), offers, &mut writer) {
+        Ok(answer) => Ok((answer, writer.into_inner())),
+        Err(refusal) => Err(refusal_in_memory(refusal)),
+    }
+}
+
+/// Applies offers to a file whose lock is had, all or none, under the refusals of [`replica_files::apply`].
+pub fn apply<F: Folder>(
+    alloc: Global,
+    folder: &mut F,
+    place: &Place,
+    offers: &[Offer],
+) -> Result<Outcome<Applied>, Refusal>
+    ensures any_moment { BeforeOrAfter (applying offers.now) (string_bytes place.now.lock) (string_bytes place.now.name) (F.history folder.old) (F.history folder.new) }
+    ensures answered { IfOk result (λ done. HasAnswered (λ answer. (answer.batches, answer.ranges)) (applying offers.now) done.answer done.replaced (string_bytes place.now.lock) (string_bytes place.now.name) (F.history folder.old) (F.history folder.new)) }
+    ensures refused { IfErr result (λ e. e ≢ WriteFault → StaysOld (string_bytes place.now.lock) (string_bytes place.now.name) (F.history folder.old) (F.history folder.new)) }
+{
+    let old = read_file(alloc, folder, place)?;
+    match applied(alloc, old.as_slice(), offers) {
+        Ok((answer, new)) => {
+            let replaced = finish(folder, place, answer.is_changed, new.as_slice())?;
+            Ok(Outcome { answer, replaced })
+        }
+        Err(refusal) => {
+            leave(folder, place);
+            Err(refusal)
+        }
+    }
+}

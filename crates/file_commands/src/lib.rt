@@ -1,0 +1,22 @@
+//! The commands that change a file, each a call over a folder: under its lock the file is read, and replaced whole by what the command
+//! makes of it. A crash at any moment leaves the file before or the file after.
+#![tactic(auto)]
+
+mod applying;
+mod creating;
+mod deleting;
+mod forgetting;
+mod importing;
+mod merging;
+mod outcome;
+mod putting;
+mod under_lock;
+
+pub use applying::apply;
+pub use creating::create;
+pub use deleting::{delete, delete_rows};
+pub use forgetting::forget;
+pub use importing::import;
+pub use merging::merged;
+pub use outcome::Outcome;
+pub use putting::put;

@@ -1,0 +1,81 @@
+//! A file whose lock is had: it is read, and replaced or left.
+ghost use Rattle.std.specs.Prelude.{◌≡◌, ◌∷◌, Some, true, IfOk, IfErr, OnErr};
+ghost use Rattle.std.specs.String.{string_bytes};
+ghost use Rattle.file_replacing.specs.Event.{Read};
+ghost use Rattle.file_replacing.specs.Locking.{OnlyLocks};
+ghost use Rattle.table_model.specs.declared.refusal.Refusal.TheVariants.{WriteFault};
+ghost use Rattle.file_commands.specs.Finished.{AtAnyMoment, Finishes, in_memory};
+
+use crate::putting::put;
+use file_replacing::{Folder, Place, Replaced};
+use std::alloc::Global;
+use std::io::{self, ErrorKind};
+use table_model::Refusal;
+
+/// The bytes of the file. Where they can't be read the lock is given back.
+pub(crate) fn read_file<F: Folder>(
+    alloc: Global,
+    folder: &mut F,
+    place: &Place,
+) -> Result<Vec<u8>, Refusal>
+    ensures read { IfOk result (λ bytes. F.history folder.new ≡ Read (string_bytes place.now.name) (Some (Some bytes.items)) ∷ F.history folder.old) }
+    ensures left { OnErr result (OnlyLocks (string_bytes place.now.lock) (F.history folder.old) (F.history folder.new)) }
+{
+    match folder.read(alloc, place.name()) {
+        Ok(Some(bytes)) => Ok(bytes),
+        Ok(None) => {
+            leave(folder, place);
+            Err(Refusal::ReadFault)
+        }
+        Err(error) => {
+            leave(folder, place);
+            Err(refusal_of_read(&error))
+        }
+    }
+}
+
+/// What a file that can't be read is refused as.
+fn refusal_of_read(error: &io::Error) -> Refusal {
+    if error.kind() == ErrorKind::OutOfMemory {
+        Refusal::Memory
+    } else {
+        Refusal::ReadFault
+    }
+}
+
+/// Gives the lock back, with the file as it was.
+pub(crate) fn leave<F: Folder>(folder: &mut F, place: &Place)
+    ensures { OnlyLocks (string_bytes place.now.lock) (F.history folder.old) (F.history folder.new) }
+{
+    let _ = folder.remove(place.lock());
+}
+
+/// Puts the bytes in the file's place where it is changed, and else gives the lock back.
+pub(crate) fn finish<F: Folder>(
+    folder: &mut F,
+    place: &Place,
+    is_changed: bool,
+    bytes: &[u8],
+) -> Result<Option<Replaced>, Refusal>
+    ensures any_moment { AtAnyMoment is_changed (string_bytes place.now.lock) (string_bytes place.now.name) bytes.now (F.history folder.old) (F.history folder.new) }
+    ensures finished { IfOk result (λ how. Finishes how is_changed (string_bytes place.now.lock) (string_bytes place.now.name) bytes.now (F.history folder.old) (F.history folder.new)) }
+    ensures fault { IfErr result (λ e. (e ≡ WriteFault) × (is_changed ≡ true)) }
+{
+    if is_changed {
+        let how = put(folder, place, bytes)?;
+        Ok(Some(how))
+    } else {
+        leave(folder, place);
+        Ok(None)
+    }
+}
+
+/// What a command that wrote to memory is refused as: a write that failed lacked memory.
+pub(crate) fn refusal_in_memory(refusal: Refusal) -> Refusal
+    ensures { result ≡ in_memory refusal }
+{
+    match refusal {
+        Refusal::WriteFault => Refusal::Memory,
+        other => other,
+    }
+}

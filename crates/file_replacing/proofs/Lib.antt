@@ -1,0 +1,15 @@
+pub mod Alone
+pub mod Steps
+pub mod Lemmas
+pub mod Sound
+pub mod Kept
+pub mod Turn
+pub mod Splits
+pub mod Locks
+pub mod LockCalls
+pub mod Whole
+pub mod NoLock
+pub mod Failing
+pub mod Witness
+pub mod Wrong
+pub mod LongerNames

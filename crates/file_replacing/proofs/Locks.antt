@@ -1,0 +1,112 @@
+-- The calls that have a lock.
+use Rattle.std.proofs.Common.{◌≡◌, ◌≢◌, ◌⊎◌, inl, inr, ⊎_elim, ℕ, true, false, List, [], ◌∷◌, ◌++◌, Option, Some, None, refl, sym, ◌∙◌, ap, subst, append_assoc}
+use Rattle.std.specs.List.{Contains}
+use Rattle.file_replacing.specs.Event.{Event, Opened, Locked, Compared, Removed, Read, unanswered}
+use Rattle.file_replacing.specs.Disk.{Disk, MayLeave, IsApart, Takes}
+use Rattle.file_replacing.specs.Safe.{Others, Run, Moment, IsHeld, IsKept, IsOurs, AllOurs, StaysKept, TakesLock, StaysOld}
+use Rattle.file_replacing.specs.Locking.{IsLocking, AllLocking, OnlyLocks}
+use Rattle.file_replacing.proofs.Lemmas.{leaves_led}
+use Rattle.file_replacing.proofs.Kept.{kept_run, kept_moment}
+use Rattle.file_replacing.proofs.Splits.{run_split}
+
+module _ (lock name : List ℕ) where
+  ours : (call : Event) → IsLocking lock call → IsOurs lock name call
+  ours (Opened n ok) is = is
+  ours (Locked got) is = tt
+  ours (Compared n same) is = tt
+  ours (Removed n ok) is = is
+  ours (Read n a) is = tt
+  ours call is = absurd is
+
+  all_ours : (calls : List Event) → AllLocking lock calls → AllOurs lock name calls
+  all_ours [] all = tt
+  all_ours (call ∷ calls) all = (ours call all.0, all_ours calls all.1)
+
+  module _ (apart : lock ≢ name) where
+    other : name ≢ lock
+    other e = apart (sym e)
+
+    leaves : (call : Event) (v w : Disk) → IsLocking lock call → Takes call v w → (c : Option (List ℕ)) → MayLeave w name c → MayLeave v name c
+    leaves (Opened n true) v w is (inl (f, at, to)) c left = subst (λ (x : Disk). MayLeave x name c) to left
+    leaves (Opened n true) v w is (inr (f, none, fresh, to)) c left =
+        leaves_led v n name (Some f) c (λ e. other (e ∙ is)) (subst (λ (x : Disk). MayLeave x name c) to left)
+    leaves (Opened n false) v w is (inl to) c left = subst (λ (x : Disk). MayLeave x name c) to left
+    leaves (Opened n false) v w is (inr (f, none, fresh, to)) c left =
+        leaves_led v n name (Some f) c (λ e. other (e ∙ is)) (subst (λ (x : Disk). MayLeave x name c) to left)
+    leaves (Locked true) v w is to c left = subst (λ (x : Disk). MayLeave x name c) to left
+    leaves (Locked false) v w is to c left = subst (λ (x : Disk). MayLeave x name c) to left
+    leaves (Compared n true) v w is to c left = subst (λ (x : Disk). MayLeave x name c) to.1 left
+    leaves (Compared n false) v w is to c left = subst (λ (x : Disk). MayLeave x name c) to left
+    leaves (Removed n true) v w is to c left =
+        leaves_led v n name None c (λ e. other (e ∙ is)) (subst (λ (x : Disk). MayLeave x name c) to left)
+    leaves (Removed n false) v w is (inl to) c left = subst (λ (x : Disk). MayLeave x name c) to left
+    leaves (Removed n false) v w is (inr to) c left =
+        leaves_led v n name None c (λ e. other (e ∙ is)) (subst (λ (x : Disk). MayLeave x name c) to left)
+    leaves (Read n (Some a)) v w is to c left = subst (λ (x : Disk). MayLeave x name c) to.1 left
+    leaves (Read n None) v w is to c left = subst (λ (x : Disk). MayLeave x name c) to left
+    leaves call v w is to c left = absurd is
+
+    locking_begun : (call : Event) → IsLocking lock call → IsLocking lock (unanswered call)
+    locking_begun (Opened n ok) is = is
+    locking_begun (Locked got) is = tt
+    locking_begun (Compared n same) is = tt
+    locking_begun (Removed n ok) is = is
+    locking_begun (Read n a) is = tt
+    locking_begun call is = absurd is
+
+    module _ (laters : List (Option (List ℕ))) where
+      old_run : (calls : List Event) (d e : Disk) → AllLocking lock calls → Run lock name laters calls d e → (c : Option (List ℕ)) → MayLeave e name c → MayLeave d name c ⊎ Contains laters c
+      old_run [] d e all run c left = run.left c left
+      old_run (call ∷ earlier) d e all (v, w, run, takes, others) c left =
+          ⊎_elim (λ here. old_run earlier d v all.1 run c (leaves call v w all.0 takes c here)) (λ later. inr later) (others.left c left)
+
+      pub old_moment : (calls : List Event) (d e : Disk) → AllLocking lock calls → Moment lock name laters calls d e → (c : Option (List ℕ)) → MayLeave e name c → MayLeave d name c ⊎ Contains laters c
+      old_moment [] d e all moment c left = moment.left c left
+      old_moment (call ∷ earlier) d e all (inl run) c left = old_run (call ∷ earlier) d e all run c left
+      old_moment (call ∷ earlier) d e all (inr (inl (v, w, run, takes, others))) c left =
+          ⊎_elim (λ here. old_run earlier d v all.1 run c (leaves (unanswered call) v w (locking_begun call all.0) takes c here)) (λ later. inr later) (others.left c left)
+      old_moment (call ∷ earlier) d e all (inr (inr moment)) c left = old_moment earlier d e all.1 moment c left
+
+      -- others leave what is held
+      pub held_on : (w e : Disk) → Others lock name laters w e → IsHeld lock name w → IsHeld lock name e
+      held_on w e o held = let alone = o.held held.has in record {
+        has = record {
+          locked = o.locked ∙ held.has.locked;
+          named = alone.leads ∙ held.has.named ∙ ap (λ (x : ℕ). Some x) (sym o.mine);
+        };
+        place = o.place ∙ held.place;
+        apart = subst (λ (x : ℕ). IsApart e name x) (sym o.mine) (alone.apart held.apart);
+      }
+
+      opened_place : (v w : Disk) → Takes (Opened lock true) v w → w.place ≡ 0
+      opened_place v w (inl (f, at, is)) = ap (λ (x : Disk). x.place) is
+      opened_place v w (inr (f, none, fresh, is)) = ap (λ (x : Disk). x.place) is
+
+      had : (d e : Disk) → IsKept lock name d → Run lock name laters (Compared lock true ∷ Locked true ∷ Opened lock true ∷ []) d e → IsHeld lock name e
+      had d e kept (v2, w2, (v1, w1, (v0, w0, o0, t0, o1), t1, o2), t2, o3) =
+          let kept2 = kept_run lock name apart laters (Locked true ∷ Opened lock true ∷ []) d v2 (tt, (refl, tt)) kept (v1, w1, (v0, w0, o0, t0, o1), t1, o2) in
+          let here : IsHeld lock name v2 = record {
+            has = record { locked = o2.locked ∙ ap (λ (x : Disk). x.is_locked) t1; named = t2.0 };
+            place = o2.place ∙ ap (λ (x : Disk). x.place) t1 ∙ o1.place ∙ opened_place v0 w0 t0;
+            apart = kept2.now v2.mine t2.0;
+          } in
+          held_on w2 e o3 (subst (λ (x : Disk). IsHeld lock name x) (sym t2.1) here)
+
+    pub stays_old : (before after : List Event) → OnlyLocks lock before after → StaysOld lock name before after
+    stays_old before after (calls, is, all) = (calls, is, λ laters d e moment c left. old_moment laters calls d e all moment c left)
+
+    pub stays_kept : (before after : List Event) → OnlyLocks lock before after → StaysKept lock name before after
+    stays_kept before after (calls, is, all) = (calls, is, λ laters d e kept moment. kept_moment lock name apart laters calls d e (all_ours calls all) kept moment)
+
+    pub takes_lock : (before after : List Event) → after ≡ Compared lock true ∷ Locked true ∷ Opened lock true ∷ before → TakesLock lock name before after
+    takes_lock before after is = (Compared lock true ∷ Locked true ∷ Opened lock true ∷ [], is, λ laters d e kept run. had laters d e kept run)
+
+    -- the lock is had at last
+    pub takes_at_last : (before mid after : List Event) → OnlyLocks lock before mid → TakesLock lock name mid after → TakesLock lock name before after
+    takes_at_last before mid after (earlier, was, all) (calls, is, takes) = (
+      calls ++ earlier,
+      is ∙ ap (λ (h : List Event). calls ++ h) was ∙ sym (append_assoc calls earlier before),
+      λ laters d e kept run.
+          let parts = run_split lock name laters calls earlier d e run in
+          takes laters parts.0 e (kept_run lock name apart laters earlier d parts.0 (all_ours earlier all) kept parts.1) parts.2,
+    )

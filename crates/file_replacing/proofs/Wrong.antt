@@ -1,0 +1,180 @@
+-- The statements are false of the histories of wrong bodies.
+use Rattle.std.proofs.Common.{◌≡◌, ◌≢◌, ◌⊎◌, inl, inr, ⊎_elim, ℕ, ◌+◌, true, false, ◌==◌, if◌then◌else◌, List, [], ◌∷◌, length, take, Option, Some, None, refl, sym, ◌∙◌, ap, subst, arith}
+use Rattle.std.specs.List.{Contains}
+use Rattle.std.proofs.lemmas.Bool.{cond-true, cond-false}
+use Rattle.file_replacing.specs.Event.{Event, Opened, Emptied, Wrote, Synced, Renamed, Removed}
+use Rattle.file_replacing.specs.Disk.{Disk, Names, MayName, MayHold, MayLeave, MayShow, led, moved, filled, opened, overlaid}
+use Rattle.file_replacing.specs.Safe.{Others, Run, Moment, IsHeld}
+use Rattle.file_replacing.proofs.Lemmas.{same_bytes, other_name, led_names, has_along}
+use Rattle.file_replacing.proofs.Kept.{led_both}
+use Rattle.file_replacing.proofs.Alone.{alone}
+use Rattle.file_replacing.proofs.Witness.{first, first_names, at_name, named, one, held_first}
+
+-- what a crash leaves at some moment of these calls, from whatever disk on which the lock is had: the old, or the new bytes
+abbrev IsSafe : List ℕ → List ℕ → List ℕ → List Event → Type 0
+IsSafe lock name new calls =
+    (laters : List (Option (List ℕ))) (d e : Disk) → IsHeld lock name d → Moment lock name laters calls d e
+    → (c : Option (List ℕ)) → MayLeave e name c → MayLeave d name c ⊎ (c ≡ Some new) ⊎ Contains laters c
+
+-- the new bytes once they are done
+abbrev IsDone : List ℕ → List ℕ → List ℕ → List Event → Type 0
+IsDone lock name new calls =
+    (laters : List (Option (List ℕ))) (d e : Disk) → IsHeld lock name d → Run lock name laters calls d e
+    → (c : Option (List ℕ)) → MayLeave e name c → (c ≡ Some new) ⊎ Contains laters c
+
+module _ (lock name new : List ℕ) (apart : lock ≢ name) where
+  none_listed : (c : Option (List ℕ)) → Contains {X = Option (List ℕ)} [] c → ⊥
+  none_listed c found = omega (arith, found.1)
+
+  not_new : Some (7 ∷ new) ≡ Some new → ⊥
+  not_new e = let same : 7 ∷ new ≡ new = cc in let l = ap length same in absurd (omega (arith, l))
+
+  not_old : MayLeave (first lock name apart) name (Some (7 ∷ new)) → ⊥
+  not_old left = holds left.2.2
+    where
+      same : left.2.0 ≡ 0
+      same = let e : Some left.2.0 ≡ Some 0 = sym left.2.1 ∙ ap (λ (n : Names). n name) (one lock name apart left.0 left.1) ∙ at_name lock name apart in cc
+
+      holds : MayHold (first lock name apart) left.2.0 (7 ∷ new) → ⊥
+      holds (inl e) = let l = ap length e in absurd (omega (arith, l))
+      holds (inr e) = let x : ⊥ = cc in x
+
+  refused : MayLeave (first lock name apart) name (Some (7 ∷ new)) ⊎ (Some (7 ∷ new) ≡ Some new) ⊎ Contains [] (Some (7 ∷ new)) → ⊥
+  refused (inl old) = not_old old
+  refused (inr (inl e)) = not_new e
+  refused (inr (inr found)) = none_listed _ found
+
+  -- the rename before the sync
+  pub renamed_before_the_sync : IsSafe lock name new (Renamed lock name true ∷ Wrote new (Some (length new)) ∷ Emptied true ∷ []) → ⊥
+  renamed_before_the_sync safe =
+      let held = held_first lock name apart in
+      let o = alone lock name [] in
+      let a : Disk = first lock name apart in
+      let b : Disk = filled a [] 0 true in
+      let c : Disk = filled b (overlaid [] 0 (take (length new) new)) (0 + length new) true in
+      let d : Disk = moved c lock name 1 in
+      let run : Moment lock name [] (Renamed lock name true ∷ Wrote new (Some (length new)) ∷ Emptied true ∷ []) a d =
+      inl (c, d, (b, c, (a, b, o a, refl, o b), (omega arith, refl), o c), (1, named lock name apart, refl), o d) in
+      let left : MayLeave d name (Some (7 ∷ new)) = (d.names, inl refl, (1, cond-true _ (Some 1) _ (same_bytes name), inr refl)) in
+      refused (safe [] a d held run (Some (7 ∷ new)) left)
+
+  -- the file emptied in place
+  pub written_in_place : IsSafe lock name new (Emptied true ∷ Opened name true ∷ []) → ⊥
+  written_in_place safe =
+      let held = held_first lock name apart in
+      let o = alone lock name [] in
+      let a : Disk = first lock name apart in
+      let b : Disk = opened a 0 in
+      let c : Disk = filled b [] 0 true in
+      let run : Moment lock name [] (Emptied true ∷ Opened name true ∷ []) a c =
+      inl (b, c, (a, b, o a, inl (0, at_name lock name apart, refl), o b), refl, o c) in
+      let left : MayLeave c name (Some (7 ∷ new)) = (c.names, inl refl, (0, at_name lock name apart, inr refl)) in
+      refused (safe [] a c held run (Some (7 ∷ new)) left)
+
+  -- done before the folder is synced
+  pub folder_not_synced : new ≢ [] → IsDone lock name new (Renamed lock name true ∷ Synced true ∷ Wrote new (Some (length new)) ∷ Emptied true ∷ []) → ⊥
+  folder_not_synced not_empty done =
+      let held = held_first lock name apart in
+      let o = alone lock name [] in
+      let a : Disk = first lock name apart in
+      let b : Disk = filled a [] 0 true in
+      let c : Disk = filled b (overlaid [] 0 (take (length new) new)) (0 + length new) true in
+      let s : Disk = record c { is_synced = λ f. if f == 1 then true else c.is_synced f } in
+      let d : Disk = moved s lock name 1 in
+      let run : Run lock name [] (Renamed lock name true ∷ Synced true ∷ Wrote new (Some (length new)) ∷ Emptied true ∷ []) a d =
+      (s, d, (c, s, (b, c, (a, b, o a, refl, o b), (omega arith, refl), o c), refl, o s), (1, named lock name apart, refl), o d) in
+      let left : MayLeave d name (Some []) = (first_names lock name apart, inr (first_names lock name apart, refl, inl refl), (0, at_name lock name apart, inl refl)) in
+      old (done [] a d held run (Some []) left)
+    where
+      old : (Some [] ≡ Some new) ⊎ Contains {X = Option (List ℕ)} [] (Some []) → ⊥
+      old (inl e) = not_empty (let same : new ≡ [] = cc in same)
+      old (inr found) = none_listed _ found
+
+  -- The lock is removed before the rename: another process makes its own meanwhile, and its file, half written, is what is renamed.
+  other : name ≢ lock
+  other e = apart (sym e)
+
+  abbrev gone : Disk
+  gone = led (first lock name apart) lock None
+
+  abbrev theirs : Disk
+  theirs = record (led gone lock (Some 2)) { is_synced = λ f. if f == 2 then false else true }
+
+  still : (names : Names) → MayName theirs names → names name ≡ Some 0
+  still names may =
+      let x = led_names gone lock name (Some 2) names other may in
+      let y = led_names (first lock name apart) lock name None x.0 other x.1 in
+      x.2 ∙ y.2 ∙ ap (λ (n : Names). n name) (one lock name apart y.0 y.1) ∙ at_name lock name apart
+
+  lock_not_zero : (names : Names) → MayName theirs names → names lock ≢ Some 0
+  lock_not_zero names may at =
+      let x = led_both gone lock name (Some 2) names other may in
+      let y = led_both (first lock name apart) lock name None x.0 other x.1 in
+      ⊎_elim
+      (λ same. ⊎_elim
+      (λ first_too. some_other 1 0 (omega arith) (sym (named lock name apart) ∙ sym (ap (λ (n : Names). n lock) (one lock name apart y.0 y.1)) ∙ sym first_too ∙ sym same ∙ at))
+      (λ none. none_other 0 (sym none ∙ sym same ∙ at))
+      y.3)
+      (λ two. some_other 2 0 (omega arith) (sym two ∙ at))
+      x.3
+    where
+      some_other : (a b : ℕ) → (a ≡ b → ⊥) → Some a ≡ Some b → ⊥
+      some_other a b ne e = ne (let same : a ≡ b = cc in same)
+
+      none_other : (b : ℕ) → None ≡ Some b → ⊥
+      none_other b e = cc
+
+  zero_not : (f : ℕ) → Some 0 ≡ Some f → f ≡ 0
+  zero_not f e = let same : f ≡ 0 = cc in same
+
+  two_is : (f : ℕ) → Some 2 ≡ Some f → f ≡ 2
+  two_is f e = let same : f ≡ 2 = cc in same
+
+  they_come : Others lock name [] gone theirs
+  they_come = record {
+    mine = refl;
+    place = refl;
+    clean = refl;
+    locked = refl;
+    kept = λ k. record {
+      now = λ f at names may here.
+          let f_is_two = two_is f (sym (cond-true _ (Some 2) _ (same_bytes lock)) ∙ at) in
+          let f_is_zero = zero_not f (sym (still names may) ∙ here) in
+          absurd (omega (arith, f_is_two, f_is_zero));
+      after = λ names may f at here.
+          let f_is_zero = zero_not f (sym (still names may) ∙ here) in
+          lock_not_zero names may (at ∙ ap (λ (x : ℕ). Some x) f_is_zero);
+    };
+    left = λ c l. inl (unchanged c l);
+    shown = λ c l. inl (shows c l);
+    held = λ has. absurd (none_some 1 (sym (cond-true _ None _ (same_bytes lock)) ∙ has.named));
+  }
+    where
+      none_some : (b : ℕ) → None ≡ Some b → ⊥
+      none_some b e = cc
+
+      holds : (file : ℕ) (bytes : List ℕ) → file ≡ 0 → MayHold theirs file bytes → MayHold gone file bytes
+      holds file bytes zero (inl e) = inl e
+      holds file bytes zero (inr e) = let x : ⊥ = two_zero file zero e in absurd x
+        where
+          two_zero : (f : ℕ) → f ≡ 0 → (if f == 2 then false else true) ≡ false → ⊥
+          two_zero f is e = let g : (if 0 == 2 then false else true) ≡ false = subst (λ (k : ℕ). (if k == 2 then false else true) ≡ false) is e in let y : true ≡ false = g in cc
+
+      unchanged : (c : Option (List ℕ)) → MayLeave theirs name c → MayLeave gone name c
+      unchanged c l =
+          let x = led_names gone lock name (Some 2) l.0 other l.1 in
+          (x.0, x.1, has_along gone theirs l.0 x.0 name c x.2 (λ file bytes at h. holds file bytes (zero_not file (sym (still l.0 l.1) ∙ x.2 ∙ at)) h) l.2)
+
+      shows : (c : Option (List ℕ)) → MayShow theirs name c → MayShow gone name c
+      shows c l =
+          has_along gone theirs theirs.names gone.names name c (cond-false _ (Some 2) _ (other_name name lock other)) (λ file bytes at h. holds file bytes (zero_not file (sym (still theirs.names (inl refl)) ∙ cond-false _ (Some 2) _ (other_name name lock other) ∙ at)) h) l
+
+  pub lock_removed_before_the_rename : IsSafe lock name new (Renamed lock name true ∷ Removed lock true ∷ []) → ⊥
+  lock_removed_before_the_rename safe =
+      let o = alone lock name [] in
+      let a : Disk = first lock name apart in
+      let e : Disk = moved theirs lock name 2 in
+      let run : Moment lock name [] (Renamed lock name true ∷ Removed lock true ∷ []) a e =
+      inl (theirs, e, (a, gone, o a, refl, they_come), (2, cond-true _ (Some 2) _ (same_bytes lock), refl), o e) in
+      let left : MayLeave e name (Some (7 ∷ new)) = (e.names, inl refl, (2, cond-true _ (Some 2) _ (same_bytes name), inr refl)) in
+      refused (safe [] a e (held_first lock name apart) run (Some (7 ∷ new)) left)

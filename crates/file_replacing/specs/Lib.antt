@@ -1,0 +1,9 @@
+pub mod Event
+pub mod Disk
+pub mod Safe
+pub mod Phase
+pub mod Outcome
+pub mod Locking
+pub mod Failed
+pub mod Whole
+pub mod Note

@@ -1,0 +1,34 @@
+-- How a call is noted: by numbers, of which the first says which call and the second whether it succeeded, and by its texts.
+use Rattle.std.specs.Prelude.{ℕ, Bool, true, false, List, ◌==◌, map, slice_index, Option, Some, None, if◌then◌else◌}
+use Rattle.file_replacing.specs.Event.{Event, Opened, Locked, Compared, Emptied, Wrote, Synced, Renamed, Removed, Settled, Read}
+
+abbrev pub Noted : Type 0
+Noted = List ℕ × List ℕ × List ℕ
+
+-- how many bytes were taken, where the write succeeded
+abbrev pub taken_of : Bool → ℕ → Option ℕ
+taken_of true n = Some n
+taken_of false n = None
+
+-- what a read gave: nothing, no file, or these bytes
+abbrev pub answer_of : ℕ → List ℕ → Option (Option (List ℕ))
+answer_of n bytes = if n == 0 then None else if n == 1 then Some None else Some (Some bytes)
+
+abbrev pub event_from : ℕ → ℕ → ℕ → List ℕ → List ℕ → Event
+event_from kind ok n first second =
+    if kind == 0 then Opened first (ok == 1)
+    else if kind == 1 then Locked (ok == 1)
+    else if kind == 2 then Compared first (ok == 1)
+    else if kind == 3 then Emptied (ok == 1)
+    else if kind == 4 then Wrote first (taken_of (ok == 1) n)
+    else if kind == 5 then Synced (ok == 1)
+    else if kind == 6 then Renamed first second (ok == 1)
+    else if kind == 7 then Removed first (ok == 1)
+    else if kind == 8 then Settled (ok == 1)
+    else Read first (answer_of n second)
+
+abbrev pub event_of : Noted → Event
+event_of noted = event_from (slice_index noted.0 0) (slice_index noted.0 1) (slice_index noted.0 2) noted.1 noted.2
+
+abbrev pub events_of : List Noted → List Event
+events_of noted = map event_of noted

@@ -1,0 +1,8 @@
+-- How far the replacing of a file is, by its answer.
+use Rattle.file_replacing.specs.Phase.{Phase, InPlace, Stored}
+use Rattle.file_replacing.specs.declared.outcome.Replaced.{Replaced}
+use Rattle.file_replacing.specs.declared.outcome.Replaced.TheVariants.{Synced, Unsynced}
+
+abbrev pub phase_of : Replaced → Phase
+phase_of Synced = Stored
+phase_of Unsynced = InPlace

@@ -1,0 +1,124 @@
+//! How the lock of a file is had.
+ghost use Rattle.std.specs.Prelude.{◌≡◌, ◌≢◌, List, ℕ, true, IfOk, OnOk, OnErr};
+ghost use Rattle.std.specs.String.{string_bytes};
+ghost use Rattle.file_replacing.specs.Safe.{TakesLock, StaysOld, StaysKept};
+ghost use Rattle.file_replacing.specs.Locking.{OnlyLocks};
+ghost use Rattle.file_replacing.specs.Failed.{HasFailed};
+
+use crate::{Folder, Place};
+use std::io::{self, ErrorKind};
+use std::rt::Clock;
+use std::thread;
+use std::time::{Duration, Instant};
+
+/// How often a lock is tried at most; with a sleep after each try that makes ten seconds, and sleeps may take longer.
+const TRIES: u32 = 1005;
+
+/// How many milliseconds one sleep takes; the first ones take 1, 2 and so on. All who wait try equally often, so none is starved by
+/// those who come later.
+const LONGEST_SLEEP: u64 = 10;
+
+/// How many seconds a lock is waited for.
+const LONGEST_WAIT: u64 = 10;
+
+/// Why a lock was not had.
+#[derive(Clone, Copy, Debug, PartialEq, Eq, Drop)]
+pub enum HoldError {
+    /// Another process has had it for ten seconds.
+    Busy,
+    /// Its file can't be made.
+    Unmade,
+    /// What has its name is no lock that can be taken: no regular file, or one that may not be opened or removed.
+    InTheWay,
+}
+
+/// Has the lock of a file, which need not be there. The lock is an empty file that this process made, with the mode of the one that is
+/// held.
+pub fn hold<R: Clock, F: Folder>(rt: &R, folder: &mut F, place: &Place) -> Result<(), HoldError>
+    // Whatever others do, it is had.
+    ensures held { OnOk result (TakesLock (string_bytes place.now.lock) (string_bytes place.now.name) (F.history folder.old) (F.history folder.new)) }
+    // A crash at any moment leaves the file as it was, or as others left it.
+    ensures any_moment { StaysOld (string_bytes place.now.lock) (string_bytes place.now.name) (F.history folder.old) (F.history folder.new) }
+    // No name but the lock's is opened or removed, and the next command may begin on what a crash leaves.
+    ensures locks { OnlyLocks (string_bytes place.now.lock) (F.history folder.old) (F.history folder.new) }
+    ensures kept { StaysKept (string_bytes place.now.lock) (string_bytes place.now.name) (F.history folder.old) (F.history folder.new) }
+{
+    lock_and_take_mode(rt, folder, place.lock(), place.name())
+}
+
+/// Has a lock, with the mode of its file.
+fn lock_and_take_mode<R: Clock, F: Folder>(
+    rt: &R,
+    folder: &mut F,
+    lock: &str,
+    name: &str,
+) -> Result<(), HoldError>
+    requires { lock.now ≢ name.now }
+    ensures held { OnOk result (TakesLock lock.now name.now (F.history folder.old) (F.history folder.new)) }
+    ensures locks { OnlyLocks lock.now (F.history folder.old) (F.history folder.new) }
+{
+    wait(rt, folder, lock)?;
+    if folder.take_mode(name).is_ok() {
+        return Ok(());
+    }
+    let _ = folder.remove(lock);
+    Err(HoldError::Unmade)
+}
+
+/// Waits for a lock until nobody else has it.
+fn wait<R: Clock, F: Folder>(rt: &R, folder: &mut F, lock: &str) -> Result<(), HoldError>
+    ensures held { (name : List ℕ) → lock.now ≢ name → OnOk result (TakesLock lock.now name (F.history folder.old) (F.history folder.new)) }
+    ensures locks { OnlyLocks lock.now (F.history folder.old) (F.history folder.new) }
+{
+    let began = Instant::now(rt);
+    let mut pause = 1u64;
+    for _ in 0..TRIES {
+        match try_hold(folder, lock) {
+            Ok(true) => return Ok(()),
+            Ok(false) if has_waited(rt, &began) => return Err(HoldError::Busy),
+            Ok(false) => thread::sleep(rt, Duration::from_millis(pause)),
+            Err(error) => match error.kind() {
+                ErrorKind::Interrupted => thread::sleep(rt, Duration::from_millis(pause)),
+                ErrorKind::AlreadyExists => return Err(HoldError::InTheWay),
+                _ => return Err(HoldError::Unmade),
+            },
+        }
+        pause = pause.saturating_add(1).min(LONGEST_SLEEP);
+    }
+    Err(HoldError::Busy)
+}
+
+/// Whether a lock was waited for as long as it is, by a clock that can be read.
+fn has_waited<R: Clock>(rt: &R, began: &io::Result<Instant>) -> bool {
+    match began {
+        Ok(began) => match began.elapsed(rt) {
+            Ok(waited) => waited.as_secs() >= LONGEST_WAIT,
+            Err(_) => false,
+        },
+        Err(_) => false,
+    }
+}
+
+/// Tries once to have a lock: makes it or opens it, locks it, and sees that its name is still its own. A lock that was there already is
+/// removed once it is locked, and is not had then: the next try makes a new one. The error is `AlreadyExists` where what has the name
+/// can't be taken.
+pub fn try_hold<F: Folder>(folder: &mut F, lock: &str) -> io::Result<bool>
+    ensures held { (name : List ℕ) → lock.now ≢ name → IfOk result (λ is_held. is_held ≡ true → TakesLock lock.now name (F.history folder.old) (F.history folder.new)) }
+    ensures locks { OnlyLocks lock.now (F.history folder.old) (F.history folder.new) }
+    ensures cause { OnErr result (HasFailed (F.history folder.old) (F.history folder.new)) }
+{
+    folder.open(lock)?;
+    if !folder.try_lock()? {
+        return Ok(false);
+    }
+    if !folder.is_named(lock) {
+        return Ok(false);
+    }
+    if folder.is_new() {
+        return Ok(true);
+    }
+    match folder.remove(lock) {
+        Ok(()) => Ok(false),
+        Err(_) => Err(io::Error::from(ErrorKind::AlreadyExists)),
+    }
+}

@@ -1,0 +1,134 @@
+"""How a file is replaced: whole, under the lock that the program `lanes` takes too, by the same calls in the same order.
+
+The lock of a file is the new file. It lies beside the old one as `.NAME.lanes-lock`, and takes its place once it is written and synced.
+"""
+
+from __future__ import annotations
+
+import errno
+import fcntl
+import os
+import stat
+import time
+import warnings
+from typing import Optional, Union
+
+#: How many seconds a lock is waited for.
+_LONGEST_WAIT = 10.0
+
+#: How many seconds one sleep takes at most.
+_LONGEST_SLEEP = 0.01
+
+
+def replace(path: Union[str, os.PathLike[str]], data: Union[bytes, memoryview]) -> None:
+    """Puts bytes in the place of a file, whose symbolic links are followed, with its mode. Whoever opens it meets the old file or the new
+    one, whole, and so does whoever opens it after a crash.
+
+    Where the folder can't be synced afterwards, the file is replaced, and a `RuntimeWarning` says so.
+
+    Raises:
+        TimeoutError: another process has had the file for ten seconds. It is as it was.
+        OSError: the file can't be written. It is as it was.
+    """
+    target = os.path.realpath(path)
+    folder_name, name = os.path.split(target)
+    lock = os.path.join(folder_name, f".{name}.lanes-lock")
+    file = _held(target, lock)
+    folder = -1
+    try:
+        try:
+            _take_mode(file, target)
+            folder = os.open(folder_name, os.O_RDONLY | os.O_DIRECTORY | os.O_CLOEXEC)
+            os.ftruncate(file, 0)
+            _write(file, data)
+            os.fsync(file)
+            os.rename(lock, target)
+        except BaseException:
+            if _is_named(file, lock):
+                os.unlink(lock)
+            raise
+        try:
+            os.fsync(folder)
+        except OSError:
+            message = f"{target}: this was replaced, but its folder could not be synced: a loss of power may bring the old file back"
+            warnings.warn(message, RuntimeWarning, stacklevel=3)
+    finally:
+        os.close(file)
+        if folder >= 0:
+            os.close(folder)
+
+
+def _held(target: str, lock: str) -> int:
+    """The lock of a file, once it is had, as a descriptor."""
+    begun, pause = time.monotonic(), 0.001
+    while True:
+        file = _tried(lock)
+        if file is not None:
+            return file
+        if time.monotonic() - begun >= _LONGEST_WAIT:
+            raise TimeoutError(errno.ETIMEDOUT, "another process has had the file for ten seconds", target)
+        time.sleep(pause)
+        pause = min(pause + 0.001, _LONGEST_SLEEP)
+
+
+def _tried(lock: str) -> Optional[int]:
+    """The lock, if nobody else has it. One that was there already is removed once it is locked, and is not had then."""
+    try:
+        file, is_new = _made_or_opened(lock)
+    except FileNotFoundError:
+        if os.path.isdir(os.path.dirname(lock)):
+            return None
+        raise
+    is_had = False
+    try:
+        try:
+            fcntl.flock(file, fcntl.LOCK_EX | fcntl.LOCK_NB)
+        except BlockingIOError:
+            return None
+        if _is_named(file, lock):
+            is_had = is_new
+            if not is_new:
+                os.unlink(lock)
+        return file if is_had else None
+    finally:
+        if not is_had:
+            os.close(file)
+
+
+def _made_or_opened(lock: str) -> tuple[int, bool]:
+    """The lock's file, and whether it was made. What is no regular file is refused, links too."""
+    try:
+        return os.open(lock, os.O_WRONLY | os.O_CREAT | os.O_EXCL | os.O_CLOEXEC, 0o666), True
+    except FileExistsError:
+        if not stat.S_ISREG(os.lstat(lock).st_mode):
+            raise
+    try:
+        return os.open(lock, os.O_WRONLY | os.O_NOFOLLOW | os.O_CLOEXEC), False
+    except PermissionError:
+        return os.open(lock, os.O_RDONLY | os.O_NOFOLLOW | os.O_CLOEXEC), False
+
+
+def _is_named(file: int, name: str) -> bool:
+    """Whether an open file is the one of a name: another process may have renamed or removed it meanwhile."""
+    try:
+        return os.path.samestat(os.fstat(file), os.lstat(name))
+    except OSError:
+        return False
+
+
+def _take_mode(file: int, target: str) -> None:
+    """Gives an open file the mode of a file, if there is one. What is no regular file is refused."""
+    try:
+        old = os.stat(target)
+    except FileNotFoundError:
+        return
+    if not stat.S_ISREG(old.st_mode):
+        raise OSError(errno.EINVAL, "this is no regular file", target)
+    os.fchmod(file, stat.S_IMODE(old.st_mode))
+
+
+def _write(file: int, data: Union[bytes, memoryview]) -> None:
+    """Writes all bytes, in as many writes as it takes."""
+    rest = memoryview(data).cast("B")
+    while rest:
+        rest = rest[os.write(file, rest) :]
