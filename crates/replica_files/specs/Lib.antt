@@ -4,3 +4,4 @@ pub mod CsvLoads
 pub mod Dumps
 pub mod FileLaws
 pub mod Loads
+pub mod DumpLaws

@@ -26,7 +26,7 @@ pub use dumping::dump;
 pub use exchange::{offer, summary};
 pub use importing::{Imported, import};
 pub use inspecting::inspect;
-pub use laws::{drawn_names_are_free, file_laws};
+pub use laws::{drawn_names_are_free, dump_laws, file_laws};
 pub use load::Load;
 pub use making::{create, file_schema};
 pub use merging::merge;
