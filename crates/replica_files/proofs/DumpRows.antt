@@ -80,7 +80,7 @@ dump_is_read old h =
 -- ---- imported
 
 T_of : (b : Bool) → b ≡ true → T b
-T_of true e = tt
+T_of b e = subst T (sym e) tt
 
 -- entries in order are those of their map
 entries_kept : (es : List (BatchName × Batch)) → map.is_sorted name_cmp es ≡ true → map.entries (map.from_entries {R = name_cmp} es) ≡ es

@@ -116,7 +116,7 @@ pulls_bring mine theirs table ops others old server new summary offer answer h k
     let state : server.state ≡ state_of others = ap (λ (r : Replica). r.state) there in
     let agreed : Agree old.state server.state =
     subst (λ (s : State). Agree s server.state) (ap (λ (r : Replica). r.state) (sym same)) (subst (λ (s : State). Agree (state_of ops) s) (sym state) (parts_agree ops others agree)) in
-    let offered : IsOffer server summary offer = record { schema = offers.0; state = offers.1.0 } in
+    let offered : IsOffer server summary offer = record { schema = offers.0; state = offers.1 } in
     let joined : new ≡ joined_with old server.state = exchange_laws_hold.holding server old new summary offer offered listed agreed (applied_once old new offer answer made) in
     held_then table ops others new (join-adds table ops others old new server.state same state agree joined) read
 
@@ -197,7 +197,7 @@ starts_empty name columns table made =
       file = ap (canonical_file table) (sym empty_is);
       read =
           ap (λ (read : Result OfferForm Refusal). read >>= λ o. Ok (offering (record { 0 = 1 }) o)) opens.1
-          ∙ (λ i. let held : Result Replica Refusal = Ok (record { schema = opens.2.0 i; own = record { 0 = 1 }; state = (opens.2.1.0 ∙ sym empty_is) i }) in held);
+          ∙ (λ i. let held : Result Replica Refusal = Ok (record { schema = opens.2 i; own = record { 0 = 1 }; state = (opens.3 ∙ sym empty_is) i }) in held);
     }
 
 same_files : SameFiles
