@@ -1,12 +1,12 @@
 mod Advances
 mod Begins
-mod Dumps
+pub mod Dumps
 mod KnownFacts
 mod LineFacts
 mod Marks
 mod Numerals
 mod Pieces
 mod Ranges
-mod RowFacts
+pub mod RowFacts
 mod RowTexts
 mod Steps

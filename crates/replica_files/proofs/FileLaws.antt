@@ -1,29 +1,38 @@
 -- Each command adds to what its file holds, since what it makes is the state of more operations; and a state has one file.
 use Rattle.std.specs.Prelude.{◌≡◌, ℕ, ◌-◌, Bool, true, false, cond, ◌==◌, nat_le, List, [], ◌∷◌, ◌++◌, length, Option, Some, None, Result, Ok, Err}
-use Rattle.std.proofs.Common.{refl, sym, ap, subst, ◌∙◌, append_assoc}
+use Rattle.std.proofs.Common.{refl, sym, ap, subst, ◌∙◌, append_assoc, arith}
 use Rattle.std.specs.FinMap as map
 use Rattle.std.specs.FinSet as set
-use Rattle.table_model.specs.Name.{is_proper_name}
+use Rattle.std.specs.List.{All}
+use Rattle.std.proofs.lemmas.List.{nil_from_length}
+use Rattle.std.proofs.lemmas.List.Elements.{All-nil}
+use Rattle.table_model.specs.Name.{name_cmp, is_proper_name}
 use Rattle.table_model.specs.Operation.{Operation, Insert, Delete, AreAgreeing, SameOperations, state_of, operations_of}
 use Rattle.table_model.specs.Reading.{◌>>=◌}
-use Rattle.table_model.specs.State.{State, Batch, empty_state}
-use Rattle.table_model.specs.Table.{Table}
+use Rattle.table_model.specs.State.{State, Batch, Agree, empty_state}
+use Rattle.table_model.specs.Table.{Table, IsTable, is_schema, folded_table, schema_of}
+use Rattle.table_model.specs.declared.schema.ColType.{ColType}
+use Rattle.table_model.proofs.OwnTable.{IsTable-folded}
 use Rattle.table_model.specs.declared.names.BatchName.{BatchName}
 use Rattle.table_model.specs.declared.names.RowName.{RowName}
 use Rattle.table_model.specs.declared.refusal.Refusal.{Refusal}
-use Rattle.table_model.specs.declared.refusal.Refusal.TheVariants.{BadName, NumbersSpent}
+use Rattle.table_model.specs.declared.refusal.Refusal.TheVariants.{BadName, NumbersSpent, BadSchema}
 use Rattle.table_model.proofs.Operations.{state_of-same, state_of-operations, AreAgreeing-operations, SameOperations-operations}
-use Rattle.replica_store.specs.Exchange.{OfferForm, offering, applied}
-use Rattle.replica_store.specs.Replica.{Replica, with_deleted, unless_fault, deleted_rows, delete_fault, rows_between, merged}
-use Rattle.replica_store.proofs.Limits.{ok_unless, same_Ok}
+use Rattle.replica_store.specs.Exchange.{OfferForm, SummaryForm, offering, applied}
+use Rattle.replica_store.specs.ExchangeLaws.{IsOffer, HoldsListed}
+use Rattle.replica_store.proofs.ExchangeAnswers.{exchange_laws_hold}
+use Rattle.replica_store.specs.Replica.{Replica, joined_with, with_deleted, unless_fault, deleted_rows, delete_fault, rows_between, merged}
+use Rattle.replica_store.proofs.Limits.{ok_unless, same_Ok, IsWithinLimits-empty}
 use Rattle.replica_store.proofs.MergeAnswers.{made_of}
 use Rattle.store_view.specs.Asked.{condition_names}
-use Rattle.column_file.specs.Files.{canonical_file, ranges_of}
+use Rattle.catalogue_join.specs.RowRange.{rows_in as rows_deleted}
+use Rattle.column_file.specs.Files.{canonical_file, ranges_of, HasFile, IsNumbered}
+use Rattle.column_file.proofs.FileLaws.{files_open}
 use Rattle.replica_files.specs.Commands.{held_in, file_of, as_held, Made, deleting, applied_all, applying, merged_with, merged_files}
 use Rattle.replica_files.specs.Loads.{LoadForm, named_batches, loaded, imported_as, importing_as}
 use Rattle.replica_files.specs.declared.importing.Imported.{Imported}
-use Rattle.replica_files.specs.FileLaws.{replica_of, Holds, AddsTo, inserts, deletes, deletes_found, deletes_where, operations_in, EachHolds, all_of, SameFiles, OffersBring, StartsEmpty, MergesHold, FileLaws}
-use Rattle.replica_files.proofs.OperationSets.{Adds, merge-adds, delete-adds, state_of-inserts, named_agree}
+use Rattle.replica_files.specs.FileLaws.{replica_of, Holds, AddsTo, inserts, deletes, deletes_found, deletes_where, operations_in, EachHolds, all_of, SameFiles, OffersBring, StartsEmpty, MergesHold, PullsBring, FileLaws}
+use Rattle.replica_files.proofs.OperationSets.{Adds, parts_agree, join-adds, merge-adds, delete-adds, state_of-inserts, named_agree}
 
 pub ok_one : {X : Type 0} (x y : X) → ◌≡◌ {A = Result X Refusal} (Ok x) (Ok y) → x ≡ y
 ok_one x y e = cc
@@ -88,6 +97,29 @@ apply_holds offers input table ops old new answer h is made read =
     let adds : Adds table ops (operations_in offers) parts.0.1 = applied-adds table ops old parts.0.1 offers parts.0.0 (ap (λ (r : Replica). r.schema) same) (ap (λ (r : Replica). r.state) same) h.agree parts.1 in
     held_then table ops (operations_in offers) new (subst (λ (r : Replica). Adds table ops (operations_in offers) r) last adds) read
 
+-- ---- pulls
+
+-- an apply of one offer
+applied_once : (old new : Replica) (offer : OfferForm) (answer : ℕ × ℕ × ℕ) → applying (offer ∷ []) old ≡ Ok (answer, new) → applied old offer ≡ Ok (tt, new)
+applied_once old new offer answer made =
+    let told : Unit {0} × Replica → (ℕ × ℕ × ℕ) × Replica = λ done. ((map.len done.1.state.batches, length (ranges_of done.1.state.deleted), map.len done.1.state.batches - map.len old.state.batches), done.1) in
+    let parts = bound_parts (applied_all old (offer ∷ [])) (λ (done : Unit {0} × Replica). let made : Made (ℕ × ℕ × ℕ) = Ok (told done) in made) (answer, new) made in
+    let one = bound_parts (applied old offer) (λ (p : Unit {0} × Replica). applied_all p.1 []) parts.0 parts.1 in
+    let same : one.0.1 ≡ parts.0.1 = ap (λ (p : Unit {0} × Replica). p.1) (ok_one (tt, one.0.1) parts.0 one.2) in
+    let last : parts.0.1 ≡ new = ap (λ (p : (ℕ × ℕ × ℕ) × Replica). p.1) (ok_one (told parts.0) (answer, new) parts.2) in
+    subst (λ (r : Replica). applied old offer ≡ Ok (tt, r)) (same ∙ last) one.1
+
+pulls_bring : PullsBring
+pulls_bring mine theirs table ops others old server new summary offer answer h k agree is theirs_is listed offers made read =
+    let same = held_is mine table ops old h is in
+    let there = held_is theirs table others server k theirs_is in
+    let state : server.state ≡ state_of others = ap (λ (r : Replica). r.state) there in
+    let agreed : Agree old.state server.state =
+    subst (λ (s : State). Agree s server.state) (ap (λ (r : Replica). r.state) (sym same)) (subst (λ (s : State). Agree (state_of ops) s) (sym state) (parts_agree ops others agree)) in
+    let offered : IsOffer server summary offer = record { schema = offers.0; state = offers.1 } in
+    let joined : new ≡ joined_with old server.state = exchange_laws_hold.holding server old new summary offer offered listed agreed (applied_once old new offer answer made) in
+    held_then table ops others new (join-adds table ops others old new server.state same state agree joined) read
+
 -- ---- imports
 
 import_holds : (load : LoadForm) (first : BatchName) → AddsTo (importing_as load first) (λ table ops. inserts (named_batches first load.batches))
@@ -132,12 +164,41 @@ empty_is : state_of [] ≡ empty_state
 unfolding state_of
 empty_is = refl
 
+made_table : (name : List ℕ) (columns : List (List ℕ × ColType)) (table : Table) → schema_of name columns ≡ Ok table → IsTable table
+made_table name columns table made =
+    elim (is_schema name columns) as (λ b. is_schema name columns ≡ b → cond b (Ok (folded_table name columns)) (Err BadSchema) ≡ Ok table → IsTable table) [
+      | true ↦ λ e h. subst IsTable (ok_one (folded_table name columns) table h) (IsTable-folded name columns e)
+      | false ↦ λ e h. cc
+    ] refl made
+
+no_rows : rows_deleted [] ≡ set.empty
+unfolding rows_deleted
+no_rows = refl
+
+-- the empty state has a file
+empty_has_file : (table : Table) → IsTable table → HasFile table empty_state
+empty_has_file table is =
+    let none : map.entries {X = Batch} (map.empty {R = name_cmp}) ≡ [] = nil_from_length _ (sym (map.len-entries (map.empty {R = name_cmp})) ∙ map.len-empty name_cmp Batch) in
+    record {
+      schema = is;
+      within = IsWithinLimits-empty table;
+      names = subst (λ (es : List (BatchName × Batch)). All (λ (e : BatchName × Batch). IsNumbered e.0) es) (sym none) (All-nil (λ (e : BatchName × Batch). IsNumbered e.0));
+      ranges = [];
+      maximal = tt;
+      rows = no_rows;
+      count = omega arith;
+    }
+
 starts_empty : StartsEmpty
-starts_empty table read = record {
-  agree = λ n a b g h. absurd g;
-  file = ap (canonical_file table) (sym empty_is);
-  read = read;
-}
+starts_empty name columns table made =
+    let opens = files_open table empty_state (empty_has_file table (made_table name columns table made)) in
+    record {
+      agree = λ n a b g h. absurd g;
+      file = ap (canonical_file table) (sym empty_is);
+      read =
+          ap (λ (read : Result OfferForm Refusal). read >>= λ o. Ok (offering (record { 0 = 1 }) o)) opens.1
+          ∙ (λ i. let held : Result Replica Refusal = Ok (record { schema = opens.2 i; own = record { 0 = 1 }; state = (opens.3 ∙ sym empty_is) i }) in held);
+    }
 
 same_files : SameFiles
 same_files a b table ops others h k same = h.file ∙ ap (canonical_file table) (state_of-same ops others h.agree same) ∙ sym k.file
@@ -150,6 +211,7 @@ file_laws_hold = record {
   delete_rows = delete_rows_holds;
   apply = apply_holds;
   merge = merges_hold;
+  pull = pulls_bring;
   offers = SameOperations-operations;
   same = same_files;
 }

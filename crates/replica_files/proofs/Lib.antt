@@ -11,3 +11,4 @@ pub mod Imports
 pub mod LoadedBatches
 pub mod OperationSets
 pub mod StoreCommands
+pub mod DumpRows

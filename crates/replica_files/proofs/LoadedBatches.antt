@@ -73,13 +73,13 @@ and_of true true x y = refl
 and_of true false x y = y
 and_of false b x y = x
 
-below_numbered : (first : BatchName) (n m : ℕ) (xs : List SegmentForm) → n < m → below_all name_cmp (name_at first.origin n) (numbered_from first m xs) ≡ true
+below_numbered : {X : Type 0} (first : BatchName) (n m : ℕ) (xs : List X) → n < m → below_all name_cmp (name_at first.origin n) (numbered_from first m xs) ≡ true
 below_numbered first n m [] below = refl
 below_numbered first n m (x ∷ xs) below =
     and_of (is_lt (name_cmp (name_at first.origin n) (name_at first.origin m))) (below_all name_cmp (name_at first.origin n) (numbered_from first (m + 1) xs))
     (less_numbers first.origin.0 n m below) (below_numbered first n (m + 1) xs (omega (arith, below)))
 
-sorted_numbered : (first : BatchName) (n : ℕ) (xs : List SegmentForm) → map.is_sorted name_cmp (numbered_from first n xs) ≡ true
+pub sorted_numbered : {X : Type 0} (first : BatchName) (n : ℕ) (xs : List X) → map.is_sorted name_cmp (numbered_from first n xs) ≡ true
 sorted_numbered first n [] = refl
 sorted_numbered first n (x ∷ xs) =
     and_of (below_all name_cmp (name_at first.origin n) (numbered_from first (n + 1) xs)) (map.is_sorted name_cmp (numbered_from first (n + 1) xs))

@@ -16,7 +16,7 @@ use Rattle.table_model.proofs.NameOrder.{names_total, row_names_total, exact_row
 use Rattle.table_model.proofs.Joins.{or_else-commutes, find-append, get-union, same_states, same_maps}
 use Rattle.table_model.proofs.Operations.{Among-find, found-Among}
 use Rattle.catalogue_join.specs.Run.{name_at}
-use Rattle.replica_store.specs.Replica.{Replica, with_deleted, merged}
+use Rattle.replica_store.specs.Replica.{Replica, with_deleted, joined_with, merged}
 use Rattle.replica_store.proofs.MergeAnswers.{is_merge}
 use Rattle.replica_files.specs.FileLaws.{replica_of, inserts, deletes}
 use Rattle.replica_files.specs.Loads.{numbered_from, named_batches}
@@ -100,6 +100,30 @@ merge-adds table ops more r other new done schema ours theirs here there e =
       state = ap (λ (x : Replica). x.state) (sym m.made) ∙ (λ i. join (ours i) (theirs i)) ∙ state_of-append ops more agree;
       agree = both_agree ops more here there agree;
     }
+
+among-left : (op : Operation) (ops more : List Operation) → Among op ops → Among op (ops ++ more)
+among-left op [] more h = absurd h
+among-left op (x ∷ ops) more (inl e) = inl e
+among-left op (x ∷ ops) more (inr h) = inr (among-left op ops more h)
+
+among-right : (op : Operation) (ops more : List Operation) → Among op more → Among op (ops ++ more)
+among-right op [] more h = h
+among-right op (x ∷ ops) more h = inr (among-right op ops more h)
+
+-- where all operations agree, so do the states of two parts of them
+pub parts_agree : (ops more : List Operation) → AreAgreeing (more ++ ops) → Agree (state_of ops) (state_of more)
+unfolding state_of
+parts_agree ops more agree q a b g h =
+    agree q a b (among-right (Insert q a) more ops (Among-find ops q a (sym (map.get-from_entries names_total (inserts_of ops) q) ∙ g)))
+    (among-left (Insert q b) more ops (Among-find more q b (sym (map.get-from_entries names_total (inserts_of more) q) ∙ h)))
+
+-- a join with a state brings its operations
+pub join-adds : (table : Table) (ops more : List Operation) (r new : Replica) (s : State) → r ≡ replica_of table ops → s ≡ state_of more → AreAgreeing (more ++ ops) → new ≡ joined_with r s → Adds table ops more new
+join-adds table ops more r new s ours theirs agree made = record {
+  schema = ap (λ (x : Replica). x.schema) made ∙ ap (λ (x : Replica). x.schema) ours;
+  state = ap (λ (x : Replica). x.state) made ∙ (λ i. join (ours i).state (theirs i)) ∙ state_of-append ops more (parts_agree ops more agree);
+  agree = agree;
+}
 
 -- ---- deletes
 

@@ -3,15 +3,17 @@ use Rattle.std.specs.Prelude.{◌≡◌, ℕ, List, [], ◌∷◌, ◌++◌, map
 use Rattle.table_model.specs.Operation.{Operation, Insert, Delete, AreAgreeing, SameOperations, state_of, operations_of}
 use Rattle.table_model.specs.Reading.{◌>>=◌}
 use Rattle.table_model.specs.State.{State, Batch, empty_state}
-use Rattle.table_model.specs.Table.{Table}
+use Rattle.table_model.specs.Table.{Table, schema_of}
+use Rattle.table_model.specs.declared.schema.ColType.{ColType}
 use Rattle.table_model.specs.declared.names.BatchName.{BatchName}
 use Rattle.table_model.specs.declared.names.RowName.{RowName}
 use Rattle.table_model.specs.declared.refusal.Refusal.{Refusal}
-use Rattle.replica_store.specs.Exchange.{OfferForm}
+use Rattle.replica_store.specs.Exchange.{OfferForm, SummaryForm}
+use Rattle.replica_store.specs.ExchangeLaws.{HoldsListed}
 use Rattle.replica_store.specs.Replica.{Replica, deleted_rows, rows_between, merged}
 use Rattle.store_view.specs.Asked.{condition_names}
 use Rattle.column_file.specs.Files.{canonical_file}
-use Rattle.replica_files.specs.Commands.{held_in, file_of, as_held, Made, deleting, applied_all, applying, merged_files}
+use Rattle.replica_files.specs.Commands.{held_in, file_of, as_held, Made, deleting, applied_all, applying, merged_files, OffersTo}
 use Rattle.replica_files.specs.Loads.{LoadForm, named_batches, importing_as}
 
 -- the replica of the state of operations
@@ -74,9 +76,9 @@ SameFiles = (a b : List ℕ) (table : Table) (ops others : List Operation) → H
 abbrev pub OffersBring : Type 0
 OffersBring = (ops : List Operation) → AreAgreeing ops → SameOperations (operations_of (state_of ops)) ops
 
--- a new file holds nothing
+-- a new file, as create writes it of a name and columns, holds nothing
 abbrev pub StartsEmpty : Type 0
-StartsEmpty = (table : Table) → held_in (canonical_file table empty_state) ≡ Ok (replica_of table []) → Holds (canonical_file table empty_state) table []
+StartsEmpty = (name : List ℕ) (columns : List (List ℕ × ColType)) (table : Table) → schema_of name columns ≡ Ok table → Holds (canonical_file table empty_state) table []
 
 -- a merge of files holds all that they hold
 abbrev pub MergesHold : Type 0
@@ -84,6 +86,15 @@ MergesHold =
     (first : List ℕ) (others : List (List ℕ)) (table : Table) (ops : List Operation) (sets : List (List Operation)) (new : Replica) →
     Holds first table ops → EachHolds others table sets → merged_files first others ≡ Ok new → held_in (file_of new) ≡ Ok (as_held new) →
     Holds (file_of new) table (all_of sets ++ ops)
+
+-- A pull: an offer that their file makes to a summary, applied to my file, brings all that theirs holds, where no name has two lists
+-- of rows in what both hold. My file has each batch that the summary lists: it is the summary of my file, or of what it was before.
+abbrev pub PullsBring : Type 0
+PullsBring =
+    (mine theirs : List ℕ) (table : Table) (ops others : List Operation) (old server new : Replica) (summary : SummaryForm) (offer : OfferForm) (answer : ℕ × ℕ × ℕ) →
+    Holds mine table ops → Holds theirs table others → AreAgreeing (others ++ ops) →
+    held_in mine ≡ Ok old → held_in theirs ≡ Ok server → HoldsListed old summary → OffersTo server summary offer →
+    applying (offer ∷ []) old ≡ Ok (answer, new) → held_in (file_of new) ≡ Ok (as_held new) → Holds (file_of new) table (others ++ ops)
 
 -- what commands keep: each adds to what its file holds what its steps add in a history, and files that hold the same are the same
 pub record FileLaws : Type 0 where
@@ -93,5 +104,6 @@ pub record FileLaws : Type 0 where
   pub delete_rows : (first : RowName) (last : ℕ) → AddsTo (λ r. deleted_rows r first last) (λ table ops. deletes (rows_between first last))
   pub apply : (offers : List OfferForm) → AddsTo (applying offers) (λ table ops. operations_in offers)
   pub merge : MergesHold
+  pub pull : PullsBring
   pub offers : OffersBring
   pub same : SameFiles

@@ -6,3 +6,4 @@ pub mod FileLaws
 pub mod ForgetFileLaws
 pub mod Forgetting
 pub mod Loads
+pub mod DumpLaws

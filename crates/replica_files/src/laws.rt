@@ -1,4 +1,5 @@
 //! Laws of files, of forgetting and of imports, each the contract of a function that does nothing.
+ghost use Rattle.replica_files.specs.DumpLaws.{DumpLaws};
 ghost use Rattle.replica_files.specs.FileLaws.{FileLaws};
 ghost use Rattle.replica_files.specs.ForgetFileLaws.{ForgetFileLaws};
 ghost use Rattle.replica_files.specs.Loads.{DrawnNamesAreFree};
@@ -23,4 +24,10 @@ pub fn forget_file_laws()
 /// The names that an import draws from random words are proper and consecutive, and none of them is held or has a deleted row.
 pub fn drawn_names_are_free()
     ensures { DrawnNamesAreFree }
+{}
+
+/// What a dump without names writes is read as the live rows, in their order. If these are imported to a new file, it has the same live
+/// rows in the same order.
+pub fn dump_laws()
+    ensures { DumpLaws }
 {}

@@ -30,7 +30,7 @@ pub use exchange::{offer, summary};
 pub use forgetting::{Forgotten, forget};
 pub use importing::{Imported, import};
 pub use inspecting::{ReportForm, inspect};
-pub use laws::{drawn_names_are_free, file_laws, forget_file_laws};
+pub use laws::{drawn_names_are_free, dump_laws, file_laws, forget_file_laws};
 pub use listing::list_batches;
 pub use load::Load;
 pub use making::{create, file_schema};
