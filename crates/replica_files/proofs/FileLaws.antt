@@ -99,15 +99,19 @@ apply_holds offers input table ops old new answer h is made read =
 
 -- ---- pulls
 
+-- what the offers are applied to, one after another
+pub applies_all : (old new : Replica) (offers : List OfferForm) (answer : ℕ × ℕ × ℕ) → applying offers old ≡ Ok (answer, new) → applied_all old offers ≡ Ok (tt, new)
+applies_all old new offers answer made =
+    let told : Unit {0} × Replica → (ℕ × ℕ × ℕ) × Replica = λ done. ((map.len done.1.state.batches, length (ranges_of done.1.state.deleted), map.len done.1.state.batches - map.len old.state.batches), done.1) in
+    let parts = bound_parts (applied_all old offers) (λ (done : Unit {0} × Replica). let made : Made (ℕ × ℕ × ℕ) = Ok (told done) in made) (answer, new) made in
+    let last : parts.0.1 ≡ new = ap (λ (p : (ℕ × ℕ × ℕ) × Replica). p.1) (ok_one (told parts.0) (answer, new) parts.2) in
+    parts.1 ∙ (λ i. let made : Made (Unit {0}) = Ok (tt, last i) in made)
+
 -- an apply of one offer
 applied_once : (old new : Replica) (offer : OfferForm) (answer : ℕ × ℕ × ℕ) → applying (offer ∷ []) old ≡ Ok (answer, new) → applied old offer ≡ Ok (tt, new)
 applied_once old new offer answer made =
-    let told : Unit {0} × Replica → (ℕ × ℕ × ℕ) × Replica = λ done. ((map.len done.1.state.batches, length (ranges_of done.1.state.deleted), map.len done.1.state.batches - map.len old.state.batches), done.1) in
-    let parts = bound_parts (applied_all old (offer ∷ [])) (λ (done : Unit {0} × Replica). let made : Made (ℕ × ℕ × ℕ) = Ok (told done) in made) (answer, new) made in
-    let one = bound_parts (applied old offer) (λ (p : Unit {0} × Replica). applied_all p.1 []) parts.0 parts.1 in
-    let same : one.0.1 ≡ parts.0.1 = ap (λ (p : Unit {0} × Replica). p.1) (ok_one (tt, one.0.1) parts.0 one.2) in
-    let last : parts.0.1 ≡ new = ap (λ (p : (ℕ × ℕ × ℕ) × Replica). p.1) (ok_one (told parts.0) (answer, new) parts.2) in
-    subst (λ (r : Replica). applied old offer ≡ Ok (tt, r)) (same ∙ last) one.1
+    let one = bound_parts (applied old offer) (λ (p : Unit {0} × Replica). applied_all p.1 []) (tt, new) (applies_all old new (offer ∷ []) answer made) in
+    subst (λ (r : Replica). applied old offer ≡ Ok (tt, r)) (ap (λ (p : Unit {0} × Replica). p.1) (ok_one (tt, one.0.1) (tt, new) one.2)) one.1
 
 pulls_bring : PullsBring
 pulls_bring mine theirs table ops others old server new summary offer answer h k agree is theirs_is listed offers made read =

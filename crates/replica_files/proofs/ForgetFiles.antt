@@ -33,7 +33,7 @@ use Rattle.replica_files.specs.Forgetting.{forgetting}
 use Rattle.replica_files.specs.ForgetFileLaws.{StandsFor, AddsToStanding, EachStandsFor, MergesStand, PullsStand, MeansWhole, AnswersAlike, SameForgottenFiles, ForgetFileLaws}
 use Rattle.replica_files.specs.Loads.{LoadForm, named_batches, loaded, imported_as, importing_as}
 use Rattle.replica_files.specs.declared.importing.Imported.{Imported}
-use Rattle.replica_files.proofs.FileLaws.{ok_one, bound_parts}
+use Rattle.replica_files.proofs.FileLaws.{ok_one, bound_parts, applies_all}
 use Rattle.replica_files.proofs.OperationSets.{get-state_of, state_of-append, delete-adds, state_of-inserts}
 
 -- a replica has what is left of the state of operations
@@ -148,14 +148,6 @@ applied-rests table ops r new (offer ∷ offers) done ours agree e =
     let turned = in_turn (operations_in offers) more ops agree in
     let one = merge-rests table ops more r (offering r.own offer) parts.0.1 parts.0.0 ours (own_operations offer) (back_agrees (operations_in offers) (more ++ ops) turned) parts.1 in
     in_order table (operations_in offers) more ops new (applied-rests table (more ++ ops) parts.0.1 new offers done one turned parts.2)
-
--- what an apply answers, and what it makes
-applies_all : (old new : Replica) (offers : List OfferForm) (answer : ℕ × ℕ) → applying offers old ≡ Ok (answer, new) → applied_all old offers ≡ Ok (tt, new)
-applies_all old new offers answer made =
-    let told : Unit {0} × Replica → (ℕ × ℕ) × Replica = λ done. ((map.len done.1.state.batches, length (ranges_of done.1.state.deleted)), done.1) in
-    let parts = bound_parts (applied_all old offers) (λ (done : Unit {0} × Replica). let made : Made (ℕ × ℕ) = Ok (told done) in made) (answer, new) made in
-    let last : parts.0.1 ≡ new = ap (λ (p : (ℕ × ℕ) × Replica). p.1) (ok_one (told parts.0) (answer, new) parts.2) in
-    parts.1 ∙ (λ i. let made : Made (Unit {0}) = Ok (tt, last i) in made)
 
 apply_stands : (offers : List OfferForm) → AddsToStanding (applying offers) (λ table ops. operations_in offers)
 apply_stands offers input table ops old new answer s agree is made read =

@@ -53,7 +53,7 @@ MergesStand =
 -- that the taker had taken, forgotten since or not, and where all of it agrees.
 abbrev pub PullsStand : Type 0
 PullsStand =
-    (input given : List ℕ) (table : Table) (ops others : List Operation) (server old new : Replica) (summary : SummaryForm) (offer : OfferForm) (answer : ℕ × ℕ) →
+    (input given : List ℕ) (table : Table) (ops others : List Operation) (server old new : Replica) (summary : SummaryForm) (offer : OfferForm) (answer : ℕ × ℕ × ℕ) →
     StandsFor input table ops → StandsFor given table others → AreAgreeing (others ++ ops) →
     held_in given ≡ Ok server → IsOffer server summary offer → TookListed ops summary.names →
     held_in input ≡ Ok old → applying (offer ∷ []) old ≡ Ok (answer, new) → held_in (file_of new) ≡ Ok (as_held new) →
