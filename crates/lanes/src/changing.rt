@@ -120,7 +120,7 @@ pub fn delete_rows<R: Print + Eprint + Files<File = File> + Clock + AllocGlobal>
 }
 
 /// Drops the batches of which every row is deleted.
-pub fn forget<R: Print + Files<File = File> + Clock + AllocGlobal>(
+pub fn forget<R: Print + Eprint + Files<File = File> + Clock + AllocGlobal>(
     rt: &R,
     file: &str,
     is_quiet: bool,
