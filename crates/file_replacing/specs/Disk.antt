@@ -14,6 +14,7 @@ lead name entry names = λ n. if bytes_eq n name then entry else names n
 abbrev pub move : List ℕ → List ℕ → ℕ → Names → Names
 move from to file names = lead to (Some file) (lead from None names)
 
+-- a folder on a disk: what its names lead to, what each file has, and what this process has open
 pub record Disk : Type 0 where
   -- what the names lead to now
   pub names : Names
@@ -74,9 +75,11 @@ IsFresh d file = (name : List ℕ) → IsApart d name file
 
 -- what the calls do
 
+-- the disk once a name leads to another file, or to none
 abbrev pub led : Disk → List ℕ → Option ℕ → Disk
 led d name entry = record d { names = lead name entry d.names; changes = lead name entry ∷ d.changes }
 
+-- the disk once a file has moved from one name to another
 abbrev pub moved : Disk → List ℕ → List ℕ → ℕ → Disk
 moved d from to file = record d { names = move from to file d.names; changes = move from to file ∷ d.changes }
 
@@ -90,6 +93,7 @@ filled d bytes place is_clean =
       is_clean = is_clean;
     }
 
+-- the disk once this process has opened a file, from its beginning and without its lock
 abbrev pub opened : Disk → ℕ → Disk
 opened d file = record d { mine = file; place = 0; is_clean = false; is_locked = false }
 

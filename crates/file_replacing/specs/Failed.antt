@@ -17,6 +17,7 @@ Fails (Settled ok) = ok ≡ false
 Fails (Read name (Some answer)) = ⊥
 Fails (Read name None) = Unit {0}
 
+-- one of these calls failed
 abbrev pub AnyFails : List Event → Type 0
 AnyFails [] = ⊥
 AnyFails (call ∷ earlier) = Fails call ⊎ AnyFails earlier

@@ -11,6 +11,7 @@ IsLocking lock (Removed n ok) = n ≡ lock
 IsLocking lock (Read n answer) = Unit {0}
 IsLocking lock call = ⊥
 
+-- all of these calls do
 abbrev pub AllLocking : List ℕ → List Event → Type 0
 AllLocking lock [] = Unit {0}
 AllLocking lock (call ∷ calls) = IsLocking lock call × AllLocking lock calls

@@ -2,6 +2,7 @@
 use Rattle.std.specs.Prelude.{ℕ, Bool, true, false, List, ◌==◌, map, slice_index, Option, Some, None, if◌then◌else◌}
 use Rattle.file_replacing.specs.Event.{Event, Opened, Locked, Compared, Emptied, Wrote, Synced, Renamed, Removed, Settled, Read}
 
+-- a call as it is noted: its numbers, and its texts
 abbrev pub Noted : Type 0
 Noted = List ℕ × List ℕ × List ℕ
 
@@ -14,6 +15,7 @@ taken_of false n = None
 abbrev pub answer_of : ℕ → List ℕ → Option (Option (List ℕ))
 answer_of n bytes = if n == 0 then None else if n == 1 then Some None else Some (Some bytes)
 
+-- the call that such numbers and texts note
 abbrev pub event_from : ℕ → ℕ → ℕ → List ℕ → List ℕ → Event
 event_from kind ok n first second =
     if kind == 0 then Opened first (ok == 1)
@@ -27,8 +29,10 @@ event_from kind ok n first second =
     else if kind == 8 then Settled (ok == 1)
     else Read first (answer_of n second)
 
+-- the call that a note is of
 abbrev pub event_of : Noted → Event
 event_of noted = event_from (slice_index noted.0 0) (slice_index noted.0 1) (slice_index noted.0 2) noted.1 noted.2
 
+-- the calls that notes are of
 abbrev pub events_of : List Noted → List Event
 events_of noted = map event_of noted

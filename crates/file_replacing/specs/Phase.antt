@@ -2,6 +2,7 @@
 use Rattle.std.specs.Prelude.{◌≡◌, ◌≢◌, ◌&&◌, ℕ, Bool, true, false, List, [], ◌∷◌, ◌++◌, take, Option, Some, None, bytes_eq}
 use Rattle.file_replacing.specs.Event.{Event, Opened, Locked, Compared, Emptied, Wrote, Synced, Renamed, Removed, Settled, Read}
 
+-- how far the replacing of a file is
 pub data Phase : Type 0 where
   -- the lock is had, and nothing was written to its file
   Holding : Phase
@@ -26,21 +27,25 @@ pub data Phase : Type 0 where
   -- a call came out of turn
   Bad : Phase
 
+-- after the open file was cut to nothing
 abbrev pub emptied : Bool → Phase → Phase
 emptied true Holding = Filled []
 emptied false Holding = Holding
 emptied ok p = Bad
 
+-- after a write of these bytes, of which so many were taken
 abbrev pub wrote : List ℕ → Option ℕ → Phase → Phase
 wrote bytes (Some n) (Filled c) = Filled (c ++ take n bytes)
 wrote bytes None (Filled c) = Dirty
 wrote bytes taken p = Bad
 
+-- after the open file was synced
 abbrev pub synced : Bool → Phase → Phase
 synced true (Filled c) = Ready c
 synced false (Filled c) = Dirty
 synced ok p = Bad
 
+-- after a rename, by whether it was in turn and whether it succeeded
 abbrev pub renamed : Bool → Bool → Phase → Phase
 renamed true true p = InPlace
 renamed true false p = Unsure
@@ -51,6 +56,7 @@ abbrev pub renamed_from : List ℕ → List ℕ → List ℕ → List ℕ → Li
 renamed_from lock name new from to ok (Ready c) = renamed (bytes_eq from lock && bytes_eq to name && bytes_eq c new) ok (Ready c)
 renamed_from lock name new from to ok p = Bad
 
+-- after a name was removed, by whether it is the lock's
 abbrev pub removed : Bool → Phase → Phase
 removed true Holding = Gone
 removed true Dirty = Gone
@@ -59,15 +65,18 @@ removed true (Ready c) = Gone
 removed true Back = GoneUnsure
 removed same p = Bad
 
+-- after the folder was synced
 abbrev pub settled : Bool → Phase → Phase
 settled false p = p
 settled true InPlace = Stored
 settled true p = Bad
 
+-- after the open file was compared with what has the lock's name, by whether they are the same
 abbrev pub compared : Bool → Phase → Phase
 compared true Unsure = Back
 compared same p = p
 
+-- after a call
 abbrev pub next : List ℕ → List ℕ → List ℕ → Event → Phase → Phase
 next lock name new (Opened n ok) p = Bad
 next lock name new (Locked got) p = Bad

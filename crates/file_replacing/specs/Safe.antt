@@ -96,6 +96,7 @@ IsOurs lock name (Renamed from to ok) = (from ≡ lock) × (to ≡ name)
 IsOurs lock name (Removed n ok) = n ≡ lock
 IsOurs lock name call = Unit {0}
 
+-- all of these calls do
 abbrev pub AllOurs : List ℕ → List ℕ → List Event → Type 0
 AllOurs lock name [] = Unit {0}
 AllOurs lock name (call ∷ calls) = IsOurs lock name call × AllOurs lock name calls
