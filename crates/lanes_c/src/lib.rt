@@ -10,7 +10,7 @@ mod reading;
 mod room;
 mod taking;
 
-pub use changing::{lanes_create, lanes_delete, lanes_import};
+pub use changing::{lanes_create, lanes_delete, lanes_forget, lanes_import};
 pub use fault::Place;
 pub use merging::lanes_merge;
 pub use messages::{lanes_apply, lanes_offer, lanes_summary};
