@@ -159,6 +159,13 @@ uint8_t lanes_import(const uint8_t *file, size_t file_length, const uint8_t *csv
 uint8_t lanes_delete(const uint8_t *file, size_t file_length, const uint8_t *condition, size_t condition_length, uint8_t *out,
                      size_t room, size_t *length, lanes_place *place);
 
+/* Forgets: drops the batches of which every row is deleted. Their deletions stay, so that these rows never come back, and no answer
+ * changes. A name that was dropped stays used up; docs/COMMANDS.md, "Forgetting", says when to forget.
+ *
+ * Gives: the new file; it is the given file where there is no such batch.
+ * Refused: the file's first fault. */
+uint8_t lanes_forget(const uint8_t *file, size_t file_length, uint8_t *out, size_t room, size_t *length, lanes_place *place);
+
 /* Gives the summary of a file: the names of its batches, by which another replica knows what it lacks.
  *
  * Refused: the file's first fault. */

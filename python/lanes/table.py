@@ -162,6 +162,15 @@ class Table:
         """
         return Table(calls.given(calls.DELETE, 2 * self._length() + _ROOM, self._file, condition.encode()))
 
+    def forget(self) -> Table:
+        """The table without the batches of which every row is deleted. Their deletions stay, so that these rows never come back, and no
+        answer changes. A name that was dropped stays used up; docs/COMMANDS.md, "Forgetting", says when to forget.
+
+        Raises:
+            Refused: a fault of the file.
+        """
+        return Table(calls.given(calls.FORGET, self._length() + _ROOM, self._file))
+
     def merge(self, *others: Table) -> Table:
         """The table that has what all of them hold, in whichever order they come.
 

@@ -140,6 +140,18 @@ class Changes(unittest.TestCase):
         self.assertEqual(table.delete("HITS > 99"), table)
         self.assertEqual(table.delete("HITS < 10").dump(), "SITE,HITS\n1,10\n2,\n")
 
+    def test_a_forget_drops_the_batches_of_which_every_row_is_deleted(self) -> None:
+        table = counts(FIRST, SECOND).delete("HITS >= 20")
+        left = table.forget()
+        self.assertEqual((table.check(), left.check()), ((2, 1), (1, 1)))
+        self.assertEqual(left.dump(), table.dump())
+        self.assertLess(len(left.to_bytes()), len(table.to_bytes()))
+        self.assertEqual(left.forget(), left)
+        # What was forgotten comes back deleted, and is forgotten again.
+        again = left.import_csv(SECOND[0], batch=SECOND[1])
+        self.assertEqual((again, again.forget()), (table, left))
+        self.assertEqual(left.merge(table).forget(), left)
+
     def test_a_load_that_comes_twice_is_there_once(self) -> None:
         self.assertEqual(counts(FIRST, FIRST), counts(FIRST))
         with self.assertRaises(Refused) as caught:

@@ -38,6 +38,12 @@ static uint8_t summarizes(const uint8_t *file, size_t file_length, const uint8_t
     return lanes_summary(file, file_length, out, room, length, place);
 }
 
+static uint8_t forgets(const uint8_t *file, size_t file_length, const uint8_t *other, size_t other_length, uint8_t *out, size_t room,
+                       size_t *length, lanes_place *place) {
+    (void)other, (void)other_length;
+    return lanes_forget(file, file_length, out, room, length, place);
+}
+
 static uint8_t creates(const uint8_t *file, size_t file_length, const uint8_t *other, size_t other_length, uint8_t *out, size_t room,
                        size_t *length, lanes_place *place) {
     (void)file, (void)file_length;
@@ -56,8 +62,8 @@ static uint8_t answers_all(const uint8_t *file, size_t file_length, const uint8_
     return lanes_queries(file, file_length, other, other_length, out, room, ends, 2, length, place);
 }
 
-static call_on_two *const CALLS[] = {checks, dumps, summarizes, creates, imports, lanes_query, lanes_delete, lanes_offer, lanes_apply, lanes_merge, answers_all};
-static const char *const NAMES[] = {"check", "dump", "summary", "create", "import", "query", "delete", "offer", "apply", "merge", "queries"};
+static call_on_two *const CALLS[] = {checks, dumps, summarizes, creates, imports, lanes_query, lanes_delete, lanes_offer, lanes_apply, lanes_merge, answers_all, forgets};
+static const char *const NAMES[] = {"check", "dump", "summary", "create", "import", "query", "delete", "offer", "apply", "merge", "queries", "forget"};
 enum { COUNT = sizeof CALLS / sizeof *CALLS };
 
 /* What was told of one call, and the room as it is then. */
@@ -208,6 +214,22 @@ static void try_refusals(const inputs *good) {
     expect_refused("a summary that is none", 7, file, noise, LANES_BAD_MAGIC, 0, 0);
     expect_refused("an offer that is none", 8, file, nothing, LANES_TRUNCATED, 0, 0);
     expect_refused("another file that is none", 9, file, noise, LANES_BAD_MAGIC, 0, 0);
+    expect_refused("a forget of no bytes", 10, nothing, nothing, LANES_TRUNCATED, 0, 0);
+    expect_refused("a forget of no file", 10, noise, nothing, LANES_BAD_MAGIC, 0, 0);
+}
+
+/* A batch of which every row is deleted is dropped, in a room of each size, and its deletion stays. */
+static void try_forget(const inputs *good) {
+    static const char all_rows[] = "A > 0", wanted[] = "ok batches=0 ranges=1\n";
+    bytes dead, left, line;
+    TAKE(dead, lanes_delete(good->file.at, good->file.length, text_of(all_rows), strlen(all_rows), out, room, &length, &place));
+    try_rooms(10, dead, bytes_of(""));
+    TAKE(left, lanes_forget(dead.at, dead.length, out, room, &length, &place));
+    TAKE(line, lanes_check(left.at, left.length, out, room, &length, &place));
+    expect(left.length < dead.length && line.length == strlen(wanted) && memcmp(line.at, wanted, line.length) == 0, "a batch that is forgotten");
+    free(dead.at);
+    free(left.at);
+    free(line.at);
 }
 
 /* Two rows under one name, a name of 0 and another table. */
@@ -297,6 +319,7 @@ int main(void) {
     for (size_t call = 0; call < COUNT; call++) try_rooms(call, good.file, good.others[call]);
     try_refusals(&good);
     try_names(&good);
+    try_forget(&good);
     try_bad_files(&good);
     try_sentences();
     try_threads(&good);

@@ -16,6 +16,7 @@ use Rattle.replica_store.specs.Replica.{Replica}
 use Rattle.store_view.specs.Asked.{query_answer}
 use Rattle.replica_files.specs.Commands as commands
 use Rattle.replica_files.specs.Dumps.{dumping}
+use Rattle.replica_files.specs.Forgetting.{forgetting}
 use Rattle.script_lines.specs.Line.{command_of}
 use Rattle.script_lines.specs.TableWords.{TableWords}
 use Rattle.script_lines.specs.declared.command.Command.{Command}
@@ -71,6 +72,10 @@ create_of text = words_in (command_of (line_of text)) >>= empty_file_of
 -- lanes_delete: the canonical file without the rows at which a condition is true
 abbrev pub delete_of : List ℕ → List ℕ → Result (List ℕ) Refusal
 delete_of condition file = commands.file_made (commands.held_in file >>= commands.deleting condition)
+
+-- lanes_forget: the canonical file without the batches of which every row is deleted
+abbrev pub forget_of : List ℕ → Result (List ℕ) Refusal
+forget_of file = commands.file_made (commands.held_in file >>= forgetting)
 
 -- lanes_summary: the summary of what a file holds
 abbrev pub summary_of : List ℕ → Result (List ℕ) Refusal

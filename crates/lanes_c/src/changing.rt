@@ -1,6 +1,6 @@
-//! The calls that make a file, and that make a file's successor by rows: an empty table, an import, a delete.
+//! The calls that make a file, and that make a file's successor: an empty table, an import, a delete, a forget.
 ghost use Rattle.std.specs.Prelude.{◌≡◌, ◌++◌, codes, IfOk, IfErr};
-ghost use Rattle.lanes_c.specs.Calls.{Yields, Asks, create_of, delete_of, empty_file_of, line_of};
+ghost use Rattle.lanes_c.specs.Calls.{Yields, Asks, create_of, delete_of, empty_file_of, forget_of, line_of};
 ghost use Rattle.lanes_c.specs.Importing.{Loads, IsFaultOfText, ImportsLoad, Imports, name_given};
 ghost use Rattle.lanes_c.specs.Rooms.{Tells, given_by};
 
@@ -8,7 +8,7 @@ use crate::fault::{Fault, Place};
 use crate::room::hand_out;
 use crate::taking::{left, taken, text_of};
 use csv_rows::CsvReader;
-use replica_files::{Load, create, delete, file_schema, import, read_csv};
+use replica_files::{Load, create, delete, file_schema, forget, import, read_csv};
 use script_lines::{Command, TableCommand, parse_line};
 use std::alloc::{AllocError, Global};
 use table_model::{BatchName, Counted, Number, Origin, Refusal};
@@ -59,6 +59,15 @@ fn deleted_where(alloc: Global, file: &[u8], condition: &[u8]) -> Result<Vec<u8>
 {
     let text = text_of(condition)?;
     deleted(alloc, file, text)
+}
+
+/// The file without the batches of which every row is deleted.
+fn forgotten(alloc: Global, file: &[u8]) -> Result<Vec<u8>, Fault>
+    ensures { Yields (given_by result) (forget_of file.now) }
+{
+    let mut writer = Counted::new(Vec::new(alloc));
+    let done = forget(alloc, &mut Counted::new(file), &mut writer)?;
+    left(alloc, file, done.batches != 0, writer)
 }
 
 /// The rows of a text as batches of the table that a file holds.
@@ -140,6 +149,23 @@ pub extern "C" fn lanes_delete(
     ensures { Tells (λ given. Asks given condition.now (delete_of condition.now file.now)) result room.old room.new length.new place.new }
 {
     hand_out(deleted_where(alloc, file, condition), room, length, place)
+}
+
+/// Drops the batches of a file of which every row is deleted. Their deletions stay, and no answer changes. It gives the canonical file
+/// without them, which is the file itself where there is no such batch.
+///
+/// Refused is the file's first fault.
+#[unsafe(no_mangle)]
+pub extern "C" fn lanes_forget(
+    alloc: Global,
+    file: &[u8],
+    room: &mut [u8],
+    length: &mut usize,
+    place: &mut Place,
+) -> u8
+    ensures { Tells (λ given. Yields given (forget_of file.now)) result room.old room.new length.new place.new }
+{
+    hand_out(forgotten(alloc, file), room, length, place)
 }
 
 /// The file with the rows of a text under a name that is given or drawn.

@@ -16,7 +16,7 @@ mod room;
 mod shared;
 mod taking;
 
-pub use changing::{lanes_create, lanes_delete, lanes_import};
+pub use changing::{lanes_create, lanes_delete, lanes_forget, lanes_import};
 pub use fault::Place;
 pub use handle::Table;
 pub use merging::lanes_merge;
