@@ -1,7 +1,7 @@
 //! What a command changes in a file, and what it says of that.
 
 use file_replacing::{Folder, Place, Replaced};
-use replica_files::{Applied, Deleted, DeletedRows, Forgotten, Imported, Load};
+use replica_files::{Applied, Deleted, DeletedRows, Forgotten, Imported, Load, file_schema};
 use replica_store::Offer;
 use std::alloc::Global;
 use std::fmt;
@@ -97,6 +97,18 @@ impl<'a> Change<'a> {
                 replica_files::apply(alloc, reader, offers, &mut nowhere).map(|_| ())
             }
         }
+    }
+
+    /// The first fault of the file that the change is made of, if there is one; none if the change makes the file.
+    pub fn fault_of_file<R: Read>(
+        &self,
+        alloc: Global,
+        reader: &mut Counted<R>,
+    ) -> Result<(), Refusal> {
+        if self.is_creation() {
+            return Ok(());
+        }
+        file_schema(alloc, reader).map(|_| ())
     }
 
     /// Whether the file must not be there before.

@@ -85,18 +85,11 @@ pub fn delete<R: Print + Eprint + Files<File = File> + Clock + AllocGlobal>(
     condition: &str,
     is_quiet: bool,
 ) -> Result<(), Failure> {
-    let found = schema_of(rt, file)?;
-    let schema = Some(&found);
-    let text = Text {
-        text: condition,
-        is_condition: true,
-        schema,
-    };
     change(
         rt,
         file,
         Change::Delete { condition },
-        About::Condition(text),
+        About::Condition(condition),
         is_quiet,
     )
 }
@@ -109,7 +102,6 @@ pub fn delete_rows<R: Print + Eprint + Files<File = File> + Clock + AllocGlobal>
     last: u16,
     is_quiet: bool,
 ) -> Result<(), Failure> {
-    let _schema = schema_of(rt, file)?;
     change(
         rt,
         file,
@@ -125,7 +117,6 @@ pub fn forget<R: Print + Eprint + Files<File = File> + Clock + AllocGlobal>(
     file: &str,
     is_quiet: bool,
 ) -> Result<(), Failure> {
-    let _schema = schema_of(rt, file)?;
     change(rt, file, Change::Forget, About::Nothing, is_quiet)
 }
 
@@ -136,23 +127,18 @@ pub fn apply<R: Print + Eprint + Input + Files<File = File> + Clock + AllocGloba
     sources: &[Source<'_>],
     is_quiet: bool,
 ) -> Result<(), Failure> {
-    let schema = schema_of(rt, file)?;
     let mut offers = Vec::new(rt.alloc());
     for source in sources {
         match column_file::read_offer(rt.alloc(), &mut source_of(rt, *source)) {
             Ok(offer) => offers.push(offer)?,
-            Err(refusal) => return Err(unread(rt, CommandRefusal::from(refusal), *source)),
+            Err(refusal) => {
+                let _schema = schema_of(rt, file)?;
+                return Err(unread(rt, CommandRefusal::from(refusal), *source));
+            }
         }
     }
     let offers = offers.as_slice();
-    let about = match other_table(offers, &schema) {
-        Some((index, found)) => About::OtherTable {
-            name: name_at(sources, index),
-            found,
-            wanted: &schema,
-        },
-        None => About::Nothing,
-    };
+    let about = About::Offers { offers, sources };
     change(rt, file, Change::Apply { offers }, about, is_quiet)
 }
 
@@ -276,12 +262,11 @@ enum About<'a> {
     /// It has a name that is none, as this sentence says.
     Names(&'a str),
     /// It is for the rows for which this condition is true.
-    Condition(Text<'a>),
-    /// This input of it is of another table than the file.
-    OtherTable {
-        name: &'a str,
-        found: &'a Schema,
-        wanted: &'a Schema,
+    Condition(&'a str),
+    /// It applies these offers, which were read from these sources.
+    Offers {
+        offers: &'a [Offer],
+        sources: &'a [Source<'a>],
     },
 }
 
@@ -330,7 +315,10 @@ fn not_held<R: Files + AllocGlobal>(
     about: About<'_>,
 ) -> Failure {
     if error == HoldError::Busy {
-        return Failure::of_file(rt, CommandRefusal::Busy, file);
+        return match change.fault_of_file(rt.alloc(), &mut reader_of(rt, place.name())) {
+            Ok(()) => Failure::of_file(rt, CommandRefusal::Busy, file),
+            Err(earlier) => refused_alone(rt, file, CommandRefusal::from(earlier)),
+        };
     }
     match change.judge(rt.alloc(), &mut reader_of(rt, place.name())) {
         Ok(()) => unlocked(rt, file, place, error),
@@ -361,17 +349,12 @@ fn refused<R: Files + AllocGlobal>(
     about: About<'_>,
 ) -> Failure {
     match (refusal, about) {
-        (CommandRefusal::Named(refusal), About::Condition(text)) if is_of_a_text(refusal) => {
-            Failure::of_text(rt.alloc(), refusal, "", text)
+        (CommandRefusal::Named(refusal), About::Condition(condition)) if is_of_a_text(refusal) => {
+            of_condition(rt, file, refusal, condition)
         }
-        (
-            CommandRefusal::Named(Refusal::SchemaDiffers),
-            About::OtherTable {
-                name,
-                found,
-                wanted,
-            },
-        ) => Failure::of_tables(rt.alloc(), name, found, file, wanted),
+        (CommandRefusal::Named(Refusal::SchemaDiffers), About::Offers { offers, sources }) => {
+            of_other_table(rt, file, refusal, offers, sources)
+        }
         (CommandRefusal::Named(Refusal::BadSchema), About::Names(words)) => {
             let knowledge = Knowledge::Advice(words);
             let sentence = Sentence {
@@ -381,6 +364,42 @@ fn refused<R: Files + AllocGlobal>(
             Failure::new(rt.alloc(), sentence)
         }
         _ => refused_alone(rt, file, refusal),
+    }
+}
+
+/// A refusal of a condition, with the columns that the file has.
+fn of_condition<R: Files + AllocGlobal>(
+    rt: &R,
+    file: &str,
+    refusal: Refusal,
+    condition: &str,
+) -> Failure {
+    let found = schema_of(rt, file).ok();
+    let schema = found.as_ref();
+    let text = Text {
+        text: condition,
+        is_condition: true,
+        schema,
+    };
+    Failure::of_text(rt.alloc(), refusal, "", text)
+}
+
+/// A refusal of an offer of another table, with the names of both tables.
+fn of_other_table<R: Files + AllocGlobal>(
+    rt: &R,
+    file: &str,
+    refusal: CommandRefusal,
+    offers: &[Offer],
+    sources: &[Source<'_>],
+) -> Failure {
+    let Ok(wanted) = schema_of(rt, file) else {
+        return refused_alone(rt, file, refusal);
+    };
+    match other_table(offers, &wanted) {
+        Some((index, found)) => {
+            Failure::of_tables(rt.alloc(), name_at(sources, index), found, file, &wanted)
+        }
+        None => refused_alone(rt, file, refusal),
     }
 }
 
