@@ -2,14 +2,14 @@
 
 use crate::change::{Change, Done};
 use crate::failure::{Failure, is_of_a_text};
-use crate::inputs::{name_of, reader_of, source_of, unread};
+use crate::inputs::{name_of, reader_of, schema_again, schema_of, source_of, unread};
 use crate::names::fault_of_names;
 use crate::reports::write_line;
 use command_line::Source;
 use csv_rows::{CsvError, CsvReader};
 use file_replacing::{Folder, HoldError, Place, SystemFolder, hold};
 use refusal_sentences::{CommandRefusal, Fields, Knowledge, Printable, Sentence, Text};
-use replica_files::{Load, file_schema, read_csv};
+use replica_files::{Load, read_csv};
 use replica_store::Offer;
 use std::alloc::Global;
 use std::fs::{self, File, Files};
@@ -163,14 +163,6 @@ fn name_at<'a>(sources: &[Source<'a>], index: usize) -> &'a str {
 /// Whether there is a file, a folder or a link of this name.
 fn is_there<R: Files>(rt: &R, name: &str) -> bool {
     fs::symlink_metadata(rt, name).is_ok()
-}
-
-/// A file's schema, once the whole file was read.
-fn schema_of<R: Files + AllocGlobal>(rt: &R, file: &str) -> Result<Schema, Failure> {
-    match file_schema(rt.alloc(), &mut reader_of(rt, file)) {
-        Ok(schema) => Ok(schema),
-        Err(refusal) => Err(Failure::of_file(rt, CommandRefusal::from(refusal), file)),
-    }
 }
 
 /// Random words, to draw names with.
@@ -374,7 +366,7 @@ fn of_condition<R: Files + AllocGlobal>(
     refusal: Refusal,
     condition: &str,
 ) -> Failure {
-    let found = schema_of(rt, file).ok();
+    let found = schema_again(rt, file);
     let schema = found.as_ref();
     let text = Text {
         text: condition,
@@ -392,7 +384,7 @@ fn of_other_table<R: Files + AllocGlobal>(
     offers: &[Offer],
     sources: &[Source<'_>],
 ) -> Failure {
-    let Ok(wanted) = schema_of(rt, file) else {
+    let Some(wanted) = schema_again(rt, file) else {
         return refused_alone(rt, file, refusal);
     };
     match other_table(offers, &wanted) {

@@ -107,3 +107,11 @@ pub fn unread<R: Files + AllocGlobal>(
         ),
     }
 }
+
+/// A file's schema, once the whole file was read.
+pub fn schema_of<R: Files + AllocGlobal>(rt: &R, file: &str) -> Result<Schema, Failure> {
+    match file_schema(rt.alloc(), &mut reader_of(rt, file)) {
+        Ok(schema) => Ok(schema),
+        Err(refusal) => Err(Failure::of_file(rt, CommandRefusal::from(refusal), file)),
+    }
+}

@@ -1,7 +1,7 @@
 //! The commands that read a file and write to standard output what is in it.
 
 use crate::failure::Failure;
-use crate::inputs::{name_of, reader_of, source_of, unread};
+use crate::inputs::{name_of, reader_of, schema_again, schema_of, source_of, unread};
 use crate::watched::{Cause, Watched};
 use command_line::{ReportForm, Source, not_for_a_terminal};
 use lanes_main::check_file;
@@ -84,19 +84,21 @@ pub fn offer<R: Print + Input + Files + AllocGlobal>(
     if is_terminal {
         return Err(Failure::from(not_for_a_terminal(rt.alloc())));
     }
-    let schema = match replica_files::file_schema(rt.alloc(), &mut reader_of(rt, file)) {
-        Ok(schema) => schema,
-        Err(refusal) => return Err(refused(rt, file, Cause::from(refusal))),
-    };
     let summary = match column_file::read_summary(rt.alloc(), &mut source_of(rt, source)) {
         Ok(summary) => summary,
-        Err(refusal) => return Err(unread(rt, CommandRefusal::from(refusal), source)),
+        Err(refusal) => {
+            let _schema = schema_of(rt, file)?;
+            return Err(unread(rt, CommandRefusal::from(refusal), source));
+        }
     };
     let mut writer = buffered(rt)?;
     let outcome = replica_files::offer(rt.alloc(), &mut reader_of(rt, file), &summary, &mut writer);
     if outcome == Err(Refusal::SchemaDiffers) {
         let name = name_of(source);
-        return Err(Failure::of_tables(rt.alloc(), name, summary.schema(), file, &schema));
+        return Err(match schema_again(rt, file) {
+            Some(schema) => Failure::of_tables(rt.alloc(), name, summary.schema(), file, &schema),
+            None => Failure::of_file(rt, CommandRefusal::from(Refusal::SchemaDiffers), file),
+        });
     }
     told(rt, file, flushed(writer, outcome))
 }

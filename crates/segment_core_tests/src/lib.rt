@@ -6,8 +6,6 @@ mod batch_tests;
 #[cfg(test)]
 mod bytes_tests;
 #[cfg(test)]
-mod canonical_tests;
-#[cfg(test)]
 mod refused_tests;
 #[cfg(test)]
 mod tests;
