@@ -362,7 +362,7 @@ fn hold_live(
     Ok(())
 }
 
-/// Adds the name of the batch where it has a row that isn't among the deleted ones.
+/// Adds the name of the batch if it has a row that isn't among the deleted ones.
 fn hold_if_live(
     held: &mut Held,
     entry: &(BatchName, Segment),
