@@ -25,7 +25,7 @@ abbrev pub IsSealed : set.FinSet row_name_cmp → BatchName → Type 0
 IsSealed deleted name = (n : ℕ) → n < row_limit → IsTrue (set.contains deleted (record { batch = name; ordinal = n }))
 
 -- Forgetting and offers: what a replica forgets is what it offers to a summary that lists the batches of which every row is deleted;
--- and a summary may list the name of a batch that isn't held if every row that it may have is deleted: what the offer then leaves
+-- and a summary may list the name of a batch that isn't held where every row that it may have is deleted: what the offer then leaves
 -- out has no live row.
 pub record ForgetOfferLaws : Type 0 where
   pub offer : (s : State) → left_out (spent_names s) s ≡ forgotten s

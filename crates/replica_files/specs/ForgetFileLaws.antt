@@ -42,15 +42,15 @@ EachStandsFor [] table [] = Unit {0}
 EachStandsFor (bytes ∷ files) table (ops ∷ sets) = StandsFor bytes table ops × EachStandsFor files table sets
 EachStandsFor files table sets = ⊥
 
--- a merge of files stands for all that they stand for, if all of it agrees
+-- a merge of files stands for all that they stand for, where all of it agrees
 abbrev pub MergesStand : Type 0
 MergesStand =
     (first : List ℕ) (others : List (List ℕ)) (table : Table) (ops : List Operation) (sets : List (List Operation)) (new : Replica) →
     StandsFor first table ops → EachStandsFor others table sets → AreAgreeing (all_of sets ++ ops) → merged_files first others ≡ Ok new → held_in (file_of new) ≡ Ok (as_held new) →
     StandsFor (file_of new) table (all_of sets ++ ops)
 
--- A file that takes an offer, however late, stands for all that the file that offered stood for, if the summary listed only batches that
--- the taker had taken, forgotten since or not, and all of it agrees.
+-- A file that takes an offer, however late, stands for all that the file that offered stood for, where the summary listed only batches
+-- that the taker had taken, forgotten since or not, and where all of it agrees.
 abbrev pub PullsStand : Type 0
 PullsStand =
     (input given : List ℕ) (table : Table) (ops others : List Operation) (server old new : Replica) (summary : SummaryForm) (offer : OfferForm) (answer : ℕ × ℕ × ℕ) →
@@ -78,9 +78,9 @@ SameForgottenFiles =
     StandsFor a table ops → StandsFor b table others → SameOperations ops others → held_in a ≡ Ok r → held_in b ≡ Ok q →
     forgetting r ≡ Ok (dropped, new) → forgetting q ≡ Ok (parted, other) → file_of new ≡ file_of other
 
--- What a file holds it stands for. Each command adds to what its file stands for what it adds to what a file holds, if names agree over
--- all of it. A summary that a file makes lists only batches that it took, however much it takes afterwards. A forget adds nothing. What a
--- file stands for decides its answers, by their meaning over all that was taken, and its bytes once it has forgotten.
+-- What a file holds it stands for. Each command adds to what its file stands for what it adds to what a file holds, given that names
+-- agree over all of it; its summary lists what it took, and goes on to be so; a forget adds nothing. What a file stands for decides its answers, by their meaning over all
+-- that was taken, and its bytes once it has forgotten.
 pub record ForgetFileLaws : Type 0 where
   pub holds : (bytes : List ℕ) (table : Table) (ops : List Operation) → Holds bytes table ops → StandsFor bytes table ops
   pub import : (load : LoadForm) (first : BatchName) → AddsToStanding (importing_as load first) (λ table ops. inserts (named_batches first load.batches))

@@ -259,10 +259,10 @@ impl Store {
         Ok(())
     }
 
-    /// Drops the batches of which every row is deleted. Their deletions stay, so these rows never come back, and no answer of a query
-    /// changes.
+    /// Drops the batches of which every row is deleted. Their deletions stay, so these rows never come to life again, and no query
+    /// is answered otherwise.
     ///
-    /// `Memory` is answered if there is none for the names of the batches that stay. If no batch is dropped the call takes none.
+    /// `Memory` is answered where there is none for the names of the batches that stay. Where no batch is dropped it takes none.
     pub fn forget(&mut self, alloc: Global) -> Result<(), Refusal>
         ensures acts { Acts (λ done. done) self.old.replica result self.new.replica (forgotten_batches self.old.replica) }
         ensures segments { OnOk result (self.new.segments ≡ live_segments self.old.replica.state.deleted self.old.segments) }
