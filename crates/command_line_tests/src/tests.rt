@@ -38,7 +38,7 @@ const TEXTS: [(&[&str], &str); 13] = [
     (&["lanes", "help"], PROGRAM_HELP),
     (&["lanes", "run", "--help"], RUN_HELP),
     (&["lanes", "merge", "--help"], MERGE_HELP),
-    (&["lanes", "--version"], "lanes 0.2.0\n"),
+    (&["lanes", "--version"], "lanes 0.3.0\n"),
     (
         &["lanes"],
         "error: 'lanes' requires a subcommand but one was not provided\n  [subcommands: create, import, query, delete, delete-rows, forget, dump, inspect, summary, offer, apply, check, merge, run, help]\n\nUsage: lanes <COMMAND>\n\nFor more information, try '--help'.\n",
