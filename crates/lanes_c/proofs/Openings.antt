@@ -8,10 +8,9 @@ use Rattle.table_model.specs.declared.refusal.Refusal.TheVariants.{Memory, ReadF
 use Rattle.replica_files.specs.Commands.{held_in}
 use Rattle.replica_store.specs.Replica.{Replica}
 use Rattle.store_view.specs.Asked.{query_answer}
-use Rattle.lanes_c.specs.Calls.{Asks, Yields, query_of}
+use Rattle.lanes_c.specs.Calls.{Yields, query_of}
 use Rattle.lanes_c.specs.Faults.{told}
 use Rattle.lanes_c.specs.Opened.{IsWhyNotOpened, answered_at}
-use Rattle.lanes_c.specs.Rooms.{Given}
 use Rattle.lanes_c.proofs.Givings.{told_why}
 
 -- a file that is refused as it is read

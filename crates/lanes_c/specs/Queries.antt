@@ -3,7 +3,6 @@ use Rattle.std.specs.Prelude.{◌≡◌, ◌⊎◌, ℕ, ◌+◌, ◌<◌, ◌==
 use Rattle.std.specs.List.{concat, slice_split}
 use Rattle.table_model.specs.declared.refusal.Refusal.{Refusal}
 use Rattle.column_file.specs.Input.{IsUnread}
-use Rattle.replica_files.specs.Commands.{held_in}
 use Rattle.lanes_c.specs.Calls.{Asks, query_of}
 use Rattle.lanes_c.specs.Opened.{IsWhyNotOpened}
 use Rattle.lanes_c.specs.Rooms.{Given, filled}
