@@ -438,13 +438,13 @@ fn a_cell_is_judged_at_the_rows_of_the_mask(rt: HostRuntime) -> Result<(), Fail>
     have_answers(rt.alloc(), &mut columns, &OF_ONE_CELL)
 }
 
-// Where no value is within what a condition asks for, it takes no pass. NOT and IS are looked into by values alone.
+// Each mention of a column that is looked at takes one pass, even if no value is within what the condition asks for.
 const OF_BOUNDS: [Case; 14] = [
-    ("SELECT COUNT(*) FROM T WHERE B = 99", "COUNT(*)\n0\n", 0),
+    ("SELECT COUNT(*) FROM T WHERE B = 99", "COUNT(*)\n0\n", 1),
     (
         "SELECT COUNT(*) FROM T WHERE B IN (99, 98)",
         "COUNT(*)\n0\n",
-        0,
+        1,
     ),
     (
         "SELECT COUNT(*) FROM T WHERE B IN (99, 7)",
@@ -454,7 +454,7 @@ const OF_BOUNDS: [Case; 14] = [
     (
         "SELECT COUNT(*) FROM T WHERE B BETWEEN 11 AND 20",
         "COUNT(*)\n0\n",
-        0,
+        1,
     ),
     (
         "SELECT COUNT(*) FROM T WHERE B BETWEEN 10 AND 20",
@@ -469,7 +469,7 @@ const OF_BOUNDS: [Case; 14] = [
     (
         "SELECT COUNT(*) FROM T WHERE A = 1 AND (B = 99 OR B = 98)",
         "COUNT(*)\n0\n",
-        0,
+        3,
     ),
     (
         "SELECT COUNT(*) FROM T WHERE A = 1 OR B = 99",
@@ -504,12 +504,12 @@ const OF_BOUNDS: [Case; 14] = [
     (
         "SELECT A, SUM(B) FROM T WHERE B = 99 GROUP BY A",
         "A,SUM(B)\n",
-        0,
+        1,
     ),
 ];
 
 #[test]
-fn bounds_are_asked_first(rt: HostRuntime) -> Result<(), Fail> {
+fn bounds_are_counted(rt: HostRuntime) -> Result<(), Fail> {
     let mut columns = columns_of(rt.alloc(), &FIVE_ROWS)?;
     have_answers(rt.alloc(), &mut columns, &OF_BOUNDS)
 }
