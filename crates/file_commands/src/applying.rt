@@ -16,7 +16,7 @@ use table_model::{Counted, Refusal};
 
 /// What applying offers answers, and the bytes that it wrote, which are none where nothing changed.
 fn applied(alloc: Global, file: &[u8], offers: &[Offer]) -> Result<(Applied, Vec<u8>), Refusal>
-    ensures { IfOk result (λ made. Changes (λ answer. (answer.batches, answer.ranges)) (λ answer. answer.is_changed) (Ok made.0) (Some file.now) (Some []) (Some made.1.items) (applying offers.now)) }
+    ensures { IfOk result (λ made. Changes (λ answer. (answer.batches, answer.ranges, answer.new)) (λ answer. answer.is_changed) (Ok made.0) (Some file.now) (Some []) (Some made.1.items) (applying offers.now)) }
 {
     let mut writer = Counted::new(Vec::new(alloc));
     match replica_files::apply(alloc, &mut Counted::new(file), offers, &mut writer) {
@@ -33,7 +33,7 @@ pub fn apply<F: Folder>(
     offers: &[Offer],
 ) -> Result<Outcome<Applied>, Refusal>
     ensures any_moment { BeforeOrAfter (applying offers.now) (string_bytes place.now.lock) (string_bytes place.now.name) (F.history folder.old) (F.history folder.new) }
-    ensures answered { IfOk result (λ done. HasAnswered (λ answer. (answer.batches, answer.ranges)) (applying offers.now) done.answer done.replaced (string_bytes place.now.lock) (string_bytes place.now.name) (F.history folder.old) (F.history folder.new)) }
+    ensures answered { IfOk result (λ done. HasAnswered (λ answer. (answer.batches, answer.ranges, answer.new)) (applying offers.now) done.answer done.replaced (string_bytes place.now.lock) (string_bytes place.now.name) (F.history folder.old) (F.history folder.new)) }
     ensures refused { IfErr result (λ e. e ≢ WriteFault → StaysOld (string_bytes place.now.lock) (string_bytes place.now.name) (F.history folder.old) (F.history folder.new)) }
 {
     let old = read_file(alloc, folder, place)?;
