@@ -368,12 +368,22 @@ fn of_condition<R: Files + AllocGlobal>(
 ) -> Failure {
     let found = schema_again(rt, file);
     let schema = found.as_ref();
+    with_columns(rt.alloc(), refusal, condition, schema)
+}
+
+/// A refusal of a condition over a table, if its table is known.
+fn with_columns(
+    alloc: Global,
+    refusal: Refusal,
+    condition: &str,
+    schema: Option<&Schema>,
+) -> Failure {
     let text = Text {
         text: condition,
         is_condition: true,
         schema,
     };
-    Failure::of_text(rt.alloc(), refusal, "", text)
+    Failure::of_text(alloc, refusal, "", text)
 }
 
 /// A refusal of an offer of another table, with the names of both tables.

@@ -1,4 +1,4 @@
-//! Conditions that bounds judge first, over vectors of each coding: the answers, worked out by hand, and the passes that they take.
+//! Conditions that bounds decide, over vectors of each coding: the answers, worked out by hand, and the passes that they take.
 use crate::passes_tests::{Asked, has_answers, row_of, store_of};
 use replica_store::Store;
 use std::alloc::Global;
@@ -29,12 +29,12 @@ pub(crate) fn spread_below(end: usize) -> Cells {
 // A frame without packed numbers has one value.
 const OF_ONE_VALUE: [Asked; 7] = [
     ("SELECT COUNT(*) FROM T WHERE A = 7", "COUNT(*)\n1024\n", 1),
-    ("SELECT COUNT(*) FROM T WHERE A = 6", "COUNT(*)\n0\n", 0),
-    ("SELECT COUNT(*) FROM T WHERE A = 8", "COUNT(*)\n0\n", 0),
+    ("SELECT COUNT(*) FROM T WHERE A = 6", "COUNT(*)\n0\n", 1),
+    ("SELECT COUNT(*) FROM T WHERE A = 8", "COUNT(*)\n0\n", 1),
     (
         "SELECT COUNT(*) FROM T WHERE A IN (6, 8)",
         "COUNT(*)\n0\n",
-        0,
+        1,
     ),
     (
         "SELECT COUNT(*) FROM T WHERE A IN (6, 8, 7)",
@@ -44,7 +44,7 @@ const OF_ONE_VALUE: [Asked; 7] = [
     (
         "SELECT COUNT(*) FROM T WHERE A BETWEEN 8 AND 9",
         "COUNT(*)\n0\n",
-        0,
+        1,
     ),
     (
         "SELECT COUNT(*) FROM T WHERE A BETWEEN 7 AND 9",
@@ -62,9 +62,9 @@ fn a_frame_of_one_value(rt: HostRuntime) -> Result<(), Fail> {
 // Packed numbers of 8 bits end at 255.
 const OF_EIGHT_BITS: [Asked; 6] = [
     ("SELECT COUNT(*) FROM T WHERE A = 0", "COUNT(*)\n4\n", 1),
-    ("SELECT COUNT(*) FROM T WHERE A = -1", "COUNT(*)\n0\n", 0),
+    ("SELECT COUNT(*) FROM T WHERE A = -1", "COUNT(*)\n0\n", 1),
     ("SELECT COUNT(*) FROM T WHERE A = 255", "COUNT(*)\n4\n", 1),
-    ("SELECT COUNT(*) FROM T WHERE A = 256", "COUNT(*)\n0\n", 0),
+    ("SELECT COUNT(*) FROM T WHERE A = 256", "COUNT(*)\n0\n", 1),
     (
         "SELECT COUNT(*) FROM T WHERE A BETWEEN 255 AND 300",
         "COUNT(*)\n4\n",
@@ -73,14 +73,14 @@ const OF_EIGHT_BITS: [Asked; 6] = [
     (
         "SELECT COUNT(*) FROM T WHERE A BETWEEN 256 AND 300 OR A IN (-1, 256)",
         "COUNT(*)\n0\n",
-        0,
+        2,
     ),
 ];
 
 // And those of 9 bits at 511.
 const OF_NINE_BITS: [Asked; 3] = [
     ("SELECT COUNT(*) FROM T WHERE A = 511", "COUNT(*)\n2\n", 1),
-    ("SELECT COUNT(*) FROM T WHERE A = 512", "COUNT(*)\n0\n", 0),
+    ("SELECT COUNT(*) FROM T WHERE A = 512", "COUNT(*)\n0\n", 1),
     (
         "SELECT COUNT(*) FROM T WHERE A BETWEEN 511 AND 9000000000000000000",
         "COUNT(*)\n2\n",
@@ -122,12 +122,12 @@ const OF_FAR_VALUES: [Asked; 5] = [
     (
         "SELECT COUNT(*) FROM T WHERE A BETWEEN 4611686018427387905 AND 9000000000000000000",
         "COUNT(*)\n0\n",
-        0,
+        1,
     ),
     (
         "SELECT COUNT(*) FROM T WHERE A IN (-4611686018427387905, 4611686018427387905)",
         "COUNT(*)\n0\n",
-        0,
+        1,
     ),
 ];
 
