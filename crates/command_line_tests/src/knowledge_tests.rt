@@ -1,6 +1,7 @@
 //! What sentences say of queries, lines of values and tables.
 
 use refusal_sentences::{CommandRefusal, Fields, Knowledge, Sentence, Text};
+use std::alloc::{AllocError, Global};
 use std::test::Fail;
 use table_model::{ColType, Refusal, Schema};
 
@@ -255,6 +256,20 @@ fn a_line_is_refused_with_how_many_fields_it_has(rt: HostRuntime) -> Result<(), 
     Ok(())
 }
 
+/// The sentence on a refusal of the input `v`, of which this is known.
+fn said(
+    alloc: Global,
+    refusal: CommandRefusal,
+    knowledge: Knowledge<'_>,
+) -> Result<String, AllocError> {
+    let sentence = Sentence {
+        refusal,
+        subject: "v",
+        knowledge,
+    };
+    sentence.to_string(alloc)
+}
+
 #[test]
 fn tables_and_headings_are_named(rt: HostRuntime) -> Result<(), Fail> {
     let columns = [("SITE", ColType::SmallInt), ("HITS", ColType::Integer)];
@@ -271,36 +286,18 @@ fn tables_and_headings_are_named(rt: HostRuntime) -> Result<(), Fail> {
         wanted: &schema,
         of: "t",
     };
-    let cases = [
-        (
-            header,
-            heading(b"\"QTY\""),
-            "v, line 1, field 2: \"\"QTY\"\" is not a column of the table, which has SITE, HITS",
-        ),
-        (
-            header,
-            heading(b"site"),
-            "v, line 1, field 2: \"site\" is there for the second time",
-        ),
-        (
-            differs,
-            tables,
-            "v: this is of the table U (A TINYINT), and t of VISITS (SITE SMALLINT, HITS INTEGER)",
-        ),
-        (
-            CommandRefusal::from(Refusal::ReadFault),
-            Knowledge::Advice("what to do"),
-            "v: what to do",
-        ),
-    ];
-    for &(refusal, knowledge, want) in &cases {
-        let sentence = Sentence {
-            refusal,
-            subject: "v",
-            knowledge,
-        };
-        let said = sentence.to_string(rt.alloc())?;
-        assert!(rt; said.as_str() == want, "said {said}");
-    }
+    let alloc = rt.alloc();
+    let unknown = said(alloc, header, heading(b"\"QTY\""))?;
+    let want = "v, line 1, field 2: \"\"QTY\"\" is not a column of the table, which has SITE, HITS";
+    assert!(rt; unknown.as_str() == want, "said {unknown}");
+    let repeated = said(alloc, header, heading(b"site"))?;
+    let want = "v, line 1, field 2: \"site\" is there for the second time";
+    assert!(rt; repeated.as_str() == want, "said {repeated}");
+    let apart = said(alloc, differs, tables)?;
+    let want = "v: this is of the table U (A TINYINT), and t of VISITS (SITE SMALLINT, HITS INTEGER)";
+    assert!(rt; apart.as_str() == want, "said {apart}");
+    let advice = Knowledge::Advice("what to do");
+    let advised = said(alloc, CommandRefusal::from(Refusal::ReadFault), advice)?;
+    assert!(rt; advised.as_str() == "v: what to do", "said {advised}");
     Ok(())
 }

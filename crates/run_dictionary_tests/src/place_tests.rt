@@ -63,8 +63,10 @@ fn value_bytes(lane_width: usize, count: u16) -> u16
 /// or one where there is one value.
 fn turns_are_told(lane_width: usize, step: u64, count: u16, width: u16) -> Result<(), Fail>
     requires lane_width { IsLaneWidth lane_width }
-    requires some { 0 < count }
 {
+    if count == 0 {
+        return Ok(());
+    }
     let runs = if count == 1 { 1 } else { 1024 };
     let bytes = [
         value_bytes(lane_width, runs).saturating_add(128),
