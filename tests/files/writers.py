@@ -101,7 +101,7 @@ def a_lock_that_is_a_link_is_never_followed(room):
     held = room.make()
     room.put("other", b"kept")
     os.symlink("other", room.path(LOCK))
-    room.refused("import", "--no-header", "t", "-", given=b"3,40\n", line="refused Busy")
+    room.refused("import", "--no-header", "t", "-", given=b"3,40\n", line="refused WriteFault")
     assert room.get("t") == held and room.get("other") == b"kept"
 
 

@@ -223,7 +223,7 @@ CASES = [
     Case("an ordinal that is too great is a fault of the command line", ["delete-rows", "t", "2.1", "1", "65536"], 2, err=[b"FIRST and LAST are numbers"]),
     *FORGETS,
     Case("forget wants a file", ["forget"], 2, err=[b"FILE"]),
-    Case("help of forget says when to forget", ["forget", "--help"], 0, [b"Usage: lanes forget <FILE>", b"Pull from the other sites first", b"docs/COMMANDS.md"]),
+    Case("help of forget says when to forget", ["forget", "--help"], 0, [b"Usage: lanes forget [OPTIONS] <FILE>", b"Pull from the other sites first", b"docs/COMMANDS.md"]),
     Case("a file that isn't there can't forget", ["forget", "t"], 1, err=b"refused ReadFault\nt: no such file or folder\n", writes={"t": None}),
     Case("a file that is cut short can't forget", ["forget", "t"], 1, err=[b"refused Truncated 41\n"], files={"t": ONE_ROW[:41]}, writes={"t": ONE_ROW[:41], ".t.lanes-lock": None}),
     Case("rows are dumped", ["dump", "t"], 0, b"A\n7\n7\n", files={"t": BOTH}),
