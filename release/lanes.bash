@@ -3,7 +3,7 @@ _lanes() {
     local word=${COMP_WORDS[COMP_CWORD]} before=${COMP_WORDS[COMP_CWORD - 1]} options=
     COMPREPLY=()
     if [ "$COMP_CWORD" = 1 ]; then
-        mapfile -t COMPREPLY < <(compgen -W 'create import query delete delete-rows dump inspect summary offer apply check merge run help --help --version' -- "$word")
+        mapfile -t COMPREPLY < <(compgen -W 'create import query delete delete-rows forget dump inspect summary offer apply check merge run help --help --version' -- "$word")
         return
     fi
     case $before in
@@ -16,6 +16,7 @@ _lanes() {
         query) options='--format --help' ;;
         delete) options='--quiet --help' ;;
         delete-rows) options='--quiet --help' ;;
+        forget) options='--quiet --help' ;;
         dump) options='--names --help' ;;
         inspect) options='--batches --format --help' ;;
         summary) options='--help' ;;

@@ -341,7 +341,7 @@ class Module(unittest.TestCase):
                 told.append(int(cells[0]))
         self.assertEqual(told, [*range(1, 38), 39])
         self.assertEqual(_refused(38, _Place(70_000, 3)).sentence, "line 70000, field 3: the field is not a whole number")
-        self.assertEqual(_refused(38, _Place(70_000, 0)).sentence, "line 70000: the line has not one field for each column")
+        self.assertEqual(_refused(38, _Place(70_000, 0)).sentence, "line 70000: the line has the wrong number of fields")
 
     def test_it_is_loaded_in_a_second(self) -> None:
         ran = subprocess.run([sys.executable, "-c", "import lanes"], env={**os.environ, "PYTHONPATH": str(TOP / "python")}, timeout=10, check=True)

@@ -151,7 +151,7 @@ static inputs make_inputs(void) {
         free(made.others[3 + at].at);
         made.others[3 + at] = copy_of(texts[at], strlen(texts[at]));
     }
-    static const char queries[] = "SELECT A FROM T WHERE B > 3\nSELECT COUNT(*) FROM T";
+    static const char queries[] = "SELECT COUNT(A) FROM T WHERE B > 3\nSELECT COUNT(*) FROM T";
     bytes both = bytes_of(queries);
     for (size_t call = 7; call < COUNT; call++) {
         bytes from = call == 7 ? summary : call == 10 ? both : other;
@@ -214,8 +214,8 @@ static void try_refusals(const inputs *good) {
     expect_refused("a summary that is none", 7, file, noise, LANES_BAD_MAGIC, 0, 0);
     expect_refused("an offer that is none", 8, file, nothing, LANES_TRUNCATED, 0, 0);
     expect_refused("another file that is none", 9, file, noise, LANES_BAD_MAGIC, 0, 0);
-    expect_refused("a forget of no bytes", 10, nothing, nothing, LANES_TRUNCATED, 0, 0);
-    expect_refused("a forget of no file", 10, noise, nothing, LANES_BAD_MAGIC, 0, 0);
+    expect_refused("a forget of no bytes", 11, nothing, nothing, LANES_TRUNCATED, 0, 0);
+    expect_refused("a forget of no file", 11, noise, nothing, LANES_BAD_MAGIC, 0, 0);
 }
 
 /* A batch of which every row is deleted is dropped, in a room of each size, and its deletion stays. */
@@ -223,7 +223,7 @@ static void try_forget(const inputs *good) {
     static const char all_rows[] = "A > 0", wanted[] = "ok batches=0 ranges=1\n";
     bytes dead, left, line;
     TAKE(dead, lanes_delete(good->file.at, good->file.length, text_of(all_rows), strlen(all_rows), out, room, &length, &place));
-    try_rooms(10, dead, bytes_of(""));
+    try_rooms(11, dead, bytes_of(""));
     TAKE(left, lanes_forget(dead.at, dead.length, out, room, &length, &place));
     TAKE(line, lanes_check(left.at, left.length, out, room, &length, &place));
     expect(left.length < dead.length && line.length == strlen(wanted) && memcmp(line.at, wanted, line.length) == 0, "a batch that is forgotten");
