@@ -167,7 +167,7 @@ const NOTED: [(&str, &str); 13] = [
     ("table 1 T A SMALLINT\nappend 1 (1)\n", ""),
     (
         "merge 1 1\ntable 65 T A SMALLINT\ntable 1\ntable 1 T A FLOAT\ntable 1 1T A SMALLINT\n",
-        "line 1: refused BadLine: the first line makes the table: table N NAME COL TYPE [COL TYPE]..\nline 2: refused BadLine: a table has 1 to 64 replicas\nline 3: refused BadLine: a table is written table N NAME COL TYPE [COL TYPE]..\nline 4: refused BadLine: a column is a name and TINYINT, SMALLINT, INTEGER or BIGINT\nline 5: refused BadSchema: a table has a name and 1 to 32 columns of different names, each a letter and up to 63 letters, digits or _, and no keyword\n",
+        "line 1: refused BadLine: the first line makes the table: table N NAME COL TYPE [COL TYPE]..\nline 2: refused BadLine: a table has 1 to 64 replicas\nline 3: refused BadLine: a table is written table N NAME COL TYPE [COL TYPE]..\nline 4: refused BadLine: a column is a name and TINYINT, SMALLINT, INTEGER or BIGINT\nline 5: refused BadSchema: a table has a name and 1 to 32 columns of different names; a name is a letter and up to 63 letters, digits or _, and no keyword\n",
     ),
     // Empty lines count.
     (
