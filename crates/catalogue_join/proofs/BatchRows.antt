@@ -64,6 +64,6 @@ holds_is rs batch rows result rising limit origin number has lacks some =
           let place : base + k ≡ p = omega (arith, from) in
           let q : RowName = row batch k in
           let missing : set.contains (rows_in rs) q ≡ false =
-              contains-rows_in rs q rising ∙ ap (λ (x : ℕ). is_bounded q && among row_range_shape rs x) place ∙ ap (λ (b : Bool). is_bounded q && b) gap.not_among ∙ and-false (is_bounded q) in
+          contains-rows_in rs q rising ∙ ap (λ (x : ℕ). is_bounded q && among row_range_shape rs x) place ∙ ap (λ (b : Bool). is_bounded q && b) gap.not_among ∙ and-false (is_bounded q) in
           short ∙ sym (one_fails (set.contains (rows_in rs)) batch rows 0 k (omega arith) (omega (arith, to, from, some)) missing)
     ]

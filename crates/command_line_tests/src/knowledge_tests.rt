@@ -294,7 +294,8 @@ fn tables_and_headings_are_named(rt: HostRuntime) -> Result<(), Fail> {
     let want = "v, line 1, field 2: \"site\" is there for the second time";
     assert!(rt; repeated.as_str() == want, "said {repeated}");
     let apart = said(alloc, differs, tables)?;
-    let want = "v: this is of the table U (A TINYINT), and t of VISITS (SITE SMALLINT, HITS INTEGER)";
+    let want =
+        "v: this is of the table U (A TINYINT), and t of VISITS (SITE SMALLINT, HITS INTEGER)";
     assert!(rt; apart.as_str() == want, "said {apart}");
     let advice = Knowledge::Advice("what to do");
     let advised = said(alloc, CommandRefusal::from(Refusal::ReadFault), advice)?;

@@ -125,10 +125,7 @@ const REQUESTS: [(&[&str], &str); 45] = [
     ),
     (&["delete-rows", "f", "1.2", "0", "65536"], "fault"),
     (&["delete-rows", "f", "1.2", "0", "000001"], "fault"),
-    (
-        &["forget", "f"],
-        "Forget { file: \"f\", is_quiet: false }",
-    ),
+    (&["forget", "f"], "Forget { file: \"f\", is_quiet: false }"),
     (
         &["dump", "--names", "f"],
         "Dump { file: \"f\", has_names: true }",

@@ -18,7 +18,10 @@ fn check_ranges(vector: &CodedVector, expected: Expected) -> Result<(), Fail> {
     for &(low, high, rows) in expected {
         let mut meter = Meter::new();
         let (yes, no) = compare_vector_range(vector, low, high, &Mask::all(), &mut meter);
-        agree((yes.count(), no.count()), (rows, 1024usize.saturating_sub(rows)))?;
+        agree(
+            (yes.count(), no.count()),
+            (rows, 1024usize.saturating_sub(rows)),
+        )?;
         agree(meter.count(), 1)?;
     }
     Ok(())

@@ -60,9 +60,9 @@ entries_fit table (e ∷ es) h = subst (AreRows table.columns) (sym (cells_first
 kept_fit : (columns : List ColumnShape) (keeps : RowName × Cells → Bool) (xs : List (RowName × Cells)) → AreRows columns (cells_of xs) → AreRows columns (cells_of (filter keeps xs))
 kept_fit columns keeps [] h = tt
 kept_fit columns keeps (x ∷ xs) h = elim (keeps x) as (λ b. AreRows columns (cells_of (cond b (x ∷ filter keeps xs) (filter keeps xs)))) [
-    | true ↦ (h.0, kept_fit columns keeps xs h.1)
-    | false ↦ kept_fit columns keeps xs h.1
-  ]
+  | true ↦ (h.0, kept_fit columns keeps xs h.1)
+  | false ↦ kept_fit columns keeps xs h.1
+]
 
 live_fit : (r : Replica) → HasFile r.schema r.state → AreRows r.schema.columns (cells_of (live_rows r.state))
 unfolding live_rows

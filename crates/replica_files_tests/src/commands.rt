@@ -3,8 +3,8 @@
 use column_file::{read_offer, read_summary};
 use csv_rows::{CsvError, CsvReader};
 use replica_files::{
-    Applied, Load, ReportForm, apply, create, delete, delete_rows, dump, file_schema, forget, import,
-    inspect, merge, offer, read_csv, summary,
+    Applied, Load, ReportForm, apply, create, delete, delete_rows, dump, file_schema, forget,
+    import, inspect, merge, offer, read_csv, summary,
 };
 use replica_store::Offer;
 use std::alloc::Global;

@@ -230,7 +230,7 @@ pub names_both : (d : Rows) (es fs seen later : List Entry) (none one two : Name
     → (q : BatchName) → set.contains two q ≡ (is_some (map.find name_cmp q (live_entries d es)) || is_some (map.find name_cmp q (live_entries d fs)))
 names_both d es fs seen later none one two empty first second in_one in_two q =
     let begun : set.contains one q ≡ is_some (map.find name_cmp q (live_entries d seen)) =
-        in_one q ∙ ap (λ (b : Bool). b || is_some (map.find name_cmp q (live_entries d seen))) (ap (λ (s : Names). set.contains s q) empty ∙ set.contains-empty name_cmp q) in
+    in_one q ∙ ap (λ (b : Bool). b || is_some (map.find name_cmp q (live_entries d seen))) (ap (λ (s : Names). set.contains s q) empty ∙ set.contains-empty name_cmp q) in
     in_two q
     ∙ ap (λ (b : Bool). b || is_some (map.find name_cmp q (live_entries d later))) begun
     ∙ (λ i. is_some (map.find name_cmp q (live_entries d (first i))) || is_some (map.find name_cmp q (live_entries d (second i))))

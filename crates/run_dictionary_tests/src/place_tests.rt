@@ -207,9 +207,21 @@ fn runs_and_dictionaries_tell_their_ends(rt: HostRuntime) -> Result<(), Fail> {
         (Pattern::Ramp(3), (0, 3069), [0, 1], 9472),
         (Pattern::Ramp(u64::MAX), (-1023, 0), [1023, 1022], 9472),
         (Pattern::Alternating(5, 1 << 63), (i64::MIN, 5), [1, 0], 144),
-        (Pattern::ChangedAt(64, 4096, 8192), (4096, 8192), [0, 0], 144),
+        (
+            Pattern::ChangedAt(64, 4096, 8192),
+            (4096, 8192),
+            [0, 0],
+            144,
+        ),
     ] {
         forms_tell(alloc, 64, pattern, ends, codes, bytes)?;
     }
-    forms_tell(alloc, 8, Pattern::Alternating(0x80, 0x7F), (-128, 127), [0, 1], 130)
+    forms_tell(
+        alloc,
+        8,
+        Pattern::Alternating(0x80, 0x7F),
+        (-128, 127),
+        [0, 1],
+        130,
+    )
 }

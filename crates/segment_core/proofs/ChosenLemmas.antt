@@ -145,6 +145,6 @@ frame_of_ends c t size low high is width e bounds least greatest =
     ∙ ap (λ x. t / 8 + 128 * least_width (int_gap low x)) h
     ∙ ap (λ u. u / 8 + 128 * least_width (int_gap low high)) width
     ∙ bytes_between (lane_width_of c) (values_of c) low high
-      (λ n b. (subst (λ (x : ℤ). low ≤ℤ x) (sym (value_at-values_of c n b)) (bounds n b).0, subst (λ (x : ℤ). x ≤ℤ high) (sym (value_at-values_of c n b)) (bounds n b).1))
-      (least.0, least.1, value_at-values_of c least.0 least.1 ∙ least.2)
-      (greatest.0, greatest.1, value_at-values_of c greatest.0 greatest.1 ∙ greatest.2)
+    (λ n b. (subst (λ (x : ℤ). low ≤ℤ x) (sym (value_at-values_of c n b)) (bounds n b).0, subst (λ (x : ℤ). x ≤ℤ high) (sym (value_at-values_of c n b)) (bounds n b).1))
+    (least.0, least.1, value_at-values_of c least.0 least.1 ∙ least.2)
+    (greatest.0, greatest.1, value_at-values_of c greatest.0 greatest.1 ∙ greatest.2)

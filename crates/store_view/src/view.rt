@@ -1,4 +1,5 @@
 //! The view of a store that queries are answered by.
+//! A vector is read as it is coded, by the kernels over packed numbers, runs and dictionaries.
 ghost use Rattle.std.specs.Prelude.{◌≡◌, ◌<◌, ◌≤◌, ◌&&◌, ℕ, if◌then◌else◌, nat_le, nat_lt, true, length, ℤ, Some, slice_index_or, pos};
 ghost use Rattle.segment_core.specs.CodedVector.{is_null};
 ghost use Rattle.transpose_order.specs.Mask.{rows_of, has};
@@ -12,8 +13,7 @@ ghost use Rattle.store_view.specs.View.{HasCells};
 
 use fused_kernels::{
     Extremum, Meter, compare_vector, compare_vector_range, compare_vectors, count, decode_vector,
-    vector_codes_into, vector_extreme, vector_has_few_codes, vector_runs_into,
-    vector_sum,
+    vector_codes_into, vector_extreme, vector_has_few_codes, vector_runs_into, vector_sum,
 };
 use query_eval::{Columns, VectorId};
 use replica_store::Store;

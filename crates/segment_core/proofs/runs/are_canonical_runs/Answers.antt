@@ -41,12 +41,12 @@ returns c =
     let starts : c.starts.result.now ≡ (least_runs form.lane_width (run_values form)).starts = c.starts.ensures.value ∙ ap (λ (f : RunForm). f.starts) least in
     let none = (λ (n : ℕ) (l : n < 1024). sym (ap (λ (m : List Bool). has m n) c.and-broken.ensures ∙ has-rows_of _ n l ∙ ap (λ (s : List Bool). has rows n && has s n) starts) ∙ c.next_true.ensures.none n (omega arith) (omega (arith, c.if-next_true-lt1024.false))) in (
       λ yes. record {
-          filled = record {
-            each = (runs_repeat form.lane_width rows (run_values form)).0 none;
-            zero = λ v. value_at-values_of (InRuns form) 0 (omega arith) ∙ sym c.value.ensures.value ∙ allow.0 refl v;
-          };
-          least = ap InRuns least;
-          chosen = c.are_runs_chosen.ensures.0 yes;
-        },
+        filled = record {
+          each = (runs_repeat form.lane_width rows (run_values form)).0 none;
+          zero = λ v. value_at-values_of (InRuns form) 0 (omega arith) ∙ sym c.value.ensures.value ∙ allow.0 refl v;
+        };
+        least = ap InRuns least;
+        chosen = c.are_runs_chosen.ensures.0 yes;
+      },
       λ h. c.are_runs_chosen.ensures.1 h.chosen,
     )

@@ -13,8 +13,8 @@ returns-then-are_live c =
     let fs : List Entry = c.self.inside.past.items in
     ap (λ (b : Bool). b && c.are_live-then-are_live.result) (sym c.if-are_live.true)
     ∙ both_live c.args.deleted.now es fs c.args.self.now.segments c.are_live.result c.are_live-then-are_live.result c.self.invariant.kept.sorted (ap (λ (b : BatchesForm). b.segments) c.self.view_is)
-      (c.are_live.ensures ∙ ap (list_all (is_live_entry c.args.deleted.now)) c.as_slice.ensures.value)
-      (c.are_live-then-are_live.ensures ∙ ap (list_all (is_live_entry c.args.deleted.now)) c.as_slice-then-are_live.ensures.value)
+    (c.are_live.ensures ∙ ap (list_all (is_live_entry c.args.deleted.now)) c.as_slice.ensures.value)
+    (c.are_live-then-are_live.ensures ∙ ap (list_all (is_live_entry c.args.deleted.now)) c.as_slice-then-are_live.ensures.value)
 
 pub returns-else-are_live : goal.returns-else-are_live
 returns-else-are_live c =
@@ -24,5 +24,5 @@ returns-else-are_live c =
     c.if-are_live.false
     ∙ sym (ap (λ (b : Bool). b && later) c.if-are_live.false)
     ∙ both_live c.args.deleted.now es fs c.args.self.now.segments c.are_live.result later c.self.invariant.kept.sorted (ap (λ (b : BatchesForm). b.segments) c.self.view_is)
-      (c.are_live.ensures ∙ ap (list_all (is_live_entry c.args.deleted.now)) c.as_slice.ensures.value)
-      refl
+    (c.are_live.ensures ∙ ap (list_all (is_live_entry c.args.deleted.now)) c.as_slice.ensures.value)
+    refl

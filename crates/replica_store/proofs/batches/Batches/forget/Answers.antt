@@ -28,7 +28,7 @@ invariant_of-self c =
     let es : List Entry = c.self.inside.up_to.items in
     let fs : List Entry = c.self.inside.past.items in
     let made = kept_live c.self.inside.own c.args.deleted.now es fs c.self.inside.held c.hold_live-2.new.held c.self.invariant
-        (names_both c.args.deleted.now es fs c.as_slice.result.now c.as_slice-2.result.now c.new-held.result c.hold_live.new.held c.hold_live-2.new.held c.new-held.ensures c.as_slice.ensures.value c.as_slice-2.ensures.value c.in_ok-hold_live.ensures c.in_ok-hold_live-2.ensures) in
+    (names_both c.args.deleted.now es fs c.as_slice.result.now c.as_slice-2.result.now c.new-held.result c.hold_live.new.held c.hold_live-2.new.held c.new-held.ensures c.as_slice.ensures.value c.as_slice-2.ensures.value c.in_ok-hold_live.ensures c.in_ok-hold_live-2.ensures) in
     subst (λ (xs : List Entry). AreKeptInParts c.self.inside.own xs c.keep_live-2.new.entries.items c.hold_live-2.new.held) (sym c.keep_live.ensures)
     (subst (λ (xs : List Entry). AreKeptInParts c.self.inside.own (live_entries c.args.deleted.now es) xs c.hold_live-2.new.held) (sym c.keep_live-2.ensures) made)
 
