@@ -43,6 +43,8 @@ extern "C" {
  *   LANES_LINE_TOO_LONG first: the line, from 1
  *   each refusal of a query of lanes_queries
  *                       second: the query, from 0
+ *   LANES_SYNTAX, LANES_NO_SUCH_COLUMN of the names of lanes_columns
+ *                       second: 1
  *   LANES_TRUNCATED, LANES_BAD_ORDER, LANES_BAD_COUNT, LANES_BAD_WIDTH, LANES_BAD_TAG, LANES_BAD_MASK, LANES_BAD_DICTIONARY,
  *   LANES_BAD_CODE, LANES_BAD_RANGE, LANES_TRAILING_BYTES, LANES_NOT_CANONICAL, LANES_SYNTAX, LANES_NO_SUCH_COLUMN,
  *   LANES_NOT_GROUPED, LANES_NUMBER_TOO_LARGE
@@ -228,6 +230,29 @@ uint8_t lanes_share(lanes_table *table, lanes_table *other);
 uint8_t lanes_ask(lanes_table *table, const uint8_t *sql, size_t sql_length, uint8_t *out, size_t room, size_t *length,
                   lanes_place *place);
 
+/* Gives the cells of columns at the live rows at which a condition is true, in order of row name: the rows of lanes_dump.
+ *
+ * names: the columns' names with one space between, in the order that is wanted; of length 0: all, in the table's order.
+ * condition: what follows WHERE; of length 0: every live row.
+ *
+ * Gives: *rows is how many rows there are. Column c's cells are values[c * rows] and on, 0 at a null. Its bits begin at
+ * valid[c * stride], where stride is 64 * ((rows + 511) / 512): bit i % 8 of byte i / 8 is 1 where cell i is a value, and 0 where it is
+ * null and past the last row. nulls[c] is how many nulls there are. The rooms are counted in numbers. Where rows * columns >
+ * values_room, or stride * columns > valid_room, or columns > nulls_room, nothing is written but *rows. So a call with rooms of 0 asks
+ * for *rows alone. The three rooms are never null, and overlap nothing.
+ * Refused, in this order: LANES_NOT_OPEN when the handle is closed; LANES_SYNTAX at the first byte of the names, and then of the
+ * condition, that is no UTF-8; the condition's LANES_SYNTAX, LANES_NUMBER_TOO_LARGE, LANES_TOO_DEEP; LANES_NO_SUCH_COLUMN at a byte of
+ * the names; LANES_NO_SUCH_COLUMN at a byte of the condition. place->second is 1 where the byte is one of the names, and else 0. A
+ * refused call tells *rows as 0. */
+uint8_t lanes_columns(lanes_table *table, const uint8_t *names, size_t names_length, const uint8_t *condition, size_t condition_length,
+                      int64_t *values, size_t values_room, uint8_t *valid, size_t valid_room, uint64_t *nulls, size_t nulls_room,
+                      size_t *rows, lanes_place *place);
+
+/* Gives the words of which lanes_create makes the table: "VISITS SITE SMALLINT HITS INTEGER".
+ *
+ * Refused: LANES_NOT_OPEN when the handle is closed. */
+uint8_t lanes_schema(lanes_table *table, uint8_t *out, size_t room, size_t *length, lanes_place *place);
+
 /* Closes a handle. Closing a closed one does nothing. */
 void lanes_close(lanes_table *table);
 
@@ -240,7 +265,7 @@ size_t lanes_refusal(uint8_t number, uint8_t *out, size_t room);
  * has more than 256 bytes. */
 size_t lanes_sentence(uint8_t number, const lanes_place *place, uint8_t *out, size_t room);
 
-/* Gives the library's version, as "0.3.0", without a byte 0 at its end, and answers how many bytes it has. It is written where it
+/* Gives the library's version, as "0.4.0", without a byte 0 at its end, and answers how many bytes it has. It is written where it
  * fits. */
 size_t lanes_version(uint8_t *out, size_t room);
 

@@ -3,13 +3,17 @@
 from __future__ import annotations
 
 from decimal import Decimal
-from typing import List, Optional, Tuple, Union
+from typing import Any, List, Optional, Tuple, Union
 
 #: A field: a whole number, a mean, or None for a null.
 Value = Optional[Union[int, Decimal]]
 
 #: A row: a field for each heading.
 Row = Tuple[Value, ...]
+
+
+#: How many rows a notebook shows.
+_SHOWN = 60
 
 
 class Answer(List[Row]):
@@ -27,17 +31,61 @@ class Answer(List[Row]):
     def from_text(cls, text: str) -> Answer:
         """The answer of which this is the text: a line of headings, and a line for each row."""
         headings, *lines = text.split("\n")[:-1]
-        return cls(headings.split(","), [tuple(map(_value, line.split(","))) for line in lines])
+        return cls(headings.split(","), list(map(_row, lines)))
 
     def columns(self) -> dict[str, list[Value]]:
         """The fields of each column, by its heading. Of headings that are the same the last one stays: give them other names by AS."""
         return {heading: [row[at] for row in self] for at, heading in enumerate(self.headings)}
 
+    def to_pandas(self) -> Any:
+        """A frame of pandas under the same headings: whole numbers as Int64, or as Python's own if one has more than 64 bits; means as
+        Float64, which is no longer exact."""
+        import pandas as pd
+
+        series = [pd.Series(_pandas([row[at] for row in self])) for at in range(len(self.headings))]
+        frame = pd.concat(series, axis=1)
+        frame.columns = pd.Index(self.headings)
+        return frame
+
+    def _repr_html_(self) -> str:
+        """The answer for a notebook: its first rows."""
+        head = "".join(f"<th>{heading}</th>" for heading in self.headings)
+        rows = "".join(f"<tr>{''.join(map(_cell, row))}</tr>" for row in self[:_SHOWN])
+        more = f"<p>and {len(self) - _SHOWN:,} more rows</p>" if len(self) > _SHOWN else ""
+        return f"<table><tr>{head}</tr>{rows}</table>{more}"
+
     def __repr__(self) -> str:
         return f"Answer({self.headings!r}, {list(self)!r})"
+
+
+def _row(line: str) -> Row:
+    """The fields of a line, which are mostly whole numbers."""
+    fields = line.split(",")
+    try:
+        return tuple(map(int, fields))
+    except ValueError:
+        return tuple(map(_value, fields))
 
 
 def _value(field: str) -> Value:
     if field == "NULL":
         return None
     return Decimal(field) if "." in field else int(field)
+
+
+def _cell(field: Value) -> str:
+    return "<td><i>NULL</i></td>" if field is None else f"<td>{field}</td>"
+
+
+def _pandas(fields: list[Value]) -> Any:
+    """A column of an answer as an array of pandas."""
+    import numpy as np
+    import pandas as pd
+
+    nulls = np.array([field is None for field in fields], bool)
+    if any(isinstance(field, Decimal) for field in fields):
+        return pd.arrays.FloatingArray(np.array([0.0 if field is None else float(field) for field in fields]), nulls)
+    whole = [0 if field is None else int(field) for field in fields]
+    if all(-(1 << 63) <= field < 1 << 63 for field in whole):
+        return pd.arrays.IntegerArray(np.array(whole, np.int64), nulls)
+    return pd.array([None if field is None else int(field) for field in fields], object)

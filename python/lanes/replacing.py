@@ -22,40 +22,89 @@ _LONGEST_SLEEP = 0.01
 
 def replace(path: Union[str, os.PathLike[str]], data: Union[bytes, memoryview]) -> None:
     """Puts bytes in the place of a file, whose symbolic links are followed, with its mode. Whoever opens it meets the old file or the new
-    one, whole, and so does whoever opens it after a crash.
+    one, whole, and so does whoever opens it after a crash. What is there and is no regular file is written in place.
 
-    Where the folder can't be synced afterwards, the file is replaced, and a `RuntimeWarning` says so.
+    If the folder can't be synced afterwards, the file is replaced, and a `RuntimeWarning` says so.
 
     Raises:
         TimeoutError: another process has had the file for ten seconds. It is as it was.
         OSError: the file can't be written. It is as it was.
     """
-    target = os.path.realpath(path)
-    folder_name, name = os.path.split(target)
-    lock = os.path.join(folder_name, f".{name}.lanes-lock")
-    file = _held(target, lock)
-    folder = -1
-    try:
+    if _is_written_in_place(path):
+        file = os.open(path, os.O_WRONLY | os.O_CLOEXEC)
         try:
-            _take_mode(file, target)
-            folder = os.open(folder_name, os.O_RDONLY | os.O_DIRECTORY | os.O_CLOEXEC)
-            os.ftruncate(file, 0)
             _write(file, data)
-            os.fsync(file)
-            os.rename(lock, target)
-        except BaseException:
-            if _is_named(file, lock):
-                os.unlink(lock)
-            raise
+        finally:
+            os.close(file)
+        return
+    with Held(path) as held:
+        held.put(data)
+
+
+class Held:
+    """A file that nobody else replaces meanwhile: `with Held(path) as held`. At the end its lock is gone, whether it was replaced or not.
+
+    Raises:
+        TimeoutError: another process has had the file for ten seconds.
+        OSError: the lock can't be had, or what is there is no regular file.
+    """
+
+    def __init__(self, path: Union[str, os.PathLike[str]]) -> None:
+        #: The file itself, behind its links.
+        self.target = os.path.realpath(path)
+        self._folder, name = os.path.split(self.target)
+        self._lock = os.path.join(self._folder, f".{name}.lanes-lock")
+        self._is_put = False
+        self._file = _held(self.target, self._lock)
         try:
-            os.fsync(folder)
-        except OSError:
-            message = f"{target}: this was replaced, but its folder could not be synced: a loss of power may bring the old file back"
-            warnings.warn(message, RuntimeWarning, stacklevel=3)
-    finally:
-        os.close(file)
-        if folder >= 0:
+            _take_mode(self._file, self.target)
+        except BaseException:
+            self.release()
+            raise
+
+    def put(self, data: Union[bytes, memoryview]) -> None:
+        """Puts bytes in the file's place, once.
+
+        Raises:
+            OSError: the file can't be written. It is as it was.
+        """
+        folder = os.open(self._folder, os.O_RDONLY | os.O_DIRECTORY | os.O_CLOEXEC)
+        try:
+            os.ftruncate(self._file, 0)
+            _write(self._file, data)
+            os.fsync(self._file)
+            os.rename(self._lock, self.target)
+            self._is_put = True
+            try:
+                os.fsync(folder)
+            except OSError:
+                message = f"{self.target}: this was replaced, but its folder could not be synced: a loss of power may bring the old file back"
+                warnings.warn(message, RuntimeWarning, stacklevel=4)
+        finally:
             os.close(folder)
+
+    def release(self) -> None:
+        """Takes the lock away, unless it has become the file."""
+        if self._file < 0:
+            return
+        if not self._is_put and _is_named(self._file, self._lock):
+            os.unlink(self._lock)
+        os.close(self._file)
+        self._file = -1
+
+    def __enter__(self) -> Held:
+        return self
+
+    def __exit__(self, *_: object) -> None:
+        self.release()
+
+
+def _is_written_in_place(path: Union[str, os.PathLike[str]]) -> bool:
+    """Whether there is something that is no regular file, as a pipe or a device."""
+    try:
+        return not stat.S_ISREG(os.stat(path).st_mode)
+    except OSError:
+        return False
 
 
 def _held(target: str, lock: str) -> int:
@@ -78,7 +127,7 @@ def _tried(lock: str) -> Optional[int]:
     except FileNotFoundError:
         if os.path.isdir(os.path.dirname(lock)):
             return None
-        raise
+        raise FileNotFoundError(errno.ENOENT, "there is no such folder", os.path.dirname(lock)) from None
     is_had = False
     try:
         try:

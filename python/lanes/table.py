@@ -6,10 +6,16 @@ import ctypes
 import os
 import re
 import secrets
-from typing import Iterable, Mapping, NamedTuple, Optional, Union
+import stat
+import zlib
+from typing import IO, TYPE_CHECKING, Any, Iterable, Mapping, NamedTuple, Optional, Tuple, Union
 
 from . import calls, replacing
-from .answer import Answer
+from .answer import Answer, Value
+from .batch_name import BatchName, GivenName, name_of
+
+if TYPE_CHECKING:
+    from .columns import ColumnData
 
 #: How much room an answer's text is given at first, and a file beside its inputs.
 _ROOM = 65_536
@@ -17,44 +23,90 @@ _ROOM = 65_536
 #: How many random words a name is drawn of.
 _WORDS = 8
 
+#: How many bytes of two files are compared at once.
+_PIECE = 1 << 20
 
-class BatchName(NamedTuple):
-    """The name of a batch: its origin and its number, each from 1 to 4,294,967,295."""
+#: The numbers of refusals that are made here.
+_BAD_SCHEMA, _BAD_RANGE = 12, 23
 
-    origin: int
-    number: int
+#: How many bytes have the front of a file, whatever its schema.
+_FRONT = 4096
+
+#: The types of columns, of 1, 2, 4 and 8 bytes.
+TYPES = ("TINYINT", "SMALLINT", "INTEGER", "BIGINT")
+
+#: What is taken for bytes.
+_Bytes = Union[bytes, bytearray, memoryview]
+
+
+class Schema(NamedTuple):
+    """A table's name and columns, and the front of its files, which has them."""
+
+    name: str
+    columns: dict[str, str]
+    front: bytes
+
+    @classmethod
+    def of(cls, file: bytes) -> Schema:
+        """The schema of a file, an offer or a summary that begins with these bytes; docs/FORMATS.md has them."""
+        count, name, at = int.from_bytes(file[6:8], "little"), *_word(file, 8)
+        columns = {}
+        for _ in range(count):
+            kind = TYPES[file[at].bit_length() - 1]
+            column, at = _word(file, at + 1)
+            columns[column] = kind
+        return cls(name, columns, file[:at])
+
+
+def _word(file: bytes, at: int) -> tuple[str, int]:
+    """The name at a place of a file, and the place after it."""
+    end = at + 1 + file[at]
+    return file[at + 1 : end].decode(), end
 
 
 class Table:
     """What a replica of a table holds. It never changes, and any number of threads may use it at once.
 
     Queries are asked of one opening: the file is judged once, when the table is opened, or at the first query of a table that a call
-    made. Tables are equal where they hold the same, which is where their bytes are the same.
+    made. Tables are equal if they hold the same, and then their bytes are the same. `len` is the number of live rows.
     """
 
-    __slots__ = ("_file", "_opened")
+    __slots__ = ("_file", "_opened", "_read_schema")
 
     def __init__(self, file: calls.Input) -> None:
         self._file = file
         self._opened: Optional[calls.Opened] = None
+        self._read_schema: Optional[Schema] = None
 
     @classmethod
-    def create(cls, name: str, columns: Mapping[str, str]) -> Table:
+    def create(cls, name: str, columns: Union[Mapping[str, str], Iterable[Tuple[str, str]]]) -> Table:
         """An empty table.
 
         Args:
             name: a letter, and up to 63 letters, digits or `_`.
-            columns: 1 to 32 columns in order: of each its name and its type, TINYINT, SMALLINT, INTEGER or BIGINT.
+            columns: 1 to 32 columns in order: of each its name and its type, TINYINT, SMALLINT, INTEGER or BIGINT, in upper or lower case.
 
         Raises:
             Refused: `BadSchema`.
+            TypeError: `columns` is neither a dict nor pairs of texts.
         """
-        words = [name, *(word for column in columns.items() for word in column)]
+        pairs = list(columns.items() if isinstance(columns, Mapping) else columns)
+        words = [name]
+        for pair in pairs:
+            if isinstance(pair, str) or len(pair) != 2 or not all(isinstance(word, str) for word in pair):
+                raise TypeError(f"{pair!r} is not a column's name and its type: columns are a dict, or pairs, as [('SITE', 'SMALLINT')]")
+            kind = pair[1].encode().upper().decode()  # of ASCII letters alone
+            if kind not in TYPES:
+                raise calls.refused(_BAD_SCHEMA, sentence=f"the type {pair[1]!r} of column {pair[0]} is unknown: a type is TINYINT, SMALLINT, INTEGER or BIGINT")
+            words += [pair[0], kind]
+        if any(" " in word for word in words):
+            raise calls.refused(_BAD_SCHEMA)
         return cls(calls.given(calls.CREATE, _ROOM, " ".join(words).encode()))
 
     @classmethod
     def open(cls, path: Union[str, os.PathLike[str]]) -> Table:
-        """The table of a file. The file isn't copied: its bytes are used where the system has them.
+        """The table of a file. The file isn't copied: the system maps it. A pipe is read to its end; a folder of
+        parts is opened by `lanes.Folder`.
 
         The file may be replaced by another one meanwhile, as `save` and the program `lanes` do, and this table is as it was. It must not
         be overwritten in its place.
@@ -63,23 +115,23 @@ class Table:
             OSError: the file can't be opened.
             Refused: the file's first fault.
         """
-        descriptor = os.open(path, os.O_RDONLY | os.O_CLOEXEC)
-        try:
-            length = os.fstat(descriptor).st_size
-            table = cls(calls.Mapped(descriptor, length) if length else b"")
-        finally:
-            os.close(descriptor)
+        with open(path, "rb", buffering=0) as file:
+            found = os.fstat(file.fileno())
+            if stat.S_ISREG(found.st_mode):
+                table = cls(calls.Mapped(file.fileno(), found.st_size) if found.st_size else b"")
+            else:
+                table = cls(file.read())
         table._asked()
         return table
 
     @classmethod
-    def from_bytes(cls, file: Union[bytes, bytearray, memoryview]) -> Table:
+    def from_bytes(cls, file: _Bytes) -> Table:
         """The table of a file's bytes.
 
         Raises:
             Refused: the file's first fault.
         """
-        table = cls(bytes(file))
+        table = cls(_bytes_of(file))
         table._asked()
         return table
 
@@ -89,13 +141,25 @@ class Table:
 
     def save(self, path: Union[str, os.PathLike[str]]) -> None:
         """Writes the file, in one step: whoever opens it meets the old one or the new one, whole, also after a crash. The program `lanes`
-        takes the same lock.
+        takes the same lock. A symbolic link is followed, and what is no regular file, as a pipe, is written in place.
+
+        What another process did to the file since it was opened is replaced, too: `lanes.update` reads, changes and writes under one lock.
 
         Raises:
             TimeoutError: another process has had the file for ten seconds. It is as it was.
             OSError: the file can't be written. It is as it was.
         """
-        replacing.replace(path, self.to_bytes())
+        replacing.replace(path, self._view())
+
+    @property
+    def name(self) -> str:
+        """The table's name, in upper case."""
+        return self._schema().name
+
+    @property
+    def columns(self) -> dict[str, str]:
+        """The columns in order: of each its name and its type, in upper case."""
+        return dict(self._schema().columns)
 
     def check(self) -> tuple[int, int]:
         """How many batches there are, and how many maximal ranges of deleted rows. The file is judged anew.
@@ -107,6 +171,20 @@ class Table:
         found = re.fullmatch(r"ok batches=(\d+) ranges=(\d+)\n", line)
         assert found
         return int(found[1]), int(found[2])
+
+    def inspect(self) -> dict[str, Any]:
+        """What is in the table, under the keys of `lanes inspect --format json`, without those of stored rows and codings: `table`,
+        `batches`, `live`, `ranges`, `bytes`, and `columns`, a list of dicts with `column`, `type`, `nulls`, `values`, `least` and
+        `greatest` of the live rows."""
+        batches, ranges = self.check()
+        kinds = self.columns
+        asked = "".join(f",COUNT({column}),MIN({column}),MAX({column})" for column in kinds)
+        live, *cells = self.query(f"SELECT COUNT(*){asked} FROM {self.name}")[0]
+        columns = []
+        for (column, kind), values, least, greatest in zip(kinds.items(), cells[0::3], cells[1::3], cells[2::3]):
+            nulls = _whole(live) - _whole(values)
+            columns.append({"column": column, "type": kind, "nulls": nulls, "values": values, "least": least, "greatest": greatest})
+        return {"table": self.name, "batches": batches, "live": live, "ranges": ranges, "bytes": self._length(), "columns": columns}
 
     def query(self, sql: str) -> Answer:
         """The rows that a query asks for, under their headings. docs/SQL.md has the language.
@@ -131,28 +209,75 @@ class Table:
         """The live rows as comma-separated values below a heading; with names the columns BATCH and ORDINAL come first."""
         return calls.given(calls.DUMP, 4 * self._length() + _ROOM, self._file, names).decode()
 
-    def import_csv(self, csv: Union[str, bytes], *, heading: bool = True, batch: Union[BatchName, tuple[int, int], None] = None) -> Table:
+    def import_csv(self, csv: Union[str, _Bytes, IO[str], IO[bytes]], *, heading: bool = True, batch: Optional[GivenName] = None) -> Table:
         """The table with more rows: those of comma-separated values. A field is a whole number, or empty for a null.
 
         Args:
-            csv: the text itself.
+            csv: the text itself, or a file that is open for reading.
             heading: whether the first line names all columns, in any order. Else fields are in the table's order.
-            batch: the first batch's origin and number. The same rows under the same name change nothing, so a load may be sent twice.
-                Without it a name is drawn at random that nobody else has.
+            batch: the first batch's name, as `"1.17"` or `(1, 17)`. The same rows under the same name change nothing, so a load may be
+                sent twice. Without it a name is drawn at random that nobody else has.
 
         Raises:
-            Refused: the first fault of the text with its line, `Conflict` where the name has other rows, and others.
-            ValueError: a number of the name is less than 0 or more than 4,294,967,295.
+            Refused: the first fault of the text with its line, `Conflict` if the name has other rows, and others.
+            ValueError: `batch` is no name.
+            TypeError: `csv` is neither a text nor bytes nor a file.
         """
-        text = csv.encode() if isinstance(csv, str) else bytes(csv)
-        origin, number = batch if batch is not None else (0, 0)
-        if not (0 <= origin < 1 << 32 and 0 <= number < 1 << 32):
-            raise ValueError("an origin and a number are from 1 to 4,294,967,295")
-        if batch is not None and origin == number == 0:
-            raise ValueError("a batch's origin and number are from 1 on")
+        text = _text_of(csv)
+        origin, number = name_of(batch) if batch is not None else (0, 0)
         words = (ctypes.c_uint64 * _WORDS)(*(secrets.randbits(64) for _ in range(_WORDS)))
         room = self._length() + len(text) + _ROOM
         return Table(calls.given(calls.IMPORT, room, self._file, text, heading, origin, number, ctypes.addressof(words), _WORDS))
+
+    def to_numpy(self, columns: Optional[Iterable[str]] = None, where: str = "") -> dict[str, ColumnData]:
+        """The live rows, in order of row name, as arrays of numpy: of each column its values, of the column's own type, and which rows are null.
+
+        Args:
+            columns: the columns that are wanted, in order. Without them all.
+            where: a condition, as after WHERE in a query. Without it all live rows.
+
+        Raises:
+            Refused: `NoSuchColumn`, or a fault of the condition.
+        """
+        from .columns import arrays
+
+        return arrays(self, columns, where)
+
+    def to_pandas(self, columns: Optional[Iterable[str]] = None, where: str = "") -> Any:
+        """The same as a frame of pandas, with its nullable types Int8, Int16, Int32 and Int64. No value passes through a float."""
+        from .columns import frame
+
+        return frame(self, columns, where)
+
+    def __arrow_c_stream__(self, requested_schema: object = None) -> object:
+        """The live rows for whatever takes Arrow, as pyarrow.table, polars.DataFrame and duckdb: int8, int16, int32 and int64, each of which
+        may be null. Another schema isn't made of them."""
+        from .arrow import stream_of
+
+        return stream_of(self)
+
+    def import_columns(self, columns: Mapping[str, Any], *, batch: Optional[GivenName] = None) -> Table:
+        """The table with more rows: of each column its values. The file is that of an import of the same rows as comma-separated values.
+
+        Args:
+            columns: of each column of the table a `ColumnData` as `to_numpy` gives it, an array or masked array of whole numbers, or a list
+                of them with None for a null.
+            batch: the first batch's name, as for `import_csv`.
+
+        Raises:
+            Refused: `OutOfType` with the row and the column, from 0; `Conflict`, `Full` and others.
+            ValueError: the columns aren't those of the table, or have several lengths, or `batch` is no name.
+            TypeError: values are no whole numbers. Floats aren't rounded.
+        """
+        from .offers import offer_of
+
+        offer = offer_of(self, columns, name_of(batch) if batch is not None else None)
+        return self if offer is None else self.apply(offer)
+
+    def import_frame(self, frame: Any, *, batch: Optional[GivenName] = None) -> Table:
+        """The table with the rows of a frame of pandas, whose columns are the table's, in any order. A column of floats is refused, also one
+        that pandas made of whole numbers with nulls: `frame.convert_dtypes()` makes Int64 of it."""
+        return self.import_columns({name: frame[name] for name in frame.columns}, batch=batch)
 
     def delete(self, condition: str) -> Table:
         """The table without the rows at which a condition is true: what stands after WHERE in a query.
@@ -161,6 +286,22 @@ class Table:
             Refused: a fault of the condition with its byte, or of the file.
         """
         return Table(calls.given(calls.DELETE, 2 * self._length() + _ROOM, self._file, condition.encode()))
+
+    def delete_rows(self, batch: GivenName, first: int, last: Optional[int] = None) -> Table:
+        """The table without the rows of a batch from one ordinal to another, both included; without `last` one row. Ordinals are from 0
+        to 65,535, as `dump(names=True)` has them. Rows that the table doesn't have yet are deleted when they come.
+
+        Raises:
+            Refused: `BadRange` if `last` is before `first`; `BadName`.
+            ValueError: `batch` is no name, or a number is no ordinal.
+        """
+        name, end = name_of(batch), first if last is None else last
+        if not (0 <= first <= 0xFFFF and 0 <= end <= 0xFFFF):
+            raise ValueError("an ordinal is from 0 to 65,535")
+        if end < first:
+            raise calls.refused(_BAD_RANGE)
+        parts = [name.origin.to_bytes(4, "little"), name.number.to_bytes(4, "little"), first.to_bytes(2, "little"), end.to_bytes(2, "little")]
+        return self.apply(self._front() + bytes(4) + (1).to_bytes(8, "little") + b"".join(parts))
 
     def forget(self) -> Table:
         """The table without the batches of which every row is deleted. Their deletions stay, so that these rows never come back, and no
@@ -177,31 +318,31 @@ class Table:
         Raises:
             Refused: `SchemaDiffers`; `Conflict` with a batch that has two lists of rows; or a fault of a file.
         """
-        merged = self
-        for other in others:
-            room = merged._length() + other._length() + _ROOM
-            merged = Table(calls.given(calls.MERGE, room, merged._file, other._file))
-        return merged
+        level = [self, *others]
+        while len(level) > 1:  # in pairs, so that a row is copied as often as the tree is high, and not once for each table
+            pairs = [_joined(one, other) for one, other in zip(level[0::2], level[1::2])]
+            level = pairs + level[2 * len(pairs) :]
+        return level[0]
 
     def summary(self) -> bytes:
         """What the table holds, in few bytes, for another replica's `offer`."""
         return calls.given(calls.SUMMARY, self._length() + _ROOM, self._file)
 
-    def offer(self, summary: bytes) -> bytes:
-        """What another replica lacks, by its summary: the batches that it hasn't, and all deletions.
+    def offer(self, summary: _Bytes) -> bytes:
+        """What another replica does not have, by its summary: the batches that it does not have, and all deletions.
 
         Raises:
             Refused: a fault of the summary or of the file, or `SchemaDiffers`.
         """
-        return calls.given(calls.OFFER, self._length() + _ROOM, self._file, bytes(summary))
+        return calls.given(calls.OFFER, self._length() + _ROOM, self._file, _bytes_of(summary))
 
-    def apply(self, offer: bytes) -> Table:
+    def apply(self, offer: _Bytes) -> Table:
         """The table with what an offer brings. A file's bytes are an offer too.
 
         Raises:
             Refused: a fault of the offer or of the file, `SchemaDiffers`, `Conflict` or `Full`.
         """
-        offered = bytes(offer)
+        offered = _bytes_of(offer)
         return Table(calls.given(calls.APPLY, self._length() + len(offered) + _ROOM, self._file, offered))
 
     def _asked(self) -> calls.Opened:
@@ -211,17 +352,78 @@ class Table:
             opened = self._opened = calls.Opened(self._file)
         return opened
 
-    def __reduce__(self) -> tuple[object, ...]:
-        return Table.from_bytes, (self.to_bytes(),)
+    def _schema(self) -> Schema:
+        """The schema, which the front of the file has. The file is judged already, or a call made it."""
+        schema = self._read_schema
+        if schema is None:
+            schema = self._read_schema = Schema.of(bytes(self._view()[:_FRONT]))
+        return schema
+
+    def _front(self) -> bytes:
+        """The front of the table's files, up to the count of batches."""
+        return self._schema().front
 
     def _length(self) -> int:
         return len(self._file) if isinstance(self._file, bytes) else self._file.length
 
+    def _view(self) -> memoryview:
+        """The file's bytes, without a copy."""
+        return memoryview(self._file) if isinstance(self._file, bytes) else self._file.view()
+
+    def __len__(self) -> int:
+        return _whole(self.query(f"SELECT COUNT(*) FROM {self.name}")[0][0])
+
+    def __bool__(self) -> bool:
+        return True
+
+    def __reduce__(self) -> tuple[object, ...]:
+        return Table.from_bytes, (self.to_bytes(),)
+
     def __eq__(self, other: object) -> bool:
-        return isinstance(other, Table) and self.to_bytes() == other.to_bytes()
+        if not isinstance(other, Table):
+            return NotImplemented
+        if self._length() != other._length():
+            return False
+        one, two = self._view(), other._view()
+        return all(bytes(one[at : at + _PIECE]) == bytes(two[at : at + _PIECE]) for at in range(0, self._length(), _PIECE))
 
     def __hash__(self) -> int:
-        return hash(self.to_bytes())
+        return hash((self._length(), zlib.crc32(self._view())))
+
+    def _repr_html_(self) -> str:
+        """The table for a notebook: its name, how much it has, and its columns."""
+        rows = "".join(f"<tr><td>{name}</td><td>{kind}</td></tr>" for name, kind in self.columns.items())
+        return f"<p><b>{self.name}</b>: {len(self):,} rows, {self._length():,} bytes</p><table><tr><th>COLUMN</th><th>TYPE</th></tr>{rows}</table>"
 
     def __repr__(self) -> str:
-        return f"<lanes.Table of {self._length()} bytes>"
+        return f"<lanes.Table {self.name} of {self._length()} bytes>"
+
+
+def _joined(one: Table, other: Table) -> Table:
+    """The table of what two hold."""
+    return Table(calls.given(calls.MERGE, one._length() + other._length() + _ROOM, one._file, other._file))
+
+
+def _whole(value: Value) -> int:
+    assert isinstance(value, int)
+    return value
+
+
+def _bytes_of(given: object) -> bytes:
+    """Bytes that were given; a number is none."""
+    if isinstance(given, bytes):
+        return given
+    if isinstance(given, (bytearray, memoryview)):
+        return bytes(given)
+    raise TypeError(f"bytes are wanted here, and this is of type {type(given).__name__}")
+
+
+def _text_of(csv: object) -> bytes:
+    """The bytes of comma-separated values that were given, or that a file has."""
+    read = getattr(csv, "read", None)
+    found = read() if callable(read) else csv
+    if isinstance(found, str):
+        return found.encode()
+    if isinstance(found, (bytes, bytearray, memoryview)):
+        return bytes(found)
+    raise TypeError(f"a text of comma-separated values, or a file of one, is wanted here, and this is of type {type(csv).__name__}")

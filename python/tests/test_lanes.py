@@ -69,6 +69,11 @@ class Queries(unittest.TestCase):
         answer = table.query("SELECT A,COUNT(*) FROM T GROUP BY A")
         self.assertEqual(answer, [(n, 1) for n in range(20_000)])
 
+    def test_an_answer_is_pickled(self) -> None:
+        answer = counts(FIRST).query("SELECT SITE,AVG(HITS) FROM COUNTS GROUP BY SITE")
+        other = pickle.loads(pickle.dumps(answer))
+        self.assertEqual((other.headings, list(other)), (answer.headings, list(answer)))
+
     def test_a_fault_of_a_query_has_a_name_a_place_and_a_sentence(self) -> None:
         with self.assertRaises(Refused) as caught:
             counts(FIRST).query("SELECT VISITS FROM COUNTS")
@@ -245,6 +250,15 @@ class Files(unittest.TestCase):
             with self.subTest(content=content), self.assertRaises(Refused) as caught:
                 Table.from_bytes(content)
             self.assertEqual(caught.exception.name, name)
+
+    def test_a_pipe_is_read_and_a_folder_is_none(self) -> None:
+        os.mkfifo(self.path)
+        writing = threading.Thread(target=counts(FIRST).save, args=(self.path,))
+        writing.start()
+        self.assertEqual(Table.open(self.path), counts(FIRST))
+        writing.join(30)
+        with self.assertRaises(IsADirectoryError):
+            Table.open(self.folder.name)
 
     def test_a_table_goes_to_another_process_as_its_file(self) -> None:
         counts(FIRST).save(self.path)

@@ -63,12 +63,36 @@ class Replaced(unittest.TestCase):
         self.assertTrue(os.path.islink(link))
         self.assertEqual(self.get(), b"new")
 
-    def test_what_is_no_regular_file_is_refused(self) -> None:
+    def test_what_is_no_regular_file_is_written_in_place(self) -> None:
+        os.mkfifo(self.path)
+        link = os.path.join(self.folder, "link")
+        os.symlink("t", link)
+        data, found = b"x" * 300_000, []
+        for path in (self.path, link):
+            reading = threading.Thread(target=lambda: found.append(self.get()))
+            reading.start()
+            replacing.replace(path, data)
+            reading.join(30)
+        self.assertEqual(found, [data, data])
+        self.assertTrue(stat.S_ISFIFO(os.stat(self.path).st_mode))
+        self.assertEqual(sorted(os.listdir(self.folder)), ["link", "t"])
+        replacing.replace("/dev/null", b"new")
+        self.assertTrue(stat.S_ISCHR(os.stat("/dev/null").st_mode))
+        with self.assertRaises(IsADirectoryError):
+            replacing.replace(self.folder, b"new")
+
+    def test_what_is_no_regular_file_is_not_held(self) -> None:
         os.mkfifo(self.path)
         with self.assertRaises(OSError):
-            replacing.replace(self.path, b"new")
-        self.assertTrue(stat.S_ISFIFO(os.stat(self.path).st_mode))
+            replacing.Held(self.path)
         self.assertEqual(os.listdir(self.folder), ["t"])
+
+    def test_a_file_that_is_held_and_not_put_is_as_it_was(self) -> None:
+        self.put()
+        with replacing.Held(self.path) as held:
+            self.assertEqual(sorted(os.listdir(self.folder)), [".t.lanes-lock", "t"])
+        held.release()
+        self.assertEqual((self.get(), os.listdir(self.folder)), (b"old", ["t"]))
 
     def test_a_lock_that_was_left_is_replaced(self) -> None:
         self.put()

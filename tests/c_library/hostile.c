@@ -62,8 +62,35 @@ static uint8_t answers_all(const uint8_t *file, size_t file_length, const uint8_
     return lanes_queries(file, file_length, other, other_length, out, room, ends, 2, length, place);
 }
 
-static call_on_two *const CALLS[] = {checks, dumps, summarizes, creates, imports, lanes_query, lanes_delete, lanes_offer, lanes_apply, lanes_merge, answers_all, forgets};
-static const char *const NAMES[] = {"check", "dump", "summary", "create", "import", "query", "delete", "offer", "apply", "merge", "queries", "forget"};
+static uint8_t tells_schema(const uint8_t *file, size_t file_length, const uint8_t *other, size_t other_length, uint8_t *out, size_t room,
+                            size_t *length, lanes_place *place) {
+    lanes_table table = LANES_CLOSED;
+    (void)other, (void)other_length;
+    uint8_t refused = lanes_open(file, file_length, &table, place);
+    if (refused != LANES_OK) *length = 0;
+    else refused = lanes_schema(&table, out, room, length, place);
+    lanes_close(&table);
+    return refused;
+}
+
+/* The columns that the other bytes name; the room is that of their bits, and the length is what they need of it. */
+static uint8_t gives_columns(const uint8_t *file, size_t file_length, const uint8_t *other, size_t other_length, uint8_t *out, size_t room,
+                             size_t *length, lanes_place *place) {
+    enum { VALUES = 4096 };
+    int64_t values[VALUES];
+    uint64_t nulls[VALUES];
+    lanes_table table = LANES_CLOSED;
+    size_t rows = 0, names = 1;
+    for (size_t at = 0; at < other_length; at++) names += other[at] == ' ';
+    uint8_t refused = lanes_open(file, file_length, &table, place);
+    if (refused == LANES_OK) refused = lanes_columns(&table, other, other_length, other, 0, values, VALUES, out, room, nulls, VALUES, &rows, place);
+    lanes_close(&table);
+    *length = refused == LANES_OK && other_length != 0 ? names * 64 * ((rows + 511) / 512) : 0;
+    return refused;
+}
+
+static call_on_two *const CALLS[] = {checks, dumps, summarizes, creates, imports, lanes_query, lanes_delete, lanes_offer, lanes_apply, lanes_merge, answers_all, forgets, tells_schema, gives_columns};
+static const char *const NAMES[] = {"check", "dump", "summary", "create", "import", "query", "delete", "offer", "apply", "merge", "queries", "forget", "schema", "columns"};
 enum { COUNT = sizeof CALLS / sizeof *CALLS };
 
 /* What was told of one call, and the room as it is then. */
@@ -154,7 +181,7 @@ static inputs make_inputs(void) {
     static const char queries[] = "SELECT COUNT(A) FROM T WHERE B > 3\nSELECT COUNT(*) FROM T";
     bytes both = bytes_of(queries);
     for (size_t call = 7; call < COUNT; call++) {
-        bytes from = call == 7 ? summary : call == 10 ? both : other;
+        bytes from = call == 7 ? summary : call == 10 ? both : call == 13 ? bytes_of("B A") : other;
         free(made.others[call].at);
         made.others[call] = copy_of(from.at, from.length);
     }
@@ -196,8 +223,9 @@ static void try_refusals(const inputs *good) {
     bytes nothing = bytes_of(""), file = good->file, noise = bytes_of("\xff\xfe no file");
     for (size_t call = 0; call < COUNT; call++) {
         if (CALLS[call] == creates) continue;
-        if (call < 7 || call == 10) expect_refused("no bytes", call, nothing, good->others[call], LANES_TRUNCATED, 0, 0);
-        if (call < 7 || call == 10) expect_refused("no file", call, noise, good->others[call], LANES_BAD_MAGIC, 0, 0);
+        bool is_of_file = call < 7 || call == 10 || call > 11;
+        if (is_of_file) expect_refused("no bytes", call, nothing, good->others[call], LANES_TRUNCATED, 0, 0);
+        if (is_of_file) expect_refused("no file", call, noise, good->others[call], LANES_BAD_MAGIC, 0, 0);
     }
     expect_refused("no schema", 3, file, nothing, LANES_BAD_SCHEMA, 0, 0);
     expect_refused("a type that there isn't", 3, file, bytes_of("T A FLOAT"), LANES_BAD_SCHEMA, 0, 0);
@@ -270,7 +298,7 @@ static void try_sentences(void) {
         memset(out, FILLER, ROOM);
         expect(lanes_sentence((uint8_t)number, &place, out, length == 0 ? 0 : length - 1) == length && is_untouched(out, 0), "a sentence without room");
     }
-    expect(lanes_version(out, ROOM) == 5 && memcmp(out, "0.3.0", 5) == 0 && is_untouched(out, 5), "the version");
+    expect(lanes_version(out, ROOM) == 5 && memcmp(out, "0.4.0", 5) == 0 && is_untouched(out, 5), "the version");
 }
 
 /* What one thread is told, again and again, beside what was told before there were threads. */

@@ -24,6 +24,32 @@ static void print_asked(lanes_table *table, const char *sql) {
     free(answer.at);
 }
 
+/* Prints a column's cells at the rows at which a condition is true, one a line, as values and validity bits tell them. */
+static void print_column(lanes_table *table, const char *name, const char *condition) {
+    int64_t values[8];
+    uint8_t valid[64];
+    uint64_t nulls[1];
+    size_t rows = 0;
+    lanes_place place;
+    uint8_t refused = lanes_columns(table, text_of(name), strlen(name), text_of(condition), strlen(condition), values, 8, valid, sizeof valid,
+                                    nulls, 1, &rows, &place);
+    if (refused != LANES_OK) end_at("lanes_columns", refused, place);
+    printf("%s: %d rows, %d nulls\n", name, (int)rows, (int)nulls[0]);
+    for (size_t row = 0; row < rows; row++) {
+        if (valid[row / 8] >> row % 8 & 1)
+            printf("%d\n", (int)values[row]);
+        else
+            printf("null\n");
+    }
+}
+
+static void print_schema(lanes_table *table) {
+    bytes words;
+    TAKE(words, lanes_schema(table, out, room, &length, &place));
+    printf("%.*s\n", (int)words.length, (const char *)words.at);
+    free(words.at);
+}
+
 int main(void) {
     static const char table[] = "COUNTS SITE SMALLINT HITS INTEGER";
     static const char old_rows[] = "HITS < 10";
@@ -49,6 +75,9 @@ int main(void) {
     free(one.at); /* the handle keeps what it needs */
     print_asked(&opened, "SELECT COUNT(*) FROM COUNTS");
     print_asked(&opened, "SELECT MAX(HITS) FROM COUNTS WHERE SITE = 1");
+    print_schema(&opened);
+    print_column(&opened, "HITS", "");
+    print_column(&opened, "site", "HITS >= 20");
     lanes_close(&opened);
 
     free(empty.at);

@@ -38,6 +38,11 @@ OTHER_TABLE = file_of(b"U", batch(1, 1, 7))
 RANGES = [(1, 7, 0, 65_535), (2, 1, 0, 9), (3, 1, 1, 9)]
 DELETED = ALL_THREE[:-8] + len(RANGES).to_bytes(8, "little") + b"".join(origin.to_bytes(4, "little") + number.to_bytes(4, "little") + first.to_bytes(2, "little") + last.to_bytes(2, "little") for origin, number, first, last in RANGES)
 
+# What is said of a folder where a command takes none.
+USAGE = b"\n\nUsage: lanes <COMMAND>\n\nFor more information, try '--help'.\n"
+MERGE_FAULT = b"error: OUT is a folder: lanes apply FOLDER FILE.. adds files to it, and a name that ends in / makes a new one" + USAGE
+FORGET_FAULT = b"error: FILE is a folder, and a forget takes a file: lanes merge FILE FOLDER writes one, and lanes merge NEW/ FILE makes a folder of it" + USAGE
+
 # A folder d and the file in it.
 FOLDER = {"d/kept": b"old"}
 
@@ -108,7 +113,7 @@ CASES = [
     Case("help names the commands, shows an example and names the page of the script language", ["--help"], 0, [b"Usage: lanes <COMMAND>", *(f"\n  {name} ".encode() for name in COMMANDS), b"--version", b"table 2 T A SMALLINT", b"docs/FORMATS.md"]),
     Case("help of a command shows an example and names the page of the script language", ["run", "--help"], 0, [b"Usage: lanes run [OPTIONS] [SCRIPT]", b"--explain", b"table 2 T A SMALLINT", b"docs/FORMATS.md"]),
     Case("help of merge says what becomes of the file that is written", ["merge", "--help"], 0, [b"Usage: lanes merge [OPTIONS] <OUT> <IN>...", b"OUT is replaced as a whole", b"stays as it was if the merge is refused"]),
-    Case("the version is a line", ["--version"], 0, b"lanes 0.3.0\n"),
+    Case("the version is a line", ["--version"], 0, b"lanes 0.4.0\n"),
     Case(
         "refused lines are explained where that is asked for, and the replies stay as they are",
         ["run", "--explain"],
@@ -128,7 +133,7 @@ CASES = [
     Case("on a terminal the program says that it waits for lines", ["run"], 0, b"ok\n", [b"reading a script's lines"], input=b"table 1 T A INTEGER\n", input_from="terminal"),
     Case("a canonical file is checked", ["check", "t.lanes"], 0, b"ok batches=1 ranges=0\n", files={"t.lanes": ONE_ROW}),
     Case("a file that isn't there can't be checked", ["check", "none"], 1, err=b"refused ReadFault\nnone: no such file or folder\n"),
-    Case("a folder can't be checked", ["check", "."], 1, err=b"refused ReadFault\n.: this is a folder\n"),
+    Case("a folder without a part can't be checked", ["check", "."], 1, err=b"refused ReadFault\n.: this folder holds no part\n"),
     Case("an empty file is cut short", ["check", "t"], 1, err=b"refused Truncated 0\nt: this is empty: did the command before it fail?\n", files={"t": b""}),
     Case("a file that is cut is cut short at its length", ["check", "t"], 1, err=b"refused Truncated 41\nt, byte 41: the bytes end too early\n", files={"t": ONE_ROW[:41]}),
     Case("bytes after a file are refused at their place", ["check", "t"], 1, err=b"refused TrailingBytes 42\nt, byte 42: there are bytes after the end\n", files={"t": ONE_ROW + b"\0"}),
@@ -150,14 +155,15 @@ CASES = [
     Case("another table is refused", ["merge", "out", "t", "u"], 1, err=b"refused SchemaDiffers\nu: this is of the table U (A SMALLINT), and t of T (A SMALLINT)\n", files={"t": ONE_ROW, "u": OTHER_TABLE}, writes={"out": None}),
     Case("a file that isn't there can't be merged", ["merge", "out", "t", "none"], 1, err=b"refused ReadFault\nnone: no such file or folder\n", files={"t": ONE_ROW}, writes={"out": None}),
     Case("a file in a folder that isn't there can't be written", ["merge", "none/out", "t"], 1, err=b"refused WriteFault\nnone/out: there is no such folder\n", files={"t": ONE_ROW}),
-    Case("a folder can't be written in the place of a file", ["merge", "d", "t"], 1, err=b"refused WriteFault\nd: this is a folder\n", files={"t": ONE_ROW, **FOLDER}, writes={"t": ONE_ROW, **FOLDER}),
-    Case("a folder that is one of the files to merge is a failed read", ["merge", "out", "t", "d"], 1, err=b"refused ReadFault\nd: this is a folder\n", files={"t": ONE_ROW, "out": b"old", **FOLDER}, writes={"out": b"old", **FOLDER}),
-    Case("a folder that is the first of them is one too", ["merge", "out", "d", "t"], 1, err=b"refused ReadFault\nd: this is a folder\n", files={"t": ONE_ROW, **FOLDER}, writes={"out": None, **FOLDER}),
+    Case("a folder can't be written in the place of a file", ["merge", "d", "t"], 2, err=MERGE_FAULT, files={"t": ONE_ROW, **FOLDER}, writes={"t": ONE_ROW, **FOLDER}),
+    Case("a folder can't forget", ["forget", "d"], 2, err=FORGET_FAULT, files=FOLDER, writes=FOLDER),
+    Case("a folder without a part that is one of the files to merge is a failed read", ["merge", "out", "t", "d"], 1, err=b"refused ReadFault\nd: this folder holds no part\n", files={"t": ONE_ROW, "out": b"old", **FOLDER}, writes={"out": b"old", **FOLDER}),
+    Case("a folder that is the first of them is one too", ["merge", "out", "d", "t"], 1, err=b"refused ReadFault\nd: this folder holds no part\n", files={"t": ONE_ROW, **FOLDER}, writes={"out": None, **FOLDER}),
     Case("an empty file among those to merge is cut short", ["merge", "out", "t", "u"], 1, err=b"refused Truncated 0\nu: this is empty: did the command before it fail?\n", files={"t": ONE_ROW, "u": b"", "out": b"old"}, writes={"out": b"old", "u": b""}),
     Case("an empty file alone is cut short too", ["merge", "out", "u"], 1, err=b"refused Truncated 0\nu: this is empty: did the command before it fail?\n", files={"u": b""}, writes={"out": None, "u": b""}),
     Case("a file that would be written over stays where another is empty", ["merge", "t", "t", "u"], 1, err=b"refused Truncated 0\nu: this is empty: did the command before it fail?\n", files={"t": ONE_ROW, "u": b""}, writes={"t": ONE_ROW, "u": b""}),
     Case("the files to merge are judged in order", ["merge", "out", "u", "d"], 1, err=b"refused Truncated 0\nu: this is empty: did the command before it fail?\n", files={"u": b"", **FOLDER}, writes={"out": None}),
-    Case("the file to write is judged after them", ["merge", "d", "u"], 1, err=b"refused Truncated 0\nu: this is empty: did the command before it fail?\n", files={"u": b"", **FOLDER}, writes=FOLDER),
+    Case("a folder to write is a fault of the command line, and comes before them", ["merge", "d", "u"], 2, err=MERGE_FAULT, files={"u": b"", **FOLDER}, writes=FOLDER),
     Case("the name - is a file's name for what merge reads", ["merge", "out", "t", "-"], 0, b"ok\n", input=OTHER_ROW, files={"t": ONE_ROW, "-": SECOND_BATCH}, writes={"out": BOTH, "-": SECOND_BATCH}),
     Case("where no file has that name it is a failed read", ["merge", "out", "-"], 1, err=b"refused ReadFault\n-: no such file or folder\n", input=ONE_ROW, writes={"out": None, "-": None}),
     Case("the name - is a file's name for what merge writes", ["merge", "-", "t"], 0, b"ok\n", files={"t": ONE_ROW}, writes={"-": ONE_ROW}),

@@ -2,7 +2,7 @@
 use Rattle.std.specs.Prelude.{ℕ, ◌-◌, cond, ◌==◌}
 use Rattle.std.specs.Int.{Width, w8, w16, w32, w64, leading_zeros}
 
--- the integer type of so many bits, which is 64 where there is no such type
+-- the integer type of a number of bits, which is 64 where there is no such type
 abbrev pub integer_width : ℕ → Width
 integer_width t = cond (t == 8) w8 (cond (t == 16) w16 (cond (t == 32) w32 w64))
 

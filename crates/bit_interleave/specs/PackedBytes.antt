@@ -40,7 +40,7 @@ abbrev pub PackedVectorsTakeBlocks : Type 0
 PackedVectorsTakeBlocks =
     (words : PackedWords) (w : ℕ) → IsLaneWidth words.lane_width → HasWidth words w → length (bytes_of words) ≡ 128 * w
 
--- 128 * w bytes are the words of values of w bits at every lane width that has so many
+-- 128 * w bytes are the words of values of w bits at every lane width that is at least w
 abbrev pub BlocksArePackedVectors : Type 0
 BlocksArePackedVectors =
     (t w : ℕ) (bytes : List ℕ) → IsLaneWidth t → w ≤ t → length bytes ≡ 128 * w → HasWidth (words_of_bytes t bytes) w

@@ -1,4 +1,4 @@
--- The values of a vector, and those that a column of so many bits can hold.
+-- The values of a vector, and those that a column of a width in bits can hold.
 use Rattle.std.specs.Prelude.{ℕ, ℤ, pos, FitsSigned, List, slice_index_or}
 use Rattle.std.specs.List.{All}
 use Rattle.bit_interleave.specs.Arithmetic.{integer_width}

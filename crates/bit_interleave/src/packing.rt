@@ -66,7 +66,7 @@ fn pack_constant<V: LaneWord, U: LaneWord, const W: usize>(values: &[V; 1024], w
     requires words { length words.old ≡ W * (1024 / U.BITS) }
     ensures { map U.number words.new ≡ packed U.BITS W (map V.number values.now) }
 {
-    // By what is required this never is so; the compiler leaves out what follows where a lane hasn't so many bits.
+    // By what is required this is never so; the compiler leaves out what follows if a lane does not have as many bits.
     if W > U::BITS {
         return;
     }

@@ -76,7 +76,7 @@ pub(crate) fn value_at<U: LaneWord>(width: usize, words: &[U], lane: usize, step
     (low >> shift | high << (bits - shift)) & mask
 }
 
-/// Writes the sixteen lanes of a piece to its rows, which stand at one place of each 64.
+/// Writes the sixteen lanes of a piece to its rows, which are at one place of each 64.
 fn put_piece<V: LaneWord>(lanes: Simd<u64, 16>, place: usize, values: &mut [V; 1024])
     requires lanes { length lanes ≡ 16 }
     requires fit { Each1 (λ n. n < 2 ^ V.BITS) lanes }

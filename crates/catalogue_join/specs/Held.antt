@@ -23,6 +23,6 @@ pub record IsNameAt (held : set.FinSet name_cmp) (index : ℕ) (name : BatchName
   pub listed : IsListOf names held
   pub here : slice_get names index ≡ Some name
 
--- whether a set lacks a name
+-- whether a name is not in a set
 abbrev pub lacks : set.FinSet name_cmp → BatchName → Bool
 lacks held name = not (set.contains held name)

@@ -1,4 +1,4 @@
--- Ranges of rows of one batch: the set that a list of them stands for, which lists are maximal, and the places of rows on one line.
+-- Ranges of rows of one batch: the set that a list of them represents, which lists are maximal, and the places of rows on one line.
 use Rattle.std.specs.Prelude.{ℕ, zero, suc, ◌+◌, ◌-◌, ◌*◌, ◌<◌, ◌≤◌, Bool, ◌&&◌, ◌||◌, nat_lt, List, [], ◌∷◌, ◌++◌, min, max, IsTrue}
 use Rattle.std.specs.Ordering.{is_lt, is_eq}
 use Rattle.std.specs.FinSet as set
@@ -12,7 +12,7 @@ use Rattle.catalogue_join.specs.Span.{Shape}
 abbrev pub RowRange : Type 0
 RowRange = RowName × ℕ
 
--- the names of so many rows of a batch, the first having the ordinal n
+-- the names of n rows of a batch, the first having the ordinal n
 abbrev pub row_names : BatchName → ℕ → ℕ → List RowName
 row_names batch n zero = []
 row_names batch n (suc count) = let row : RowName = record { batch = batch; ordinal = n } in row ∷ row_names batch (n + 1) count
@@ -42,7 +42,7 @@ pub record IsRowRange (r : RowRange) : Type 0 where
 abbrev pub stands_apart : RowRange → RowRange → Bool
 stands_apart r q = is_lt (name_cmp r.0.batch q.0.batch) || (is_eq (name_cmp r.0.batch q.0.batch) && nat_lt (r.1 + 1) q.0.ordinal)
 
--- the range stands apart before the first of the list, if there is one
+-- the range lies apart before the first of the list, if there is one
 abbrev pub IsBefore : RowRange → List RowRange → Type 0
 IsBefore r [] = Unit {0}
 IsBefore r (q ∷ qs) = IsTrue (stands_apart r q)
@@ -52,7 +52,7 @@ abbrev pub AreMaximal : List RowRange → Type 0
 AreMaximal [] = Unit {0}
 AreMaximal (r ∷ rs) = IsRowRange r × IsBefore r rs × AreMaximal rs
 
--- where a row's name stands on the line: batches lie so far apart that rows of two batches never stand side by side
+-- where a row's name is on the line: batches lie so far apart that rows of two batches are never next to each other
 abbrev pub row_place : BatchName → ℕ → ℕ
 row_place batch ordinal = (batch.origin.0 * 4294967296 + batch.number.0) * 131072 + ordinal
 

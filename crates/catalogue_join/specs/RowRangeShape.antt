@@ -1,4 +1,4 @@
--- Ranges of rows form a shape: rows of two batches never stand side by side, so ranges that touch are of one batch.
+-- Ranges of rows form a shape: rows of two batches are never next to each other, so ranges that touch are of one batch.
 use Rattle.std.specs.Prelude.{◌≡◌, ◌+◌, ◌<◌, true, false, ◌&&◌, nat_lt, min, max}
 use Rattle.std.proofs.Common.{arith}
 use Rattle.std.proofs.lemmas.Bool.{and_parts, and_from, ltb-true, ltb-false, lt-ltb}

@@ -1,4 +1,4 @@
--- Runs of numbers of one origin: the set of batch names that a list of them stands for, and the places of names on one line.
+-- Runs of numbers of one origin: the set of batch names that a list of them represents, and the places of names on one line.
 use Rattle.std.specs.Prelude.{ℕ, zero, suc, ◌+◌, ◌-◌, ◌*◌, Bool, ◌&&◌, nat_lt, List, [], ◌∷◌, ◌++◌, min, max}
 use Rattle.std.specs.FinSet as set
 use Rattle.table_model.specs.Name.{name_cmp, is_proper_name}
@@ -11,7 +11,7 @@ use Rattle.catalogue_join.specs.declared.run.Run.{Run}
 abbrev pub name_at : Origin → ℕ → BatchName
 name_at origin n = record { origin = origin; number = record { 0 = n } }
 
--- so many names of an origin, the first having the number n
+-- a number of names of an origin, the first having the number n
 abbrev pub names_from : Origin → ℕ → ℕ → List BatchName
 names_from origin n zero = []
 names_from origin n (suc count) = name_at origin n ∷ names_from origin (n + 1) count
@@ -33,7 +33,7 @@ names_listed (r ∷ rs) = names_of r ++ names_listed rs
 unfoldable pub names_in : List Run → set.FinSet name_cmp
 names_in rs = set.from_list (names_listed rs)
 
--- where a batch's name stands on the line: origins lie so far apart that names of two origins never stand side by side
+-- where a batch's name is on the line: origins lie so far apart that names of two origins are never next to each other
 abbrev pub name_place : Origin → ℕ → ℕ
 name_place origin n = origin.0 * 8589934592 + n
 

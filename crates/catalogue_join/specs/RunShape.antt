@@ -1,4 +1,4 @@
--- Runs of numbers form a shape: names of two origins never stand side by side, so runs that touch are of one origin.
+-- Runs of numbers form a shape: names of two origins are never next to each other, so runs that touch are of one origin.
 use Rattle.std.specs.Prelude.{◌≡◌, ℕ, ◌+◌, ◌<◌, true, false, ◌&&◌, nat_lt, min, max}
 use Rattle.std.proofs.Common.{not, eqb, arith}
 use Rattle.std.proofs.lemmas.Bool.{and_parts, and_from, ltb-true, ltb-false, lt-ltb}

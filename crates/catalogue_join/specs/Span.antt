@@ -48,7 +48,7 @@ module _ {S : Type 0} (shape : Shape S) where
   bridged [] = []
   bridged (s ∷ ss) = bridged_from s ss
 
-  -- a place that the list lacks, and the other list has
+  -- a place that is not in the list, and is in the other list
   pub record Lacks (ss ts : List S) : Type 0 where
     pub place : ℕ
     pub among_others : among ts place ≡ true

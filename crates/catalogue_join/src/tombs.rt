@@ -60,6 +60,14 @@ impl Tombs {
         rows.iter().all(|row| self.holds(*row))
     }
 
+    /// Whether the rows of a batch from `first` to the ordinal `last` are all in the set. It takes one search, and no memory.
+    pub fn holds_rows(&self, first: RowName, last: u16) -> bool
+        requires { first.ordinal ≤ last }
+        ensures { result ≡ list_all (set.contains self.now) (rows_between first last) }
+    {
+        self.ranges.has_range((first, last))
+    }
+
     /// Whether all rows of a batch with this many rows, from 1 to 65,536, are in the set. It takes one search, and no memory.
     pub fn holds_batch(&self, batch: BatchName, rows: usize) -> bool
         requires some { 1 ≤ rows }
@@ -67,7 +75,7 @@ impl Tombs {
         ensures { result ≡ list_all (set.contains self.now) (row_names batch 0 rows) }
     {
         let first = RowName { batch, ordinal: 0 };
-        self.ranges.has_range((first, (rows - 1) as u16))
+        self.holds_rows(first, (rows - 1) as u16)
     }
 
     /// The set of some rows, in whatever order and however often they come.

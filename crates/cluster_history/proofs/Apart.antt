@@ -17,8 +17,8 @@ use Rattle.cluster_history.specs.declared.reply.Reply.{Reply}
 use Rattle.cluster_history.specs.declared.reply.Reply.TheVariants.{Done}
 use Rattle.cluster_history.proofs.Placed.{cluster_with, same_store, length-replicas_in}
 
-abbrev unit : Unit {0} → Unit {0}
-unit u = u
+abbrev unit : Bool → Unit {0}
+unit changed = tt
 
 -- a merge of the replicas at two places is that of the two
 pub merged_is : (stores : List Replica) (place from : ℕ) (r other : Replica) → slice_get stores place ≡ Some r → slice_get stores from ≡ Some other → merged_in stores place from ≡ stored stores place (merged r other)
@@ -33,7 +33,7 @@ same_place : (stores : List Replica) (place : ℕ) (r new : Replica) → slice_g
 same_place stores place r new at same = ap (slice_set stores place) (same ∙ sym (get_or_from_slice_get stores place r r at)) ∙ set-get_or stores place r
 
 -- what a merge made of the replica at a place
-merged_at : (stores after : List Replica) (place from : ℕ) (r other new : Replica) (result : Result (Unit {0}) Refusal)
+merged_at : (stores after : List Replica) (place from : ℕ) (r other new : Replica) (result : Result Bool Refusal)
     → slice_get stores place ≡ Some r → slice_get stores from ≡ Some other → after ≡ slice_set stores place new
     → Acts unit r result new (merged r other) → Acts unit stores result after (merged_in stores place from)
 merged_at stores after place from r other new (Ok u) at at_from is acts =
@@ -56,7 +56,7 @@ at_seam front back i r is_len some is =
     slice_get_read (front ++ back) (length (front ++ back)) i r refl (omega (arith, length-append front back)) (is ∙ ap (λ k. get_or back k r) (sym none) ∙ sym (get_or-append_right front back i i r is_len (omega arith)))
 
 -- into the front, from the head of the back
-merged_front : (stores front back : List Replica) (place from : ℕ) (r other new : Replica) (result : Result (Unit {0}) Refusal)
+merged_front : (stores front back : List Replica) (place from : ℕ) (r other new : Replica) (result : Result Bool Refusal)
     → stores ≡ front ++ back → length front ≡ from → place < from → from < length stores → r ≡ get_or front place r → other ≡ get_or back 0 other
     → Acts unit r result new (merged r other) → Acts unit stores result (slice_set front place new ++ back) (merged_in stores place from)
 merged_front stores front back place from r other new result parts is_len before within held lent acts =
@@ -68,7 +68,7 @@ merged_front stores front back place from r other new result parts is_len before
     acts
 
 -- into the head of the back, from the front
-merged_back : (stores front back : List Replica) (place from : ℕ) (r other new : Replica) (result : Result (Unit {0}) Refusal)
+merged_back : (stores front back : List Replica) (place from : ℕ) (r other new : Replica) (result : Result Bool Refusal)
     → stores ≡ front ++ back → length front ≡ place → from < place → place < length stores → r ≡ get_or back 0 r → other ≡ get_or front from other
     → Acts unit r result new (merged r other) → Acts unit stores result (front ++ slice_set back 0 new) (merged_in stores place from)
 merged_back stores front back place from r other new result parts is_len before within held lent acts =
@@ -97,7 +97,7 @@ at_head stores front back i s parts is_len within is =
     ∙ at_seam (replicas_in front) (replicas_in back) i s.replica (length-replicas_in front ∙ is_len) (omega (arith, length-replicas_in back)) (replica_at back 0 s (omega arith) is)
 
 -- into the front, from the head of the back
-pub stored_front : (stores front back : List StoreForm) (place from : ℕ) (s other new : StoreForm) (result : Result (Unit {0}) Refusal)
+pub stored_front : (stores front back : List StoreForm) (place from : ℕ) (s other new : StoreForm) (result : Result Bool Refusal)
     → stores ≡ front ++ back → length front ≡ from → place < from → from < length stores → s ≡ get_or front place s → other ≡ get_or back 0 other
     → Acts unit s.replica result new.replica (merged s.replica other.replica) → Acts unit (replicas_in stores) result (replicas_in (slice_set front place new ++ back)) (merged_in (replicas_in stores) place from)
 stored_front stores front back place from s other new result parts is_len before within held lent acts =
@@ -110,7 +110,7 @@ stored_front stores front back place from s other new result parts is_len before
     (replica_at front place s (omega arith) held) (replica_at back 0 other (omega arith) lent) acts)
 
 -- into the head of the back, from the front
-pub stored_back : (stores front back : List StoreForm) (place from : ℕ) (s other new : StoreForm) (result : Result (Unit {0}) Refusal)
+pub stored_back : (stores front back : List StoreForm) (place from : ℕ) (s other new : StoreForm) (result : Result Bool Refusal)
     → stores ≡ front ++ back → length front ≡ place → from < place → place < length stores → s ≡ get_or back 0 s → other ≡ get_or front from other
     → Acts unit s.replica result new.replica (merged s.replica other.replica) → Acts unit (replicas_in stores) result (replicas_in (front ++ slice_set back 0 new)) (merged_in (replicas_in stores) place from)
 stored_back stores front back place from s other new result parts is_len before within held lent acts =
@@ -123,12 +123,12 @@ stored_back stores front back place from s other new result parts is_len before 
     (replica_at back 0 s (omega arith) held) (replica_at front from other (omega arith) lent) acts)
 
 -- a merge into the front that is refused leaves the stores
-pub front_left : (stores front back : List StoreForm) (place : ℕ) (s new : StoreForm) (result : Result (Unit {0}) Refusal) → stores ≡ front ++ back → s ≡ get_or front place s → OnErr result (new ≡ s) → OnErr result (slice_set front place new ++ back ≡ stores)
+pub front_left : (stores front back : List StoreForm) (place : ℕ) (s new : StoreForm) (result : Result Bool Refusal) → stores ≡ front ++ back → s ≡ get_or front place s → OnErr result (new ≡ s) → OnErr result (slice_set front place new ++ back ≡ stores)
 front_left stores front back place s new (Ok u) parts held left = tt
 front_left stores front back place s new (Err e) parts held left = ap (λ (ss : List StoreForm). ss ++ back) (same_store front place s new held left) ∙ sym parts
 
 -- and so does one into the back
-pub back_left : (stores front back : List StoreForm) (place : ℕ) (s new : StoreForm) (result : Result (Unit {0}) Refusal) → stores ≡ front ++ back → s ≡ get_or back place s → OnErr result (new ≡ s) → OnErr result (front ++ slice_set back place new ≡ stores)
+pub back_left : (stores front back : List StoreForm) (place : ℕ) (s new : StoreForm) (result : Result Bool Refusal) → stores ≡ front ++ back → s ≡ get_or back place s → OnErr result (new ≡ s) → OnErr result (front ++ slice_set back place new ≡ stores)
 back_left stores front back place s new (Ok u) parts held left = tt
 back_left stores front back place s new (Err e) parts held left = ap (λ (ss : List StoreForm). front ++ ss) (same_store back place s new held left) ∙ sym parts
 

@@ -1,5 +1,5 @@
 -- What a call of one store makes of its segments, a step makes of the cluster's.
-use Rattle.std.specs.Prelude.{◌≡◌, ◌<◌, ◌≤◌, ℕ, ◌+◌, ◌-◌, List, [], ◌∷◌, ◌++◌, length, map, take, drop, slice_get, slice_set, Option, Some, None, option_map, option_and_then, Result, Ok, Err, OnOk}
+use Rattle.std.specs.Prelude.{◌≡◌, ◌<◌, ◌≤◌, ℕ, ◌+◌, ◌-◌, Bool, List, [], ◌∷◌, ◌++◌, length, map, take, drop, slice_get, slice_set, Option, Some, None, option_map, option_and_then, Result, Ok, Err, OnOk}
 use Rattle.std.specs.FinMap as finite
 use Rattle.std.proofs.Common.{refl, sym, ap, subst, ◌∙◌, arith, inl, inr, get_or}
 use Rattle.std.proofs.lemmas.List.{length-map, length-append, map-append, map-set, set-append_left, set-append_right}
@@ -231,7 +231,7 @@ opened_at schema stores sent replica at s new own file other reply c held some o
     )
 
 -- a merge into the front of stores that were parted
-pub front_merges : (stores front back : List StoreForm) (place from : ℕ) (s other new : StoreForm) (result : Result (Unit {0}) Refusal)
+pub front_merges : (stores front back : List StoreForm) (place from : ℕ) (s other new : StoreForm) (result : Result Bool Refusal)
     → stores ≡ front ++ back → length front ≡ from → place < from → from < length stores → s ≡ get_or front place s → other ≡ get_or back 0 other
     → OnOk result (new.segments ≡ union_of s.segments other.segments) → OnOk result (MergesAt stores place from (slice_set front place new ++ back))
 front_merges stores front back place from s other new (Err e) parts is_len before within held lent made = tt
@@ -247,7 +247,7 @@ front_merges stores front back place from s other new (Ok u) parts is_len before
     )
 
 -- and into their back
-pub back_merges : (stores front back : List StoreForm) (place from : ℕ) (s other new : StoreForm) (result : Result (Unit {0}) Refusal)
+pub back_merges : (stores front back : List StoreForm) (place from : ℕ) (s other new : StoreForm) (result : Result Bool Refusal)
     → stores ≡ front ++ back → length front ≡ place → from < place → place < length stores → s ≡ get_or back 0 s → other ≡ get_or front from other
     → OnOk result (new.segments ≡ union_of s.segments other.segments) → OnOk result (MergesAt stores place from (front ++ slice_set back 0 new))
 back_merges stores front back place from s other new (Err e) parts is_len before within held lent made = tt

@@ -14,7 +14,7 @@ RecodesAt old result new place name column vector coding =
     (s made : StoreForm) × (slice_get old place ≡ Some s) × (new ≡ slice_set old place made)
     × Acts (λ done. done) s.replica result made.replica (recoded_rows s.replica name column vector) × Acts (λ done. done) s.segments result made.segments (recoded_in s.segments name column vector coding)
 
--- the stores after the one at a place took in the batches of another: it has their segments beside its own, and the other stores stay
+-- the stores after the one at a place took in the batches of another: it has their segments in addition to its own, and the other stores stay
 abbrev pub MergesAt : List StoreForm → ℕ → ℕ → List StoreForm → Type 0
 MergesAt old place from new =
     (s other made : StoreForm) × (slice_get old place ≡ Some s) × (slice_get old from ≡ Some other) × (new ≡ slice_set old place made) × (made.segments ≡ union_of s.segments other.segments)

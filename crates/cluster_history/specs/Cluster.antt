@@ -43,7 +43,7 @@ replicas_in stores = map (λ s. s.replica) stores
 abbrev pub empty_replica : Table → ℕ → Replica
 empty_replica table own = record { schema = table; own = record { 0 = own }; state = empty_state }
 
--- so many new replicas, the first having this number as its own origin
+-- a number of new replicas, the first having this number as its own origin
 abbrev pub new_replicas : Table → ℕ → ℕ → List Replica
 new_replicas table first zero = []
 new_replicas table first (suc count) = empty_replica table first ∷ new_replicas table (first + 1) count
@@ -52,7 +52,7 @@ new_replicas table first (suc count) = empty_replica table first ∷ new_replica
 unfoldable pub new_cluster : Table → ℕ → ClusterParts
 new_cluster table count = record { schema = table; stores = new_replicas table 1 count; messages = [] }
 
--- the place of a number among so many, which are counted from 1
+-- the place of a number among a count, which are counted from 1
 abbrev pub place_of : ℕ → ℕ → Option ℕ
 place_of count replica = cond (nat_le 1 replica && nat_le replica count) (Some (replica - 1)) None
 

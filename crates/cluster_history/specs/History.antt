@@ -32,12 +32,12 @@ pub record Taken : Type 0 where
   pub replicas : List (List Operation)
   pub messages : List Brought
 
--- so many sets without an operation
+-- a number of sets without an operation
 abbrev pub empty_sets : ℕ → List (List Operation)
 empty_sets zero = []
 empty_sets (suc count) = [] ∷ empty_sets count
 
--- nothing was taken by so many replicas, and there is no message
+-- nothing was taken by a number of replicas, and there is no message
 abbrev pub new_taken : ℕ → Taken
 new_taken count = record { replicas = empty_sets count; messages = [] }
 

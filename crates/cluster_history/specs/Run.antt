@@ -16,7 +16,7 @@ abbrev pub answered : Result (Reply × ClusterParts) Refusal → ClusterParts �
 answered (Ok done) old = done
 answered (Err e) old = (Refused e, old)
 
--- where memory may lack for a step: for what it makes, but not at an insert of a batch that is held already nor at a delete, a merge or a take that changes nothing, which make nothing; and as a file and the text of a query or a condition are taken in while they are read, there in the place of a refusal too, but not where the replica isn't there
+-- where a step may run out of memory: for what it makes, but not at an insert of a batch that is held already nor at a delete, a merge or a take that changes nothing, which make nothing; and as a file and the text of a query or a condition are taken in while they are read, there in the place of a refusal too, but not where the replica isn't there
 abbrev pub MayLack : ClusterParts → Step → Result (Reply × ClusterParts) Refusal → Type 0
 MayLack old (Open replica file) made = IsSome (numbered old.stores replica)
 MayLack old (Query replica sql) made = IsSome (numbered old.stores replica)
@@ -27,16 +27,16 @@ MayLack old (Merge replica other) made = IsOk made × (made ≢ Ok (Done, old))
 MayLack old (Take replica message) made = IsOk made × (made ≢ Ok (Done, old))
 MayLack old step made = IsOk made
 
--- a step is done, and that is what it makes, of the codings too; or it is refused, as it has to be or because memory lacked, and nothing changed, no coding either
+-- a step is done, and that is what it makes, of the codings too; or it is refused, as it has to be or because memory ran out, and nothing changed, no coding either
 abbrev pub ActsOn : ClusterForm → Step → Result Reply Refusal → ClusterForm → Type 0
 ActsOn old step (Ok reply) new = (step_of old.parts step ≡ Ok (reply, new.parts)) × SegmentsAfter old step reply new.segments
 ActsOn old step (Err e) new = (new ≡ old) × ((step_of old.parts step ≡ Err e) ⊎ ((e ≡ Memory) × MayLack old.parts step (step_of old.parts step)))
 
--- a step is done, and this is its reply; or the reply is its refusal, as it has to be or because memory lacked, and nothing changed, no coding either
+-- a step is done, and this is its reply; or the reply is its refusal, as it has to be or because memory ran out, and nothing changed, no coding either
 abbrev pub CodedStepTo : ClusterForm → Step → Reply → ClusterForm → Type 0
 CodedStepTo old step reply new = ActsOn old step (Ok reply) new ⊎ ((e : Refusal) × (reply ≡ Refused e) × ActsOn old step (Err e) new)
 
--- the reply and the cluster after a step are what the step makes; or memory lacked, and nothing changed
+-- the reply and the cluster after a step are what the step makes; or memory ran out, and nothing changed
 abbrev pub StepTo : ClusterParts → Step → Reply → ClusterParts → Type 0
 StepTo old step reply new =
     (answered (step_of old step) old ≡ (reply, new)) ⊎ ((reply ≡ Refused Memory) × (new ≡ old) × MayLack old step (step_of old step))
@@ -56,7 +56,7 @@ Run = Leads StepTo
 abbrev pub CodedRun : ClusterForm → List Step → List Reply → ClusterForm → Type 0
 CodedRun = Leads CodedStepTo
 
--- over a run without a recode, with its refused steps and those for which memory lacked, what replicas held and what messages brought lies as it lay
+-- over a run without a recode, with its refused steps and those for which memory ran out, what replicas held and what messages brought lies as it lay
 abbrev pub RunsKeep : Type 0
 RunsKeep = (old new : ClusterForm) (steps : List Step) (replies : List Reply) → AreNoRecodes steps → CodedRun old steps replies new →
     StayIn old.segments.stores new.segments.stores × StayIn old.segments.messages new.segments.messages

@@ -1,4 +1,4 @@
--- A cluster as contracts see it: its parts, and beside them the segments in which the batches of its replicas and messages lie, with their codings.
+-- A cluster as contracts see it: its parts, and with them the segments in which the batches of its replicas and messages lie, with their codings.
 use Rattle.std.specs.Prelude.{ℕ, List, [], map, replicate, refl}
 use Rattle.std.specs.Coded.{Coded, code_by, coded×, coded_list}
 use Rattle.std.specs.FinMap as finite
@@ -34,7 +34,7 @@ coded_cluster = code_by (ClusterParts × ClusterSegments) (coded× coded_parts c
 abbrev pub segments_in : List StoreForm → List Segments
 segments_in stores = map (λ s. s.segments) stores
 
--- the segments of so many new replicas, which hold nothing, where there is no message
+-- the segments of a number of new replicas, which hold nothing, where there is no message
 abbrev pub new_segments : ℕ → ClusterSegments
 new_segments count = record { stores = replicate count finite.empty; messages = [] }
 

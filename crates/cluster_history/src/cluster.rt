@@ -14,12 +14,11 @@ use crate::message::{Message, offer_at, summary_at};
 use crate::reply::Reply;
 use crate::step::Step;
 use replica_store::Store;
-use row_batch::RowBatch;
 use segment_core::Coding;
 use std::alloc::Global;
 use std::marker::Model;
 use store_view::{ask, names_where};
-use table_model::{BatchName, Origin, Refusal, RowName, Schema};
+use table_model::{BatchName, Origin, Refusal, RowName, Rows, Schema};
 
 /// How many replicas a cluster has at most.
 pub const REPLICA_LIMIT: usize = 64;
@@ -102,13 +101,13 @@ impl Cluster {
     }
 
     /// Appends the rows at a replica.
-    fn append(&mut self, alloc: Global, replica: u32, rows: &RowBatch) -> Result<Reply, Refusal>
+    fn append(&mut self, alloc: Global, replica: u32, rows: &Rows) -> Result<Reply, Refusal>
         ensures { ActsOn self.old (Step.Append replica rows.now) result self.new }
     {
         let place = self.place(replica)?;
         // `parts` ensures that the batches are the rows of the segments, so that a new name is new to both.
         let _parts = self.stores[place].parts();
-        let name = self.stores[place].append_batch(alloc, rows)?;
+        let name = self.stores[place].append(alloc, rows)?;
         Ok(Reply::Named(name))
     }
 
@@ -118,14 +117,14 @@ impl Cluster {
         alloc: Global,
         replica: u32,
         name: BatchName,
-        rows: &RowBatch,
+        rows: &Rows,
     ) -> Result<Reply, Refusal>
         ensures { ActsOn self.old (Step.Insert replica name rows.now) result self.new }
     {
         let place = self.place(replica)?;
         // `parts` ensures that the batches are the rows of the segments, so that a new name is new to both.
         let _parts = self.stores[place].parts();
-        let inserted = self.stores[place].insert_batch(alloc, name, rows)?;
+        let inserted = self.stores[place].insert(alloc, name, rows)?;
         Ok(Reply::Put(inserted))
     }
 
@@ -360,17 +359,17 @@ fn new_store(alloc: Global, schema: &Schema, own: u32) -> Result<Store, Refusal>
     Store::new(alloc, schema, Origin(own))
 }
 
-/// Merges the replica at one place into the one at another.
+/// Merges the replica at one place into the one at another, and answers as `Store::merge` does.
 fn merge_apart(
     alloc: Global,
     stores: &mut [Store],
     place: usize,
     from: usize,
-) -> Result<(), Refusal>
+) -> Result<bool, Refusal>
     requires place { place < length stores.old }
     requires from { from < length stores.old }
     requires apart { place ≢ from }
-    ensures acts { Acts (λ done. done) (replicas_in stores.old) result (replicas_in stores.new) (merged_in (replicas_in stores.old) place from) }
+    ensures acts { Acts (λ changed. tt) (replicas_in stores.old) result (replicas_in stores.new) (merged_in (replicas_in stores.old) place from) }
     ensures idle { merged_in (replicas_in stores.old) place from ≡ Ok (tt, replicas_in stores.old) → IsOk result }
     ensures segments { OnOk result (MergesAt stores.old place from stores.new) }
     ensures refused { OnErr result (stores.new ≡ stores.old) }

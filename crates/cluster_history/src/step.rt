@@ -3,10 +3,9 @@ ghost use Rattle.std.specs.Prelude.{◌≡◌};
 ghost use Rattle.std.specs.String.{string_bytes};
 
 use crate::file_bytes::FileBytes;
-use row_batch::RowBatch;
 use segment_core::Coding;
 use std::marker::Model;
-use table_model::{BatchName, RowName};
+use table_model::{BatchName, RowName, Rows};
 
 /// The text of a query or of a condition. Contracts see it as its bytes.
 #[derive(Drop)]
@@ -45,13 +44,13 @@ pub enum Step {
     /// Adds a batch of these rows under a new name of the replica's own origin.
     Append {
         replica: u32,
-        rows: RowBatch,
+        rows: Rows,
     },
     /// Adds a batch of these rows under the name that is given.
     Insert {
         replica: u32,
         name: BatchName,
-        rows: RowBatch,
+        rows: Rows,
     },
     /// Deletes the rows of one batch from the first's ordinal to the last.
     Delete {

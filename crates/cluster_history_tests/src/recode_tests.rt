@@ -3,11 +3,10 @@
 use crate::tests::{Told, Want, is_wanted, name, step_of};
 use cluster_history::{Cluster, FileBytes, Reply, Sql, Step};
 use replica_store::Store;
-use row_batch::RowBatch;
 use segment_core::{Coding, Segment};
 use std::alloc::Global;
 use std::test::Fail;
-use table_model::{ColType, Refusal, RowName, Schema};
+use table_model::{ColType, Refusal, RowName, Rows, Schema};
 use test_support::agree;
 
 const FOR: Coding = Coding::For;
@@ -197,8 +196,8 @@ const TOO_GREAT: Values = &[Some(32_768), Some(0), Some(0)];
 const TOO_SHORT: Values = &[Some(1), Some(2)];
 
 /// The rows of these values.
-fn rows_of(alloc: Global, values: &[Values]) -> Result<RowBatch, Refusal> {
-    let mut rows = RowBatch::new(alloc);
+fn rows_of(alloc: Global, values: &[Values]) -> Result<Rows, Refusal> {
+    let mut rows = Rows::new(alloc);
     for &cells in values {
         rows.push_row(cells)?;
     }

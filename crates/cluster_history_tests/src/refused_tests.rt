@@ -5,11 +5,10 @@
 use crate::tests::{Want, is_wanted, name};
 use cluster_history::{Cluster, Message, Reply, Sql, Step, run};
 use replica_store::Store;
-use row_batch::RowBatch;
 use segment_core::{Coding, Segment};
 use std::alloc::Global;
 use std::test::Fail;
-use table_model::{ColType, Refusal, Schema};
+use table_model::{ColType, Refusal, Rows, Schema};
 use test_support::growth_refused;
 
 /// What came of a call.
@@ -140,8 +139,8 @@ const LACKING: [Outcome; STEPS] = [
 ];
 
 /// One row, 7.
-fn seven(alloc: Global) -> Result<RowBatch, Refusal> {
-    let mut rows = RowBatch::new(alloc);
+fn seven(alloc: Global) -> Result<Rows, Refusal> {
+    let mut rows = Rows::new(alloc);
     rows.push_row(&[Some(7)])?;
     Ok(rows)
 }

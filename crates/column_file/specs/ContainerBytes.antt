@@ -17,7 +17,7 @@ abbrev pub one_less : ℕ → Option ℕ
 one_less zero = None
 one_less (suc n) = Some n
 
--- how many rows a batch has, 1 to 65,536, which stands less one
+-- how many rows a batch has, 1 to 65,536, which is written less one
 unfoldable pub row_count : Format ℕ
 row_count = seen (number 2) suc one_less
 
@@ -81,7 +81,7 @@ ranges = seen (before (number 8) (λ n. all n range)) (λ p. p.1) (λ found. Som
 unfoldable pub container : Format (Table × (List Entry × List Deleted))
 container = before (head (codes "FLCF")) (λ table. before (batches table) (λ _. ranges))
 
--- a batch that was read: a store may hold it, and its rows are those that its vectors stand for
+-- a batch that was read: a store may hold it, and its rows are those that its vectors represent
 pub record IsFound (table : Table) (e : BatchName × SegmentForm) : Type 0 where
   pub stored : IsStored table e
   pub rows : e.1.rows ≡ batch_of (length e.1.rows) e.1.forms

@@ -16,7 +16,7 @@ use Rattle.column_file.specs.Files.{canonical_as_read, first_difference, IsCanon
 abbrev pub matched : List ℕ → List ℕ → Result (Unit {0}) Refusal
 matched bytes text = cond (same_text bytes text) (Ok tt) (Err (NotCanonical (first_difference bytes text)))
 
--- two texts differ from another first at the same place, which is inside of both, whatever stands after them
+-- two texts differ from another first at the same place, which is inside of both, whatever comes after them
 abbrev pub DifferAlike : List ℕ → List ℕ → List ℕ → Type 0
 DifferAlike bytes some others =
     (p q r : List ℕ) → (first_difference (bytes ++ p) (some ++ q) ≡ first_difference (bytes ++ p) (others ++ r)) × (first_difference (bytes ++ p) (some ++ q) < length some) × (first_difference (bytes ++ p) (some ++ q) < length others)

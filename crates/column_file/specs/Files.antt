@@ -25,7 +25,7 @@ use Rattle.column_file.specs.Ordered.{in_order}
 use Rattle.column_file.specs.SummaryBytes.{summary_bytes, summary_read}
 use Rattle.column_file.specs.ContainerBytes.{Entry, entry_of, Deleted, deleted_of, container, IsFound}
 
--- an entry's segment, whose rows are those that its vectors stand for
+-- an entry's segment, whose rows are those that its vectors represent
 abbrev pub held_of : Entry → Held
 held_of e = (e.0, record { rows = batch_of e.1.0 e.1.1; forms = e.1.1 })
 
@@ -57,7 +57,7 @@ pub record IsRangeGiven (r : RowRange) : Type 0 where
   pub proper : IsTrue (is_proper_name r.0.batch)
   pub not_empty : r.0.ordinal ≤ r.1
 
--- whether a row stands just before another one of its batch
+-- whether a row comes just before another one of its batch
 abbrev pub is_just_before : RowName → RowName → Bool
 is_just_before q r = q.batch.origin.0 == r.batch.origin.0 && (q.batch.number.0 == r.batch.number.0 && q.ordinal + 1 == r.ordinal)
 
@@ -118,7 +118,7 @@ abbrev pub is_same_range : RowRange → RowRange → Bool
 is_same_range a b =
     a.0.batch.origin.0 == b.0.batch.origin.0 && (a.0.batch.number.0 == b.0.batch.number.0 && (a.0.ordinal == b.0.ordinal && a.1 == b.1))
 
--- A call that writes bytes and may lack memory: for want of memory nothing is written.
+-- A call that writes bytes and may run out of memory: if memory runs out, nothing is written.
 abbrev pub Exports : Result (Unit {0}) Refusal → Option (List ℕ) → Option (List ℕ) → ℕ → ℕ → List ℕ → Type 0
 Exports (Err Memory) old new before after bytes = (new ≡ old) × (after ≡ before)
 Exports other old new before after bytes = Writes other old new before after bytes
@@ -181,7 +181,7 @@ SameFileSameState =
 abbrev pub FilesOpenToOne : Type 0
 FilesOpenToOne = (bytes : List ℕ) (s t : Table) (a b : State) → OpensTo bytes s a → OpensTo bytes t b → (s ≡ t) × (a ≡ b)
 
--- A held batch has bytes that come back: a store may hold it, its rows are those that its vectors stand for, which have bytes, and
+-- A held batch has bytes that come back: a store may hold it, its rows are those that its vectors represent, which have bytes, and
 -- its name is numbered.
 pub record HasBatchBytes (table : Table) (e : Held) : Type 0 where
   pub found : IsFound table e

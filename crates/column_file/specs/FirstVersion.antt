@@ -107,7 +107,7 @@ canonical_read_1 bytes = offer_read_1 bytes >>= judged_1 bytes
 abbrev pub opened_from_1 : Origin → List ℕ → Result Replica Refusal
 opened_from_1 own bytes = cond (own.0 == 0) (Err BadName) (canonical_read_1 bytes >>= λ o. Ok (offering own o))
 
--- What version 1 made of an input is what a call returned, seen by view; or the call lacked memory or its reader failed. Nothing is said
+-- What version 1 made of an input is what a call returned, seen by view; or the call ran out of memory or its reader failed. Nothing is said
 -- of an input that version 1 refused, and of a reader that doesn't tell its bytes.
 abbrev pub KeepsFirst : {X Y : Type 0} → (X → Y) → Result X Refusal → Option (List ℕ) → (List ℕ → Result Y Refusal) → Type 0
 KeepsFirst view result None was = Unit {0}

@@ -12,11 +12,11 @@ Judges view result None meaning = Unit {0}
 Judges view (Ok x) (Some input) meaning = meaning input ≡ Ok (view x)
 Judges view (Err e) (Some input) meaning = (e ≡ Memory → ⊥) → (e ≡ ReadFault → ⊥) → meaning input ≡ Err e
 
--- a want of memory or a failed read
+-- out of memory or a failed read
 abbrev pub IsUnread : Refusal → Type 0
 IsUnread e = (e ≡ Memory) ⊎ (e ≡ ReadFault)
 
--- A refusal other than a want of memory and a failed read comes of the whole input: the reader, before and after, was read to its
+-- A refusal other than out of memory and a failed read comes of the whole input: the reader, before and after, was read to its
 -- end, and had no more than a call reads.
 abbrev pub ComesOfWhole : Refusal → Option (List ℕ) → Option (List ℕ) → Type 0
 ComesOfWhole e before after = (e ≡ Memory → ⊥) → (e ≡ ReadFault → ⊥) → IsWithin before × IsAtEnd after
@@ -48,7 +48,7 @@ abbrev pub is_fault_of_file : Refusal → Bool
 is_fault_of_file (NotCanonical at) = true
 is_fault_of_file other = is_fault_of_container other
 
--- whether a refusal is a want of memory, a failed read or one of some faults
+-- whether a refusal is out of memory, a failed read or one of some faults
 abbrev pub unread_or : (Refusal → Bool) → Refusal → Bool
 unread_or is_fault Memory = true
 unread_or is_fault ReadFault = true

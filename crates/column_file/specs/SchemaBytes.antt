@@ -25,18 +25,18 @@ is_name t = is_identifier t && list_all is_upper t
 unfoldable pub name : Format (List ℕ)
 name = checked text is_name (λ _. BadSchema)
 
--- a type's number of bytes, which stands for it
+-- a type's number of bytes, which represents it
 abbrev pub tag_of : ColType → ℕ
 tag_of TinyInt = 1
 tag_of SmallInt = 2
 tag_of Integer = 4
 tag_of BigInt = 8
 
--- whether a type of version 1 has so many bytes
+-- whether a type of version 1 has that number of bytes
 abbrev pub first_tag : ℕ → Bool
 first_tag tag = tag == 2 || (tag == 4 || tag == 8)
 
--- whether a type of this version has so many bytes: in version 2 one byte too
+-- whether a type of this version has that number of bytes: in version 2 one byte too
 abbrev pub is_type_tag : ℕ → ℕ → Bool
 is_type_tag version tag = cond (version == 2) (tag == 1 || first_tag tag) (first_tag tag)
 
@@ -78,7 +78,7 @@ is_tiny c = bits_of c.column_type == 8
 abbrev pub has_tiny : Table → Bool
 has_tiny table = list_any is_tiny table.columns
 
--- the version in which a table stands: 2 exactly where it has a column of 8 bits
+-- the version in which a table is written: 2 exactly where it has a column of 8 bits
 abbrev pub version_of : Table → ℕ
 version_of table = cond (has_tiny table) 2 1
 

@@ -21,11 +21,11 @@ is_version n = n == 1 || n == 2
 unfoldable pub version : Format ℕ
 version = checked (number 2) is_version (λ _. BadVersion)
 
--- whether what stands before and after a version fits: the table stands in that version
+-- whether what comes before and after a version fits: the table is written in that version
 abbrev pub has_version : List ℕ × (ℕ × Table) → Bool
 has_version p = p.1.0 == version_of p.1.1
 
--- What each format begins with: its own four bytes, the version and a schema in it. Whether the table stands in that version is judged
+-- What each format begins with: its own four bytes, the version and a schema in it. Whether the table is written in that version is judged
 -- once the schema is there.
 unfoldable pub head : List ℕ → Format Table
 head magic =

@@ -17,7 +17,7 @@ use std::alloc::Global;
 use table_model::{BatchName, Number, Origin, Refusal, RowName, Schema};
 
 /// What a container begins with.
-pub(crate) const CONTAINER: [u8; 4] = *b"FLCF";
+pub const CONTAINER: [u8; 4] = *b"FLCF";
 
 /// How many rows a batch has, 1 to 65,536, and what comes after that.
 #[tactic(auto, unfolding(crate::specs::ContainerBytes::row_count))]
@@ -103,13 +103,15 @@ fn read_batch<'a>(
     Ok((name, segment, after))
 }
 
-/// This many batches at the front of what is left, and what comes after them.
+/// This many batches at the front of what is left, and what comes after them. `judges` is whether each is judged as soon as it is
+/// read, while its bytes are in the processor's caches: it then remembers if it is canonical.
 fn read_batch_list<'a>(
     alloc: Global,
     schema: &Schema,
     bytes: &'a [u8],
     front: &'a [u8],
     count: usize,
+    judges: bool,
 ) -> Result<(Vec<(BatchName, Segment)>, &'a [u8]), Refusal>
     requires { IsRest bytes.now front.now }
     ensures read { Reads (λ x. (map entry_of x.0.items, x.1.now)) result ((all count (batch schema.now)).read (length bytes.now) front.now) }
@@ -118,7 +120,10 @@ fn read_batch_list<'a>(
     let mut found = Vec::new(alloc);
     let mut rest = front;
     for _ in 0..count {
-        let (name, segment, after) = read_batch(alloc, schema, bytes, rest, found.as_slice())?;
+        let (name, mut segment, after) = read_batch(alloc, schema, bytes, rest, found.as_slice())?;
+        if judges {
+            segment.judge();
+        }
         found.push((name, segment))?;
         rest = after;
     }
@@ -132,13 +137,14 @@ fn read_batches<'a>(
     schema: &Schema,
     bytes: &'a [u8],
     rest: &'a [u8],
+    judges: bool,
 ) -> Result<(Vec<(BatchName, Segment)>, &'a [u8]), Refusal>
     requires { IsRest bytes.now rest.now }
     ensures read { Reads (λ x. (map entry_of x.0.items, x.1.now)) result ((batches schema.now).read (length bytes.now) rest.now) }
     ensures found { IfOk result (λ x. All (IsFound schema.now) x.0.items) }
 {
     let (count, after_count) = read_name_count(bytes.len(), rest)?;
-    read_batch_list(alloc, schema, bytes, after_count, count)
+    read_batch_list(alloc, schema, bytes, after_count, count, judges)
 }
 
 /// A batch's name and two ordinals, whatever they are, at the front, and what comes after them.
@@ -235,18 +241,20 @@ fn read_ranges(
 }
 
 /// The schema, the batches and the ranges of a container. The refusal is the first fault of the bytes, or `Memory`, which can come
-/// in place of any of them. The memory it takes is in proportion to the bytes that are there.
+/// in place of any of them. The memory it takes is in proportion to the bytes that are there. `judges` is whether each batch is judged
+/// as soon as it is read.
 #[tactic(auto, unfolding(crate::specs::ContainerBytes::container))]
 pub(crate) fn read_container(
     alloc: Global,
     bytes: &[u8],
+    judges: bool,
 ) -> Result<(Schema, Vec<(BatchName, Segment)>, Vec<(RowName, u16)>), Refusal>
     ensures read { Reads (λ x. (x.0, (map entry_of x.1.items, map deleted_of x.2.items))) result (read_whole container bytes.now) }
     ensures found { IfOk result (λ x. All (IsFound x.0) x.1.items) }
 {
     let total = bytes.len();
     let (schema, after_head) = read_head(alloc, total, bytes, &CONTAINER)?;
-    let (batches, after_batches) = read_batches(alloc, &schema, bytes, after_head)?;
+    let (batches, after_batches) = read_batches(alloc, &schema, bytes, after_head, judges)?;
     let (ranges, rest) = read_ranges(alloc, total, after_batches)?;
     if !rest.is_empty() {
         return Err(Refusal::TrailingBytes(place_of(total, rest)));

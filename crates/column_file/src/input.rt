@@ -49,10 +49,7 @@ fn read_through<R: Read>(
 
 /// What a reader has, read to its end. `ReadFault` if a read fails or more than 2^48 bytes come, and `Memory` if there is none for
 /// what came.
-pub(crate) fn read_input<R: Read>(
-    alloc: Global,
-    reader: &mut Counted<R>,
-) -> Result<Vec<u8>, Refusal>
+pub fn read_input<R: Read>(alloc: Global, reader: &mut Counted<R>) -> Result<Vec<u8>, Refusal>
     ensures bytes { IfOk result (λ input. Consumes (R.remaining reader.old.0) (R.remaining reader.new.0) input.items) }
     ensures end { OnOk result (IsAtEnd (R.remaining reader.new.0)) }
     ensures within { OnOk result (IsWithin (R.remaining reader.old.0)) }

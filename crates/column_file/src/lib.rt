@@ -18,6 +18,8 @@ mod summary_writing;
 mod type_tags;
 
 pub use canonical_writing::export;
+pub use container_reading::CONTAINER;
+pub use input::read_input;
 pub use laws::{
     containers_and_bytes_come_back, files_and_states_come_back, first_version_is_kept,
     offers_and_summaries_are_read_again, schemas_and_bytes_come_back,
@@ -25,8 +27,8 @@ pub use laws::{
 };
 pub use offer_reading::read_offer;
 pub use offer_writing::write_offer;
-pub use opening::{Checked, check, open};
+pub use opening::{Checked, check, open, open_bytes};
 pub use schema_reading::read_schema;
 pub use schema_writing::write_schema;
-pub use summary_reading::{read_summary, read_summary_bytes};
+pub use summary_reading::{read_head, read_name_count, read_summary, read_summary_bytes};
 pub use summary_writing::write_summary;

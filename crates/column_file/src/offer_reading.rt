@@ -34,7 +34,7 @@ pub(crate) fn tombs_of(alloc: Global, deleted: &[(RowName, u16)]) -> Result<Tomb
 pub(crate) fn offer_in(alloc: Global, bytes: &[u8]) -> Result<Offer, Refusal>
     ensures { Reads (λ x. x) result (offer_read bytes.now) }
 {
-    let (schema, batches, ranges) = read_container(alloc, bytes)?;
+    let (schema, batches, ranges) = read_container(alloc, bytes, false)?;
     let tombs = tombs_of(alloc, ranges.as_slice())?;
     Ok(Offer::from_parts(schema, batches, tombs))
 }

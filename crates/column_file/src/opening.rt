@@ -65,7 +65,7 @@ fn canonical_in(alloc: Global, bytes: &[u8]) -> Result<Offer, Refusal>
     ensures read { Reads (λ x. x) result (canonical_read bytes.now) }
     ensures segments { IfOk result (λ o. AreCanonicalOf o.schema o.state.batches o.segments) }
 {
-    let (schema, mut batches, ranges) = read_container(alloc, bytes)?;
+    let (schema, mut batches, ranges) = read_container(alloc, bytes, true)?;
     let tombs = tombs_of(alloc, ranges.as_slice())?;
     let maximal = are_same_ranges(ranges.as_slice(), tombs.ranges());
     let canonical = judge_batches(alloc, &mut batches)?;
@@ -100,10 +100,26 @@ pub fn open<R: Read>(alloc: Global, reader: &mut Counted<R>, own: Origin) -> Res
     ensures fault { IfErr result (λ e. CountsReads (GaveMore (R.remaining reader.old.0) (R.remaining reader.new.0)) e reader.old.1 reader.new.1) }
 {
     if own.0 == 0 {
+        // Before anything is read.
         return Err(Refusal::BadName);
     }
     let input = read_input(alloc, reader)?;
     let offer = canonical_in(alloc, input.as_slice())?;
+    offer.into_store(alloc, own)
+}
+
+/// The store of an own origin with the content of a canonical file whose bytes are in memory.
+///
+/// The refusals are `BadName` if the own origin is 0; the first fault of the bytes; and last `NotCanonical` with the first byte that
+/// differs from the canonical file of their content. `Memory` can come in place of any of them but the first.
+pub fn open_bytes(alloc: Global, bytes: &[u8], own: Origin) -> Result<Store, Refusal>
+    ensures read { Reads (λ store. store.replica) result (opened_from own bytes.now) }
+    ensures segments { IfOk result (λ store. AreCanonicalOf store.replica.schema store.replica.state.batches store.segments) }
+{
+    if own.0 == 0 {
+        return Err(Refusal::BadName);
+    }
+    let offer = canonical_in(alloc, bytes)?;
     offer.into_store(alloc, own)
 }
 

@@ -53,7 +53,7 @@ fn read_version(total: usize, bytes: &[u8]) -> Result<(u64, &[u8]), Refusal>
 
 /// The schema that a format begins with, after its own bytes and the schema's version, and what comes after it.
 #[tactic(auto, unfolding(crate::specs::SummaryBytes::head))]
-pub(crate) fn read_head<'a>(
+pub fn read_head<'a>(
     alloc: Global,
     total: usize,
     bytes: &'a [u8],
@@ -140,7 +140,7 @@ fn read_batch_names(
 
 /// How many names there are, at most 1,048,576, and what comes after that.
 #[tactic(auto, unfolding(crate::specs::SummaryBytes::name_count))]
-pub(crate) fn read_name_count(total: usize, bytes: &[u8]) -> Result<(usize, &[u8]), Refusal>
+pub fn read_name_count(total: usize, bytes: &[u8]) -> Result<(usize, &[u8]), Refusal>
     ensures read { Reads (λ x. (x.0, x.1.now)) result (name_count.read total bytes.now) }
     ensures fault { IfErr result (λ e. IsTrue (is_fault_of_summary e)) }
 {

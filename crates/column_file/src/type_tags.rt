@@ -1,10 +1,10 @@
-//! The numbers that stand for column types in files, a value's number of bytes, and the version of a schema.
+//! The numbers that represent column types in files, a value's number of bytes, and the version of a schema.
 ghost use Rattle.std.specs.Prelude.{◌≡◌, cond, Some, None};
 ghost use Rattle.column_file.specs.SchemaBytes.{tag_of, is_type_tag, type_tagged, has_tiny, version_of};
 
 use table_model::{ColType, Schema};
 
-/// The number that stands for a type.
+/// The number that represents a type.
 pub(crate) fn tag(column_type: ColType) -> u64
     ensures { result ≡ tag_of column_type }
 {
@@ -16,7 +16,7 @@ pub(crate) fn tag(column_type: ColType) -> u64
     }
 }
 
-/// The type for which a number stands in a version, if it stands for one.
+/// The type that a number means in a version, if it means one.
 pub(crate) fn tagged(version: u64, tag: u64) -> Option<ColType>
     ensures { result ≡ cond (is_type_tag version tag) (Some (type_tagged tag)) None }
 {

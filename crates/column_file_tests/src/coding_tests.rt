@@ -1,6 +1,6 @@
 //! Stores whose vector is in another coding: it shows in their own offers, and in no file.
 use crate::file_tests::{Change, IN_DELTAS, IN_DICTIONARY, SAME, tells};
-use crate::filling_tests::{NAME, new_store, row_of};
+use crate::filling_tests::{NAME, new_store, seven};
 use replica_store::Store;
 use segment_core::Coding;
 use std::alloc::Global;
@@ -9,9 +9,7 @@ use table_model::{Origin, Refusal};
 
 /// Appends the one row 7.
 fn append(alloc: Global, store: &mut Store) -> Result<(), Refusal> {
-    let mut rows = Vec::with_capacity(alloc, 1)?;
-    rows.push(row_of(alloc, Some(7))?)?;
-    let _ = store.append(alloc, rows.as_slice())?;
+    let _ = store.append(alloc, &seven(alloc)?)?;
     Ok(())
 }
 
@@ -29,7 +27,8 @@ fn have_one_row(
 /// Merges both ways.
 fn exchange(alloc: Global, first: &mut Store, second: &mut Store) -> Result<(), Refusal> {
     first.merge(alloc, second)?;
-    second.merge(alloc, first)
+    second.merge(alloc, first)?;
+    Ok(())
 }
 
 /// Whether that is so before they merge and after it.

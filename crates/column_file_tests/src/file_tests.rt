@@ -1,13 +1,13 @@
 //! Files and offers in bytes, at bytes and places worked out by hand from the formats.
-use crate::filling_tests::row_of;
+use crate::filling_tests::seven;
 use column_file::{Checked, check, export, open, read_offer, write_offer};
 use replica_store::{Offer, Store, Summary};
 use segment_core::Coding;
 use std::alloc::{AllocError, Global};
 use std::process::Abort;
 use std::test::Fail;
-use table_model::{BatchName, ColType, Counted, Number, Origin, Refusal, Row, Schema, Stop};
-use test_support::agree;
+use table_model::{BatchName, ColType, Counted, Number, Origin, Refusal, Schema};
+use test_support::{Stop, agree};
 
 /// The canonical file of T(A SMALLINT) with the one row 7 in batch 1.1: 42 bytes, of which 13 are the head, 4 say how many batches
 /// there are, 17 are the batch, and 8 say how many ranges there are.
@@ -730,9 +730,7 @@ const ONE_TINY_ROW: &[u8] =
 fn tiny_store(alloc: Global) -> Result<Store, Refusal> {
     let schema = Schema::new(alloc, "T", &[("A", ColType::TinyInt)])?;
     let mut store = Store::new(alloc, &schema, Origin(1))?;
-    let mut rows: Vec<Row> = Vec::with_capacity(alloc, 1)?;
-    rows.push(row_of(alloc, Some(7))?)?;
-    let _ = store.append(alloc, &rows)?;
+    let _ = store.append(alloc, &seven(alloc)?)?;
     Ok(store)
 }
 

@@ -4,7 +4,7 @@ use replica_store::{Offer, Store};
 use segment_core::Coding;
 use std::alloc::{AllocError, Global};
 use std::test::Fail;
-use table_model::{BatchName, ColType, Number, Origin, Refusal, Row, RowName, Schema};
+use table_model::{BatchName, ColType, Number, Origin, Refusal, RowName, Rows, Schema};
 
 /// The batch that all of them hold.
 pub(crate) const NAME: BatchName = BatchName {
@@ -44,16 +44,18 @@ pub(crate) fn new_store(alloc: Global, own: Origin) -> Result<Store, Refusal> {
     Store::new(alloc, &schema, own)
 }
 
-/// A row of one cell.
-pub(crate) fn row_of(alloc: Global, cell: Option<i128>) -> Result<Row, AllocError> {
-    Ok(Row::from_cells(Vec::from_slice(alloc, &[cell])?))
+/// The one row 7.
+pub(crate) fn seven(alloc: Global) -> Result<Rows, AllocError> {
+    let mut rows = Rows::new(alloc);
+    rows.push_row(&[Some(7)])?;
+    Ok(rows)
 }
 
 /// The rows 7, NULL and 7.
-fn three_rows(alloc: Global) -> Result<Vec<Row>, AllocError> {
-    let mut rows = Vec::with_capacity(alloc, 3)?;
+fn three_rows(alloc: Global) -> Result<Rows, AllocError> {
+    let mut rows = Rows::new(alloc);
     for &cell in &[Some(7), None, Some(7)] {
-        rows.push(row_of(alloc, cell)?)?;
+        rows.push_row(&[cell])?;
     }
     Ok(rows)
 }
@@ -64,7 +66,8 @@ fn delete(alloc: Global, store: &mut Store, ordinal: u16) -> Result<(), Refusal>
         batch: NAME,
         ordinal,
     };
-    store.delete(alloc, row, ordinal)
+    let _ = store.delete(alloc, row, ordinal)?;
+    Ok(())
 }
 
 /// Appends those rows.
@@ -184,7 +187,8 @@ fn exchange(alloc: Global, first: &mut Store, second: &mut Store) -> Result<(), 
     second.merge(alloc, first)?;
     second.recode(alloc, NAME, 0, 0, Coding::Dict)?;
     first.merge(alloc, second)?;
-    second.merge(alloc, first)
+    second.merge(alloc, first)?;
+    Ok(())
 }
 
 /// Whether both have the one file after that, while each keeps its coding and offers it.

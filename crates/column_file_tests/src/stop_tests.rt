@@ -4,8 +4,8 @@ use crate::tests::TWO_NAMES;
 use column_file::{check, export, open, read_offer, read_summary, write_offer, write_summary};
 use std::alloc::Global;
 use std::test::Fail;
-use table_model::{Counted, Origin, Refusal, Stop};
-use test_support::{agree, agree_at};
+use table_model::{Counted, Origin, Refusal};
+use test_support::{Stop, agree, agree_at};
 
 /// The calls that read.
 #[derive(Clone, Copy)]

@@ -1,5 +1,5 @@
 //! Summaries in bytes, at bytes and places worked out by hand from the format.
-use crate::filling_tests::{new_store, row_of};
+use crate::filling_tests::{new_store, seven};
 use column_file::{read_summary, read_summary_bytes, write_summary};
 use replica_store::{Store, Summary};
 use std::alloc::{AllocError, Global};
@@ -97,13 +97,11 @@ fn the_first_fault_of_a_summary_is_answered_at_its_place(rt: HostRuntime) -> Res
 
 /// Puts the one row 7 under the name of origin 1 with this number.
 fn insert(alloc: Global, store: &mut Store, number: u32) -> Result<(), Refusal> {
-    let mut rows = Vec::with_capacity(alloc, 1)?;
-    rows.push(row_of(alloc, Some(7))?)?;
     let name = BatchName {
         origin: Origin(1),
         number: Number(number),
     };
-    let _ = store.insert(alloc, name, rows.as_slice())?;
+    let _ = store.insert(alloc, name, &seven(alloc)?)?;
     Ok(())
 }
 

@@ -9,11 +9,11 @@ use Rattle.command_line.specs.declared.fault.Fault.TheVariants.{CommandLine, Ref
 use Rattle.refusal_sentences.specs.declared.command_refusal.CommandRefusal.TheVariants.{Named}
 use Rattle.table_model.specs.declared.refusal.Refusal.TheVariants.{Memory}
 
--- memory that lacked
+-- memory ran out
 abbrev pub refused_memory : Fault
 refused_memory = Refused (Named Memory)
 
--- memory that lacked is a refusal; all else is the command line's
+-- memory ran out is a refusal; all else is the command line's
 abbrev pub fault_of_kind : ErrorKind → Error → Fault
 fault_of_kind kinds.OutOfMemory error = refused_memory
 fault_of_kind kind error = CommandLine error
@@ -37,7 +37,7 @@ status_of (Refused refusal) = 1
 abbrev pub EndsWith : Fault → ℕ → Type 0
 EndsWith fault status = (status ≡ status_of fault) ⊎ ((status ≡ 1) × (status_of fault ≡ 0))
 
--- a command line that can't be read: memory lacks, or it has a fault other than that
+-- a command line that can't be read: memory runs out, or it has a fault other than that
 abbrev pub IsUnread : Fault → Type 0
 IsUnread (CommandLine error) = kind_of error ≢ kinds.OutOfMemory
 IsUnread (Refused refusal) = refusal ≡ Named Memory

@@ -11,21 +11,29 @@ use std::alloc::{AllocError, Global};
 use table_model::{BatchName, RowName};
 
 /// The program's version.
-const VERSION: &str = "0.3.0";
+const VERSION: &str = "0.4.0";
 
 /// What is shown below the help of the program and that of `lanes run`.
 const SCRIPT_HELP: &str =
     "A script has lines such as these, and each has a reply:\n  table 2 T A SMALLINT\n  append 1 (7),(NULL)\n  query 1 SELECT COUNT(*) FROM T\nAll lines and replies are in docs/FORMATS.md, and examples/ has scripts to run.";
 
+/// What is shown below the help of `lanes create`.
+const CREATE_HELP: &str =
+    "A name that ends in / makes a folder: what a service on one machine uses. FILE is what is sent and kept.";
+
 /// What is shown below the help of `lanes merge`.
 const MERGE_HELP: &str =
-    "OUT is replaced as a whole, and stays as it was if the merge is refused. If OUT is not a regular file it is written in place.";
+    "OUT is replaced as a whole, and stays as it was if the merge is refused. If OUT is not a regular file it is written in place.\nA name OUT/ makes a new folder. An IN may be a folder: its parts are merged.";
+
+/// What is shown below the help of `lanes pack`.
+const PACK_HELP: &str =
+    "Each change of a folder adds a part. Run this each hour, as by cron, so that there are few: small parts are joined into one, and are\nthen removed. What the folder holds stays the same, and other commands may run meanwhile.";
 
 /// What is shown below the help of `lanes import`.
 const IMPORT_HELP: &str =
     "Rows become batches of 65,536. Their names are drawn at random, or begin at O.N: a load that arrives twice under one name is\nheld once. Of several CSVs all are imported or none, one after another, under names that count on.";
 
-/// What stands below the help of `lanes forget`.
+/// What comes below the help of `lanes forget`.
 const FORGET_HELP: &str =
     "Pull from the other sites first. Deletions stay, and a batch's name stays used up for ever: docs/COMMANDS.md says when to forget.";
 
@@ -46,10 +54,11 @@ enum Verb {
     Apply,
     Check,
     Merge,
+    Pack,
 }
 
 /// All commands, in the order of the help.
-const VERBS: [Verb; 14] = [
+const VERBS: [Verb; 15] = [
     Verb::Create,
     Verb::Import,
     Verb::Query,
@@ -63,6 +72,7 @@ const VERBS: [Verb; 14] = [
     Verb::Apply,
     Verb::Check,
     Verb::Merge,
+    Verb::Pack,
     Verb::Run,
 ];
 
@@ -138,6 +148,7 @@ impl Verb {
             Verb::Apply => "apply",
             Verb::Check => "check",
             Verb::Merge => "merge",
+            Verb::Pack => "pack",
         }
     }
 
@@ -171,10 +182,11 @@ impl Verb {
             Verb::Apply => apply_command(alloc, command),
             Verb::Check => check_command(alloc, command),
             Verb::Merge => merge_command(alloc, command),
+            Verb::Pack => pack_command(alloc, command),
         }
     }
 
-    /// What the command's arguments ask for; otherwise memory lacks, or one of them has a fault.
+    /// What the command's arguments ask for; otherwise memory runs out, or one of them has a fault.
     fn request<'a>(self, alloc: Global, given: &ArgMatches<'a>) -> Result<Request<'a>, Fault>
         ensures { IfErr result IsUnread }
     {
@@ -212,6 +224,11 @@ impl Verb {
             Verb::Merge => Ok(Request::Merge {
                 out: text_of(given, "OUT"),
                 files: texts_of(alloc, given, "IN")?,
+                is_quiet: given.get_flag("quiet"),
+            }),
+            Verb::Pack => Ok(Request::Pack {
+                folder: text_of(given, "FOLDER"),
+                is_all: given.get_flag("all"),
                 is_quiet: given.get_flag("quiet"),
             }),
         }
@@ -414,14 +431,14 @@ fn word<'a>(alloc: Global, name: &'a str, help: &'a str) -> Arg<'a> {
         .allow_hyphen_values(true)
 }
 
-/// The first word of a command on a file. All that follows is taken as it is: options stand before it.
+/// The first word of a command on a file. All that follows is taken as it is: options come before it.
 fn first_word<'a>(alloc: Global, name: &'a str, help: &'a str) -> Arg<'a> {
     word(alloc, name, help).trailing_var_arg(true)
 }
 
 /// The file that a command reads or changes.
 fn file<'a>(alloc: Global) -> Arg<'a> {
-    first_word(alloc, "FILE", "The file")
+    first_word(alloc, "FILE", "The file, or the folder of parts")
 }
 
 /// An option that is there or not.
@@ -460,9 +477,14 @@ fn create_command<'a>(alloc: Global, command: Command<'a>) -> Result<Command<'a>
         "The columns' names and types: TINYINT, SMALLINT, INTEGER or BIGINT",
     );
     command
-        .about("Creates the file of an empty table")
+        .about("Creates the file of an empty table, or a folder of parts")
+        .after_help(CREATE_HELP)
         .arg(quiet(alloc))?
-        .arg(first_word(alloc, "FILE", "The file that is created"))?
+        .arg(first_word(
+            alloc,
+            "FILE",
+            "The file that is created, or the folder if the name ends in /",
+        ))?
         .arg(word(alloc, "TABLE", "The table's name"))?
         .arg(columns.value_name("COL TYPE").num_args(1..))
 }
@@ -511,7 +533,7 @@ fn forget_command<'a>(alloc: Global, command: Command<'a>) -> Result<Command<'a>
         .about("Drops the batches of which every row is deleted; no answer changes")
         .after_help(FORGET_HELP)
         .arg(quiet(alloc))?
-        .arg(file(alloc))
+        .arg(first_word(alloc, "FILE", "The file"))
 }
 
 fn query_command<'a>(alloc: Global, command: Command<'a>) -> Result<Command<'a>, AllocError> {
@@ -601,4 +623,13 @@ fn merge_command<'a>(alloc: Global, command: Command<'a>) -> Result<Command<'a>,
         .arg(quiet(alloc))?
         .arg(first_word(alloc, "OUT", "The file that is written"))?
         .arg(word(alloc, "IN", "The files that are merged, in this order").num_args(1..))
+}
+
+fn pack_command<'a>(alloc: Global, command: Command<'a>) -> Result<Command<'a>, AllocError> {
+    command
+        .about("Joins small parts of a folder into one, so that there are few")
+        .after_help(PACK_HELP)
+        .arg(flag(alloc, "all", "Join all parts into one"))?
+        .arg(quiet(alloc))?
+        .arg(first_word(alloc, "FOLDER", "The folder of parts"))
 }

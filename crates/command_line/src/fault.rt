@@ -75,6 +75,19 @@ fn to_a_terminal(alloc: Global) -> Result<clap::Error, AllocError> {
     )
 }
 
+/// The fault of a command line that names a folder where the command takes none, and what to do instead.
+pub fn not_for_a_folder(alloc: Global, advice: &str) -> Fault {
+    match of_a_folder(alloc, advice) {
+        Ok(fault) => Fault::from(fault),
+        Err(lacking) => Fault::from(lacking),
+    }
+}
+
+/// The same, where memory is to be had.
+fn of_a_folder(alloc: Global, advice: &str) -> Result<clap::Error, AllocError> {
+    commands(alloc)?.error(ErrorKind::InvalidValue, advice)
+}
+
 impl Fault {
     /// Prints the fault on standard error, and help on standard output, and answers the status: 2 for a fault of the command
     /// line, 1 for a refusal, 0 for help. Help that can't be written is refused as `WriteFault`.

@@ -7,7 +7,8 @@ mod program_arguments;
 mod requests;
 mod words;
 
+pub use answer_formats::{Format, ReportForm};
 pub use commands::read_request;
-pub use fault::{Fault, not_for_a_terminal};
+pub use fault::{Fault, not_for_a_folder, not_for_a_terminal};
 pub use program_arguments::arguments;
-pub use requests::{Format, Queries, ReportForm, Request, Source};
+pub use requests::{Queries, Request, Source};

@@ -12,7 +12,7 @@ use std::io::{self, ErrorKind};
 use std::rt::Env;
 use table_model::Refusal;
 
-/// The program's arguments; otherwise memory lacks for them, or one of them isn't UTF-8.
+/// The program's arguments; otherwise memory runs out for them, or one of them isn't UTF-8.
 pub fn arguments<R: Env + AllocGlobal>(rt: &R) -> Result<Vec<String>, Fault>
     ensures { IfErr result IsUnread }
 {
@@ -27,7 +27,7 @@ pub fn arguments<R: Env + AllocGlobal>(rt: &R) -> Result<Vec<String>, Fault>
     Ok(words)
 }
 
-/// Why the arguments aren't there: memory lacks for them, or one of them isn't UTF-8.
+/// Why the arguments aren't there: memory runs out for them, or one of them isn't UTF-8.
 fn unread(alloc: Global, failure: &io::Error) -> Fault
     ensures told { IsUnread result }
     ensures memory { error_kind failure.now ≡ ErrorKind.OutOfMemory → result ≡ refused_memory }

@@ -1,5 +1,6 @@
 //! What a command line can ask for.
 
+use answer_formats::{Format, ReportForm};
 use table_model::{BatchName, ColType, RowName};
 
 /// Where an input is read from.
@@ -22,28 +23,6 @@ impl<'a> Source<'a> {
     }
 }
 
-/// The form in which answers are written.
-#[derive(Clone, Copy, Debug, PartialEq, Eq)]
-pub enum Format {
-    /// Comma-separated values with `NULL` for a null.
-    Text,
-    /// Comma-separated values with an empty field for a null.
-    Csv,
-    /// An object a row.
-    Json,
-    /// Columns in line.
-    Table,
-}
-
-/// The form of a report.
-#[derive(Clone, Copy, Debug, PartialEq, Eq)]
-pub enum ReportForm {
-    /// Lines for a person.
-    Text,
-    /// Objects.
-    Json,
-}
-
 /// Where queries are.
 #[derive(Debug, Drop)]
 pub enum Queries<'a> {
@@ -63,9 +42,10 @@ pub enum Request<'a> {
         /// Whether standard error says why each refused line is refused.
         is_explained: bool,
     },
-    /// `lanes create [--quiet] FILE TABLE COL TYPE [COL TYPE]..`: the canonical file of an empty table.
+    /// `lanes create [--quiet] FILE TABLE COL TYPE [COL TYPE]..`: the canonical file of an empty table, or a folder that has it as its
+    /// one part.
     Create {
-        /// The name of the file that is made.
+        /// The name of the file that is made, or of the folder if it ends in `/`.
         file: &'a str,
         /// The table's name.
         table: &'a str,
@@ -127,7 +107,7 @@ pub enum Request<'a> {
     Dump {
         /// The file's name.
         file: &'a str,
-        /// Whether each row's name stands before its values.
+        /// Whether each row's name comes before its values.
         has_names: bool,
     },
     /// `lanes inspect [--batches] [--format FORMAT] FILE`: what a file holds and how it is coded, or a list of its batches.
@@ -160,14 +140,23 @@ pub enum Request<'a> {
         /// Whether nothing is printed if all is well.
         is_quiet: bool,
     },
-    /// `lanes check FILE`: whether a file is a canonical one, and how much stands in it.
+    /// `lanes check FILE`: whether a file is a canonical one, and how much it holds.
     Check {
         /// The file's name.
         file: &'a str,
     },
+    /// `lanes pack [--all] [--quiet] FOLDER`: some parts of a folder, or all, joined into one.
+    Pack {
+        /// The folder's name.
+        folder: &'a str,
+        /// Whether all parts are joined.
+        is_all: bool,
+        /// Whether nothing is printed if all is well.
+        is_quiet: bool,
+    },
     /// `lanes merge [--quiet] OUT IN..`: the canonical file of what all of some files hold.
     Merge {
-        /// The name of the file that is written.
+        /// The name of the file that is written, or of the folder that is made if it ends in `/`.
         out: &'a str,
         /// The names of the files that are merged, at least one.
         files: Vec<&'a str>,

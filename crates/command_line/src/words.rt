@@ -1,6 +1,7 @@
 //! Words of a command line that are more than texts: names of batches, ordinals, columns with their types, forms of answers.
 
-use crate::requests::{Format, ReportForm, Source};
+use crate::requests::Source;
+use answer_formats::{Format, ReportForm};
 use std::alloc::{AllocError, Global};
 use table_model::{BatchName, ColType, Number, Origin};
 

@@ -24,7 +24,7 @@ fn asked(alloc: Global, words: &[&str]) -> Result<String, AllocError> {
     }
 }
 
-const REQUESTS: [(&[&str], &str); 45] = [
+const REQUESTS: [(&[&str], &str); 48] = [
     (&["run"], "Run { source: Input, is_explained: false }"),
     (&["run", "-"], "Run { source: Input, is_explained: false }"),
     (
@@ -127,6 +127,15 @@ const REQUESTS: [(&[&str], &str); 45] = [
     (&["delete-rows", "f", "1.2", "0", "000001"], "fault"),
     (&["forget", "f"], "Forget { file: \"f\", is_quiet: false }"),
     (
+        &["pack", "d"],
+        "Pack { folder: \"d\", is_all: false, is_quiet: false }",
+    ),
+    (
+        &["pack", "--all", "--quiet", "d/"],
+        "Pack { folder: \"d/\", is_all: true, is_quiet: true }",
+    ),
+    (&["pack", "d", "--all"], "fault"),
+    (
         &["dump", "--names", "f"],
         "Dump { file: \"f\", has_names: true }",
     ),
@@ -160,9 +169,11 @@ fn no_word_of_a_command_line_is_dropped_or_taken_for_another(rt: HostRuntime) ->
 }
 
 /// Command lines that lack a word, have one too many, or one that is malformed.
-const FAULTS: [&[&str]; 25] = [
+const FAULTS: [&[&str]; 27] = [
     &["forget"],
     &["forget", "f", "f"],
+    &["pack"],
+    &["pack", "d", "d"],
     &["apply", "f", "-", "-"],
     &["apply", "f"],
     &["offer", "f"],

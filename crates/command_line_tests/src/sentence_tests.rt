@@ -205,6 +205,21 @@ fn a_sentence_names_its_input_and_what_is_known_beside(rt: HostRuntime) -> Resul
             "t: another command has had the file for ten seconds",
         ),
         (
+            CommandRefusal::Damaged,
+            "d/p.lanes",
+            Knowledge::Nothing,
+            "d/p.lanes: its bytes are not those of its name: copy it again, or remove it",
+        ),
+        (
+            CommandRefusal::from(Refusal::Conflict(BatchName {
+                origin: Origin(7),
+                number: Number(1),
+            })),
+            "d/p.lanes",
+            Knowledge::Other("d/o.lanes"),
+            "d/p.lanes: this and d/o.lanes have a batch 7.1, with different rows",
+        ),
+        (
             read,
             "site.lanes",
             Knowledge::Reason(ErrorKind::NotFound),

@@ -19,13 +19,14 @@ use Rattle.table_model.specs.declared.schema.ColType.{ColType}
 use Rattle.table_model.specs.declared.schema.ColType.TheVariants.{TinyInt, SmallInt, Integer, BigInt}
 use Rattle.table_model.proofs.SameTable.{itself_text}
 use Rattle.csv_rows.specs.Line.{line_limit, pieces, onto_first, without, before_last, text_or, lines_between, lines_of, unmarked}
-use Rattle.csv_rows.specs.Field.{fields_of, unquoted, is_numeral, magnitude_of, is_null_word, integer_of, signed_of, value_of, cell_of, fitting, cell_in, value_digits}
+use Rattle.table_model.specs.Numeral.{is_numeral, magnitude_of, value_digits}
+use Rattle.csv_rows.specs.Field.{fields_of, unquoted, is_null_word, integer_of, signed_of, value_of, cell_of, fitting, cell_in}
 use Rattle.csv_rows.specs.CsvText.{◌>>=◌, in_line, place_named, new_place, order_from, has_each, header_order, cell_at, or_at, filled, null_row, row_of, is_passed, line_rows, before_rows, rows_from, header_rows}
 use Rattle.csv_rows.specs.Written.{cell_text, column_name, row_line, csv_text, WrittenRowsAreRead}
 use Rattle.csv_rows.specs.declared.error.CsvError.{CsvError}
 use Rattle.csv_rows.specs.declared.error.CsvError.TheVariants.{BadCsv, LineTooLong}
 use Rattle.table_model.proofs.Passed.{true_from_T, both_of}
-use Rattle.csv_rows.proofs.Numerals.{digit_is}
+use Rattle.table_model.proofs.DigitFacts.{digit_is}
 use Rattle.csv_rows.proofs.Pieces.{first_piece}
 use Rattle.csv_rows.proofs.Ranges.{range_more}
 use Rattle.csv_rows.proofs.RowFacts.{first_rows}

@@ -4,8 +4,7 @@ pub mod Dumps
 mod KnownFacts
 mod LineFacts
 mod Marks
-mod Numerals
-mod Pieces
+pub mod Pieces
 mod Ranges
 pub mod RowFacts
 mod RowTexts

@@ -14,7 +14,7 @@ abbrev pub ◌>>=◌ : {X Y E : Type 0} → Result X E → (X → Result Y E) �
 Ok x >>= next = next x
 Err e >>= next = Err e
 
--- a fault in a field of a line, which is told by the field's column
+-- a fault in a field of a line, which is reported by the field's column
 abbrev pub in_line : {X : Type 0} → ℕ → Result X ℕ → Result X CsvError
 in_line line (Ok x) = Ok x
 in_line line (Err column) = Err (BadCsv line column)
@@ -88,7 +88,7 @@ abbrev pub rows_from : List ColumnShape → List ℕ → ℕ → List (List ℕ)
 rows_from columns order number [] = Ok []
 rows_from columns order number (line ∷ lines) = line_rows columns order number line >>= (λ rows. before_rows rows (rows_from columns order (suc number) lines))
 
--- the order in which columns stand in the schema
+-- the order of columns in the schema
 abbrev pub own_order : List ColumnShape → List ℕ
 own_order columns = range_with_len 0 (length columns)
 

@@ -1,9 +1,7 @@
 -- The fields of a line, and the null, the whole number or the name that a field is.
-use Rattle.std.specs.Prelude.{ℕ, suc, Bool, cond, ◌&&◌, ◌||◌, nat_le, List, [], ◌∷◌, length, codes, Option, Some, None, option_map, option_and_then, ℤ, pos, neg_ℤ}
-use Rattle.std.specs.List.{list_all}
-use Rattle.std.specs.Char.{is_ascii_digit}
-use Rattle.std.specs.Str.Parse.{digits_value}
+use Rattle.std.specs.Prelude.{ℕ, suc, Bool, cond, ◌||◌, List, [], ◌∷◌, length, codes, Option, Some, None, option_map, option_and_then, ℤ, pos, neg_ℤ}
 use Rattle.table_model.specs.Identifier.{same_text}
+use Rattle.table_model.specs.Numeral.{magnitude_of}
 use Rattle.table_model.specs.Table.{ColumnShape, fits}
 use Rattle.csv_rows.specs.Line.{pieces, without, before_last, text_or}
 
@@ -21,25 +19,13 @@ abbrev pub left_len : Option (List ℕ) → ℕ
 left_len None = 0
 left_len (Some rest) = suc (length rest)
 
--- how many digits a value is written with at most, its sign apart
-abbrev pub value_digits : ℕ
-value_digits = 30
-
--- what stands in double quotes, where a text stands in them
+-- what is in double quotes, where a text is in them
 abbrev pub quoted : List ℕ → Option (List ℕ)
 quoted text = option_and_then (before_last 34) (without 34 text)
 
--- a text without the double quotes that it stands in, if it stands in them
+-- a text without the double quotes that it is in, if it is in them
 abbrev pub unquoted : List ℕ → List ℕ
 unquoted text = text_or (quoted text) text
-
--- 1 to value_digits digits
-unfoldable pub is_numeral : List ℕ → Bool
-is_numeral text = nat_le 1 (length text) && (nat_le (length text) value_digits && list_all is_ascii_digit text)
-
--- the number that 1 to value_digits digits write
-unfoldable pub magnitude_of : List ℕ → Option ℕ
-magnitude_of text = cond (is_numeral text) (Some (digits_value 10 text)) None
 
 -- a number whose sign, if it has one, was taken off
 abbrev pub signed_of : List ℕ → Option (List ℕ) → Option ℤ
@@ -58,7 +44,7 @@ is_null_word text = same_text text (codes "NULL") || same_text text (92 ∷ 78 �
 abbrev pub value_of : List ℕ → Option (Option ℤ)
 value_of text = cond (is_null_word text) (Some None) (option_map Some (integer_of text))
 
--- what a field is: nothing at all is a null; else a value, which may stand in double quotes
+-- what a field is: nothing at all is a null; else a value, which may be in double quotes
 abbrev pub cell_of : List ℕ → Option (Option ℤ)
 cell_of [] = Some None
 cell_of (c ∷ cs) = value_of (unquoted (c ∷ cs))

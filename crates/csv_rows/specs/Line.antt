@@ -20,7 +20,7 @@ abbrev pub without : ℕ → List ℕ → Option (List ℕ)
 without byte [] = None
 without byte (c ∷ cs) = cond (c == byte) (Some cs) None
 
--- what stands before such a byte that a text ends with
+-- what comes before such a byte that a text ends with
 abbrev pub before_last : ℕ → List ℕ → Option (List ℕ)
 before_last byte [] = None
 before_last byte (c ∷ []) = cond (c == byte) (Some []) None

@@ -26,7 +26,7 @@ abbrev pub FirstTooLong : List (List ℕ) → Type 0
 FirstTooLong [] = ⊥
 FirstTooLong (line ∷ lines) = line_limit < length line
 
--- what was taken of some bytes onto a part of a line, whatever follows: the line's end, all of them, or so many that the line is too long
+-- what was taken of some bytes onto a part of a line, whatever follows: the line's end, all of them, or enough that the line is too long
 abbrev pub Takes : Taken → List ℕ → List ℕ → List ℕ → Type 0
 Takes (taken.Line count) part bytes line =
     (0 < count) × (count ≤ length bytes) × (length line ≤ line_limit) × ((more : List ℕ) → lines_after part (bytes ++ more) ≡ line ∷ lines_of (drop count bytes ++ more))
@@ -45,7 +45,7 @@ Ends found.Line old new = (new.line ≡ old.line) × (0 < length old.line) × (l
 Ends found.End old new = (length old.line ≡ 0) × (new.number ≡ old.number)
 Ends found.TooLong old new = (line_limit < length old.line) × (new.number ≡ old.number)
 
--- so many bytes came behind those that weren't taken yet
+-- a number of bytes came behind those that weren't taken yet
 abbrev pub Grows : ℕ → List ℕ → List ℕ → Option (List ℕ) → Option (List ℕ) → Type 0
 Grows count pending pending' before after = (chunk : List ℕ) × (length chunk ≡ count) × (pending' ≡ pending ++ chunk) × Consumes before after chunk
 

@@ -47,7 +47,7 @@ named_row_line name cells = row_name_text name ++ row_line cells
 abbrev pub csv_text : List ColumnShape → Batch → List ℕ
 csv_text columns rows = header_line columns ++ flat_map row_line rows
 
--- A call that writes a text: all of it was written; or memory lacked and nothing was; or a write failed, and a front of the text was
+-- A call that writes a text: all of it was written; or memory ran out and nothing was; or a write failed, and a front of the text was
 -- written. The count of failures rose in this last case alone.
 abbrev pub WritesText : Result (Unit {0}) Refusal → Option (List ℕ) → Option (List ℕ) → ℕ → ℕ → List ℕ → Type 0
 WritesText (Ok done) old new before after text = Appends old new text × (after ≡ before)

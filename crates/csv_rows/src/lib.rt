@@ -13,5 +13,6 @@ mod writer;
 
 pub use error::CsvError;
 pub use laws::written_rows_are_read;
+pub use lines::LINE_LIMIT;
 pub use reader::CsvReader;
 pub use writer::CsvWriter;

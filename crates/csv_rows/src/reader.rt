@@ -13,11 +13,10 @@ use crate::error::CsvError;
 use crate::lines::{Found, Lines};
 use crate::order::Order;
 use crate::row::push_row;
-use row_batch::RowBatch;
 use std::alloc::{AllocError, Global};
 use std::io::Read;
 use std::marker::Model;
-use table_model::{Column, Counted, READ_LIMIT, Refusal, Schema};
+use table_model::{Column, Counted, READ_LIMIT, Refusal, Rows, Schema};
 
 /// How many rows a batch has at most.
 const BATCH_ROWS: usize = 65_536;
@@ -72,7 +71,7 @@ impl CsvReader {
         &mut self,
         alloc: Global,
         reader: &mut Counted<R>,
-    ) -> Result<RowBatch, CsvError>
+    ) -> Result<Rows, CsvError>
         ensures rows { IfOk result (λ rows. Gave self.old self.new rows (R.remaining reader.old.0) (R.remaining reader.new.0)) }
         ensures fits { IfOk result (λ rows. AreRows self.old.table.columns rows) }
         ensures limit { IfOk result (λ rows. length rows ≤ row_limit) }
@@ -150,11 +149,7 @@ impl CsvReader {
     }
 
     /// Reads the next rows, once the order of the columns is known.
-    fn rows<R: Read>(
-        &mut self,
-        alloc: Global,
-        reader: &mut Counted<R>,
-    ) -> Result<RowBatch, CsvError>
+    fn rows<R: Read>(&mut self, alloc: Global, reader: &mut Counted<R>) -> Result<Rows, CsvError>
         requires begun { IsSome self.old.order }
         requires within { self.old.given ≤ read_limit }
         ensures rows { IfOk result (λ rows. Gave self.old self.new rows (R.remaining reader.old.0) (R.remaining reader.new.0)) }
@@ -171,7 +166,7 @@ impl CsvReader {
         ensures counts { IfErr result (λ e. Counts (read_limit < self.new.given) e reader.old.1 reader.new.1) }
     {
         let Some(order) = &self.order else {
-            return Ok(RowBatch::new(alloc));
+            return Ok(Rows::new(alloc));
         };
         let columns = self.schema.column_list();
         read_rows(alloc, columns, order.places(), &mut self.lines, reader)
@@ -209,7 +204,7 @@ fn read_line<R: Read>(
     lines: &mut Lines,
     reader: &mut Counted<R>,
     cells: &mut Vec<Option<i128>>,
-    rows: &mut RowBatch,
+    rows: &mut Rows,
 ) -> Result<bool, CsvError>
     requires { lines.old.given ≤ read_limit }
     ensures rows { OnOk result (ReadsOn columns.now order.now lines.old lines.new rows.old rows.new (R.remaining reader.old.0) (R.remaining reader.new.0)) }
@@ -243,7 +238,7 @@ fn read_rows<R: Read>(
     order: &[usize],
     lines: &mut Lines,
     reader: &mut Counted<R>,
-) -> Result<RowBatch, CsvError>
+) -> Result<Rows, CsvError>
     requires { lines.old.given ≤ read_limit }
     ensures rows { IfOk result (λ rows. ReadsOn columns.now order.now lines.old lines.new [] rows (R.remaining reader.old.0) (R.remaining reader.new.0)) }
     ensures fits { IfOk result (λ rows. AreRows columns.now rows) }
@@ -257,7 +252,7 @@ fn read_rows<R: Read>(
     ensures kept { OnOk result (reader.new.1 ≡ reader.old.1) }
     ensures counts { IfErr result (λ e. Counts (read_limit < lines.new.given) e reader.old.1 reader.new.1) }
 {
-    let mut rows = RowBatch::new(alloc);
+    let mut rows = Rows::new(alloc);
     let mut cells = Vec::new(alloc);
     for _turn in 0..TURNS {
         if !read_line(columns, order, lines, reader, &mut cells, &mut rows)? {

@@ -8,8 +8,7 @@ ghost use Rattle.csv_rows.specs.Outcome.{ReadsCsv, ReadsBehind};
 use crate::bytes::{count_fields, first_field};
 use crate::error::CsvError;
 use crate::field::cell_in;
-use row_batch::RowBatch;
-use table_model::Column;
+use table_model::{Column, Rows};
 
 /// The cell that a field is below the column of this place, if it is one.
 fn cell_at(columns: &[Column], place: usize, field: &[u8]) -> Option<Option<i128>>
@@ -97,7 +96,7 @@ pub fn push_row(
     number: u64,
     line: &[u8],
     cells: &mut Vec<Option<i128>>,
-    rows: &mut RowBatch,
+    rows: &mut Rows,
 ) -> Result<(), CsvError>
     requires { length line.now ≤ line_limit }
     ensures rows { ReadsBehind rows.old result rows.new (line_rows columns.now order.now number line.now) }

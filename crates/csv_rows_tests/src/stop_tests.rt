@@ -6,8 +6,8 @@ use crate::tests::three;
 use csv_rows::{CsvError, CsvReader, CsvWriter};
 use std::io::{self, Read};
 use std::test::Fail;
-use table_model::{Counted, Refusal, Stop};
-use test_support::{agree, agree_at};
+use table_model::{Counted, Refusal};
+use test_support::{Stop, agree, agree_at};
 
 /// A reader that gives a byte at a time.
 #[derive(Drop)]

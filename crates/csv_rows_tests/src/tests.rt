@@ -1,9 +1,8 @@
 //! Texts, and the rows or the first fault that they have, by the grammar and by hand.
 use csv_rows::{CsvError, CsvReader, CsvWriter};
-use row_batch::RowBatch;
 use std::alloc::Global;
 use std::test::Fail;
-use table_model::{BatchName, ColType, Counted, Number, Origin, Refusal, RowName, Schema};
+use table_model::{BatchName, ColType, Counted, Number, Origin, Refusal, RowName, Rows, Schema};
 use test_support::{agree, agree_at};
 
 /// A text that is read, and what is read of it: a line for each row, its cells joined by commas, or the fault.
@@ -25,7 +24,7 @@ pub fn one(alloc: Global) -> Result<Schema, Refusal> {
 }
 
 /// The text of rows, without a header.
-fn lines(alloc: Global, rows: &RowBatch) -> Result<String, Fail> {
+fn lines(alloc: Global, rows: &Rows) -> Result<String, Fail> {
     let mut writer = Counted::new(Vec::new(alloc));
     let mut csv = CsvWriter::new(alloc);
     for ordinal in 0..rows.len() {

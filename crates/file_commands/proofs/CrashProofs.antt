@@ -5,7 +5,7 @@ use Rattle.table_model.specs.State.{empty_state}
 use Rattle.table_model.specs.Table.{Table}
 use Rattle.table_model.specs.declared.refusal.Refusal.{Refusal}
 use Rattle.table_model.specs.declared.refusal.Refusal.TheVariants.{WriteFault}
-use Rattle.replica_store.specs.Replica.{Replica}
+use Rattle.replica_store.specs.Replica.{Replica, SaysChange}
 use Rattle.replica_files.specs.Commands.{Made, held_in, file_of, as_held, Changes, Leaves, CreatesOf, Merges, Refuses, merged_files, written_of}
 use Rattle.column_file.specs.Files.{canonical_file}
 use Rattle.column_file.specs.Input.{IsUnread}
@@ -51,10 +51,10 @@ module _ {X Y : Type 0} (view : X → Y) (changed : X → Bool) (command : Repli
       abbrev Changing : Bool → Type 0
       Changing b =
           (old new : Replica) × (input ≡ file_of old) × (held_in input ≡ Ok old) × (command old ≡ Ok (view x, new)) ×
-          Leaves b input (Some []) (Some bytes) (file_of new) × (held_in (file_of new) ≡ Ok (as_held new))
+          Leaves b input (Some []) (Some bytes) (file_of new) × (held_in (file_of new) ≡ Ok (as_held new)) × SaysChange (changed x) old new
 
       replaced : Changing true → OldOrChanged lock name input bytes before after → BeforeOrAfter command lock name before after
-      replaced (old, new, is_file, held_old, made, is_new, held_new) (calls, is, either) = (calls, is, λ laters d e held moment c left. told laters d c (either laters d e held moment c left))
+      replaced (old, new, is_file, held_old, made, is_new, held_new, says) (calls, is, either) = (calls, is, λ laters d e held moment c left. told laters d c (either laters d e held moment c left))
         where
           told : (laters : List (Option (List ℕ))) (d : Disk) (c : Option (List ℕ)) → MayLeave d name c ⊎ ((c ≡ Some bytes) × Reads d name (Some input)) ⊎ Contains laters c
               → MayLeave d name c ⊎ IsFileAfter command name d c ⊎ Contains laters c
@@ -95,7 +95,7 @@ module _ {X Y : Type 0} (view : X → Y) (changed : X → Bool) (command : Repli
 
       pub changes_answered : (how : Option Replaced) → Changes view changed (Ok x) (Some input) (Some []) (Some bytes) command → Finishes how (changed x) lock name bytes mid after
           → HasAnswered view command x how lock name before after
-      changes_answered how (old, new, is_file, held_old, made, is_new, held_new) finished = (
+      changes_answered how (old, new, is_file, held_old, made, is_new, held_new, says) finished = (
         old,
         new,
         subst (λ (b : List ℕ). held_in b ≡ Ok old) is_file held_old,

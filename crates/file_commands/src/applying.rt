@@ -15,8 +15,8 @@ use std::alloc::Global;
 use table_model::{Counted, Refusal};
 
 /// What applying offers answers, and the bytes that it wrote, which are none where nothing changed.
-fn applied(alloc: Global, file: &[u8], offers: &[Offer]) -> Result<(Applied, Vec<u8>), Refusal>
-    ensures { IfOk result (λ made. Changes (λ answer. (answer.batches, answer.ranges, answer.new)) (λ answer. answer.is_changed) (Ok made.0) (Some file.now) (Some []) (Some made.1.items) (applying offers.now)) }
+fn applied(alloc: Global, file: &[u8], offers: Vec<Offer>) -> Result<(Applied, Vec<u8>), Refusal>
+    ensures { IfOk result (λ made. Changes (λ answer. (answer.batches, answer.ranges, answer.new)) (λ answer. answer.is_changed) (Ok made.0) (Some file.now) (Some []) (Some made.1.items) (applying offers.items)) }
 {
     let mut writer = Counted::new(Vec::new(alloc));
     match replica_files::apply(alloc, &mut Counted::new(file), offers, &mut writer) {
@@ -30,10 +30,10 @@ pub fn apply<F: Folder>(
     alloc: Global,
     folder: &mut F,
     place: &Place,
-    offers: &[Offer],
+    offers: Vec<Offer>,
 ) -> Result<Outcome<Applied>, Refusal>
-    ensures any_moment { BeforeOrAfter (applying offers.now) (string_bytes place.now.lock) (string_bytes place.now.name) (F.history folder.old) (F.history folder.new) }
-    ensures answered { IfOk result (λ done. HasAnswered (λ answer. (answer.batches, answer.ranges, answer.new)) (applying offers.now) done.answer done.replaced (string_bytes place.now.lock) (string_bytes place.now.name) (F.history folder.old) (F.history folder.new)) }
+    ensures any_moment { BeforeOrAfter (applying offers.items) (string_bytes place.now.lock) (string_bytes place.now.name) (F.history folder.old) (F.history folder.new) }
+    ensures answered { IfOk result (λ done. HasAnswered (λ answer. (answer.batches, answer.ranges, answer.new)) (applying offers.items) done.answer done.replaced (string_bytes place.now.lock) (string_bytes place.now.name) (F.history folder.old) (F.history folder.new)) }
     ensures refused { IfErr result (λ e. e ≢ WriteFault → StaysOld (string_bytes place.now.lock) (string_bytes place.now.name) (F.history folder.old) (F.history folder.new)) }
 {
     let old = read_file(alloc, folder, place)?;

@@ -70,7 +70,7 @@ pub(crate) fn finish<F: Folder>(
     }
 }
 
-/// What a command that wrote to memory is refused as: a write that failed lacked memory.
+/// What a command that wrote to memory is refused as: a write that failed ran out of memory.
 pub(crate) fn refusal_in_memory(refusal: Refusal) -> Refusal
     ensures { result ≡ in_memory refusal }
 {

@@ -97,7 +97,7 @@ filled d bytes place is_clean =
 abbrev pub opened : Disk → ℕ → Disk
 opened d file = record d { mine = file; place = 0; is_clean = false; is_locked = false }
 
--- the bytes, over those that stand from this place on
+-- the bytes, over those from this place on
 abbrev pub overlaid : List ℕ → ℕ → List ℕ → List ℕ
 overlaid file place bytes = take place file ++ bytes ++ drop (place + length bytes) file
 

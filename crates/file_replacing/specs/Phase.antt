@@ -33,7 +33,7 @@ emptied true Holding = Filled []
 emptied false Holding = Holding
 emptied ok p = Bad
 
--- after a write of these bytes, of which so many were taken
+-- after a write of these bytes, of which a number were taken
 abbrev pub wrote : List ℕ → Option ℕ → Phase → Phase
 wrote bytes (Some n) (Filled c) = Filled (c ++ take n bytes)
 wrote bytes None (Filled c) = Dirty

@@ -1,4 +1,4 @@
--- What a crash at any moment leaves, beside other processes.
+-- What a crash at any moment leaves, while other processes work.
 use Rattle.std.specs.Prelude.{◌≡◌, ◌≢◌, ◌⊎◌, ℕ, true, List, [], ◌∷◌, ◌++◌, Option, Some, None, Contains}
 use Rattle.file_replacing.specs.Event.{Event, Opened, Renamed, Removed, unanswered}
 use Rattle.file_replacing.specs.Disk.{Disk, Names, MayName, MayHold, MayLeave, MayShow, Reads, IsApart, Takes}
@@ -17,7 +17,7 @@ pub record LeavesAlone (lock name : List ℕ) (d e : Disk) : Type 0 where
   pub reads : (c : Option (List ℕ)) → Reads e name c → Reads d name c
   pub apart : IsApart d name d.mine → IsApart e name d.mine
 
--- What each that keeps to the protocol leaves: no file stands, nor stands after a crash, both under the lock's name and under the file's.
+-- What each that keeps to the protocol leaves: no file is, nor is after a crash, both under the lock's name and under the file's.
 pub record IsKept (lock name : List ℕ) (d : Disk) : Type 0 where
   -- the file under the lock's name now is one that no crash leaves under the file's
   pub now : (file : ℕ) → d.names lock ≡ Some file → IsApart d name file

@@ -1,4 +1,4 @@
-//! The names that stand beside a file's.
+//! The names next to a file's.
 ghost use Rattle.std.specs.Prelude.{◌<◌, IfOk, length};
 ghost use Rattle.std.specs.String.{string_bytes};
 
@@ -12,7 +12,7 @@ pub fn folder_of(name: &str) -> &str {
     }
 }
 
-/// The name of a file's lock, which is longer: `.NAME.lanes-lock` beside it.
+/// The name of a file's lock, which is longer: `.NAME.lanes-lock` next to it.
 pub fn lock_of(alloc: Global, name: &str) -> Result<String, AllocError>
     ensures { IfOk result (λ lock. length name.now < length (string_bytes lock)) }
 {

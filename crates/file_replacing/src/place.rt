@@ -16,7 +16,7 @@ pub struct Place {
 }
 
 impl Place {
-    /// The place of the file of this name, whose lock is `.NAME.lanes-lock` beside it.
+    /// The place of the file of this name, whose lock is `.NAME.lanes-lock` next to it.
     pub fn new(alloc: Global, name: String) -> Result<Place, AllocError> {
         let lock = lock_of(alloc, name.as_str())?;
         Ok(Place { name, lock })

@@ -97,7 +97,7 @@ impl Record {
         }
     }
 
-    /// So many of the bytes were written to the open file, or the write failed.
+    /// A number of the bytes were written to the open file, or the write failed.
     pub fn wrote(&mut self, bytes: &[u8], taken: Option<usize>)
         ensures { events_of self.new.noted ≡ Wrote bytes.now taken ∷ events_of self.old.noted }
     {

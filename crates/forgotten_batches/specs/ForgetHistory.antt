@@ -12,7 +12,7 @@ use Rattle.table_model.specs.Operation.{Operation, Insert, Among, AreAgreeing, S
 use Rattle.table_model.specs.declared.names.BatchName.{BatchName}
 use Rattle.forgotten_batches.specs.Forgotten.{has_live_row, forgotten, IsRestOf}
 
--- what a summary lacks of a state: the batches whose names aren't listed, and all deletions
+-- what a summary does not list of a state: the batches whose names aren't listed, and all deletions
 unfoldable pub left_out : set.FinSet name_cmp → State → State
 left_out names s = record { batches = map.retain_keys s.batches (λ name. not (set.contains names name)); deleted = s.deleted }
 

@@ -99,7 +99,7 @@ least_delta t values = record {
 abbrev pub delta_bytes : DeltaForm → ℕ
 delta_bytes form = form.lane_width / 8 + 128 + 128 * form.width
 
--- a form by deltas that stands for 1024 values: its words are of its lane width and have its width, there is a base for each
+-- a form by deltas that represents 1024 values: its words are of its lane width and have its width, there is a base for each
 -- lane, and the numbers are in the range of the lane width
 pub record IsDeltaForm (form : DeltaForm) : Type 0 where
   pub lane_width : IsLaneWidth form.lane_width
@@ -115,7 +115,7 @@ pub record AreSums (form : DeltaForm) (q : ℕ) (sums : List ℕ) : Type 0 where
   pub long : length sums ≡ 16
   pub lanes : (i : ℕ) → i < 16 → int_wrap (integer_width form.lane_width) (pos (slice_index sums i)) ≡ delta_at form (16 * (q / form.lane_width) + i) (q % form.lane_width)
 
--- the sums of a piece wrap to the values of its rows, which stand at one place of each 64
+-- the sums of a piece wrap to the values of its rows, which are at one place of each 64
 abbrev pub SumsGiveTheirRows : Type 0
 SumsGiveTheirRows =
     (form : DeltaForm) (q : ℕ) (sums : List ℕ) → IsLaneWidth form.lane_width → q < 64 → AreSums form q sums → (i : ℕ) → i < 16 → int_wrap (integer_width form.lane_width) (pos (slice_index sums i)) ≡ delta_value form (64 * i + place_of form.lane_width q)

@@ -57,7 +57,7 @@ least_frame t values = record {
 abbrev pub frame_bytes : FrameForm → ℕ
 frame_bytes form = form.lane_width / 8 + 128 * form.width
 
--- a frame that stands for 1024 values: its words are of its lane width and have its width, and the reference is in the range
+-- a frame that represents 1024 values: its words are of its lane width and have its width, and the reference is in the range
 -- of the lane width
 pub record IsFrameForm (form : FrameForm) : Type 0 where
   pub lane_width : IsLaneWidth form.lane_width

@@ -23,7 +23,7 @@ use transpose_order::{place, place_in_word};
 /// A vector of 1024 signed integers of 8, 16, 32 or 64 bits, in each lane a base and the differences of neighbours, each the
 /// least delta plus a packed number, modulo two to the power of the lane width. Coded in the manner of FastLanes (VLDB 2023),
 /// delta coding; the order of rows, the least delta below the packed numbers and the payload are our own. The width of the packed
-/// numbers is told by how many words there are.
+/// numbers is known from how many words there are.
 #[derive(Drop)]
 pub struct Delta {
     least: i64,
@@ -197,7 +197,7 @@ impl Delta {
         ensures { result ≡ record { lane_width = words.lane_width; width = width; least = least; bases = bases.values; words = words } }
     {
         // `lane_width` ensures that the bases are in range and `len` that the words fit their lanes, which a form's rule names; the
-        // width is told by the words.
+        // width is known from the words.
         let _ = (width, bases.lane_width(), words.lane_width(), words.len());
         Delta {
             least,

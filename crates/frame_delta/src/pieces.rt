@@ -61,7 +61,7 @@ fn put_fours(
 }
 
 /// Writes the sixteen lanes of four pieces, each modulo two to the power of `lane_width` and read as signed, to their rows, which
-/// stand at four neighbouring places of each 64, those of part `places`.
+/// are at four neighbouring places of each 64, those of part `places`.
 #[inline(always)]
 pub(crate) fn put_four(
     lane_width: usize,

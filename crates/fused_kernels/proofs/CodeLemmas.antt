@@ -20,10 +20,11 @@ use Rattle.native_lanes.specs.Walks.{Walk, number_of_row, turned as turned_numbe
 use Rattle.native_lanes.proofs.FoldLemmas.{fold_to-zero, fold_to-suc, fold_to-same}
 use Rattle.native_lanes.proofs.WalkLemmas.{number_at-is}
 use Rattle.native_lanes.proofs.WalkFoldLemmas.{none_taken}
-use Rattle.fused_kernels.specs.declared.extremes.Extremum.{Extremum}
-use Rattle.fused_kernels.specs.declared.extremes.Extremum.TheVariants.{Least, Greatest}
-use Rattle.fused_kernels.specs.Extremes.{further, is_least, turned}
-use Rattle.fused_kernels.proofs.ExtremeLemmas.{turned_twice, turned_cell, turned_rows}
+use Rattle.table_model.specs.declared.extreme.Extreme.{Extreme}
+use Rattle.table_model.specs.declared.extreme.Extreme.TheVariants.{Least, Greatest}
+use Rattle.table_model.specs.Extreme.{further, is_least, turned}
+use Rattle.table_model.proofs.Extremes.{turned_twice}
+use Rattle.fused_kernels.proofs.ExtremeLemmas.{turned_cell, turned_rows}
 
 -- a later place below a bound has no lesser value
 abbrev pub Rises : (ℕ → ℤ) → ℕ → Type 0
@@ -127,15 +128,15 @@ greatest_coded b code v In (suc k) rises all =
 
 -- ---- either extreme, by the greatest of turned codes
 -- a code of 16 bits, or how far it is below the greatest of them
-abbrev pub turned_code : Extremum → ℕ → ℕ
+abbrev pub turned_code : Extreme → ℕ → ℕ
 turned_code side code = turned_number 16 (is_least side) code
 
-code_twice : (side : Extremum) (code : ℕ) → code ≤ 2 ^ 16 - 1 → turned_code side (turned_code side code) ≡ code
+code_twice : (side : Extreme) (code : ℕ) → code ≤ 2 ^ 16 - 1 → turned_code side (turned_code side code) ≡ code
 code_twice Least code h = omega arith
 code_twice Greatest code h = refl
 
 -- the values of turned codes, turned, rise where those of codes do
-turned_rises : (side : Extremum) (v : ℕ → ℤ) (end : ℕ) → Rises v end → RisesIn (λ i. turned side (v (turned_code side i))) (λ i. turned_code side i < end)
+turned_rises : (side : Extreme) (v : ℕ → ℤ) (end : ℕ) → Rises v end → RisesIn (λ i. turned side (v (turned_code side i))) (λ i. turned_code side i < end)
 turned_rises Least v end rises i j h l order =
     let turn = rises (2 ^ 16 - 1 - j) (2 ^ 16 - 1 - i) (omega arith) h in
     omega (arith, ints, turn)
@@ -145,17 +146,17 @@ pub code_fits : (form : DictForm) → IsDictForm form → (n : ℕ) → n < 1024
 code_fits form is n h = let below = is.codes n h in omega (arith, below, is.many)
 
 -- the greatest of some rows' turned codes
-abbrev pub found_code : Extremum → DictForm → (ℕ → Bool) → ℕ
+abbrev pub found_code : Extreme → DictForm → (ℕ → Bool) → ℕ
 found_code side form b = fold_to max 0 1024 (λ n. cond (b n) (turned_code side (code_at form n)) 0)
 
-pub found_by_walk : (side : Extremum) (form : DictForm) (b : ℕ → Bool) (walk : Walk) (flipped : Bool) (x : ℕ) → ((n : ℕ) → n < 1024 → number_of_row walk n ≡ code_at form n) → flipped ≡ is_least side
+pub found_by_walk : (side : Extreme) (form : DictForm) (b : ℕ → Bool) (walk : Walk) (flipped : Bool) (x : ℕ) → ((n : ℕ) → n < 1024 → number_of_row walk n ≡ code_at form n) → flipped ≡ is_least side
     → x ≡ fold_to max 0 1024 (λ n. cond (b n) (turned_number 16 flipped (number_of_row walk n)) 0) → x ≡ found_code side form b
 found_by_walk side form b walk flipped x codes same is =
     is ∙ ap (λ t. fold_to max 0 1024 (λ n. cond (b n) (turned_number 16 t (number_of_row walk n)) 0)) same
     ∙ fold_to-same max 0 1024 (λ n. cond (b n) (turned_code side (number_of_row walk n)) 0) (λ n. cond (b n) (turned_code side (code_at form n)) 0) (λ n h. ap (λ (k : ℕ). cond (b n) (turned_code side k) 0) (codes n h))
 
 -- turned, it is the code of the extreme
-pub extreme_coded : (side : Extremum) (form : DictForm) (b : ℕ → Bool) → IsDictForm form → count_below b 1024 ≢ 0
+pub extreme_coded : (side : Extreme) (form : DictForm) (b : ℕ → Bool) → IsDictForm form → count_below b 1024 ≢ 0
     → (turned_code side (found_code side form b) < length form.values)
     × (Some (value_at form.values (turned_code side (found_code side form b))) ≡ fold_to (further side) None 1024 (λ n. cond (b n) (Some (dict_value form n)) None))
 extreme_coded side form b is some =

@@ -1,17 +1,18 @@
 -- The greatest of turned numbers is the extreme that is asked for, turned.
-use Rattle.std.proofs.Common.{◌≡◌, ◌≢◌, ℕ, zero, suc, ◌+◌, ◌-◌, ◌*◌, ◌^◌, ◌<◌, Bool, true, false, cond, ℤ, negsuc, ◌-ℤ◌, FitsSigned, to_z, of_z, List, [], ◌∷◌, ◌++◌, map, Option, Some, None, refl, sym, ap, ◌∙◌, subst, arith}
+use Rattle.std.proofs.Common.{◌≡◌, ◌≢◌, ℕ, zero, suc, ◌+◌, ◌-◌, ◌*◌, ◌^◌, ◌<◌, Bool, true, false, cond, ℤ, negsuc, ◌-ℤ◌, FitsSigned, to_z, of_z, List, [], ◌∷◌, map, Option, Some, None, refl, sym, ap, ◌∙◌, subst, arith}
 use Rattle.std.specs.Int.{w64, int_min, int_max}
 use Rattle.std.specs.List.{range_with_len}
 use Rattle.std.proofs.lemmas.Int.{ints, clamps, to_z-of_z}
 use Rattle.table_model.specs.Values.{present, greater}
-use Rattle.table_model.proofs.Appended.{greater-assoc, least-append, greatest-append}
+use Rattle.table_model.proofs.Appended.{greater-assoc}
+use Rattle.table_model.proofs.Extremes.{extreme-append, no_extreme as none_extreme, turned_twice}
 use Rattle.transpose_order.specs.Place.{IsLaneWidth, place_of}
 use Rattle.transpose_order.specs.Mask.{rows_of, count_below}
 use Rattle.transpose_order.proofs.MaskLemmas.{count_below-zero, count_below-suc}
 use Rattle.native_lanes.specs.Folds.{fold_to}
-use Rattle.fused_kernels.specs.declared.extremes.Extremum.{Extremum}
-use Rattle.fused_kernels.specs.declared.extremes.Extremum.TheVariants.{Least, Greatest}
-use Rattle.fused_kernels.specs.Extremes.{extreme, further, turned}
+use Rattle.table_model.specs.declared.extreme.Extreme.{Extreme}
+use Rattle.table_model.specs.declared.extreme.Extreme.TheVariants.{Least, Greatest}
+use Rattle.table_model.specs.Extreme.{extreme_of, further, turned}
 use Rattle.fused_kernels.specs.Seen.{LanesSeen, looked_cell, values_looked_at}
 use Rattle.frame_delta.proofs.PieceRows.{row_of_piece}
 use Rattle.native_lanes.proofs.FoldLemmas.{IsJoin, fold_to-zero, fold_to-suc, fold_to-same, fold_to-pieces}
@@ -123,24 +124,20 @@ tells_some k None t n = absurd (n t)
 tells_some k (Some z) t n = refl
 
 -- ---- either extreme, by the greatest of turned numbers
-pub turned_twice : (side : Extremum) (z : ℤ) → turned side (turned side z) ≡ z
-turned_twice Least z = omega (arith, ints)
-turned_twice Greatest z = refl
-
-pub turned_fits : (side : Extremum) (z : ℤ) → FitsSigned w64 z → FitsSigned w64 (turned side z)
+pub turned_fits : (side : Extreme) (z : ℤ) → FitsSigned w64 z → FitsSigned w64 (turned side z)
 turned_fits Least z fits = record { sfits = grind (arith, ints) }
 turned_fits Greatest z fits = fits
 
 -- a cell whose value is turned
-abbrev pub turned_cell : Extremum → Option ℤ → Option ℤ
+abbrev pub turned_cell : Extreme → Option ℤ → Option ℤ
 turned_cell side None = None
 turned_cell side (Some z) = Some (turned side z)
 
-cell_twice : (side : Extremum) (o : Option ℤ) → turned_cell side (turned_cell side o) ≡ o
+cell_twice : (side : Extreme) (o : Option ℤ) → turned_cell side (turned_cell side o) ≡ o
 cell_twice side None = refl
 cell_twice side (Some z) = ap Some (turned_twice side z)
 
-further_turned : (side : Extremum) (a b : Option ℤ) → further side a b ≡ turned_cell side (greater (turned_cell side a) (turned_cell side b))
+further_turned : (side : Extreme) (a b : Option ℤ) → further side a b ≡ turned_cell side (greater (turned_cell side a) (turned_cell side b))
 further_turned Greatest None b = sym (cell_twice Greatest b)
 further_turned Greatest (Some x) None = refl
 further_turned Greatest (Some x) (Some y) = refl
@@ -151,7 +148,7 @@ further_turned Least (Some x) (Some y) = ap Some (least x y)
     least : (x y : ℤ) → int_min x y ≡ negsuc 0 -ℤ int_max (negsuc 0 -ℤ x) (negsuc 0 -ℤ y)
     least x y = omega (arith, ints, clamps)
 
-turned_fold : (side : Extremum) (f : ℕ → Option ℤ) (k : ℕ) → fold_to (further side) None k f ≡ turned_cell side (fold_to greater None k (λ n. turned_cell side (f n)))
+turned_fold : (side : Extreme) (f : ℕ → Option ℤ) (k : ℕ) → fold_to (further side) None k f ≡ turned_cell side (fold_to greater None k (λ n. turned_cell side (f n)))
 turned_fold side f zero = fold_to-zero (further side) None f ∙ sym (ap (turned_cell side) (fold_to-zero greater None (λ n. turned_cell side (f n))))
 turned_fold side f (suc k) =
     let so_far = fold_to greater None k (λ n. turned_cell side (f n)) in
@@ -160,7 +157,7 @@ turned_fold side f (suc k) =
     ∙ sym (ap (turned_cell side) (fold_to-suc greater None k (λ n. turned_cell side (f n))))
 
 -- the extreme of some rows, by the greatest of their turned values
-pub turned_rows : (side : Extremum) (b : ℕ → Bool) (v : ℕ → ℤ) (k : ℕ) → fold_to (further side) None k (λ n. cond (b n) (Some (v n)) None) ≡ turned_cell side (fold_to greater None k (λ n. cond (b n) (Some (turned side (v n))) None))
+pub turned_rows : (side : Extreme) (b : ℕ → Bool) (v : ℕ → ℤ) (k : ℕ) → fold_to (further side) None k (λ n. cond (b n) (Some (v n)) None) ≡ turned_cell side (fold_to greater None k (λ n. cond (b n) (Some (turned side (v n))) None))
 turned_rows side b v k =
     turned_fold side (λ n. cond (b n) (Some (v n)) None) k
     ∙ ap (turned_cell side) (fold_to-same greater None k (λ n. turned_cell side (cond (b n) (Some (v n)) None)) (λ n. cond (b n) (Some (turned side (v n))) None) (λ n h. by_truth (b n) (v n)))
@@ -169,39 +166,31 @@ turned_rows side b v k =
     by_truth true z = refl
     by_truth false z = refl
 
-pub no_extreme : (side : Extremum) (b : ℕ → Bool) (v : ℕ → ℤ) (k : ℕ) → count_below b k ≡ 0 → None ≡ fold_to (further side) None k (λ n. cond (b n) (Some (v n)) None)
+pub no_extreme : (side : Extreme) (b : ℕ → Bool) (v : ℕ → ℤ) (k : ℕ) → count_below b k ≡ 0 → None ≡ fold_to (further side) None k (λ n. cond (b n) (Some (v n)) None)
 no_extreme side b v k none =
     let found = fold_to greater None k (λ n. cond (b n) (Some (turned side (v n))) None) in
     sym (turned_rows side b v k ∙ ap (turned_cell side) (tells_none (count_below b k) found (greatest_tells b (λ n. turned side (v n)) k) none))
 
-pub some_extreme : (side : Extremum) (b : ℕ → Bool) (v : ℕ → ℤ) (k : ℕ) → count_below b k ≢ 0
+pub some_extreme : (side : Extreme) (b : ℕ → Bool) (v : ℕ → ℤ) (k : ℕ) → count_below b k ≢ 0
     → Some (turned side (or_bottom (fold_to greater None k (λ n. cond (b n) (Some (turned side (v n))) None)))) ≡ fold_to (further side) None k (λ n. cond (b n) (Some (v n)) None)
 some_extreme side b v k some =
     let found = fold_to greater None k (λ n. cond (b n) (Some (turned side (v n))) None) in
     ap (turned_cell side) (tells_some (count_below b k) found (greatest_tells b (λ n. turned side (v n)) k) some) ∙ sym (turned_rows side b v k)
 
 -- ---- the values looked at
-extreme_of_none : (side : Extremum) → extreme side [] ≡ None
-extreme_of_none Least = refl
-extreme_of_none Greatest = refl
-
-extreme_of_one : (side : Extremum) (o : Option ℤ) → extreme side (present (o ∷ [])) ≡ o
+extreme_of_one : (side : Extreme) (o : Option ℤ) → extreme_of side (present (o ∷ [])) ≡ o
 extreme_of_one Least None = refl
 extreme_of_one Least (Some z) = refl
 extreme_of_one Greatest None = refl
 extreme_of_one Greatest (Some z) = refl
 
-extreme-append : (side : Extremum) (xs ys : List ℤ) → extreme side (xs ++ ys) ≡ further side (extreme side xs) (extreme side ys)
-extreme-append Least xs ys = least-append xs ys
-extreme-append Greatest xs ys = greatest-append xs ys
-
-extreme-cells : (side : Extremum) (f : ℕ → Option ℤ) (n : ℕ) → extreme side (present (map f (range_with_len 0 n))) ≡ fold_to (further side) None n f
-extreme-cells side f zero = extreme_of_none side ∙ sym (fold_to-zero (further side) None f)
+extreme-cells : (side : Extreme) (f : ℕ → Option ℤ) (n : ℕ) → extreme_of side (present (map f (range_with_len 0 n))) ≡ fold_to (further side) None n f
+extreme-cells side f zero = none_extreme side ∙ sym (fold_to-zero (further side) None f)
 extreme-cells side f (suc n) =
-    ap (extreme side) (present-more f n) ∙ extreme-append side (present (map f (range_with_len 0 n))) (present (f n ∷ []))
-    ∙ ap (λ o. further side o (extreme side (present (f n ∷ [])))) (extreme-cells side f n) ∙ ap (further side (fold_to (further side) None n f)) (extreme_of_one side (f n))
+    ap (extreme_of side) (present-more f n) ∙ extreme-append side (present (map f (range_with_len 0 n))) (present (f n ∷ []))
+    ∙ ap (λ o. further side o (extreme_of side (present (f n ∷ [])))) (extreme-cells side f n) ∙ ap (further side (fold_to (further side) None n f)) (extreme_of_one side (f n))
     ∙ sym (fold_to-suc (further side) None n f)
 
-pub extreme-looked_at : (side : Extremum) (s : LanesSeen) (mask : List Bool) → extreme side (values_looked_at s mask) ≡ fold_to (further side) None 1024 (looked_cell s mask)
+pub extreme-looked_at : (side : Extreme) (s : LanesSeen) (mask : List Bool) → extreme_of side (values_looked_at s mask) ≡ fold_to (further side) None 1024 (looked_cell s mask)
 unfolding values_looked_at rows_of
 extreme-looked_at side s mask = extreme-cells side (looked_cell s mask) 1024

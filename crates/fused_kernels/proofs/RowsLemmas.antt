@@ -8,8 +8,9 @@ use Rattle.segment_core.specs.Coded.{value_in}
 use Rattle.segment_core.specs.CodedVector.{VectorForm}
 use Rattle.segment_core.proofs.CodedLemmas.{value_at-values_of}
 use Rattle.native_lanes.specs.Folds.{fold_to}
-use Rattle.fused_kernels.specs.declared.extremes.Extremum.{Extremum}
-use Rattle.fused_kernels.specs.Extremes.{extreme, further, extreme_at}
+use Rattle.table_model.specs.declared.extreme.Extreme.{Extreme}
+use Rattle.table_model.specs.Extreme.{extreme_of, further}
+use Rattle.native_lanes.specs.Extremes.{extreme_at}
 use Rattle.fused_kernels.specs.Seen.{LanesSeen, looked_at, looked_cell, values_looked_at}
 use Rattle.fused_kernels.specs.VectorSeen.{vector_seen}
 use Rattle.native_lanes.proofs.FoldLemmas.{fold_to-same}
@@ -31,8 +32,8 @@ cells_of_rows v mask rows value is same n h =
     ap (λ (b : Bool). cond b (Some (value n)) None) (ap (λ m. has m n) is ∙ has-rows_of (looked_at s mask) n h)
     ∙ ap (λ (z : ℤ). cond (looked_at s mask n) (Some z) None) (sym (value_at-values_of v.coded n h ∙ same n))
 
-pub extreme_of_rows : (side : Extremum) (v : VectorForm) (mask rows : List Bool) (value : ℕ → ℤ) → rows ≡ rows_of (looked_at (vector_seen v 0) mask) → ((n : ℕ) → value_in v.coded n ≡ value n)
-    → extreme_at side rows value ≡ extreme side (values_looked_at (vector_seen v 0) mask)
+pub extreme_of_rows : (side : Extreme) (v : VectorForm) (mask rows : List Bool) (value : ℕ → ℤ) → rows ≡ rows_of (looked_at (vector_seen v 0) mask) → ((n : ℕ) → value_in v.coded n ≡ value n)
+    → extreme_at side rows value ≡ extreme_of side (values_looked_at (vector_seen v 0) mask)
 extreme_of_rows side v mask rows value is same =
     let s : LanesSeen = vector_seen v 0 in
     fold_to-same (further side) None 1024 (λ n. cond (has rows n) (Some (value n)) None) (looked_cell s mask) (cells_of_rows v mask rows value is same)

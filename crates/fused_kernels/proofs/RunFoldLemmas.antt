@@ -12,8 +12,8 @@ use Rattle.native_lanes.specs.Folds.{fold_to}
 use Rattle.native_lanes.proofs.FoldLemmas.{fold_to-zero, fold_to-suc, fold_to-same, fold_to-add}
 use Rattle.native_lanes.proofs.TimesLemmas.{sum_of_one}
 use Rattle.fused_kernels.proofs.SumLemmas.{sum_is_join}
-use Rattle.fused_kernels.specs.declared.extremes.Extremum.{Extremum}
-use Rattle.fused_kernels.specs.Extremes.{further, turned}
+use Rattle.table_model.specs.declared.extreme.Extreme.{Extreme}
+use Rattle.table_model.specs.Extreme.{further, turned}
 use Rattle.fused_kernels.proofs.ExtremeLemmas.{bottom, greater_is_join, turned_fits, turned_cell, turned_rows}
 
 -- the rows of a mask counted in its words
@@ -101,7 +101,7 @@ greatest_upto form v (suc n) fits =
         ∙ sym (ap (λ k. fold_to int_max bottom (suc k) v) here)
 
 -- the extreme of all rows is that of the runs
-pub extreme_of_all_rows : (side : Extremum) (form : RunForm) (b : ℕ → Bool) → IsRunForm form → FitsSigned w64 (value_at form.values 0) → ((n : ℕ) → n < 1024 → b n ≡ true)
+pub extreme_of_all_rows : (side : Extreme) (form : RunForm) (b : ℕ → Bool) → IsRunForm form → FitsSigned w64 (value_at form.values 0) → ((n : ℕ) → n < 1024 → b n ≡ true)
     → Some (turned side (fold_to int_max bottom (length form.values) (λ k. turned side (value_at form.values k)))) ≡ fold_to (further side) None 1024 (λ n. cond (b n) (Some (run_value form n)) None)
 extreme_of_all_rows side form b is fits all =
     let v : ℕ → ℤ = λ k. turned side (value_at form.values k) in

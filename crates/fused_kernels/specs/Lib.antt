@@ -1,4 +1,3 @@
-pub mod Extremes
 pub mod RowRuns
 pub mod Seen
 pub mod VectorSeen

@@ -29,7 +29,7 @@ pub record AreLanes (s : LanesSeen) : Type 0 where
 abbrev pub next_of : LanesSeen → List ℤ
 next_of s = sixteen_of (λ i. value_at s.values (64 * i + place_of s.lane_width s.given))
 
--- the same lanes, of which so many pieces were given
+-- the same lanes, of which a number of pieces were given
 abbrev pub given_of : LanesSeen → ℕ → LanesSeen
 given_of s q = record { lane_width = s.lane_width; rows = s.rows; nulls = s.nulls; values = s.values; given = q }
 

@@ -24,7 +24,7 @@ native_width (Delta form) = form.lane_width
 native_width (Runs form) = 0
 native_width (Dict form) = 0
 
--- what a vector's lanes are seen as, of which so many pieces were given
+-- what a vector's lanes are seen as, of which a number of pieces were given
 abbrev pub vector_seen : VectorForm → ℕ → LanesSeen
 vector_seen v q = record { lane_width = piece_width v.coded; rows = v.rows; nulls = rows_of (is_null v.nulls); values = values_of v.coded; given = q }
 

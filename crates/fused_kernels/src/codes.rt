@@ -7,11 +7,12 @@ ghost use Rattle.run_dictionary.specs.Dict.{code_at, dict_value};
 ghost use Rattle.native_lanes.specs.Between.{between};
 ghost use Rattle.native_lanes.specs.Folds.{fold_to};
 ghost use Rattle.native_lanes.specs.Walks.{number_of_row, turned};
-ghost use Rattle.fused_kernels.specs.Extremes.{extreme_at, is_least};
+ghost use Rattle.table_model.specs.Extreme.{is_least};
+ghost use Rattle.native_lanes.specs.Extremes.{extreme_at};
 
-use crate::extremes::Extremum;
 use native_lanes::{Walk16, lanes_of_mask_16, numbers_16, rows_between_16};
 use run_dictionary::Dict;
+use table_model::Extreme;
 use transpose_order::{Mask, raised_if};
 
 /// The walk whose numbers are the codes of a dictionary's rows.
@@ -23,7 +24,7 @@ fn walk_of_codes(form: &Dict) -> Walk16<'_>
 
 /// A code, or, if the least is asked for, how far it is below the greatest of 16 bits.
 #[inline(always)]
-fn turned_code(side: Extremum, code: u16) -> u16
+fn turned_code(side: Extreme, code: u16) -> u16
     ensures { result ≡ turned 16 (is_least side) code }
 {
     if side.is_least() {
@@ -36,7 +37,7 @@ fn turned_code(side: Extremum, code: u16) -> u16
 /// The least or the greatest value of a mask's rows, none over none. It is that of the least or the greatest code, since a
 /// dictionary's values ascend.
 #[inline(always)]
-pub(crate) fn extreme_of_codes(side: Extremum, form: &Dict, rows: &Mask) -> Option<i64>
+pub(crate) fn extreme_of_codes(side: Extreme, form: &Dict, rows: &Mask) -> Option<i64>
     ensures { result ≡ extreme_at side rows.now (dict_value form.now) }
 {
     let values = form.values();

@@ -2,49 +2,19 @@
 ghost use Rattle.std.specs.Prelude.{◌≡◌, ◌==◌, ℕ, ◌-◌, ◌^◌, ◌<◌, cond, slice_index, negsuc};
 ghost use Rattle.std.specs.Int.{bit_at, int_max};
 ghost use Rattle.bit_interleave.specs.Range.{value_at};
-ghost use Rattle.fused_kernels.specs.Extremes.{extreme, is_least, turned};
+ghost use Rattle.table_model.specs.Extreme.{extreme_of, turned};
 ghost use Rattle.fused_kernels.specs.Seen.{LanesSeen, AreOnlyRead, values_looked_at};
 ghost use Rattle.native_lanes.specs.Folds.{fold_to};
 
 use crate::lanes::{Lanes, next_values, rows_to_look_at};
+use table_model::Extreme;
 use transpose_order::{Mask, greater_if, place_in_word};
-
-/// Which extreme of some values is asked for.
-#[derive(Clone, Copy, Debug, PartialEq, Eq)]
-pub enum Extremum {
-    Least,
-    Greatest,
-}
-
-impl Extremum {
-    /// Whether the least is asked for.
-    #[inline(always)]
-    pub(crate) fn is_least(self) -> bool
-        ensures { result ≡ is_least self }
-    {
-        match self {
-            Extremum::Least => true,
-            Extremum::Greatest => false,
-        }
-    }
-
-    /// The number, with its bits flipped if the least is asked for. The greatest of such numbers is that of the extreme.
-    #[inline(always)]
-    pub(crate) fn turned(self, number: i64) -> i64
-        ensures { result ≡ turned self number }
-    {
-        match self {
-            Extremum::Least => !number,
-            Extremum::Greatest => number,
-        }
-    }
-}
 
 /// Raises each of sixteen numbers to its lane's, flipped if the least is asked for, if the row's bit is set.
 #[inline(always)]
 fn raise(
     greatests: &mut [i64; 16],
-    side: Extremum,
+    side: Extreme,
     numbers: &[i64; 16],
     words: &[u64; 16],
     place: usize,
@@ -72,9 +42,9 @@ fn greatest_of(numbers: &[i64; 16]) -> i64
 
 /// The least or the greatest value of the rows looked at, none over none. The lanes have given no piece yet. The rows looked at are
 /// those of the mask that are covered and not null.
-pub fn extreme<L: Lanes>(side: Extremum, lanes: &mut L, mask: &Mask) -> Option<i64>
+pub fn extreme<L: Lanes>(side: Extreme, lanes: &mut L, mask: &Mask) -> Option<i64>
     requires { (L.seen lanes.old).given ≡ 0 }
-    ensures value { result ≡ extreme side (values_looked_at (L.seen lanes.old) mask.now) }
+    ensures value { result ≡ extreme_of side (values_looked_at (L.seen lanes.old) mask.now) }
     ensures only_read { AreOnlyRead (L.seen lanes.old) (L.seen lanes.new) }
 {
     let lane_width = lanes.lane_width();

@@ -2,10 +2,8 @@
 ghost use Rattle.std.specs.Prelude.{◌≡◌, ℕ, ◌<◌, ◌&&◌, not, IfSome, IsSome, if◌then◌else◌};
 ghost use Rattle.table_model.specs.Truth.{compared};
 ghost use Rattle.transpose_order.specs.Mask.{rows_of, has};
-ghost use Rattle.frame_delta.specs.Frame.{frame_value};
 ghost use Rattle.run_dictionary.specs.Runs.{RunForm};
 ghost use Rattle.run_dictionary.specs.Dict.{DictForm};
-ghost use Rattle.native_lanes.specs.Frames.{IsPlain, IsDecided};
 ghost use Rattle.segment_core.specs.Coded.{IsCodedForm, value_in, lane_width_of};
 ghost use Rattle.segment_core.specs.declared.coded.Coded.TheVariants.{Runs as InRuns, Dict as InDict};
 ghost use Rattle.fused_kernels.specs.Seen.{looked_at, between};
@@ -16,8 +14,7 @@ use crate::comparisons::range_of;
 use crate::lanes::rows_among;
 use crate::ranges::{first_from, last_up_to};
 use crate::runs::runs_between;
-use frame_delta::For;
-use native_lanes::{deltas_within, frame_between, frame_within};
+use native_lanes::Packed;
 use segment_core::{Coded, CodedVector};
 use table_model::Op;
 use transpose_order::Mask;
@@ -29,19 +26,6 @@ pub(crate) fn rows_of_vector(vector: &CodedVector, mask: &Mask) -> Mask
     rows_among(vector.rows(), &vector.null_rows(), mask)
 }
 
-/// The rows whose value is neither below `low` nor above `high`. None at a lane width of 8 if values can wrap or a word has to be
-/// read.
-fn found_in_frame(form: &For, low: i64, high: i64) -> Option<Mask>
-    ensures rows { IfSome result (λ found. found ≡ rows_of (λ n. between low high (frame_value form.now n))) }
-    ensures answers { 8 < form.now.lane_width → IsSome result }
-    ensures decided { IsPlain form.now → IsDecided form.now low high → IsSome result }
-{
-    match frame_between(form, low, high) {
-        None => frame_within(form, low, high),
-        Some(found) => Some(found),
-    }
-}
-
 /// The rows whose value is neither below `low` nor above `high`. None if the lanes have to be looked at, which have 8 bits then.
 fn found_by_coding(coded: &Coded, low: i64, high: i64) -> Option<Mask>
     ensures rows { IfSome result (λ found. found ≡ rows_of (λ n. between low high (value_in coded.now n))) }
@@ -51,11 +35,11 @@ fn found_by_coding(coded: &Coded, low: i64, high: i64) -> Option<Mask>
 {
     match coded {
         Coded::For(form) => {
-            let found = found_in_frame(form.get(), low, high)?;
+            let found = Packed::Frame(form.get()).within(low, high)?;
             Some(found)
         }
         Coded::Delta(form) => {
-            let found = deltas_within(form.get(), low, high)?;
+            let found = Packed::Deltas(form.get()).within(low, high)?;
             Some(found)
         }
         Coded::Runs(form) => Some(runs_between(form.get(), low, high)),

@@ -1,4 +1,4 @@
-//! Codes of a vector's rows, each of which stands for one value: the packed numbers of a frame, or a dictionary's codes.
+//! Codes of a vector's rows, each of which represents one value: the packed numbers of a frame, or a dictionary's codes.
 ghost use Rattle.std.specs.Prelude.{◌≡◌, ◌≢◌, ◌==◌, ℕ, ◌+◌, ◌*◌, ◌%◌, ◌^◌, ◌<◌, ◌≤◌, IfSome, IsSome, None, is_some, cond, length, slice_index, pos, ◌+ℤ◌, ◌-◌, ◌-ℤ◌, ◌≤ℤ◌, int_lt, true};
 ghost use Rattle.std.specs.Int.{bit_at};
 ghost use Rattle.transpose_order.specs.Mask.{has};
@@ -15,7 +15,7 @@ ghost use Rattle.fused_kernels.specs.RowRuns.{AreCodes, AreRowCodes, code_count}
 use crate::bounds::is_plain;
 use crate::meter::Meter;
 use frame_delta::For;
-use native_lanes::{decode_frame, numbers_16};
+use native_lanes::{Packed, numbers_16};
 use run_dictionary::Dict;
 use segment_core::{Coded, CodedVector};
 use transpose_order::Mask;
@@ -93,11 +93,11 @@ fn write_numbers(form: &For, reference: i64, values: &mut [i64; 1024], codes: &m
         write_packed(form.width(), form.words().words_16(), codes);
         return;
     }
-    decode_frame(form, values);
+    Packed::Frame(form).write_values(values);
     write_distances(values, reference, codes);
 }
 
-/// Writes the packed number of each row of a frame and the value that each number stands for, and answers how many numbers the
+/// Writes the packed number of each row of a frame and the value that each number represents, and answers how many numbers the
 /// width has. None if a value can wrap or the width is above 8.
 fn frame_codes(form: &For, codes: &mut [u16; 1024], keys: &mut [i64; 1024]) -> Option<usize>
     ensures codes { IfSome result (λ count. AreCodes (InFor form.now) count codes.new keys.new) }
@@ -143,7 +143,7 @@ fn dict_codes(form: &Dict, codes: &mut [u16; 1024], keys: &mut [i64; 1024]) -> u
     form.values().len()
 }
 
-/// Writes a code for each row and the value that each code stands for, and answers how many codes there are. None if the coding has
+/// Writes a code for each row and the value that each code represents, and answers how many codes there are. None if the coding has
 /// no codes.
 fn coded_codes(coded: &Coded, codes: &mut [u16; 1024], keys: &mut [i64; 1024]) -> Option<usize>
     ensures codes { IfSome result (λ count. AreCodes coded.now count codes.new keys.new) }
@@ -214,7 +214,7 @@ pub fn vector_has_few_codes(vector: &CodedVector, most: usize) -> bool
     }
 }
 
-/// Writes a code for each row of a vector and the value that each code stands for, the values ascending from the first place on,
+/// Writes a code for each row of a vector and the value that each code represents, the values ascending from the first place on,
 /// and answers how many codes there are, at most 1024. A null row has that number as its code. The codes are the packed numbers of
 /// a frame of which no value can wrap, at a width up to 8, or a dictionary's. For other vectors it answers none, and the codes and
 /// keys are as they were. A row that isn't covered can have any code. The meter counts one pass more if it answers.

@@ -5,13 +5,14 @@ ghost use Rattle.transpose_order.specs.Mask.{has};
 ghost use Rattle.bit_interleave.specs.Range.{value_at};
 ghost use Rattle.run_dictionary.specs.Runs.{run_value};
 ghost use Rattle.native_lanes.specs.Folds.{fold_to};
-ghost use Rattle.fused_kernels.specs.Extremes.{extreme_at, turned};
+ghost use Rattle.table_model.specs.Extreme.{turned};
+ghost use Rattle.native_lanes.specs.Extremes.{extreme_at};
 
-use crate::extremes::Extremum;
 use crate::row_counts::{rows_before_words, rows_below};
 use bit_interleave::Values;
 use native_lanes::times;
 use run_dictionary::Runs;
+use table_model::Extreme;
 use transpose_order::{Mask, greater_if};
 
 /// The sum of the values of a mask's rows.
@@ -35,7 +36,7 @@ pub(crate) fn sum_of_runs(form: &Runs, rows: &Mask) -> i128
 }
 
 /// The least or the greatest of some values; over none, the greatest or the least of 64 bits.
-fn extreme_of_all(side: Extremum, values: &Values) -> i64
+fn extreme_of_all(side: Extreme, values: &Values) -> i64
     ensures { result ≡ turned side (fold_to int_max (negsuc (2 ^ 63 - 1)) (length values.now.values) (λ i. turned side (value_at values.now.values i))) }
 {
     let mut greatest = i64::MIN;
@@ -46,7 +47,7 @@ fn extreme_of_all(side: Extremum, values: &Values) -> i64
 }
 
 /// The least or the greatest value of a mask's rows, none over none.
-fn extreme_of_rows(side: Extremum, form: &Runs, rows: &Mask) -> Option<i64>
+fn extreme_of_rows(side: Extreme, form: &Runs, rows: &Mask) -> Option<i64>
     ensures { result ≡ extreme_at side rows.now (run_value form.now) }
 {
     let words = rows.words();
@@ -72,7 +73,7 @@ fn extreme_of_rows(side: Extremum, form: &Runs, rows: &Mask) -> Option<i64>
 /// The least or the greatest value of a mask's rows, none over none. If the mask has all rows, none is searched for: each run has
 /// at least one.
 #[inline(always)]
-pub(crate) fn extreme_of_runs(side: Extremum, form: &Runs, rows: &Mask) -> Option<i64>
+pub(crate) fn extreme_of_runs(side: Extreme, form: &Runs, rows: &Mask) -> Option<i64>
     ensures { result ≡ extreme_at side rows.now (run_value form.now) }
 {
     if rows.is_all() {

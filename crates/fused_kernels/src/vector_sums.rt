@@ -1,8 +1,10 @@
 //! The sum of a coded vector's values, by the way that its coding has, with its count of passes.
-ghost use Rattle.std.specs.Prelude.{◌≡◌};
+ghost use Rattle.std.specs.Prelude.{◌≡◌, cond, pos, ◌+ℤ◌, IfSome};
 ghost use Rattle.table_model.specs.Values.{total};
-ghost use Rattle.segment_core.specs.declared.coded.Coded.TheVariants.{For as InFor, Delta as InDelta, Runs as InRuns, Dict as InDict};
 ghost use Rattle.table_model.specs.Passes.{raised};
+ghost use Rattle.transpose_order.specs.Mask.{has};
+ghost use Rattle.native_lanes.specs.Folds.{fold_to};
+ghost use Rattle.segment_core.specs.Coded.{value_in};
 ghost use Rattle.fused_kernels.specs.Seen.{values_looked_at};
 ghost use Rattle.fused_kernels.specs.VectorSeen.{vector_seen};
 
@@ -12,63 +14,19 @@ use crate::range_rows::rows_of_vector;
 use crate::run_folds::sum_of_runs;
 use crate::sums::sum;
 use crate::vector_lanes::VectorLanes;
-use frame_delta::{Delta, For};
-use native_lanes::{sum_of_deltas, sum_of_frame};
-use run_dictionary::{Dict, Runs};
+use native_lanes::Packed;
 use segment_core::{Coded, CodedVector};
 use transpose_order::Mask;
 
-/// What `vector_sum` answers, by the vector's lanes.
-fn sum_by_lanes(vector: &CodedVector, mask: &Mask, meter: &mut Meter) -> i128
-    ensures value { result ≡ total (values_looked_at (vector_seen vector.now 0) mask.now) }
-    ensures pass { meter.new ≡ raised 1 meter.old }
+/// The sum of the values of a mask's rows. There is no answer if the lanes have to be looked at, which have 8 bits then.
+fn sum_by_coding(coded: &Coded, rows: &Mask) -> Option<i128>
+    ensures { IfSome result (λ sum. sum ≡ fold_to ◌+ℤ◌ (pos 0) 1024 (λ n. cond (has rows.now n) (value_in coded.now n) (pos 0))) }
 {
-    sum(&mut VectorLanes::new(vector, meter), mask)
-}
-
-/// What `vector_sum` answers, by the vector's runs.
-fn sum_by_runs(vector: &CodedVector, form: &Runs, mask: &Mask) -> i128
-    requires { vector.now.coded ≡ InRuns form.now }
-    ensures { result ≡ total (values_looked_at (vector_seen vector.now 0) mask.now) }
-{
-    sum_of_runs(form, &rows_of_vector(vector, mask))
-}
-
-/// What `vector_sum` answers, by the codes of the vector's dictionary.
-fn sum_by_codes(vector: &CodedVector, form: &Dict, mask: &Mask) -> i128
-    requires { vector.now.coded ≡ InDict form.now }
-    ensures { result ≡ total (values_looked_at (vector_seen vector.now 0) mask.now) }
-{
-    sum_of_codes(form, &rows_of_vector(vector, mask))
-}
-
-/// What `vector_sum` answers, by the native lanes of the vector's frame.
-fn sum_by_frame(vector: &CodedVector, form: &For, mask: &Mask, meter: &mut Meter) -> i128
-    requires { vector.now.coded ≡ InFor form.now }
-    ensures value { result ≡ total (values_looked_at (vector_seen vector.now 0) mask.now) }
-    ensures pass { meter.new ≡ raised 1 meter.old }
-{
-    match sum_of_frame(form, &rows_of_vector(vector, mask)) {
-        None => sum_by_lanes(vector, mask, meter),
-        Some(sum) => {
-            meter.add_pass();
-            sum
-        }
-    }
-}
-
-/// What `vector_sum` answers, by the native lanes of the vector's deltas.
-fn sum_by_deltas(vector: &CodedVector, form: &Delta, mask: &Mask, meter: &mut Meter) -> i128
-    requires { vector.now.coded ≡ InDelta form.now }
-    ensures value { result ≡ total (values_looked_at (vector_seen vector.now 0) mask.now) }
-    ensures pass { meter.new ≡ raised 1 meter.old }
-{
-    match sum_of_deltas(form, &rows_of_vector(vector, mask)) {
-        None => sum_by_lanes(vector, mask, meter),
-        Some(sum) => {
-            meter.add_pass();
-            sum
-        }
+    match coded {
+        Coded::For(form) => Packed::Frame(form.get()).sum(rows),
+        Coded::Delta(form) => Packed::Deltas(form.get()).sum(rows),
+        Coded::Runs(form) => Some(sum_of_runs(form.get(), rows)),
+        Coded::Dict(form) => Some(sum_of_codes(form.get(), rows)),
     }
 }
 
@@ -78,16 +36,11 @@ pub fn vector_sum(vector: &CodedVector, mask: &Mask, meter: &mut Meter) -> i128
     ensures value { result ≡ total (values_looked_at (vector_seen vector.now 0) mask.now) }
     ensures pass { meter.new ≡ raised 1 meter.old }
 {
-    match vector.coded() {
-        Coded::Runs(form) => {
+    match sum_by_coding(vector.coded(), &rows_of_vector(vector, mask)) {
+        None => sum(&mut VectorLanes::new(vector, meter), mask),
+        Some(sum) => {
             meter.add_pass();
-            sum_by_runs(vector, form.get(), mask)
-        }
-        Coded::For(form) => sum_by_frame(vector, form.get(), mask, meter),
-        Coded::Delta(form) => sum_by_deltas(vector, form.get(), mask, meter),
-        Coded::Dict(form) => {
-            meter.add_pass();
-            sum_by_codes(vector, form.get(), mask)
+            sum
         }
     }
 }

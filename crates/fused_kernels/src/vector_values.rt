@@ -6,7 +6,7 @@ ghost use Rattle.table_model.specs.Passes.{raised};
 use crate::code_values::decode_codes;
 use crate::meter::Meter;
 use frame_delta::{Delta, For};
-use native_lanes::{decode_deltas, decode_frame};
+use native_lanes::Packed;
 use run_dictionary::{Dict, Runs};
 use segment_core::{Coded, CodedVector};
 
@@ -18,8 +18,8 @@ pub fn decode_vector(vector: &CodedVector, values: &mut [i64; 1024], meter: &mut
 {
     meter.add_pass();
     match vector.coded() {
-        Coded::For(form) => decode_frame(form.get(), values),
-        Coded::Delta(form) => decode_deltas(form.get(), values),
+        Coded::For(form) => Packed::Frame(form.get()).write_values(values),
+        Coded::Delta(form) => Packed::Deltas(form.get()).write_values(values),
         Coded::Runs(form) => form.get().decode(values),
         Coded::Dict(form) => decode_codes(form.get(), values),
     }

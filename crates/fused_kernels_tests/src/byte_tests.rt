@@ -2,14 +2,14 @@
 use crate::cells::{CODINGS, Pattern, cell_of, coded, parts_of, rows};
 use crate::vector_tests::{decoded, folds};
 use fused_kernels::{
-    Extremum, Meter, VectorLanes, compare, compare_range, compare_vector, compare_vector_range,
-    decode_into, extreme, sum,
+    Meter, VectorLanes, compare, compare_range, compare_vector, compare_vector_range, decode_into,
+    extreme, sum,
 };
 use segment_core::CodedVector;
 use std::alloc::Global;
 use std::process::Abort;
 use std::test::Fail;
-use table_model::{ColType, Op};
+use table_model::{ColType, Extreme, Op};
 use test_support::agree;
 use transpose_order::Mask;
 
@@ -22,12 +22,12 @@ fn folds_by_lanes(vector: &CodedVector, mask: &Mask) -> LaneFolds {
     (
         sum(&mut VectorLanes::new(vector, &mut meter), mask),
         extreme(
-            Extremum::Least,
+            Extreme::Least,
             &mut VectorLanes::new(vector, &mut meter),
             mask,
         ),
         extreme(
-            Extremum::Greatest,
+            Extreme::Greatest,
             &mut VectorLanes::new(vector, &mut meter),
             mask,
         ),

@@ -3,7 +3,7 @@ use segment_core::{CodedVector, Coding, Segment};
 use std::alloc::{AllocError, Global};
 use std::process::Abort;
 use std::test::Fail;
-use table_model::{ColType, Op, Refusal, Row, Schema, check_rows};
+use table_model::{ColType, Op, Refusal, Rows, Schema, check_rows};
 use transpose_order::Mask;
 
 /// Each coding of a vector.
@@ -54,16 +54,16 @@ pub(crate) fn cell_of(pattern: Pattern, row: usize) -> Option<i128> {
 }
 
 /// So many rows of one cell.
-fn rows_of(alloc: Global, count: usize, pattern: Pattern) -> Result<Vec<Row>, AllocError> {
-    let mut rows = Vec::with_capacity(alloc, count)?;
+fn rows_of(alloc: Global, count: usize, pattern: Pattern) -> Result<Rows, AllocError> {
+    let mut rows = Rows::new(alloc);
     for row in 0..count {
-        rows.push(Row::from_cells(Vec::from_slice(alloc, &[cell_of(pattern, row)])?))?;
+        rows.push_row(&[cell_of(pattern, row)])?;
     }
     Ok(rows)
 }
 
 /// The segment of a table with one column.
-fn segment_of(alloc: Global, column_type: ColType, rows: &[Row]) -> Result<Segment, Refusal> {
+fn segment_of(alloc: Global, column_type: ColType, rows: &Rows) -> Result<Segment, Refusal> {
     let schema = Schema::new(alloc, "T", &[("A", column_type)])?;
     check_rows(&schema, rows)?;
     Ok(Segment::build(alloc, &schema, rows)?)

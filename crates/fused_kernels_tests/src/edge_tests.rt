@@ -5,13 +5,13 @@ ghost use Rattle.std.specs.List.{All};
 use bit_interleave::Words;
 use frame_delta::For;
 use fused_kernels::{
-    Extremum, Meter, VectorLanes, compare, compare_columns, compare_range, compare_vector, extreme,
+    Meter, VectorLanes, compare, compare_columns, compare_range, compare_vector, extreme,
     vector_extreme, vector_sum,
 };
 use segment_core::{Boxed, Coded, CodedVector};
 use std::alloc::Global;
 use std::test::Fail;
-use table_model::Op;
+use table_model::{Extreme, Op};
 use test_support::agree;
 use transpose_order::Mask;
 
@@ -73,14 +73,14 @@ fn check_extremes(vector: &CodedVector, least: i64, greatest: i64) -> Result<(),
     let all = Mask::all();
     agree(
         (
-            vector_extreme(Extremum::Least, vector, &all, &mut meter),
-            vector_extreme(Extremum::Greatest, vector, &all, &mut meter),
+            vector_extreme(Extreme::Least, vector, &all, &mut meter),
+            vector_extreme(Extreme::Greatest, vector, &all, &mut meter),
         ),
         (Some(least), Some(greatest)),
     )?;
     agree(
         extreme(
-            Extremum::Least,
+            Extreme::Least,
             &mut VectorLanes::new(vector, &mut meter),
             &all,
         ),
@@ -88,7 +88,7 @@ fn check_extremes(vector: &CodedVector, least: i64, greatest: i64) -> Result<(),
     )?;
     agree(
         extreme(
-            Extremum::Greatest,
+            Extreme::Greatest,
             &mut VectorLanes::new(vector, &mut meter),
             &all,
         ),

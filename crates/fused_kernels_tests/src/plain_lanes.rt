@@ -8,11 +8,11 @@ ghost use Rattle.bit_interleave.specs.Packing.{sixteen_of};
 ghost use Rattle.bit_interleave.specs.Range.{value_at};
 ghost use Rattle.fused_kernels.specs.Seen.{LanesSeen};
 
-use fused_kernels::{Extremum, Lanes, compare, compare_range, decode_into, extreme, sum};
+use fused_kernels::{Lanes, compare, compare_range, decode_into, extreme, sum};
 use std::marker::Model;
 use std::simd::prelude::*;
 use std::test::Fail;
-use table_model::Op;
+use table_model::{Extreme, Op};
 use test_support::agree;
 use transpose_order::{Mask, place_in_word};
 
@@ -131,7 +131,7 @@ fn least_of(lane_width: usize, values: &[i64; 1024], mask: &Mask) -> Option<i64>
     requires fit { All (λ value. FitsSigned w64 value) values.now }
 {
     extreme(
-        Extremum::Least,
+        Extreme::Least,
         &mut PlainLanes::new(lane_width, values),
         mask,
     )
@@ -142,7 +142,7 @@ fn greatest_of(lane_width: usize, values: &[i64; 1024], mask: &Mask) -> Option<i
     requires fit { All (λ value. FitsSigned w64 value) values.now }
 {
     extreme(
-        Extremum::Greatest,
+        Extreme::Greatest,
         &mut PlainLanes::new(lane_width, values),
         mask,
     )

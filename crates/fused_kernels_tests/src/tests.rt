@@ -3,12 +3,12 @@
 ghost use Rattle.std.specs.Prelude.{◌≤◌};
 
 use fused_kernels::{
-    Extremum, Meter, VectorLanes, compare, compare_columns, compare_range, count, extreme, sum,
+    Meter, VectorLanes, compare, compare_columns, compare_range, count, extreme, sum,
 };
 use segment_core::{Coded, CodedVector, Coding};
 use std::alloc::Global;
 use std::test::Fail;
-use table_model::Op;
+use table_model::{Extreme, Op};
 use test_support::agree;
 use transpose_order::Mask;
 
@@ -36,12 +36,12 @@ fn sum_of(vector: &CodedVector, mask: &Mask, meter: &mut Meter) -> i128 {
 }
 
 fn least_of(vector: &CodedVector, mask: &Mask, meter: &mut Meter) -> Option<i64> {
-    extreme(Extremum::Least, &mut VectorLanes::new(vector, meter), mask)
+    extreme(Extreme::Least, &mut VectorLanes::new(vector, meter), mask)
 }
 
 fn greatest_of(vector: &CodedVector, mask: &Mask, meter: &mut Meter) -> Option<i64> {
     extreme(
-        Extremum::Greatest,
+        Extreme::Greatest,
         &mut VectorLanes::new(vector, meter),
         mask,
     )

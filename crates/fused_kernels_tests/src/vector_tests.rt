@@ -1,14 +1,14 @@
 //! The calls on coded vectors in each coding, at values worked out by hand.
 use crate::cells::{CODINGS, Pattern, cell_of, coded, parts_of, rows};
 use fused_kernels::{
-    Extremum, Meter, VectorLanes, compare_columns, compare_vector, compare_vector_range,
-    compare_vectors, count, decode_vector, vector_extreme, vector_sum,
+    Meter, VectorLanes, compare_columns, compare_vector, compare_vector_range, compare_vectors,
+    count, decode_vector, vector_extreme, vector_sum,
 };
 use segment_core::{CodedVector, Coding};
 use std::alloc::Global;
 use std::process::Abort;
 use std::test::Fail;
-use table_model::{ColType, Op};
+use table_model::{ColType, Extreme, Op};
 use test_support::agree;
 use transpose_order::Mask;
 
@@ -30,8 +30,8 @@ pub(crate) fn folds(vector: &CodedVector, mask: &Mask) -> Result<Folds, Fail> {
     let mut meter = Meter::new();
     let folds = (
         vector_sum(vector, mask, &mut meter),
-        vector_extreme(Extremum::Least, vector, mask, &mut meter),
-        vector_extreme(Extremum::Greatest, vector, mask, &mut meter),
+        vector_extreme(Extreme::Least, vector, mask, &mut meter),
+        vector_extreme(Extreme::Greatest, vector, mask, &mut meter),
         count(vector, mask),
     );
     agree(meter.count(), 3)?;

@@ -35,7 +35,7 @@ pub enum Change<'a> {
     Forget,
     /// It applies offers.
     Apply {
-        offers: &'a [Offer],
+        offers: Vec<Offer>,
     },
 }
 
@@ -73,7 +73,7 @@ impl<'a> Change<'a> {
                 (Answer::Applied(done.answer), done.replaced)
             }
         };
-        Ok(Done { answer, replaced })
+        Ok(Done::new(answer, replaced))
     }
 
     /// Whether the change would be refused of a file as it is, whose lock can't be had.
@@ -119,7 +119,7 @@ impl<'a> Change<'a> {
 
 /// What a command answers.
 #[derive(Drop)]
-enum Answer {
+pub enum Answer {
     Created,
     Imported(Imported),
     Deleted(Deleted),
@@ -136,6 +136,11 @@ pub struct Done {
 }
 
 impl Done {
+    /// A command's answer, and how what it changed was replaced; none if nothing was changed.
+    pub fn new(answer: Answer, replaced: Option<Replaced>) -> Done {
+        Done { answer, replaced }
+    }
+
     /// Whether the file was replaced, and its folder could not be synced.
     pub fn is_unsynced(&self) -> bool {
         self.replaced == Some(Replaced::Unsynced)

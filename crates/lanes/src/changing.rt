@@ -2,33 +2,44 @@
 
 use crate::change::{Change, Done};
 use crate::failure::{Failure, is_of_a_text};
-use crate::inputs::{name_of, reader_of, schema_again, schema_of, source_of, unread};
+use crate::folder_changes;
+use crate::folders::is_folder;
+use crate::inputs::{name_of, reader_of, schema_again, schema_ahead, schema_of, source_of, unread};
 use crate::names::fault_of_names;
 use crate::reports::write_line;
-use command_line::Source;
+use command_line::{Source, not_for_a_folder};
 use csv_rows::{CsvError, CsvReader};
 use file_replacing::{Folder, HoldError, Place, SystemFolder, hold};
 use refusal_sentences::{CommandRefusal, Fields, Knowledge, Printable, Sentence, Text};
 use replica_files::{Load, read_csv};
 use replica_store::Offer;
-use std::alloc::Global;
+use std::alloc::{AllocError, Global};
 use std::fs::{self, File, Files};
 use std::io::{self, Read};
 use std::random::RandomSource;
 use std::rt::Clock;
 use table_model::{BatchName, ColType, Counted, Refusal, RowName, Schema};
 
+/// What to do instead of a forget in a folder.
+const NO_FORGET: &str =
+    "FILE is a folder, and a forget takes a file: lanes merge FILE FOLDER writes one, and lanes merge NEW/ FILE makes a folder of it";
+
 /// How many random words an import may draw a name with.
 const DRAWS: usize = 16;
 
 /// Makes the file of an empty table.
-pub fn create<R: Print + Eprint + Files<File = File> + Clock + AllocGlobal>(
+pub fn create<
+    R: Print + Eprint + Files<File = File> + Clock + RandomSource + AllocGlobal + Clone + Drop,
+>(
     rt: &R,
     file: &str,
     table: &str,
     columns: &[(&str, ColType)],
     is_quiet: bool,
 ) -> Result<(), Failure> {
+    if file.ends_with('/') {
+        return folder_changes::create(rt, file, table, columns, is_quiet);
+    }
     if is_there(rt, file) {
         return Err(Failure::of_file(rt, CommandRefusal::Exists, file));
     }
@@ -40,8 +51,19 @@ pub fn create<R: Print + Eprint + Files<File = File> + Clock + AllocGlobal>(
     change(rt, file, Change::Create { table, columns }, about, is_quiet)
 }
 
-/// Inserts the rows of comma-separated values, of one text after another: all, or none.
-pub fn import<R: Print + Eprint + Input + Files<File = File> + Clock + RandomSource + AllocGlobal>(
+/// Inserts the rows of comma-separated values, of one text after another: all, or none. The file is judged under its lock; if a text is
+/// at fault it is judged before that is reported, since its own faults come first.
+pub fn import<
+    R: Print
+        + Eprint
+        + Input
+        + Files<File = File>
+        + Clock
+        + RandomSource
+        + AllocGlobal
+        + Clone
+        + Drop,
+>(
     rt: &R,
     file: &str,
     csvs: &[Source<'_>],
@@ -49,18 +71,17 @@ pub fn import<R: Print + Eprint + Input + Files<File = File> + Clock + RandomSou
     has_header: bool,
     is_quiet: bool,
 ) -> Result<(), Failure> {
-    let schema = schema_of(rt, file)?;
-    let mut load = Load::new(rt.alloc(), &schema)?;
-    for csv in csvs {
-        add_rows(
-            rt,
-            *csv,
-            &mut source_of(rt, *csv),
-            &schema,
-            has_header,
-            &mut load,
-        )?;
+    if is_folder(rt, file) {
+        return folder_changes::import(rt, file, csvs, first, has_header, is_quiet);
     }
+    let schema = schema_ahead(rt, file)?;
+    let load = match load_of(rt, csvs, &schema, has_header) {
+        Ok(load) => load,
+        Err(fault) => {
+            let _schema = schema_of(rt, file)?;
+            return Err(fault);
+        }
+    };
     let words = match first {
         Some(_) => Ok([0; DRAWS]),
         None => random_words(rt),
@@ -78,13 +99,28 @@ pub fn import<R: Print + Eprint + Input + Files<File = File> + Clock + RandomSou
     )
 }
 
-/// Deletes the rows for which a condition is true.
-pub fn delete<R: Print + Eprint + Files<File = File> + Clock + AllocGlobal>(
+/// The rows of comma-separated values, of one text after another, coded in batches of a table.
+pub fn load_of<R: Input + Files + AllocGlobal>(
     rt: &R,
-    file: &str,
-    condition: &str,
-    is_quiet: bool,
-) -> Result<(), Failure> {
+    csvs: &[Source<'_>],
+    schema: &Schema,
+    has_header: bool,
+) -> Result<Load, Failure> {
+    let mut load = Load::new(rt.alloc(), schema)?;
+    for csv in csvs {
+        let mut reader = source_of(rt, *csv);
+        add_rows(rt, *csv, &mut reader, schema, has_header, &mut load)?;
+    }
+    Ok(load)
+}
+
+/// Deletes the rows for which a condition is true.
+pub fn delete<
+    R: Print + Eprint + Files<File = File> + Clock + RandomSource + AllocGlobal + Clone + Drop,
+>(rt: &R, file: &str, condition: &str, is_quiet: bool) -> Result<(), Failure> {
+    if is_folder(rt, file) {
+        return folder_changes::delete(rt, file, condition, is_quiet);
+    }
     change(
         rt,
         file,
@@ -95,13 +131,12 @@ pub fn delete<R: Print + Eprint + Files<File = File> + Clock + AllocGlobal>(
 }
 
 /// Deletes rows by their names, held or not.
-pub fn delete_rows<R: Print + Eprint + Files<File = File> + Clock + AllocGlobal>(
-    rt: &R,
-    file: &str,
-    first: RowName,
-    last: u16,
-    is_quiet: bool,
-) -> Result<(), Failure> {
+pub fn delete_rows<
+    R: Print + Eprint + Files<File = File> + Clock + RandomSource + AllocGlobal + Clone + Drop,
+>(rt: &R, file: &str, first: RowName, last: u16, is_quiet: bool) -> Result<(), Failure> {
+    if is_folder(rt, file) {
+        return folder_changes::delete_rows(rt, file, first, last, is_quiet);
+    }
     change(
         rt,
         file,
@@ -117,36 +152,69 @@ pub fn forget<R: Print + Eprint + Files<File = File> + Clock + AllocGlobal>(
     file: &str,
     is_quiet: bool,
 ) -> Result<(), Failure> {
+    if is_folder(rt, file) {
+        return Err(Failure::from(not_for_a_folder(rt.alloc(), NO_FORGET)));
+    }
     change(rt, file, Change::Forget, About::Nothing, is_quiet)
 }
 
 /// Applies offers, all or none.
-pub fn apply<R: Print + Eprint + Input + Files<File = File> + Clock + AllocGlobal>(
+pub fn apply<
+    R: Print
+        + Eprint
+        + Input
+        + Files<File = File>
+        + Clock
+        + RandomSource
+        + AllocGlobal
+        + Clone
+        + Drop,
+>(rt: &R, file: &str, sources: &[Source<'_>], is_quiet: bool) -> Result<(), Failure> {
+    if is_folder(rt, file) {
+        return folder_changes::apply(rt, file, sources, is_quiet);
+    }
+    let offers = match read_offers(rt, sources) {
+        Ok(offers) => offers,
+        Err(failure) => {
+            let _schema = schema_of(rt, file)?;
+            return Err(failure);
+        }
+    };
+    let schemas = schemas_of(rt.alloc(), offers.as_slice())?;
+    let schemas = schemas.as_slice();
+    let about = About::Offers { schemas, sources };
+    change(rt, file, Change::Apply { offers }, about, is_quiet)
+}
+
+/// The offers of these sources, one after another.
+pub fn read_offers<R: Input + Files + AllocGlobal>(
     rt: &R,
-    file: &str,
     sources: &[Source<'_>],
-    is_quiet: bool,
-) -> Result<(), Failure> {
+) -> Result<Vec<Offer>, Failure> {
     let mut offers = Vec::new(rt.alloc());
     for source in sources {
         match column_file::read_offer(rt.alloc(), &mut source_of(rt, *source)) {
             Ok(offer) => offers.push(offer)?,
-            Err(refusal) => {
-                let _schema = schema_of(rt, file)?;
-                return Err(unread(rt, CommandRefusal::from(refusal), *source));
-            }
+            Err(refusal) => return Err(unread(rt, CommandRefusal::from(refusal), *source)),
         }
     }
-    let offers = offers.as_slice();
-    let about = About::Offers { offers, sources };
-    change(rt, file, Change::Apply { offers }, about, is_quiet)
+    Ok(offers)
 }
 
-/// The first offer of another table, if there is one: its index, and its table.
-fn other_table<'a>(offers: &'a [Offer], schema: &Schema) -> Option<(usize, &'a Schema)> {
-    for (index, offer) in offers.iter().enumerate() {
-        if !offer.schema().same(schema) {
-            return Some((index, offer.schema()));
+/// The tables of offers.
+pub fn schemas_of(alloc: Global, offers: &[Offer]) -> Result<Vec<Schema>, AllocError> {
+    let mut schemas = Vec::new(alloc);
+    for offer in offers {
+        schemas.push(offer.schema().copy(alloc)?)?;
+    }
+    Ok(schemas)
+}
+
+/// The first of some tables that is another one, if there is one, with its index.
+fn other_table<'a>(schemas: &'a [Schema], schema: &Schema) -> Option<(usize, &'a Schema)> {
+    for (index, found) in schemas.iter().enumerate() {
+        if !found.same(schema) {
+            return Some((index, found));
         }
     }
     None
@@ -161,12 +229,12 @@ fn name_at<'a>(sources: &[Source<'a>], index: usize) -> &'a str {
 }
 
 /// Whether there is a file, a folder or a link of this name.
-fn is_there<R: Files>(rt: &R, name: &str) -> bool {
+pub fn is_there<R: Files>(rt: &R, name: &str) -> bool {
     fs::symlink_metadata(rt, name).is_ok()
 }
 
 /// Random words, to draw names with.
-fn random_words<R: RandomSource>(rt: &R) -> io::Result<[u64; DRAWS]> {
+pub fn random_words<R: RandomSource>(rt: &R) -> io::Result<[u64; DRAWS]> {
     let mut words = [0u64; DRAWS];
     for word in words.iter_mut() {
         let mut bytes = [0u8; 8];
@@ -255,9 +323,9 @@ enum About<'a> {
     Names(&'a str),
     /// It is for the rows for which this condition is true.
     Condition(&'a str),
-    /// It applies these offers, which were read from these sources.
+    /// It applies offers of these tables, which were read from these sources.
     Offers {
-        offers: &'a [Offer],
+        schemas: &'a [Schema],
         sources: &'a [Source<'a>],
     },
 }
@@ -344,8 +412,11 @@ fn refused<R: Files + AllocGlobal>(
         (CommandRefusal::Named(refusal), About::Condition(condition)) if is_of_a_text(refusal) => {
             of_condition(rt, file, refusal, condition)
         }
-        (CommandRefusal::Named(Refusal::SchemaDiffers), About::Offers { offers, sources }) => {
-            of_other_table(rt, file, refusal, offers, sources)
+        (CommandRefusal::Named(Refusal::SchemaDiffers), About::Offers { schemas, sources }) => {
+            match schema_again(rt, file) {
+                Some(wanted) => of_other_table(rt, file, &wanted, schemas, sources),
+                None => refused_alone(rt, file, refusal),
+            }
         }
         (CommandRefusal::Named(Refusal::BadSchema), About::Names(words)) => {
             let knowledge = Knowledge::Advice(words);
@@ -372,7 +443,7 @@ fn of_condition<R: Files + AllocGlobal>(
 }
 
 /// A refusal of a condition over a table, if its table is known.
-fn with_columns(
+pub fn with_columns(
     alloc: Global,
     refusal: Refusal,
     condition: &str,
@@ -387,26 +458,27 @@ fn with_columns(
 }
 
 /// A refusal of an offer of another table, with the names of both tables.
-fn of_other_table<R: Files + AllocGlobal>(
+pub fn of_other_table<R: Files + AllocGlobal>(
     rt: &R,
     file: &str,
-    refusal: CommandRefusal,
-    offers: &[Offer],
+    wanted: &Schema,
+    schemas: &[Schema],
     sources: &[Source<'_>],
 ) -> Failure {
-    let Some(wanted) = schema_again(rt, file) else {
-        return refused_alone(rt, file, refusal);
-    };
-    match other_table(offers, &wanted) {
+    match other_table(schemas, wanted) {
         Some((index, found)) => {
-            Failure::of_tables(rt.alloc(), name_at(sources, index), found, file, &wanted)
+            Failure::of_tables(rt.alloc(), name_at(sources, index), found, file, wanted)
         }
-        None => refused_alone(rt, file, refusal),
+        None => refused_alone(rt, file, CommandRefusal::from(Refusal::SchemaDiffers)),
     }
 }
 
 /// The same, if nothing is known of the change.
-fn refused_alone<R: Files + AllocGlobal>(rt: &R, file: &str, refusal: CommandRefusal) -> Failure {
+pub fn refused_alone<R: Files + AllocGlobal>(
+    rt: &R,
+    file: &str,
+    refusal: CommandRefusal,
+) -> Failure {
     match refusal {
         CommandRefusal::Named(Refusal::BadRange(_)) => Failure::of_argument(rt.alloc(), refusal),
         CommandRefusal::Named(

@@ -1,4 +1,4 @@
-//! Why a command failed, and what a person is told of it.
+//! Why a command failed, and what a person reads of it.
 
 use crate::watched::Cause;
 use command_line::Fault;
@@ -98,6 +98,29 @@ impl Failure {
                 knowledge,
             },
         )
+    }
+
+    /// A refusal of a file or a folder that the system does not read or write, for this reason.
+    pub fn of_reason(alloc: Global, refusal: Refusal, subject: &str, kind: ErrorKind) -> Failure {
+        if kind == ErrorKind::OutOfMemory {
+            return Failure::of(alloc, CommandRefusal::from(Refusal::Memory));
+        }
+        let sentence = Sentence {
+            refusal: CommandRefusal::from(refusal),
+            subject,
+            knowledge: Knowledge::Reason(kind),
+        };
+        Failure::new(alloc, sentence)
+    }
+
+    /// A refusal of a file or a folder, with these words.
+    pub fn advised(alloc: Global, refusal: CommandRefusal, subject: &str, words: &str) -> Failure {
+        let sentence = Sentence {
+            refusal,
+            subject,
+            knowledge: Knowledge::Advice(words),
+        };
+        Failure::new(alloc, sentence)
     }
 
     /// A failed write, since what has the name of a file's lock is no lock that can be taken.

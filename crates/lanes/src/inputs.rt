@@ -1,13 +1,23 @@
 //! What commands read: files that are opened at the first read, and standard input.
 
 use crate::failure::{Failure, INPUT};
+use crate::folders::{Opened, is_folder, open_folder};
+use column_file::read_schema;
 use command_line::Source;
 use either::Either;
 use refusal_sentences::{CommandRefusal, Sentence};
-use replica_files::file_schema;
-use std::fs::{self, Files};
+use replica_files::{OpenFile, file_schema};
+use std::alloc::Global;
+use std::fs::{self, File, Files};
 use std::io::{self, Read};
-use table_model::{Counted, Schema};
+use std::rt::Clock;
+use table_model::{Counted, Refusal, Schema};
+
+/// How many bytes at the head of a file have its schema: at most 6 before it, 67 of the table, and 66 a column.
+const HEAD_BYTES: usize = 4096;
+
+/// Where a file has its version: two bytes, the lower first.
+const VERSION_AT: usize = 4;
 
 /// A file that is opened at the first read and closed at its end.
 #[derive(Drop)]
@@ -112,6 +122,62 @@ pub fn unread<R: Files + AllocGlobal>(
 pub fn schema_of<R: Files + AllocGlobal>(rt: &R, file: &str) -> Result<Schema, Failure> {
     match file_schema(rt.alloc(), &mut reader_of(rt, file)) {
         Ok(schema) => Ok(schema),
+        Err(refusal) => Err(Failure::of_file(rt, CommandRefusal::from(refusal), file)),
+    }
+}
+
+/// The schema that a file begins with, where it can be read of the file's first bytes; else the whole file is judged. What else is in the
+/// file is not looked at.
+pub fn schema_ahead<R: Files + AllocGlobal>(rt: &R, file: &str) -> Result<Schema, Failure> {
+    let mut head = [0u8; HEAD_BYTES];
+    let count = read_front(&mut LazyFile::new(rt, file), &mut head);
+    match schema_in(rt.alloc(), &head[..count.min(HEAD_BYTES)]) {
+        Some(schema) => Ok(schema),
+        None => schema_of(rt, file),
+    }
+}
+
+/// Reads the first bytes of a source, and answers how many came. A failed read ends them.
+fn read_front<D: Read>(source: &mut D, room: &mut [u8]) -> usize {
+    let mut filled = 0usize;
+    for _ in 0..room.len() {
+        let Some(rest) = room.get_mut(filled..) else {
+            break;
+        };
+        let count = match source.read(rest) {
+            Ok(count) => count,
+            Err(_) => 0,
+        };
+        if count == 0 {
+            break;
+        }
+        filled = filled.saturating_add(count);
+    }
+    filled
+}
+
+/// The schema in a file's first bytes, if it is there.
+fn schema_in(alloc: Global, head: &[u8]) -> Option<Schema> {
+    let (front, rest) = head.split_at_checked(VERSION_AT + 2)?;
+    let version = u64::from(front[VERSION_AT]) + 256 * u64::from(front[VERSION_AT + 1]);
+    match read_schema(alloc, version, head.len(), rest) {
+        Ok((schema, _)) => Some(schema),
+        Err(_) => None,
+    }
+}
+
+/// What a file or a folder holds, once all of it was read and judged.
+pub fn opened<R: Files<File = File> + Clock + AllocGlobal + Clone + Drop>(
+    rt: &R,
+    file: &str,
+) -> Result<OpenFile, Failure> {
+    if is_folder(rt, file) {
+        let opened: Opened<OpenFile> = open_folder(rt, file)?;
+        return Ok(opened.held);
+    }
+    match OpenFile::read(rt.alloc(), &mut reader_of(rt, file)) {
+        Ok(held) => Ok(held),
+        Err(Refusal::Memory) => Err(Failure::from(Refusal::Memory)),
         Err(refusal) => Err(Failure::of_file(rt, CommandRefusal::from(refusal), file)),
     }
 }

@@ -3,13 +3,21 @@
 
 mod change;
 mod changing;
+mod checked_part;
 mod failure;
+mod folder_changes;
+mod folder_reports;
+mod folders;
 mod inputs;
 mod merging;
+mod named_loads;
 mod names;
 mod output;
+mod packing;
+mod part_failures;
+mod parts;
+mod putting;
 mod queries;
-mod query_lines;
 mod reports;
 mod scripts;
 mod watched;
@@ -43,9 +51,18 @@ fn main(rt: HostRuntime) -> ExitCode {
     }
 }
 
-/// Does what the command line asks for, and answers the status. What is said beside goes to the notes.
+/// Does what the command line asks for, and answers the status. What else is said goes to the notes.
 fn run<
-    R: Print + Eprint + Input + Env + Files<File = File> + Clock + RandomSource + AllocGlobal,
+    R: Print
+        + Eprint
+        + Input
+        + Env
+        + Files<File = File>
+        + Clock
+        + RandomSource
+        + AllocGlobal
+        + Clone
+        + Drop,
     N: Write,
 >(rt: &R, terminals: Terminals, notes: &mut N) -> Result<ExitCode, Failure> {
     let words = command_line::arguments(rt)?;
@@ -103,12 +120,20 @@ fn run<
             files,
             is_quiet,
         } => merging::merge(rt, out, files.as_slice(), is_quiet)?,
+        Request::Pack {
+            folder,
+            is_all,
+            is_quiet,
+        } => packing::pack(rt, folder, is_all, is_quiet)?,
     }
     Ok(ExitCode::SUCCESS)
 }
 
 /// Answers queries, and ends with the status of a refusal where a line was refused and passed over.
-fn query<R: Print + Eprint + Input + Files + AllocGlobal, N: Write>(
+fn query<
+    R: Print + Eprint + Input + Files<File = File> + Clock + AllocGlobal + Clone + Drop,
+    N: Write,
+>(
     rt: &R,
     file: &str,
     queries: Queries<'_>,
@@ -121,7 +146,7 @@ fn query<R: Print + Eprint + Input + Files + AllocGlobal, N: Write>(
             queries::answer_texts(rt, file, texts.as_slice(), format)?;
             true
         }
-        Queries::Lines => queries::answer_lines(
+        Queries::Lines => queries::answer_typed(
             rt,
             file,
             format,

@@ -1,26 +1,50 @@
-//! The merge of files.
+//! The merge of files and of folders.
 
+use crate::change::Answer;
+use crate::checked_part::{CheckedPart, PartReason};
 use crate::failure::Failure;
-use crate::inputs::{LazyFile, reader_of, schema_again};
+use crate::folders::{Parts, is_folder};
+use crate::inputs::{LazyFile, schema_again};
 use crate::output::{Output, is_special, write_in_place};
+use crate::part_failures::{Unread, refused as part_refused, unread_for};
+use crate::putting::{make_folder, say};
 use crate::reports::write_line;
+use command_line::not_for_a_folder;
+use either::Either;
 use file_commands::merged;
+use folder_parts::PartFault;
 use refusal_sentences::CommandRefusal;
 use std::alloc::AllocError;
 use std::fs::{self, File, Files};
+use std::io::Read;
 use std::os::unix::fs::MetadataExt;
+use std::random::RandomSource;
 use std::rt::Clock;
 use table_model::{Counted, Refusal};
 
+/// How often folders are looked at, if parts are gone when they are read.
+const LOOKS: u32 = 100;
+
+/// What to do instead of a merge into a folder that is there.
+const NO_FOLDER: &str =
+    "OUT is a folder: lanes apply FOLDER FILE.. adds files to it, and a name that ends in / makes a new one";
+
+/// How many bytes are compared at once.
+const CHUNK: usize = 65_536;
+
 /// Writes the canonical file of what all of some files hold, of which there is at least one, and then `ok`, unless it is to be quiet
 /// or what is written is no regular file, since that may be standard output itself. The files are judged in order. The one that is
-/// written is replaced whole, and where it is one of them its lock is had from the beginning.
-pub fn merge<R: Print + Eprint + Files<File = File> + Clock + AllocGlobal>(
-    rt: &R,
-    out: &str,
-    names: &[&str],
-    is_quiet: bool,
-) -> Result<(), Failure> {
+/// written is replaced whole, and where it is one of them its lock is had from the beginning. For a folder among them its parts are
+/// read. A name that ends in `/` is that of a folder that is made, with what is written as its one part.
+pub fn merge<
+    R: Print + Eprint + Files<File = File> + Clock + RandomSource + AllocGlobal + Clone + Drop,
+>(rt: &R, out: &str, names: &[&str], is_quiet: bool) -> Result<(), Failure> {
+    if out.ends_with('/') {
+        return merge_into_folder(rt, out, names, is_quiet);
+    }
+    if is_folder(rt, out) {
+        return Err(Failure::from(not_for_a_folder(rt.alloc(), NO_FOLDER)));
+    }
     let is_special = is_special(rt, out);
     let outcome = if is_special {
         fill(rt, out, names)
@@ -33,8 +57,25 @@ pub fn merge<R: Print + Eprint + Files<File = File> + Clock + AllocGlobal>(
     write_line(rt, b"ok\n")
 }
 
+/// Makes a folder whose one part is what all of some files hold.
+fn merge_into_folder<
+    R: Print + Eprint + Files<File = File> + Clock + RandomSource + AllocGlobal + Clone + Drop,
+>(rt: &R, out: &str, names: &[&str], is_quiet: bool) -> Result<(), Failure> {
+    let mut sources = Vec::new(rt.alloc());
+    for name in names {
+        sources.push(*name)?;
+    }
+    let bytes = merged_files(rt, names, sources.as_slice())?;
+    let replaced = make_folder(rt, out, bytes.as_slice())?;
+    say(rt, out, Answer::Created, Some(replaced), is_quiet)
+}
+
 /// Writes what all of some files hold to what is no regular file.
-fn fill<R: Files + AllocGlobal>(rt: &R, out: &str, names: &[&str]) -> Result<(), Failure> {
+fn fill<R: Files<File = File> + Clock + AllocGlobal + Clone + Drop>(
+    rt: &R,
+    out: &str,
+    names: &[&str],
+) -> Result<(), Failure> {
     let mut sources = Vec::new(rt.alloc());
     for name in names {
         sources.push(*name)?;
@@ -44,8 +85,8 @@ fn fill<R: Files + AllocGlobal>(rt: &R, out: &str, names: &[&str]) -> Result<(),
 }
 
 /// Replaces a file by what all of some files hold. Those that are the file itself are read under the name that its lock is of, so that a
-/// link that is switched meanwhile changes nothing.
-fn replace<R: Eprint + Files<File = File> + Clock + AllocGlobal>(
+/// link that is switched meanwhile changes nothing. If one of them is the file itself and nothing changed, the file is left alone.
+fn replace<R: Eprint + Files<File = File> + Clock + AllocGlobal + Clone + Drop>(
     rt: &R,
     out: &str,
     names: &[&str],
@@ -56,6 +97,13 @@ fn replace<R: Eprint + Files<File = File> + Clock + AllocGlobal>(
         output.hold(rt);
     }
     match merged_with_own(rt, names, own.as_slice(), output.name()) {
+        Ok(bytes)
+            if own.contains(&true)
+                && output.is_held()
+                && has_bytes(rt, output.name(), bytes.as_slice()) => {
+            output.leave();
+            Ok(())
+        }
         Ok(bytes) => output.replace(rt, out, bytes.as_slice()),
         Err(failure) => {
             output.leave();
@@ -64,8 +112,28 @@ fn replace<R: Eprint + Files<File = File> + Clock + AllocGlobal>(
     }
 }
 
+/// Whether a file has these bytes, and no others.
+fn has_bytes<R: Files + AllocGlobal>(rt: &R, name: &str, bytes: &[u8]) -> bool {
+    let Ok(mut chunk) = vec![in rt.alloc(); 0u8; CHUNK] else {
+        return false;
+    };
+    let mut reader = LazyFile::new(rt, name);
+    let mut left = bytes;
+    for _ in 0..u64::MAX {
+        match reader.read(chunk.as_mut_slice()) {
+            Ok(0) => return left.is_empty(),
+            Ok(count) => match left.strip_prefix(&chunk.as_slice()[..count.min(CHUNK)]) {
+                Some(rest) => left = rest,
+                None => return false,
+            },
+            Err(_) => return false,
+        }
+    }
+    false
+}
+
 /// The canonical file of what all of some files hold, of which those that are the file itself are read under its own name.
-fn merged_with_own<R: Files + AllocGlobal>(
+fn merged_with_own<R: Files<File = File> + Clock + AllocGlobal + Clone + Drop>(
     rt: &R,
     names: &[&str],
     own: &[bool],
@@ -99,35 +167,149 @@ fn is_same<R: Files>(rt: &R, one: &str, other: &str) -> bool {
     one.ino() == other.ino() && one.dev() == other.dev()
 }
 
-/// The canonical file of what all of some files hold, which are read from these sources and called by these names in a sentence.
-fn merged_files<R: Files + AllocGlobal>(
+/// The canonical file of what all of some files and folders hold, which are read from these sources and called by these names in a
+/// sentence.
+fn merged_files<R: Files<File = File> + Clock + AllocGlobal + Clone + Drop>(
     rt: &R,
     names: &[&str],
     sources: &[&str],
 ) -> Result<Vec<u8>, Failure> {
+    let mut is_careful = false;
+    for _ in 0..LOOKS {
+        let (inputs, fault) = Inputs::of(rt, sources, is_careful)?;
+        let outcome = if fault.is_some() && inputs.paths.as_slice().is_empty() {
+            Ok(Vec::new(rt.alloc()))
+        } else {
+            merged_inputs(rt, names, &inputs)
+        };
+        match outcome {
+            Ok(bytes) => return told_last(bytes, fault),
+            Err(Unread::Gone) => {}
+            Err(Unread::Folder) => is_careful = true,
+            Err(Unread::Refused(failure)) => return Err(failure),
+        }
+    }
+    Err(Failure::of(rt.alloc(), CommandRefusal::Busy))
+}
+
+/// What the inputs up to a fault made, unless there is one: it is told only if they are well.
+fn told_last(bytes: Vec<u8>, fault: Option<Failure>) -> Result<Vec<u8>, Failure> {
+    match fault {
+        Some(failure) => Err(failure),
+        None => Ok(bytes),
+    }
+}
+
+/// The inputs of a merge: files, and the parts of folders in their place.
+#[derive(Drop)]
+struct Inputs {
+    paths: Vec<String>,
+    are_parts: Vec<bool>,
+    has_folder: bool,
+}
+
+impl Inputs {
+    /// The files of these names, and for each folder among them its parts, up to a folder that can't be listed; and why that can't.
+    fn of<R: Files<File = File> + Clock + AllocGlobal + Clone + Drop>(
+        rt: &R,
+        names: &[&str],
+        is_careful: bool,
+    ) -> Result<(Inputs, Option<Failure>), Failure> {
+        let mut inputs = Inputs {
+            paths: Vec::new(rt.alloc()),
+            are_parts: Vec::new(rt.alloc()),
+            has_folder: false,
+        };
+        for name in names {
+            if !is_folder(rt, *name) {
+                inputs.paths.push(String::from_str(rt.alloc(), *name)?)?;
+                inputs.are_parts.push(false)?;
+                continue;
+            }
+            inputs.has_folder = true;
+            match Parts::listed(rt, *name, is_careful) {
+                Ok(parts) => inputs.add_parts(parts.into_paths())?,
+                Err(failure) => return Ok((inputs, Some(failure))),
+            }
+        }
+        Ok((inputs, None))
+    }
+
+    /// Adds the parts of a folder.
+    fn add_parts(&mut self, paths: Vec<String>) -> Result<(), Failure> {
+        for path in paths {
+            self.paths.push(path)?;
+            self.are_parts.push(true)?;
+        }
+        Ok(())
+    }
+}
+
+/// A file, or a part of a folder.
+type Input<'r, 'n, R> = Either<LazyFile<'r, 'n, R>, CheckedPart<'r, 'n, R>>;
+
+/// The canonical file of what all inputs hold.
+fn merged_inputs<R: Files + AllocGlobal>(
+    rt: &R,
+    names: &[&str],
+    inputs: &Inputs,
+) -> Result<Vec<u8>, Unread> {
     let mut readers = Vec::new(rt.alloc());
-    for source in sources {
-        readers.push(reader_of(rt, *source))?;
+    for (path, is_part) in inputs.paths.iter().zip(inputs.are_parts.iter()) {
+        let input = if *is_part {
+            Either::Right(CheckedPart::new(rt, path.as_str()))
+        } else {
+            Either::Left(LazyFile::new(rt, path.as_str()))
+        };
+        readers.push(Counted::new(input))?;
     }
     let outcome = match readers.as_mut_slice().split_first_mut() {
         Some((first, others)) => merged(rt.alloc(), first, others),
         None => Err(Refusal::ReadFault),
     };
-    match outcome {
-        Ok(bytes) => Ok(bytes),
-        Err(refusal) => Err(refused(rt, names, begun(readers), CommandRefusal::from(refusal))),
+    let refusal = match outcome {
+        Ok(bytes) => return Ok(bytes),
+        Err(refusal) => refusal,
+    };
+    let (begun, reason) = begun(readers);
+    let at = begun.saturating_sub(1);
+    let paths = inputs.paths.as_slice();
+    match reason {
+        Some(PartReason::Unread(kind)) => Err(unread_for(rt, paths, at, Some(kind))),
+        Some(PartReason::Damaged) => Err(Unread::Refused(part_refused(
+            rt,
+            paths,
+            at,
+            PartFault::Damaged,
+        ))),
+        None if inputs.has_folder => Err(Unread::Refused(part_refused(
+            rt,
+            paths,
+            at,
+            PartFault::Refused(refusal),
+        ))),
+        None => Err(Unread::Refused(refused(rt, names, begun, CommandRefusal::from(refusal)))),
     }
 }
 
-/// How many of the readers, which are read in their order, have begun to read.
-fn begun<R: Files>(readers: Vec<Counted<LazyFile<'_, '_, R>>>) -> usize {
+/// How many of the readers, which are read in their order, have begun to read, and why nothing was read from the last of these, if it
+/// is a part.
+fn begun<R: Files>(readers: Vec<Counted<Input<'_, '_, R>>>) -> (usize, Option<PartReason>) {
     let mut count = 0usize;
+    let mut reason = None;
     for reader in readers {
-        if reader.into_inner().is_begun() {
+        let is_begun = match reader.into_inner() {
+            Either::Left(file) => file.is_begun(),
+            Either::Right(part) => {
+                reason = part.reason().or(reason);
+                part.is_begun()
+            }
+        };
+        if is_begun {
             count = count.saturating_add(1);
         }
     }
-    count
+    (count, reason)
 }
 
 /// A refusal of a merge's inputs: of the last one of these names that was begun to be read.

@@ -34,9 +34,14 @@ impl<'r, R: Eprint + Files<File = File> + Clock + AllocGlobal> Output<'r, R> {
         self.place.name()
     }
 
-    /// Tries to have the lock. What came of that is told by [`Output::replace`].
+    /// Tries to have the lock. What came of that is reported by [`Output::replace`].
     pub fn hold(&mut self, rt: &R) {
         self.held = Some(hold(rt, &mut self.folder, &self.place));
+    }
+
+    /// Whether the lock is had.
+    pub fn is_held(&self) -> bool {
+        self.held == Some(Ok(()))
     }
 
     /// Gives the lock back, where it is had.

@@ -10,7 +10,7 @@ use std::fs::Files;
 use std::io::{self, Write};
 use table_model::{Counted, Refusal};
 
-/// What a person at a terminal is told.
+/// What a person at a terminal reads.
 const WAITING: &str =
     "lanes: reading a script's lines; lanes run --help shows some, and an end of input ends it\n";
 

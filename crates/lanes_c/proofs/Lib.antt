@@ -4,3 +4,4 @@ pub mod Importings
 pub mod LooseValues
 pub mod Openings
 pub mod QueryRuns
+pub mod ColumnGivings

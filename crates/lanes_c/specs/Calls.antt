@@ -21,14 +21,15 @@ use Rattle.script_lines.specs.Line.{command_of}
 use Rattle.script_lines.specs.TableWords.{TableWords}
 use Rattle.script_lines.specs.declared.command.Command.{Command}
 use Rattle.script_lines.specs.declared.command.Command.TheVariants.{Table as MakesTable}
-use Rattle.lanes_main.specs.FileReport.{checked_text}
+use Rattle.replica_files.specs.Asking.{checked_text}
+use Rattle.replica_store.specs.Segments.{StoreForm}
 use Rattle.lanes_c.specs.Rooms.{Given}
 use Rattle.lanes_c.specs.declared.fault.Fault.TheVariants.{Refused}
 
 -- ---- what is given
 
--- What is given is what a meaning gives, the bytes or the refusal; a want of memory may come in the place of anything, and so may
--- ReadFault, which stands for an input of more than 2^48 bytes.
+-- What is given is what a meaning gives, the bytes or the refusal; out of memory may come in the place of anything, and so may
+-- ReadFault, which means an input of more than 2^48 bytes.
 abbrev pub Yields : Given → Result (List ℕ) Refusal → Type 0
 Yields (Ok bytes) meaning = meaning ≡ Ok bytes
 Yields (Err (Refused e)) meaning = (meaning ≡ Err e) ⊎ IsUnread e
@@ -92,6 +93,12 @@ merge_of one other = commands.written_of (commands.merged_files one (other ∷ [
 -- the state that is offered of what a file holds to a summary; refused are the summary, the file, or that they are of two tables
 abbrev pub offered_of : List ℕ → List ℕ → Result State Refusal
 offered_of summary file = summary_read summary >>= λ s. commands.held_in file >>= λ r. offered r s
+
+-- an offer of what is open to a summary, and it is read as that
+abbrev pub OffersAt : Given → StoreForm → SummaryForm → Type 0
+OffersAt (Ok bytes) s summary = (o : OfferForm) × commands.OffersTo s.replica summary o × (bytes ≡ offer_bytes o)
+OffersAt (Err (Refused e)) s summary = (offered s.replica summary ≡ Err e) ⊎ IsUnread e
+OffersAt (Err other) s summary = ⊥
 
 -- lanes_offer: the bytes are an offer of what the file holds to the summary, and are read as that
 abbrev pub OffersTo : Given → List ℕ → List ℕ → Type 0

@@ -1,4 +1,5 @@
 pub mod Calls
+pub mod ColumnCalls
 pub mod Faults
 pub mod Handles
 pub mod Importing

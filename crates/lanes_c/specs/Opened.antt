@@ -23,26 +23,26 @@ IsOf table file = MatchOption table.replica ⊥ (λ r. held_in file ≡ Ok r)
 abbrev pub answered_at : Replica → List ℕ → Result (List ℕ) Refusal
 answered_at r sql = query_answer sql r.schema r.state >>= λ answer. Ok (answer_text answer)
 
--- why a file isn't opened: its first fault; a want of memory and ReadFault may come in the place of anything
+-- why a file isn't opened: its first fault; out of memory and ReadFault may come in the place of anything
 abbrev pub IsWhyNotOpened : Fault → List ℕ → Type 0
 IsWhyNotOpened (Refused e) file = (held_in file ≡ Err e) ⊎ IsUnread e
 IsWhyNotOpened other file = ⊥
 
--- a fault is told by its number and its place
+-- a fault is reported by its number and its place
 abbrev pub IsToldAs : Fault → ℕ → Place → Type 0
 IsToldAs fault number place = (number ≡ number_of_fault fault) × (place ≡ place_of_fault fault)
 
--- lanes_open: with 0 the handle is of the file; else it is as it was, and it is told why
+-- lanes_open: with 0 the handle is of the file; else it is as it was, and the reason is reported
 abbrev pub Opens : ℕ → List ℕ → Table → Table → Place → Type 0
 Opens number file old new place =
     ((number ≡ 0) × (place ≡ nowhere) × IsOf new file)
     ⊎ ((fault : Fault) × IsWhyNotOpened fault file × IsToldAs fault number place × (new.replica ≡ old.replica))
 
--- a closed handle is told, and gives nothing
+-- a closed handle is reported, and gives nothing
 abbrev pub IsNotOpen : Given → Type 0
 IsNotOpen given = given ≡ Err NotOpen
 
--- lanes_ask: The handle stays as it was. Of a closed one NotOpen is told. Of an open one that is told which lanes_query tells of each
+-- lanes_ask: The handle stays as it was. Of a closed one NotOpen is reported. Of an open one that is reported which lanes_query reports of each
 -- file that the handle is of.
 abbrev pub AsksOpen : ℕ → List ℕ → Table → Table → List ℕ → List ℕ → ℕ → Place → Type 0
 AsksOpen number sql old new was room length place =
@@ -51,7 +51,7 @@ AsksOpen number sql old new was room length place =
     (λ _. (file : List ℕ) → IsOf old file → Tells (λ given. Asks given sql (query_of sql file)) number was room length place)
 
 -- lanes_share: The first handle stays as it was. With 0 the second one has what the first has. Else the second one stays as it was too:
--- the first is closed, and NotOpen is told, or memory lacks.
+-- the first is closed, and NotOpen is reported, or memory runs out.
 abbrev pub Shares : ℕ → Table → Table → Table → Table → Type 0
 Shares number old new was other =
     (new.replica ≡ old.replica)

@@ -9,7 +9,7 @@ use Rattle.lanes_c.specs.Rooms.{Given, filled}
 use Rattle.lanes_c.specs.declared.fault.Fault.{Fault}
 use Rattle.lanes_c.specs.declared.fault.Fault.TheVariants.{Refused, OfQuery}
 
--- the queries of a text: what stands between its line feeds
+-- the queries of a text: what is between its line feeds
 abbrev pub queries_in : List ℕ → List (List ℕ)
 queries_in text = slice_split (λ byte. byte == 10) text
 
@@ -23,7 +23,7 @@ AreAnswers meaning [] [] = Unit {0}
 AreAnswers meaning (query ∷ queries) (text ∷ texts) = Asks (Ok text) query (meaning query) × AreAnswers meaning queries texts
 AreAnswers meaning queries texts = ⊥
 
--- where each text ends if they stand one after another, the first from a place on
+-- where each text ends if they come one after another, the first from a place on
 abbrev pub ends_from : ℕ → List (List ℕ) → List ℕ
 ends_from at [] = []
 ends_from at (text ∷ texts) = (at + length text) ∷ ends_from (at + length text) texts
@@ -42,7 +42,7 @@ pub record AreAnswered (meaning : Meaning) (queries : List (List ℕ)) (bytes en
   pub joined : bytes ≡ concat texts
   pub ended : ends ≡ ends_from 0 texts
 
--- why queries aren't answered: the first that is refused is, or memory lacks
+-- why queries aren't answered: the first that is refused is, or memory runs out
 abbrev pub IsWhyNotAnswered : Meaning → List (List ℕ) → Fault → Type 0
 IsWhyNotAnswered meaning queries (OfQuery refusal at) = IsRefusedAt meaning queries at refusal
 IsWhyNotAnswered meaning queries (Refused refusal) = IsUnread refusal

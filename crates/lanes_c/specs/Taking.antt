@@ -14,7 +14,7 @@ abbrev pub taken_of : Result (Unit {0}) Refusal → List ℕ → Given
 taken_of (Ok done) written = Ok written
 taken_of (Err e) written = Err (told e)
 
--- what a command leaves: what it has written where something changed, and else the file as it was; only memory may lack
+-- what a command leaves: what it has written where something changed, and else the file as it was; only memory may run out
 abbrev pub LeftBy : Given → Bool → List ℕ → List ℕ → Type 0
 LeftBy (Ok bytes) changed written file = bytes ≡ cond changed written file
 LeftBy (Err fault) changed written file = fault ≡ Refused Memory

@@ -1,11 +1,12 @@
-//! Why a call gave nothing, as C is told: a number and a place.
+//! Why a call gave nothing, as C gets it: a number and a place.
 ghost use Rattle.std.specs.Prelude.{◌≡◌};
-ghost use Rattle.lanes_c.specs.Faults.{number_of_fault, place_of, place_of_fault, nowhere, of_query, pair, told, told_of_csv};
+ghost use Rattle.lanes_c.specs.Faults.{number_of_fault, place_of, place_of_fault, in_names, nowhere, of_query, pair, told, told_of_choice, told_of_csv};
 ghost use Rattle.lanes_c.specs.declared.fault.Fault.TheVariants.{Refused};
 ghost use Rattle.table_model.specs.declared.refusal.Refusal.TheVariants.{Memory};
 
 use csv_rows::CsvError;
-use std::alloc::AllocError;
+use live_columns::Unchosen;
+use std::alloc::{AllocError, AllocFailed};
 use table_model::Refusal;
 
 /// Where a call was refused: one or two numbers, which the refusal's name explains, and 0 for each that it has not.
@@ -14,7 +15,7 @@ use table_model::Refusal;
 pub struct Place {
     /// A byte of the input from 0; a row from 0; the origin of a batch; a line from 1.
     pub first: u64,
-    /// A column from 0; the number of a batch; a field of a line from 1, and 0 for a wrong number of fields; a query of several from 0.
+    /// A column from 0; the number of a batch; a field of a line from 1, and 0 for a wrong number of fields; a query of several from 0; 1 in the names of columns.
     pub second: u64,
 }
 
@@ -29,11 +30,13 @@ pub enum Fault {
     LineTooLong { line: u64 },
     /// A query of several: what it is refused as, and which one it is, from 0.
     OfQuery { refusal: Refusal, query: u64 },
+    /// What the names of columns are refused as.
+    InNames(Refusal),
     /// A handle that is closed.
     NotOpen,
 }
 
-/// A refusal as it is told: what is written into memory fails to be written only where memory lacks.
+/// A refusal as it is reported: a write into memory fails only if memory runs out.
 impl From<Refusal> for Fault {
     ghost from_gives = { λ refusal fault. fault ≡ told refusal };
 
@@ -65,6 +68,25 @@ impl From<AllocError> for Fault {
     }
 }
 
+impl<T: Drop> From<AllocFailed<T>> for Fault {
+    ghost from_gives = { λ _ fault. fault ≡ Refused Memory };
+
+    fn from(_lacking: AllocFailed<T>) -> Fault {
+        Fault::Refused(Refusal::Memory)
+    }
+}
+
+impl From<Unchosen> for Fault {
+    ghost from_gives = { λ unchosen fault. fault ≡ told_of_choice unchosen };
+
+    fn from(unchosen: Unchosen) -> Fault {
+        match unchosen {
+            Unchosen::Refused(refusal) => Fault::Refused(refusal),
+            Unchosen::NoSuchName(at) => Fault::InNames(Refusal::NoSuchColumn(at)),
+        }
+    }
+}
+
 /// The number of `BadCsv`, which is no refusal of the table's own calls.
 pub const BAD_CSV: u8 = 38;
 
@@ -90,32 +112,18 @@ impl Place {
     pub fn of(refusal: Refusal) -> Place
         ensures { result ≡ place_of refusal }
     {
-        match refusal {
-            Refusal::Conflict(name) => Place {
+        match refusal.place() {
+            table_model::Place::Nowhere => Place::nowhere(),
+            table_model::Place::Batch(name) => Place {
                 first: u64::from(name.origin.0),
                 second: u64::from(name.number.0),
             },
-            Refusal::OutOfType { row, column } => Place {
+            table_model::Place::Row(row) => Place::at(row as u64),
+            table_model::Place::Cell { row, column } => Place {
                 first: row as u64,
                 second: column as u64,
             },
-            Refusal::WrongArity(row) => Place::at(row as u64),
-            Refusal::Truncated(at)
-            | Refusal::BadOrder(at)
-            | Refusal::BadCount(at)
-            | Refusal::BadWidth(at)
-            | Refusal::BadTag(at)
-            | Refusal::BadMask(at)
-            | Refusal::BadDictionary(at)
-            | Refusal::BadCode(at)
-            | Refusal::BadRange(at)
-            | Refusal::TrailingBytes(at)
-            | Refusal::NotCanonical(at)
-            | Refusal::Syntax(at)
-            | Refusal::NoSuchColumn(at)
-            | Refusal::NotGrouped(at)
-            | Refusal::NumberTooLarge(at) => Place::at(at),
-            _ => Place::nowhere(),
+            table_model::Place::Byte(at) => Place::at(at),
         }
     }
 }
@@ -129,7 +137,7 @@ impl Fault {
             Fault::Refused(refusal) => refusal.number(),
             Fault::BadCsv { .. } => BAD_CSV,
             Fault::LineTooLong { .. } => Refusal::LineTooLong.number(),
-            Fault::OfQuery { refusal, .. } => refusal.number(),
+            Fault::OfQuery { refusal, .. } | Fault::InNames(refusal) => refusal.number(),
             Fault::NotOpen => NOT_OPEN,
         }
     }
@@ -144,7 +152,17 @@ impl Fault {
         }
     }
 
-    /// The place that C is told.
+    /// The same fault as that of the names of columns.
+    pub fn in_names(self) -> Fault
+        ensures { result ≡ in_names self }
+    {
+        match self {
+            Fault::Refused(refusal) => Fault::InNames(refusal),
+            other => other,
+        }
+    }
+
+    /// The place that C gets.
     pub fn place(self) -> Place
         ensures { result ≡ place_of_fault self }
     {
@@ -158,6 +176,10 @@ impl Fault {
             Fault::OfQuery { refusal, query } => Place {
                 first: Place::of(refusal).first,
                 second: query,
+            },
+            Fault::InNames(refusal) => Place {
+                first: Place::of(refusal).first,
+                second: 1,
             },
             Fault::NotOpen => Place::nowhere(),
         }

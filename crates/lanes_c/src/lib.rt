@@ -3,6 +3,7 @@
 #![tactic(auto)]
 
 mod changing;
+mod columns;
 mod fault;
 mod handle;
 mod loose;
@@ -17,6 +18,7 @@ mod shared;
 mod taking;
 
 pub use changing::{lanes_create, lanes_delete, lanes_forget, lanes_import};
+pub use columns::{lanes_columns, lanes_schema};
 pub use fault::Place;
 pub use handle::Table;
 pub use merging::lanes_merge;

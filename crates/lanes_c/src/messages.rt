@@ -1,22 +1,42 @@
 //! The calls of an exchange: a summary, an offer to it, and taking an offer.
 ghost use Rattle.std.specs.Prelude.{◌≡◌};
-ghost use Rattle.lanes_c.specs.Calls.{Yields, summary_of, apply_of, OffersTo};
+ghost use Rattle.lanes_c.specs.Calls.{Yields, summary_of, apply_of, OffersAt, OffersTo};
 ghost use Rattle.lanes_c.specs.Rooms.{Tells, given_by};
+ghost use Rattle.replica_files.specs.Commands.{summarizing};
 
 use crate::fault::{Fault, Place};
+use crate::opening::opened_file;
 use crate::room::hand_out;
 use crate::taking::{left, taken};
 use column_file::{read_offer, read_summary};
-use replica_files::{apply, offer, summary};
+use replica_files::{OpenFile, apply, offer, summary};
+use replica_store::Summary;
 use std::alloc::Global;
 use table_model::Counted;
+
+/// The summary of what is open.
+fn message_of(alloc: Global, file: &OpenFile) -> Result<Vec<u8>, Fault>
+    ensures { Yields (given_by result) (summarizing file.now.replica) }
+{
+    let mut writer = Counted::new(Vec::new(alloc));
+    let done = summary(alloc, file, &mut writer);
+    taken(done, writer)
+}
 
 /// The summary of what a file holds.
 fn summarized(alloc: Global, file: &[u8]) -> Result<Vec<u8>, Fault>
     ensures { Yields (given_by result) (summary_of file.now) }
 {
+    let open = opened_file(alloc, file)?;
+    message_of(alloc, &open)
+}
+
+/// The offer of what is open to a summary.
+fn reply_of(alloc: Global, file: &OpenFile, summary: &Summary) -> Result<Vec<u8>, Fault>
+    ensures { OffersAt (given_by result) file.now summary.now }
+{
     let mut writer = Counted::new(Vec::new(alloc));
-    let done = summary(alloc, &mut Counted::new(file), &mut writer);
+    let done = offer(alloc, file, summary, &mut writer);
     taken(done, writer)
 }
 
@@ -25,9 +45,8 @@ fn offered(alloc: Global, file: &[u8], summary: &[u8]) -> Result<Vec<u8>, Fault>
     ensures { OffersTo (given_by result) summary.now file.now }
 {
     let summary = read_summary(alloc, &mut Counted::new(summary))?;
-    let mut writer = Counted::new(Vec::new(alloc));
-    let done = offer(alloc, &mut Counted::new(file), &summary, &mut writer);
-    taken(done, writer)
+    let open = opened_file(alloc, file)?;
+    reply_of(alloc, &open, &summary)
 }
 
 /// The file that has what an offer brings.
@@ -35,8 +54,9 @@ fn applied(alloc: Global, file: &[u8], offer: &[u8]) -> Result<Vec<u8>, Fault>
     ensures { Yields (given_by result) (apply_of offer.now file.now) }
 {
     let offer = read_offer(alloc, &mut Counted::new(offer))?;
+    let offers = vec![in alloc; offer]?;
     let mut writer = Counted::new(Vec::new(alloc));
-    let done = apply(alloc, &mut Counted::new(file), &[offer], &mut writer)?;
+    let done = apply(alloc, &mut Counted::new(file), offers, &mut writer)?;
     left(alloc, file, done.is_changed, writer)
 }
 
@@ -54,7 +74,7 @@ pub extern "C" fn lanes_summary(
     hand_out(summarized(alloc, file), room, length, place)
 }
 
-/// Gives the offer of what a file holds to another's summary: the batches that the other lacks, and all deletions.
+/// Gives the offer of what a file holds to another's summary: the batches that the other does not have, and all deletions.
 ///
 /// Refused are, in this order, the summary's first fault, the file's, and `SchemaDiffers`.
 #[unsafe(no_mangle)]

@@ -11,7 +11,7 @@ use std::alloc::{AllocError, Global};
 use table_model::{BatchName, Number, Origin, Refusal};
 
 /// The library's version, which is the program's.
-const VERSION: &str = "0.3.0";
+const VERSION: &str = "0.4.0";
 
 /// A number's low 32 bits.
 fn low(number: u64) -> u32 {
@@ -153,7 +153,7 @@ fn sentence_of(alloc: Global, number: u8, place: Place) -> Result<String, AllocE
     format!(in alloc; "{sentence}")
 }
 
-/// Gives the sentence of a refusal's number and place, and its length; 0 where the number has none, or memory lacks.
+/// Gives the sentence of a refusal's number and place, and its length; 0 where the number has none, or memory runs out.
 #[unsafe(no_mangle)]
 pub extern "C" fn lanes_sentence(alloc: Global, number: u8, place: &Place, room: &mut [u8]) -> usize
     ensures { IsFilled (λ sentence. ⊤) result room.old room.new }
@@ -167,10 +167,10 @@ pub extern "C" fn lanes_sentence(alloc: Global, number: u8, place: &Place, room:
     }
 }
 
-/// Gives the library's version, as `0.3.0`, and its length.
+/// Gives the library's version, as `0.4.0`, and its length.
 #[unsafe(no_mangle)]
 pub extern "C" fn lanes_version(room: &mut [u8]) -> usize
-    ensures { IsFilled (λ text. text ≡ codes "0.3.0") result room.old room.new }
+    ensures { IsFilled (λ text. text ≡ codes "0.4.0") result room.old room.new }
 {
     fill(VERSION.as_bytes(), room);
     VERSION.len()

@@ -12,6 +12,7 @@ use crate::shared::Shared;
 use crate::taking::text_of;
 use column_file::open;
 use query_eval::text;
+use replica_files::OpenFile;
 use replica_store::Store;
 use std::alloc::Global;
 use std::boxed::Box;
@@ -25,6 +26,14 @@ pub(crate) fn store_of(alloc: Global, file: &[u8]) -> Result<Store, Fault>
     ensures fault { IfErr result (λ fault. IsWhyNotOpened fault file.now) }
 {
     Ok(open(alloc, &mut Counted::new(file), Origin(1))?)
+}
+
+/// What a file holds, to be asked.
+pub(crate) fn opened_file(alloc: Global, file: &[u8]) -> Result<OpenFile, Fault>
+    ensures held { IfOk result (λ opened. held_in file.now ≡ Ok opened.replica) }
+    ensures fault { IfErr result (λ fault. IsWhyNotOpened fault file.now) }
+{
+    Ok(OpenFile::read(alloc, &mut Counted::new(file))?)
 }
 
 /// The first share of a file's store.

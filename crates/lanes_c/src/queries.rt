@@ -82,7 +82,7 @@ fn answered_all(
 /// answers' texts, one after another; answer `i` ends at `ends[i]`, where there is room for all ends.
 ///
 /// Refused are, in this order, the file's first fault, and the first query that `lanes_query` refuses; then the place has that query,
-/// from 0, beside the byte.
+/// from 0, next to the byte.
 #[unsafe(no_mangle)]
 pub extern "C" fn lanes_queries(
     alloc: Global,

@@ -1,13 +1,15 @@
 //! The calls that read a file: its check, an answer, and its rows.
-ghost use Rattle.std.specs.Prelude.{◌≡◌};
+ghost use Rattle.std.specs.Prelude.{◌≡◌, Ok};
 ghost use Rattle.lanes_c.specs.Calls.{Yields, check_of, query_of, dump_of, Asks};
 ghost use Rattle.lanes_c.specs.Rooms.{Tells, given_by};
+ghost use Rattle.replica_files.specs.Dumps.{dumping};
 
 use crate::fault::{Fault, Place};
+use crate::opening::opened_file;
 use crate::room::hand_out;
 use crate::taking::{taken, text_of};
 use lanes_main::{check_file, query_file};
-use replica_files::dump;
+use replica_files::{OpenFile, dump};
 use std::alloc::Global;
 use table_model::Counted;
 
@@ -37,13 +39,21 @@ fn asked(alloc: Global, file: &[u8], sql: &[u8]) -> Result<Vec<u8>, Fault>
     answered(alloc, file, text)
 }
 
-/// The live rows of a file as comma-separated values.
+/// The live rows of what is open as comma-separated values.
+fn rows_of(alloc: Global, file: &OpenFile, has_names: bool) -> Result<Vec<u8>, Fault>
+    ensures { Yields (given_by result) (Ok (dumping has_names file.now.replica)) }
+{
+    let mut writer = Counted::new(Vec::new(alloc));
+    let done = dump(alloc, file, has_names, &mut writer);
+    taken(done, writer)
+}
+
+/// The same of a file.
 fn dumped(alloc: Global, file: &[u8], has_names: bool) -> Result<Vec<u8>, Fault>
     ensures { Yields (given_by result) (dump_of has_names file.now) }
 {
-    let mut writer = Counted::new(Vec::new(alloc));
-    let done = dump(alloc, &mut Counted::new(file), has_names, &mut writer);
-    taken(done, writer)
+    let open = opened_file(alloc, file)?;
+    rows_of(alloc, &open, has_names)
 }
 
 /// Checks a file. It gives the line `ok batches=B ranges=R`: how many batches the file has, and how many maximal ranges of deleted

@@ -12,7 +12,9 @@ use Rattle.cluster_history.specs.Cluster.{ClusterParts}
 use Rattle.lanes_main.specs.ReplyText.{reply_text_of}
 use Rattle.script_lines.specs.Word.{cut, longer, pieces, onto_first}
 use Rattle.script_lines.specs.Line.{command_of}
-use Rattle.lanes_main.specs.Script.{line_limit, line_answer, command_answer, line_text, after_line, lines_text, onto_line, script_text, text_from, grown}
+use Rattle.csv_rows.specs.Line.{line_limit}
+use Rattle.replica_files.specs.QueryLines.{grown}
+use Rattle.lanes_main.specs.Script.{line_answer, command_answer, line_text, after_line, lines_text, onto_line, script_text, text_from}
 use Rattle.cluster_history.specs.declared.reply.Reply.{Reply}
 use Rattle.cluster_history.specs.declared.reply.Reply.TheVariants.{Refused}
 use Rattle.script_lines.proofs.Cuts.{is, cut_none, cut_some, pieces_at, pieces_cut}

@@ -9,7 +9,8 @@ use Rattle.cluster_history.specs.Cluster.{ClusterParts, new_cluster, step_of}
 use Rattle.script_lines.specs.Line.{command_of}
 use Rattle.lanes_main.specs.ReplyText.{reply_text_of}
 use Rattle.cluster_history.specs.Run.{Run, answered}
-use Rattle.lanes_main.specs.Script.{line_limit, founded, first_answer, later_answer, line_answer, line_text, after_line, lines_text, after_lines}
+use Rattle.csv_rows.specs.Line.{line_limit}
+use Rattle.lanes_main.specs.Script.{founded, first_answer, later_answer, line_answer, line_text, after_line, lines_text, after_lines}
 use Rattle.lanes_main.specs.ScriptRun.{replies_of, cluster_after, step_in, steps_of, next_text, replies_text, MakesTable, MakesOneOrNone, StepsRun, WritesReplies, EndsAsRun, SameInScripts, SameInScriptsExport, ScriptLaws}
 use Rattle.script_lines.specs.TableWords.{TableWords}
 use Rattle.script_lines.specs.Verb.{leading}

@@ -8,7 +8,8 @@ use Rattle.table_model.specs.declared.counted.TheConstants.{READ_LIMIT}
 use Rattle.table_model.proofs.Written.{appends_both}
 use Rattle.cluster_history.specs.Cluster.{ClusterParts}
 use Rattle.lanes_main.specs.ReplyText.{reply_text_of}
-use Rattle.lanes_main.specs.Script.{line_limit, lines_text, after_lines, whole_lines, script_text, text_from}
+use Rattle.csv_rows.specs.Line.{line_limit}
+use Rattle.lanes_main.specs.Script.{lines_text, after_lines, whole_lines, script_text, text_from}
 use Rattle.script_lines.specs.Word.{pieces}
 use Rattle.cluster_history.specs.declared.reply.Reply.TheVariants.{Refused}
 use Rattle.table_model.specs.declared.refusal.Refusal.{Refusal}

@@ -1,5 +1,5 @@
 -- The text of a script: the reply to each line that isn't empty, in order.
-use Rattle.std.specs.Prelude.{ℕ, ◌+◌, ◌-◌, cond, nat_lt, List, [], ◌∷◌, ◌++◌, length, take, Option, Some, None, option_map, Result, Ok, Err}
+use Rattle.std.specs.Prelude.{ℕ, cond, nat_lt, List, [], ◌∷◌, ◌++◌, length, Option, Some, None, option_map, Result, Ok, Err}
 use Rattle.table_model.specs.Table.{Table, schema_of}
 use Rattle.table_model.specs.declared.refusal.Refusal.{Refusal}
 use Rattle.table_model.specs.declared.refusal.Refusal.TheVariants.{BadLine, LineTooLong}
@@ -9,15 +9,12 @@ use Rattle.script_lines.specs.Line.{command_of}
 use Rattle.lanes_main.specs.ReplyText.{reply_text_of}
 use Rattle.cluster_history.specs.Run.{answered}
 use Rattle.script_lines.specs.TableWords.{TableWords}
+use Rattle.csv_rows.specs.Line.{line_limit}
 use Rattle.script_lines.specs.Word.{pieces}
 use Rattle.script_lines.specs.declared.command.Command.{Command}
 use Rattle.script_lines.specs.declared.command.Command.TheVariants as commands
 use Rattle.cluster_history.specs.declared.reply.Reply.{Reply}
 use Rattle.cluster_history.specs.declared.reply.Reply.TheVariants.{Done, Refused}
-
--- how many bytes a line may have, without its line feed
-abbrev pub line_limit : ℕ
-line_limit = 1048576
 
 -- the parts of the cluster, if there is one: no reply tells a coding
 abbrev pub parts_in : Option ClusterForm → Option ClusterParts
@@ -73,7 +70,7 @@ abbrev pub after_lines : Option ClusterParts → List (List ℕ) → Option Clus
 after_lines cluster [] = cluster
 after_lines cluster (line ∷ lines) = after_lines (after_line cluster line) lines
 
--- the text of a script, whose lines stand between line feeds
+-- the text of a script, whose lines are between line feeds
 unfoldable pub script_text : List ℕ → List ℕ
 script_text input = lines_text None (pieces 10 input)
 
@@ -95,7 +92,3 @@ onto_line text (line ∷ lines) = (text ++ line) ∷ lines
 -- the text that is still to come, after a part of a line, when these bytes follow
 unfoldable pub text_from : Option ClusterParts → List ℕ → List ℕ → List ℕ
 text_from cluster part bytes = lines_text cluster (onto_line part (pieces 10 bytes))
-
--- a part of a line with more of it: it stops growing one byte past the limit
-abbrev pub grown : List ℕ → List ℕ → List ℕ
-grown part more = part ++ take (line_limit + 1 - length part) more

@@ -10,7 +10,8 @@ use Rattle.cluster_history.specs.History.{Taken, new_taken, taken_of, taken_by, 
 use Rattle.script_lines.specs.Line.{command_of}
 use Rattle.lanes_main.specs.ReplyText.{reply_text_of}
 use Rattle.cluster_history.specs.Run.{Run, answered}
-use Rattle.lanes_main.specs.Script.{line_limit, line_answer, lines_text, after_lines}
+use Rattle.csv_rows.specs.Line.{line_limit}
+use Rattle.lanes_main.specs.Script.{line_answer, lines_text, after_lines}
 use Rattle.script_lines.specs.declared.command.Command.{Command}
 use Rattle.script_lines.specs.declared.command.Command.TheVariants as commands
 use Rattle.cluster_history.specs.declared.reply.Reply.{Reply}
@@ -18,7 +19,7 @@ use Rattle.cluster_history.specs.declared.reply.Reply.TheVariants.{Done, File, R
 use Rattle.cluster_history.specs.declared.step.Step.{Step}
 use Rattle.cluster_history.specs.declared.step.Step.TheVariants.{Export}
 
--- the replies to steps, one after another, where memory never lacks
+-- the replies to steps, one after another, if memory never runs out
 abbrev pub replies_of : ClusterParts → List Step → List Reply
 replies_of c [] = []
 replies_of c (step ∷ steps) = (answered (step_of c step) c).0 ∷ replies_of (answered (step_of c step) c).1 steps
@@ -58,7 +59,7 @@ abbrev pub replies_text : List (List ℕ) → List Reply → List ℕ
 replies_text [] replies = []
 replies_text (line ∷ lines) replies = next_text (asked_by line) (unasked_text line) (replies_text lines) replies
 
--- one of the lines makes a table at so many replicas: there is none before it, and these are the lines that follow it
+-- one of the lines makes a table at a number of replicas: there is none before it, and these are the lines that follow it
 pub record MakesTable (lines : List (List ℕ)) (table : Table) (count : ℕ) (later : List (List ℕ)) : Type 0 where
   pub front : List (List ℕ)
   pub line : List ℕ

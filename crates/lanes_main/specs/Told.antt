@@ -5,7 +5,7 @@ use Rattle.table_model.specs.Faults.{AppendsFront}
 use Rattle.cluster_history.specs.Cluster.{ClusterParts}
 use Rattle.lanes_main.specs.Script.{lines_text, whole_lines, script_text, text_from}
 
--- A part of the input with so many bytes was read, and what was written is what the script's text begins with, whatever bytes
+-- A part of the input with that number of bytes was read, and what was written is what the script's text begins with, whatever bytes
 -- follow that part: what is still to come is the text from the part of a line that was read last.
 abbrev pub Sofar : Option (List ℕ) → Option (List ℕ) → Option (List ℕ) → Option (List ℕ) → Option ClusterParts → List ℕ → ℕ → Type 0
 Sofar None rest before now cluster part total = Unit {0}
@@ -23,7 +23,7 @@ abbrev pub ToldAll : Option (List ℕ) → Option (List ℕ) → Option (List �
 ToldAll None before now = Unit {0}
 ToldAll (Some input) before now = Appends before now (script_text input)
 
--- so many more bytes are read, their lines are answered, and the replies are written
+-- a number of further bytes are read, their lines are answered, and the replies are written
 abbrev pub GoesOn : Option (List ℕ) → Option (List ℕ) → Option (List ℕ) → Option (List ℕ) → Option ClusterParts → List ℕ → Option ClusterParts → List ℕ → ℕ → Type 0
 GoesOn rest rest' now now' cluster part next part' n =
     (input before : Option (List ℕ)) (total : ℕ) → Sofar input rest before now cluster part total → Sofar input rest' before now' next part' (total + n)

@@ -3,11 +3,10 @@
 #![tactic(auto)]
 
 mod file_check;
+mod file_queries;
 mod interpreter;
 mod laws;
-mod line_part;
 mod notes;
-mod querying;
 mod reply_format;
 mod session;
 
@@ -15,8 +14,8 @@ pub use cluster_history::{
     Cluster, FileBytes, Message, Reply, Sql, Step, coding_laws, history_laws, row_laws, run,
 };
 pub use file_check::check_file;
+pub use file_queries::query_file;
 pub use interpreter::{script, script_with_notes};
 pub use laws::{first_answers_stay, script_laws};
-pub use querying::{query_file, query_file_with_notes};
 pub use reply_format::reply_text;
 pub use script_lines::{Command, TableCommand, parse_line, rows_are_read_as_spelled};

@@ -1,6 +1,6 @@
-//! Notes on the lines and queries that were refused.
+//! Notes on the lines that were refused.
 
-use refusal_sentences::{CommandRefusal, Knowledge, Pointer, Sentence};
+use refusal_sentences::{CommandRefusal, Knowledge, Sentence};
 use script_lines::expected;
 use std::alloc::{AllocError, Global};
 use std::io::Write;
@@ -63,19 +63,4 @@ fn meaning_of<'a>(refusal: Refusal) -> Sentence<'a> {
         knowledge: Knowledge::Argument,
         ..Sentence::new(CommandRefusal::from(refusal))
     }
-}
-
-/// Shows where a query is refused, as far as the writer takes it: the line of the place, and a caret under the place. A refusal
-/// without a place shows nothing.
-pub fn point_at<N: Write>(
-    alloc: Global,
-    query: &str,
-    refusal: Refusal,
-    writer: &mut N,
-) -> Result<(), AllocError> {
-    if let Some(pointer) = Pointer::new(query, refusal) {
-        let shown = format!(in alloc; "{pointer}")?;
-        let _ = writer.write_all(shown.as_bytes());
-    }
-    Ok(())
 }

@@ -96,7 +96,7 @@ fn write_refused(alloc: Global, out: &mut Vec<u8>, refusal: Refusal) -> Result<(
 }
 
 /// Writes a number in decimal.
-pub(crate) fn write_number(out: &mut Vec<u8>, number: u64) -> Result<(), AllocError>
+fn write_number(out: &mut Vec<u8>, number: u64) -> Result<(), AllocError>
     ensures { OnOk result (out.new.items ≡ out.old.items ++ decimal number) }
 {
     let mut buffer = Buffer::new();

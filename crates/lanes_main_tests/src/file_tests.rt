@@ -1,6 +1,7 @@
 //! Scripts that export and open files. The files' bytes are worked out by hand, field by field, from the rules of files.
 use crate::tests::text_of;
-use lanes_main::query_file_with_notes;
+use lanes_main::query_file;
+use refusal_sentences::Pointer;
 use std::alloc::Global;
 use std::test::Fail;
 use table_model::{Counted, Refusal};
@@ -398,23 +399,32 @@ const REFUSED_QUERIES: [(&[&str], Refusal, &str, &str); 7] = [
     (&["SELECT COUNT(*) FROM U"], Refusal::NoSuchTable, "", ""),
 ];
 
-/// The outcome of queries over the file of one row, what was answered, and what is shown.
-fn asked(alloc: Global, queries: &[&str]) -> Result<(Option<Refusal>, Vec<u8>, Vec<u8>), Fail> {
+/// The outcome of queries over the file of one row, and what was answered.
+fn asked(alloc: Global, queries: &[&str]) -> Result<(Option<Refusal>, Vec<u8>), Fail> {
     let file = hex::decode(alloc, ONE_ROW_DIGITS)?;
     let mut reader = Counted::new(file.as_slice());
     let mut writer = Counted::new(Vec::new(alloc));
-    let mut notes = Vec::new(alloc);
-    let outcome = query_file_with_notes(alloc, &mut reader, queries, &mut writer, &mut notes);
-    Ok((outcome.err(), writer.into_inner(), notes))
+    let outcome = query_file(alloc, &mut reader, queries, &mut writer);
+    Ok((outcome.err(), writer.into_inner()))
+}
+
+/// What is shown of the last query.
+fn pointed(alloc: Global, queries: &[&str], refusal: Refusal) -> Result<String, Fail> {
+    let last = queries.last().copied().unwrap_or("");
+    match Pointer::new(last, refusal) {
+        Some(pointer) => Ok(format!(in alloc; "{pointer}")?),
+        None => Ok(String::new(alloc)),
+    }
 }
 
 #[test]
 fn a_caret_stands_under_the_place_where_a_query_is_refused(rt: HostRuntime) -> Result<(), Fail> {
     for &(queries, refusal, answers, shown) in &REFUSED_QUERIES {
-        let (outcome, answered, notes) = asked(rt.alloc(), queries)?;
+        let (outcome, answered) = asked(rt.alloc(), queries)?;
         assert!(rt; outcome == Some(refusal));
         assert!(rt; answered.as_slice() == answers.as_bytes());
-        assert!(rt; notes.as_slice() == shown.as_bytes(), "at {shown}");
+        let found = pointed(rt.alloc(), queries, refusal)?;
+        assert!(rt; found.as_str() == shown, "at {shown}");
     }
     Ok(())
 }

@@ -3,7 +3,8 @@ use crate::tests::ONE_ROW;
 use lanes_main::{check_file, query_file, script};
 use std::alloc::Global;
 use std::test::Fail;
-use table_model::{Counted, Refusal, Stop};
+use table_model::{Counted, Refusal};
+use test_support::Stop;
 
 /// A script whose reader or writer stops: its lines, their replies, and after how many bytes each line and its reply end.
 struct Stopped {

@@ -2,12 +2,11 @@
 use lanes_main::{
     Cluster, Reply, Sql, Step, check_file, reply_text, run, script, script_with_notes,
 };
-use row_batch::RowBatch;
 use std::alloc::Global;
 use std::io;
 use std::io::Write;
 use std::test::Fail;
-use table_model::{BatchName, ColType, Counted, Number, Origin, Refusal, RowName, Schema};
+use table_model::{BatchName, ColType, Counted, Number, Origin, Refusal, RowName, Rows, Schema};
 
 /// What a script writes: its text, or the refusal that ended it.
 pub(crate) fn text_of(alloc: Global, input: &[u8]) -> Result<Vec<u8>, Refusal> {
@@ -295,8 +294,8 @@ fn a_line_of_more_rows_than_a_batch_is_too_long(rt: HostRuntime) -> Result<(), F
 }
 
 /// Rows of one cell each, which are all 7.
-fn sevens(alloc: Global, count: usize) -> Result<RowBatch, Refusal> {
-    let mut rows = RowBatch::new(alloc);
+fn sevens(alloc: Global, count: usize) -> Result<Rows, Refusal> {
+    let mut rows = Rows::new(alloc);
     for _ in 0..count {
         rows.push_row(&[Some(7)])?;
     }

@@ -18,6 +18,8 @@ use Rattle.frame_delta.specs.Frame.{FrameForm, frame_value}
 use Rattle.frame_delta.specs.Delta.{DeltaForm, IsDeltaForm, sum_to, delta_of, delta_at, delta_value}
 use Rattle.native_lanes.specs.Folds.{fold_to}
 use Rattle.native_lanes.specs.Between.{between}
+use Rattle.native_lanes.specs.declared.pair_test.PairTest.{PairTest}
+use Rattle.native_lanes.specs.declared.pair_test.PairTest.TheVariants.{Equal, Less}
 use Rattle.native_lanes.specs.Pairs.{number_passes, value_passes}
 use Rattle.native_lanes.specs.Walks.{Walk, number_before, number_of_row}
 use Rattle.native_lanes.proofs.FoldLemmas.{fold_to-zero, fold_to-suc}
@@ -141,6 +143,6 @@ values_of_raised value number half values long raised written =
     same a b m half e d = omega (arith, ints, e, d)
 
 -- ---- two values compare as their raised numbers do
-pub passes_raised : (equal : Bool) (m n half : ℕ) (a b : ℤ) → pos m ≡ a +ℤ pos half → pos n ≡ b +ℤ pos half → number_passes equal m n ≡ value_passes equal a b
-passes_raised true m n half a b e d = grind (arith, ints, nat_tests)
-passes_raised false m n half a b e d = grind (arith, ints, nat_tests)
+pub passes_raised : (test : PairTest) (m n half : ℕ) (a b : ℤ) → pos m ≡ a +ℤ pos half → pos n ≡ b +ℤ pos half → number_passes test m n ≡ value_passes test a b
+passes_raised Equal m n half a b e d = grind (arith, ints, nat_tests)
+passes_raised Less m n half a b e d = grind (arith, ints, nat_tests)

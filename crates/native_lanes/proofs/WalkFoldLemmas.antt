@@ -7,6 +7,9 @@ use Rattle.table_model.specs.Values.{lesser, greater}
 use Rattle.transpose_order.specs.Mask.{has, count_below}
 use Rattle.transpose_order.proofs.MaskLemmas.{count_below-zero, count_below-suc}
 use Rattle.transpose_order.specs.Place.{IsLaneWidth, row_at, lane_of, step_of}
+use Rattle.table_model.specs.Extreme.{is_least, further as further_of}
+use Rattle.table_model.specs.declared.extreme.Extreme.{Extreme}
+use Rattle.table_model.specs.declared.extreme.Extreme.TheVariants.{Least, Greatest}
 use Rattle.native_lanes.specs.Folds.{fold_to}
 use Rattle.native_lanes.specs.Walks.{Walk, number_at, number_of_row, turned, half_on, further}
 use Rattle.native_lanes.proofs.FoldLemmas.{IsJoin, fold_to-zero, fold_to-suc, fold_to-same}
@@ -143,3 +146,13 @@ least_raised half m b number v (suc k) fits raised =
     ∙ one_lesser (b k) x (number k) m (count_below b k) half (v k) (fold_to lesser None k (λ n. cond (b n) (Some (v n)) None)) (greatest_at_most b number m k) (fits k (omega arith)) (none_taken b (λ n. m - number n) k) (raised k (omega arith)) (least_raised half m b number v k (λ n h. fits n (omega arith)) (λ n h. raised n (omega arith)))
     ∙ ap (λ n. cond (nat_lt 0 n) (Some (pos (m - max x (cond (b k) (m - number k) 0)) -ℤ pos half)) None) (sym (count_below-suc b k))
     ∙ ap (λ n. cond (nat_lt 0 (count_below b (suc k))) (Some (pos (m - n) -ℤ pos half)) None) (sym (fold_to-suc max 0 k (λ n. cond (b n) (m - number n) 0)))
+
+-- ---- either, by what is turned where the least is asked for
+pub extreme_raised : (side : Extreme) (t half : ℕ) (b : ℕ → Bool) (number : ℕ → ℕ) (v : ℕ → ℤ) (flipped : Bool) → flipped ≡ is_least side → ((n : ℕ) → n < 1024 → number n ≤ 2 ^ t - 1) → ((n : ℕ) → n < 1024 → pos (number n) ≡ v n +ℤ pos half)
+    → cond (nat_lt 0 (count_below b 1024)) (Some (pos (turned t flipped (fold_to max 0 1024 (λ n. cond (b n) (turned t flipped (number n)) 0))) -ℤ pos half)) None ≡ fold_to (further_of side) None 1024 (λ n. cond (b n) (Some (v n)) None)
+extreme_raised Least t half b number v flipped is below raised =
+    ap (λ f. cond (nat_lt 0 (count_below b 1024)) (Some (pos (turned t f (fold_to max 0 1024 (λ n. cond (b n) (turned t f (number n)) 0))) -ℤ pos half)) None) is
+    ∙ sym (least_raised half (2 ^ t - 1) b number v 1024 below raised)
+extreme_raised Greatest t half b number v flipped is below raised =
+    ap (λ f. cond (nat_lt 0 (count_below b 1024)) (Some (pos (turned t f (fold_to max 0 1024 (λ n. cond (b n) (turned t f (number n)) 0))) -ℤ pos half)) None) is
+    ∙ sym (greatest_raised half b number v 1024 raised)

@@ -3,7 +3,7 @@ use Rattle.std.specs.Prelude.{ℕ, zero, suc, ◌+◌, ◌-◌, ◌^◌, ◌%◌
 use Rattle.transpose_order.specs.Place.{lane_of, step_of}
 use Rattle.bit_interleave.specs.Packing.{packed_value}
 
--- packed words of so many bits a lane, whether a lane's number is carried from a step to the next, what each lane starts with, and
+-- packed words of a number of bits a lane, whether a lane's number is carried from a step to the next, what each lane starts with, and
 -- what each step adds
 pub record Walk : Type 0 where
   pub lane_width : ℕ

@@ -6,6 +6,7 @@ ghost use Rattle.transpose_order.specs.Place.{lane_of, step_of};
 ghost use Rattle.bit_interleave.specs.Packing.{packed_value};
 ghost use Rattle.native_lanes.specs.Pairs.{number_passes};
 
+use crate::pair_test::PairTest;
 use transpose_order::Mask;
 
 /// The `width` bits of a word from bit `shift` on.
@@ -90,33 +91,32 @@ pub(crate) fn mark(marks: &mut [u16; 64], numbers: &[u16; 64], offset: u16, span
     }
 }
 
-/// Whether a number is equal to another, or, if `equal` is false, below it.
+/// Whether a number and another pass a test.
 #[inline(always)]
-fn passes(equal: bool, number: u16, other: u16) -> bool
-    ensures { result ≡ number_passes equal number other }
+fn passes(test: PairTest, number: u16, other: u16) -> bool
+    ensures { result ≡ number_passes test number other }
 {
-    if equal {
-        number == other
-    } else {
-        number < other
+    match test {
+        PairTest::Equal => number == other,
+        PairTest::Less => number < other,
     }
 }
 
-/// Sets a step's bit of each lane whose number is equal to another, or, if `equal` is false, below it.
+/// Sets a step's bit of each lane whose number and another pass a test.
 #[inline(always)]
 pub(crate) fn mark_beside(
     marks: &mut [u16; 64],
-    equal: bool,
+    test: PairTest,
     numbers: &[u16; 64],
     others: &[u16; 64],
     step: usize,
 )
     requires { step < 16 }
     ensures { (lane r : ℕ) → lane < 64 → r < 16 → (bit_at (slice_index marks.new lane) r == 1)
-        ≡ ((number_passes equal (slice_index numbers.now lane) (slice_index others.now lane) && (r == step)) || (bit_at (slice_index marks.old lane) r == 1)) }
+        ≡ ((number_passes test (slice_index numbers.now lane) (slice_index others.now lane) && (r == step)) || (bit_at (slice_index marks.old lane) r == 1)) }
 {
     for i in 0..64 {
-        marks[i] = with_step(marks[i], step, passes(equal, numbers[i], others[i]));
+        marks[i] = with_step(marks[i], step, passes(test, numbers[i], others[i]));
     }
 }
 

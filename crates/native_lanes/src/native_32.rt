@@ -6,6 +6,7 @@ ghost use Rattle.transpose_order.specs.Place.{lane_of, step_of};
 ghost use Rattle.bit_interleave.specs.Packing.{packed_value};
 ghost use Rattle.native_lanes.specs.Pairs.{number_passes};
 
+use crate::pair_test::PairTest;
 use transpose_order::Mask;
 
 /// The `width` bits of a word from bit `shift` on.
@@ -89,33 +90,32 @@ pub(crate) fn mark(marks: &mut [u32; 32], numbers: &[u32; 32], offset: u32, span
     }
 }
 
-/// Whether a number is equal to another, or, if `equal` is false, below it.
+/// Whether a number and another pass a test.
 #[inline(always)]
-fn passes(equal: bool, number: u32, other: u32) -> bool
-    ensures { result ≡ number_passes equal number other }
+fn passes(test: PairTest, number: u32, other: u32) -> bool
+    ensures { result ≡ number_passes test number other }
 {
-    if equal {
-        number == other
-    } else {
-        number < other
+    match test {
+        PairTest::Equal => number == other,
+        PairTest::Less => number < other,
     }
 }
 
-/// Sets a step's bit of each lane whose number is equal to another, or, if `equal` is false, below it.
+/// Sets a step's bit of each lane whose number and another pass a test.
 #[inline(always)]
 pub(crate) fn mark_beside(
     marks: &mut [u32; 32],
-    equal: bool,
+    test: PairTest,
     numbers: &[u32; 32],
     others: &[u32; 32],
     step: usize,
 )
     requires { step < 32 }
     ensures { (lane r : ℕ) → lane < 32 → r < 32 → (bit_at (slice_index marks.new lane) r == 1)
-        ≡ ((number_passes equal (slice_index numbers.now lane) (slice_index others.now lane) && (r == step)) || (bit_at (slice_index marks.old lane) r == 1)) }
+        ≡ ((number_passes test (slice_index numbers.now lane) (slice_index others.now lane) && (r == step)) || (bit_at (slice_index marks.old lane) r == 1)) }
 {
     for i in 0..32 {
-        marks[i] = with_step(marks[i], step, passes(equal, numbers[i], others[i]));
+        marks[i] = with_step(marks[i], step, passes(test, numbers[i], others[i]));
     }
 }
 

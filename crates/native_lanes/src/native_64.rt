@@ -7,6 +7,7 @@ ghost use Rattle.bit_interleave.specs.Packing.{packed_value};
 ghost use Rattle.native_lanes.specs.Pairs.{number_passes};
 ghost use Rattle.native_lanes.specs.Walks.{half_on};
 
+use crate::pair_test::PairTest;
 use transpose_order::Mask;
 
 /// The `width` bits of a word from bit `shift` on.
@@ -112,34 +113,32 @@ pub(crate) fn half_on(number: u64) -> u64
     number.wrapping_add(1 << 63)
 }
 
-/// Whether a number is equal to another, or, if `equal` is false, below it, once both are shifted by half.
+/// Whether a number and another pass a test, once both are shifted by half.
 #[inline(always)]
-fn passes(equal: bool, number: u64, other: u64) -> bool
-    ensures { result ≡ number_passes equal (half_on number) (half_on other) }
+fn passes(test: PairTest, number: u64, other: u64) -> bool
+    ensures { result ≡ number_passes test (half_on number) (half_on other) }
 {
-    if equal {
-        half_on(number) == half_on(other)
-    } else {
-        half_on(number) < half_on(other)
+    match test {
+        PairTest::Equal => half_on(number) == half_on(other),
+        PairTest::Less => half_on(number) < half_on(other),
     }
 }
 
-/// Sets a step's bit of each lane whose number is equal to another, or, if `equal` is false, below it, once both are shifted by
-/// half.
+/// Sets a step's bit of each lane whose number and another pass a test, once both are shifted by half.
 #[inline(always)]
 pub(crate) fn mark_beside(
     marks: &mut [u64; 16],
-    equal: bool,
+    test: PairTest,
     numbers: &[u64; 16],
     others: &[u64; 16],
     step: usize,
 )
     requires { step < 64 }
     ensures { (lane r : ℕ) → lane < 16 → r < 64 → (bit_at (slice_index marks.new lane) r == 1)
-        ≡ ((number_passes equal (half_on (slice_index numbers.now lane)) (half_on (slice_index others.now lane)) && (r == step)) || (bit_at (slice_index marks.old lane) r == 1)) }
+        ≡ ((number_passes test (half_on (slice_index numbers.now lane)) (half_on (slice_index others.now lane)) && (r == step)) || (bit_at (slice_index marks.old lane) r == 1)) }
 {
     for i in 0..16 {
-        marks[i] = with_bit(marks[i], step, passes(equal, numbers[i], others[i]));
+        marks[i] = with_bit(marks[i], step, passes(test, numbers[i], others[i]));
     }
 }
 

@@ -1,102 +1,195 @@
-//! Comparisons of frames with a range of numbers, on the packed numbers.
-ghost use Rattle.std.specs.Prelude.{◌≡◌, ℕ, ◌-◌, ◌^◌, ◌<◌, ◌≤◌, ◌&&◌, nat_le, IfSome, IsSome, ◌⊎◌, pos, ◌+ℤ◌, ◌-ℤ◌, ◌≤ℤ◌};
-ghost use Rattle.transpose_order.specs.Mask.{rows_of};
-ghost use Rattle.transpose_order.specs.Place.{IsLaneWidth, lane_of, step_of};
-ghost use Rattle.bit_interleave.specs.Packing.{packed_value};
-ghost use Rattle.bit_interleave.specs.PackedWords.{HasWidth};
-ghost use Rattle.frame_delta.specs.Frame.{frame_value};
+//! Frames and deltas whose numbers stay packed, gone through in lanes of their own type.
+ghost use Rattle.std.specs.Prelude.{◌≡◌, ◌==◌, ℕ, ◌^◌, ◌<◌, ◌&&◌, nat_lt, cond, is_some, IfSome, IsSome, pos, ◌+ℤ◌};
+ghost use Rattle.transpose_order.specs.Mask.{has, rows_of};
+ghost use Rattle.transpose_order.specs.Place.{IsLaneWidth};
 ghost use Rattle.native_lanes.specs.Between.{between};
-ghost use Rattle.native_lanes.specs.Frames.{IsPlain, IsDecided};
+ghost use Rattle.native_lanes.specs.Extremes.{extreme_at};
+ghost use Rattle.native_lanes.specs.Folds.{fold_to};
+ghost use Rattle.native_lanes.specs.Packed.{IsDecidedFrame, value_of, values_of, width_of};
+ghost use Rattle.native_lanes.specs.Pairs.{value_passes};
+ghost use Rattle.native_lanes.specs.Walks.{number_of_row};
 
-use crate::native_16::rows_between_16;
-use crate::native_32::rows_between_32;
-use bit_interleave::Words;
-use frame_delta::For;
+use crate::frame_range::frame_between;
+use crate::pair_test::PairTest;
+use crate::short_frames::sum_of_frame;
+use crate::walk_16::{Walk16, walk_of_deltas_16, walk_of_frame_16};
+use crate::walk_32::{Walk32, walk_of_deltas_32, walk_of_frame_32};
+use crate::walk_64::{Walk64, walk_of_deltas_64, walk_of_frame_64};
+use frame_delta::{Delta, For};
+use table_model::Extreme;
 use transpose_order::Mask;
 
-/// The greatest number of `width` bits, 0 to 64.
-pub(crate) fn greatest_number(width: usize) -> u64
-    requires { width ≤ 64 }
-    ensures { result ≡ 2 ^ width - 1 }
-{
-    if width == 0 {
-        return 0;
-    }
-    u64::MAX >> (64 - width)
+/// A frame or deltas. Each of the calls goes through all lanes of a step at once, and has no answer for lanes of 8 bits.
+#[derive(Clone, Copy)]
+pub enum Packed<'a> {
+    /// A frame.
+    Frame(&'a For),
+    /// Deltas.
+    Deltas(&'a Delta),
 }
 
-/// The greatest value of `lane_width` bits, signed, which are 8, 16, 32 or 64.
-fn greatest_value(lane_width: usize) -> i64
-    requires { IsLaneWidth lane_width }
-    ensures { result ≡ pos (2 ^ (lane_width - 1) - 1) }
-{
-    match lane_width {
-        8 => 0x7F,
-        16 => 0x7FFF,
-        32 => 0x7FFF_FFFF,
-        _ => i64::MAX,
+impl<'a> Packed<'a> {
+    /// The bits of a lane: 8, 16, 32 or 64.
+    fn lane_width(self) -> usize
+        ensures value { result ≡ width_of self.entry }
+        ensures lanes { IsLaneWidth result }
+    {
+        match self {
+            Packed::Frame(form) => form.lane_width(),
+            Packed::Deltas(form) => form.lane_width(),
+        }
     }
-}
 
-/// The reference plus the greatest number of the width, if that is in the range of the lane width, so that no value wraps.
-pub(crate) fn top_of(form: &For) -> Option<i64>
-    ensures top { IfSome result (λ top. top ≡ form.now.reference +ℤ pos (2 ^ form.now.width - 1)) }
-    ensures plain { IfSome result (λ top. (n : ℕ) → frame_value form.now n
-        ≡ form.now.reference +ℤ pos (packed_value form.now.lane_width form.now.width form.now.words.numbers (lane_of form.now.lane_width n) (step_of form.now.lane_width n))) }
-    ensures answers { IsPlain form.now → IsSome result }
-{
-    let greatest = greatest_value(form.lane_width());
-    let above = greatest_number(form.width());
-    let top = form.reference().checked_add_unsigned(above)?;
-    if greatest < top {
-        return None;
+    /// The walk through lanes of 16 bits.
+    fn walk_16(self) -> Walk16<'a>
+        requires { width_of self ≡ 16 }
+        ensures { (n : ℕ) → n < 1024 → pos (number_of_row result n) ≡ value_of self.entry n +ℤ pos (2 ^ 15) }
+    {
+        match self {
+            Packed::Frame(form) => walk_of_frame_16(form),
+            Packed::Deltas(form) => walk_of_deltas_16(form),
+        }
     }
-    Some(top)
-}
 
-/// How far a value is above a reference that isn't above it.
-fn distance(reference: i64, value: i64) -> u64
-    requires { reference ≤ℤ value }
-    ensures { pos result ≡ value -ℤ reference }
-{
-    (i128::from(value) - i128::from(reference)) as u64
-}
+    /// The walk through lanes of 32 bits.
+    fn walk_32(self) -> Walk32<'a>
+        requires { width_of self ≡ 32 }
+        ensures { (n : ℕ) → n < 1024 → pos (number_of_row result n) ≡ value_of self.entry n +ℤ pos (2 ^ 31) }
+    {
+        match self {
+            Packed::Frame(form) => walk_of_frame_32(form),
+            Packed::Deltas(form) => walk_of_deltas_32(form),
+        }
+    }
 
-/// The rows whose packed number is neither below `first` nor above `last`, of words of 16 or 32 bits, and none for words of
-/// other widths.
-fn numbers_between(width: usize, words: &Words, first: u64, last: u64) -> Option<Mask>
-    requires width { HasWidth words.now width }
-    requires order { first ≤ last }
-    requires fit { last < 2 ^ width }
-    ensures rows { IfSome result (λ found. found ≡ rows_of (λ n.
-        nat_le first (packed_value words.now.lane_width width words.now.numbers (lane_of words.now.lane_width n) (step_of words.now.lane_width n))
-        && nat_le (packed_value words.now.lane_width width words.now.numbers (lane_of words.now.lane_width n) (step_of words.now.lane_width n)) last)) }
-    ensures answers { (words.now.lane_width ≡ 16) ⊎ (words.now.lane_width ≡ 32) → IsSome result }
-{
-    match words.lane_width() {
-        16 => Some(rows_between_16(width, words.words_16(), first as u16, last as u16)),
-        32 => Some(rows_between_32(width, words.words_32(), first as u32, last as u32)),
-        _ => None,
+    /// The walk through lanes of 64 bits.
+    fn walk_64(self) -> Walk64<'a>
+        requires { width_of self ≡ 64 }
+        ensures { (n : ℕ) → n < 1024 → pos (number_of_row result n) ≡ value_of self.entry n +ℤ pos (2 ^ 63) }
+    {
+        match self {
+            Packed::Frame(form) => walk_of_frame_64(form),
+            Packed::Deltas(form) => walk_of_deltas_64(form),
+        }
     }
-}
 
-/// The rows whose value is neither below `low` nor above `high`. None if values can wrap, or if no way is known that is faster than
-/// their lanes. If the reference and the width decide, no word is read.
-pub fn frame_between(form: &For, low: i64, high: i64) -> Option<Mask>
-    ensures rows { IfSome result (λ found. found ≡ rows_of (λ n. between low high (frame_value form.now n))) }
-    ensures answers { IsPlain form.now → (form.now.lane_width ≡ 16) ⊎ (form.now.lane_width ≡ 32) → IsSome result }
-    ensures decided { IsPlain form.now → IsDecided form.now low high → IsSome result }
-{
-    let reference = form.reference();
-    let top = top_of(form)?;
-    if high < reference || top < low || high < low {
-        return Some(Mask::none());
+    /// The sum of the values of a mask's rows, or none at a lane width of 8.
+    pub fn sum(self, rows: &Mask) -> Option<i128>
+        ensures value { IfSome result (λ sum. sum ≡ fold_to ◌+ℤ◌ (pos 0) 1024 (λ n. cond (has rows.now n) (value_of self.entry n) (pos 0))) }
+        ensures answers { is_some result ≡ nat_lt 8 (width_of self.entry) }
+    {
+        match self {
+            Packed::Frame(form) => sum_of_frame(form, rows),
+            Packed::Deltas(form) => match form.lane_width() {
+                16 => Some(walk_of_deltas_16(form).sum_of_values(rows)),
+                32 => Some(walk_of_deltas_32(form).sum_of_values(rows)),
+                64 => Some(walk_of_deltas_64(form).sum_of_values(rows)),
+                _ => None,
+            },
+        }
     }
-    if low <= reference && top <= high {
-        return Some(Mask::all());
+
+    /// The answer of `extreme`. Frames and deltas have loops of their own for each lane width.
+    #[inline(always)]
+    fn extreme_by_walk(self, side: Extreme, rows: &Mask) -> Option<Option<i64>>
+        ensures value { IfSome result (λ found. found ≡ extreme_at side rows.now (value_of self.entry)) }
+        ensures answers { is_some result ≡ nat_lt 8 (width_of self.entry) }
+    {
+        match self {
+            Packed::Frame(form) => match form.lane_width() {
+                16 => Some(walk_of_frame_16(form).extreme_value(side, rows)),
+                32 => Some(walk_of_frame_32(form).extreme_value(side, rows)),
+                64 => Some(walk_of_frame_64(form).extreme_value(side, rows)),
+                _ => None,
+            },
+            Packed::Deltas(form) => match form.lane_width() {
+                16 => Some(walk_of_deltas_16(form).extreme_value(side, rows)),
+                32 => Some(walk_of_deltas_32(form).extreme_value(side, rows)),
+                64 => Some(walk_of_deltas_64(form).extreme_value(side, rows)),
+                _ => None,
+            },
+        }
     }
-    let first = distance(reference, low.max(reference));
-    let last = distance(reference, high.min(top));
-    let found = numbers_between(form.width(), form.words(), first, last)?;
-    Some(found)
+
+    /// The least or the greatest of the values of a mask's rows, none over none, or none at a lane width of 8.
+    pub fn extreme(self, side: Extreme, rows: &Mask) -> Option<Option<i64>>
+        ensures value { IfSome result (λ found. found ≡ extreme_at side rows.now (value_of self.entry)) }
+        ensures answers { is_some result ≡ nat_lt 8 (width_of self.entry) }
+    {
+        // Each extreme has loops of its own, in which it is a constant.
+        match side {
+            Extreme::Least => self.extreme_by_walk(Extreme::Least, rows),
+            Extreme::Greatest => self.extreme_by_walk(Extreme::Greatest, rows),
+        }
+    }
+
+    /// The rows whose value is neither below `low` nor above `high`, by a walk, or none at a lane width of 8.
+    fn within_by_walk(self, low: i64, high: i64) -> Option<Mask>
+        ensures value { IfSome result (λ found. found ≡ rows_of (λ n. between low high (value_of self.entry n))) }
+        ensures answers { is_some result ≡ nat_lt 8 (width_of self.entry) }
+    {
+        match self {
+            Packed::Frame(form) => match form.lane_width() {
+                16 => Some(walk_of_frame_16(form).values_between(low, high)),
+                32 => Some(walk_of_frame_32(form).values_between(low, high)),
+                64 => Some(walk_of_frame_64(form).values_between(low, high)),
+                _ => None,
+            },
+            Packed::Deltas(form) => match form.lane_width() {
+                16 => Some(walk_of_deltas_16(form).values_between(low, high)),
+                32 => Some(walk_of_deltas_32(form).values_between(low, high)),
+                64 => Some(walk_of_deltas_64(form).values_between(low, high)),
+                _ => None,
+            },
+        }
+    }
+
+    /// The rows whose value is neither below `low` nor above `high`. If none or all of the values of the lane's bits are, or if the
+    /// reference and the width of a frame that can't wrap decide, no word is read. Only at a lane width of 8 there can be no
+    /// answer.
+    pub fn within(self, low: i64, high: i64) -> Option<Mask>
+        ensures value { IfSome result (λ found. found ≡ rows_of (λ n. between low high (value_of self.entry n))) }
+        ensures answers { 8 < width_of self.entry → IsSome result }
+        ensures decided { IsDecidedFrame self.entry low high → IsSome result }
+    {
+        if let Packed::Frame(form) = self
+            && let Some(found) = frame_between(form, low, high)
+        {
+            return Some(found);
+        }
+        self.within_by_walk(low, high)
+    }
+
+    /// The rows at which a value and another's pass a test. There is no answer if the lane widths differ or are 8.
+    pub fn beside(self, test: PairTest, other: Packed<'_>) -> Option<Mask>
+        ensures value { IfSome result (λ found. found ≡ rows_of (λ n. value_passes test (value_of self.entry n) (value_of other.entry n))) }
+        ensures answers { is_some result ≡ (width_of self.entry == width_of other.entry && nat_lt 8 (width_of self.entry)) }
+    {
+        let lane_width = self.lane_width();
+        if lane_width != other.lane_width() {
+            return None;
+        }
+        match lane_width {
+            16 => Some(self.walk_16().values_beside(test, &other.walk_16())),
+            32 => Some(self.walk_32().values_beside(test, &other.walk_32())),
+            64 => Some(self.walk_64().values_beside(test, &other.walk_64())),
+            _ => None,
+        }
+    }
+
+    /// Writes the 1024 values in row order, at a lane width of 16 by all lanes of a step at once.
+    pub fn write_values(self, values: &mut [i64; 1024])
+        ensures { values.new ≡ values_of self.entry }
+    {
+        match self {
+            Packed::Frame(form) => match form.lane_width() {
+                16 => walk_of_frame_16(form).write_values(values),
+                _ => form.decode(values),
+            },
+            Packed::Deltas(form) => match form.lane_width() {
+                16 => walk_of_deltas_16(form).write_values(values),
+                _ => form.decode(values),
+            },
+        }
+    }
 }

@@ -1,6 +1,6 @@
 //! Sums of frames. If no value wraps and the numbers are short, the numbers are added, and the reference as many times as there are
 //! rows.
-ghost use Rattle.std.specs.Prelude.{IsTrue, ◌≡◌, ℕ, ◌^◌, ◌≤◌, cond, pos, ◌+ℤ◌, ◌*ℤ◌};
+ghost use Rattle.std.specs.Prelude.{IsTrue, ◌≡◌, ℕ, ◌^◌, ◌≤◌, cond, nat_lt, is_some, IfSome, pos, ◌+ℤ◌, ◌*ℤ◌};
 ghost use Rattle.transpose_order.specs.Mask.{has, count_below};
 ghost use Rattle.transpose_order.specs.Place.{lane_of, step_of};
 ghost use Rattle.bit_interleave.specs.Packing.{packed_value};
@@ -8,9 +8,10 @@ ghost use Rattle.frame_delta.specs.Frame.{frame_value};
 ghost use Rattle.native_lanes.specs.Folds.{fold_to};
 ghost use Rattle.native_lanes.specs.Frames.{IsPlain};
 
-use crate::packed::top_of;
+use crate::frame_range::top_of;
 use crate::short_32::sum_of_numbers_32;
 use crate::short_64::sum_of_numbers_64;
+use crate::walk_16::walk_of_frame_16;
 use crate::walk_32::walk_of_frame_32;
 use crate::walk_64::walk_of_frame_64;
 use frame_delta::For;
@@ -44,7 +45,7 @@ fn sum_above(reference: i64, numbers: u128, rows: &Mask) -> i128
 
 /// The sum of the values of a mask's rows of a frame of 32 bits. If no value wraps, numbers of at most 27 bits are added by
 /// themselves; 32 of them fit in one word.
-pub(crate) fn sum_of_frame_32(form: &For, rows: &Mask) -> i128
+fn sum_of_frame_32(form: &For, rows: &Mask) -> i128
     requires { form.now.lane_width ≡ 32 }
     ensures { result ≡ fold_to ◌+ℤ◌ (pos 0) 1024 (λ n. cond (has rows.now n) (frame_value form.now n) (pos 0)) }
 {
@@ -57,7 +58,7 @@ pub(crate) fn sum_of_frame_32(form: &For, rows: &Mask) -> i128
 
 /// The sum of the values of a mask's rows of a frame of 64 bits. If no value wraps, numbers of at most 58 bits are added by
 /// themselves; 64 of them fit in one word.
-pub(crate) fn sum_of_frame_64(form: &For, rows: &Mask) -> i128
+fn sum_of_frame_64(form: &For, rows: &Mask) -> i128
     requires { form.now.lane_width ≡ 64 }
     ensures { result ≡ fold_to ◌+ℤ◌ (pos 0) 1024 (λ n. cond (has rows.now n) (frame_value form.now n) (pos 0)) }
 {
@@ -66,4 +67,17 @@ pub(crate) fn sum_of_frame_64(form: &For, rows: &Mask) -> i128
         return sum_above(form.reference(), numbers, rows);
     }
     walk_of_frame_64(form).sum_of_values(rows)
+}
+
+/// The sum of the values of a mask's rows, or none at a lane width of 8.
+pub(crate) fn sum_of_frame(form: &For, rows: &Mask) -> Option<i128>
+    ensures value { IfSome result (λ sum. sum ≡ fold_to ◌+ℤ◌ (pos 0) 1024 (λ n. cond (has rows.now n) (frame_value form.now n) (pos 0))) }
+    ensures answers { is_some result ≡ nat_lt 8 form.now.lane_width }
+{
+    match form.lane_width() {
+        16 => Some(walk_of_frame_16(form).sum_of_values(rows)),
+        32 => Some(sum_of_frame_32(form, rows)),
+        64 => Some(sum_of_frame_64(form, rows)),
+        _ => None,
+    }
 }

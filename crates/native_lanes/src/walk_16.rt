@@ -7,17 +7,19 @@ ghost use Rattle.bit_interleave.specs.Packing.{packed_value};
 ghost use Rattle.bit_interleave.specs.Range.{value_at};
 ghost use Rattle.frame_delta.specs.Frame.{frame_value};
 ghost use Rattle.frame_delta.specs.Delta.{delta_value};
-ghost use Rattle.table_model.specs.Values.{lesser, greater};
+ghost use Rattle.native_lanes.specs.Extremes.{extreme_at};
 ghost use Rattle.native_lanes.specs.Folds.{fold_to};
 ghost use Rattle.native_lanes.specs.Between.{between};
 ghost use Rattle.native_lanes.specs.Pairs.{number_passes, value_passes};
 ghost use Rattle.native_lanes.specs.Walks.{number_before, number_at, number_of_row, turned};
 
 use crate::native_16::{mark, mark_beside, mask_of_lanes, numbers_16};
+use crate::pair_test::PairTest;
 use crate::raised::{raised_range, value_above};
 use crate::written_16::put_step;
 use frame_delta::{Delta, For};
 use std::marker::Model;
+use table_model::Extreme;
 use transpose_order::Mask;
 
 /// A walk through the 64 lanes of packed words of 16 bits, step by step. At each step a lane's number is the sum of the number
@@ -249,24 +251,16 @@ impl<'a> Walk16<'a> {
         greatest_of_lanes(&greatests)
     }
 
-    /// The greatest value of a mask's rows, none over none; each row's number is how far its value is above the least of 16 bits.
+    /// The least or the greatest value of a mask's rows, none over none; each row's number is how far its value is above the least
+    /// of 16 bits.
     #[inline(always)]
-    pub(crate) fn greatest_value(&self, rows: &Mask) -> Option<i64>
+    pub(crate) fn extreme_value(&self, side: Extreme, rows: &Mask) -> Option<i64>
         ensures { (value : ℕ → ℤ) → ((n : ℕ) → n < 1024 → pos (number_of_row self.now n) ≡ value n +ℤ pos (2 ^ 15))
-            → result ≡ fold_to greater None 1024 (λ n. cond (has rows.now n) (Some (value n)) None) }
+            → result ≡ extreme_at side rows.now value }
     {
-        let greatest = self.greatest(false, rows);
-        value_above(rows, u64::from(greatest), 1 << 15)
-    }
-
-    /// The least value of a mask's rows, none over none; each row's number is how far its value is above the least of 16 bits.
-    #[inline(always)]
-    pub(crate) fn least_value(&self, rows: &Mask) -> Option<i64>
-        ensures { (value : ℕ → ℤ) → ((n : ℕ) → n < 1024 → pos (number_of_row self.now n) ≡ value n +ℤ pos (2 ^ 15))
-            → result ≡ fold_to lesser None 1024 (λ n. cond (has rows.now n) (Some (value n)) None) }
-    {
-        let least = u16::MAX - self.greatest(true, rows);
-        value_above(rows, u64::from(least), 1 << 15)
+        let flipped = side.is_least();
+        let found = turned(flipped, self.greatest(flipped, rows));
+        value_above(rows, u64::from(found), 1 << 15)
     }
 
     /// Writes the values of all rows; each row's number is how far its value is above the least of 16 bits.
@@ -325,10 +319,12 @@ impl<'a> Walk16<'a> {
         self.rows_between(first as u16, last as u16)
     }
 
-    /// For each lane, the bits of the steps at which the number is equal to another walk's, or, if `equal` is false, below it.
-    fn marks_beside(&self, equal: bool, other: &Walk16<'_>) -> [u16; 64]
-        ensures { (lane step : ℕ) → lane < 64 → step < 16 → (bit_at (slice_index result lane) step == 1)
-            ≡ number_passes equal (number_at self.now lane step) (number_at other.now lane step) }
+    /// For each lane, the bits of the steps at which the number and another walk's pass a test.
+    fn marks_beside(&self, test: PairTest, other: &Walk16<'_>) -> [u16; 64]
+        ensures marks { (lane step : ℕ) → lane < 64 → step < 16 → (bit_at (slice_index result lane) step == 1)
+            ≡ number_passes test (number_at self.now lane step) (number_at other.now lane step) }
+        ensures width { self.now.lane_width ≡ 16 }
+        ensures other { other.now.lane_width ≡ 16 }
     {
         let mut numbers = self.starts;
         let mut others = other.starts;
@@ -336,22 +332,19 @@ impl<'a> Walk16<'a> {
         for step in 0..16 {
             self.go(step, &mut numbers);
             other.go(step, &mut others);
-            mark_beside(&mut marks, equal, &numbers, &others, step);
+            mark_beside(&mut marks, test, &numbers, &others, step);
         }
         marks
     }
 
-    /// The rows whose value is equal to another walk's, or, if `equal` is false, less; each row's number is how far its value is
-    /// above the least of 16 bits.
-    pub(crate) fn values_beside(&self, equal: bool, other: &Walk16<'_>) -> Mask
+    /// The rows whose value and another walk's pass a test; each row's number is how far its value is above the least of 16
+    /// bits.
+    pub(crate) fn values_beside(&self, test: PairTest, other: &Walk16<'_>) -> Mask
         ensures { (left right : ℕ → ℤ) → ((n : ℕ) → n < 1024 → pos (number_of_row self.now n) ≡ left n +ℤ pos (2 ^ 15))
             → ((n : ℕ) → n < 1024 → pos (number_of_row other.now n) ≡ right n +ℤ pos (2 ^ 15))
-            → result ≡ rows_of (λ n. value_passes equal (left n) (right n)) }
+            → result ≡ rows_of (λ n. value_passes test (left n) (right n)) }
     {
-        // A walk whose field is read keeps its invariant.
-        let _width = self.width;
-        let _other_width = other.width;
-        mask_of_lanes(&self.marks_beside(equal, other))
+        mask_of_lanes(&self.marks_beside(test, other))
     }
 }
 
@@ -403,20 +396,4 @@ pub(crate) fn walk_of_deltas_16(form: &Delta) -> Walk16<'_>
     let starts = all_raised(form.bases().values_16());
     let added = bits(form.least());
     Walk16::new(form.width(), form.words().words_16(), true, starts, added)
-}
-
-/// The sum of the values of a mask's rows of a frame of 16 bits.
-pub(crate) fn sum_of_frame_16(form: &For, rows: &Mask) -> i128
-    requires { form.now.lane_width ≡ 16 }
-    ensures { result ≡ fold_to ◌+ℤ◌ (pos 0) 1024 (λ n. cond (has rows.now n) (frame_value form.now n) (pos 0)) }
-{
-    walk_of_frame_16(form).sum_of_values(rows)
-}
-
-/// The sum of the values of a mask's rows of deltas of 16 bits.
-pub(crate) fn sum_of_deltas_16(form: &Delta, rows: &Mask) -> i128
-    requires { form.now.lane_width ≡ 16 }
-    ensures { result ≡ fold_to ◌+ℤ◌ (pos 0) 1024 (λ n. cond (has rows.now n) (delta_value form.now n) (pos 0)) }
-{
-    walk_of_deltas_16(form).sum_of_values(rows)
 }

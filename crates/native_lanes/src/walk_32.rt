@@ -7,16 +7,18 @@ ghost use Rattle.bit_interleave.specs.Packing.{packed_value};
 ghost use Rattle.bit_interleave.specs.Range.{value_at};
 ghost use Rattle.frame_delta.specs.Frame.{frame_value};
 ghost use Rattle.frame_delta.specs.Delta.{delta_value};
-ghost use Rattle.table_model.specs.Values.{lesser, greater};
+ghost use Rattle.native_lanes.specs.Extremes.{extreme_at};
 ghost use Rattle.native_lanes.specs.Folds.{fold_to};
 ghost use Rattle.native_lanes.specs.Between.{between};
 ghost use Rattle.native_lanes.specs.Pairs.{number_passes, value_passes};
 ghost use Rattle.native_lanes.specs.Walks.{number_before, number_at, number_of_row, turned};
 
 use crate::native_32::{mark, mark_beside, mask_of_lanes, numbers_32};
+use crate::pair_test::PairTest;
 use crate::raised::{raised_range, value_above};
 use frame_delta::{Delta, For};
 use std::marker::Model;
+use table_model::Extreme;
 use transpose_order::Mask;
 
 /// A walk through the 32 lanes of packed words of 32 bits, step by step. At each step a lane's number is the sum of the number
@@ -254,24 +256,16 @@ impl<'a> Walk32<'a> {
         greatest_of_lanes(&greatests)
     }
 
-    /// The greatest value of a mask's rows, none over none; each row's number is how far its value is above the least of 32 bits.
+    /// The least or the greatest value of a mask's rows, none over none; each row's number is how far its value is above the least
+    /// of 32 bits.
     #[inline(always)]
-    pub(crate) fn greatest_value(&self, rows: &Mask) -> Option<i64>
+    pub(crate) fn extreme_value(&self, side: Extreme, rows: &Mask) -> Option<i64>
         ensures { (value : ℕ → ℤ) → ((n : ℕ) → n < 1024 → pos (number_of_row self.now n) ≡ value n +ℤ pos (2 ^ 31))
-            → result ≡ fold_to greater None 1024 (λ n. cond (has rows.now n) (Some (value n)) None) }
+            → result ≡ extreme_at side rows.now value }
     {
-        let greatest = self.greatest(false, rows);
-        value_above(rows, u64::from(greatest), 1 << 31)
-    }
-
-    /// The least value of a mask's rows, none over none; each row's number is how far its value is above the least of 32 bits.
-    #[inline(always)]
-    pub(crate) fn least_value(&self, rows: &Mask) -> Option<i64>
-        ensures { (value : ℕ → ℤ) → ((n : ℕ) → n < 1024 → pos (number_of_row self.now n) ≡ value n +ℤ pos (2 ^ 31))
-            → result ≡ fold_to lesser None 1024 (λ n. cond (has rows.now n) (Some (value n)) None) }
-    {
-        let least = u32::MAX - self.greatest(true, rows);
-        value_above(rows, u64::from(least), 1 << 31)
+        let flipped = side.is_least();
+        let found = turned(flipped, self.greatest(flipped, rows));
+        value_above(rows, u64::from(found), 1 << 31)
     }
 
     /// For each lane, the bits of the steps at which the number plus an offset, modulo two to the power of 32, is at most a span.
@@ -318,10 +312,12 @@ impl<'a> Walk32<'a> {
         self.rows_between(first as u32, last as u32)
     }
 
-    /// For each lane, the bits of the steps at which the number is equal to another walk's, or, if `equal` is false, below it.
-    fn marks_beside(&self, equal: bool, other: &Walk32<'_>) -> [u32; 32]
-        ensures { (lane step : ℕ) → lane < 32 → step < 32 → (bit_at (slice_index result lane) step == 1)
-            ≡ number_passes equal (number_at self.now lane step) (number_at other.now lane step) }
+    /// For each lane, the bits of the steps at which the number and another walk's pass a test.
+    fn marks_beside(&self, test: PairTest, other: &Walk32<'_>) -> [u32; 32]
+        ensures marks { (lane step : ℕ) → lane < 32 → step < 32 → (bit_at (slice_index result lane) step == 1)
+            ≡ number_passes test (number_at self.now lane step) (number_at other.now lane step) }
+        ensures width { self.now.lane_width ≡ 32 }
+        ensures other { other.now.lane_width ≡ 32 }
     {
         let mut numbers = self.starts;
         let mut others = other.starts;
@@ -329,22 +325,19 @@ impl<'a> Walk32<'a> {
         for step in 0..32 {
             self.go(step, &mut numbers);
             other.go(step, &mut others);
-            mark_beside(&mut marks, equal, &numbers, &others, step);
+            mark_beside(&mut marks, test, &numbers, &others, step);
         }
         marks
     }
 
-    /// The rows whose value is equal to another walk's, or, if `equal` is false, less; each row's number is how far its value is
-    /// above the least of 32 bits.
-    pub(crate) fn values_beside(&self, equal: bool, other: &Walk32<'_>) -> Mask
+    /// The rows whose value and another walk's pass a test; each row's number is how far its value is above the least of 32
+    /// bits.
+    pub(crate) fn values_beside(&self, test: PairTest, other: &Walk32<'_>) -> Mask
         ensures { (left right : ℕ → ℤ) → ((n : ℕ) → n < 1024 → pos (number_of_row self.now n) ≡ left n +ℤ pos (2 ^ 31))
             → ((n : ℕ) → n < 1024 → pos (number_of_row other.now n) ≡ right n +ℤ pos (2 ^ 31))
-            → result ≡ rows_of (λ n. value_passes equal (left n) (right n)) }
+            → result ≡ rows_of (λ n. value_passes test (left n) (right n)) }
     {
-        // A walk whose field is read keeps its invariant.
-        let _width = self.width;
-        let _other_width = other.width;
-        mask_of_lanes(&self.marks_beside(equal, other))
+        mask_of_lanes(&self.marks_beside(test, other))
     }
 }
 
@@ -396,12 +389,4 @@ pub(crate) fn walk_of_deltas_32(form: &Delta) -> Walk32<'_>
     let starts = all_raised(form.bases().values_32());
     let added = bits(form.least());
     Walk32::new(form.width(), form.words().words_32(), true, starts, added)
-}
-
-/// The sum of the values of a mask's rows of deltas of 32 bits.
-pub(crate) fn sum_of_deltas_32(form: &Delta, rows: &Mask) -> i128
-    requires { form.now.lane_width ≡ 32 }
-    ensures { result ≡ fold_to ◌+ℤ◌ (pos 0) 1024 (λ n. cond (has rows.now n) (delta_value form.now n) (pos 0)) }
-{
-    walk_of_deltas_32(form).sum_of_values(rows)
 }

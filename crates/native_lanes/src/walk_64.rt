@@ -7,18 +7,21 @@ ghost use Rattle.bit_interleave.specs.Packing.{packed_value};
 ghost use Rattle.bit_interleave.specs.Range.{value_at};
 ghost use Rattle.frame_delta.specs.Frame.{frame_value};
 ghost use Rattle.frame_delta.specs.Delta.{delta_value};
-ghost use Rattle.table_model.specs.Values.{lesser, greater};
+ghost use Rattle.native_lanes.specs.Extremes.{extreme_at};
 ghost use Rattle.native_lanes.specs.Folds.{fold_to};
 ghost use Rattle.native_lanes.specs.Between.{between};
 ghost use Rattle.native_lanes.specs.Pairs.{number_passes, value_passes};
 ghost use Rattle.native_lanes.specs.Walks.{number_before, number_at, number_of_row, turned, half_on, further};
+ghost use Rattle.native_lanes.specs.declared.pair_test.PairTest.TheVariants as tests;
 
+use crate::frame_range::greatest_number;
 use crate::full::are_all_set;
 use crate::native_64::{half_on, mark, mark_beside, mask_of_lanes, numbers_64};
-use crate::packed::greatest_number;
+use crate::pair_test::PairTest;
 use crate::raised::{raised_range, value_above};
 use frame_delta::{Delta, For};
 use std::marker::Model;
+use table_model::Extreme;
 use transpose_order::Mask;
 
 /// A walk through the 16 lanes of packed words of 64 bits, step by step. At each step a lane's number is the sum of the number
@@ -474,24 +477,16 @@ impl<'a> Walk64<'a> {
         furthest
     }
 
-    /// The greatest value of a mask's rows, none over none; each row's number is how far its value is above the least of 64 bits.
+    /// The least or the greatest value of a mask's rows, none over none; each row's number is how far its value is above the least
+    /// of 64 bits.
     #[inline(always)]
-    pub(crate) fn greatest_value(&self, rows: &Mask) -> Option<i64>
+    pub(crate) fn extreme_value(&self, side: Extreme, rows: &Mask) -> Option<i64>
         ensures { (value : ℕ → ℤ) → ((n : ℕ) → n < 1024 → pos (number_of_row self.now n) ≡ value n +ℤ pos (2 ^ 63))
-            → result ≡ fold_to greater None 1024 (λ n. cond (has rows.now n) (Some (value n)) None) }
+            → result ≡ extreme_at side rows.now value }
     {
-        let greatest = self.greatest(false, rows);
-        value_above(rows, greatest, 1 << 63)
-    }
-
-    /// The least value of a mask's rows, none over none; each row's number is how far its value is above the least of 64 bits.
-    #[inline(always)]
-    pub(crate) fn least_value(&self, rows: &Mask) -> Option<i64>
-        ensures { (value : ℕ → ℤ) → ((n : ℕ) → n < 1024 → pos (number_of_row self.now n) ≡ value n +ℤ pos (2 ^ 63))
-            → result ≡ fold_to lesser None 1024 (λ n. cond (has rows.now n) (Some (value n)) None) }
-    {
-        let least = u64::MAX - self.greatest(true, rows);
-        value_above(rows, least, 1 << 63)
+        let flipped = side.is_least();
+        let found = turned(flipped, self.greatest(flipped, rows));
+        value_above(rows, found, 1 << 63)
     }
 
     /// For each lane, the bits of the steps at which the number plus an offset, modulo two to the power of 64, is at most a span.
@@ -547,18 +542,20 @@ impl<'a> Walk64<'a> {
         self.rows_between(first, last)
     }
 
-    /// For each lane, the bits of the steps at which the number is equal to another walk's, or, if `equal` is false, below it.
+    /// For each lane, the bits of the steps at which the number and another walk's pass a test.
     #[inline(always)]
-    fn marks_beside(&self, equal: bool, other: &Walk64<'_>) -> [u64; 16]
-        ensures { (lane step : ℕ) → lane < 16 → step < 64 → (bit_at (slice_index result lane) step == 1)
-            ≡ number_passes equal (number_at self.now lane step) (number_at other.now lane step) }
+    fn marks_beside(&self, test: PairTest, other: &Walk64<'_>) -> [u64; 16]
+        ensures marks { (lane step : ℕ) → lane < 16 → step < 64 → (bit_at (slice_index result lane) step == 1)
+            ≡ number_passes test (number_at self.now lane step) (number_at other.now lane step) }
+        ensures width { self.now.lane_width ≡ 64 }
+        ensures other { other.now.lane_width ≡ 64 }
     {
         let left = self.shifted(1 << 63);
         let right = other.shifted(1 << 63);
-        if equal {
-            return left.marks_equal(&right);
+        match test {
+            PairTest::Equal => left.marks_equal(&right),
+            PairTest::Less => left.marks_below(&right),
         }
-        left.marks_below(&right)
     }
 
     /// For each lane, the bits of the steps at which the number is equal to another walk's, once both are shifted by half. It is a
@@ -566,26 +563,26 @@ impl<'a> Walk64<'a> {
     #[inline(never)]
     fn marks_equal(&self, other: &Walk64<'_>) -> [u64; 16]
         ensures { (lane step : ℕ) → lane < 16 → step < 64 → (bit_at (slice_index result lane) step == 1)
-            ≡ number_passes true (half_on (number_at self.now lane step)) (half_on (number_at other.now lane step)) }
+            ≡ number_passes tests.Equal (half_on (number_at self.now lane step)) (half_on (number_at other.now lane step)) }
     {
-        self.marks_beside_half_on(true, other)
+        self.marks_beside_half_on(PairTest::Equal, other)
     }
 
     /// For each lane, the bits of the steps at which the number is below another walk's, once both are shifted by half.
     #[inline(never)]
     fn marks_below(&self, other: &Walk64<'_>) -> [u64; 16]
         ensures { (lane step : ℕ) → lane < 16 → step < 64 → (bit_at (slice_index result lane) step == 1)
-            ≡ number_passes false (half_on (number_at self.now lane step)) (half_on (number_at other.now lane step)) }
+            ≡ number_passes tests.Less (half_on (number_at self.now lane step)) (half_on (number_at other.now lane step)) }
     {
-        self.marks_beside_half_on(false, other)
+        self.marks_beside_half_on(PairTest::Less, other)
     }
 
-    /// For each lane, the bits of the steps at which the number is equal to another walk's, or, if `equal` is false, below it, once
-    /// both are shifted by half.
+    /// For each lane, the bits of the steps at which the number and another walk's pass a test, once both are shifted
+    /// by half.
     #[inline(always)]
-    fn marks_beside_half_on(&self, equal: bool, other: &Walk64<'_>) -> [u64; 16]
+    fn marks_beside_half_on(&self, test: PairTest, other: &Walk64<'_>) -> [u64; 16]
         ensures { (lane step : ℕ) → lane < 16 → step < 64 → (bit_at (slice_index result lane) step == 1)
-            ≡ number_passes equal (half_on (number_at self.now lane step)) (half_on (number_at other.now lane step)) }
+            ≡ number_passes test (half_on (number_at self.now lane step)) (half_on (number_at other.now lane step)) }
     {
         let mut numbers = self.starts;
         let mut others = other.starts;
@@ -593,22 +590,19 @@ impl<'a> Walk64<'a> {
         for step in 0..64 {
             self.go(step, &mut numbers);
             other.go(step, &mut others);
-            mark_beside(&mut marks, equal, &numbers, &others, step);
+            mark_beside(&mut marks, test, &numbers, &others, step);
         }
         marks
     }
 
-    /// The rows whose value is equal to another walk's, or, if `equal` is false, less; each row's number is how far its value is
-    /// above the least of 64 bits.
-    pub(crate) fn values_beside(&self, equal: bool, other: &Walk64<'_>) -> Mask
+    /// The rows whose value and another walk's pass a test; each row's number is how far its value is above the least of 64
+    /// bits.
+    pub(crate) fn values_beside(&self, test: PairTest, other: &Walk64<'_>) -> Mask
         ensures { (left right : ℕ → ℤ) → ((n : ℕ) → n < 1024 → pos (number_of_row self.now n) ≡ left n +ℤ pos (2 ^ 63))
             → ((n : ℕ) → n < 1024 → pos (number_of_row other.now n) ≡ right n +ℤ pos (2 ^ 63))
-            → result ≡ rows_of (λ n. value_passes equal (left n) (right n)) }
+            → result ≡ rows_of (λ n. value_passes test (left n) (right n)) }
     {
-        // A walk whose field is read keeps its invariant.
-        let _width = self.width;
-        let _other_width = other.width;
-        mask_of_lanes(&self.marks_beside(equal, other))
+        mask_of_lanes(&self.marks_beside(test, other))
     }
 }
 
@@ -660,12 +654,4 @@ pub(crate) fn walk_of_deltas_64(form: &Delta) -> Walk64<'_>
     let starts = all_raised(form.bases().values_64());
     let added = bits(form.least());
     Walk64::new(form.width(), form.words().words_64(), true, starts, added)
-}
-
-/// The sum of the values of a mask's rows of deltas of 64 bits.
-pub(crate) fn sum_of_deltas_64(form: &Delta, rows: &Mask) -> i128
-    requires { form.now.lane_width ≡ 64 }
-    ensures { result ≡ fold_to ◌+ℤ◌ (pos 0) 1024 (λ n. cond (has rows.now n) (delta_value form.now n) (pos 0)) }
-{
-    walk_of_deltas_64(form).sum_of_values(rows)
 }

@@ -1,15 +1,17 @@
--- An extreme of values more, row by row, and by the greatest of the shown values.
+-- An extreme of values more, row by row, and by the greatest of the turned values.
 use Rattle.std.proofs.Common.{◌≡◌, ◌≢◌, ℕ, ◌+◌, Bool, true, false, cond, unwrap_or, option_map, List, [], ◌∷◌, ◌++◌, map, get_or, Option, Some, None, ℤ, pos, negsuc, ◌-ℤ◌, FitsSigned, w64, refl, sym, ap, ◌∙◌, arith, append-nil}
 use Rattle.std.specs.Int.{int_max, int_min}
 use Rattle.std.proofs.lemmas.Int.{ints, clamps}
 use Rattle.std.proofs.lemmas.List.{map-append}
-use Rattle.table_model.proofs.Appended.{greatest-append, least-append}
+use Rattle.table_model.proofs.Appended.{greatest-append}
+use Rattle.table_model.proofs.Extremes.{extreme-append, no_extreme, turned_twice}
 use Rattle.table_model.specs.Values.{lesser, greater, greatest}
 use Rattle.transpose_order.specs.Mask.{has}
-use Rattle.query_eval.specs.Extreme.{extreme_of, further, least_number, shown_value, top_of}
+use Rattle.table_model.specs.Extreme.{extreme_of, further, turned}
+use Rattle.query_eval.specs.Forms.{least_number, top_of}
 use Rattle.query_eval.specs.Slices.{values_below}
-use Rattle.query_eval.specs.declared.tallies.extreme.Extreme.{Extreme}
-use Rattle.query_eval.specs.declared.tallies.extreme.Extreme.TheVariants.{Least, Greatest}
+use Rattle.table_model.specs.declared.extreme.Extreme.{Extreme}
+use Rattle.table_model.specs.declared.extreme.Extreme.TheVariants.{Least, Greatest}
 use Rattle.query_eval.specs.declared.tallies.tally.TallyKind.TheVariants as kinds
 use Rattle.query_eval.proofs.MaskedLemmas.{values_more}
 
@@ -18,22 +20,10 @@ pub same_side : (e f : Extreme) → kinds.Extreme e ≡ kinds.Extreme f → e �
 same_side e f h = cc
 
 -- ---- values more
-pub no_extreme : (e : Extreme) → extreme_of e [] ≡ None
-no_extreme Least = refl
-no_extreme Greatest = refl
-
-pub one_extreme : (e : Extreme) (z : ℤ) → extreme_of e (z ∷ []) ≡ Some z
-one_extreme Least z = refl
-one_extreme Greatest z = refl
-
-pub extreme-append : (e : Extreme) (xs ys : List ℤ) → extreme_of e (xs ++ ys) ≡ further e (extreme_of e xs) (extreme_of e ys)
-extreme-append Least xs ys = least-append xs ys
-extreme-append Greatest xs ys = greatest-append xs ys
-
 pub extreme_many : (e : Extreme) (before after one : Option ℤ) (added : List ℤ) → one ≡ extreme_of e added → after ≡ further e before one → (values : List ℤ) → before ≡ extreme_of e values → after ≡ extreme_of e (values ++ added)
 extreme_many e before after one added is now values h = now ∙ ap (λ o. further e o one) h ∙ ap (further e (extreme_of e values)) is ∙ sym (extreme-append e values added)
 
--- ---- the greatest of shown values
+-- ---- the greatest of turned values
 max_least : (x : ℤ) → FitsSigned w64 x → int_max x least_number ≡ x
 max_least x fits = omega (arith, ints, clamps)
 
@@ -44,23 +34,23 @@ top_one : (o : Option ℤ) (x : ℤ) → FitsSigned w64 x → unwrap_or (greater
 top_one None x fits = sym (least_max x fits)
 top_one (Some y) x fits = refl
 
-one_shown : (e : Extreme) (b : Bool) (z : ℤ) → map (shown_value e) (cond b (z ∷ []) []) ≡ cond b (shown_value e z ∷ []) []
-one_shown e true z = refl
-one_shown e false z = refl
+one_turned : (e : Extreme) (b : Bool) (z : ℤ) → map (turned e) (cond b (z ∷ []) []) ≡ cond b (turned e z ∷ []) []
+one_turned e true z = refl
+one_turned e false z = refl
 
-pub top_more : (e : Extreme) (k : ℕ) (rows : List Bool) (values : List ℤ) (b : Bool) (top x : ℤ) → has rows k ≡ b → FitsSigned w64 top → FitsSigned w64 x → top ≡ top_of (map (shown_value e) (values_below k rows values)) → x ≡ cond b (shown_value e (get_or values k (pos 0))) least_number → int_max top x ≡ top_of (map (shown_value e) (values_below (k + 1) rows values))
+pub top_more : (e : Extreme) (k : ℕ) (rows : List Bool) (values : List ℤ) (b : Bool) (top x : ℤ) → has rows k ≡ b → FitsSigned w64 top → FitsSigned w64 x → top ≡ top_of (map (turned e) (values_below k rows values)) → x ≡ cond b (turned e (get_or values k (pos 0))) least_number → int_max top x ≡ top_of (map (turned e) (values_below (k + 1) rows values))
 top_more e k rows values b top x on fits also before is = one b is ∙ ap top_of (sym now)
   where
     front : List ℤ
-    front = map (shown_value e) (values_below k rows values)
+    front = map (turned e) (values_below k rows values)
 
     z : ℤ
-    z = shown_value e (get_or values k (pos 0))
+    z = turned e (get_or values k (pos 0))
 
-    now : map (shown_value e) (values_below (k + 1) rows values) ≡ front ++ cond b (z ∷ []) []
+    now : map (turned e) (values_below (k + 1) rows values) ≡ front ++ cond b (z ∷ []) []
     now =
-        ap (map (shown_value e)) (values_more k rows values b on) ∙ map-append (shown_value e) (values_below k rows values) (cond b (get_or values k (pos 0) ∷ []) [])
-        ∙ ap (λ l. front ++ l) (one_shown e b (get_or values k (pos 0)))
+        ap (map (turned e)) (values_more k rows values b on) ∙ map-append (turned e) (values_below k rows values) (cond b (get_or values k (pos 0) ∷ []) [])
+        ∙ ap (λ l. front ++ l) (one_turned e b (get_or values k (pos 0)))
 
     one : (c : Bool) → x ≡ cond c z least_number → int_max top x ≡ top_of (front ++ cond c (z ∷ []) [])
     one true at =
@@ -68,40 +58,36 @@ top_more e k rows values b top x on fits also before is = one b is ∙ ap top_of
         ∙ ap (λ o. unwrap_or o least_number) (sym (greatest-append front (z ∷ [])))
     one false at = ap (int_max top) at ∙ max_least top fits ∙ before ∙ ap top_of (sym (append-nil front))
 
--- ---- an extreme by the greatest of the shown values
-back : (e : Extreme) (z : ℤ) → shown_value e (shown_value e z) ≡ z
-back Least z = omega (arith, ints)
-back Greatest z = refl
-
+-- ---- an extreme by the greatest of the turned values
 turned_min : (x y : ℤ) → int_min x (negsuc 0 -ℤ y) ≡ negsuc 0 -ℤ int_max (negsuc 0 -ℤ x) y
 turned_min x y = omega (arith, ints, clamps)
 
 -- one value more on the side of an extreme
-more_extreme : (e : Extreme) (z : ℤ) (zs : List ℤ) (o : Option ℤ) → extreme_of e zs ≡ option_map (shown_value e) o → extreme_of e (z ∷ zs) ≡ option_map (shown_value e) (greater (Some (shown_value e z)) o)
-more_extreme Least z zs None h = ap (lesser (Some z)) h ∙ ap Some (sym (back Least z))
+more_extreme : (e : Extreme) (z : ℤ) (zs : List ℤ) (o : Option ℤ) → extreme_of e zs ≡ option_map (turned e) o → extreme_of e (z ∷ zs) ≡ option_map (turned e) (greater (Some (turned e z)) o)
+more_extreme Least z zs None h = ap (lesser (Some z)) h ∙ ap Some (sym (turned_twice Least z))
 more_extreme Least z zs (Some y) h = ap (lesser (Some z)) h ∙ ap Some (turned_min z y)
 more_extreme Greatest z zs None h = ap (greater (Some z)) h
 more_extreme Greatest z zs (Some y) h = ap (greater (Some z)) h
 
-shown_extreme : (e : Extreme) (zs : List ℤ) → extreme_of e zs ≡ option_map (shown_value e) (greatest (map (shown_value e) zs))
-shown_extreme e [] = no_extreme e
-shown_extreme e (z ∷ zs) = more_extreme e z zs (greatest (map (shown_value e) zs)) (shown_extreme e zs)
+turned_extreme : (e : Extreme) (zs : List ℤ) → extreme_of e zs ≡ option_map (turned e) (greatest (map (turned e) zs))
+turned_extreme e [] = no_extreme e
+turned_extreme e (z ∷ zs) = more_extreme e z zs (greatest (map (turned e) zs)) (turned_extreme e zs)
 
 some_greatest : (z : ℤ) (o : Option ℤ) → greater (Some z) o ≢ None
 some_greatest z None = λ e. absurd (cc)
 some_greatest z (Some y) = λ e. absurd (cc)
 
-none_shown : (e : Extreme) (zs : List ℤ) → greatest (map (shown_value e) zs) ≡ None → zs ≡ []
-none_shown e [] h = refl
-none_shown e (z ∷ zs) h = absurd (some_greatest (shown_value e z) (greatest (map (shown_value e) zs)) h)
+none_turned : (e : Extreme) (zs : List ℤ) → greatest (map (turned e) zs) ≡ None → zs ≡ []
+none_turned e [] h = refl
+none_turned e (z ∷ zs) h = absurd (some_greatest (turned e z) (greatest (map (turned e) zs)) h)
 
 -- over some values, and over none
-pub extreme_some : (e : Extreme) (zs : List ℤ) (top : ℤ) → top ≡ top_of (map (shown_value e) zs) → (top ≡ least_number → zs ≢ []) → Some (shown_value e top) ≡ extreme_of e zs
-extreme_some e zs top is some = by_greatest (greatest (map (shown_value e) zs)) refl
+pub extreme_some : (e : Extreme) (zs : List ℤ) (top : ℤ) → top ≡ top_of (map (turned e) zs) → (top ≡ least_number → zs ≢ []) → Some (turned e top) ≡ extreme_of e zs
+extreme_some e zs top is some = by_greatest (greatest (map (turned e) zs)) refl
   where
-    by_greatest : (o : Option ℤ) → greatest (map (shown_value e) zs) ≡ o → Some (shown_value e top) ≡ extreme_of e zs
-    by_greatest None h = absurd (some (is ∙ ap (λ o. unwrap_or o least_number) h) (none_shown e zs h))
-    by_greatest (Some y) h = ap (λ z. Some (shown_value e z)) (is ∙ ap (λ o. unwrap_or o least_number) h) ∙ sym (shown_extreme e zs ∙ ap (option_map (shown_value e)) h)
+    by_greatest : (o : Option ℤ) → greatest (map (turned e) zs) ≡ o → Some (turned e top) ≡ extreme_of e zs
+    by_greatest None h = absurd (some (is ∙ ap (λ o. unwrap_or o least_number) h) (none_turned e zs h))
+    by_greatest (Some y) h = ap (λ z. Some (turned e z)) (is ∙ ap (λ o. unwrap_or o least_number) h) ∙ sym (turned_extreme e zs ∙ ap (option_map (turned e)) h)
 
 pub extreme_none : (e : Extreme) (zs : List ℤ) → zs ≡ [] → None ≡ extreme_of e zs
 extreme_none e zs h = sym (ap (extreme_of e) h ∙ no_extreme e)

@@ -50,7 +50,7 @@ one_aggregate (Folded f d p) (Folded g e q) h =
     let place = (Decides-eqb p q).0 rest.1 in
     λ i. Folded (fold i) (distinct i) (place i)
 
-itself_aggregate : (a : Aggregate) → same_aggregate a a ≡ true
+pub itself_aggregate : (a : Aggregate) → same_aggregate a a ≡ true
 itself_aggregate Rows = refl
 itself_aggregate (Folded f d p) = (λ i. (Decides-eqb (fold_number f) (fold_number f)).1 refl i && ((booleans_Decides d d).1 refl i && (Decides-eqb p p).1 refl i))
 

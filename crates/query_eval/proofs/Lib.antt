@@ -5,7 +5,6 @@ pub mod BelowLemmas
 pub mod DecodedLemmas
 pub mod PredicateLemmas
 pub mod FormulaLemmas
-pub mod AnswerTexts
 pub mod KeptLemmas
 pub mod Lifted
 pub mod KeptSteps

@@ -7,7 +7,7 @@ use Rattle.std.proofs.lemmas.List.{map-append}
 use Rattle.table_model.specs.Group.{key_of}
 use Rattle.table_model.specs.State.{Cells, same_cells}
 use Rattle.table_model.proofs.SameRows.{itself_row}
-use Rattle.transpose_order.specs.Mask.{count_below, has, rows_of}
+use Rattle.transpose_order.specs.Mask.{has, rows_of}
 use Rattle.transpose_order.specs.MaskWords.{has-rows_of, rows_of-like, rows_of-same}
 use Rattle.transpose_order.proofs.MaskLemmas.{count_below-suc}
 use Rattle.query_eval.specs.Coded.{run_at}

@@ -14,17 +14,17 @@ pub record AreRuns (v : Vector) (column : ℕ) (starts : List Bool) (values : Li
   pub within : (n : ℕ) → n < 1024 → run_at starts n < 1024
   pub value : (n : ℕ) (z : ℤ) → n < 1024 → cell_at v column n ≡ Some z → slice_index_or values (run_at starts n) (pos 0) ≡ z
 
--- the cell that a code stands for: the code at the count is that of null, and each below it that of a value
+-- the cell that a code represents: the code at the count is that of null, and each below it that of a value
 abbrev pub cell_of_code : ℕ → List ℤ → ℕ → Option ℤ
 cell_of_code count keys code = cond (code == count) None (Some (slice_index_or keys code (pos 0)))
 
--- a code for each row, of which one at the count stands for null, and each below it for one of the keys, which rise
+-- a code for each row, of which one at the count represents null, and each below it one of the keys, which rise
 pub record AreCodes (v : Vector) (column count : ℕ) (codes : List ℕ) (keys : List ℤ) : Type 0 where
   pub few : count ≤ 1024
   pub within : (n : ℕ) → n < 1024 → slice_index_or codes n 0 ≤ count
   pub cell : (n : ℕ) → n < 1024 → cell_of_code count keys (slice_index_or codes n 0) ≡ cell_at v column n
   pub rises : (i j : ℕ) → i < j → j < count → slice_index_or keys i (pos 0) <ℤ slice_index_or keys j (pos 0)
 
--- whether a code stands for one of some literals
+-- whether a code represents one of some literals
 abbrev pub is_code_among : ℕ → List ℤ → List ℤ → ℕ → Bool
 is_code_among count keys literals code = not (code == count) && list_any (int_eq (slice_index_or keys code (pos 0))) literals

@@ -1,12 +1,11 @@
 -- Groups under way: for each list of keys that came, the tallies of the rows that have it.
-use Rattle.std.specs.Prelude.{◌≡◌, ℕ, ◌+◌, ◌<◌, ◌≤◌, ◌++◌, Bool, not, cond, nat_lt, List, [], ◌∷◌, map, length, slice_index_or, sum_by, Option, Some, None, ℤ, pos}
+use Rattle.std.specs.Prelude.{◌≡◌, ℕ, ◌+◌, ◌<◌, ◌≤◌, ◌++◌, Bool, not, cond, List, [], ◌∷◌, map, length, slice_index_or, sum_by, Option, Some, None, ℤ, pos}
 use Rattle.std.specs.List.{list_any}
 use Rattle.std.specs.BTreeMap.{BTreeMap, get}
 use Rattle.std.specs.Option.{is_some}
 use Rattle.std.specs.Global.{Vec}
 use Rattle.table_model.specs.Group.{cell, key_cmp, key_of, rows_with, values_in}
 use Rattle.table_model.specs.State.{Cells, same_cells}
-use Rattle.table_model.specs.Table.{Table}
 use Rattle.query_eval.specs.Finished.{PlanShape}
 use Rattle.query_eval.specs.Places.{IsIndex, rows_placed}
 use Rattle.query_eval.specs.QueryMentions.{aggregate_mentions}
@@ -17,20 +16,14 @@ use Rattle.query_eval.specs.Vector.{Vector, row_at}
 use Rattle.transpose_order.specs.Mask.{has}
 use Rattle.query_eval.specs.declared.tallies.aggregate.Aggregate.{Aggregate}
 use Rattle.query_eval.specs.declared.tallies.aggregate.Aggregate.TheVariants.{Rows, Folded}
-use Rattle.query_eval.specs.declared.grouping.groups.Groups.{Groups}
+use Rattle.query_eval.specs.declared.tallies.groups.Groups.{Groups}
 use Rattle.query_eval.specs.declared.grouping.split.Slice.{Slice}
 use Rattle.query_eval.specs.declared.grouping.split.Span.{Span}
 use Rattle.query_eval.specs.declared.grouping.split.Split.{Split}
-use Rattle.query_eval.specs.declared.filter.side.Side.{Side}
-use Rattle.query_eval.specs.declared.filter.side.Side.TheVariants.{Column, Fixed}
 use Rattle.query_eval.specs.declared.tallies.tally.Tally.{Tally}
 use Rattle.query_eval.specs.declared.tallies.tally.TallyKind.{TallyKind}
 use Rattle.query_eval.specs.declared.tallies.tally.TallyKind.TheVariants as kinds
 use Rattle.table_model.specs.declared.query.Fold.{Fold}
-
--- the side of a column by its place; a table has no value past its last column
-abbrev pub place_side : Table → ℕ → Side
-place_side table place = cond (nat_lt place (length table.columns)) (Column place) (Fixed None)
 
 -- the cell of a row that an aggregate goes over: COUNT(*) counts the rows as if each had a value
 abbrev pub aggregate_cell : Cells → Aggregate → Option ℤ
@@ -96,7 +89,7 @@ AreGroupsOf plan rows groups = AreGroups plan.grouping plan.aggregates rows grou
 abbrev pub GroupMore : PlanShape → List Cells → Groups → Groups → Type 0
 GroupMore plan more old new = (rows : List Cells) → IsIndex old.places → AreGroupsOf plan rows old → AreGroupsOf plan (rows ++ more) new
 
--- so many columns of tallies, each without one
+-- a number of columns of tallies, each without one
 pub record AreEmpty (n : ℕ) (tallies : List (Vec Tally)) : Type 0 where
   pub size : length tallies ≡ n
   pub empty : (i : ℕ) (column : Vec Tally) → i < n → (slice_index_or tallies i column).items ≡ []

@@ -26,7 +26,7 @@ column_key columns n = map (λ column. key_cell column n) columns
 abbrev pub run_key : List Bool → List ℤ → ℕ → Cells
 run_key starts values n = Some (slice_index_or values (run_at starts n) (pos 0)) ∷ []
 
--- the key of a row by what its code stands for
+-- the key of a row by what its code represents
 abbrev pub code_key : ℕ → List ℤ → List ℕ → ℕ → Cells
 code_key count values codes n = cell_of_code count values (slice_index_or codes n 0) ∷ []
 

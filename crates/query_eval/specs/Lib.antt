@@ -21,6 +21,5 @@ pub mod Coded
 pub mod Packed
 pub mod CodeSums
 pub mod Keys
-pub mod Extreme
 pub mod Bits
 pub mod Forms

@@ -12,6 +12,6 @@ yes_of mask t = rows_of (λ n. has mask n && is_true (t n))
 unfoldable pub no_of : List Bool → (ℕ → Truth) → List Bool
 no_of mask t = rows_of (λ n. has mask n && is_false (t n))
 
--- the rows of a mask that another hasn't
+-- the rows of a mask that another does not have
 abbrev pub rows_except : List Bool → List Bool → List Bool
 rows_except mask other = rows_of (λ n. has mask n && not (has other n))

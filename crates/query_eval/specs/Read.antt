@@ -15,13 +15,13 @@ pub record IsSame (before after : Seen) : Type 0 where
   pub table : after.table ≡ before.table
   pub state : after.state ≡ before.state
 
--- and so many passes more were made
+-- and that number of passes more were made
 pub record IsCounted (before after : Seen) (more : ℕ) : Type 0 where
   pub table : after.table ≡ before.table
   pub state : after.state ≡ before.state
   pub passes : after.passes ≡ raised more before.passes
 
--- and at most so many passes more were made
+-- and at most a given number passes more were made
 pub record IsRead (before after : Seen) (most : ℕ) : Type 0 where
   pub table : after.table ≡ before.table
   pub state : after.state ≡ before.state

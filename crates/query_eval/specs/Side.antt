@@ -8,7 +8,7 @@ use Rattle.query_eval.specs.Read.{Seen}
 use Rattle.query_eval.specs.Vector.{Vector, IsThere, vector_at, vector_of, cell_at}
 use Rattle.query_eval.specs.Where.{operand_at}
 use Rattle.query_eval.specs.declared.filter.side.Side.{Side}
-use Rattle.query_eval.specs.declared.vector_id.VectorId.{VectorId}
+use Rattle.query_eval.specs.declared.columns.VectorId.{VectorId}
 use Rattle.query_eval.specs.declared.filter.side.Side.TheVariants.{Column, Fixed}
 
 -- a side's cell at a row of a vector
@@ -30,6 +30,6 @@ abbrev pub HasColumn : Table → Side → Type 0
 HasColumn table (Column column) = column < length table.columns
 HasColumn table (Fixed cell) = Unit {0}
 
--- a side stands for an operand of WHERE at each row of each vector
+-- a side represents an operand of WHERE at each row of each vector
 abbrev pub StandsFor : Table → State → Operand → Side → Type 0
 StandsFor table s operand side = (batch vector n : ℕ) → IsThere s batch vector → operand_at table (vector_at s batch vector) operand n ≡ whole (side_at (vector_at s batch vector) side n)

@@ -10,7 +10,7 @@ use Rattle.query_eval.specs.Grouping.{AreGroups, AreGroupsOf, IsHeld, plan_menti
 use Rattle.query_eval.specs.Kept.{AreFew, where_mentions}
 use Rattle.query_eval.specs.Places.{IsIndex}
 use Rattle.query_eval.specs.declared.tallies.aggregate.Aggregate.{Aggregate}
-use Rattle.query_eval.specs.declared.grouping.groups.Groups.{Groups}
+use Rattle.query_eval.specs.declared.tallies.groups.Groups.{Groups}
 use Rattle.query_eval.specs.declared.answers.taken_rows.Taken.{Taken}
 use Rattle.query_eval.specs.declared.answers.taken_rows.Taken.TheVariants.{Whole, Grouped}
 use Rattle.query_eval.specs.declared.tallies.tally.Tally.{Tally}

@@ -8,7 +8,7 @@ use Rattle.table_model.specs.Values.{total}
 use Rattle.table_model.specs.declared.answer.Field.{Field}
 use Rattle.table_model.specs.declared.query.Fold.{Fold}
 use Rattle.table_model.proofs.Bounds.{AreSmall}
-use Rattle.query_eval.specs.Extreme.{extreme_of}
+use Rattle.table_model.specs.Extreme.{extreme_of}
 use Rattle.query_eval.specs.TallyKinds.{fold_kind}
 use Rattle.query_eval.specs.declared.tallies.tally.Sums.{Sums}
 use Rattle.query_eval.specs.declared.tallies.tally.Tally.{Tally}
@@ -36,7 +36,7 @@ kind_of (Distinct seen) = kinds.Distinct
 abbrev pub AreAlike : List ℤ → List ℤ → Type 0
 AreAlike keys values = (z : ℤ) → list_any (int_eq z) keys ≡ list_any (int_eq z) values
 
--- a set function under way has taken in these values, of which the number and the sum are told of no more values of a column than a state may have rows
+-- a set function under way has taken in these values, of which the number and the sum are those of no more values of a column than a state may have rows
 abbrev pub IsTally : List ℤ → Tally → Type 0
 IsTally values (Count count) = length values ≤ state_row_limit → count ≡ length values
 IsTally values (Sum sums) = AreTold values sums

@@ -4,7 +4,7 @@ use Rattle.table_model.specs.declared.query.Fold.{Fold}
 use Rattle.table_model.specs.declared.query.Fold.TheVariants.{Count, Sum, Avg, Min, Max}
 use Rattle.query_eval.specs.declared.tallies.aggregate.Aggregate.{Aggregate}
 use Rattle.query_eval.specs.declared.tallies.aggregate.Aggregate.TheVariants.{Rows, Folded}
-use Rattle.query_eval.specs.declared.tallies.extreme.Extreme.TheVariants.{Least, Greatest}
+use Rattle.table_model.specs.declared.extreme.Extreme.TheVariants.{Least, Greatest}
 use Rattle.query_eval.specs.declared.tallies.tally.TallyKind.{TallyKind}
 use Rattle.query_eval.specs.declared.tallies.tally.TallyKind.TheVariants as kinds
 

@@ -8,7 +8,7 @@ use Rattle.table_model.specs.Table.{Table, IsBatch}
 use Rattle.table_model.specs.Values.{present}
 use Rattle.table_model.specs.declared.names.BatchName.{BatchName}
 use Rattle.transpose_order.specs.Mask.{rows_of, has}
-use Rattle.query_eval.specs.declared.vector_id.VectorId.{VectorId}
+use Rattle.query_eval.specs.declared.columns.VectorId.{VectorId}
 
 -- a vector: up to 1024 rows, and which of their places are deleted
 pub record Vector : Type 0 where

@@ -1,10 +1,10 @@
 -- A condition of WHERE at the rows of a vector.
-use Rattle.std.specs.Prelude.{◌≡◌, ℕ, ◌<◌, Bool, false, List, Option, ℤ}
+use Rattle.std.specs.Prelude.{◌≡◌, ℕ, Bool, List, Option, ℤ}
 use Rattle.table_model.specs.Condition.{between, condition_truth}
 use Rattle.table_model.specs.Formula.{Formula}
 use Rattle.table_model.specs.Meaning.{at_row}
 use Rattle.table_model.specs.Table.{Table}
-use Rattle.table_model.specs.Truth.{and_of, comparison, is_true}
+use Rattle.table_model.specs.Truth.{and_of, comparison}
 use Rattle.table_model.specs.declared.answer.Field.{Field}
 use Rattle.table_model.specs.declared.op.Op.TheVariants.{GreaterOrEqual, LessOrEqual}
 use Rattle.table_model.specs.declared.query.Operand.{Operand}
@@ -13,7 +13,7 @@ use Rattle.query_eval.specs.Pairs.{yes_of, no_of}
 use Rattle.query_eval.specs.Read.{Seen}
 use Rattle.query_eval.specs.Vector.{Vector, row_at, vector_of}
 use Rattle.query_eval.specs.declared.filter.pair.Pair.{Pair}
-use Rattle.query_eval.specs.declared.vector_id.VectorId.{VectorId}
+use Rattle.query_eval.specs.declared.columns.VectorId.{VectorId}
 
 -- a pair has the rows of a mask where a truth value is true, and those where it is false
 pub record IsPair (mask : List Bool) (t : ℕ → Truth) (pair : Pair) : Type 0 where

@@ -1,9 +1,15 @@
 //! What the evaluator of queries sees of a store.
 ghost use Rattle.std.specs.Prelude.{◌≡◌};
 
-use crate::vector_id::VectorId;
 use table_model::{BatchName, Op, Schema};
 use transpose_order::Mask;
+
+/// A vector of a store: its batch, in ascending order of name, and its place in the batch, both from 0 on.
+#[derive(Clone, Copy, Debug)]
+pub struct VectorId {
+    pub batch: usize,
+    pub vector: usize,
+}
 
 /// A table's state as batches of vectors of up to 1024 rows, whose values come from counted calls alone.
 ///
@@ -145,7 +151,7 @@ pub trait Columns {
         ensures read { IfSome result (λ _. IsCounted (seen self.old) (seen self.new) 1) }
         ensures none { result ≡ None → (seen self.new ≡ seen self.old) × (values.new ≡ values.old) };
 
-    /// Writes a code for each row of a column, and the value that each code stands for, ascending from the first place on, and
+    /// Writes a code for each row of a column, and the value that each code represents, ascending from the first place on, and
     /// answers how many codes there are, which is the code of null and of a row past the vector's end. None if the column has no
     /// codes in the vector, or more than `most`: no pass is counted then, and the codes and keys are as they were.
     fn codes_into(

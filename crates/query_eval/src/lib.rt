@@ -2,15 +2,14 @@
 #![tactic(auto)]
 
 mod answers;
-mod code_rows;
 mod columns;
 mod filter;
 mod grouping;
 mod tallies;
-mod vector_id;
 
-pub use answers::{answer, text, write_answer};
-pub use columns::Columns;
-pub use filter::{Decoded, Pair, matching};
-pub use tallies::Extreme;
-pub use vector_id::VectorId;
+pub use answer_formats::{text, write_answer};
+pub use answers::{Taken, answer, answer_of_groups, take_rows};
+pub use columns::{Columns, VectorId};
+pub use filter::{Decoded, KeptVector, Pair, kept_mask, matching};
+pub use grouping::Key;
+pub use tallies::{Aggregate, FinishedGroup, Groups, Plan, Sums, Tally, values_field};

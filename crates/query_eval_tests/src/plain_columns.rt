@@ -17,9 +17,11 @@ ghost use Rattle.query_eval.specs.Vector.{cell_at, is_live, looked_at};
 ghost use Rattle.query_eval.specs.Where.{IsPair};
 
 use crate::plain_coding::{PlainCoding, run_starts, write_codes, write_keys, write_runs};
-use query_eval::{Columns, Decoded, Extreme, Pair, VectorId};
+use query_eval::{Columns, Decoded, Pair, VectorId};
 use std::marker::Model;
-use table_model::{BatchName, Number, Op, Origin, Refusal, Rows, Schema, Truth, check_rows};
+use table_model::{
+    BatchName, Extreme, Number, Op, Origin, Refusal, Rows, Schema, Truth, check_rows,
+};
 use transpose_order::{Mask, VECTOR_ROWS};
 
 /// The rows of a table's batch 1.1, none of them deleted, how they give the cells of a vector, and how many passes were made over the
@@ -120,7 +122,7 @@ impl PlainColumns {
     pub fn new(schema: Schema, rows: Rows) -> Result<PlainColumns, Refusal>
         ensures { IfOk result (λ columns. columns ≡ record { table = schema; rows = rows; passes = 0 }) }
     {
-        check_rows(&schema, rows.as_slice())?;
+        check_rows(&schema, &rows)?;
         Ok(PlainColumns {
             schema,
             rows,
@@ -142,10 +144,9 @@ impl PlainColumns {
         requires row { row < 1024 }
         ensures { result ≡ cell_at (plain_vector self.now.rows vector) column row }
     {
-        let rows = self.rows.as_slice();
         let ordinal = VECTOR_ROWS * vector + row;
-        if ordinal < rows.len() {
-            match rows[ordinal].cells().get(column) {
+        if ordinal < self.rows.len() {
+            match self.rows.row(ordinal).get(column) {
                 None => None,
                 Some(cell) => *cell,
             }
@@ -281,13 +282,13 @@ impl Columns for PlainColumns {
     }
 
     fn vectors(&self, _batch: usize) -> usize {
-        self.rows.as_slice().len().div_ceil(VECTOR_ROWS)
+        self.rows.len().div_ceil(VECTOR_ROWS)
     }
 
     fn live(&self, id: VectorId) -> Mask {
         let mut live = Mask::none();
         let _schema = &self.schema;
-        let left = self.rows.as_slice().len() - VECTOR_ROWS * id.vector;
+        let left = self.rows.len() - VECTOR_ROWS * id.vector;
         live.set_range(0, left.min(VECTOR_ROWS), true);
         live
     }

@@ -5,7 +5,7 @@ use query_eval::{Columns, answer, text};
 use query_parser::parse;
 use std::alloc::{AllocError, Global};
 use std::test::Fail;
-use table_model::{ColType, Query, Row, Rows, Schema};
+use table_model::{ColType, Query, Rows, Schema};
 use test_support::agree_at;
 
 /// A row of table T: its cells in columns A and B.
@@ -19,11 +19,11 @@ pub(crate) type Case = (&'static str, &'static str, u128);
 
 /// Rows with these cells.
 fn rows_of(alloc: Global, cells: &[Cells]) -> Result<Rows, AllocError> {
-    let mut rows = Vec::with_capacity(alloc, cells.len())?;
+    let mut rows = Rows::new(alloc);
     for row in cells {
-        rows.push(Row::from_cells(Vec::from_slice(alloc, row.as_slice())?))?;
+        rows.push_row(row.as_slice())?;
     }
-    Ok(Rows::from_vec(rows))
+    Ok(rows)
 }
 
 /// Plain columns A and B of 64 bits with these rows.

@@ -39,7 +39,7 @@ begins_with_name ts = is_some (mentioned ts)
 abbrev pub Reader : Type 0 → Type 0
 Reader V = List Token → Result (V × List Token) Refusal
 
--- no token that may stand here
+-- no token that may be here
 abbrev pub syntax : {V : Type 0} → ℕ → List Token → Result V Refusal
 syntax end ts = Err (Syntax (place_of end ts))
 
@@ -65,7 +65,7 @@ read_literal end ts =
     (choose (taken sign.Minus ts) (read_digits true end)
     (read_digits false end ts))
 
--- The parts behind a front, at most so many: each behind a sign, read in the same way and joined to the front.
+-- The parts behind a front, at most a given number: each behind a sign, read in the same way and joined to the front.
 unfoldable pub read_more : {V A : Type 0} → Reader V → Sign → (A → V → A) → ℕ → A → Reader A
 read_more read s join zero front ts = Ok (front, ts)
 read_more read s join (suc n) front ts =
@@ -139,7 +139,7 @@ read_item end ts =
 unfoldable pub read_items : ℕ → Reader (List Item)
 read_items end ts = read_many (read_item end) sign.Comma one_more [] ts
 
--- a set function's keyword, where one may stand
+-- a set function's keyword, where one may be
 abbrev pub allowed_function : Bool → List Token → Option (Fold × List Token)
 allowed_function true ts = function_word ts
 allowed_function false ts = None
@@ -248,16 +248,16 @@ read_term clause inner end ts = read_many (read_factor clause inner end) sign.An
 unfoldable pub read_terms : Clause → Reader Formula → ℕ → Reader Formula
 read_terms clause inner end ts = read_many (read_term clause inner end) sign.Or either no_term ts
 
--- what is read behind one more open parenthesis, of which so many may still open
+-- what is read behind one more open parenthesis, of which a number may still open
 unfoldable pub nested : Clause → ℕ → ℕ → Reader Formula
 nested clause zero end = λ ts. Err TooDeep
 nested clause (suc levels) end = read_terms clause (nested clause levels end) end
 
--- a condition, in which so many levels of parentheses may open
+-- a condition, in which a number of levels of parentheses may open
 unfoldable pub read_condition : Clause → ℕ → ℕ → Reader Formula
 read_condition clause levels end = read_terms clause (nested clause levels end) end
 
--- a condition behind its keyword, in which so many levels of parentheses may open, or none
+-- a condition behind its keyword, in which a number of levels of parentheses may open, or none
 abbrev pub read_clause : Sign → Clause → ℕ → ℕ → Reader (Option Formula)
 read_clause s clause levels end ts =
     choose (taken s ts) (λ rest. read_condition clause levels end rest >>= λ r. Ok (Some r.0, r.1)) (Ok (None, ts))
@@ -278,7 +278,7 @@ read_columns end ts = read_many (read_name end) sign.Comma one_more [] ts
 unfoldable pub read_grouping : ℕ → Reader (List ColumnMention)
 read_grouping end ts = choose (taken sign.Group ts) (λ rest. read_sign sign.By end rest >>= read_columns end) (Ok ([], ts))
 
--- the clauses of a query with these items and this table, in whose conditions so many levels of parentheses may open
+-- the clauses of a query with these items and this table, in whose conditions a number of levels of parentheses may open
 abbrev pub read_clauses : List Item → List ℕ → ℕ → ℕ → Reader QueryShape
 read_clauses items table levels end ts =
     read_filter levels end ts >>= λ filter.
@@ -293,7 +293,7 @@ read_table items levels end ts =
     read_name end name >>= λ table.
     read_clauses items table.0.name levels end table.1
 
--- a query, in whose conditions so many levels of parentheses may open
+-- a query, in whose conditions a number of levels of parentheses may open
 unfoldable pub read_query : ℕ → ℕ → Reader QueryShape
 read_query levels end ts =
     read_sign sign.Select end ts >>= λ list.

@@ -1,4 +1,4 @@
--- The grammar: which tokens are a query. Each rule says of what stands from some tokens on, up to what is left behind it.
+-- The grammar: which tokens are a query. Each rule says of what is from some tokens on, up to what is left behind it.
 use Rattle.std.specs.Prelude.{◌≡◌, ◌⊎◌, ◌≤◌, ℕ, ℤ, Bool, true, false, Option, Some, None, List, [], ◌∷◌, ◌++◌}
 use Rattle.table_model.specs.Formula.{Formula, says, in_parentheses, is_truth, negation, no_factor, both, no_term, either}
 use Rattle.table_model.specs.Query.{QueryShape}
@@ -79,7 +79,7 @@ IsFunction f from to =
     (word : List Token) × ((inner : List Token) × ((last : List Token)
     × (IsSign (word_of (fold_of f)) from word × (IsSign sign.OpenParen word inner × (IsArgument f inner last × IsSign sign.CloseParen last to)))))
 
--- whether set functions may stand in a clause's condition
+-- whether set functions may be in a clause's condition
 abbrev pub takes_functions : Clause → Bool
 takes_functions Where = false
 takes_functions Having = true

@@ -88,7 +88,7 @@ abbrev pub sooner : Option ℕ → ℕ → Option ℕ
 sooner None at = Some at
 sooner (Some first) at = Some (min first at)
 
--- the least places of a column that the table has not, and of one that GROUP BY has to name and doesn't
+-- the least places of a column that the table does not have, and of one that GROUP BY has to name and doesn't
 abbrev pub Places : Type 0
 Places = Option ℕ × Option ℕ
 
@@ -105,13 +105,13 @@ visited columns grouping found named = with_column (is_grouped columns grouping)
 unfoldable pub places : List ColumnShape → List ColumnMention → Places → List Named → Places
 places columns grouping found all = fold (visited columns grouping) found all
 
--- a column that the table has not comes before one that GROUP BY doesn't name, wherever they stand
+-- a column that the table does not have comes before one that GROUP BY doesn't name, wherever they are
 abbrev pub verdict : Places → Result (Unit {0}) Refusal
 verdict (Some at, ungrouped) = Err (NoSuchColumn at)
 verdict (None, Some at) = Err (NotGrouped at)
 verdict (None, None) = Ok tt
 
--- the first refusal of a query's names: the table's, then a column's that the table has not, then one's that GROUP BY doesn't name
+-- the first refusal of a query's names: the table's, then a column's that the table does not have, then one's that GROUP BY doesn't name
 abbrev pub resolved : Table → QueryShape → Result (Unit {0}) Refusal
 resolved table q =
     if same_text q.table table.name then verdict (places table.columns q.grouping (None, None) (in_query q)) else Err NoSuchTable
@@ -134,8 +134,8 @@ abbrev pub IsLeastPlace : (Named → Bool) → List Named → Option ℕ → Typ
 IsLeastPlace test all None = All (λ named. test named ≡ false) all
 IsLeastPlace test all (Some at) = Any (λ named. (test named ≡ true) × (named.0.at ≡ at)) all × All (λ named. test named ≡ true → at ≤ named.0.at) all
 
--- What a query's names are to a table: another table is refused first, then the least place of a column that the table has not,
--- wherever it stands, then the least place of one that GROUP BY has to name and doesn't; and nothing else.
+-- What a query's names are to a table: another table is refused first, then the least place of a column that the table does not have,
+-- wherever it is, then the least place of one that GROUP BY has to name and doesn't; and nothing else.
 abbrev pub IsJudged : Table → QueryShape → Result (Unit {0}) Refusal → Type 0
 IsJudged table q (Ok _) =
     (same_text q.table table.name ≡ true) × (IsLeastPlace (is_missing table.columns) (in_query q) None × IsLeastPlace (is_ungrouped table.columns q.grouping) (in_query q) None)
@@ -145,11 +145,11 @@ IsJudged table q (Err (NotGrouped at)) =
     (same_text q.table table.name ≡ true) × (IsLeastPlace (is_missing table.columns) (in_query q) None × IsLeastPlace (is_ungrouped table.columns q.grouping) (in_query q) (Some at))
 IsJudged table q (Err other) = ⊥
 
--- the first refusal of a condition's names: the least place of a column that the table has not
+-- the first refusal of a condition's names: the least place of a column that the table does not have
 abbrev pub resolved_condition : Table → Formula → Result (Unit {0}) Refusal
 resolved_condition table f = verdict (places table.columns [] (None, None) (in_formula false f))
 
--- what a condition's names are to a table: refused is the least place of a column that the table has not, and nothing else
+-- what a condition's names are to a table: refused is the least place of a column that the table does not have, and nothing else
 abbrev pub IsConditionJudged : Table → Formula → Result (Unit {0}) Refusal → Type 0
 IsConditionJudged table f (Ok _) = IsLeastPlace (is_missing table.columns) (in_formula false f) None
 IsConditionJudged table f (Err (NoSuchColumn at)) = IsLeastPlace (is_missing table.columns) (in_formula false f) (Some at)

@@ -81,7 +81,7 @@ on_function ts other =
     on sign.Count ts (an_argument_of folds.Count) (on sign.Sum ts (an_argument_of folds.Sum) (on sign.Avg ts (an_argument_of folds.Avg)
     (on sign.Min ts (an_argument_of folds.Min) (on sign.Max ts (an_argument_of folds.Max) other))))
 
--- the same, where set functions may stand
+-- the same, where set functions may be
 abbrev pub on_allowed_function : Bool → List Token → Option (List Symbol) → Option (List Symbol)
 on_allowed_function true ts other = on_function ts other
 on_allowed_function false ts other = other
@@ -185,7 +185,7 @@ begin a_literal ts = begin_literal ts
 begin some_literals ts = and_then (begin_literal ts) (more_literals ∷ [])
 begin more_literals ts = on sign.Comma ts (some_literals ∷ []) None
 
--- whether nothing may stand for a symbol: it is optional or repeated
+-- whether a symbol may be left out: it is optional or repeated
 abbrev pub may_be_empty : Symbol → Bool
 may_be_empty more_items = true
 may_be_empty an_alias = true

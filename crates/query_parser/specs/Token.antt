@@ -148,7 +148,7 @@ first_token c text =
 abbrev pub is_white : ℕ → Bool
 is_white c = c == 32 || (c == 9 || (c == 10 || c == 13))
 
--- The tokens of a text at this place, of whose first bytes so many belong to a token that began before: elsewhere each byte
+-- The tokens of a text at this place, of whose first bytes a number belong to a token that began before: elsewhere each byte
 -- that is not white begins one.
 abbrev pub tokens_from : ℕ → ℕ → List ℕ → List Token
 tokens_from at n [] = []
@@ -161,7 +161,7 @@ tokens_from at zero (c ∷ cs) =
 abbrev pub tokens_of : List ℕ → List Token
 tokens_of text = tokens_from 0 0 text
 
--- what follows from a value that is there, or what stands where it isn't
+-- what follows from a value that is there, or what is put where it isn't
 abbrev pub choose : {X Y : Type 0} → Option X → (X → Y) → Y → Y
 choose None there absent = absent
 choose (Some x) there absent = there x

@@ -204,7 +204,7 @@ fn in_query(query: &Query, columns: &[Column]) -> Places
     in_clause(&names, grouping, &query.having, true)
 }
 
-/// The refusal that the places stand for, if any: a column that the table does not have comes first.
+/// The refusal that the places represent, if any: a column that the table does not have comes first.
 fn verdict(found: Places) -> Result<(), Refusal>
     ensures { result ≡ verdict found }
 {

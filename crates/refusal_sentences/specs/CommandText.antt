@@ -5,9 +5,10 @@ use Rattle.table_model.specs.RefusalText.{refusal_text}
 use Rattle.refusal_sentences.specs.declared.command_refusal.CommandRefusal.{CommandRefusal}
 use Rattle.refusal_sentences.specs.declared.command_refusal.CommandRefusal.TheVariants as refusals
 
--- those of the program itself stand beside those of lines of a script
+-- those of the program itself come with those of lines of a script
 abbrev pub command_text : CommandRefusal → List ℕ
 command_text (refusals.Named refusal) = refusal_text refusal
 command_text (refusals.BadCsv line column) = codes "BadCsv " ++ decimal line ++ codes " " ++ decimal column
 command_text refusals.Exists = codes "Exists"
 command_text refusals.Busy = codes "Busy"
+command_text refusals.Damaged = codes "Damaged"

@@ -17,6 +17,8 @@ pub enum CommandRefusal {
     Exists,
     /// Another command has had the file for ten seconds.
     Busy,
+    /// A part of a folder has other bytes than its name says.
+    Damaged,
 }
 
 impl From<Refusal> for CommandRefusal {
@@ -50,6 +52,7 @@ impl fmt::Display for CommandRefusal {
             CommandRefusal::BadCsv { line, column } => write!(f, "BadCsv {line} {column}"),
             CommandRefusal::Exists => f.write_str("Exists"),
             CommandRefusal::Busy => f.write_str("Busy"),
+            CommandRefusal::Damaged => f.write_str("Damaged"),
         }
     }
 }

@@ -1,4 +1,4 @@
-//! Why commands are refused, and how a person is told: one sentence for each refusal, with the place that it names.
+//! Why commands are refused, and how a person reads of it: one sentence for each refusal, with the place that it names.
 #![tactic(auto)]
 
 mod command_refusal;

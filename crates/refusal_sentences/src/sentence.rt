@@ -11,7 +11,7 @@ use std::fmt;
 use std::io::ErrorKind;
 use table_model::{ColType, Refusal, Schema};
 
-/// What is known of a refusal beside its name and values.
+/// What is known of a refusal in addition to its name and values.
 #[derive(Clone, Copy)]
 pub enum Knowledge<'a> {
     /// Nothing more.
@@ -39,6 +39,8 @@ pub enum Knowledge<'a> {
     },
     /// The text of a query or a condition, and the table that it asks.
     Text(Text<'a>),
+    /// The other input that has a batch of the same name.
+    Other(&'a str),
     /// The table of the input, the one that it should have, and whose that is.
     Tables {
         found: &'a Schema,
@@ -54,7 +56,7 @@ pub struct Sentence<'a> {
     pub refusal: CommandRefusal,
     /// What it is said of, a file's name or the like; empty if it is said of no input.
     pub subject: &'a str,
-    /// What is known beside.
+    /// What else is known.
     pub knowledge: Knowledge<'a>,
 }
 
@@ -93,26 +95,12 @@ impl<'a> fmt::Display for Place<'a> {
 
 /// The place that a refusal names, if nothing else is known. An empty input has none.
 fn place_of<'a>(refusal: Refusal) -> Place<'a> {
-    match refusal {
-        Refusal::Truncated(0) => Place::None,
-        Refusal::WrongArity(row) => Place::Row(row),
-        Refusal::OutOfType { row, column } => Place::Cell(row, column),
-        Refusal::Truncated(at)
-        | Refusal::BadOrder(at)
-        | Refusal::BadCount(at)
-        | Refusal::BadWidth(at)
-        | Refusal::BadTag(at)
-        | Refusal::BadMask(at)
-        | Refusal::BadDictionary(at)
-        | Refusal::BadCode(at)
-        | Refusal::BadRange(at)
-        | Refusal::TrailingBytes(at)
-        | Refusal::NotCanonical(at)
-        | Refusal::Syntax(at)
-        | Refusal::NoSuchColumn(at)
-        | Refusal::NotGrouped(at)
-        | Refusal::NumberTooLarge(at) => Place::Byte(at),
-        _ => Place::None,
+    match refusal.place() {
+        table_model::Place::Byte(_) if refusal == Refusal::Truncated(0) => Place::None,
+        table_model::Place::Byte(at) => Place::Byte(at),
+        table_model::Place::Row(row) => Place::Row(row),
+        table_model::Place::Cell { row, column } => Place::Cell(row, column),
+        table_model::Place::Batch(_) | table_model::Place::Nowhere => Place::None,
     }
 }
 
@@ -137,7 +125,9 @@ impl<'a> Sentence<'a> {
             (_, Knowledge::Line(line)) => Place::Line(line),
             (_, Knowledge::Argument) => Place::None,
             (CommandRefusal::Named(refusal), _) => place_of(refusal),
-            (CommandRefusal::Exists, _) | (CommandRefusal::Busy, _) => Place::None,
+            (CommandRefusal::Exists, _)
+            | (CommandRefusal::Busy, _)
+            | (CommandRefusal::Damaged, _) => Place::None,
         }
     }
 
@@ -176,12 +166,15 @@ impl<'a> fmt::Display for Sentence<'a> {
             CommandRefusal::Busy => {
                 f.write_str("another command has had the file for ten seconds")
             }
+            CommandRefusal::Damaged => f.write_str(
+                "its bytes are not those of its name: copy it again, or remove it",
+            ),
         }
     }
 }
 
 impl<'a> Sentence<'a> {
-    /// Writes what is known beside, if that says all. Answers whether it did.
+    /// Writes what else is known, if that says all. Answers whether it did.
     fn write_knowledge<W: fmt::Write>(
         &self,
         f: &mut fmt::Formatter<W>,
@@ -202,6 +195,13 @@ impl<'a> Sentence<'a> {
                 let wanted = Table(wanted);
                 let of = Printable(of);
                 write!(f, "this is of the table {found}, and {of} of {wanted}")?;
+            }
+            (CommandRefusal::Named(Refusal::Conflict(name)), Knowledge::Other(other)) => {
+                let other = Printable(other);
+                write!(
+                    f,
+                    "this and {other} have a batch {name}, with different rows"
+                )?;
             }
             (CommandRefusal::Named(refusal), Knowledge::Text(text)) => {
                 return text.write_fault(refusal, f);

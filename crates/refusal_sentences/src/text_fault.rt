@@ -5,7 +5,7 @@ use crate::tables::Names;
 use std::fmt;
 use table_model::{Refusal, Schema, is_keyword, is_word_byte, same_word};
 
-/// A text that is refused, and what is known beside.
+/// A text that is refused, and what else is known.
 #[derive(Clone, Copy)]
 pub struct Text<'a> {
     /// The text.

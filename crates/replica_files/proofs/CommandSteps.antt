@@ -18,7 +18,7 @@ use Rattle.replica_store.specs.Replica.{Replica, new_replica}
 use Rattle.column_file.specs.Files.{canonical_file, canonical_read, judged, offer_read, opened_from, offer_bytes, first_difference, Exports, OpensTo}
 use Rattle.column_file.specs.SummaryBytes.{summary_bytes}
 use Rattle.column_file.specs.Input.{Judges, IsUnread, is_refusal_of_reading}
-use Rattle.replica_files.specs.Commands.{held_in, file_of, as_held, Made, file_made, WritesFront, Refuses, Leaves, Changes, Answers, Makes, Puts, is_uncounted, CreatesOf, Offers, OffersTo, FrontOfOffer}
+use Rattle.replica_files.specs.Commands.{held_in, file_of, as_held, Made, file_made, WritesFront, Refuses, Leaves, Changes, Makes, Puts, is_uncounted, CreatesOf}
 
 -- ---- what was read is the canonical file of what it holds
 
@@ -67,12 +67,6 @@ opening_changes read view changed e None known command h = tt
 opening_changes read view changed e (Some bytes) known command h =
     refused_before e known (file_made (held_in bytes >>= command)) (reading_why read e bytes (file_made (held_in bytes >>= command)) (λ is. ap (λ (x : Result Replica Refusal). file_made (x >>= command)) is) h)
 
-pub opening_answers : {Z : Type 0} (read : Z → Replica) (e : Refusal) (input known : Option (List ℕ)) (command : Replica → Result (List ℕ) Refusal)
-    → Judges {X = Z} read (Err e) input held_in → Answers (Err e) input known known command
-opening_answers read e None known command h = tt
-opening_answers read e (Some bytes) known command h =
-    refused_before e known (held_in bytes >>= command) (reading_why read e bytes (held_in bytes >>= command) (λ is. ap (λ (x : Result Replica Refusal). x >>= command) is) h)
-
 -- the counts after a refusal of reading
 pub reading_counts : (many : Type 0) (e : Refusal) (r r' w : ℕ) → IsTrue (is_refusal_of_reading e) → CountsReads many e r r' → CountsBoth many e r r' w w
 reading_counts many ReadFault r r' w listed h = (h, refl)
@@ -110,13 +104,13 @@ pub written_changes : {X Y Z : Type 0} (read : Z → Replica) (z : Z) (view : X 
 written_changes read z view changed x b None before now new command same h made put = tt
 written_changes read z view changed x true (Some bytes) before now new command same h made put =
     let P : Bool → Type 0 = λ c. Leaves c bytes before now (file_of new) in
-    (read z, new, file_read bytes (read z) h, h, made.0, subst P (sym same) put.0, put.1)
+    (read z, new, file_read bytes (read z) h, h, made.0, subst P (sym same) put.0, put.1, made.1)
 written_changes read z view changed x false (Some bytes) before now new command same h made put =
     let P : Bool → Type 0 = λ c. Leaves c bytes before now (file_of new) in
-    let left : bytes ≡ file_of new = file_read bytes (read z) h ∙ ap file_of (sym (made.1 same)) in
-    let stays : new ≡ read z = made.1 same in
+    let left : bytes ≡ file_of new = file_read bytes (read z) h ∙ ap file_of (sym (made.1.0 same)) in
+    let stays : new ≡ read z = made.1.0 same in
     let again : held_in (file_of new) ≡ Ok (as_held new) = ap held_in (sym left) ∙ h ∙ ap Ok (own_one bytes (read z) h) ∙ ap (λ (r : Replica). Ok (as_held r)) (sym stays) in
-    (read z, new, file_read bytes (read z) h, h, made.0, subst P (sym same) (put, left), again)
+    (read z, new, file_read bytes (read z) h, h, made.0, subst P (sym same) (put, left), again, made.1)
 
 puts_why : (b : Bool) (e : Refusal) (before now : Option (List ℕ)) (r : Replica) → Puts b (Err e) before now r
     → ((e ≡ Memory) × (now ≡ before)) ⊎ ((e ≡ WriteFault) × AppendsFront before now (file_of r))
@@ -178,37 +172,6 @@ export_counts (Err Memory) before now w w' file h = h.1
 export_counts (Err WriteFault) before now w w' file h = h.1
 export_counts (Err other) before now w w' file h = let bad : other ≡ WriteFault = h.0 in cc
 
--- ---- calls that only read a file
-
--- refused before anything was written, for what the command gives or for want of memory
-pub refused_answers : {Z : Type 0} (read : Z → Replica) (z : Z) (e : Refusal) (input known : Option (List ℕ)) (command : Replica → Result (List ℕ) Refusal)
-    → Judges read (Ok z) input held_in → (command (read z) ≡ Err e) ⊎ (e ≡ Memory) → Answers (Err e) input known known command
-refused_answers read z e None known command h why = tt
-refused_answers read z e (Some bytes) known command h (inl is) = refused_before e known (held_in bytes >>= command) (inl (ap (λ (x : Result Replica Refusal). x >>= command) h ∙ is))
-refused_answers read z e (Some bytes) known command h (inr lack) = refused_before e known (held_in bytes >>= command) (inr (inl lack))
-
--- written whole, or a front
-pub written_answers : {Z : Type 0} (read : Z → Replica) (z : Z) (result : Result (Unit {0}) Refusal) (input before now : Option (List ℕ)) (w w' : ℕ) (command : Replica → Result (List ℕ) Refusal) (text : List ℕ)
-    → Judges read (Ok z) input held_in → command (read z) ≡ Ok text → Writes result before now w w' text → Answers result input before now command
-written_answers read z result None before now w w' command text h made wrote = tt
-written_answers read z (Ok done) (Some bytes) before now w w' command text h made wrote = (read z, text, file_read bytes (read z) h, h, made, wrote.0)
-written_answers read z (Err e) (Some bytes) before now w w' command text h made wrote =
-    let P : Result (List ℕ) Refusal → Type 0 = λ m. WritesFront before now m in
-    inr (wrote.0, subst P (sym (ap (λ (x : Result Replica Refusal). x >>= command) h ∙ made)) wrote.2)
-
--- what a write that failed says
-pub writes_none : (e : Refusal) (before now : Option (List ℕ)) (w w' : ℕ) (text : List ℕ) → Writes (Err e) before now w w' text → e ≢ WriteFault → now ≡ before
-writes_none e before now w w' text wrote other = absurd (other wrote.0)
-
-pub writes_counts : (many : Type 0) (result : Result (Unit {0}) Refusal) (r r' w w' : ℕ) (before now : Option (List ℕ)) (text : List ℕ) → r' ≡ r → Writes result before now w w' text → IfErr result (λ e. CountsBoth many e r r' w w')
-writes_counts many (Ok done) r r' w w' before now text same wrote = tt
-writes_counts many (Err e) r r' w w' before now text same wrote =
-    let P : Refusal → Type 0 = λ x. CountsBoth many x r r' w w' in subst P (sym wrote.0) (same, wrote.1)
-
-pub writes_kept : (result : Result (Unit {0}) Refusal) (r r' w w' : ℕ) (before now : Option (List ℕ)) (text : List ℕ) → r' ≡ r → Writes result before now w w' text → OnOk result ((r' ≡ r) × (w' ≡ w))
-writes_kept (Ok done) r r' w w' before now text same wrote = (same, wrote.1)
-writes_kept (Err e) r r' w w' before now text same wrote = tt
-
 -- ---- a file that is made
 
 pub create_refused : {X : Type 0} (view : X → Table) (e : Refusal) (known : Option (List ℕ)) (made : Result Table Refusal) → Gives {X = X} view (Err e) made → CreatesOf (Err e) known known made
@@ -236,48 +199,7 @@ pub new_lacks : (table : Table) (e : Refusal) → (new_replica table (record { 0
 new_lacks table e (inl refused) = cc
 new_lacks table e (inr lack) = lack.0
 
--- ---- offers
-
-pub opening_offers : {Z : Type 0} (read : Z → Replica) (e : Refusal) (input known : Option (List ℕ)) (summary : SummaryForm) → Judges {X = Z} read (Err e) input held_in → Offers (Err e) input known known summary
-opening_offers read e None known summary h = tt
-opening_offers read e (Some bytes) known summary h =
-    inl (refl, offer_why read e bytes summary h)
-  where
-    offer_why : {Z : Type 0} (read : Z → Replica) (e : Refusal) (bytes : List ℕ) (summary : SummaryForm) → Judges {X = Z} read (Err e) (Some bytes) held_in → ((held_in bytes >>= λ (r : Replica). offered r summary) ≡ Err e) ⊎ IsUnread e
-    offer_why read Memory bytes summary h = inr (inl refl)
-    offer_why read ReadFault bytes summary h = inr (inr refl)
-    offer_why read other bytes summary h = inl (ap (λ (x : Result Replica Refusal). x >>= λ (r : Replica). offered r summary) (h (λ is. cc) (λ is. cc)))
-
-pub refused_offers : {Z : Type 0} (read : Z → Replica) (z : Z) (e : Refusal) (input known : Option (List ℕ)) (summary : SummaryForm)
-    → Judges read (Ok z) input held_in → (offered (read z) summary ≡ Err e) ⊎ ((e ≡ Memory) × IsOk (offered (read z) summary)) → Offers (Err e) input known known summary
-refused_offers read z e None known summary h why = tt
-refused_offers read z e (Some bytes) known summary h (inl is) = inl (refl, inl (ap (λ (x : Result Replica Refusal). x >>= λ (r : Replica). offered r summary) h ∙ is))
-refused_offers read z e (Some bytes) known summary h (inr lack) = inl (refl, inr (inl lack.0))
-
-pub written_offers : {Z : Type 0} (read : Z → Replica) (z : Z) (result : Result (Unit {0}) Refusal) (input before now : Option (List ℕ)) (w w' : ℕ) (summary : SummaryForm) (o : OfferForm)
-    → Judges read (Ok z) input held_in → o.schema ≡ (read z).schema → offered (read z) summary ≡ Ok o.state → OnOk result (offer_read (offer_bytes o) ≡ Ok o)
-    → Writes result before now w w' (offer_bytes o) → Offers result input before now summary
-written_offers read z result None before now w w' summary o h schema state again wrote = tt
-written_offers read z (Ok done) (Some bytes) before now w w' summary o h schema state again wrote = (read z, o, file_read bytes (read z) h, h, (schema, state, again), wrote.0)
-written_offers read z (Err e) (Some bytes) before now w w' summary o h schema state again wrote =
-    let P : Result Replica Refusal → Type 0 = λ x. FrontOfOffer before now x summary in
-    inr (wrote.0, subst P (sym h) (o, schema, state, wrote.2))
-
 -- a call that gives a value is refused for want of memory alone
 pub lacks_memory : {X : Type 0} (x : X) (e : Refusal) (made : Result X Refusal) → made ≡ Ok x → (made ≡ Err e) ⊎ ((e ≡ Memory) × IsOk made) → e ≡ Memory
 lacks_memory x e made is (inl refused) = cc
 lacks_memory x e made is (inr lack) = lack.0
-
--- the bytes of a summary that was made
-abbrev pub summarized_as : Result SummaryForm Refusal → Result (List ℕ) Refusal
-summarized_as (Ok s) = Ok (summary_bytes s)
-summarized_as (Err e) = Err e
-
-offered_fault : (b : Bool) (s : State) (e : Refusal) → ◌≡◌ {A = Result State Refusal} (cond b (Ok s) (Err SchemaDiffers)) (Err e) → IsTrue (is_uncounted e)
-offered_fault true s e is = cc
-offered_fault false s e is = let same : SchemaDiffers ≡ e = cc in ap is_uncounted (sym same)
-
--- an offer is refused for what is counted nowhere
-pub offer_uncounted : (r : Replica) (summary : SummaryForm) (e : Refusal) → (offered r summary ≡ Err e) ⊎ ((e ≡ Memory) × IsOk (offered r summary)) → IsTrue (is_uncounted e)
-offer_uncounted r summary e (inl is) = offered_fault (same_table r.schema summary.schema) (unlisted_state summary.names r.state) e is
-offer_uncounted r summary e (inr lack) = ap is_uncounted lack.0

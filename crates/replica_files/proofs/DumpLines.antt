@@ -7,7 +7,7 @@ use Rattle.std.specs.FinSet as set
 use Rattle.std.specs.List.{flat_map}
 use Rattle.std.specs.Io.KnownBytes.{Appends}
 use Rattle.table_model.specs.Counted.{one_more}
-use Rattle.table_model.specs.Faults.{AppendsFront, CountsBoth}
+use Rattle.table_model.specs.Faults.{AppendsFront}
 use Rattle.table_model.specs.Name.{row_name_cmp}
 use Rattle.table_model.specs.State.{State, Batch, Cells, named_from, named_rows, live_rows}
 use Rattle.table_model.specs.Table.{ColumnShape, AreRows}
@@ -18,11 +18,8 @@ use Rattle.table_model.specs.declared.refusal.Refusal.{Refusal}
 use Rattle.table_model.specs.declared.refusal.Refusal.TheVariants.{Memory, ReadFault, WriteFault}
 use Rattle.table_model.proofs.Written.{appends_both}
 use Rattle.replica_store.specs.Replica.{Replica}
-use Rattle.column_file.specs.Input.{Judges, IsUnread}
 use Rattle.csv_rows.specs.Written.{WritesText}
-use Rattle.replica_files.specs.Commands.{held_in, file_of}
-use Rattle.replica_files.specs.Dumps.{WritesLines, row_text, live_text, heading, dumping, Dumps}
-use Rattle.replica_files.proofs.CommandSteps.{file_read}
+use Rattle.replica_files.specs.Dumps.{WritesLines, row_text, live_text, heading, dumping}
 
 pub lines_none : (known : Option (List ℕ)) (w : ℕ) → WritesLines (Ok tt) known known w w []
 lines_none None w = (tt, refl)
@@ -131,36 +128,6 @@ pub dump_lines : (has_names : Bool) (r : Replica) → heading has_names r.schema
 unfolding live_rows
 dump_lines has_names r = ap (λ (t : List ℕ). heading has_names r.schema ++ t) (live_lines has_names r.state.deleted (named_rows r.state))
 
--- ---- the whole call
-
-pub dump_unread : {Z : Type 0} (read : Z → Replica) (e : Refusal) (input known : Option (List ℕ)) (has_names : Bool) → Judges {X = Z} read (Err e) input held_in → Dumps (Err e) input known known has_names
-dump_unread read e None known has_names h = tt
-dump_unread read Memory (Some bytes) known has_names h = inl (refl, inr (inl refl))
-dump_unread read ReadFault (Some bytes) known has_names h = inl (refl, inr (inr refl))
-dump_unread read other (Some bytes) known has_names h = inl (refl, inl (h (λ is. cc) (λ is. cc)))
-
-lines_why : (e : Refusal) (old new : Option (List ℕ)) (w w' : ℕ) (text : List ℕ) → WritesLines (Err e) old new w w' text → ((e ≡ Memory) ⊎ (e ≡ WriteFault)) × AppendsFront old new text
-lines_why Memory old new w w' text h = (inl refl, h.0)
-lines_why WriteFault old new w w' text h = (inr refl, h.0)
-lines_why other old new w w' text h = absurd h
-
-pub dump_written : {Z : Type 0} (read : Z → Replica) (z : Z) (result : Result (Unit {0}) Refusal) (input before now : Option (List ℕ)) (w w' : ℕ) (has_names : Bool) (text : List ℕ)
-    → Judges read (Ok z) input held_in → text ≡ dumping has_names (read z) → WritesLines result before now w w' text → Dumps result input before now has_names
-dump_written read z result None before now w w' has_names text h is wrote = tt
-dump_written read z (Ok done) (Some bytes) before now w w' has_names text h is wrote = (read z, file_read bytes (read z) h, h, subst (Appends before now) is wrote.0)
-dump_written read z (Err e) (Some bytes) before now w w' has_names text h is wrote =
-    let why = lines_why e before now w w' text wrote in inr (why.0, (read z, h, subst (AppendsFront before now) is why.1))
-
-pub lines_counts : (many : Type 0) (result : Result (Unit {0}) Refusal) (old new : Option (List ℕ)) (r r' w w' : ℕ) (text : List ℕ) → r' ≡ r → WritesLines result old new w w' text → IfErr result (λ e. CountsBoth many e r r' w w')
-lines_counts many (Ok done) old new r r' w w' text same h = tt
-lines_counts many (Err Memory) old new r r' w w' text same h = (same, h.1)
-lines_counts many (Err WriteFault) old new r r' w w' text same h = (same, h.1)
-lines_counts many (Err other) old new r r' w w' text same h = absurd h
-
-pub lines_kept : (result : Result (Unit {0}) Refusal) (old new : Option (List ℕ)) (r r' w w' : ℕ) (text : List ℕ) → r' ≡ r → WritesLines result old new w w' text → OnOk result ((r' ≡ r) × (w' ≡ w))
-lines_kept (Ok done) old new r r' w w' text same h = (same, h.1)
-lines_kept (Err e) old new r r' w w' text same h = tt
-
 -- ---- one row
 
 -- a row that is deleted has no line
@@ -247,16 +214,18 @@ row_long columns (row ∷ rows) (suc n) h l = let under : n < length rows = omeg
 
 -- ---- the heading, and then the rows
 
-pub dump_stops : {Z : Type 0} (read : Z → Replica) (z : Z) (e : Refusal) (input before now : Option (List ℕ)) (w w' : ℕ) (has_names : Bool)
-    → Judges read (Ok z) input held_in → WritesLines (Err e) before now w w' (heading has_names (read z).schema) → Dumps (Err e) input before now has_names
-dump_stops read z e input before now w w' has_names h wrote =
-    let rest : List ℕ = flat_map (live_text has_names (read z).state.deleted) (named_rows (read z).state) in
-    dump_written read z (Err e) input before now w w' has_names (heading has_names (read z).schema ++ rest) h (dump_lines has_names (read z)) (lines_end e before now w w' (heading has_names (read z).schema) rest wrote)
+pub dump_stops : (r : Replica) (e : Refusal) (before now : Option (List ℕ)) (w w' : ℕ) (has_names : Bool)
+    → WritesLines (Err e) before now w w' (heading has_names r.schema) → WritesLines (Err e) before now w w' (dumping has_names r)
+dump_stops r e before now w w' has_names wrote =
+    let rest : List ℕ = flat_map (live_text has_names r.state.deleted) (named_rows r.state) in
+    let P : List ℕ → Type 0 = λ text. WritesLines (Err e) before now w w' text in
+    subst P (dump_lines has_names r) (lines_end e before now w w' (heading has_names r.schema) rest wrote)
 
-pub dump_goes : {Z : Type 0} (read : Z → Replica) (z : Z) (done : Unit {0}) (result : Result (Unit {0}) Refusal) (input before now next : Option (List ℕ)) (w w' w'' : ℕ) (has_names was : Bool)
-    → Judges read (Ok z) input held_in → was ≡ has_names → WritesLines (Ok done) before now w w' (heading has_names (read z).schema)
-    → WritesLines result now next w' w'' (flat_map (live_text was (read z).state.deleted) (named_rows (read z).state)) → Dumps result input before next has_names
-dump_goes read z done result input before now next w w' w'' has_names was h same head wrote =
-    let rest : List ℕ = flat_map (live_text has_names (read z).state.deleted) (named_rows (read z).state) in
-    let Q : Bool → Type 0 = λ b. WritesLines result now next w' w'' (flat_map (live_text b (read z).state.deleted) (named_rows (read z).state)) in
-    dump_written read z result input before next w w'' has_names (heading has_names (read z).schema ++ rest) h (dump_lines has_names (read z)) (lines_both done result before now next w w' w'' (heading has_names (read z).schema) rest head (subst Q same wrote))
+pub dump_goes : (r : Replica) (done : Unit {0}) (result : Result (Unit {0}) Refusal) (before now next : Option (List ℕ)) (w w' w'' : ℕ) (has_names was : Bool)
+    → was ≡ has_names → WritesLines (Ok done) before now w w' (heading has_names r.schema)
+    → WritesLines result now next w' w'' (flat_map (live_text was r.state.deleted) (named_rows r.state)) → WritesLines result before next w w'' (dumping has_names r)
+dump_goes r done result before now next w w' w'' has_names was same head wrote =
+    let rest : List ℕ = flat_map (live_text has_names r.state.deleted) (named_rows r.state) in
+    let Q : Bool → Type 0 = λ b. WritesLines result now next w' w'' (flat_map (live_text b r.state.deleted) (named_rows r.state)) in
+    let P : List ℕ → Type 0 = λ text. WritesLines result before next w w'' text in
+    subst P (dump_lines has_names r) (lines_both done result before now next w w' w'' (heading has_names r.schema) rest head (subst Q same wrote))

@@ -74,7 +74,7 @@ delete_rows_holds first last input table ops old new answer h is made read =
 
 -- ---- offers
 
-applied-adds : (table : Table) (ops : List Operation) (r new : Replica) (offers : List OfferForm) (done : Unit {0}) → r.schema ≡ table → r.state ≡ state_of ops → AreAgreeing ops
+pub applied-adds : (table : Table) (ops : List Operation) (r new : Replica) (offers : List OfferForm) (done : Unit {0}) → r.schema ≡ table → r.state ≡ state_of ops → AreAgreeing ops
     → applied_all r offers ≡ Ok (done, new) → Adds table ops (operations_in offers) new
 applied-adds table ops r new [] done schema state agree e =
     let same : r ≡ new = made_of tt done r new e in

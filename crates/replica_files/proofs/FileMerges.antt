@@ -79,7 +79,7 @@ long_as xs ys at same below =
     let there : length (drop at ys) ≡ length ys - at = length-drop at ys in
     omega (arith, here, there, ap length same, below)
 
-same_head : {X : Type 0} (xs ys : List X) (at : ℕ) (d : X) → drop at xs ≡ drop at ys → at < length xs → at < length ys → get_or xs at d ≡ get_or ys at d
+pub same_head : {X : Type 0} (xs ys : List X) (at : ℕ) (d : X) → drop at xs ≡ drop at ys → at < length xs → at < length ys → get_or xs at d ≡ get_or ys at d
 same_head xs ys at d same here there =
     let a = drop_more xs at d here in
     let b = drop_more ys at d there in
@@ -88,7 +88,7 @@ same_head xs ys at d same here there =
     head : {X : Type 0} (x y : X) (xs ys : List X) → (x ∷ xs) ≡ (y ∷ ys) → x ≡ y
     head x y xs ys e = cc
 
-same_tail : {X : Type 0} (xs ys : List X) (at : ℕ) (d : X) → drop at xs ≡ drop at ys → at < length xs → at < length ys → drop (at + 1) xs ≡ drop (at + 1) ys
+pub same_tail : {X : Type 0} (xs ys : List X) (at : ℕ) (d : X) → drop at xs ≡ drop at ys → at < length xs → at < length ys → drop (at + 1) xs ≡ drop (at + 1) ys
 same_tail xs ys at d same here there =
     let a = drop_more xs at d here in
     let b = drop_more ys at d there in

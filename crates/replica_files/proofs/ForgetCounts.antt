@@ -96,7 +96,13 @@ forget_ok {X = X} view x old new u made batches rows =
     let count : length (dead_batches old.state) ≡ (view x).0 = dropped_batches old.state ∙ ap (λ (r : Replica). map.len old.state.batches - map.len r.state.batches) is ∙ sym batches in
     let lost : rows_in (dead_batches old.state) ≡ (view x).1 = dropped_rows old.state ∙ ap (λ (r : Replica). rows_in (entries_of old) - rows_in (entries_of r)) is ∙ sym rows in (
       λ i. let made : Made (ℕ × ℕ) = Ok ((count i, lost i), is i) in made,
-      λ none. sym is ∙ (λ i. record { schema = old.schema; own = old.own; state = none_dropped old.state (count ∙ zero_count (view x).0 none) i }),
+      (
+        λ none. sym is ∙ (λ i. record { schema = old.schema; own = old.own; state = none_dropped old.state (count ∙ zero_count (view x).0 none) i }),
+        λ stays.
+            let same : (view x).0 ≡ map.len old.state.batches - map.len old.state.batches = batches ∙ ap (λ (r : Replica). map.len old.state.batches - map.len r.state.batches) stays in
+            let none : (view x).0 ≡ 0 = omega (arith, same) in
+            ap (λ (n : ℕ). not (n == 0)) none,
+      ),
     )
 
 -- a forget is refused for want of memory alone

@@ -120,5 +120,11 @@ import_done r new load given words name offer u answer chosen is made told = (
   import_made r load given words name offer chosen is
       ∙ ap (λ (m : Result (Unit {0} × Replica) Refusal). m >>= λ (done : Unit {0} × Replica). let made : Made Imported = Ok (imported_as load name r done.1, done.1) in made) made
       ∙ (λ i. let made : Made Imported = Ok (sym told i, new) in made),
-  λ none. merge_kept r (offering r.own offer) new u made (ap (λ (p : Replica). p.state.deleted) is) (sym (ap (λ (a : Imported). not (a.new == 0)) told) ∙ none),
+  (
+    λ none. merge_kept r (offering r.own offer) new u made (ap (λ (p : Replica). p.state.deleted) is) (sym (ap (λ (a : Imported). not (a.new == 0)) told) ∙ none),
+    λ stays.
+        let same : answer.new ≡ map.len r.state.batches - map.len r.state.batches = ap (λ (a : Imported). a.new) told ∙ ap (new_since r) stays in
+        let none : answer.new ≡ 0 = omega (arith, same) in
+        ap (λ (n : ℕ). not (n == 0)) none,
+  ),
 )

@@ -1,4 +1,4 @@
-pub mod AnswerTexts
+pub mod AskedTexts
 pub mod CommandSteps
 pub mod CsvLoading
 pub mod DrawnNames
@@ -12,3 +12,4 @@ pub mod LoadedBatches
 pub mod OperationSets
 pub mod StoreCommands
 pub mod DumpRows
+pub mod LinesTold

@@ -76,7 +76,7 @@ state_of-append ops more agree = same_states _ _
     ∙ sym (map.get-from_entries names_total (inserts_of (more ++ ops)) q)))
     (sym (ap set.from_list (deletes-append more ops) ∙ from_list-append (deletes_of more) (deletes_of ops)))
 
-both_agree : (ops more : List Operation) → AreAgreeing ops → AreAgreeing more → Agree (state_of ops) (state_of more) → AreAgreeing (more ++ ops)
+pub both_agree : (ops more : List Operation) → AreAgreeing ops → AreAgreeing more → Agree (state_of ops) (state_of more) → AreAgreeing (more ++ ops)
 both_agree ops more here there agree n a b g h =
     elim (among-append (Insert n a) more ops g) as (λ _. a ≡ b) [
       | inl g' ↦ elim (among-append (Insert n b) more ops h) as (λ _. a ≡ b) [

@@ -1,32 +1,41 @@
 -- What each command answers and makes of a store's replica, from what the store's calls answered.
-use Rattle.std.specs.Prelude.{◌≡◌, ◌≢◌, ◌⊎◌, ℕ, suc, ◌≤◌, ◌-◌, Bool, true, false, cond, not, ◌||◌, ◌==◌, nat_lt, List, [], ◌∷◌, length, Option, Some, None, Result, Ok, Err, IsTrue, IsOk, IfErr}
+use Rattle.std.specs.Prelude.{◌≡◌, ◌≢◌, ◌⊎◌, ℕ, suc, ◌≤◌, ◌-◌, Bool, true, false, cond, not, ◌||◌, ◌==◌, nat_lt, List, [], ◌∷◌, length, map, filter, Option, Some, None, Result, Ok, Err, IsTrue, IsOk, IfErr}
 use Rattle.std.proofs.Common.{refl, sym, ap, subst, ◌∙◌, inl, inr, arith, drop, get_or}
 use Rattle.std.proofs.lemmas.Bool.Decides.{nat_tests}
 use Rattle.std.proofs.lemmas.List.Sums.{list_all-from_AllPass}
 use Rattle.std.specs.List.{All, list_all}
 use Rattle.std.specs.FinMap as map
+use Rattle.std.proofs.lemmas.Bool.{and_parts, and_from, false≢true}
 use Rattle.std.specs.FinSet as set
 use Rattle.table_model.specs.Name.{name_cmp, row_name_cmp, is_proper_name}
 use Rattle.table_model.specs.Reading.{◌>>=◌}
-use Rattle.table_model.specs.State.{State, Batch, union_of, join}
-use Rattle.table_model.specs.Table.{same_table}
+use Rattle.table_model.specs.Formula.{Formula}
+use Rattle.table_model.specs.Meaning.{names_where, is_kept, at_row}
+use Rattle.table_model.specs.State.{State, Batch, Cells, live_rows, named_rows, union_of}
+use Rattle.table_model.specs.Table.{Table, same_table}
 use Rattle.table_model.specs.Outcome.{Acts}
 use Rattle.table_model.specs.declared.names.BatchName.{BatchName}
 use Rattle.table_model.specs.declared.names.RowName.{RowName}
 use Rattle.table_model.specs.declared.refusal.Refusal.{Refusal}
 use Rattle.table_model.specs.declared.refusal.Refusal.TheVariants.{Memory, ReadFault, WriteFault, BadName, BadRange, SchemaDiffers, Conflict, Full, NumbersSpent}
+use Rattle.table_model.proofs.Joins.{same_maps}
 use Rattle.table_model.proofs.NameOrder.{row_names_total, exact_row_names}
 use Rattle.replica_store.specs.Exchange.{OfferForm, applied, offering}
-use Rattle.replica_store.specs.Replica.{Replica, with_deleted, with_join, deleted_names, names_fault, deleted_rows, delete_fault, rows_between, unless_fault, merged, merge_fault, conflict_or_full, conflict_with, entries_of, batch_limit}
+use Rattle.replica_store.specs.ExchangeLaws.{HasGrown}
+use Rattle.replica_store.specs.Replica.{Replica, SaysChange, with_deleted, with_join, deleted_names, names_fault, deleted_rows, delete_fault, rows_between, unless_fault, merged, merge_fault, conflict_or_full, conflict_with, entries_of, batch_limit}
 use Rattle.replica_store.proofs.Limits.{ok_unless, same_Ok}
 use Rattle.replica_store.proofs.Idle.{absorbs}
+use Rattle.replica_store.proofs.Growth.{grown_itself, grown_then, grown_merge}
 use Rattle.replica_store.proofs.MergeAnswers.{made_of, is_merge}
 use Rattle.replica_store.proofs.Merges.{union-same}
+use Rattle.replica_store.proofs.RowLists.{all_held}
+use Rattle.query_parser.specs.Descent.{condition_of}
+use Rattle.query_parser.specs.Resolve.{resolved_condition}
 use Rattle.store_view.specs.Asked.{condition_names, is_refusal_of_condition}
 use Rattle.column_file.specs.Files.{ranges_of}
 use Rattle.column_file.proofs.RangeLists.{ranges_are}
 use Rattle.catalogue_join.specs.RowRange.{RowRange, AreMaximal, rows_in}
-use Rattle.replica_files.specs.Commands.{Made, Makes, Deletes, deleting, applied_all, applying, is_uncounted}
+use Rattle.replica_files.specs.Commands.{Made, Makes, deleting, applied_all, applying, is_uncounted}
 
 -- ---- deletes by a condition
 
@@ -49,6 +58,43 @@ none_of (name ∷ names) count is e = absurd (some (length names) (subst (λ (n 
         let apart : (suc n == 0) ≡ false = grind (arith, nat_tests) in
         let bad : true ≡ false = sym (ap not apart) ∙ e in cc
 
+-- names of which each passes, among the names of rows that pass
+each_passes : (p : RowName → Bool) (keep : RowName × Cells → Bool) (rows : List (RowName × Cells)) → list_all p (map (λ (r : RowName × Cells). r.0) (filter keep (filter (λ (r : RowName × Cells). p r.0) rows))) ≡ true
+each_passes p keep [] = refl
+each_passes p keep (r ∷ rows) = by_pass (filter (λ (x : RowName × Cells). p x.0) rows) (p r.0) refl (each_passes p keep rows)
+  where
+    by_keep : (rest : List (RowName × Cells)) (k : Bool) → p r.0 ≡ true → list_all p (map (λ (x : RowName × Cells). x.0) (filter keep rest)) ≡ true → list_all p (map (λ (x : RowName × Cells). x.0) (cond k (r ∷ filter keep rest) (filter keep rest))) ≡ true
+    by_keep rest true passes others = and_from (p r.0) (list_all p (map (λ (x : RowName × Cells). x.0) (filter keep rest))) passes others
+    by_keep rest false passes others = others
+
+    by_pass : (rest : List (RowName × Cells)) (b : Bool) → p r.0 ≡ b → list_all p (map (λ (x : RowName × Cells). x.0) (filter keep rest)) ≡ true → list_all p (map (λ (x : RowName × Cells). x.0) (filter keep (cond b (r ∷ rest) rest))) ≡ true
+    by_pass rest true passes others = by_keep rest (keep r) passes others
+    by_pass rest false fails others = others
+
+-- rows that a condition finds aren't deleted
+found_live : (text : List ℕ) (table : Table) (state : State) (names : List RowName) → condition_names text table state ≡ Ok names → list_all (λ (q : RowName). not (set.contains state.deleted q)) names ≡ true
+unfolding condition_names names_where live_rows
+found_live text table state names finds = by_text (condition_of text) finds
+  where
+    by_names : (f : Formula) (done : Result (Unit {0}) Refusal) → (done >>= λ (u : Unit {0}). let found : Result (List RowName) Refusal = Ok (names_where table f state) in found) ≡ Ok names → list_all (λ (q : RowName). not (set.contains state.deleted q)) names ≡ true
+    by_names f (Err e) is = cc
+    by_names f (Ok u) is =
+        let same : names_where table f state ≡ names = cc in
+        subst (λ (ns : List RowName). list_all (λ (q : RowName). not (set.contains state.deleted q)) ns ≡ true) same
+        (each_passes (λ (q : RowName). not (set.contains state.deleted q)) (λ (row : RowName × Cells). is_kept (Some f) (at_row table.columns row.1)) (named_rows state))
+
+    by_text : (read : Result Formula Refusal) → (read >>= λ (f : Formula). resolved_condition table f >>= λ (u : Unit {0}). let found : Result (List RowName) Refusal = Ok (names_where table f state) in found) ≡ Ok names → list_all (λ (q : RowName). not (set.contains state.deleted q)) names ≡ true
+    by_text (Err e) is = cc
+    by_text (Ok f) is = by_names f (resolved_condition table f) is
+
+-- so where all rows that were found are deleted, there are none
+none_found : (deleted : set.FinSet row_name_cmp) (names : List RowName) → list_all (λ (q : RowName). not (set.contains deleted q)) names ≡ true → list_all (set.contains deleted) names ≡ true → length names ≡ 0
+none_found deleted [] live held = refl
+none_found deleted (name ∷ names) live held =
+    let out = (and_parts (not (set.contains deleted name)) (list_all (λ (q : RowName). not (set.contains deleted q)) names) live).0 in
+    let in_it = (and_parts (set.contains deleted name) (list_all (set.contains deleted) names) held).0 in
+    absurd (false≢true (sym (ap not in_it) ∙ out))
+
 -- rows that were found and deleted
 pub deletes_ok : {X : Type 0} (view : X → ℕ) (x : X) (text : List ℕ) (r new : Replica) (names slice : List RowName) (u : Unit {0}) → condition_names text r.schema r.state ≡ Ok names → slice ≡ names → view x ≡ length names
     → deleted_names r slice ≡ Ok (u, new) → Makes view (λ (d : X). not (view d == 0)) r (Ok x) new (deleting text r)
@@ -56,7 +102,12 @@ deletes_ok view x text r new names slice u finds same counted e =
     let deleted : with_deleted r names ≡ new = ap (with_deleted r) (sym same) ∙ made_of tt u (with_deleted r slice) new (ok_unless (names_fault slice) (Ok (tt, with_deleted r slice)) (u, new) e).1 in (
       ap (λ (found : Result (List RowName) Refusal). found >>= λ (rows : List RowName). let made : Made ℕ = Ok (length rows, with_deleted r rows) in made) finds
           ∙ (λ i. let made : Made ℕ = Ok (sym counted i, deleted i) in made),
-      λ none. sym deleted ∙ ap (with_deleted r) (none_of names (view x) counted none) ∙ (λ i. record { schema = r.schema; own = r.own; state = record { batches = r.state.batches; deleted = union_none r.state.deleted i } }),
+      (
+        λ none. sym deleted ∙ ap (with_deleted r) (none_of names (view x) counted none) ∙ (λ i. record { schema = r.schema; own = r.own; state = record { batches = r.state.batches; deleted = union_none r.state.deleted i } }),
+        λ stays.
+            let held = all_held r.state.deleted names (ap (λ (n : Replica). n.state.deleted) (deleted ∙ stays)) in
+            ap (λ (n : ℕ). not (n == 0)) (counted ∙ none_found r.state.deleted names (found_live text r.schema r.state names finds) held),
+      ),
     )
 
 -- a condition that was refused
@@ -84,36 +135,6 @@ pub memory_uncounted : (e : Refusal) → e ≡ Memory → IsTrue (is_uncounted e
 memory_uncounted e is = ap is_uncounted is
 
 -- ---- deletes of ranges
-
-same_union : (xs : List RowName) → set.union set.empty (set.from_list xs) ≡ set.from_list {R = row_name_cmp} xs
-same_union xs = set.same_set row_names_total exact_row_names (set.union set.empty (set.from_list xs)) (set.from_list xs) (λ q.
-    set.contains-union row_names_total set.empty (set.from_list xs) q ∙ ap (λ (b : Bool). b || set.contains {R = row_name_cmp} (set.from_list xs) q) (set.contains-from_list row_names_total [] q))
-
-deletions_same : (ours theirs : set.FinSet row_name_cmp) → set.is_subset theirs ours ≡ true → set.union ours theirs ≡ ours
-deletions_same ours theirs within =
-    set.same_set row_names_total exact_row_names (set.union ours theirs) ours
-    (λ q. set.contains-union row_names_total ours theirs q ∙ absorbs (set.contains ours q) (set.contains theirs q) (set.is_subset-contains row_names_total theirs ours within q))
-
-not_not : (b : Bool) → not b ≡ false → b ≡ true
-not_not true e = refl
-not_not false e = cc
-
--- rows all of which were deleted before
-pub brings_none : (deleted more : set.FinSet row_name_cmp) (first : RowName) (last : ℕ) (has : Bool) → more ≡ set.union set.empty (set.from_list (rows_between first last)) → has ≡ set.is_subset more deleted → Deletes deleted first last (not has)
-brings_none deleted more first last has is test none =
-    let within : set.is_subset more deleted ≡ true = sym test ∙ not_not has none in
-    let rows : set.is_subset (set.from_list (rows_between first last)) deleted ≡ true = ap (λ (s : set.FinSet row_name_cmp). set.is_subset s deleted) (sym (is ∙ same_union (rows_between first last))) ∙ within in
-    deletions_same deleted (set.from_list (rows_between first last)) rows
-
-pub brings_some : (deleted : set.FinSet row_name_cmp) (first : RowName) (last : ℕ) → Deletes deleted first last true
-brings_some deleted first last e = cc
-
-pub range_ok : {X : Type 0} (changed : X → Bool) (x : X) (r new : Replica) (first : RowName) (last : ℕ) (u : Unit {0}) → Deletes r.state.deleted first last (changed x) → deleted_rows r first last ≡ Ok (u, new)
-    → Makes {X = X} (λ done. tt) changed r (Ok x) new (deleted_rows r first last)
-range_ok changed x r new first last u idle e =
-    let met = ok_unless (delete_fault first last) (Ok (tt, with_deleted r (rows_between first last))) (u, new) e in
-    let made : with_deleted r (rows_between first last) ≡ new = made_of tt u (with_deleted r (rows_between first last)) new met.1 in
-    (e, λ none. sym made ∙ (λ i. record { schema = r.schema; own = r.own; state = record { batches = r.state.batches; deleted = idle none i } }))
 
 range_is : (first : RowName) (last : ℕ) (r : Replica) (o : Option Refusal) (e : Refusal) → unless_fault {X = Unit {0} × Replica} o (Ok (tt, r)) ≡ Err e → o ≡ Some e
 range_is first last r None e is = cc
@@ -145,6 +166,11 @@ or_right : (a b : Bool) → (a || b) ≡ false → b ≡ false
 or_right true b e = cc
 or_right false b e = e
 
+deletions_same : (ours theirs : set.FinSet row_name_cmp) → set.is_subset theirs ours ≡ true → set.union ours theirs ≡ ours
+deletions_same ours theirs within =
+    set.same_set row_names_total exact_row_names (set.union ours theirs) ours
+    (λ q. set.contains-union row_names_total ours theirs q ∙ absorbs (set.contains ours q) (set.contains theirs q) (set.is_subset-contains row_names_total theirs ours within q))
+
 not_more : (m n : ℕ) → nat_lt m n ≡ false → n ≤ m
 not_more m n e = grind (arith, nat_tests, e)
 
@@ -157,12 +183,6 @@ merge_same r other new u e few within =
     let batches = union-same r.state.batches other.state.batches count in
     let deleted = deletions_same r.state.deleted other.state.deleted within in
     sym m.made ∙ (λ i. record { schema = r.schema; own = r.own; state = record { batches = batches i; deleted = deleted i } })
-
--- an offer that was applied, and had no deletion that was lacked
-pub offer_ok : (r new : Replica) (offer : OfferForm) (u : Unit {0}) (has : Bool) (before after : ℕ) → applied r offer ≡ Ok (u, new) → has ≡ set.is_subset offer.state.deleted r.state.deleted → not has ≡ false
-    → before ≡ map.len r.state.batches → after ≡ map.len new.state.batches → nat_lt before after ≡ false → new ≡ r
-offer_ok r new offer u has before after e test all count later few =
-    merge_same r (offering r.own offer) new u e (sym (λ i. nat_lt (count i) (later i)) ∙ few) (sym test ∙ not_not has all)
 
 merge_fault_of : (a : Bool) (r other : Replica) (o : Option BatchName) (e : Refusal) → cond a (conflict_or_full r other o) (Some SchemaDiffers) ≡ Some e → IsTrue (is_uncounted e)
 merge_fault_of false r other o e is = let same : SchemaDiffers ≡ e = cc in ap is_uncounted (sym same)
@@ -183,25 +203,64 @@ merge_uncounted r other e (inl refused) =
     merge_fault_of (same_table r.schema other.schema) r other (conflict_with r.state.batches (entries_of other)) e (merged_fault (merge_fault r other) (with_join r other) e refused)
 merge_uncounted r other e (inr lack) = memory_uncounted e lack.0
 
--- offers that were applied so far: the rest is applied to what they made
+-- what both ways grow into each other is the same
+both_equal : (a b : Bool) → (IsTrue a → IsTrue b) → (IsTrue b → IsTrue a) → a ≡ b
+both_equal true b there back = sym (there refl)
+both_equal false true there back = back refl
+both_equal false false there back = refl
+
+found_both : (a b : Option Batch) → ((rows : Batch) → a ≡ Some rows → b ≡ Some rows) → ((rows : Batch) → b ≡ Some rows → a ≡ Some rows) → a ≡ b
+found_both (Some x) b there back = sym (there x refl)
+found_both None (Some y) there back = back y refl
+found_both None None there back = refl
+
+same_grown : (r s : Replica) → s.own ≡ r.own → HasGrown r s → HasGrown s r → s ≡ r
+same_grown r s own there back =
+    let batches = same_maps s.state.batches r.state.batches (λ q. found_both (map.get s.state.batches q) (map.get r.state.batches q) (back.batches q) (there.batches q)) in
+    let deleted = set.same_set row_names_total exact_row_names s.state.deleted r.state.deleted (λ q. both_equal (set.contains s.state.deleted q) (set.contains r.state.deleted q) (back.deletions q) (there.deletions q)) in
+    λ i. record { schema = there.schema i; own = own i; state = record { batches = batches i; deleted = deleted i } }
+
+-- offers that were applied so far: the rest is applied to what they made, which has grown
 pub record AppliedSoFar (start now : Replica) (all left : List OfferForm) (is_changed : Bool) : Type 0 where
   pub rest : applied_all start all ≡ applied_all now left
-  pub same : is_changed ≡ false → now ≡ start
+  pub own : now.own ≡ start.own
+  pub grown : HasGrown start now
+  pub changed : SaysChange is_changed start now
+
+pub applied_none : (start : Replica) (all : List OfferForm) → AppliedSoFar start start all all false
+applied_none start all = record { rest = refl; own = refl; grown = grown_itself start; changed = (λ e. refl, λ e. refl) }
+
+-- both of two steps say that nothing changed where nothing did
+says_both : (start now next : Replica) (was is : Bool) → now.own ≡ start.own → next.own ≡ now.own → HasGrown start now → HasGrown now next → SaysChange was start now → SaysChange is now next → SaysChange (was || is) start next
+says_both start now next was is own_now own_next to_now to_next first second = (
+  λ none. second.0 (or_right was is none) ∙ first.0 (or_left was is none),
+  λ stays.
+      let back : HasGrown now start = subst (HasGrown now) stays to_next in
+      let now_same : now ≡ start = same_grown start now own_now to_now back in
+      let was_none = first.1 now_same in
+      let is_none = second.1 (stays ∙ sym now_same) in
+      ap (λ (b : Bool). b || is) was_none ∙ is_none,
+)
 
 pub applied_next : (start now next : Replica) (all left : List OfferForm) (offer : OfferForm) (was is both : Bool) → AppliedSoFar start now all (offer ∷ left) was
-    → Makes (λ is_changed. tt) (λ (is_changed : Bool). is_changed) now (Ok is) next (applied now offer) → both ≡ (was || is) → AppliedSoFar start next all left both
-applied_next start now next all left offer was is both so made joined = record {
-  rest = so.rest ∙ ap (λ (x : Made (Unit {0})). x >>= λ (done : Unit {0} × Replica). applied_all done.1 left) made.0;
-  same = λ none. let split : (was || is) ≡ false = sym joined ∙ none in made.1 (or_right was is split) ∙ so.same (or_left was is split);
-}
+    → applied now offer ≡ Ok (tt, next) → SaysChange is now next → both ≡ (was || is) → AppliedSoFar start next all left both
+applied_next start now next all left offer was is both so made says joined =
+    let own : next.own ≡ now.own = ap (λ (r : Replica). r.own) (sym (is_merge now (offering now.own offer) next made).made) in
+    let grown : HasGrown now next = grown_merge now (offering now.own offer) next made in
+    record {
+      rest = so.rest ∙ ap (λ (x : Made (Unit {0})). x >>= λ (done : Unit {0} × Replica). applied_all done.1 left) made;
+      own = own ∙ so.own;
+      grown = grown_then start now next so.grown grown;
+      changed = subst (λ (b : Bool). SaysChange b start next) (sym joined) (says_both start now next was is so.own own so.grown grown so.changed says);
+    }
 
 pub applied_stops : (start now new : Replica) (all left : List OfferForm) (offer : OfferForm) (was : Bool) (e : Refusal) → AppliedSoFar start now all (offer ∷ left) was
-    → Makes {X = Bool} (λ is_changed. tt) (λ (is_changed : Bool). is_changed) now (Err e) new (applied now offer) → Makes {X = Bool} (λ is_changed. tt) (λ (is_changed : Bool). is_changed) start (Err e) new (applied_all start all)
+    → (applied now offer ≡ Err e) ⊎ ((e ≡ Memory) × IsOk (applied now offer)) → Makes {X = Bool} (λ is_changed. tt) (λ (is_changed : Bool). is_changed) start (Err e) new (applied_all start all)
 applied_stops start now new all left offer was e so (inl refused) = inl (so.rest ∙ ap (λ (x : Made (Unit {0})). x >>= λ (done : Unit {0} × Replica). applied_all done.1 left) refused)
-applied_stops start now new all left offer was e so (inr lack) = inr lack
+applied_stops start now new all left offer was e so (inr lack) = inr lack.0
 
 pub applied_whole : (start now : Replica) (all : List OfferForm) (is : Bool) → AppliedSoFar start now all [] is → Makes (λ is_changed. tt) (λ (is_changed : Bool). is_changed) start (Ok is) now (applied_all start all)
-applied_whole start now all is so = (so.rest, so.same)
+applied_whole start now all is so = (so.rest, so.changed)
 
 -- what is told of a replica that was another one before
 abbrev told_of : Replica → Replica → Made (ℕ × ℕ × ℕ)
@@ -226,9 +285,8 @@ untold_applied view changed old new offers e (inr lack) = inr lack
 not_write : (e : Refusal) → IsTrue (is_uncounted e) → e ≢ WriteFault
 not_write e listed is = let bad : false ≡ true = sym (ap is_uncounted is) ∙ listed in cc
 
-pub merge_unwritten : (r other new : Replica) (result : Result (Unit {0}) Refusal) → Acts (λ (done : Unit {0}). done) r result new (merged r other) → IfErr result (λ e. e ≢ WriteFault)
-merge_unwritten r other new (Ok done) acts = tt
-merge_unwritten r other new (Err e) acts = not_write e (merge_uncounted r other e acts.1)
+pub merge_not_write : (r other : Replica) (e : Refusal) → (merged r other ≡ Err e) ⊎ ((e ≡ Memory) × IsOk (merged r other)) → e ≢ WriteFault
+merge_not_write r other e why = not_write e (merge_uncounted r other e why)
 
 -- ---- a merge that brings no deletion
 

@@ -1,19 +1,16 @@
 -- What a command makes of a replica in a file, and what a call says that does so over a reader and a writer.
 use Rattle.std.specs.Prelude.{◌≡◌, ◌⊎◌, ℕ, ◌-◌, Bool, true, false, List, [], ◌∷◌, length, Option, Some, None, Result, Ok, Err}
 use Rattle.std.specs.FinMap as map
-use Rattle.std.specs.FinSet as set
 use Rattle.std.specs.Io.KnownBytes.{Appends}
 use Rattle.table_model.specs.Faults.{AppendsFront}
 use Rattle.table_model.specs.Reading.{◌>>=◌}
 use Rattle.table_model.specs.declared.refusal.Refusal.{Refusal}
 use Rattle.table_model.specs.declared.refusal.Refusal.TheVariants.{Memory, ReadFault, WriteFault}
-use Rattle.table_model.specs.declared.names.RowName.{RowName}
-use Rattle.table_model.specs.Name.{row_name_cmp}
 use Rattle.table_model.specs.Table.{Table, schema_of}
 use Rattle.table_model.specs.declared.schema.ColType.{ColType}
 use Rattle.table_model.specs.State.{empty_state}
 use Rattle.replica_store.specs.Exchange.{OfferForm, SummaryForm, applied, offered, summary_of}
-use Rattle.replica_store.specs.Replica.{Replica, with_deleted, rows_between, merged}
+use Rattle.replica_store.specs.Replica.{Replica, with_deleted, merged, SaysChange}
 use Rattle.store_view.specs.Asked.{condition_names}
 use Rattle.column_file.specs.Files.{canonical_file, opened_from, ranges_of, offer_bytes, offer_read}
 use Rattle.column_file.specs.SummaryBytes.{summary_bytes}
@@ -49,7 +46,7 @@ abbrev pub WritesFront : Option (List ℕ) → Option (List ℕ) → Result (Lis
 WritesFront before now (Ok bytes) = AppendsFront before now bytes
 WritesFront before now (Err e) = ⊥
 
--- A refused call: nothing was written, and the refusal is the one that is given, or a want of memory or a failed read; or a write
+-- A refused call: nothing was written, and the refusal is the one that is given, or out of memory or a failed read; or a write
 -- failed after a front of what is to be written.
 abbrev pub Refuses : Refusal → Option (List ℕ) → Option (List ℕ) → Result (List ℕ) Refusal → Type 0
 Refuses e before now written = ((now ≡ before) × ((written ≡ Err e) ⊎ IsUnread e)) ⊎ ((e ≡ WriteFault) × WritesFront before now written)
@@ -61,26 +58,19 @@ Leaves true input before now file = Appends before now file
 Leaves false input before now file = (now ≡ before) × (input ≡ file)
 
 -- A call that changes a file: what was read is the canonical file of a table and a state, what is answered is what the command
--- makes of them, and the file is left as the canonical file of what it makes, which is read as that. Nothing is said where the reader
--- doesn't tell its bytes.
+-- makes of them, and the file is left as the canonical file of what it makes, which is read as that. The answer says exactly whether
+-- what the file holds changed. Nothing is said where the reader doesn't tell its bytes.
 abbrev pub Changes : {X Y : Type 0} → (X → Y) → (X → Bool) → Result X Refusal → Option (List ℕ) → Option (List ℕ) → Option (List ℕ) → (Replica → Made Y) → Type 0
 Changes view changed result None before now command = Unit {0}
 Changes view changed (Ok x) (Some input) before now command =
     (old new : Replica) × (input ≡ file_of old) × (held_in input ≡ Ok old) × (command old ≡ Ok (view x, new)) ×
-    Leaves (changed x) input before now (file_of new) × (held_in (file_of new) ≡ Ok (as_held new))
+    Leaves (changed x) input before now (file_of new) × (held_in (file_of new) ≡ Ok (as_held new)) × SaysChange (changed x) old new
 Changes view changed (Err e) (Some input) before now command = Refuses e before now (file_made (held_in input >>= command))
 
--- A call that only reads a file: what was written is what the file's replica gives.
-abbrev pub Answers : Result (Unit {0}) Refusal → Option (List ℕ) → Option (List ℕ) → Option (List ℕ) → (Replica → Result (List ℕ) Refusal) → Type 0
-Answers result None before now command = Unit {0}
-Answers (Ok done) (Some input) before now command =
-    (old : Replica) × (bytes : List ℕ) × (input ≡ file_of old) × (held_in input ≡ Ok old) × (command old ≡ Ok bytes) × Appends before now bytes
-Answers (Err e) (Some input) before now command = Refuses e before now (held_in input >>= command)
-
--- A command on a store: what it answers and makes of the replica is what is given, and where it says that nothing changed nothing
--- did; Memory may come in the place of anything.
+-- A command on a store: what it answers and makes of the replica is what is given, and it says exactly whether the replica changed;
+-- Memory may come in the place of anything.
 abbrev pub Makes : {X Y : Type 0} → (X → Y) → (X → Bool) → Replica → Result X Refusal → Replica → Made Y → Type 0
-Makes view changed old (Ok x) new made = (made ≡ Ok (view x, new)) × (changed x ≡ false → new ≡ old)
+Makes view changed old (Ok x) new made = (made ≡ Ok (view x, new)) × SaysChange (changed x) old new
 Makes view changed old (Err e) new made = (made ≡ Err e) ⊎ (e ≡ Memory)
 
 -- whether a refusal is neither a read nor a write that failed, so that it is counted nowhere
@@ -89,7 +79,7 @@ is_uncounted ReadFault = false
 is_uncounted WriteFault = false
 is_uncounted other = true
 
--- A replica's file was written where something changed, and else nothing; refused for want of memory before anything was written, or
+-- A replica's file was written where something changed, and else nothing; refused as out of memory before anything was written, or
 -- for a failed write after a front. What was written is read as the replica.
 abbrev pub Puts : Bool → Result (Unit {0}) Refusal → Option (List ℕ) → Option (List ℕ) → Replica → Type 0
 Puts true (Ok done) before now r = Appends before now (file_of r) × (held_in (file_of r) ≡ Ok (as_held r))
@@ -112,10 +102,6 @@ Creates result before now table columns = CreatesOf result before now (schema_of
 -- delete: how many rows aren't deleted and have the condition that a text is true, and the replica with them deleted
 abbrev pub deleting : List ℕ → Replica → Made ℕ
 deleting text r = condition_names text r.schema r.state >>= λ names. Ok (length names, with_deleted r names)
-
--- the test tells where no row of a range is newly deleted
-abbrev pub Deletes : set.FinSet row_name_cmp → RowName → ℕ → Bool → Type 0
-Deletes deleted first last brings = brings ≡ false → set.union deleted (set.from_list (rows_between first last)) ≡ deleted
 
 -- apply: the offers are applied one after another
 abbrev pub applied_all : Replica → List OfferForm → Made (Unit {0})
@@ -167,16 +153,3 @@ summarizing r = Ok (summary_bytes (summary_of r))
 -- What was written is an offer of a replica to a summary: it is read as an offer of the state that is offered.
 abbrev pub OffersTo : Replica → SummaryForm → OfferForm → Type 0
 OffersTo r summary o = (o.schema ≡ r.schema) × (offered r summary ≡ Ok o.state) × (offer_read (offer_bytes o) ≡ Ok o)
-
--- a front of such an offer was written
-abbrev pub FrontOfOffer : Option (List ℕ) → Option (List ℕ) → Result Replica Refusal → SummaryForm → Type 0
-FrontOfOffer before now (Ok r) summary = (o : OfferForm) × (o.schema ≡ r.schema) × (offered r summary ≡ Ok o.state) × AppendsFront before now (offer_bytes o)
-FrontOfOffer before now (Err e) summary = ⊥
-
--- offer: what was written is an offer of the file's replica to a summary
-abbrev pub Offers : Result (Unit {0}) Refusal → Option (List ℕ) → Option (List ℕ) → Option (List ℕ) → SummaryForm → Type 0
-Offers result None before now summary = Unit {0}
-Offers (Ok done) (Some input) before now summary =
-    (old : Replica) × (o : OfferForm) × (input ≡ file_of old) × (held_in input ≡ Ok old) × OffersTo old summary o × Appends before now (offer_bytes o)
-Offers (Err e) (Some input) before now summary =
-    ((now ≡ before) × (((held_in input >>= λ r. offered r summary) ≡ Err e) ⊎ IsUnread e)) ⊎ ((e ≡ WriteFault) × FrontOfOffer before now (held_in input) summary)

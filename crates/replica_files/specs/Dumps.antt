@@ -34,18 +34,10 @@ live_text has_names deleted row = cond (set.contains deleted row.0) [] (row_text
 abbrev pub dumping : Bool → Replica → List ℕ
 dumping has_names r = heading has_names r.schema ++ flat_map (row_text has_names) (live_rows r.state)
 
--- A call that writes lines: all were written; or memory lacked or a write failed after a front. The count of failures rose with a failed
+-- A call that writes lines: all were written; or memory ran out or a write failed after a front. The count of failures rose with a failed
 -- write alone.
 abbrev pub WritesLines : Result (Unit {0}) Refusal → Option (List ℕ) → Option (List ℕ) → ℕ → ℕ → List ℕ → Type 0
 WritesLines (Ok done) old new before after text = Appends old new text × (after ≡ before)
 WritesLines (Err Memory) old new before after text = AppendsFront old new text × (after ≡ before)
 WritesLines (Err WriteFault) old new before after text = AppendsFront old new text × (after ≡ one_more before)
 WritesLines (Err other) old new before after text = ⊥
-
--- What was written is the dump of the file's replica; or the file was refused, and nothing was written; or memory lacked or a write
--- failed after a front.
-abbrev pub Dumps : Result (Unit {0}) Refusal → Option (List ℕ) → Option (List ℕ) → Option (List ℕ) → Bool → Type 0
-Dumps result None before now has_names = Unit {0}
-Dumps (Ok done) (Some input) before now has_names = (old : Replica) × (input ≡ file_of old) × (held_in input ≡ Ok old) × Appends before now (dumping has_names old)
-Dumps (Err e) (Some input) before now has_names =
-    ((now ≡ before) × ((held_in input ≡ Err e) ⊎ IsUnread e)) ⊎ (((e ≡ Memory) ⊎ (e ≡ WriteFault)) × ((old : Replica) × (held_in input ≡ Ok old) × AppendsFront before now (dumping has_names old)))

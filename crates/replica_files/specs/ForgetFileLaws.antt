@@ -1,4 +1,4 @@
--- The law of files in which batches were forgotten: what such a file stands for, which commands add to, and which alone decides its
+-- The law of files in which batches were forgotten: what such a file represents, which commands add to, and which alone decides its
 -- answers, and its bytes once it has forgotten.
 use Rattle.std.specs.Prelude.{◌≡◌, ℕ, List, [], ◌∷◌, ◌++◌, Ok}
 use Rattle.table_model.specs.Operation.{Operation, AreAgreeing, SameOperations, state_of}
@@ -18,7 +18,7 @@ use Rattle.replica_files.specs.FileLaws.{Holds, inserts, deletes, deletes_where,
 use Rattle.replica_files.specs.Forgetting.{forgetting}
 use Rattle.replica_files.specs.Loads.{LoadForm, named_batches, importing_as}
 
--- A file stands for a set of operations of a table, as a list of which only the members matter: no name has two lists of rows; the
+-- A file represents a set of operations of a table, as a list of which only the members matter: no name has two lists of rows; the
 -- file is the canonical file of what is left of the state that they make where some batches of which every row is deleted were
 -- dropped, at whatever times; and it is read as that.
 pub record StandsFor (bytes : List ℕ) (table : Table) (ops : List Operation) : Type 0 where
@@ -28,7 +28,7 @@ pub record StandsFor (bytes : List ℕ) (table : Table) (ops : List Operation) :
   pub file : bytes ≡ canonical_file table state
   pub read : held_in bytes ≡ Ok (record { schema = table; own = record { 0 = 1 }; state = state })
 
--- A command adds operations to what a file stands for: wherever it answers, and these and those agree, the file that it leaves stands
+-- A command adds operations to what a file represents: wherever it answers, and these and those agree, the file that it leaves represents
 -- for these and what the file stood for.
 abbrev pub AddsToStanding : {Y : Type 0} → (Replica → Made Y) → (Table → List Operation → List Operation) → Type 0
 AddsToStanding {Y = Y} command more =
@@ -36,20 +36,20 @@ AddsToStanding {Y = Y} command more =
     StandsFor input table ops → AreAgreeing (more table ops ++ ops) → held_in input ≡ Ok old → command old ≡ Ok (answer, new) → held_in (file_of new) ≡ Ok (as_held new) →
     StandsFor (file_of new) table (more table ops ++ ops)
 
--- each file stands for the set of operations at its place
+-- each file represents the set of operations at its place
 abbrev pub EachStandsFor : List (List ℕ) → Table → List (List Operation) → Type 0
 EachStandsFor [] table [] = Unit {0}
 EachStandsFor (bytes ∷ files) table (ops ∷ sets) = StandsFor bytes table ops × EachStandsFor files table sets
 EachStandsFor files table sets = ⊥
 
--- a merge of files stands for all that they stand for, where all of it agrees
+-- a merge of files represents all that they represent, where all of it agrees
 abbrev pub MergesStand : Type 0
 MergesStand =
     (first : List ℕ) (others : List (List ℕ)) (table : Table) (ops : List Operation) (sets : List (List Operation)) (new : Replica) →
     StandsFor first table ops → EachStandsFor others table sets → AreAgreeing (all_of sets ++ ops) → merged_files first others ≡ Ok new → held_in (file_of new) ≡ Ok (as_held new) →
     StandsFor (file_of new) table (all_of sets ++ ops)
 
--- A file that takes an offer, however late, stands for all that the file that offered stood for, where the summary listed only batches
+-- A file that takes an offer, however late, represents all that the file that offered represented, where the summary listed only batches
 -- that the taker had taken, forgotten since or not, and where all of it agrees.
 abbrev pub PullsStand : Type 0
 PullsStand =
@@ -59,12 +59,12 @@ PullsStand =
     held_in input ≡ Ok old → applying (offer ∷ []) old ≡ Ok (answer, new) → held_in (file_of new) ≡ Ok (as_held new) →
     StandsFor (file_of new) table (others ++ ops)
 
--- what a file answers, and the rows that it has, are those of the state of all that it stands for
+-- what a file answers, and the rows that it has, are those of the state of all that it represents
 pub record MeansWhole (r : Replica) (table : Table) (ops : List Operation) : Type 0 where
   pub rows : live_rows r.state ≡ live_rows (state_of ops)
   pub answers : (sql : List ℕ) → query_answer sql r.schema r.state ≡ query_answer sql table (state_of ops)
 
--- files that stand for the same answer each query alike
+-- files that represent the same answer each query alike
 abbrev pub AnswersAlike : Type 0
 AnswersAlike =
     (a b : List ℕ) (table : Table) (ops others : List Operation) (r q : Replica) (sql : List ℕ) →
@@ -78,8 +78,8 @@ SameForgottenFiles =
     StandsFor a table ops → StandsFor b table others → SameOperations ops others → held_in a ≡ Ok r → held_in b ≡ Ok q →
     forgetting r ≡ Ok (dropped, new) → forgetting q ≡ Ok (parted, other) → file_of new ≡ file_of other
 
--- What a file holds it stands for. Each command adds to what its file stands for what it adds to what a file holds, given that names
--- agree over all of it; its summary lists what it took, and goes on to be so; a forget adds nothing. What a file stands for decides its answers, by their meaning over all
+-- What a file holds it represents. Each command adds to what its file represents what it adds to what a file holds, given that names
+-- agree over all of it; its summary lists what it took, and goes on to be so; a forget adds nothing. What a file represents decides its answers, by their meaning over all
 -- that was taken, and its bytes once it has forgotten.
 pub record ForgetFileLaws : Type 0 where
   pub holds : (bytes : List ℕ) (table : Table) (ops : List Operation) → Holds bytes table ops → StandsFor bytes table ops

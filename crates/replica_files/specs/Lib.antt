@@ -1,4 +1,4 @@
-pub mod Answering
+pub mod Asking
 pub mod Commands
 pub mod CsvLoads
 pub mod Dumps
@@ -7,3 +7,4 @@ pub mod ForgetFileLaws
 pub mod Forgetting
 pub mod Loads
 pub mod DumpLaws
+pub mod QueryLines

@@ -70,11 +70,11 @@ abbrev pub added_batch : LoadForm → Batch → Result (Unit {0} × LoadForm) Re
 added_batch load rows =
     unless_fault (rows_fault load.schema rows) (cond (nat_lt (length load.batches) batch_limit) (Ok (tt, record { schema = load.schema; batches = load.batches ++ (rows ∷ []) })) (Err Full))
 
--- whether a name is one of so many consecutive names from a first one on
+-- whether a name is one of a number of consecutive names from a first one on
 abbrev pub is_one_of : BatchName → ℕ → BatchName → Bool
 is_one_of first count name = name.origin.0 == first.origin.0 && (nat_le first.number.0 name.number.0 && nat_lt name.number.0 (first.number.0 + count))
 
--- so many consecutive names from a first one on are proper, and none of them is held or has a deleted row
+-- a number of consecutive names from a first one on are proper, and none of them is held or has a deleted row
 pub record AreFree (s : State) (first : BatchName) (count : ℕ) : Type 0 where
   pub proper : IsTrue (is_proper_name first)
   pub last : first.number.0 + count ≤ 4294967296
@@ -86,7 +86,7 @@ pub record AreFree (s : State) (first : BatchName) (count : ℕ) : Type 0 where
 abbrev pub loaded : Replica → LoadForm → BatchName → Replica
 loaded r load first = record { schema = load.schema; own = r.own; state = record { batches = map.from_entries (named_batches first load.batches); deleted = set.empty } }
 
--- The first of so many consecutive names: one that isn't proper is refused, unless there is no batch, and so are numbers past the
+-- The first of a number of consecutive names: one that isn't proper is refused, unless there is no batch, and so are numbers past the
 -- greatest.
 unfoldable pub first_name : BatchName → ℕ → Result BatchName Refusal
 first_name first count =
@@ -96,14 +96,14 @@ first_name first count =
 abbrev pub named_by : ℕ → BatchName
 named_by word = record { origin = record { 0 = word / 4294967296 }; number = record { 0 = word % 2147483648 + 1 } }
 
--- whether so many consecutive names from a first one on are proper, and none of them is held or has a deleted row
+-- whether a number of consecutive names from a first one on are proper, and none of them is held or has a deleted row
 unfoldable pub is_free : State → BatchName → ℕ → Bool
 is_free s first count =
     is_proper_name first && (nat_le (first.number.0 + count) 4294967296
     && (list_all (λ (e : BatchName × Batch). not (is_one_of first count e.0)) (map.entries s.batches)
     && list_all (λ (range : RowRange). not (is_one_of first count range.0.batch)) (ranges_of s.deleted)))
 
--- the name of the first of some words from which so many names are free
+-- the name of the first of some words from which that number of names are free
 abbrev pub first_free : State → ℕ → List ℕ → Option BatchName
 first_free s count [] = None
 first_free s count (word ∷ words) = cond (is_free s (named_by word) count) (Some (named_by word)) (first_free s count words)
@@ -113,7 +113,7 @@ abbrev pub or_spent : Option BatchName → Result BatchName Refusal
 or_spent (Some name) = Ok name
 or_spent None = Err NumbersSpent
 
--- the first name of an import of so many batches: the one that is given, or that of the first of some words from which they are free
+-- the first name of an import of a number of batches: the one that is given, or that of the first of some words from which they are free
 unfoldable pub chosen_name : State → Option BatchName → List ℕ → ℕ → Result BatchName Refusal
 chosen_name s (Some name) words count = first_name name count
 chosen_name s None words count = or_spent (first_free s count words)
@@ -122,7 +122,7 @@ chosen_name s None words count = or_spent (first_free s count words)
 abbrev pub new_since : Replica → Replica → ℕ
 new_since old new = map.len new.state.batches - map.len old.state.batches
 
--- the first name of so many batches, if there is a batch
+-- the first name of a number of batches, if there is a batch
 abbrev pub name_of_some : ℕ → BatchName → Option BatchName
 name_of_some count name = cond (count == 0) None (Some name)
 

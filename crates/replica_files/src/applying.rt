@@ -3,7 +3,6 @@ ghost use Rattle.std.specs.Prelude.{◌≡◌, ◌≢◌, map, IsTrue, IfErr, On
 ghost use Rattle.std.specs.Io.KnownBytes.{IsAtEnd};
 ghost use Rattle.table_model.specs.Faults.{IsWithin, GaveMore, CountsBoth};
 ghost use Rattle.table_model.specs.declared.refusal.Refusal.TheVariants.{WriteFault};
-ghost use Rattle.replica_store.specs.Exchange.{applied};
 ghost use Rattle.replica_files.specs.Commands.{Changes, Makes, applied_all, applying, is_uncounted};
 
 use crate::file_writing::write_changed;
@@ -20,31 +19,21 @@ pub struct Applied {
     pub batches: u32,
     /// How many maximal ranges of deleted rows.
     pub ranges: u64,
-    /// How many of the batches the file lacked before.
+    /// How many of the batches the file did not have before.
     pub new: u32,
-    /// Whether one of the offers had something that the file lacked, so that the file has changed.
+    /// Whether one of the offers had something that the file did not have, so that the file has changed.
     pub is_changed: bool,
 }
 
-/// Applies an offer to a store; answers whether the store has changed.
-fn apply_one(alloc: Global, store: &mut Store, offer: &Offer) -> Result<bool, Refusal>
-    ensures makes { Makes (λ is_changed. tt) (λ is_changed. is_changed) store.old.replica result store.new.replica (applied store.old.replica offer.now) }
-    ensures uncounted { IfErr result (λ e. IsTrue (is_uncounted e)) }
-{
-    let batches = store.batches();
-    let deletes_more = !store.tombs().has_all(offer.tombs());
-    store.apply(alloc, offer)?;
-    Ok(deletes_more || batches < store.batches())
-}
-
-/// Applies offers to a store, one after another; answers whether the store has changed.
-fn apply_all(alloc: Global, store: &mut Store, offers: &[Offer]) -> Result<bool, Refusal>
-    ensures makes { Makes (λ is_changed. tt) (λ is_changed. is_changed) store.old.replica result store.new.replica (applied_all store.old.replica offers.now) }
+/// Applies offers to a store, one after another, and moves their segments into it; answers whether the store has changed.
+pub fn apply_all(alloc: Global, store: &mut Store, mut offers: Vec<Offer>) -> Result<bool, Refusal>
+    ensures makes { Makes (λ is_changed. tt) (λ is_changed. is_changed) store.old.replica result store.new.replica (applied_all store.old.replica offers.items) }
     ensures uncounted { IfErr result (λ e. IsTrue (is_uncounted e)) }
 {
     let mut is_changed = false;
-    for offer in offers {
-        if apply_one(alloc, store, offer)? {
+    offers.reverse();
+    while let Some(offer) = offers.pop() {
+        if store.absorb(alloc, offer)? {
             is_changed = true;
         }
     }
@@ -52,8 +41,12 @@ fn apply_all(alloc: Global, store: &mut Store, offers: &[Offer]) -> Result<bool,
 }
 
 /// Applies offers to a store, one after another, and tells what the store has then.
-fn apply_offers(alloc: Global, store: &mut Store, offers: &[Offer]) -> Result<Applied, Refusal>
-    ensures makes { Makes (λ done. (done.batches, done.ranges, done.new)) (λ done. done.is_changed) store.old.replica result store.new.replica (applying offers.now store.old.replica) }
+pub fn apply_offers(
+    alloc: Global,
+    store: &mut Store,
+    offers: Vec<Offer>,
+) -> Result<Applied, Refusal>
+    ensures makes { Makes (λ done. (done.batches, done.ranges, done.new)) (λ done. done.is_changed) store.old.replica result store.new.replica (applying offers.items store.old.replica) }
     ensures uncounted { IfErr result (λ e. IsTrue (is_uncounted e)) }
 {
     let before = store.batches();
@@ -75,10 +68,10 @@ fn apply_offers(alloc: Global, store: &mut Store, offers: &[Offer]) -> Result<Ap
 pub fn apply<R: Read, W: Write>(
     alloc: Global,
     reader: &mut Counted<R>,
-    offers: &[Offer],
+    offers: Vec<Offer>,
     writer: &mut Counted<W>,
 ) -> Result<Applied, Refusal>
-    ensures made { Changes (λ done. (done.batches, done.ranges, done.new)) (λ done. done.is_changed) result (R.remaining reader.old.0) (W.contents writer.old.0) (W.contents writer.new.0) (applying offers.now) }
+    ensures made { Changes (λ done. (done.batches, done.ranges, done.new)) (λ done. done.is_changed) result (R.remaining reader.old.0) (W.contents writer.old.0) (W.contents writer.new.0) (applying offers.items) }
     ensures unwritten { IfErr result (λ e. e ≢ WriteFault → W.contents writer.new.0 ≡ W.contents writer.old.0) }
     ensures end { OnOk result (IsAtEnd (R.remaining reader.new.0)) }
     ensures within { OnOk result (IsWithin (R.remaining reader.old.0)) }

@@ -14,7 +14,7 @@ fn push_value(out: &mut Vec<u8>, cell: &str, is_text: bool) -> Result<(), AllocE
     out.extend_from_slice(quote)
 }
 
-/// Puts an object behind a text. The first so many cells are texts, and the others numbers.
+/// Puts an object behind a text. The first a number of cells are texts, and the others numbers.
 fn push_object(
     out: &mut Vec<u8>,
     keys: &[&str],

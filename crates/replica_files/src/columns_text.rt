@@ -2,7 +2,7 @@
 
 use std::alloc::{AllocError, Global};
 
-/// What stands between columns.
+/// What is between columns.
 const GAP: &str = "  ";
 
 /// A line's cells, from the left.

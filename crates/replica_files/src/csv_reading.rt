@@ -4,10 +4,9 @@ ghost use Rattle.replica_files.specs.CsvLoads.{LoadsRows, RefusesText, last_batc
 
 use crate::load::Load;
 use csv_rows::{CsvError, CsvReader};
-use row_batch::RowBatch;
 use std::alloc::Global;
 use std::io::Read;
-use table_model::{Counted, READ_LIMIT, Refusal};
+use table_model::{Counted, READ_LIMIT, Refusal, Rows};
 
 /// How many rows a batch has at most.
 const BATCH_ROWS: usize = 65_536;
@@ -16,7 +15,7 @@ const BATCH_ROWS: usize = 65_536;
 const ROUNDS: u64 = READ_LIMIT + 2;
 
 /// Adds rows to a load as one more batch, unless there are none.
-fn add_rows(alloc: Global, load: &mut Load, rows: &RowBatch) -> Result<(), CsvError>
+fn add_rows(alloc: Global, load: &mut Load, rows: &Rows) -> Result<(), CsvError>
     ensures added { OnOk result (load.new ≡ with_batches load.old (last_batch rows.now)) }
     ensures refused { IfErr result IsRefused }
 {
@@ -33,7 +32,7 @@ fn add_rows(alloc: Global, load: &mut Load, rows: &RowBatch) -> Result<(), CsvEr
 /// lines.
 ///
 /// Refused is the text's first fault; else, with `Refused`, `Full` where there are more than 1,048,576 batches, or what a batch of
-/// another table is refused as; a want of memory and a failed read.
+/// another table is refused as; out of memory and a failed read.
 pub fn read_csv<R: Read>(
     alloc: Global,
     csv: &mut CsvReader,

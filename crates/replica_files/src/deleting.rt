@@ -1,18 +1,15 @@
 //! Deleting rows of a replica in a file.
-ghost use Rattle.std.specs.Prelude.{◌≡◌, ◌≢◌, ◌≤◌, ◌==◌, not, ℕ, IsTrue, IfOk, IfErr, OnOk};
-ghost use Rattle.std.specs.FinSet as set;
+ghost use Rattle.std.specs.Prelude.{◌≡◌, ◌≢◌, ◌==◌, not, IsTrue, IfErr, OnOk};
 ghost use Rattle.std.specs.Io.KnownBytes.{IsAtEnd};
 ghost use Rattle.table_model.specs.Faults.{IsWithin, GaveMore, CountsBoth};
-ghost use Rattle.table_model.specs.Name.{is_proper_name};
 ghost use Rattle.table_model.specs.declared.refusal.Refusal.TheVariants.{WriteFault};
-ghost use Rattle.replica_store.specs.Replica.{deleted_rows, rows_between};
-ghost use Rattle.replica_files.specs.Commands.{Changes, Makes, Deletes, deleting, is_uncounted};
+ghost use Rattle.replica_store.specs.Replica.{deleted_rows};
+ghost use Rattle.replica_files.specs.Commands.{Changes, Makes, deleting, is_uncounted};
 
 use crate::file_writing::write_changed;
-use catalogue_join::Tombs;
 use column_file::open;
 use replica_store::Store;
-use std::alloc::{AllocError, Global};
+use std::alloc::Global;
 use std::io::{Read, Write};
 use store_view::names_where;
 use table_model::{Counted, Origin, Refusal, RowName};
@@ -66,18 +63,6 @@ pub fn delete<R: Read, W: Write>(
     Ok(done)
 }
 
-/// Whether a range of rows of a batch has one that isn't deleted; so too where there is no such range.
-fn brings_rows(alloc: Global, tombs: &Tombs, first: RowName, last: u16) -> Result<bool, AllocError>
-    ensures { IfOk result (λ brings. Deletes tombs.now first last brings) }
-{
-    if !first.batch.is_proper() || last < first.ordinal {
-        return Ok(true);
-    }
-    let mut more = Tombs::new(alloc);
-    more.insert(first, last)?;
-    Ok(!tombs.has_all(&more))
-}
-
 /// Deletes a range of rows of a batch of a store, held there or not.
 fn delete_range(
     alloc: Global,
@@ -88,8 +73,7 @@ fn delete_range(
     ensures makes { Makes (λ done. tt) (λ done. done.is_changed) store.old.replica result store.new.replica (deleted_rows store.old.replica first last) }
     ensures uncounted { IfErr result (λ e. IsTrue (is_uncounted e)) }
 {
-    let is_changed = brings_rows(alloc, store.tombs(), first, last)?;
-    store.delete(alloc, first, last)?;
+    let is_changed = store.delete(alloc, first, last)?;
     Ok(DeletedRows { is_changed })
 }
 

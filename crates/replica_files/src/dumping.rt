@@ -1,20 +1,18 @@
 //! Writing the live rows of a file as comma-separated values.
-ghost use Rattle.std.specs.Prelude.{◌≡◌, ◌<◌, length, slice_index_or, [], IfOk, IfErr, OnOk, IsTrue};
+ghost use Rattle.std.specs.Prelude.{◌≡◌, ◌<◌, length, slice_index_or, [], IfOk};
 ghost use Rattle.std.specs.List.{flat_map};
-ghost use Rattle.std.specs.Io.KnownBytes.{IsAtEnd};
-ghost use Rattle.table_model.specs.Faults.{IsWithin, GaveMore, CountsBoth};
 ghost use Rattle.table_model.specs.State.{named_from, named_rows};
 ghost use Rattle.table_model.specs.Table.{IsBatch};
 ghost use Rattle.segment_core.specs.Segment.{widths_in, widths_of};
-ghost use Rattle.replica_files.specs.Dumps.{Dumps, WritesLines, heading, row_text, live_text};
+ghost use Rattle.replica_files.specs.Dumps.{WritesLines, dumping, heading, row_text, live_text};
 
-use column_file::open;
+use crate::open_file::OpenFile;
 use csv_rows::CsvWriter;
 use replica_store::Store;
 use segment_core::Segment;
 use std::alloc::{AllocError, Global};
-use std::io::{Read, Write};
-use table_model::{BatchName, Counted, Origin, Refusal, RowName, Schema};
+use std::io::Write;
+use table_model::{BatchName, Counted, Refusal, RowName, Schema};
 
 /// A writer of rows as comma-separated values, with their names or without.
 #[derive(Drop)]
@@ -155,24 +153,20 @@ impl RowWriter {
 /// Writes the live rows of a file as comma-separated values below a heading, in order of row name. With `has_names` the columns
 /// `BATCH` and `ORDINAL` come first.
 ///
-/// Refused are, in this order, what [`open`] refuses, before anything is written; and then `Memory` or `WriteFault`, after a front.
-pub fn dump<R: Read, W: Write>(
+/// Refused are `Memory` and `WriteFault`, after a front.
+pub fn dump<W: Write>(
     alloc: Global,
-    reader: &mut Counted<R>,
+    file: &OpenFile,
     has_names: bool,
     writer: &mut Counted<W>,
 ) -> Result<(), Refusal>
-    ensures made { Dumps result (R.remaining reader.old.0) (W.contents writer.old.0) (W.contents writer.new.0) has_names }
-    ensures end { OnOk result (IsAtEnd (R.remaining reader.new.0)) }
-    ensures within { OnOk result (IsWithin (R.remaining reader.old.0)) }
-    ensures kept { OnOk result ((reader.new.1 ≡ reader.old.1) × (writer.new.1 ≡ writer.old.1)) }
-    ensures fault { IfErr result (λ e. CountsBoth (GaveMore (R.remaining reader.old.0) (R.remaining reader.new.0)) e reader.old.1 reader.new.1 writer.old.1 writer.new.1) }
+    ensures text { WritesLines result (W.contents writer.old.0) (W.contents writer.new.0) writer.old.1 writer.new.1 (dumping has_names file.now.replica) }
 {
-    let store = open(alloc, reader, Origin(1))?;
+    let store = file.store();
     let mut rows = RowWriter {
         csv: CsvWriter::new(alloc),
         has_names,
     };
     rows.heading(store.schema(), writer)?;
-    rows.batches(alloc, &store, writer)
+    rows.batches(alloc, store, writer)
 }

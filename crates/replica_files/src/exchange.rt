@@ -1,55 +1,45 @@
 //! Messages of a replica in a file: its summary, and its offer to another's.
-ghost use Rattle.std.specs.Prelude.{◌≡◌, ◌≢◌, IfErr, OnOk};
-ghost use Rattle.std.specs.Io.KnownBytes.{IsAtEnd};
-ghost use Rattle.table_model.specs.Faults.{IsWithin, GaveMore, CountsBoth};
-ghost use Rattle.table_model.specs.declared.refusal.Refusal.TheVariants.{WriteFault};
-ghost use Rattle.replica_files.specs.Commands.{Answers, summarizing, Offers};
+ghost use Rattle.std.specs.Prelude.{◌≡◌, OnOk, Ok};
+ghost use Rattle.replica_files.specs.Commands.{summarizing};
+ghost use Rattle.column_file.specs.Files.{offer_bytes, offer_read};
+ghost use Rattle.replica_store.specs.Exchange.{OfferForm};
+ghost use Rattle.replica_files.specs.Asking.{WritesText, offer_of, offer_text};
 
-use column_file::{open, write_offer, write_summary};
+use crate::open_file::OpenFile;
+use column_file::{write_offer, write_summary};
 use replica_store::Summary;
 use std::alloc::Global;
-use std::io::{Read, Write};
-use table_model::{Counted, Origin, Refusal};
+use std::io::Write;
+use table_model::{Counted, Refusal};
 
 /// Writes the summary of what a file holds: the names of its batches.
 ///
-/// Refused are, in this order, what [`open`] refuses; `Memory`, which may come in the place of any of it; `WriteFault`. Only with the
-/// last anything is written: a front.
-pub fn summary<R: Read, W: Write>(
+/// Refused are `Memory`, before anything is written, and `WriteFault`, after a front.
+pub fn summary<W: Write>(
     alloc: Global,
-    reader: &mut Counted<R>,
+    file: &OpenFile,
     writer: &mut Counted<W>,
 ) -> Result<(), Refusal>
-    ensures made { Answers result (R.remaining reader.old.0) (W.contents writer.old.0) (W.contents writer.new.0) summarizing }
-    ensures unwritten { IfErr result (λ e. e ≢ WriteFault → W.contents writer.new.0 ≡ W.contents writer.old.0) }
-    ensures end { OnOk result (IsAtEnd (R.remaining reader.new.0)) }
-    ensures within { OnOk result (IsWithin (R.remaining reader.old.0)) }
-    ensures kept { OnOk result ((reader.new.1 ≡ reader.old.1) × (writer.new.1 ≡ writer.old.1)) }
-    ensures fault { IfErr result (λ e. CountsBoth (GaveMore (R.remaining reader.old.0) (R.remaining reader.new.0)) e reader.old.1 reader.new.1 writer.old.1 writer.new.1) }
+    ensures text { WritesText result (W.contents writer.old.0) (W.contents writer.new.0) writer.old.1 writer.new.1 (summarizing file.now.replica) }
 {
-    let store = open(alloc, reader, Origin(1))?;
-    let summary = store.summary(alloc)?;
+    let summary = file.store().summary(alloc)?;
     write_summary(&summary, writer)
 }
 
-/// Writes the offer of what a file holds to a summary: the batches whose names the summary lacks, and all deletions.
+/// Writes the offer of what a file holds to a summary: the batches whose names the summary does not list, as they are coded, and all deletions.
 ///
-/// Refused are, in this order, what [`open`] refuses; `SchemaDiffers`; `Memory`, which may come in the place of any of them;
-/// `WriteFault`. Only with the last anything is written: a front.
-pub fn offer<R: Read, W: Write>(
+/// Refused are, in this order, `SchemaDiffers`; `Memory`; `WriteFault`. Only with the last anything is written: a front.
+pub fn offer<W: Write>(
     alloc: Global,
-    reader: &mut Counted<R>,
+    file: &OpenFile,
     summary: &Summary,
     writer: &mut Counted<W>,
 ) -> Result<(), Refusal>
-    ensures made { Offers result (R.remaining reader.old.0) (W.contents writer.old.0) (W.contents writer.new.0) summary.now }
-    ensures unwritten { IfErr result (λ e. e ≢ WriteFault → W.contents writer.new.0 ≡ W.contents writer.old.0) }
-    ensures end { OnOk result (IsAtEnd (R.remaining reader.new.0)) }
-    ensures within { OnOk result (IsWithin (R.remaining reader.old.0)) }
-    ensures kept { OnOk result ((reader.new.1 ≡ reader.old.1) × (writer.new.1 ≡ writer.old.1)) }
-    ensures fault { IfErr result (λ e. CountsBoth (GaveMore (R.remaining reader.old.0) (R.remaining reader.new.0)) e reader.old.1 reader.new.1 writer.old.1 writer.new.1) }
+    ensures text { WritesText result (W.contents writer.old.0) (W.contents writer.new.0) writer.old.1 writer.new.1 (offer_text file.now summary.now) }
+
+    // What was written is read as that offer.
+    ensures again { OnOk result ((o : OfferForm) → offer_of file.now summary.now ≡ Ok o → offer_read (offer_bytes o) ≡ Ok o) }
 {
-    let store = open(alloc, reader, Origin(1))?;
-    let offer = store.offer(alloc, summary)?;
+    let offer = file.store().offer(alloc, summary)?;
     write_offer(&offer, writer)
 }

@@ -29,7 +29,7 @@ pub struct Imported {
     pub first: Option<BatchName>,
 }
 
-/// The first name of so many batches, if there is a batch.
+/// The first name of a number of batches, if there is a batch.
 fn name_of_some(count: usize, name: BatchName) -> Option<BatchName>
     ensures { result ≡ name_of_some count name }
 {
@@ -37,7 +37,7 @@ fn name_of_some(count: usize, name: BatchName) -> Option<BatchName>
 }
 
 /// Puts a load into a store, under the name that is given or under one of random words.
-fn import_load(
+pub fn import_load(
     alloc: Global,
     store: &mut Store,
     load: Load,
@@ -53,7 +53,7 @@ fn import_load(
     let name = choose_name(store, given, words, batches as u32)?;
     let (schema, entries) = load.into_entries(alloc, name)?;
     let offer = Offer::from_parts(schema, entries, Tombs::new(alloc));
-    store.apply(alloc, &offer)?;
+    store.absorb(alloc, offer)?;
     Ok(Imported {
         batches: batches as u32,
         new: store.batches().saturating_sub(held) as u32,

@@ -6,11 +6,10 @@ ghost use Rattle.replica_store.specs.Exchange.{AreOffered};
 ghost use Rattle.replica_store.specs.Replica.{batch_limit};
 ghost use Rattle.replica_files.specs.Loads.{added_batch, empty_load, row_count, batches_in, named_batches, named_entries, first_name};
 
-use row_batch::{RowBatch, check_batch};
 use segment_core::Segment;
 use std::alloc::{AllocError, Global};
 use std::marker::Model;
-use table_model::{BatchName, Number, Refusal, Schema};
+use table_model::{BatchName, Number, Refusal, Rows, Schema, check_rows};
 
 /// How many batches a load has at most: as many as a replica may have.
 const MAX_BATCHES: usize = 1_048_576;
@@ -48,16 +47,16 @@ impl Load {
 
     /// Codes rows as one more batch.
     ///
-    /// Refused are, in this order, the faults of [`check_batch`], `Full` where there are 1,048,576 batches, and `Memory`. A refused
+    /// Refused are, in this order, the faults of [`check_rows`], `Full` where there are 1,048,576 batches, and `Memory`. A refused
     /// call leaves the load as it was.
-    pub fn add_batch(&mut self, alloc: Global, rows: &RowBatch) -> Result<(), Refusal>
+    pub fn add_batch(&mut self, alloc: Global, rows: &Rows) -> Result<(), Refusal>
         ensures { Acts (λ done. done) self.old result self.new (added_batch self.old rows.now) }
     {
-        check_batch(&self.schema, rows)?;
+        check_rows(&self.schema, rows)?;
         if self.segments.len() >= MAX_BATCHES {
             return Err(Refusal::Full);
         }
-        let segment = Segment::build_batch(alloc, &self.schema, rows)?;
+        let segment = Segment::build(alloc, &self.schema, rows)?;
         self.segments.push(segment)?;
         Ok(())
     }
@@ -134,7 +133,7 @@ fn name_all(
     Ok(entries)
 }
 
-/// The name so many after a first one.
+/// The name that comes a number of names after a first one.
 fn name_after(first: BatchName, count: usize) -> BatchName
     requires { first.number.0 + count < 4294967296 }
     ensures { result ≡ name_at first.origin (first.number.0 + count) }

@@ -21,7 +21,8 @@ fn merge_one<R: Read>(
     ensures unwritten { IfErr result (λ e. e ≢ WriteFault) }
 {
     let other = open(alloc, reader, Origin(1))?;
-    store.merge(alloc, &other)
+    store.merge(alloc, &other)?;
+    Ok(())
 }
 
 /// Merges what files hold into a store, file by file.

@@ -23,7 +23,7 @@ fn named_by(word: u64) -> BatchName
     }
 }
 
-/// Whether a name is one of so many consecutive names from a first one on.
+/// Whether a name is one of a number of consecutive names from a first one on.
 fn is_one_of(first: BatchName, count: u32, name: BatchName) -> bool
     ensures { result ≡ is_one_of first count name }
 {
@@ -32,7 +32,7 @@ fn is_one_of(first: BatchName, count: u32, name: BatchName) -> bool
         && u64::from(name.number.0) < u64::from(first.number.0) + u64::from(count)
 }
 
-/// Whether none of the batches has one of so many consecutive names from a first one on.
+/// Whether none of the batches has one of a number of consecutive names from a first one on.
 fn are_others(entries: &[(BatchName, Segment)], first: BatchName, count: u32) -> bool
     ensures { result ≡ list_all (λ (e : Entry). not (is_one_of first count e.0)) entries.now }
 {
@@ -41,7 +41,7 @@ fn are_others(entries: &[(BatchName, Segment)], first: BatchName, count: u32) ->
         .all(|entry| !is_one_of(first, count, entry.0))
 }
 
-/// Whether none of the ranges of rows is of one of so many consecutive names from a first one on.
+/// Whether none of the ranges of rows is of one of a number of consecutive names from a first one on.
 fn are_of_others(ranges: &[(RowName, u16)], first: BatchName, count: u32) -> bool
     ensures { result ≡ list_all (λ range. not (is_one_of first count range.0.batch)) ranges.now }
 {
@@ -50,7 +50,7 @@ fn are_of_others(ranges: &[(RowName, u16)], first: BatchName, count: u32) -> boo
         .all(|range| !is_one_of(first, count, range.0.batch))
 }
 
-/// Whether none of the batches of a store has one of so many consecutive names from a first one on.
+/// Whether none of the batches of a store has one of a number of consecutive names from a first one on.
 fn holds_none(store: &Store, first: BatchName, count: u32) -> bool
     ensures { result ≡ list_all (λ e. not (is_one_of first count e.0)) (map.entries store.now.replica.state.batches) }
 {
@@ -58,14 +58,14 @@ fn holds_none(store: &Store, first: BatchName, count: u32) -> bool
     are_others(up_to, first, count) && are_others(past, first, count)
 }
 
-/// Whether no deleted row of a store is of one of so many consecutive names from a first one on.
+/// Whether no deleted row of a store is of one of a number of consecutive names from a first one on.
 fn deletes_none(store: &Store, first: BatchName, count: u32) -> bool
     ensures { result ≡ list_all (λ range. not (is_one_of first count range.0.batch)) (ranges_of store.now.replica.state.deleted) }
 {
     are_of_others(store.tombs().ranges(), first, count)
 }
 
-/// Whether so many consecutive names from a first one on are proper, and none of them is held by a store or has a deleted row there.
+/// Whether a number of consecutive names from a first one on are proper, and none of them is held by a store or has a deleted row there.
 #[tactic(auto, unfolding(crate::specs::Loads::is_free))]
 fn is_free(store: &Store, first: BatchName, count: u32) -> bool
     ensures { result ≡ is_free store.now.replica.state first count }
@@ -76,7 +76,7 @@ fn is_free(store: &Store, first: BatchName, count: u32) -> bool
         && deletes_none(store, first, count)
 }
 
-/// The name of the first of some random words from which so many names are free.
+/// The name of the first of some random words from which that number of names are free.
 fn first_free(store: &Store, count: u32, words: &[u64]) -> Option<BatchName>
     ensures { result ≡ first_free store.now.replica.state count words.now }
 {
@@ -89,7 +89,7 @@ fn first_free(store: &Store, count: u32, words: &[u64]) -> Option<BatchName>
     None
 }
 
-/// The name, where so many consecutive names from it on may be.
+/// The name, if that number of consecutive names from it on may be.
 #[tactic(auto, unfolding(crate::specs::Loads::first_name))]
 fn checked_name(first: BatchName, count: u32) -> Result<BatchName, Refusal>
     ensures { result ≡ first_name first count }
@@ -106,7 +106,7 @@ fn checked_name(first: BatchName, count: u32) -> Result<BatchName, Refusal>
     Ok(first)
 }
 
-/// The first name of an import of so many batches: the one that is given, or that of the first of some random words from which so
+/// The first name of an import of a number of batches: the one that is given, or that of the first of some random words from which that
 /// many names are free.
 ///
 /// Refused are a given name that isn't proper (`BadName`) and numbers past 4,294,967,295 (`NumbersSpent`), unless there is no batch;

@@ -1,5 +1,6 @@
 //! How a store's columns lie in vectors, and how long its file is.
-ghost use Rattle.std.specs.Prelude.{◌≡◌, ◌<◌, length};
+ghost use Rattle.std.specs.Prelude.{◌≡◌, ◌<◌, length, IfErr};
+ghost use Rattle.table_model.specs.declared.refusal.Refusal.TheVariants.{Memory};
 ghost use Rattle.replica_store.specs.Replica.{entries_of};
 ghost use Rattle.replica_store.specs.Segments.{IsStored};
 ghost use Rattle.replica_files.specs.Forgetting.{batches_of};
@@ -28,7 +29,7 @@ pub(crate) struct ColumnParts {
     pub bytes: u64,
 }
 
-/// How many bytes of a vector stand before its payload, without a null mask: the flag, the coding, the width and the count.
+/// How many bytes of a vector come before its payload, without a null mask: the flag, the coding, the width and the count.
 const HEADER_BYTES: u64 = 5;
 
 /// How many bytes a null mask takes.
@@ -120,8 +121,13 @@ impl Write for Length {
 
 /// How many bytes a store's canonical file has. `Memory` is answered where there is none for the copies of segments that aren't
 /// canonical.
-pub(crate) fn file_bytes(alloc: Global, store: &Store) -> Result<u64, Refusal> {
+pub(crate) fn file_bytes(alloc: Global, store: &Store) -> Result<u64, Refusal>
+    ensures { IfErr result (λ e. e ≡ Memory) }
+{
     let mut writer = Counted::new(Length { bytes: 0 });
-    export(alloc, store, &mut writer)?;
-    Ok(writer.into_inner().bytes)
+    match export(alloc, store, &mut writer) {
+        Ok(()) => Ok(writer.into_inner().bytes),
+        // Counting never fails, so memory ran out.
+        Err(_) => Err(Refusal::Memory),
+    }
 }

@@ -1,10 +1,11 @@
 //! Commands over files in memory.
 
+use answer_formats::ReportForm;
 use column_file::{read_offer, read_summary};
 use csv_rows::{CsvError, CsvReader};
 use replica_files::{
-    Applied, Load, ReportForm, apply, create, delete, delete_rows, dump, file_schema, forget,
-    import, inspect, merge, offer, read_csv, summary,
+    Applied, Load, OpenFile, apply, create, delete, delete_rows, dump, file_schema, forget, import,
+    inspect, merge, offer, read_csv, summary,
 };
 use replica_store::Offer;
 use std::alloc::Global;
@@ -127,29 +128,29 @@ pub fn file_of(
     Ok(file)
 }
 
+/// A file that is opened.
+pub fn opened(alloc: Global, file: &[u8]) -> Result<OpenFile, Refusal> {
+    OpenFile::read(alloc, &mut Counted::new(file))
+}
+
 /// The dump of a file.
 pub fn dumped(alloc: Global, file: &[u8], has_names: bool) -> Result<Vec<u8>, Refusal> {
     let mut writer = Counted::new(Vec::new(alloc));
-    dump(alloc, &mut Counted::new(file), has_names, &mut writer)?;
+    dump(alloc, &opened(alloc, file)?, has_names, &mut writer)?;
     Ok(writer.into_inner())
 }
 
 /// What is told of a file.
 pub fn inspected(alloc: Global, file: &[u8]) -> Result<Vec<u8>, Refusal> {
     let mut writer = Counted::new(Vec::new(alloc));
-    inspect(
-        alloc,
-        &mut Counted::new(file),
-        ReportForm::Text,
-        &mut writer,
-    )?;
+    inspect(alloc, &opened(alloc, file)?, ReportForm::Text, &mut writer)?;
     Ok(writer.into_inner())
 }
 
 /// The summary of a file.
 pub fn summarized(alloc: Global, file: &[u8]) -> Result<Vec<u8>, Refusal> {
     let mut writer = Counted::new(Vec::new(alloc));
-    summary(alloc, &mut Counted::new(file), &mut writer)?;
+    summary(alloc, &opened(alloc, file)?, &mut writer)?;
     Ok(writer.into_inner())
 }
 
@@ -157,7 +158,7 @@ pub fn summarized(alloc: Global, file: &[u8]) -> Result<Vec<u8>, Refusal> {
 pub fn offered(alloc: Global, file: &[u8], asked: &[u8]) -> Result<Vec<u8>, Refusal> {
     let asked = read_summary(alloc, &mut Counted::new(asked))?;
     let mut writer = Counted::new(Vec::new(alloc));
-    offer(alloc, &mut Counted::new(file), &asked, &mut writer)?;
+    offer(alloc, &opened(alloc, file)?, &asked, &mut writer)?;
     Ok(writer.into_inner())
 }
 
@@ -172,12 +173,7 @@ pub fn applied(
         offers.push(read_offer(alloc, &mut Counted::new(*message))?)?;
     }
     let mut writer = Counted::new(Vec::new(alloc));
-    let made = apply(
-        alloc,
-        &mut Counted::new(file),
-        offers.as_slice(),
-        &mut writer,
-    )?;
+    let made = apply(alloc, &mut Counted::new(file), offers, &mut writer)?;
     Ok((made, writer.into_inner()))
 }
 

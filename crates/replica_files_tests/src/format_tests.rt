@@ -1,10 +1,10 @@
 //! Answers in each format, and names that random words give.
-use crate::commands::{Command, file_of, loaded, name, row};
-use column_file::open;
-use replica_files::{Format, answer, import};
+use crate::commands::{Command, file_of, loaded, name, opened, row};
+use answer_formats::Format;
+use replica_files::{NotAnswered, answer, answer_all, import};
 use std::alloc::Global;
 use std::test::Fail;
-use table_model::{BatchName, ColType, Counted, Origin, Refusal};
+use table_model::{BatchName, ColType, Counted, Refusal};
 
 /// A table of a number of 16 bits and one of 64.
 const COLUMNS: [(&str, ColType); 2] = [("a", ColType::SmallInt), ("b", ColType::BigInt)];
@@ -30,9 +30,9 @@ const ANSWERS: [(Format, &str); 4] = [
 
 /// The answer of a query over a file.
 fn answered(alloc: Global, file: &[u8], sql: &str, format: Format) -> Result<Vec<u8>, Refusal> {
-    let store = open(alloc, &mut Counted::new(file), Origin(1))?;
+    let file = opened(alloc, file)?;
     let mut writer = Counted::new(Vec::new(alloc));
-    answer(alloc, &store, sql, format, &mut writer)?;
+    answer(alloc, &file, sql, format, &mut writer)?;
     Ok(writer.into_inner())
 }
 
@@ -46,27 +46,58 @@ fn each_format_has_its_text(rt: HostRuntime) -> Result<(), Fail> {
     Ok(())
 }
 
+/// A mean between 0 and -1 in each format.
+const BELOW_ZERO: [(Format, &str); 4] = [
+    (Format::Text, "AVG(A)\n-0.500000\n"),
+    (Format::Csv, "AVG(A)\n-0.500000\n"),
+    (Format::Json, "{\"AVG(A)\":-0.500000}\n"),
+    (Format::Table, "   AVG(A)\n---------\n-0.500000\n"),
+];
+
 #[test]
 fn a_mean_below_zero_keeps_its_sign(rt: HostRuntime) -> Result<(), Fail> {
-    let file = file_of(rt.alloc(), &COLUMNS, &BEFORE)?;
-    let found = answered(
+    let file = file_of(
         rt.alloc(),
-        file.as_slice(),
-        "SELECT AVG(B) FROM T WHERE B < 0",
-        Format::Csv,
+        &COLUMNS,
+        &[Command::Import((1, 1), "A,B\n0,0\n-1,0\n")],
     )?;
-    assert!(rt; found.as_slice() == b"AVG(B)\n-3.000000\n".as_slice());
+    for (format, text) in BELOW_ZERO {
+        let found = answered(rt.alloc(), file.as_slice(), "SELECT AVG(A) FROM T", format)?;
+        assert!(rt; found.as_slice() == text.as_bytes(), "{format:?}");
+    }
+    Ok(())
+}
+
+/// Three queries, of which the second is refused.
+const QUERIES: [&str; 3] = [
+    "SELECT COUNT(*) FROM T",
+    "SELECT C FROM T",
+    "SELECT SUM(B) FROM T",
+];
+
+#[test]
+fn queries_are_answered_up_to_the_first_that_is_refused(rt: HostRuntime) -> Result<(), Fail> {
+    let file = file_of(rt.alloc(), &COLUMNS, &BEFORE)?;
+    let file = opened(rt.alloc(), file.as_slice())?;
+    let mut writer = Counted::new(Vec::new(rt.alloc()));
+    let outcome = answer_all(rt.alloc(), &file, &QUERIES, Format::Csv, &mut writer);
+    let refused = NotAnswered {
+        answered: 1,
+        refusal: Refusal::NoSuchColumn(7),
+    };
+    assert!(rt; outcome == Err(refused));
+    assert!(rt; writer.into_inner().as_slice() == b"COUNT(*)\n3\n".as_slice());
     Ok(())
 }
 
 #[test]
 fn a_refused_query_writes_nothing(rt: HostRuntime) -> Result<(), Fail> {
     let file = file_of(rt.alloc(), &COLUMNS, &BEFORE)?;
-    let store = open(rt.alloc(), &mut Counted::new(file.as_slice()), Origin(1))?;
+    let file = opened(rt.alloc(), file.as_slice())?;
     let mut writer = Counted::new(Vec::new(rt.alloc()));
     let outcome = answer(
         rt.alloc(),
-        &store,
+        &file,
         "SELECT C FROM T",
         Format::Json,
         &mut writer,

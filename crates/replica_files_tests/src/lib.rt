@@ -8,6 +8,8 @@ mod forget_tests;
 #[cfg(test)]
 mod format_tests;
 #[cfg(test)]
+mod line_tests;
+#[cfg(test)]
 mod refused_tests;
 #[cfg(test)]
 mod stop_tests;

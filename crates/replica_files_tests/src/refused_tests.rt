@@ -2,9 +2,10 @@
 //! `AllocError` or `Memory` of its set-up, or, where it was a growth of the call that it is of, with the text `REFUSED` or `CHANGED`;
 //! with none refused it passes. The command `tests/refused-memory` refuses each in turn and counts those texts.
 use crate::commands::{Command, file_of, loaded, name, row};
+use answer_formats::ReportForm;
 use column_file::read_offer;
 use replica_files::{
-    ReportForm, apply, create, delete, delete_rows, dump, forget, import, inspect, merge, offer,
+    OpenFile, apply, create, delete, delete_rows, dump, forget, import, inspect, merge, offer,
     summary,
 };
 use replica_store::{Offer, Summary};
@@ -130,7 +131,7 @@ fn a_refused_apply_writes_nothing(rt: HostRuntime) -> Result<(), Fail> {
     let mut room = [0; ROOM];
     let mut reader = Counted::new(file.as_slice());
     let mut writer = Counted::new(room.as_mut_slice());
-    let outcome = apply(rt.alloc(), &mut reader, offers.as_slice(), &mut writer);
+    let outcome = apply(rt.alloc(), &mut reader, offers, &mut writer);
     let failures = (reader.failures(), writer.failures());
     ends(outcome.map(|_| ()), failures, &room)
 }
@@ -141,7 +142,11 @@ fn a_refused_summary_writes_nothing(rt: HostRuntime) -> Result<(), Fail> {
     let mut room = [0; ROOM];
     let mut reader = Counted::new(file.as_slice());
     let mut writer = Counted::new(room.as_mut_slice());
-    let outcome = summary(rt.alloc(), &mut reader, &mut writer);
+    let outcome = OpenFile::read(rt.alloc(), &mut reader).and_then(|file| summary(
+        rt.alloc(),
+        &file,
+        &mut writer,
+    ));
     let failures = (reader.failures(), writer.failures());
     ends(outcome, failures, &room)
 }
@@ -154,7 +159,12 @@ fn a_refused_offer_writes_nothing(rt: HostRuntime) -> Result<(), Fail> {
     let mut room = [0; ROOM];
     let mut reader = Counted::new(file.as_slice());
     let mut writer = Counted::new(room.as_mut_slice());
-    let outcome = offer(rt.alloc(), &mut reader, &asked, &mut writer);
+    let outcome = OpenFile::read(rt.alloc(), &mut reader).and_then(|file| offer(
+        rt.alloc(),
+        &file,
+        &asked,
+        &mut writer,
+    ));
     let failures = (reader.failures(), writer.failures());
     ends(outcome, failures, &room)
 }
@@ -178,7 +188,12 @@ fn a_refused_inspection_writes_nothing(rt: HostRuntime) -> Result<(), Fail> {
     let mut room = [0; ROOM];
     let mut reader = Counted::new(file.as_slice());
     let mut writer = Counted::new(room.as_mut_slice());
-    let outcome = inspect(rt.alloc(), &mut reader, ReportForm::Text, &mut writer);
+    let outcome = OpenFile::read(rt.alloc(), &mut reader).and_then(|file| inspect(
+        rt.alloc(),
+        &file,
+        ReportForm::Text,
+        &mut writer,
+    ));
     let failures = (reader.failures(), writer.failures());
     ends(outcome, failures, &room)
 }
@@ -193,7 +208,12 @@ fn a_refused_dump_writes_a_front(rt: HostRuntime) -> Result<(), Fail> {
     let mut room = [0; ROOM];
     let mut reader = Counted::new(file.as_slice());
     let mut writer = Counted::new(room.as_mut_slice());
-    let outcome = dump(rt.alloc(), &mut reader, false, &mut writer);
+    let outcome = OpenFile::read(rt.alloc(), &mut reader).and_then(|file| dump(
+        rt.alloc(),
+        &file,
+        false,
+        &mut writer,
+    ));
     let failures = (reader.failures(), writer.failures());
     match outcome {
         Ok(()) => Ok(()),

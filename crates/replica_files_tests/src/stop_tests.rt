@@ -1,14 +1,15 @@
 //! Each command with a reader that stops after so many bytes, and with a writer that does.
 use crate::commands::{Command, file_of, loaded, name, row, summarized};
+use answer_formats::ReportForm;
 use column_file::{read_offer, read_summary};
 use replica_files::{
-    ReportForm, apply, create, delete, delete_rows, dump, forget, import, inspect, merge, offer,
+    OpenFile, apply, create, delete, delete_rows, dump, forget, import, inspect, merge, offer,
     summary,
 };
 use std::alloc::Global;
 use std::test::Fail;
-use table_model::{ColType, Counted, Refusal, Stop};
-use test_support::agree_at;
+use table_model::{ColType, Counted, Refusal};
+use test_support::{Stop, agree_at};
 
 /// A table of a number of 16 bits.
 const COLUMNS: [(&str, ColType); 1] = [("a", ColType::SmallInt)];
@@ -66,14 +67,14 @@ fn called<'a>(
         Call::Apply => {
             let mut offers = Vec::new(alloc);
             offers.push(read_offer(alloc, &mut Counted::new(other))?)?;
-            apply(alloc, reader, offers.as_slice(), writer)?;
+            apply(alloc, reader, offers, writer)?;
             Ok(())
         }
-        Call::Summary => summary(alloc, reader, writer),
+        Call::Summary => summary(alloc, &OpenFile::read(alloc, reader)?, writer),
         Call::Offer => {
             let asked = summarized(alloc, other)?;
             let asked = read_summary(alloc, &mut Counted::new(asked.as_slice()))?;
-            offer(alloc, reader, &asked, writer)
+            offer(alloc, &OpenFile::read(alloc, reader)?, &asked, writer)
         }
         Call::Merge => {
             let mut readers = Vec::new(alloc);
@@ -83,8 +84,11 @@ fn called<'a>(
             }))?;
             merge(alloc, reader, readers.as_mut_slice(), writer)
         }
-        Call::Dump => dump(alloc, reader, true, writer),
-        Call::Inspect => inspect(alloc, reader, ReportForm::Text, writer),
+        Call::Dump => dump(alloc, &OpenFile::read(alloc, reader)?, true, writer),
+        Call::Inspect => {
+            let file = OpenFile::read(alloc, reader)?;
+            inspect(alloc, &file, ReportForm::Text, writer)
+        }
     }
 }
 

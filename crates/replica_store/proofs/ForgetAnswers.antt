@@ -1,12 +1,11 @@
 -- A forget drops what it may, and a merge and an offer join what is left.
-use Rattle.std.specs.Prelude.{◌≡◌, Bool, true, false, cond, not, Option, None, Some, Ok, IsTrue}
-use Rattle.std.proofs.Common.{refl, sym, ap, subst, ◌∙◌}
+use Rattle.std.specs.Prelude.{◌≡◌, Bool, true, false, cond, not, Option, None, Ok}
+use Rattle.std.proofs.Common.{refl, sym, subst, ◌∙◌}
 use Rattle.std.specs.FinMap as map
 use Rattle.std.specs.FinSet as set
 use Rattle.table_model.specs.Name.{name_cmp}
 use Rattle.table_model.specs.State.{State, Batch, Agree, join}
 use Rattle.table_model.specs.Table.{same_table}
-use Rattle.table_model.specs.declared.names.BatchName.{BatchName}
 use Rattle.table_model.proofs.Joins.{same_maps, same_states}
 use Rattle.forgotten_batches.specs.Forgotten.{forgotten, IsRestOf}
 use Rattle.forgotten_batches.specs.ForgetHistory.{left_out}

@@ -1,5 +1,5 @@
 -- A store that drops the batches of which every row is deleted: its parts, its names, its rows and its limits.
-use Rattle.std.specs.Prelude.{◌≡◌, ℕ, zero, suc, ◌+◌, ◌<◌, ◌≤◌, drop, ◌||◌, ◌&&◌, Bool, true, false, cond, not, T, List, [], ◌∷◌, ◌++◌, filter, length, Option, Some, None, Result, Ok, is_some}
+use Rattle.std.specs.Prelude.{◌≡◌, ℕ, zero, suc, ◌+◌, ◌<◌, ◌≤◌, drop, ◌||◌, ◌&&◌, Bool, true, false, cond, not, List, [], ◌∷◌, ◌++◌, filter, length, Option, Some, None, Result, Ok, is_some}
 use Rattle.std.proofs.Common.{refl, sym, ap, subst, ◌∙◌, arith, get_or}
 use Rattle.std.specs.List.{All, list_any, list_all}
 use Rattle.std.proofs.lemmas.List.{length-append, get_or_append_left, get_or-append-add}
@@ -22,9 +22,9 @@ use Rattle.catalogue_join.specs.RowRange.{row_names}
 use Rattle.forgotten_batches.specs.Forgotten.{has_live_row, forgotten}
 use Rattle.forgotten_batches.proofs.Rests.{Sorted-filter, find-filter, kept, kept_is, get-forgotten, deleted-forgotten, forgets, live}
 use Rattle.replica_store.specs.Forgets.{is_live_entry, live_entries, live_segments, forgotten_batches}
-use Rattle.replica_store.specs.Parted.{Each, IsUpTo, IsPast, AreParted, AreKeptInParts}
-use Rattle.replica_store.specs.Replica.{Replica, names_of, AreKept, IsSound, IsWithinLimits, AllFit, batch_limit}
-use Rattle.replica_store.specs.Segments.{Entry, Segments, BatchesForm, AreStored, IsStored, HasProperName, IsSoundStore, rows_in}
+use Rattle.replica_store.specs.Parted.{Each, IsUpTo, IsPast, AreKeptInParts}
+use Rattle.replica_store.specs.Replica.{Replica}
+use Rattle.replica_store.specs.Segments.{Entry, Segments, BatchesForm, AreStored, HasProperName, IsSoundStore, rows_in}
 use Rattle.replica_store.proofs.Maps.{Sorted, as_map, entries-as_map, get-as_map, len-as_map}
 use Rattle.replica_store.proofs.Names.{contains-names_of, some_cond}
 use Rattle.replica_store.proofs.RowsIn.{rows, get-rows_in, len-rows_in}

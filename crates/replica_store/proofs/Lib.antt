@@ -1,3 +1,4 @@
+pub mod Applied
 pub mod ForgetAnswers
 pub mod Forgetting
 pub mod Conflicts

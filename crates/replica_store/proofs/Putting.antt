@@ -1,6 +1,6 @@
 -- Batches in two parts after one goes in, after others are merged in, and after a vector was put into another coding.
-use Rattle.std.specs.Prelude.{◌≡◌, ℕ, List, ◌++◌, None, Result, Ok, Err, OnOk, OnErr}
-use Rattle.std.proofs.Common.{sym, ap, subst, ◌∙◌}
+use Rattle.std.specs.Prelude.{◌≡◌, ℕ, Bool, true, false, cond, not, filter, List, [], ◌∷◌, ◌++◌, None, Result, Ok, Err, OnOk, OnErr}
+use Rattle.std.proofs.Common.{refl, sym, ap, subst, ◌∙◌}
 use Rattle.std.specs.List.{insert}
 use Rattle.std.specs.declared.alloc.AllocError.{AllocError}
 use Rattle.std.specs.FinMap as map
@@ -15,7 +15,7 @@ use Rattle.segment_core.specs.declared.coding.Coding.{Coding}
 use Rattle.replica_store.specs.Entries.{count_below, merge}
 use Rattle.replica_store.specs.Parted.{Each, IsUpTo, IsPast, AreParted, AreKeptInParts}
 use Rattle.replica_store.specs.Replica.{AreKept, names_of, lacked_by}
-use Rattle.replica_store.specs.Segments.{Entry, RecodesEntries}
+use Rattle.replica_store.specs.Segments.{AreLackedOf, BatchesForm, Entry, RecodesEntries}
 use Rattle.replica_store.proofs.InParts.{insert-up_to, insert-past, Each-insert, Each-merge, Each-recoded, merge-parted, recodes-up_to, recodes-past}
 use Rattle.replica_store.proofs.Maps.{Sorted, as_map, get-as_map, Sorted-insert, as_map-insert, entries-as_map}
 use Rattle.replica_store.proofs.Merges.{as_map-merge, Sorted-union}
@@ -84,6 +84,28 @@ merged_parts own es fs new_up_to new_past fresh_up_to fresh_past others held h p
     ∙ (λ i. merge name_cmp (es ++ fs) (lacked_by (h.kept.names i) others))
     ∙ ap (λ (x : List Entry). merge name_cmp (es ++ fs) (lacked_by (names_of (as_map (es ++ fs))) x)) (sym (entries-as_map others sorted))
 
+-- the entries whose names aren't among these are those that are lacked
+pub filter_lacked : (names : Names) (es : List Entry) → filter (λ (e : Entry). not (set.contains names e.0)) es ≡ lacked_by names es
+filter_lacked names [] = refl
+filter_lacked names (e ∷ es) = by_test (set.contains names e.0) _ _ (filter_lacked names es)
+  where
+    by_test : (b : Bool) (fs ls : List Entry) → fs ≡ ls → cond (not b) (e ∷ fs) fs ≡ cond b ls (e ∷ ls)
+    by_test true fs ls h = h
+    by_test false fs ls h = ap (λ (xs : List Entry). e ∷ xs) h
+
+-- the names that are kept are those of the segments that callers see
+held_is : (own : Origin) (es fs : List Entry) (held : Names) (b : BatchesForm) → AreKeptInParts own es fs held → ◌≡◌ {A = BatchesForm} (record { own = own; segments = as_map (es ++ fs) }) b → held ≡ names_of b.segments
+held_is own es fs held b h is = h.kept.names ∙ ap (λ (x : BatchesForm). names_of x.segments) is
+
+-- so what callers see as lacked is lacked inside, and the other way round
+pub lacked_inside : (own : Origin) (es fs : List Entry) (held : Names) (b : BatchesForm) → AreKeptInParts own es fs held → ◌≡◌ {A = BatchesForm} (record { own = own; segments = as_map (es ++ fs) }) b
+    → (others fresh : List Entry) → fresh ≡ lacked_by (names_of b.segments) others → fresh ≡ lacked_by held others
+lacked_inside own es fs held b h is others fresh lacked = lacked ∙ ap (λ (n : Names). lacked_by n others) (sym (held_is own es fs held b h is))
+
+pub lacked_of : (own : Origin) (es fs : List Entry) (held : Names) (b : BatchesForm) → AreKeptInParts own es fs held → ◌≡◌ {A = BatchesForm} (record { own = own; segments = as_map (es ++ fs) }) b
+    → (others fresh : List Entry) → Sorted others → fresh ≡ lacked_by held others → AreLackedOf b.segments others fresh
+lacked_of own es fs held b h is others fresh sorted lacked = record { sorted = sorted; lacked = lacked ∙ ap (λ (n : Names). lacked_by n others) (held_is own es fs held b h is) }
+
 pub kept_merged : (own : Origin) (es fs new_up_to new_past fresh_up_to fresh_past others : List Entry) (held all names : Names)
     → AreKeptInParts own es fs held → AreParted own fresh_up_to fresh_past → fresh_up_to ++ fresh_past ≡ lacked_by held others → Sorted others
     → new_up_to ≡ merge name_cmp es fresh_up_to → new_past ≡ merge name_cmp fs fresh_past → all ≡ set.union held names → names ≡ names_of (as_map others)
@@ -123,3 +145,8 @@ recoded_back own es fs new held result n column vector coding h past r = record 
   kept = kept_recoded (es ++ fs) (es ++ new) held result n column vector coding h.kept (recodes-past own es fs new result n column vector coding past h.parted.up_to r);
   parted = record { up_to = h.parted.up_to; past = Each-recoded (IsPast own) fs new result n column vector coding r h.parted.past };
 }
+
+-- what holds of a value holds of what follows
+pub OnOk_then : {X E : Type 0} {P Q : Type 0} → (r : Result X E) → (P → Q) → OnOk r P → OnOk r Q
+OnOk_then (Ok x) then p = then p
+OnOk_then (Err e) then p = p

@@ -77,8 +77,12 @@ proper_of rows none = by_test (list_all (λ row. is_proper_name row.batch) rows)
 pub all_proper : (rows : List RowName) → names_fault rows ≡ None → All (λ (row : RowName). IsTrue (is_proper_name row.batch)) rows
 all_proper rows none = AllPass-from_list_all (λ (row : RowName). is_proper_name row.batch) rows (proper_of rows none)
 
--- a delete of rows that are all deleted already leaves the replica
-pub same_deleted : (r : Replica) (rows : List RowName) → names_fault rows ≡ None → list_all (set.contains r.state.deleted) rows ≡ true → deleted_names r rows ≡ Ok (tt, r)
-same_deleted r rows none all =
+-- a delete that has no fault, of rows that are all deleted already, leaves the replica
+pub same_after : (r : Replica) (fault : Option Refusal) (rows : List RowName) → fault ≡ None → list_all (set.contains r.state.deleted) rows ≡ true → unless_fault {X = Unit {0} × Replica} fault (Ok (tt, with_deleted r rows)) ≡ Ok (tt, r)
+same_after r fault rows none all =
     ap (λ (o : Option Refusal). unless_fault {X = Unit {0} × Replica} o (Ok (tt, with_deleted r rows))) none
     ∙ ap (λ (d : Rows). let made : Replica = record { schema = r.schema; own = r.own; state = record { batches = r.state.batches; deleted = d } } in Ok (tt, made)) (none_new r.state.deleted rows all)
+
+-- and so one of a list of rows
+pub same_deleted : (r : Replica) (rows : List RowName) → names_fault rows ≡ None → list_all (set.contains r.state.deleted) rows ≡ true → deleted_names r rows ≡ Ok (tt, r)
+same_deleted r rows none all = same_after r (names_fault rows) rows none all

@@ -1,4 +1,4 @@
--- Exchange: a summary tells which batches a replica has, and an offer brings it those that another replica has beside them.
+-- Exchange: a summary tells which batches a replica has, and an offer brings it those that another replica has in addition.
 use Rattle.std.specs.Prelude.{◌≤◌, cond, ◌==◌, T, IsTrue, List, length, Result, Ok, Err, refl}
 use Rattle.std.specs.Coded.{Coded, code_by, coded×}
 use Rattle.std.specs.List.{All}

@@ -1,4 +1,4 @@
--- What forgetting leaves beside the calls of a store: a replica that forgot has what is left of the state that it would have.
+-- What forgetting leaves when the other calls of a store come: a replica that forgot has what is left of the state that it would have.
 use Rattle.std.specs.Prelude.{◌≡◌, IsTrue, Some, Ok}
 use Rattle.std.specs.FinMap as map
 use Rattle.std.specs.FinSet as set

@@ -1,5 +1,5 @@
 -- A replica as its callers see it, and what each call makes of it: a table's schema, an own origin and a state.
-use Rattle.std.specs.Prelude.{◌≡◌, ℕ, ◌+◌, ◌/◌, ◌≤◌, max, Bool, false, not, cond, ◌&&◌, ◌==◌, nat_lt, List, [], ◌∷◌, length, Option, Some, None, Result, Ok, Err, T, IsTrue, refl}
+use Rattle.std.specs.Prelude.{◌≡◌, ◌↔◌, ℕ, ◌+◌, ◌/◌, ◌≤◌, max, Bool, false, not, cond, ◌&&◌, ◌==◌, nat_lt, List, [], ◌∷◌, length, Option, Some, None, Result, Ok, Err, T, IsTrue, refl}
 use Rattle.std.specs.Coded.{Coded, code_by, coded×, coded_ℕ}
 use Rattle.std.specs.FinMap as map
 use Rattle.std.specs.FinSet as set
@@ -110,7 +110,7 @@ next_name r rows = unless_fault (rows_fault r.schema rows) (number_after r (grea
 abbrev pub appended : Replica → Batch → Result (BatchName × Replica) Refusal
 appended r rows = then_added r rows (next_name r rows)
 
--- whether rows are new under a name beside what is held there
+-- whether rows are new under a name, given what is held there
 abbrev pub place_beside : Replica → BatchName → Batch → Option Batch → Result Inserted Refusal
 place_beside r name rows None = where_room r New
 place_beside r name rows (Some held) = cond (same_rows held rows) (Ok Already) (Err (Conflict name))
@@ -171,7 +171,7 @@ abbrev pub differs : Option Batch → Batch → Bool
 differs None rows = false
 differs (Some held) rows = not (same_rows held rows)
 
--- the batches of the list whose names the set lacks
+-- the batches of the list whose names are not in the set
 abbrev pub lacked_by : {X : Type 0} → set.FinSet name_cmp → List (BatchName × X) → List (BatchName × X)
 lacked_by names [] = []
 lacked_by names (e ∷ es) = cond (set.contains names e.0) (lacked_by names es) (e ∷ lacked_by names es)
@@ -205,3 +205,7 @@ with_join r other = joined_with r other.state
 -- merge: the state becomes the join
 abbrev pub merged : Replica → Replica → Result (Unit {0} × Replica) Refusal
 merged r other = unless_fault (merge_fault r other) (Ok (tt, with_join r other))
+
+-- a call says whether the replica differs from before, and says so exactly
+abbrev pub SaysChange : Bool → Replica → Replica → Type 0
+SaysChange changed old new = (changed ≡ false) ↔ (new ≡ old)

@@ -1,7 +1,8 @@
--- A store: a replica, and beside it the segments that its batches lie in, which have their codings.
-use Rattle.std.specs.Prelude.{◌≡◌, ◌⊎◌, ◌&&◌, Bool, IsTrue, is_some, nat_lt, slice_get, ℕ, cond, List, [], ◌∷◌, length, slice_set, Option, Some, None, Result, Ok, Err, refl}
+-- A store: a replica, and with it the segments that its batches lie in, which have their codings.
+use Rattle.std.specs.Prelude.{◌≡◌, ◌⊎◌, ◌&&◌, Bool, T, IsTrue, is_some, nat_lt, slice_get, ℕ, cond, List, [], ◌∷◌, length, slice_set, Option, Some, None, Result, Ok, Err, refl}
 use Rattle.std.specs.Coded.{Coded, code_by, coded×}
 use Rattle.std.specs.FinMap as map
+use Rattle.std.specs.FinSet as set
 use Rattle.table_model.specs.Name.{name_cmp, coded_name, is_proper_name}
 use Rattle.table_model.specs.Outcome.{Acts}
 use Rattle.table_model.specs.State.{Batch}
@@ -13,7 +14,7 @@ use Rattle.table_model.specs.Table.{Table, IsBatch}
 use Rattle.segment_core.specs.Segment.{SegmentForm, recoded, vector_at, widths_in, widths_of}
 use Rattle.segment_core.specs.declared.coding.Coding.{Coding}
 use Rattle.segment_core.specs.SegmentCode.{coded_segment}
-use Rattle.replica_store.specs.Replica.{Replica, coded_replica, coded_origin, differs, vectors_of, IsSound}
+use Rattle.replica_store.specs.Replica.{Replica, coded_replica, coded_origin, differs, lacked_by, names_of, vectors_of, IsSound}
 
 -- a batch's segment with its name
 abbrev pub Entry : Type 0
@@ -69,6 +70,15 @@ pub record IsSoundStore (table : Table) (own : Origin) (batches : BatchesForm) :
   pub sound : IsSound table own (rows_in batches.segments)
   pub stored : AreStored table batches.segments
   pub parted : batches.own ≡ own
+
+-- entries are those of others, in ascending order, whose names the segments don't have
+pub record AreLackedOf (held : Segments) (others fresh : List Entry) : Type 0 where
+  pub sorted : T (map.is_sorted name_cmp others)
+  pub lacked : fresh ≡ lacked_by (names_of held) others
+
+-- entries are those of some batches with these names, in ascending order, that the segments don't have
+abbrev pub AreFresh : Segments → List Entry → set.FinSet name_cmp → Type 0
+AreFresh held fresh names = (others : List Entry) × AreLackedOf held others fresh × (names ≡ names_of (map.from_sorted others))
 
 -- a segment that was looked for, with a vector in another coding
 abbrev pub recoded_held : Option SegmentForm → ℕ → ℕ → Coding → Result (Unit {0} × SegmentForm) Refusal

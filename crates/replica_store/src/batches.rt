@@ -1,5 +1,5 @@
 //! The batches of a replica, in ascending order of name, in two vectors that its own origin parts.
-ghost use Rattle.std.specs.Prelude.{cond, ◌||◌, is_some, take, drop, slice_get, Some, ◌≡◌, ◌+◌, ◌≤◌, T, [], ◌∷◌, ◌++◌, length, reverse, nat_lt, None, IsNone, IsTrue, MatchOption, IfSome, ◌<◌, OnOk, OnErr, IfOk, vec_len, vec_capacity};
+ghost use Rattle.std.specs.Prelude.{cond, ◌||◌, is_some, take, drop, slice_get, Some, ◌≡◌, ◌+◌, ◌≤◌, T, [], ◌∷◌, ◌++◌, length, reverse, nat_lt, List, None, IsNone, IsTrue, MatchOption, IfSome, ◌<◌, OnOk, OnErr, IfOk, vec_len, vec_capacity};
 ghost use Rattle.std.specs.Option.{option_copied, option_to_list, option_map};
 ghost use Rattle.std.specs.FinMap as map;
 ghost use Rattle.std.specs.List.{All, insert, list_all};
@@ -11,7 +11,7 @@ ghost use Rattle.replica_store.specs.Entries.{count_below, merge, takes_first};
 ghost use Rattle.replica_store.specs.Forgets.{is_live_entry, live_entries, live_segments};
 ghost use Rattle.replica_store.specs.Parted.{AreParted};
 ghost use Rattle.replica_store.specs.Replica.{greatest_number, differs, conflict_with, lacked_by, names_of, entries_of};
-ghost use Rattle.replica_store.specs.Segments.{rows_in, rows_entries, conflict_in, recoded_in, AreStored, Entry, HasProperName, RecodesEntries, HoldsAt};
+ghost use Rattle.replica_store.specs.Segments.{rows_in, rows_entries, conflict_in, recoded_in, AreFresh, AreLackedOf, AreStored, Entry, HasProperName, RecodesEntries, HoldsAt};
 ghost use Rattle.table_model.specs.State.{union_of};
 ghost use Rattle.table_model.specs.Outcome.{Acts};
 
@@ -205,6 +205,38 @@ impl Batches {
         ensures err { OnErr result (self.new ≡ self.old) }
     {
         let fresh = copies_lacked(alloc, &self.held, first, second)?;
+        self.put_fresh(alloc, fresh, names)
+    }
+
+    /// Adds the other batches whose names aren't here, as they are coded; none is copied. `names` are the names of all the others.
+    pub fn absorb(
+        &mut self,
+        alloc: Global,
+        mut others: Vec<(BatchName, Segment)>,
+        names: &Held,
+    ) -> Result<(), AllocError>
+        requires sorted { T (map.is_sorted name_cmp others.items) }
+        requires names { names.now ≡ names_of (map.from_sorted others.items) }
+        ensures own { self.new.own ≡ self.old.own }
+        ensures ok { OnOk result (self.new.segments ≡ union_of self.old.segments (map.from_sorted others.items)) }
+        ensures err { OnErr result (self.new ≡ self.old) }
+    {
+        keep_lacked(&mut others, &self.held);
+        self.put_fresh(alloc, others, names)
+    }
+
+    /// Adds those of some batches whose names aren't here, in ascending order. `names` are the names of all of these batches.
+    fn put_fresh(
+        &mut self,
+        alloc: Global,
+        fresh: Vec<(BatchName, Segment)>,
+        names: &Held,
+    ) -> Result<(), AllocError>
+        requires { AreFresh self.old.segments fresh.items names.now }
+        ensures own { self.new.own ≡ self.old.own }
+        ensures ok { OnOk result ((others : List Entry) → AreLackedOf self.old.segments others fresh.items → self.new.segments ≡ union_of self.old.segments (map.from_sorted others)) }
+        ensures err { OnErr result (self.new ≡ self.old) }
+    {
         let (fresh_up_to, fresh_past) = parted(self.own, fresh)?;
         let room_up_to = room_for(alloc, &self.up_to, &fresh_up_to)?;
         let room_past = room_for(alloc, &self.past, &fresh_past)?;
@@ -344,6 +376,13 @@ fn keep_live(entries: &mut Vec<(BatchName, Segment)>, deleted: &Tombs)
     ensures { entries.new.items ≡ live_entries deleted.now entries.old.items }
 {
     entries.retain(|entry| is_live(entry, deleted));
+}
+
+/// Keeps the batches whose names aren't among these.
+fn keep_lacked(batches: &mut Vec<(BatchName, Segment)>, names: &Held)
+    ensures { batches.new.items ≡ lacked_by names.now batches.old.items }
+{
+    batches.retain(|batch| !names.holds(batch.0));
 }
 
 /// Adds the names of those of the batches that have a row that isn't among the deleted ones.

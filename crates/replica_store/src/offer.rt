@@ -76,6 +76,16 @@ impl Offer {
         Ok(Store::from_parts(schema, own, batches, tombs))
     }
 
+    /// The batches, in ascending order of name, and the deleted rows, as they are kept. It takes no memory.
+    pub(crate) fn into_parts(self) -> (Vec<(BatchName, Segment)>, Tombs)
+        ensures value { result.0.items ≡ map.entries self.segments }
+        ensures rows { self.state.batches ≡ rows_in self.segments }
+        ensures offered { AreOffered self.schema result.0.items }
+        ensures tombs { result.1 ≡ self.state.deleted }
+    {
+        (self.entries, self.tombs)
+    }
+
     /// The table's schema.
     pub fn schema(&self) -> &Schema
         ensures { result.now ≡ self.now.schema }

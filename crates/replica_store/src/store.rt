@@ -1,6 +1,6 @@
 //! A replica's store: a table's schema, an own origin, and a state that appends, inserts, deletes, merges and applied messages
 //! change.
-ghost use Rattle.std.specs.Prelude.{◌++◌, ◌≡◌, ◌<◌, ◌≤◌, slice_get, Some, None, Ok, Err, true, IsOk, IfOk, IfErr, OnOk, OnErr, IsTrue, T};
+ghost use Rattle.std.specs.Prelude.{◌++◌, ◌≡◌, ◌<◌, ◌≤◌, slice_get, Some, None, Ok, Err, true, false, IsOk, IfOk, IfErr, OnOk, OnErr, IsTrue, T};
 ghost use Rattle.std.specs.FinMap as map;
 ghost use Rattle.std.specs.List.{All, list_all};
 ghost use Rattle.table_model.specs.Name.{name_cmp, is_proper_name};
@@ -13,7 +13,7 @@ ghost use Rattle.forgotten_batches.specs.Forgotten.{forgotten};
 ghost use Rattle.replica_store.specs.Forgets.{live_segments, forgotten_batches};
 ghost use Rattle.replica_store.specs.Exchange.{summary_of, offered, unlisted, applied, opened};
 ghost use Rattle.replica_store.specs.Parted.{AreParted};
-ghost use Rattle.replica_store.specs.Replica.{Replica, IsWithinLimits, new_replica, entries_of, names_of, appended, inserted, merged, merge_fault, next_name, place_for, replica_with, with_batch, number_after, greatest_number, joined_with, deleted_rows, delete_fault, deleted_names, names_fault, recoded_rows, recode_fault, batch_limit};
+ghost use Rattle.replica_store.specs.Replica.{Replica, IsWithinLimits, new_replica, entries_of, names_of, appended, inserted, merged, merge_fault, next_name, place_for, replica_with, with_batch, number_after, greatest_number, joined_with, deleted_rows, delete_fault, deleted_names, names_fault, recoded_rows, recode_fault, batch_limit, SaysChange};
 ghost use Rattle.replica_store.specs.Segments.{rows_in, recoded_in, AreStored, IsStored, IsSoundStore, HasVector};
 ghost use Rattle.segment_core.specs.declared.coding.Coding.{Coding};
 ghost use Rattle.replica_store.specs.declared.inserted.Inserted.TheVariants.{New, Already};
@@ -23,11 +23,10 @@ use crate::inserted::Inserted;
 use crate::offer::Offer;
 use crate::summary::Summary;
 use catalogue_join::{Held, Tombs};
-use row_batch::{RowBatch, check_batch};
 use segment_core::{Coding, Segment};
 use std::alloc::{AllocError, Global};
 use std::marker::Model;
-use table_model::{BatchName, Number, Origin, Refusal, Row, RowName, Schema, check_rows};
+use table_model::{BatchName, Number, Origin, Refusal, RowName, Rows, Schema, check_rows};
 use transpose_order::VECTOR_ROWS;
 
 /// How many batches a store may have.
@@ -156,7 +155,7 @@ impl Store {
     ///
     /// The refusals are, in this order: the faults of [`check_rows`], `NumbersSpent` if 4,294,967,295 is held, `Full` if 1,048,576
     /// batches are held, `Memory`.
-    pub fn append(&mut self, alloc: Global, rows: &[Row]) -> Result<BatchName, Refusal>
+    pub fn append(&mut self, alloc: Global, rows: &Rows) -> Result<BatchName, Refusal>
         ensures acts { Acts (λ name. name) self.old.replica result self.new.replica (appended self.old.replica rows.now) }
         ensures segments { IfOk result (λ name. self.new.segments ≡ map.insert self.old.segments name (canonical_segment self.old.replica.schema rows.now)) }
         ensures refused { OnErr result (self.new ≡ self.old) }
@@ -175,7 +174,7 @@ impl Store {
         &mut self,
         alloc: Global,
         name: BatchName,
-        rows: &[Row],
+        rows: &Rows,
     ) -> Result<Inserted, Refusal>
         ensures acts { Acts (λ answer. answer) self.old.replica result self.new.replica (inserted self.old.replica name rows.now) }
         ensures new { result ≡ Ok New → self.new.segments ≡ map.insert self.old.segments name (canonical_segment self.old.replica.schema rows.now) }
@@ -192,71 +191,45 @@ impl Store {
         }
     }
 
-    /// Adds the rows of a `RowBatch` as `append` does, with the same answers.
-    pub fn append_batch(&mut self, alloc: Global, rows: &RowBatch) -> Result<BatchName, Refusal>
-        ensures acts { Acts (λ name. name) self.old.replica result self.new.replica (appended self.old.replica rows.now) }
-        ensures segments { IfOk result (λ name. self.new.segments ≡ map.insert self.old.segments name (canonical_segment self.old.replica.schema rows.now)) }
-        ensures refused { OnErr result (self.new ≡ self.old) }
-    {
-        let name = self.next_batch_name(rows)?;
-        self.add_batch(alloc, name, rows)?;
-        Ok(name)
-    }
-
-    /// Adds the rows of a `RowBatch` as `insert` does, with the same answers.
-    pub fn insert_batch(
-        &mut self,
-        alloc: Global,
-        name: BatchName,
-        rows: &RowBatch,
-    ) -> Result<Inserted, Refusal>
-        ensures acts { Acts (λ answer. answer) self.old.replica result self.new.replica (inserted self.old.replica name rows.now) }
-        ensures new { result ≡ Ok New → self.new.segments ≡ map.insert self.old.segments name (canonical_segment self.old.replica.schema rows.now) }
-        ensures already { result ≡ Ok Already → self.new ≡ self.old }
-        ensures held { (r : Replica) → inserted self.old.replica name rows.now ≡ Ok (Already, r) → result ≡ Ok Already }
-        ensures refused { OnErr result (self.new ≡ self.old) }
-    {
-        match self.place_for_batch(name, rows)? {
-            Inserted::Already => Ok(Inserted::Already),
-            Inserted::New => {
-                self.add_batch(alloc, name, rows)?;
-                Ok(Inserted::New)
-            }
-        }
-    }
-
-    /// Deletes the rows of a batch from the first to the ordinal `last`, both included, whether they are held here or not.
+    /// Deletes the rows of a batch from the first to the ordinal `last`, both included, whether they are held here or not. Answers
+    /// whether one of them was not deleted before.
     ///
     /// The refusals are, in this order: `BadName` if the batch's origin or number is 0, `BadRange` if `last` is less than the first
     /// ordinal, `Memory`. If the rows are deleted already it takes no memory.
-    pub fn delete(&mut self, _alloc: Global, first: RowName, last: u16) -> Result<(), Refusal>
-        ensures acts { Acts (λ done. done) self.old.replica result self.new.replica (deleted_rows self.old.replica first last) }
+    pub fn delete(&mut self, _alloc: Global, first: RowName, last: u16) -> Result<bool, Refusal>
+        ensures acts { Acts (λ changed. tt) self.old.replica result self.new.replica (deleted_rows self.old.replica first last) }
+        ensures changed { IfOk result (λ changed. SaysChange changed self.old.replica self.new.replica) }
         ensures segments { self.new.segments ≡ self.old.segments }
         ensures idle { deleted_rows self.old.replica first last ≡ Ok (tt, self.old.replica) → IsOk result }
         ensures refused { OnErr result (self.new ≡ self.old) }
     {
         delete_fault(first, last)?;
+        if self.tombs.holds_rows(first, last) {
+            return Ok(false);
+        }
         self.tombs.insert(first, last)?;
-        Ok(())
+        Ok(true)
     }
 
-    /// Deletes some rows, whether they are held here or not, in any order and with any repeats.
+    /// Deletes some rows, whether they are held here or not, in any order and with any repeats. Answers whether one of them was not
+    /// deleted before.
     ///
     /// The refusals are, in this order: `BadName` if the origin or the number of a row's batch is 0, `Memory`. If all of them are
     /// deleted already it takes no memory.
-    pub fn delete_all(&mut self, alloc: Global, rows: &[RowName]) -> Result<(), Refusal>
-        ensures acts { Acts (λ done. done) self.old.replica result self.new.replica (deleted_names self.old.replica rows.now) }
+    pub fn delete_all(&mut self, alloc: Global, rows: &[RowName]) -> Result<bool, Refusal>
+        ensures acts { Acts (λ changed. tt) self.old.replica result self.new.replica (deleted_names self.old.replica rows.now) }
+        ensures changed { IfOk result (λ changed. SaysChange changed self.old.replica self.new.replica) }
         ensures segments { self.new.segments ≡ self.old.segments }
         ensures idle { deleted_names self.old.replica rows.now ≡ Ok (tt, self.old.replica) → IsOk result }
         ensures refused { OnErr result (self.new ≡ self.old) }
     {
         names_fault(rows)?;
         if self.tombs.holds_all(rows) {
-            return Ok(());
+            return Ok(false);
         }
         let more = Tombs::from_rows(alloc, rows)?;
         self.tombs.join(&more)?;
-        Ok(())
+        Ok(true)
     }
 
     /// Drops the batches of which every row is deleted. Their deletions stay, so these rows never come to life again, and no query
@@ -277,12 +250,14 @@ impl Store {
         Ok(())
     }
 
-    /// Adds the other store's batches and deletions, so that the state becomes the join of both.
+    /// Adds the other store's batches and deletions, so that the state becomes the join of both. Answers whether one of them was
+    /// missing here.
     ///
     /// The refusals are, in this order: `SchemaDiffers`, `Conflict` with the least name that has two lists of rows, `Full` if the
     /// union has more than 1,048,576 batches, `Memory`. The own origin stays. If nothing is missing it takes no memory.
-    pub fn merge(&mut self, alloc: Global, other: &Store) -> Result<(), Refusal>
-        ensures acts { Acts (λ done. done) self.old.replica result self.new.replica (merged self.old.replica other.now.replica) }
+    pub fn merge(&mut self, alloc: Global, other: &Store) -> Result<bool, Refusal>
+        ensures acts { Acts (λ changed. tt) self.old.replica result self.new.replica (merged self.old.replica other.now.replica) }
+        ensures changed { IfOk result (λ changed. SaysChange changed self.old.replica self.new.replica) }
         ensures segments { OnOk result (self.new.segments ≡ union_of self.old.segments other.now.segments) }
         ensures idle { merged self.old.replica other.now.replica ≡ Ok (tt, self.old.replica) → IsOk result }
         ensures refused { OnErr result (self.new ≡ self.old) }
@@ -290,10 +265,10 @@ impl Store {
         let (first, second) = other.batches.parts();
         self.merge_fault(&other.schema, first, second)?;
         if self.has_all(first, second, &other.tombs) {
-            return Ok(());
+            return Ok(false);
         }
         self.take_all(alloc, first, second, other.batches.names(), &other.tombs)?;
-        Ok(())
+        Ok(true)
     }
 
     /// The names of the batches that are held, from which another replica sees what to offer. `Memory` is answered if there is
@@ -325,26 +300,43 @@ impl Store {
     }
 
     /// Adds an offer's batches and deletions, as a merge with a store that has them. A batch that is held keeps its codings, and a
-    /// new one has those of the offer.
+    /// new one has those of the offer. Answers whether one of them was missing here.
     ///
     /// The refusals are, in this order: `SchemaDiffers`, `Conflict` with the least name that has two lists of rows, `Full` if the
     /// union has more than 1,048,576 batches, `Memory`. The own origin stays. If nothing is missing it takes no memory.
-    pub fn apply(&mut self, alloc: Global, offer: &Offer) -> Result<(), Refusal>
-        ensures acts { Acts (λ done. done) self.old.replica result self.new.replica (applied self.old.replica offer.now) }
+    pub fn apply(&mut self, alloc: Global, offer: &Offer) -> Result<bool, Refusal>
+        ensures acts { Acts (λ changed. tt) self.old.replica result self.new.replica (applied self.old.replica offer.now) }
+        ensures changed { IfOk result (λ changed. SaysChange changed self.old.replica self.new.replica) }
         ensures segments { OnOk result (self.new.segments ≡ union_of self.old.segments offer.now.segments) }
         ensures idle { applied self.old.replica offer.now ≡ Ok (tt, self.old.replica) → IsOk result }
         ensures refused { OnErr result (self.new ≡ self.old) }
     {
-        let entries = offer.entries();
-        let tombs = offer.tombs();
-        let (first, second) = entries.split_at(entries.len());
-        self.merge_fault(offer.schema(), first, second)?;
-        if self.has_all(first, second, tombs) {
-            return Ok(());
+        if !self.lacks(offer)? {
+            return Ok(false);
         }
+        let entries = offer.entries();
         let names = names_held(alloc, entries)?;
-        self.take_all(alloc, first, second, &names, tombs)?;
-        Ok(())
+        let (first, second) = entries.split_at(entries.len());
+        self.take_all(alloc, first, second, &names, offer.tombs())?;
+        Ok(true)
+    }
+
+    /// Adds an offer's batches and deletions as [`apply`](Store::apply) does, with the same answers. The offer's segments are moved
+    /// into the store, so none is copied.
+    pub fn absorb(&mut self, alloc: Global, offer: Offer) -> Result<bool, Refusal>
+        ensures acts { Acts (λ changed. tt) self.old.replica result self.new.replica (applied self.old.replica offer) }
+        ensures changed { IfOk result (λ changed. SaysChange changed self.old.replica self.new.replica) }
+        ensures segments { OnOk result (self.new.segments ≡ union_of self.old.segments offer.segments) }
+        ensures idle { applied self.old.replica offer ≡ Ok (tt, self.old.replica) → IsOk result }
+        ensures refused { OnErr result (self.new ≡ self.old) }
+    {
+        if !self.lacks(&offer)? {
+            return Ok(false);
+        }
+        let (entries, tombs) = offer.into_parts();
+        let names = names_held(alloc, entries.as_slice())?;
+        self.move_all(alloc, entries, &names, &tombs)?;
+        Ok(true)
     }
 
     /// Puts a vector of a batch into another coding, in the least form that the coding has; no row changes. Columns and vectors
@@ -385,21 +377,11 @@ impl Store {
 
     /// The name that an append of the rows gets, or its refusal.
     #[tactic(auto, unfolding(crate::specs::Replica::next_name))]
-    fn next_name(&self, rows: &[Row]) -> Result<BatchName, Refusal>
+    fn next_name(&self, rows: &Rows) -> Result<BatchName, Refusal>
         ensures value { result ≡ next_name self.now.replica rows.now }
         ensures proper { IfOk result (λ name. IsTrue (is_proper_name name)) }
     {
         check_rows(&self.schema, rows)?;
-        self.free_name()
-    }
-
-    /// The name that an append of a batch's rows gets, or its refusal.
-    #[tactic(auto, unfolding(crate::specs::Replica::next_name))]
-    fn next_batch_name(&self, rows: &RowBatch) -> Result<BatchName, Refusal>
-        ensures value { result ≡ next_name self.now.replica rows.now }
-        ensures proper { IfOk result (λ name. IsTrue (is_proper_name name)) }
-    {
-        check_batch(&self.schema, rows)?;
         self.free_name()
     }
 
@@ -423,7 +405,7 @@ impl Store {
 
     /// Whether the rows are new under the name or held already, or the refusal of an insert.
     #[tactic(auto, unfolding(crate::specs::Replica::place_for))]
-    fn place_for(&self, name: BatchName, rows: &[Row]) -> Result<Inserted, Refusal>
+    fn place_for(&self, name: BatchName, rows: &Rows) -> Result<Inserted, Refusal>
         ensures { result ≡ place_for self.now.replica name rows.now }
     {
         check_rows(&self.schema, rows)?;
@@ -438,25 +420,8 @@ impl Store {
         }
     }
 
-    /// Whether a batch's rows are new under the name or held already, or the refusal of an insert.
-    #[tactic(auto, unfolding(crate::specs::Replica::place_for))]
-    fn place_for_batch(&self, name: BatchName, rows: &RowBatch) -> Result<Inserted, Refusal>
-        ensures { result ≡ place_for self.now.replica name rows.now }
-    {
-        check_batch(&self.schema, rows)?;
-        if !name.is_proper() {
-            return Err(Refusal::BadName);
-        }
-        match self.batches.get(name) {
-            Some(held) if held.has_batch(rows) => Ok(Inserted::Already),
-            Some(_) => Err(Refusal::Conflict(name)),
-            None if self.batches.len() >= MAX_BATCHES => Err(Refusal::Full),
-            None => Ok(Inserted::New),
-        }
-    }
-
     /// Adds the rows of the batch that was decided on.
-    fn add(&mut self, alloc: Global, name: BatchName, rows: &[Row]) -> Result<(), AllocError>
+    fn add(&mut self, alloc: Global, name: BatchName, rows: &Rows) -> Result<(), AllocError>
         requires proper { IsTrue (is_proper_name name) }
         requires new { map.get self.old.replica.state.batches name ≡ None }
         requires room { map.len self.old.replica.state.batches < batch_limit }
@@ -466,25 +431,6 @@ impl Store {
         ensures err { OnErr result (self.new ≡ self.old) }
     {
         let segment = Segment::build(alloc, self.schema(), rows)?;
-        self.put(name, segment)
-    }
-
-    /// Adds the rows of a `RowBatch` as the batch that was decided on.
-    fn add_batch(
-        &mut self,
-        alloc: Global,
-        name: BatchName,
-        rows: &RowBatch,
-    ) -> Result<(), AllocError>
-        requires proper { IsTrue (is_proper_name name) }
-        requires new { map.get self.old.replica.state.batches name ≡ None }
-        requires room { map.len self.old.replica.state.batches < batch_limit }
-        requires fit { IsBatch self.old.replica.schema rows.now }
-        ensures ok { OnOk result (self.new.replica ≡ with_batch self.old.replica name rows.now) }
-        ensures segments { OnOk result (self.new.segments ≡ map.insert self.old.segments name (canonical_segment self.old.replica.schema rows.now)) }
-        ensures err { OnErr result (self.new ≡ self.old) }
-    {
-        let segment = Segment::build_batch(alloc, self.schema(), rows)?;
         self.put(name, segment)
     }
 
@@ -545,6 +491,21 @@ impl Store {
                 .union_exceeds(first, second, self.batches.len())
     }
 
+    /// Whether an offer has batches or deletions that are missing here, or why it is refused.
+    fn lacks(&self, offer: &Offer) -> Result<bool, Refusal>
+        ensures refused { IfErr result (λ e. applied self.now.replica offer.now ≡ Err e) }
+        ensures made { OnOk result (applied self.now.replica offer.now ≡ Ok (tt, joined_with self.now.replica offer.now.state)) }
+        ensures lacks { IfOk result (λ lacks. SaysChange lacks self.now.replica (joined_with self.now.replica offer.now.state)) }
+        ensures segments { result ≡ Ok false → union_of self.now.segments offer.now.segments ≡ self.now.segments }
+        ensures stored { OnOk result (AreStored self.now.replica.schema offer.now.segments) }
+        ensures limit { OnOk result (map.len (union_of self.now.replica.state.batches (rows_in offer.now.segments)) ≤ batch_limit) }
+    {
+        let entries = offer.entries();
+        let (first, second) = entries.split_at(entries.len());
+        self.merge_fault(offer.schema(), first, second)?;
+        Ok(!self.has_all(first, second, offer.tombs()))
+    }
+
     /// Takes in batches, in two parts that follow each other in ascending order of name and have these names, and deletions.
     fn take_all(
         &mut self,
@@ -564,6 +525,27 @@ impl Store {
     {
         let tombs = self.tombs.joined(tombs)?;
         self.batches.join(alloc, first, second, names)?;
+        self.tombs = tombs;
+        Ok(())
+    }
+    /// Takes in batches, which are in ascending order of name and have these names, and deletions. No segment is copied.
+    fn move_all(
+        &mut self,
+        alloc: Global,
+        entries: Vec<(BatchName, Segment)>,
+        names: &Held,
+        tombs: &Tombs,
+    ) -> Result<(), AllocError>
+        requires sorted { T (map.is_sorted name_cmp entries.items) }
+        requires names { names.now ≡ names_of (map.from_sorted entries.items) }
+        requires stored { AreStored self.old.replica.schema (map.from_sorted entries.items) }
+        requires limit { map.len (union_of self.old.replica.state.batches (rows_in (map.from_sorted entries.items))) ≤ batch_limit }
+        ensures ok { OnOk result (self.new.replica ≡ joined_with self.old.replica (record { batches = rows_in (map.from_sorted entries.items); deleted = tombs.now })) }
+        ensures segments { OnOk result (self.new.segments ≡ union_of self.old.segments (map.from_sorted entries.items)) }
+        ensures err { OnErr result (self.new ≡ self.old) }
+    {
+        let tombs = self.tombs.joined(tombs)?;
+        self.batches.absorb(alloc, entries, names)?;
         self.tombs = tombs;
         Ok(())
     }

@@ -79,7 +79,7 @@ fn is_deleted(alloc: Global, case: &Case) -> Result<bool, Refusal> {
     let (places, want, deleted, live) = *case;
     let rows = rows_at(alloc, places)?;
     let mut store = told_store(alloc, 1, HELD)?;
-    let answer = store.delete_all(alloc, &rows);
+    let answer = store.delete_all(alloc, &rows).map(|_| ());
     Ok(answer == want && is_state(&store, &BATCHES, deleted, live))
 }
 

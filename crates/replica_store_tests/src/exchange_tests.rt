@@ -81,7 +81,8 @@ pub(crate) fn offer_after(
 }
 
 fn apply(alloc: Global, receiver: &mut Store, offer: &Offer) -> Result<(), Refusal> {
-    receiver.apply(alloc, offer)
+    let _ = receiver.apply(alloc, offer)?;
+    Ok(())
 }
 
 impl Late {

@@ -2,7 +2,7 @@
 #![tactic(auto)]
 
 #[cfg(test)]
-mod batch_tests;
+mod change_tests;
 #[cfg(test)]
 mod delete_all_tests;
 #[cfg(test)]

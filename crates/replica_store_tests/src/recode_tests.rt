@@ -5,7 +5,7 @@ use segment_core::{Coding, Segment};
 use std::alloc::{AllocError, Global};
 use std::process::Abort;
 use std::test::Fail;
-use table_model::{ColType, Origin, Refusal, Row, Schema};
+use table_model::{ColType, Origin, Refusal, Rows, Schema};
 
 /// How many rows the wide batch has: a vector, and one row of a second one.
 const WIDE_ROWS: u16 = 1025;
@@ -43,22 +43,17 @@ fn apart(ordinal: u16) -> Option<i128> {
     })
 }
 
-/// A row of a SMALLINT, an INTEGER and a BIGINT.
-fn wide_row(alloc: Global, ordinal: u16) -> Result<Row, AllocError> {
-    let cells = [few(ordinal), ascending(ordinal), apart(ordinal)];
-    Ok(Row::from_cells(Vec::from_slice(alloc, &cells)?))
-}
-
-fn wide_rows(alloc: Global) -> Result<Vec<Row>, AllocError> {
-    let mut rows = Vec::with_capacity(alloc, WIDE_ROWS as usize)?;
+/// Rows of a SMALLINT, an INTEGER and a BIGINT.
+fn wide_rows(alloc: Global) -> Result<Rows, AllocError> {
+    let mut rows = Rows::new(alloc);
     for ordinal in 0..WIDE_ROWS {
-        rows.push(wide_row(alloc, ordinal)?)?;
+        rows.push_row(&[few(ordinal), ascending(ordinal), apart(ordinal)])?;
     }
     Ok(rows)
 }
 
 /// A store with the rows as the batch 1.1.
-fn wide_store(alloc: Global, rows: &[Row]) -> Result<Store, Refusal> {
+fn wide_store(alloc: Global, rows: &Rows) -> Result<Store, Refusal> {
     let columns = [
         ("A", ColType::SmallInt),
         ("B", ColType::Integer),
@@ -100,7 +95,7 @@ fn coding_at(store: &Store, column: u32, vector: u32) -> Option<Coding> {
 }
 
 /// Whether the first batch has these rows.
-fn has_rows(store: &Store, rows: &[Row]) -> bool {
+fn has_rows(store: &Store, rows: &Rows) -> bool {
     match first_segment(store) {
         None => false,
         Some(segment) => segment.has_rows(rows),
@@ -129,7 +124,7 @@ fn recode(
 fn goes_into_coding(
     alloc: Global,
     store: &mut Store,
-    rows: &[Row],
+    rows: &Rows,
     place: (u32, u32),
     coding: Coding,
 ) -> Result<bool, Refusal> {
@@ -141,7 +136,7 @@ fn goes_into_coding(
 fn goes_into_each_coding(
     alloc: Global,
     store: &mut Store,
-    rows: &[Row],
+    rows: &Rows,
     place: (u32, u32),
 ) -> Result<bool, Refusal> {
     let Some(first) = coding_at(store, place.0, place.1) else {
@@ -161,7 +156,7 @@ fn see_vectors_recoded(
     rt: &impl Abort,
     alloc: Global,
     store: &mut Store,
-    rows: &[Row],
+    rows: &Rows,
 ) -> Result<(), Refusal> {
     assert!(rt; is_canonical(store) && has_rows(store, rows));
     for &place in &WIDE_VECTORS {
@@ -172,7 +167,7 @@ fn see_vectors_recoded(
 }
 
 /// The same for the store that has these rows as its batch.
-fn see_rows_recoded(rt: &impl Abort, alloc: Global, rows: &[Row]) -> Result<(), Refusal> {
+fn see_rows_recoded(rt: &impl Abort, alloc: Global, rows: &Rows) -> Result<(), Refusal> {
     let mut store = wide_store(alloc, rows)?;
     see_vectors_recoded(rt, alloc, &mut store, rows)
 }
@@ -180,7 +175,7 @@ fn see_rows_recoded(rt: &impl Abort, alloc: Global, rows: &[Row]) -> Result<(), 
 #[test]
 fn every_vector_goes_into_every_coding_and_back(rt: HostRuntime) -> Result<(), Fail> {
     let rows = wide_rows(rt.alloc())?;
-    see_rows_recoded(&rt, rt.alloc(), rows.as_slice())?;
+    see_rows_recoded(&rt, rt.alloc(), &rows)?;
     Ok(())
 }
 

@@ -11,7 +11,7 @@ use replica_store::{Offer, Store, Summary};
 use segment_core::Coding;
 use std::alloc::Global;
 use std::test::Fail;
-use table_model::{ColType, Origin, Refusal, Row, Schema};
+use table_model::{ColType, Origin, Refusal, Rows, Schema};
 use test_support::growth_refused;
 
 /// What the store of these tests holds.
@@ -76,12 +76,7 @@ enum Call {
 }
 
 /// Makes an insert of the rows under the name with this origin and number.
-fn insert(
-    alloc: Global,
-    store: &mut Store,
-    place: (u32, u32),
-    rows: &[Row],
-) -> Result<(), Refusal> {
+fn insert(alloc: Global, store: &mut Store, place: (u32, u32), rows: &Rows) -> Result<(), Refusal> {
     let _ = store.insert(alloc, name(place.0, place.1), rows)?;
     Ok(())
 }
@@ -93,12 +88,15 @@ fn summary(alloc: Global, store: &Store) -> Result<(), Refusal> {
 }
 
 /// Makes the call.
-fn made(alloc: Global, store: &mut Store, call: Call, rows: &[Row]) -> Result<(), Refusal> {
+fn made(alloc: Global, store: &mut Store, call: Call, rows: &Rows) -> Result<(), Refusal> {
     match call {
         Call::Append => store.append(alloc, rows).map(|_| ()),
         Call::Insert(origin, number) => insert(alloc, store, (origin, number), rows),
-        Call::Delete => store.delete(alloc, row_name(4, 4, 3), 9),
-        Call::DeleteAll => store.delete_all(alloc, &[row_name(4, 4, 9), row_name(4, 4, 3)]),
+        Call::Delete => store.delete(alloc, row_name(4, 4, 3), 9).map(|_| ()),
+        Call::DeleteAll => {
+            let rows = [row_name(4, 4, 9), row_name(4, 4, 3)];
+            store.delete_all(alloc, &rows).map(|_| ())
+        }
         Call::Summary => summary(alloc, store),
         Call::Recode => store.recode(alloc, name(1, 1), 0, 0, Coding::Dict),
     }
@@ -109,7 +107,7 @@ fn came_of(
     alloc: Global,
     store: &mut Store,
     call: Call,
-    rows: &[Row],
+    rows: &Rows,
     deleted: &[Deleted],
     live: usize,
 ) -> Came {
@@ -127,7 +125,7 @@ fn came_of(
 fn called(alloc: Global, call: Call, values: &[i128]) -> Result<Came, Refusal> {
     let rows = rows_of(alloc, values)?;
     let mut store = told_store(alloc, 1, HELD)?;
-    Ok(came_of(alloc, &mut store, call, rows.as_slice(), &[(1, 1, 0, 0)], 1))
+    Ok(came_of(alloc, &mut store, call, &rows, &[(1, 1, 0, 0)], 1))
 }
 
 #[test]
@@ -164,7 +162,7 @@ fn deleted(
     live: usize,
 ) -> Result<Came, Refusal> {
     let mut store = told_store(alloc, 1, told)?;
-    Ok(came_of(alloc, &mut store, call, &[], ranges, live))
+    Ok(came_of(alloc, &mut store, call, &Rows::new(alloc), ranges, live))
 }
 
 #[test]
@@ -201,7 +199,7 @@ fn is_joined(store: &Store) -> bool {
 /// What came of a merge of the other store.
 fn came_of_merge(alloc: Global, store: &mut Store, other: &Store) -> Came {
     match store.merge(alloc, other) {
-        Ok(()) => Came::Done,
+        Ok(_) => Came::Done,
         Err(fault) => {
             let is_same = is_held(store);
             let again = store.merge(alloc, other);
@@ -269,7 +267,7 @@ fn a_refused_offer_leaves_the_store(rt: HostRuntime) -> Result<(), Fail> {
 /// What came of an offer that was applied.
 fn came_of_apply(alloc: Global, store: &mut Store, offer: &Offer) -> Came {
     match store.apply(alloc, offer) {
-        Ok(()) => Came::Done,
+        Ok(_) => Came::Done,
         Err(fault) => {
             let is_same = is_held(store);
             let again = store.apply(alloc, offer);
@@ -299,6 +297,26 @@ fn applied(alloc: Global) -> Result<Came, Refusal> {
 #[test]
 fn a_refused_apply_leaves_the_store(rt: HostRuntime) -> Result<(), Fail> {
     end(applied(rt.alloc())?)
+}
+
+/// What came of an offer that was moved in.
+fn came_of_absorb(alloc: Global, store: &mut Store, offer: Offer) -> Came {
+    match store.absorb(alloc, offer) {
+        Ok(_) => Came::Done,
+        Err(fault) => refused(fault, is_held(store)),
+    }
+}
+
+/// What came of that offer where it was moved into the store of these tests.
+fn absorbed(alloc: Global) -> Result<Came, Refusal> {
+    let offer = offer_beside(alloc)?;
+    let mut store = told_store(alloc, 1, HELD)?;
+    Ok(came_of_absorb(alloc, &mut store, offer))
+}
+
+#[test]
+fn a_refused_absorb_leaves_the_store(rt: HostRuntime) -> Result<(), Fail> {
+    end(absorbed(rt.alloc())?)
 }
 
 /// A call that makes a value of a schema.

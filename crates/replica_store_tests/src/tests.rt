@@ -5,7 +5,7 @@ use segment_core::Segment;
 use std::alloc::{AllocError, Global};
 use std::process::Abort;
 use std::test::Fail;
-use table_model::{BatchName, ColType, Number, Origin, Refusal, Row, RowName, Schema};
+use table_model::{BatchName, ColType, Number, Origin, Refusal, RowName, Rows, Schema};
 
 /// A batch of the tests: its origin, its number, and the one cell of each row.
 pub(crate) type OneColumn<'a> = (u32, u32, &'a [i128]);
@@ -34,23 +34,19 @@ pub(crate) fn row_name(origin: u32, number: u32, ordinal: u16) -> RowName {
     }
 }
 
-/// A row of one cell.
-fn row_of(alloc: Global, cell: Option<i128>) -> Result<Row, AllocError> {
-    Ok(Row::from_cells(Vec::from_slice(alloc, &[cell])?))
-}
-
-pub(crate) fn rows_of(alloc: Global, values: &[i128]) -> Result<Vec<Row>, AllocError> {
-    let mut rows = Vec::with_capacity(alloc, values.len())?;
+/// Rows of one cell each.
+pub(crate) fn rows_of(alloc: Global, values: &[i128]) -> Result<Rows, AllocError> {
+    let mut rows = Rows::new(alloc);
     for value in values {
-        rows.push(row_of(alloc, Some(*value))?)?;
+        rows.push_row(&[Some(*value)])?;
     }
     Ok(rows)
 }
 
-fn many_rows(alloc: Global, count: usize) -> Result<Vec<Row>, AllocError> {
-    let mut rows = Vec::with_capacity(alloc, count)?;
+fn many_rows(alloc: Global, count: usize) -> Result<Rows, AllocError> {
+    let mut rows = Rows::new(alloc);
     for _ in 0..count {
-        rows.push(row_of(alloc, None)?)?;
+        rows.push_row(&[None])?;
     }
     Ok(rows)
 }
@@ -66,11 +62,12 @@ pub(crate) fn store_of(alloc: Global, own: u32) -> Result<Store, Refusal> {
 
 fn insert(alloc: Global, store: &mut Store, batch: OneColumn<'_>) -> Result<Inserted, Refusal> {
     let rows = rows_of(alloc, batch.2)?;
-    store.insert(alloc, name(batch.0, batch.1), rows.as_slice())
+    store.insert(alloc, name(batch.0, batch.1), &rows)
 }
 
 fn delete(alloc: Global, store: &mut Store, rows: Deleted) -> Result<(), Refusal> {
-    store.delete(alloc, row_name(rows.0, rows.1, rows.2), rows.3)
+    let _ = store.delete(alloc, row_name(rows.0, rows.1, rows.2), rows.3)?;
+    Ok(())
 }
 
 pub(crate) fn tell(alloc: Global, store: &mut Store, told: &[Told]) -> Result<(), Refusal> {
@@ -165,7 +162,8 @@ pub(crate) fn is_state(
 }
 
 pub(crate) fn merge(alloc: Global, store: &mut Store, other: &Store) -> Result<(), Refusal> {
-    store.merge(alloc, other)
+    let _ = store.merge(alloc, other)?;
+    Ok(())
 }
 
 /// What a store answers to a merge of a store that was told these.
@@ -260,7 +258,7 @@ fn a_merge_joins_states_or_names_the_least_conflict(rt: HostRuntime) -> Result<(
 /// Appends a batch of one row, 0.
 fn append_zero(alloc: Global, store: &mut Store) -> Result<BatchName, Refusal> {
     let rows = rows_of(alloc, &[0])?;
-    store.append(alloc, rows.as_slice())
+    store.append(alloc, &rows)
 }
 
 /// What an append answers after these inserts.
@@ -309,7 +307,7 @@ fn insert_nulls(
     count: usize,
 ) -> Result<Inserted, Refusal> {
     let rows = many_rows(alloc, count)?;
-    store.insert(alloc, batch, rows.as_slice())
+    store.insert(alloc, batch, &rows)
 }
 
 /// What an insert of so many nulls under this name answers beside the batch 2.1 of one null.
@@ -341,7 +339,7 @@ fn an_insert_answers_the_first_refusal_in_order(rt: HostRuntime) -> Result<(), F
 /// Appends a batch of so many nulls.
 fn append_nulls(alloc: Global, store: &mut Store, count: usize) -> Result<BatchName, Refusal> {
     let rows = many_rows(alloc, count)?;
-    store.append(alloc, rows.as_slice())
+    store.append(alloc, &rows)
 }
 
 /// Sees what a store answers to batches of so many rows, and how many of its rows are live then.

@@ -30,7 +30,7 @@ pub record DictForm : Type 0 where
   pub values : List ℤ
   pub codes : PackedWords
 
--- the code of row n in packed words: codes stand in lanes of 16 bits whatever the column's lane width is
+-- the code of row n in packed words: codes are in lanes of 16 bits whatever the column's lane width is
 unfoldable pub packed_code : ℕ → PackedWords → ℕ → ℕ
 packed_code width codes n = packed_value 16 width codes.numbers (lane_of 16 n) (step_of 16 n)
 
@@ -50,7 +50,7 @@ dict_value form n = value_at form.values (code_at form n)
 unfoldable pub dict_values : DictForm → List ℤ
 dict_values form = rows_of (dict_value form)
 
--- a form that stands for 1024 values: the dictionary ascends, and each code is a place in it
+-- a form that represents 1024 values: the dictionary ascends, and each code is a place in it
 pub record IsDictForm (form : DictForm) : Type 0 where
   pub lane_width : IsLaneWidth form.lane_width
   pub words : form.codes.lane_width ≡ 16
@@ -88,12 +88,12 @@ abbrev pub LeastDictIsAForm : Type 0
 LeastDictIsAForm =
     (t : ℕ) (values : List ℤ) → IsLaneWidth t → length values ≡ 1024 → AreInRange t values → IsDictForm (least_dict t values)
 
--- the least form of 1024 values stands for them
+-- the least form of 1024 values represents them
 abbrev pub LeastDictGivesBack : Type 0
 LeastDictGivesBack =
     (t : ℕ) (values : List ℤ) → length values ≡ 1024 → dict_values (least_dict t values) ≡ values
 
--- of all forms that stand for the same values the least one has the fewest values, and no form's width is too small for them
+-- of all forms that represent the same values the least one has the fewest values, and no form's width is too small for them
 abbrev pub LeastDictIsFewest : Type 0
 LeastDictIsFewest =
     (form : DictForm) → IsDictForm form → let least = length (least_dict form.lane_width (dict_values form)).values in (least ≤ length form.values) × (least ≤ 2 ^ form.width)

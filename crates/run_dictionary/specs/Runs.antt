@@ -24,7 +24,7 @@ run_value form n = slice_index_or form.values (run_of form.starts n) (pos 0)
 unfoldable pub run_values : RunForm → List ℤ
 run_values form = rows_of (run_value form)
 
--- a form that stands for 1024 values: no run starts at row 0, and each start has its value
+-- a form that represents 1024 values: no run starts at row 0, and each start has its value
 pub record IsRunForm (form : RunForm) : Type 0 where
   pub lane_width : IsLaneWidth form.lane_width
   pub rows : length form.starts ≡ 1024
@@ -57,12 +57,12 @@ abbrev pub LeastRunsAreAForm : Type 0
 LeastRunsAreAForm =
     (t : ℕ) (values : List ℤ) → IsLaneWidth t → length values ≡ 1024 → AreInRange t values → IsRunForm (least_runs t values)
 
--- the least form of 1024 values stands for them
+-- the least form of 1024 values represents them
 abbrev pub LeastRunsGiveBack : Type 0
 LeastRunsGiveBack =
     (t : ℕ) (values : List ℤ) → length values ≡ 1024 → run_values (least_runs t values) ≡ values
 
--- of all forms that stand for the same values the least one has the fewest runs
+-- of all forms that represent the same values the least one has the fewest runs
 abbrev pub LeastRunsAreFewest : Type 0
 LeastRunsAreFewest =
     (form : RunForm) → IsRunForm form → length (least_runs form.lane_width (run_values form)).values ≤ length form.values

@@ -76,7 +76,7 @@ fn place_of(dictionary: &[i64], value: i64) -> usize
     }
 }
 
-/// For each mix of bits a guess where the values that have it stand in the dictionary. A guess need not be right: it is tested.
+/// For each mix of bits a guess where the values that have it are in the dictionary. A guess need not be right: it is tested.
 fn guesses_for(dictionary: &[i64]) -> [u16; 4096]
     requires { length dictionary.now ≤ 1024 }
 {

@@ -87,7 +87,7 @@ pub(crate) fn count_distinct_to(values: &[i64; 1024], limit: usize) -> Option<us
     Some(count_distinct(values))
 }
 
-/// The bytes of a payload with so many values, at most 1024, and codes of so many bits, at most 16.
+/// The bytes of a payload with a number of values, at most 1024, and codes of a number of bits, at most 16.
 pub(crate) fn payload_bytes(lane_width: usize, count: usize, width: usize) -> u16
     requires lane_width { IsLaneWidth lane_width }
     requires count { count ≤ 1024 }

@@ -21,7 +21,7 @@ use transpose_order::place;
 
 /// A vector of 1024 signed integers of 8, 16, 32 or 64 bits as a dictionary of ascending values, and the place of each row's
 /// value in it, packed in lanes of 16 bits whatever the lane width is. It is in the manner of FastLanes (VLDB 2023), of its
-/// section on light-weight encodings; the order of rows and the payload are our own. The width of a code is told by how many
+/// section on light-weight encodings; the order of rows and the payload are our own. The width of a code is known from how many
 /// words there are.
 #[derive(Drop)]
 pub struct Dict {
@@ -120,7 +120,7 @@ impl Dict {
         requires codes { AreCodesBelow width codes (length values.values) }
         ensures { result ≡ record { lane_width = values.lane_width; width = width; values = values.values; codes = codes } }
     {
-        // What the words' numbers and the values are below is in the contracts of their calls; the width is told by the words.
+        // What the words' numbers and the values are below is in the contracts of their calls; the width is known from the words.
         let _ = (width, codes.len());
         let _ = values.lane_width();
         Dict { values, codes }
@@ -278,7 +278,7 @@ pub fn least_dict_is_a_form()
     ensures { LeastDictIsAForm }
 {}
 
-/// The law that the least form of 1024 values stands for them.
+/// The law that the least form of 1024 values represents them.
 pub fn least_dict_gives_back()
     ensures { LeastDictGivesBack }
 {}

@@ -28,7 +28,7 @@ fn changes_at_place(numbers: &[u64; 1024], place: usize) -> usize
     count
 }
 
-/// Whether at least `least` of the rows after row 0 differ from the row before. It stops where so many do.
+/// Whether at least `least` of the rows after row 0 differ from the row before. It stops when that many do.
 pub(crate) fn changes_reach(numbers: &[u64; 1024], least: usize) -> bool
     ensures { IsTrue result ↔ (least ≤ count_below (λ i. changes_at (λ n. pos (by_place numbers.now n)) (suc i)) 1023) }
 {

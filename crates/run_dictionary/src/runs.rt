@@ -207,7 +207,7 @@ pub fn least_runs_are_a_form()
     ensures { LeastRunsAreAForm }
 {}
 
-/// The law that the least form of 1024 values stands for them.
+/// The law that the least form of 1024 values represents them.
 pub fn least_runs_give_back()
     ensures { LeastRunsGiveBack }
 {}

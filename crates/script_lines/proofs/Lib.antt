@@ -1,6 +1,5 @@
 pub mod ColumnLaws
 pub mod Cuts
-pub mod Numerals
 pub mod Printable
 pub mod RowLaws
 pub mod Spellings

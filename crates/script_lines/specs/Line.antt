@@ -194,6 +194,6 @@ keeps verbs.Open = true
 keeps verbs.Query = true
 keeps verb = false
 
--- a line of which memory may be taken to read it: it is printable, and it begins with table, append, insert, delete where, open or query and a space
+-- a line for which memory may be taken to read it: it is printable, and it begins with table, append, insert, delete where, open or query and a space
 abbrev pub MayGrow : List ℕ → Type 0
 MayGrow line = IsTrue (list_all is_printable line) × IsSomeAnd (leading line) (λ led. IsTrue (keeps led.0))

@@ -2,7 +2,8 @@
 use Rattle.std.specs.Prelude.{◌≡◌, ◌⊎◌, ◌↔◌, ℕ, List, [], ◌∷◌, ◌++◌, codes, Option, Some, None, IsTrue, ℤ, pos, neg_ℤ}
 use Rattle.std.specs.Str.Parse.{digits_value}
 use Rattle.table_model.specs.State.{Cells, Batch}
-use Rattle.script_lines.specs.Word.{is_numeral, value_digits, rows_of}
+use Rattle.table_model.specs.Numeral.{is_numeral, value_digits}
+use Rattle.script_lines.specs.Word.{rows_of}
 
 -- a number: 1 to value_digits digits, in base ten
 abbrev pub SpellsNumber : List ℕ → ℕ → Type 0

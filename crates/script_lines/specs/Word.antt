@@ -1,11 +1,10 @@
 -- Words of a line: texts cut at a byte, numbers, names of batches, values and rows.
-use Rattle.std.specs.Prelude.{ℕ, ◌==◌, Bool, cond, ◌&&◌, nat_le, List, [], ◌∷◌, length, codes, Option, Some, None, option_map, option_and_then, Result, Ok, Err, ℤ, pos, neg_ℤ}
-use Rattle.std.specs.List.{list_all}
-use Rattle.std.specs.Char.{is_ascii_digit}
+use Rattle.std.specs.Prelude.{ℕ, ◌==◌, cond, nat_le, List, [], ◌∷◌, codes, Option, Some, None, option_map, option_and_then, Result, Ok, Err, ℤ, pos, neg_ℤ}
 use Rattle.std.specs.Str.{bytes_eq}
 use Rattle.std.specs.Str.Parse.{digits_value}
 use Rattle.hex.specs.Hex.{decode_of}
 use Rattle.hex.specs.declared.error.FromHexError.{FromHexError}
+use Rattle.table_model.specs.Numeral.{is_numeral, magnitude_of}
 use Rattle.table_model.specs.State.{Cells, Batch}
 use Rattle.table_model.specs.declared.names.BatchName.{BatchName}
 use Rattle.segment_core.specs.declared.coding.Coding.{Coding}
@@ -20,7 +19,7 @@ o >>= f = option_and_then f o
 abbrev pub longer : ℕ → List ℕ × List ℕ → List ℕ × List ℕ
 longer c parts = (c ∷ parts.0, parts.1)
 
--- what stands before the first such byte, and what stands after it
+-- what comes before the first such byte, and what comes after it
 abbrev pub cut : ℕ → List ℕ → Option (List ℕ × List ℕ)
 cut separator [] = None
 cut separator (c ∷ cs) = cond (c == separator) (Some ([], cs)) (option_map (longer c) (cut separator cs))
@@ -45,11 +44,7 @@ abbrev pub each_of : {X Y : Type 0} → (X → Option Y) → List X → Option (
 each_of f [] = Some []
 each_of f (x ∷ xs) = f x >>= (λ y. option_map (λ ys. y ∷ ys) (each_of f xs))
 
--- 1 to so many digits
-unfoldable pub is_numeral : ℕ → List ℕ → Bool
-is_numeral digits text = nat_le 1 (length text) && (nat_le (length text) digits && list_all is_ascii_digit text)
-
--- the number that 1 to so many digits write, where it is at most the limit
+-- the number that 1 to a number of digits write, where it is at most the limit
 unfoldable pub number_of : ℕ → ℕ → List ℕ → Option ℕ
 number_of digits limit text = cond (is_numeral digits text) (cond (nat_le (digits_value 10 text) limit) (Some (digits_value 10 text)) None) None
 
@@ -76,14 +71,6 @@ name_of text = do
   origin ← small_number parts.0
   number ← small_number parts.1
   Some (record { origin = record { 0 = origin }; number = record { 0 = number } })
-
--- how many digits a value is written with at most, its sign apart
-abbrev pub value_digits : ℕ
-value_digits = 30
-
--- 1 to value_digits digits
-unfoldable pub magnitude_of : List ℕ → Option ℕ
-magnitude_of text = cond (is_numeral value_digits text) (Some (digits_value 10 text)) None
 
 -- a number whose sign, if it has one, was taken off
 abbrev pub signed_of : List ℕ → Option (List ℕ) → Option ℤ

@@ -3,7 +3,7 @@
 use crate::line::replicas;
 use crate::words::{batch_name, coding, ordinal, small_number};
 
-/// What a part of a line after its verb stands for.
+/// What a part of a line after its verb represents.
 #[derive(Clone, Copy, Debug, PartialEq, Eq)]
 pub enum Operand {
     /// How many replicas a table has.

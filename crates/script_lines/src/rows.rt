@@ -4,15 +4,14 @@ ghost use Rattle.script_lines.specs.Reading.{ReadsPart};
 ghost use Rattle.script_lines.specs.Word.{without, cells_of, opened_cells, rows_of};
 
 use crate::words::{cell, cut, without};
-use row_batch::RowBatch;
 use std::alloc::Global;
-use table_model::Refusal;
+use table_model::{Refusal, Rows};
 
 /// The rows that the text writes: at least one.
-pub fn rows(alloc: Global, text: &str) -> Result<RowBatch, Refusal>
+pub fn rows(alloc: Global, text: &str) -> Result<Rows, Refusal>
     ensures { ReadsPart (λ rows. rows) result (rows_of text.now) }
 {
-    let mut rows = RowBatch::new(alloc);
+    let mut rows = Rows::new(alloc);
     let mut cells = Vec::new(alloc);
     let mut rest = text;
     while let Some((row, after)) = cut(rest, ')') {

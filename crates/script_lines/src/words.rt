@@ -1,25 +1,20 @@
 //! Words of a line: numbers, names of batches, values and rows.
-ghost use Rattle.std.specs.Prelude.{◌≡◌, ◌<◌, ◌≤◌, ◌^◌, ◌%◌, length, option_map, IfSome, Err, true, pos, ◌≤ℤ◌};
-ghost use Rattle.std.specs.List.{list_all};
-ghost use Rattle.std.specs.Char.{is_ascii_digit};
-ghost use Rattle.std.specs.Str.Parse.{digits_value};
+ghost use Rattle.std.specs.Prelude.{◌≡◌, ◌<◌, ◌≤◌, ◌%◌, length, option_map, IfSome, Err};
+ghost use Rattle.table_model.specs.Numeral.{value_digits};
 ghost use Rattle.script_lines.specs.Reading.{ReadsPart};
-ghost use Rattle.script_lines.specs.Word.{cut, without, is_numeral, number_of, small_number, ordinal_of, name_of, value_digits, magnitude_of, integer_of, cell_of, coding_of, some_text, file_of};
+ghost use Rattle.script_lines.specs.Word.{cut, without, number_of, small_number, ordinal_of, name_of, integer_of, cell_of, coding_of, some_text, file_of};
 
 use cluster_history::FileBytes;
 use hex::FromHexError;
 use segment_core::Coding;
 use std::alloc::Global;
-use table_model::{BatchName, Number, Origin, Refusal};
+use table_model::{BatchName, Number, Origin, Refusal, digits_value, is_numeral, magnitude};
 
 /// How many digits a number of 32 bits is written with at most.
 pub const NUMBER_DIGITS: usize = 10;
 
 /// How many digits an ordinal is written with at most.
 const ORDINAL_DIGITS: usize = 5;
-
-/// The most digits that a value is written with, not counting its sign.
-const VALUE_DIGITS: usize = 30;
 
 /// What is before the first such character and what is after it, if there is one.
 pub fn cut(text: &str, separator: char) -> Option<(&str, &str)>
@@ -39,37 +34,8 @@ pub fn without(text: &str, first: char) -> Option<&str>
     text.strip_prefix(first)
 }
 
-/// Whether the text is 1 digit to this many.
-#[tactic(auto, unfolding(crate::specs::Word::is_numeral))]
-fn is_numeral(text: &[u8], digits: usize) -> bool
-    ensures { result ≡ is_numeral digits text.now }
-{
-    1 <= text.len() && text.len() <= digits && are_digits(text)
-}
-
-/// Whether each byte is a digit.
-fn are_digits(text: &[u8]) -> bool
-    ensures { result ≡ list_all is_ascii_digit text.now }
-{
-    text.iter().all(|c| c.is_ascii_digit())
-}
-
-/// The number that at most 30 digits write.
-fn digits_value(text: &[u8]) -> u128
-    requires digits { list_all is_ascii_digit text.now ≡ true }
-    requires short { length text.now ≤ value_digits }
-    ensures value { result ≡ digits_value 10 text.now }
-    ensures bound { result < 10 ^ value_digits }
-{
-    let mut value: u128 = 0;
-    for digit in text {
-        value = value * 10 + u128::from(*digit - b'0');
-    }
-    value
-}
-
 /// The number that 1 to this many digits write, if it is at most the limit.
-#[tactic(auto, unfolding(crate::specs::Word::number_of, crate::specs::Word::is_numeral))]
+#[tactic(auto, unfolding(crate::specs::Word::number_of, table_model::specs::Numeral::is_numeral))]
 pub fn number(text: &str, digits: usize, limit: u128) -> Option<u128>
     requires { digits ≤ value_digits }
     ensures value { result ≡ number_of digits limit text.now }
@@ -117,26 +83,12 @@ fn integer(text: &str) -> Option<i128>
     ensures { result ≡ integer_of text.now }
 {
     match without(text, '-') {
-        None => magnitude(text),
+        None => magnitude(text.as_bytes()),
         Some(digits) => {
-            let value = magnitude(digits)?;
+            let value = magnitude(digits.as_bytes())?;
             Some(-value)
         }
     }
-}
-
-/// A number of 1 to 30 digits.
-#[tactic(auto, unfolding(crate::specs::Word::magnitude_of, crate::specs::Word::is_numeral))]
-fn magnitude(text: &str) -> Option<i128>
-    ensures value { result ≡ option_map pos (magnitude_of text.now) }
-    ensures bound { IfSome result (λ z. z ≤ℤ pos (10 ^ value_digits)) }
-{
-    let text = text.as_bytes();
-    if !is_numeral(text, VALUE_DIGITS) {
-        return None;
-    }
-    let value = digits_value(text);
-    Some(value as i128)
 }
 
 /// A value: NULL, or a whole number.

@@ -60,7 +60,7 @@ least_form ByDeltas t values = Delta (least_delta t values)
 least_form ByRuns t values = Runs (least_runs t values)
 least_form ByDictionary t values = Dict (least_dict t values)
 
--- the least form that a coding has of values stands for them
+-- the least form that a coding has of values represents them
 abbrev pub LeastFormGivesBack : Type 0
 LeastFormGivesBack =
     (coding : Coding) (t : ℕ) (values : List ℤ) → IsLaneWidth t → length values ≡ 1024 → AreInRange t values → values_of (least_form coding t values) ≡ values

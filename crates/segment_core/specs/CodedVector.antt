@@ -75,7 +75,7 @@ canonical_of v = canonical_vector (lane_width_of v.coded) (cells_of v)
 abbrev pub recoded_vector : Coding → VectorForm → VectorForm
 recoded_vector coding v = record v { coded = least_form coding (lane_width_of v.coded) (filled (cells_of v)) }
 
--- a vector that can stand for another: it covers as many rows at the same lane width, and its cells are the same
+-- a vector that can replace another: it covers as many rows at the same lane width, and its cells are the same
 pub record StandsFor (made v : VectorForm) : Type 0 where
   pub form : IsVector made
   pub rows : made.rows ≡ v.rows

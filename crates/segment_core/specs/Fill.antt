@@ -28,11 +28,11 @@ filled cells = rows_of (filled_at cells)
 abbrev pub cell_or_null : Bool → ℤ → Option ℤ
 cell_or_null null value = cond null None (Some value)
 
--- the cell at row n where a mask has the rows that are null, and values stand at the others
+-- the cell at row n where a mask has the rows that are null, and values are at the others
 abbrev pub cell_under : List Bool → List ℤ → ℕ → Option ℤ
 cell_under nulls values n = cell_or_null (has nulls n) (value_at values n)
 
--- the cells of so many rows where a mask has those that are null, and values stand at the others
+-- the cells of a number of rows where a mask has those that are null, and values are at the others
 unfoldable pub cells_under : ℕ → List Bool → List ℤ → List (Option ℤ)
 cells_under rows nulls values = map (cell_under nulls values) (range_with_len 0 rows)
 
@@ -40,7 +40,7 @@ cells_under rows nulls values = map (cell_under nulls values) (range_with_len 0 
 abbrev pub AreCellsInRange : ℕ → List (Option ℤ) → Type 0
 AreCellsInRange t cells = (n : ℕ) (value : ℤ) → n < length cells → slice_index_or cells n None ≡ Some value → FitsSigned (integer_width t) value
 
--- so many cells, each of which has the same value
+-- a number of cells, each of which has the same value
 pub record AreSame (rows : ℕ) (value : ℤ) (cells : List (Option ℤ)) : Type 0 where
   pub count : length cells ≡ rows
   pub each : (n : ℕ) → n < rows → slice_index_or cells n None ≡ Some value

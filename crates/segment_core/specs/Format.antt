@@ -13,7 +13,7 @@ use Rattle.table_model.specs.declared.refusal.Refusal.TheVariants.{Truncated, Tr
 use Rattle.bit_interleave.specs.Arithmetic.{integer_width}
 
 -- A format of values: the bytes of a value, whether a value has bytes, and, given how many bytes the whole input has, the value
--- at the front of what is left of it with what stands after that, or the first fault.
+-- at the front of what is left of it with what comes after that, or the first fault.
 pub record Format (A : Type 0) : Type 0 where
   pub spell : A → List ℕ
   pub valid : A → Bool
@@ -27,13 +27,13 @@ is_byte b = nat_lt b 256
 abbrev pub AreBytes : List ℕ → Type 0
 AreBytes bytes = list_all is_byte bytes ≡ true
 
--- What is read is spelled so and is valid, and what is valid and spelled so is read, whatever stands after it.
+-- What is read is spelled so and is valid, and what is valid and spelled so is read, whatever comes after it.
 pub record IsLawful {A : Type 0} (f : Format A) : Type 0 where
   pub takes : (total : ℕ) (bytes : List ℕ) (x : A) (rest : List ℕ) → AreBytes bytes → f.read total bytes ≡ Ok (x, rest)
       → (bytes ≡ f.spell x ++ rest) × (f.valid x ≡ true)
   pub again : (total : ℕ) (x : A) (rest : List ℕ) → f.valid x ≡ true → f.read total (f.spell x ++ rest) ≡ Ok (x, rest)
 
--- so many bytes as they stand
+-- a number of bytes as they are
 abbrev pub raw : ℕ → Format (List ℕ)
 raw n = record {
   spell = λ bytes. bytes;
@@ -51,7 +51,7 @@ abbrev pub valid_some : {A : Type 0} → Format A → Option A → Bool
 valid_some f None = false
 valid_some f (Some x) = f.valid x
 
--- a format's values seen as others; those that stand for none have no bytes
+-- a format's values seen as others; those that represent none have no bytes
 abbrev pub seen : {A B : Type 0} → Format A → (A → B) → (B → Option A) → Format B
 seen f to from = record {
   spell = λ y. spell_some f (from y);
@@ -84,7 +84,7 @@ optional false f = record {
   read = λ total bytes. Ok (None, bytes);
 }
 
--- so many items read one after another, of which each format may depend on the items before it
+-- a number of items read one after another, of which each format may depend on the items before it
 unfoldable pub read_all : {A : Type 0} → (List A → Format A) → ℕ → List A → ℕ → List ℕ → Result (List A × List ℕ) Refusal
 read_all item zero front total bytes = Ok (front, bytes)
 read_all item (suc n) front total bytes = (item front).read total bytes >>= λ x. read_all item n (front ++ x.0 ∷ []) total x.1
@@ -99,7 +99,7 @@ unfoldable pub valid_all : {A : Type 0} → (List A → Format A) → List A →
 valid_all item front [] = true
 valid_all item front (x ∷ xs) = (item front).valid x && valid_all item (front ++ x ∷ []) xs
 
--- so many items, of which each format may depend on the items before it
+-- a number of items, of which each format may depend on the items before it
 abbrev pub all : {A : Type 0} → ℕ → (List A → Format A) → Format (List A)
 all n item = record {
   spell = spell_all item [];
@@ -107,16 +107,16 @@ all n item = record {
   read = read_all item n [];
 }
 
--- an unsigned number of so many bytes, the lowest first
+-- an unsigned number of a number of bytes, the lowest first
 abbrev pub number : ℕ → Format ℕ
 number n = seen (raw n) (little_number n) (λ x. cond (nat_lt x (256 ^ n)) (Some (little_bytes n x)) None)
 
--- whether a number is in the range of so many bits, signed
+-- whether a number is in the range of a number of bits, signed
 abbrev pub is_in_bits : ℕ → ℤ → Bool
 is_in_bits t (pos n) = nat_lt n (2 ^ (t - 1))
 is_in_bits t (negsuc n) = nat_lt n (2 ^ (t - 1))
 
--- a signed number of so many bits in two's complement, the lowest byte first
+-- a signed number of a number of bits in two's complement, the lowest byte first
 abbrev pub signed : ℕ → Format ℤ
 signed t =
     seen (number (t / 8)) (λ n. int_wrap (integer_width t) (pos n)) (λ z. cond (is_in_bits t z) (Some (cast_unsigned (integer_width t) z)) None)
@@ -125,14 +125,14 @@ signed t =
 abbrev pub constant : List ℕ → Refusal → Format (List ℕ)
 constant text fault = checked (raw (length text)) (same_text text) (λ _. fault)
 
--- a value that takes all bytes, so that nothing stands after it
+-- a value that takes all bytes, so that nothing comes after it
 abbrev pub read_whole : {A : Type 0} → Format A → List ℕ → Result A Refusal
 read_whole f bytes =
     f.read (length bytes) bytes >>= λ x. cond (length x.1 == 0) (Ok x.0) (Err (TrailingBytes (length bytes - length x.1)))
 
 -- ---- writing
 
--- A call that writes bytes to a writer, which had counted so many failures before and has counted so many after: all are written
+-- A call that writes bytes to a writer, which had counted a number of failures before and has counted another after: all are written
 -- and nothing failed, or the refusal is WriteFault, there is one more failure, and a front of the bytes was written.
 abbrev pub Writes : Result (Unit {0}) Refusal → Option (List ℕ) → Option (List ℕ) → ℕ → ℕ → List ℕ → Type 0
 Writes (Ok done) old new before after bytes = Appends old new bytes × (after ≡ before)

@@ -15,11 +15,11 @@ pub record SegmentForm : Type 0 where
   pub rows : Batch
   pub forms : List (List VectorForm)
 
--- how many vectors so many rows take
+-- how many vectors a number of rows take
 abbrev pub vector_count : ℕ → ℕ
 vector_count rows = (rows + 1023) / 1024
 
--- how many rows vector k covers, of so many
+-- how many rows vector k covers, of a number of rows
 abbrev pub rows_in : ℕ → ℕ → ℕ
 rows_in rows k = min 1024 (rows - 1024 * k)
 
@@ -36,11 +36,11 @@ column_cell vectors ordinal = cell_of (slice_get vectors (ordinal / 1024)) (ordi
 abbrev pub row_of : List (List VectorForm) → ℕ → Cells
 row_of forms ordinal = map (λ vectors. column_cell vectors ordinal) forms
 
--- the rows that the vectors of all columns stand for
+-- the rows that the vectors of all columns represent
 unfoldable pub batch_of : ℕ → List (List VectorForm) → Batch
 batch_of rows forms = map (row_of forms) (range_with_len 0 rows)
 
--- a column of so many rows: vectors of one lane width, all full but perhaps the last
+-- a column of a number of rows: vectors of one lane width, all full but perhaps the last
 pub record IsColumn (rows : ℕ) (vectors : List VectorForm) : Type 0 where
   pub each : (k : ℕ) (v : VectorForm) → slice_get vectors k ≡ Some v → IsVector v
   pub count : length vectors ≡ vector_count rows

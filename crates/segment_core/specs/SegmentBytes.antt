@@ -7,19 +7,19 @@ use Rattle.segment_core.specs.Segment.{SegmentForm, vector_count, rows_in, width
 use Rattle.segment_core.specs.Format.{Format, IsLawful, all}
 use Rattle.segment_core.specs.VectorBytes.{vector}
 
--- the vectors of a column of so many rows at lanes of t bits
+-- the vectors of a column of a number of rows at lanes of t bits
 unfoldable pub column : ℕ → ℕ → Format (List VectorForm)
 column t rows = all (vector_count rows) (λ front. vector t (rows_in rows (length front)))
 
--- the columns of so many rows at these lane widths
+-- the columns of a number of rows at these lane widths
 unfoldable pub columns : List ℕ → ℕ → Format (List (List VectorForm))
 columns widths rows = all (length widths) (λ front. column (slice_index_or widths (length front) 0) rows)
 
--- the columns of a batch of so many rows of a table
+-- the columns of a batch of a number of rows of a table
 abbrev pub batch_columns : Table → ℕ → Format (List (List VectorForm))
 batch_columns table rows = columns (widths_of table) rows
 
--- columns, and what stands after them
+-- columns, and what comes after them
 abbrev pub columns_then : List (List VectorForm) → List ℕ → Result (List (List VectorForm) × List ℕ) Refusal
 columns_then forms rest = Ok (forms, rest)
 
@@ -27,7 +27,7 @@ columns_then forms rest = Ok (forms, rest)
 unfoldable pub segment_bytes : SegmentForm → List ℕ
 segment_bytes s = (columns (widths_in s.forms) (length s.rows)).spell s.forms
 
--- what is read of a batch's columns is spelled so and valid, and what is valid and spelled so is read, whatever stands after it
+-- what is read of a batch's columns is spelled so and valid, and what is valid and spelled so is read, whatever comes after it
 abbrev pub ColumnsComeBack : Type 0
 ColumnsComeBack = (table : Table) (rows : ℕ) → IsLawful (batch_columns table rows)
 

@@ -71,7 +71,7 @@ is_width t ByDeltas width = nat_le width t
 is_width t ByRuns width = width == 1
 is_width t ByDictionary width = nat_le width 16
 
--- whether a coding may have so many runs or values of a dictionary
+-- whether a coding may have that number of runs or values of a dictionary
 abbrev pub is_count : Coding → ℕ → Bool
 is_count ByFrame count = count == 0
 is_count ByDeltas count = count == 0
@@ -95,7 +95,7 @@ unfoldable pub deltas : ℕ → ℕ → Format DeltaForm
 deltas t width =
     seen (before (signed t) (λ _. before (all (1024 / t) (λ _. signed t)) (λ _. words t width))) (λ p. record { lane_width = t; width = width; least = p.0; bases = p.1.0; words = p.1.1 }) (λ c. cond (c.lane_width == t && c.width == width) (Some (c.least, (c.bases, c.words))) None)
 
--- the rows after row 0 where so many runs start; the count stands in the two bytes before
+-- the rows after row 0 at which a number of runs start; the count is in the two bytes before
 unfoldable pub starts : ℕ → Format (List Bool)
 starts count = checked (checked mask (λ rows. not (has rows 0)) BadMask) (λ rows. run_of rows 1023 + 1 == count) (λ at. BadCount (at - 2))
 
@@ -108,7 +108,7 @@ runs t count =
 abbrev pub is_above : List ℤ → ℤ → Bool
 is_above front value = length front == 0 || int_lt (value_at front (length front - 1)) value
 
--- so many values in ascending order
+-- a number of values in ascending order
 unfoldable pub dictionary : ℕ → ℕ → Format (List ℤ)
 dictionary t count = all count (λ front. checked (signed t) (is_above front) BadDictionary)
 
@@ -177,7 +177,7 @@ header_of (Dict c) = record { coding = ByDictionary; width = c.width; count = le
 unfoldable pub coded : ℕ → Format Coded
 coded t = seen (before (header t) (payload t)) (λ p. p.1) (λ c. Some (header_of c, c))
 
--- a vector of so many rows: its nulls and its coded values
+-- a vector of a number of rows: its nulls and its coded values
 unfoldable pub vector : ℕ → ℕ → Format VectorForm
 vector t rows =
     seen (before (nulls rows) (λ _. coded t)) (λ p. record { rows = rows; nulls = p.0; coded = p.1 }) (λ v. cond (v.rows == rows) (Some (v.nulls, v.coded)) None)

@@ -6,12 +6,10 @@ ghost use Rattle.transpose_order.specs.Place.{IsLaneWidth};
 ghost use Rattle.segment_core.specs.Coded.{lane_width_of, values_of, coding_of};
 ghost use Rattle.segment_core.specs.CodedVector.{is_null, vector_cell, cells_of, null_rows, some_rows, canonical_vector, canonical_of, recoded_vector, IsVector, AreNulls, StandsFor};
 ghost use Rattle.segment_core.specs.Fill.{cell_or_null, filled, cells_under, AreCellsInRange, AreSame};
-ghost use Rattle.segment_core.specs.Segment.{column_cells};
 ghost use Rattle.bit_interleave.specs.Arithmetic.{integer_width};
 ghost use Rattle.bit_interleave.specs.Range.{AreInRange};
 
 use crate::boxed::Boxed;
-use crate::build::write_cells;
 use crate::choice::choose;
 use crate::coded::Coded;
 use crate::coding::Coding;
@@ -23,19 +21,18 @@ use frame_delta::{Delta, For};
 use run_dictionary::{Dict, Runs};
 use std::alloc::{AllocError, Global};
 use std::marker::Model;
-use table_model::Row;
 use transpose_order::Mask;
 
 /// Up to 1024 rows of a column: how many they are, which of them are null, and their values, coded. At a row that is null,
-/// and past the rows, any value may stand.
+/// and past the rows, any value may be.
 #[derive(Drop)]
 pub struct CodedVector {
     cover: Cover,
     coded: Coded,
 }
 
-/// A vector takes 96 bytes at most beside its words, its bases, its values and its masks: 80 by frame of reference, 64 by runs,
-/// 96 by a dictionary, and 96 by deltas beside the 8 of their least delta.
+/// A vector takes 96 bytes at most in addition to its words, its bases, its values and its masks: 80 by frame of reference, 64 by runs,
+/// 96 by a dictionary, and 96 by deltas in addition to the 8 of their least delta.
 const _: () = prove!(size_of::<CodedVector>() == 32);
 
 const _: () = prove!(size_of::<CodedVector>() + size_of::<For>() == 80);
@@ -148,7 +145,7 @@ impl CodedVector {
         self.fill_decoded(values);
     }
 
-    /// The canonical vector of 1 to 1024 rows, of which a mask has those that are null, and values stand at the others, in the
+    /// The canonical vector of 1 to 1024 rows, of which a mask has those that are null, and values are at the others, in the
     /// range of `lane_width` bits, signed, which are 8, 16, 32 or 64. Where memory is refused, an `AllocError`.
     pub(crate) fn canonical(
         alloc: Global,
@@ -219,28 +216,6 @@ impl CodedVector {
         are_same_cells(rows, &nulls, &values, &other_nulls, &others)
     }
 
-    /// Whether the vector's cells are those of a column of some rows. It takes no memory.
-    pub fn has_cells(&self, rows: &[Row], column: usize) -> bool
-        requires { (n : ℕ) → n < length rows.now → column < length (slice_index_or rows.now n []) }
-        ensures { IsTrue result ↔ (cells_of self.now ≡ column_cells rows.now column) }
-    {
-        if self.rows() != rows.len() {
-            return false;
-        }
-        let mut cells = [None; 1024];
-        self.has_part(rows, column, &mut cells[..rows.len()])
-    }
-
-    /// Whether the vector's cells are those of a column of some rows, which are written into `cells`.
-    fn has_part(&self, rows: &[Row], column: usize, cells: &mut [Option<i128>]) -> bool
-        requires room { length cells.old ≡ length rows.now }
-        requires there { (n : ℕ) → n < length rows.now → column < length (slice_index_or rows.now n []) }
-        ensures { IsTrue result ↔ (cells_of self.now ≡ column_cells rows.now column) }
-    {
-        write_cells(rows, column, cells);
-        self.has_these(cells)
-    }
-
     /// Whether the vector's cells are these. It takes no memory.
     pub(crate) fn has_these(&self, cells: &[Option<i128>]) -> bool
         ensures { IsTrue result ↔ (cells_of self.now ≡ cells.now) }
@@ -299,7 +274,7 @@ fn some_rows(alloc: Global, mask: &Mask) -> Result<Option<Boxed<Mask>>, AllocErr
     Ok(Some(Boxed::new(alloc, *mask)?))
 }
 
-/// Whether the cells of so many rows, 1024 at most, are the same under two masks of nulls and among two vectors of values.
+/// Whether the cells of a number of rows, 1024 at most, are the same under two masks of nulls and among two vectors of values.
 fn are_same_cells(
     rows: usize,
     nulls: &Mask,

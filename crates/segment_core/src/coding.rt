@@ -1,4 +1,4 @@
-//! The names of the four codings, and the numbers that stand for them in files.
+//! The names of the four codings, and the numbers that represent them in files.
 ghost use Rattle.std.specs.Prelude.{◌≡◌};
 ghost use Rattle.segment_core.specs.VectorBytes.{tag_of, coding_tagged};
 
@@ -16,10 +16,10 @@ pub enum Coding {
 }
 
 impl Coding {
-    /// The greatest number that stands for a coding.
+    /// The greatest number that represents a coding.
     pub(crate) const GREATEST_TAG: u64 = 3;
 
-    /// The number that stands for the coding, from 0 to 3.
+    /// The number that represents the coding, from 0 to 3.
     pub(crate) fn tag(self) -> u64
         ensures { result ≡ tag_of self }
     {
@@ -31,7 +31,7 @@ impl Coding {
         }
     }
 
-    /// The coding for which this number, from 0 to 3, stands.
+    /// The coding with this number, from 0 to 3.
     pub(crate) fn tagged(tag: u64) -> Coding
         ensures { result ≡ coding_tagged tag }
     {

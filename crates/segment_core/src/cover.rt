@@ -15,7 +15,7 @@ pub(crate) struct Cover {
     kept: Kept,
 }
 
-/// The number of rows lies beside the tag, where it takes no bytes that the tag doesn't take.
+/// The number of rows lies next to the tag, where it takes no bytes that the tag doesn't take.
 #[derive(Drop)]
 enum Kept {
     Full(u16),
@@ -33,7 +33,7 @@ impl Model for Cover {
 }
 
 impl Cover {
-    /// So many rows, and a mask of those that are null, if there is one.
+    /// A number of rows, and a mask of those that are null, if there is one.
     pub(crate) fn new(rows: u16, nulls: Option<Boxed<Mask>>) -> Cover
         ensures { result ≡ record { rows = rows; nulls = nulls } }
     {

@@ -65,7 +65,7 @@ fn gather(cells: &[Option<i128>], values: &mut [i64; 1024]) -> Mask
     nulls
 }
 
-/// Puts a cell into the mask of nulls, which hasn't its row yet, or into the values.
+/// Puts a cell into the mask of nulls, which does not have its row yet, or into the values.
 fn put_cell(cell: Option<i128>, row: usize, nulls: &mut Mask, values: &mut [i64; 1024])
     requires row { row < 1024 }
     requires fits { IfSome cell (λ value. FitsSigned w64 value) }

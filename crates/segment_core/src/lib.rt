@@ -1,7 +1,6 @@
 //! Segments: the rows of a batch, column by column, in coded vectors of up to 1024 values.
 #![tactic(auto)]
 
-mod batch;
 mod boxed;
 mod build;
 mod choice;

@@ -9,17 +9,15 @@ ghost use Rattle.segment_core.specs.SegmentBytes.{HasBytesIn};
 ghost use Rattle.segment_core.specs.Coded.{coding_of};
 ghost use Rattle.segment_core.specs.CodedVector.{VectorForm, StandsFor};
 
-use crate::batch;
-use crate::build::canonical_column;
+use crate::build::{canonical_columns, have_cells, have_length};
 use crate::coded_vector::CodedVector;
 use crate::coding::Coding;
 use crate::vectors::Vectors;
-use row_batch::RowBatch;
 use std::alloc::{AllocError, Global};
 use std::marker::Model;
-use table_model::{Refusal, Row, Schema};
+use table_model::{Refusal, Rows, Schema};
 
-/// The rows of a batch, column by column, in coded vectors of up to 1024 rows. Contracts see the rows, and beside them the
+/// The rows of a batch, column by column, in coded vectors of up to 1024 rows. Contracts see the rows, and with them the
 /// vectors. Whether it is known that each vector is the canonical one of its rows no contract sees.
 #[derive(Drop)]
 pub struct Segment {
@@ -39,7 +37,7 @@ impl Model for Segment {
 }
 
 impl Segment {
-    /// The segment of so many rows, 1 to 65,536, with these columns, 1 to 32. A column's vectors have one lane width and are
+    /// The segment of a number of rows, 1 to 65,536, with these columns, 1 to 32. A column's vectors have one lane width and are
     /// full but perhaps the last; each may have any form.
     pub(crate) fn from_columns(rows: usize, columns: Vec<Vectors>) -> Segment
         requires { IsSegment rows columns.items }
@@ -54,8 +52,8 @@ impl Segment {
         }
     }
 
-    /// The segment of a table's rows: each vector the canonical one of its cells. Where memory is refused, an `AllocError`.
-    pub fn build(alloc: Global, schema: &Schema, rows: &[Row]) -> Result<Segment, AllocError>
+    /// The segment of a table's rows: each vector is the canonical one of its cells. If memory is refused, an `AllocError`.
+    pub fn build(alloc: Global, schema: &Schema, rows: &Rows) -> Result<Segment, AllocError>
         requires { IsBatch schema.now rows.now }
         ensures value { IfOk result (λ s. s ≡ canonical_segment schema.now rows.now) }
         ensures widths { IfOk result (λ s. widths_in s.forms ≡ widths_of schema.now) }
@@ -69,27 +67,8 @@ impl Segment {
         })
     }
 
-    /// The segment of a table's rows, as `build` makes it, of rows that lie in a batch. Where memory is refused, an `AllocError`.
-    pub fn build_batch(
-        alloc: Global,
-        schema: &Schema,
-        rows: &RowBatch,
-    ) -> Result<Segment, AllocError>
-        requires { IsBatch schema.now rows.now }
-        ensures value { IfOk result (λ s. s ≡ canonical_segment schema.now rows.now) }
-        ensures widths { IfOk result (λ s. widths_in s.forms ≡ widths_of schema.now) }
-        ensures valid { IfOk result (λ s. HasBytesIn schema.now s) }
-    {
-        let columns = batch::canonical_columns(alloc, schema, rows)?;
-        Ok(Segment {
-            rows: rows.len() as u32,
-            known_canonical: true,
-            columns,
-        })
-    }
-
     /// Puts a vector into another coding, in the least form that the coding has of the filled vector; no row changes. Refused
-    /// are a vector that is not there (`NoSuchVector`), and then a want of memory; a refused call changes nothing.
+    /// are a vector that is not there (`NoSuchVector`), and then out of memory; a refused call changes nothing.
     pub fn recode(
         &mut self,
         alloc: Global,
@@ -133,7 +112,7 @@ impl Segment {
         }
     }
 
-    /// Puts a vector in the place of one that it can stand for.
+    /// Puts a vector in the place of one that it can represent.
     fn put(&mut self, column: usize, vector: usize, made: CodedVector)
         requires there { IsSome (vector_at self.old.forms column vector) }
         requires stands { IfSome (vector_at self.old.forms column vector) (λ v. StandsFor made v) }
@@ -225,7 +204,7 @@ impl Segment {
     }
 
     /// Whether the rows are these, which need not fit the columns. It takes no memory.
-    pub fn has_rows(&self, rows: &[Row]) -> bool
+    pub fn has_rows(&self, rows: &Rows) -> bool
         ensures { result ≡ same_rows self.now.rows rows.now }
     {
         if self.rows as usize != rows.len() {
@@ -235,19 +214,6 @@ impl Segment {
             return false;
         }
         have_cells(self.columns.as_slice(), rows)
-    }
-
-    /// Whether the rows are those of a batch, which need not fit the columns. It takes no memory.
-    pub fn has_batch(&self, rows: &RowBatch) -> bool
-        ensures { result ≡ same_rows self.now.rows rows.now }
-    {
-        if self.rows as usize != rows.len() {
-            return false;
-        }
-        if !batch::have_length(rows, self.columns.len()) {
-            return false;
-        }
-        batch::have_cells(self.columns.as_slice(), rows)
     }
 
     /// The same segment in memory of its own, codings included. Where memory is refused, an `AllocError`.
@@ -309,25 +275,6 @@ fn canonical_copies(alloc: Global, columns: &[Vectors]) -> Result<Vec<Vectors>, 
     Ok(made)
 }
 
-/// The canonical vectors of each column of a table's rows. Where memory is refused, an `AllocError`.
-fn canonical_columns(
-    alloc: Global,
-    schema: &Schema,
-    rows: &[Row],
-) -> Result<Vec<Vectors>, AllocError>
-    requires { IsBatch schema.now rows.now }
-    ensures forms { IfOk result (λ columns. columns.items ≡ canonical_forms (widths_of schema.now) rows.now) }
-    ensures table { IsTable schema.now }
-{
-    let columns = schema.column_list();
-    let mut made = Vec::with_capacity(alloc, columns.len())?;
-    for column in 0..columns.len() {
-        let lane_width = columns[column].column_type().bits();
-        made.push(canonical_column(alloc, lane_width, rows, column)?)?;
-    }
-    Ok(made)
-}
-
 /// Whether each vector of each column is the canonical one of its cells.
 fn are_canonical(columns: &[Vectors]) -> bool
     ensures { IsTrue result ↔ ((c : ℕ) (vectors : List VectorForm) → slice_get columns.now c ≡ Some vectors → AreCanonical vectors) }
@@ -348,33 +295,6 @@ fn have_same_cells(columns: &[Vectors], others: &[Vectors]) -> bool
 {
     for column in 0..columns.len() {
         if !columns[column].same_cells(&others[column]) {
-            return false;
-        }
-    }
-    true
-}
-
-/// Whether each row has so many cells.
-fn have_length(rows: &[Row], columns: usize) -> bool
-    ensures { IsTrue result ↔ ((n : ℕ) → n < length rows.now → length (slice_index_or rows.now n []) ≡ columns) }
-{
-    for row in 0..rows.len() {
-        if rows[row].cells().len() != columns {
-            return false;
-        }
-    }
-    true
-}
-
-/// Whether columns of as many rows have the cells of some rows, each of which has a cell for each column.
-fn have_cells(columns: &[Vectors], rows: &[Row]) -> bool
-    requires limit { length rows.now ≤ row_limit }
-    requires long { (c : ℕ) (vectors : List VectorForm) → slice_get columns.now c ≡ Some vectors → length vectors ≡ vector_count (length rows.now) }
-    requires there { (n : ℕ) → n < length rows.now → length (slice_index_or rows.now n []) ≡ length columns.now }
-    ensures { IsTrue result ↔ ((c : ℕ) (vectors : List VectorForm) → slice_get columns.now c ≡ Some vectors → HasCellsOf vectors (column_cells rows.now c)) }
-{
-    for column in 0..columns.len() {
-        if !columns[column].has_cells(rows, column) {
             return false;
         }
     }

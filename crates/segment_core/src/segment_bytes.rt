@@ -14,8 +14,8 @@ use crate::vectors::Vectors;
 use std::alloc::Global;
 use table_model::{Column, Refusal, Schema};
 
-/// The vectors of a column of so many rows, 1 to 65,536, of `lane_width` bits, 8, 16, 32 or 64, at the front of what is left of
-/// an input of `total` bytes, and what stands after them.
+/// The vectors of a column of a number of rows, 1 to 65,536, of `lane_width` bits, 8, 16, 32 or 64, at the front of what is left of
+/// an input of `total` bytes, and what comes after them.
 #[tactic(auto, unfolding(crate::specs::SegmentBytes::column))]
 fn read_column(
     alloc: Global,
@@ -42,7 +42,7 @@ fn read_column(
     Ok((Vectors::from_vec(vectors), rest))
 }
 
-/// The columns of so many rows, 1 to 65,536, at the front of what is left of an input of `total` bytes, and what stands after
+/// The columns of a number of rows, 1 to 65,536, at the front of what is left of an input of `total` bytes, and what comes after
 /// them.
 #[tactic(auto, unfolding(crate::specs::SegmentBytes::columns))]
 fn read_columns<'a>(
@@ -72,8 +72,8 @@ fn read_columns<'a>(
 }
 
 impl Segment {
-    /// The segment of a batch of so many rows, 1 to 65,536, in the columns of a schema, whose bytes begin at a place, which is not
-    /// past the end, and the place of what stands after it. Refused is the first fault of the bytes, at its place in them:
+    /// The segment of a batch of a number of rows, 1 to 65,536, in the columns of a schema, whose bytes begin at a place, which is not
+    /// past the end, and the place of what comes after it. Refused is the first fault of the bytes, at its place in them:
     /// `Truncated`, `BadCount`, `BadWidth`, `BadTag`, `BadMask`, `BadDictionary` or `BadCode`. It grows as it reads, so `Memory`
     /// may come in the place of any of them.
     pub fn read_bytes(
@@ -87,7 +87,7 @@ impl Segment {
         requires limit { rows ≤ row_limit }
         requires at { at ≤ length bytes.now }
 
-        // What is read is spelled so between the two places, of which the second is not past the end, and its rows are so many.
+        // What is read is spelled so between the two places, of which the second is not past the end, and its rows are as many.
         ensures found { IfOk result (λ x. slice_range bytes.now at x.1 ≡ segment_bytes x.0) }
         ensures next { IfOk result (λ x. x.1 ≤ length bytes.now) }
         ensures onward { IfOk result (λ x. at ≤ x.1) }
@@ -95,7 +95,7 @@ impl Segment {
         ensures widths { IfOk result (λ x. widths_in x.0.forms ≡ widths_of schema.now) }
         ensures valid { IfOk result (λ x. HasBytesIn schema.now x.0) }
 
-        // What is valid and spelled so is read, whatever stands after it.
+        // What is valid and spelled so is read, whatever comes after it.
         ensures only { (forms : List (List VectorForm)) (rest : List ℕ) → IsTrue ((batch_columns schema.now rows).valid forms)
             → drop at bytes.now ≡ (batch_columns schema.now rows).spell forms ++ rest
             → Reads (λ x. (x.0.forms, drop x.1 bytes.now)) result (columns_then forms rest) }

@@ -12,7 +12,7 @@ use crate::vectors::Vectors;
 use std::io::Write;
 use table_model::{Counted, Refusal};
 
-/// Writes the vectors of a column of so many rows.
+/// Writes the vectors of a column of a number of rows.
 #[tactic(auto, unfolding(crate::specs::SegmentBytes::column))]
 fn write_column<W: Write>(
     writer: &mut Counted<W>,
@@ -30,7 +30,7 @@ fn write_column<W: Write>(
     Ok(())
 }
 
-/// Writes the columns of so many rows.
+/// Writes the columns of a number of rows.
 #[tactic(auto, unfolding(crate::specs::SegmentBytes::columns))]
 fn write_columns<W: Write>(
     writer: &mut Counted<W>,

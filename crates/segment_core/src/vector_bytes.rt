@@ -23,7 +23,7 @@ use std::alloc::Global;
 use table_model::Refusal;
 use transpose_order::Mask;
 
-/// What stands before a payload: the coding, the width in bits, and how many runs or values of a dictionary there are.
+/// What comes before a payload: the coding, the width in bits, and how many runs or values of a dictionary there are.
 #[derive(Clone, Copy)]
 pub(crate) struct Header {
     pub coding: Coding,
@@ -51,7 +51,7 @@ fn read_mask(total: usize, bytes: &[u8]) -> Result<Mask, Refusal>
     Ok(Mask::from_le_bytes(&whole))
 }
 
-/// What stands after a mask.
+/// What comes after a mask.
 fn after_mask(bytes: &[u8]) -> &[u8]
     requires { 128 ≤ length bytes.now }
     ensures { drop 128 bytes.now ≡ result.now }
@@ -60,7 +60,7 @@ fn after_mask(bytes: &[u8]) -> &[u8]
     rest
 }
 
-/// Whether a mask has one of so many rows, at most 1024, and no row past them.
+/// Whether a mask has one of a number of rows, at most 1024, and no row past them.
 fn has_rows_within(nulls: &Mask, rows: usize) -> bool
     requires { rows ≤ 1024 }
     ensures { result ≡ is_null_mask rows nulls.now }
@@ -69,7 +69,7 @@ fn has_rows_within(nulls: &Mask, rows: usize) -> bool
     within > 0 && within == nulls.count_below(1024)
 }
 
-/// The null mask of so many rows at the front.
+/// The null mask of a number of rows at the front.
 fn read_null_mask(total: usize, bytes: &[u8], rows: usize) -> Result<Mask, Refusal>
     requires { rows ≤ 1024 }
     ensures read { Reads (λ x. (x, drop 128 bytes.now)) result ((checked mask (is_null_mask rows) Refusal.BadMask).read total bytes.now) }
@@ -84,7 +84,7 @@ fn read_null_mask(total: usize, bytes: &[u8], rows: usize) -> Result<Mask, Refus
     Ok(nulls)
 }
 
-/// The null flag at the front and the null mask where it is 1, and what stands after them.
+/// The null flag at the front and the null mask where it is 1, and what comes after them.
 #[tactic(auto, unfolding(crate::specs::VectorBytes::nulls))]
 fn read_nulls(
     alloc: Global,
@@ -107,7 +107,7 @@ fn read_nulls(
     Ok((Some(Boxed::new(alloc, nulls)?), after_mask(rest)))
 }
 
-/// The coding at the front, and what stands after it.
+/// The coding at the front, and what comes after it.
 #[tactic(auto, unfolding(crate::specs::VectorBytes::coding))]
 fn read_coding(total: usize, bytes: &[u8]) -> Result<(Coding, &[u8]), Refusal>
     ensures read { Reads (λ x. (x.0, x.1.now)) result (coding.read total bytes.now) }
@@ -141,7 +141,7 @@ fn may_have_count(coding: Coding, count: usize) -> bool
     }
 }
 
-/// The coding, width and count at the front, and what stands after them.
+/// The coding, width and count at the front, and what comes after them.
 #[tactic(auto, unfolding(crate::specs::VectorBytes::header))]
 fn read_header(total: usize, bytes: &[u8], lane_width: usize) -> Result<(Header, &[u8]), Refusal>
     ensures read { Reads (λ x. (x.0, x.1.now)) result ((header lane_width).read total bytes.now) }
@@ -170,7 +170,7 @@ fn read_header(total: usize, bytes: &[u8], lane_width: usize) -> Result<(Header,
     ))
 }
 
-/// The payload of FOR at the front, and what stands after it.
+/// The payload of FOR at the front, and what comes after it.
 #[tactic(auto, unfolding(crate::specs::VectorBytes::frame))]
 fn read_frame(
     alloc: Global,
@@ -189,7 +189,7 @@ fn read_frame(
     Ok((For::from_parts(lane_width, width, reference, words), rest))
 }
 
-/// The payload of DELTA at the front, and what stands after it.
+/// The payload of DELTA at the front, and what comes after it.
 #[tactic(auto, unfolding(crate::specs::VectorBytes::deltas))]
 fn read_deltas(
     alloc: Global,
@@ -209,7 +209,7 @@ fn read_deltas(
     Ok((Delta::from_parts(width, least, bases, words), rest))
 }
 
-/// The start mask of so many runs at the front.
+/// The start mask of a number of runs at the front.
 #[tactic(auto, unfolding(crate::specs::VectorBytes::starts))]
 fn read_starts(total: usize, bytes: &[u8], count: usize) -> Result<Mask, Refusal>
     ensures read { Reads (λ x. (x, drop 128 bytes.now)) result ((starts count).read total bytes.now) }
@@ -228,7 +228,7 @@ fn read_starts(total: usize, bytes: &[u8], count: usize) -> Result<Mask, Refusal
     Ok(starts)
 }
 
-/// The payload of RLE at the front, and what stands after it.
+/// The payload of RLE at the front, and what comes after it.
 #[tactic(auto, unfolding(crate::specs::VectorBytes::runs))]
 fn read_runs(
     alloc: Global,
@@ -254,7 +254,7 @@ fn rises_after(front: &[i64], value: i64) -> bool
     front.is_empty() || front[front.len() - 1] < value
 }
 
-/// The values of a dictionary, at most 1024, at the front, and what stands after them.
+/// The values of a dictionary, at most 1024, at the front, and what comes after them.
 #[tactic(auto, unfolding(crate::specs::VectorBytes::dictionary))]
 fn read_dictionary(
     alloc: Global,
@@ -293,7 +293,7 @@ fn codes_fit(width: usize, codes: &Words, count: usize) -> bool
     Dict::codes_fit(width, codes, count)
 }
 
-/// The packed codes of a dictionary of so many values at the front, and what stands after them.
+/// The packed codes of a dictionary of a number of values at the front, and what comes after them.
 #[tactic(auto, unfolding(crate::specs::VectorBytes::codes))]
 fn read_codes(
     alloc: Global,
@@ -315,7 +315,7 @@ fn read_codes(
     Ok((codes, rest))
 }
 
-/// The payload of DICT at the front, and what stands after it.
+/// The payload of DICT at the front, and what comes after it.
 #[tactic(auto, unfolding(crate::specs::VectorBytes::dict))]
 fn read_dict(
     alloc: Global,
@@ -336,7 +336,7 @@ fn read_dict(
     Ok((Dict::from_parts(width, values, codes), rest))
 }
 
-/// The payload after a header at the front, and what stands after it.
+/// The payload after a header at the front, and what comes after it.
 fn read_payload(
     alloc: Global,
     total: usize,
@@ -377,7 +377,7 @@ fn read_payload(
     }
 }
 
-/// The coded values at the front, and what stands after them.
+/// The coded values at the front, and what comes after them.
 #[tactic(auto, unfolding(crate::specs::VectorBytes::coded))]
 fn read_coded(
     alloc: Global,
@@ -393,8 +393,8 @@ fn read_coded(
     read_payload(alloc, total, rest, lane_width, header)
 }
 
-/// The vector of so many rows, 1 to 1024, of `lane_width` bits, 8, 16, 32 or 64, at the front of what is left of an input of
-/// `total` bytes, and what stands after it. Refused is the first fault of the bytes, or a want of memory.
+/// The vector of a number of rows, 1 to 1024, of `lane_width` bits, 8, 16, 32 or 64, at the front of what is left of an input of
+/// `total` bytes, and what comes after it. Refused is the first fault of the bytes, or out of memory.
 #[tactic(auto, unfolding(crate::specs::VectorBytes::vector))]
 pub(crate) fn read_vector(
     alloc: Global,

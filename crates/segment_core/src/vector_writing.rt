@@ -16,7 +16,7 @@ use std::io::Write;
 use table_model::{Counted, Refusal};
 use transpose_order::Mask;
 
-/// Writes what stands before a payload. The width is below 256, and the count below 65,536.
+/// Writes what comes before a payload. The width is below 256, and the count below 65,536.
 fn write_header<W: Write>(
     writer: &mut Counted<W>,
     lane_width: usize,

@@ -1,13 +1,10 @@
 //! The vectors of a column, from the first rows on.
-ghost use Rattle.std.specs.Prelude.{◌≡◌, ◌<◌, ◌≤◌, ◌↔◌, ℕ, [], length, slice_set, slice_index_or, IsTrue, IfOk};
-ghost use Rattle.table_model.specs.Table.{row_limit};
-ghost use Rattle.segment_core.specs.Segment.{column_cells, vector_count, canonical_vectors, AreCanonical, HaveSameCells, HasCellsOf};
+ghost use Rattle.std.specs.Prelude.{◌≡◌, ◌<◌, ◌↔◌, length, slice_set, IsTrue, IfOk};
+ghost use Rattle.segment_core.specs.Segment.{canonical_vectors, AreCanonical, HaveSameCells};
 
-use crate::build::rows_in;
 use crate::coded_vector::CodedVector;
 use std::alloc::{AllocError, Global};
 use std::marker::Model;
-use table_model::Row;
 
 /// The vectors of a column, from the first rows on. Contracts see them as that list.
 #[derive(Drop)]
@@ -60,16 +57,6 @@ impl Vectors {
         ensures { IsTrue result ↔ HaveSameCells self.now other.now }
     {
         same_cells(self.vectors.as_slice(), other.as_slice())
-    }
-
-    /// Whether the column has the cells of a column of some rows, vector by vector. It takes no memory.
-    pub fn has_cells(&self, rows: &[Row], column: usize) -> bool
-        requires limit { length rows.now ≤ row_limit }
-        requires count { length self.now ≡ vector_count (length rows.now) }
-        requires there { (n : ℕ) → n < length rows.now → column < length (slice_index_or rows.now n []) }
-        ensures { IsTrue result ↔ HasCellsOf self.now (column_cells rows.now column) }
-    {
-        has_cells(self.vectors.as_slice(), rows, column)
     }
 
     /// The same vectors in memory of their own. Where memory is refused, an `AllocError`.
@@ -130,21 +117,6 @@ fn same_cells(vectors: &[CodedVector], others: &[CodedVector]) -> bool
 {
     for k in 0..vectors.len() {
         if !vectors[k].same_cells(&others[k]) {
-            return false;
-        }
-    }
-    true
-}
-
-/// Whether the vectors have the cells of a column of some rows, vector by vector.
-fn has_cells(vectors: &[CodedVector], rows: &[Row], column: usize) -> bool
-    requires limit { length rows.now ≤ row_limit }
-    requires count { length vectors.now ≡ vector_count (length rows.now) }
-    requires there { (n : ℕ) → n < length rows.now → column < length (slice_index_or rows.now n []) }
-    ensures { IsTrue result ↔ HasCellsOf vectors.now (column_cells rows.now column) }
-{
-    for k in 0..vectors.len() {
-        if !vectors[k].has_cells(rows_in(rows, k), column) {
             return false;
         }
     }

@@ -1,10 +1,9 @@
-//! Segments of rows that lie in a batch, beside those of a list of the same rows.
-use row_batch::RowBatch;
-use segment_core::{Coding, Segment};
+//! Segments of up to 32 columns and 64 vectors, and batches that they are not of.
+use segment_core::Segment;
 use std::alloc::{AllocError, Global};
 use std::process::Abort;
 use std::test::Fail;
-use table_model::{ColType, Refusal, Row, Schema, check_rows};
+use table_model::{ColType, Refusal, Rows, Schema, check_rows};
 use test_support::agree;
 
 const NAMES: [&str; 32] = [
@@ -35,29 +34,14 @@ fn cell_of(nulls: Nulls, rows: usize, row: usize, column: usize) -> Option<i128>
     }
 }
 
-fn row_of(
-    alloc: Global,
-    columns: usize,
-    nulls: Nulls,
-    rows: usize,
-    row: usize,
-) -> Result<Row, AllocError> {
-    let mut cells = Vec::with_capacity(alloc, columns)?;
-    for column in 0..columns {
-        cells.push(cell_of(nulls, rows, row, column))?;
-    }
-    Ok(Row::from_cells(cells))
-}
-
-fn rows_of(
-    alloc: Global,
-    columns: usize,
-    nulls: Nulls,
-    count: usize,
-) -> Result<Vec<Row>, AllocError> {
-    let mut rows = Vec::with_capacity(alloc, count)?;
+fn rows_of(alloc: Global, columns: usize, nulls: Nulls, count: usize) -> Result<Rows, AllocError> {
+    let mut rows = Rows::new(alloc);
     for row in 0..count {
-        rows.push(row_of(alloc, columns, nulls, count, row)?)?;
+        let mut cells = Vec::with_capacity(alloc, columns)?;
+        for column in 0..columns {
+            cells.push(cell_of(nulls, count, row, column))?;
+        }
+        rows.push_row(&cells)?;
     }
     Ok(rows)
 }
@@ -70,49 +54,20 @@ fn schema_of(alloc: Global, columns: usize) -> Result<Schema, Refusal> {
     Schema::new(alloc, "T", &named)
 }
 
-/// The segments of the rows as a list and as a batch.
-fn both(
-    alloc: Global,
-    schema: &Schema,
-    rows: &[Row],
-    batch: &RowBatch,
-) -> Result<(Segment, Segment), Refusal> {
+/// The segment of some rows.
+fn built(alloc: Global, schema: &Schema, rows: &Rows) -> Result<Segment, Refusal> {
     check_rows(schema, rows)?;
-    row_batch::check_batch(schema, batch)?;
-    let listed = Segment::build(alloc, schema, rows)?;
-    let lain = Segment::build_batch(alloc, schema, batch)?;
-    Ok((listed, lain))
+    Ok(Segment::build(alloc, schema, rows)?)
 }
 
-/// The coding, the bytes and the null rows of a column's last vector.
-fn last_vector(rt: &impl Abort, segment: &Segment, column: usize) -> (Coding, u16, usize) {
-    assert!(rt; column < segment.columns());
-    assert!(rt; segment.rows() > 0);
-    let vector = segment.vector(column, (segment.rows() - 1) / 1024);
-    (
-        vector.coding(),
-        vector.coded().bytes_len(),
-        vector.null_rows().count(),
-    )
-}
-
-/// Checks that two segments are of the same rows in the same vectors.
-fn check_same(
-    rt: &impl Abort,
-    listed: &Segment,
-    lain: &Segment,
-    rows: &[Row],
-    batch: &RowBatch,
-) -> Result<(), Fail> {
-    assert!(rt; lain.same_rows(listed) && lain.canonical());
-    assert!(rt; lain.has_rows(rows) && lain.has_batch(batch) && listed.has_batch(batch));
-    agree(last_vector(rt, lain, 0), last_vector(rt, listed, 0))?;
-    let last = listed.columns().saturating_sub(1);
-    agree(last_vector(rt, lain, last), last_vector(rt, listed, last))
+/// The value of a column at a row that the segment has.
+fn value_at(rt: &impl Abort, segment: &Segment, row: usize, column: usize) -> Option<i128> {
+    assert!(rt; row < segment.rows() && column < segment.columns());
+    segment.value(row, column).map(i128::from)
 }
 
 // Columns, rows, and which of the cells are null.
-const BESIDE: [(usize, usize, Nulls); 12] = [
+const SHAPES: [(usize, usize, Nulls); 12] = [
     (1, 1, Nulls::Nowhere),
     (1, 1, Nulls::Everywhere),
     (32, 1, Nulls::Thirds),
@@ -127,7 +82,8 @@ const BESIDE: [(usize, usize, Nulls); 12] = [
     (1, 65_536, Nulls::Thirds),
 ];
 
-fn check_beside(
+/// Checks the segment of so many rows: its values in the last row, and that it has the rows in canonical vectors.
+fn check_shape(
     rt: &impl Abort,
     alloc: Global,
     columns: usize,
@@ -136,15 +92,20 @@ fn check_beside(
 ) -> Result<(), Fail> {
     let schema = schema_of(alloc, columns)?;
     let rows = rows_of(alloc, columns, nulls, count)?;
-    let batch = RowBatch::copy_of(alloc, &rows)?;
-    let (listed, lain) = both(alloc, &schema, &rows, &batch)?;
-    check_same(rt, &listed, &lain, &rows, &batch)
+    let segment = built(alloc, &schema, &rows)?;
+    assert!(rt; segment.has_rows(&rows) && segment.canonical());
+    let row = count.saturating_sub(1);
+    for column in 0..columns {
+        let expected = cell_of(nulls, count, row, column);
+        agree(value_at(rt, &segment, row, column), expected)?;
+    }
+    Ok(())
 }
 
 #[test]
-fn rows_in_a_batch_make_the_segment_of_a_list(rt: HostRuntime) -> Result<(), Fail> {
-    for &(columns, count, nulls) in &BESIDE {
-        check_beside(&rt, rt.alloc(), columns, count, nulls)?;
+fn a_segment_has_the_rows_that_it_is_built_of(rt: HostRuntime) -> Result<(), Fail> {
+    for &(columns, count, nulls) in &SHAPES {
+        check_shape(&rt, rt.alloc(), columns, count, nulls)?;
     }
     Ok(())
 }
@@ -162,12 +123,10 @@ const OTHERS: [(usize, usize, Nulls); 5] = [
 fn a_segment_tells_other_batches(rt: HostRuntime) -> Result<(), Fail> {
     let schema = schema_of(rt.alloc(), 2)?;
     let rows = rows_of(rt.alloc(), 2, Nulls::Last, 1025)?;
-    check_rows(&schema, &rows)?;
-    let segment = Segment::build(rt.alloc(), &schema, &rows)?;
+    let segment = built(rt.alloc(), &schema, &rows)?;
     for &(columns, count, nulls) in &OTHERS {
         let other = rows_of(rt.alloc(), columns, nulls, count)?;
-        let batch = RowBatch::copy_of(rt.alloc(), &other)?;
-        agree(segment.has_batch(&batch), false)?;
+        agree(segment.has_rows(&other), false)?;
     }
     Ok(())
 }

@@ -6,8 +6,8 @@ use segment_core::{Coded, Segment};
 use std::alloc::{AllocError, Global};
 use std::process::Abort;
 use std::test::Fail;
-use table_model::{ColType, Counted, Refusal, Schema, Stop};
-use test_support::{agree, agree_at};
+use table_model::{ColType, Counted, Refusal, Schema};
+use test_support::{Stop, agree, agree_at};
 
 /// The schema of one SMALLINT column.
 fn one_column(alloc: Global) -> Result<Schema, Refusal> {

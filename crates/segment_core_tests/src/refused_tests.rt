@@ -7,7 +7,7 @@ use segment_core::{CodedVector, Coding, Segment};
 use std::alloc::{AllocError, Global};
 use std::process::Abort;
 use std::test::Fail;
-use table_model::{ColType, Counted, Refusal, Row, Schema, check_rows};
+use table_model::{ColType, Counted, Refusal, Rows, Schema, check_rows};
 use test_support::{agree, growth_refused};
 
 /// The most bytes that a segment of these tests has.
@@ -280,7 +280,7 @@ fn a_refused_recoding_of_8_bits_changes_nothing(rt: HostRuntime) -> Result<(), F
 }
 
 /// Whether a segment was built, and has the rows.
-fn has_built(built: &Result<Segment, AllocError>, rows: &[Row]) -> bool {
+fn has_built(built: &Result<Segment, AllocError>, rows: &Rows) -> bool {
     match built {
         Ok(segment) => segment.has_rows(rows),
         Err(AllocError) => false,
@@ -292,7 +292,7 @@ fn is_built(
     rt: &impl Abort,
     alloc: Global,
     column_type: ColType,
-    rows: &[Row],
+    rows: &Rows,
     form: (Coding, u16),
 ) -> Result<(), Fail> {
     let schema = column_of(alloc, column_type)?;

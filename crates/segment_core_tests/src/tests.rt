@@ -3,7 +3,7 @@ use segment_core::{Coded, CodedVector, Coding, Segment};
 use std::alloc::{AllocError, Global};
 use std::process::Abort;
 use std::test::Fail;
-use table_model::{ColType, Refusal, Row, Schema, check_rows};
+use table_model::{ColType, Refusal, Rows, Schema, check_rows};
 use test_support::agree;
 
 /// What a test's column holds.
@@ -35,14 +35,10 @@ fn cell_of(pattern: Pattern, row: usize) -> Option<i128> {
 }
 
 /// So many rows of one cell.
-pub(super) fn rows_of(
-    alloc: Global,
-    count: usize,
-    pattern: Pattern,
-) -> Result<Vec<Row>, AllocError> {
-    let mut rows = Vec::with_capacity(alloc, count)?;
+pub(super) fn rows_of(alloc: Global, count: usize, pattern: Pattern) -> Result<Rows, AllocError> {
+    let mut rows = Rows::new(alloc);
     for row in 0..count {
-        rows.push(Row::from_cells(Vec::from_slice(alloc, &[cell_of(pattern, row)])?))?;
+        rows.push_row(&[cell_of(pattern, row)])?;
     }
     Ok(rows)
 }
@@ -51,7 +47,7 @@ pub(super) fn rows_of(
 pub(super) fn segment_of(
     alloc: Global,
     column_type: ColType,
-    rows: &[Row],
+    rows: &Rows,
 ) -> Result<Segment, Refusal> {
     let schema = Schema::new(alloc, "T", &[("A", column_type)])?;
     check_rows(&schema, rows)?;
@@ -115,10 +111,10 @@ fn each_vector_takes_the_coding_of_fewest_bytes(rt: HostRuntime) -> Result<(), F
 }
 
 /// Rows of one cell each.
-pub(super) fn rows_with(alloc: Global, cells: &[Option<i128>]) -> Result<Vec<Row>, AllocError> {
-    let mut rows = Vec::with_capacity(alloc, cells.len())?;
+pub(super) fn rows_with(alloc: Global, cells: &[Option<i128>]) -> Result<Rows, AllocError> {
+    let mut rows = Rows::new(alloc);
     for cell in cells {
-        rows.push(Row::from_cells(Vec::from_slice(alloc, &[*cell])?))?;
+        rows.push_row(&[*cell])?;
     }
     Ok(rows)
 }
@@ -205,7 +201,7 @@ fn check_canonical_copy(
     rt: &impl Abort,
     alloc: Global,
     segment: &Segment,
-    rows: &[Row],
+    rows: &Rows,
 ) -> Result<(), Fail> {
     let copy = segment.canonical_copy(alloc)?;
     agree(seen(rt, &copy), (2, 1, Coding::For, 4))?;
@@ -248,7 +244,7 @@ fn there_is_no_vector_past_the_last(rt: HostRuntime) -> Result<(), Fail> {
 }
 
 /// Whether a segment has the same rows as the one of these rows, and whether it has these rows.
-fn compared(alloc: Global, segment: &Segment, rows: &[Row]) -> Result<(bool, bool), Refusal> {
+fn compared(alloc: Global, segment: &Segment, rows: &Rows) -> Result<(bool, bool), Refusal> {
     let other = segment_of(alloc, ColType::Integer, rows)?;
     Ok((segment.same_rows(&other), segment.has_rows(rows)))
 }

@@ -4,7 +4,7 @@ use segment_core::{Coding, Segment};
 use std::alloc::{AllocError, Global};
 use std::process::Abort;
 use std::test::Fail;
-use table_model::{ColType, Counted, Refusal, Row, Schema};
+use table_model::{ColType, Counted, Refusal, Rows, Schema};
 use test_support::agree;
 
 /// The numbers from 0 to 127 in turn.
@@ -69,7 +69,7 @@ fn ends_bytes(alloc: Global) -> Result<Vec<u8>, AllocError> {
 fn check_built(
     rt: &impl Abort,
     alloc: Global,
-    rows: &[Row],
+    rows: &Rows,
     form: (Coding, u16),
     bytes: &[u8],
 ) -> Result<(), Fail> {

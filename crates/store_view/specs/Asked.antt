@@ -26,7 +26,7 @@ answer_where table state (Err refusal) = Err refusal
 unfoldable pub query_answer : List ℕ → Table → State → Result AnswerParts Refusal
 query_answer text table state = answer_where table state (query_of text)
 
--- whether a refusal is one that a query may have: a fault of its text, one of its names, or a want of memory
+-- whether a refusal is one that a query may have: a fault of its text, one of its names, or out of memory
 abbrev pub is_refusal_of_query : Refusal → Bool
 is_refusal_of_query Memory = true
 is_refusal_of_query (Syntax at) = true
@@ -48,7 +48,7 @@ is_fault_of_text (NumberTooLarge at) = true
 is_fault_of_text TooDeep = true
 is_fault_of_text other = false
 
--- whether a refusal is one that a condition may have: a fault of its text, a column that the table has not, or a want of memory
+-- whether a refusal is one that a condition may have: a fault of its text, a column that the table does not have, or out of memory
 abbrev pub is_refusal_of_condition : Refusal → Bool
 is_refusal_of_condition Memory = true
 is_refusal_of_condition (NoSuchColumn at) = true

@@ -12,14 +12,14 @@ ghost use Rattle.query_eval.specs.Vector.{IsThere, vector_of, cell_at, looked_at
 ghost use Rattle.store_view.specs.View.{HasCells};
 
 use fused_kernels::{
-    Extremum, Meter, compare_vector, compare_vector_range, compare_vectors, count, decode_vector,
+    Meter, compare_vector, compare_vector_range, compare_vectors, count, decode_vector,
     vector_codes_into, vector_extreme, vector_has_few_codes, vector_runs_into, vector_sum,
 };
 use query_eval::{Columns, VectorId};
 use replica_store::Store;
 use segment_core::CodedVector;
 use std::marker::Model;
-use table_model::{BatchName, Op, Schema};
+use table_model::{BatchName, Extreme, Op, Schema};
 use transpose_order::{Mask, VECTOR_ROWS};
 
 /// A store as the columns of a query, with a meter of the passes over its vectors.
@@ -170,12 +170,12 @@ impl<'a> Columns for StoreView<'a> {
 
     fn min(&mut self, id: VectorId, column: usize, mask: &Mask) -> Option<i64> {
         let found = vector_in(self.store, id, column);
-        vector_extreme(Extremum::Least, found, mask, &mut self.meter)
+        vector_extreme(Extreme::Least, found, mask, &mut self.meter)
     }
 
     fn max(&mut self, id: VectorId, column: usize, mask: &Mask) -> Option<i64> {
         let found = vector_in(self.store, id, column);
-        vector_extreme(Extremum::Greatest, found, mask, &mut self.meter)
+        vector_extreme(Extreme::Greatest, found, mask, &mut self.meter)
     }
 
     fn decode_into(&mut self, id: VectorId, column: usize, values: &mut [i64; 1024]) {

@@ -1,20 +1,20 @@
 //! Conditions that bounds decide, over vectors of each coding: the answers, worked out by hand, and the passes that they take.
-use crate::passes_tests::{Asked, has_answers, row_of, store_of};
+use crate::passes_tests::{Asked, has_answers, store_of};
 use replica_store::Store;
 use std::alloc::Global;
 use std::test::Fail;
-use table_model::{ColType, Refusal};
+use table_model::{ColType, Refusal, Rows};
 
 /// The cells of a column of 64 bits.
 pub(crate) type Cells = [Option<i128>; 1024];
 
 /// A store whose one batch has these cells in its one column.
 pub(crate) fn store_of_cells(alloc: Global, cells: &[Option<i128>]) -> Result<Store, Refusal> {
-    let mut rows = Vec::new(alloc);
+    let mut rows = Rows::new(alloc);
     for cell in cells {
-        rows.push(row_of(alloc, &[*cell])?)?;
+        rows.push_row(&[*cell])?;
     }
-    store_of(alloc, &[("A", ColType::BigInt)], rows.as_slice())
+    store_of(alloc, &[("A", ColType::BigInt)], &rows)
 }
 
 /// Each number below `end` as often as the others, none beside itself.

@@ -7,7 +7,7 @@ use std::alloc::{AllocError, Global};
 use std::process::Abort;
 use std::test::Fail;
 use store_view::{StoreView, names_where};
-use table_model::{BatchName, ColType, Number, Origin, Refusal, Row, RowName, Schema};
+use table_model::{BatchName, ColType, Number, Origin, Refusal, RowName, Rows, Schema};
 use test_support::agree_at;
 
 /// A row's name: the origin and the number of its batch, and its ordinal.
@@ -25,25 +25,25 @@ fn row_name((origin, number, ordinal): Place) -> RowName {
 }
 
 /// Rows of one cell each.
-fn rows_of(alloc: Global, cells: &[Option<i128>]) -> Result<Vec<Row>, AllocError> {
-    let mut rows = Vec::with_capacity(alloc, cells.len())?;
+fn rows_of(alloc: Global, cells: &[Option<i128>]) -> Result<Rows, AllocError> {
+    let mut rows = Rows::new(alloc);
     for cell in cells {
-        rows.push(Row::from_cells(Vec::from_slice(alloc, &[*cell])?))?;
+        rows.push_row(&[*cell])?;
     }
     Ok(rows)
 }
 
 /// Rows that hold their ordinals.
-fn numbered_rows(alloc: Global, count: usize) -> Result<Vec<Row>, AllocError> {
-    let mut rows = Vec::with_capacity(alloc, count)?;
+fn numbered_rows(alloc: Global, count: usize) -> Result<Rows, AllocError> {
+    let mut rows = Rows::new(alloc);
     for n in 0..count {
-        rows.push(Row::from_cells(Vec::from_slice(alloc, &[Some(n as i128)])?))?;
+        rows.push_row(&[Some(n as i128)])?;
     }
     Ok(rows)
 }
 
 /// A store of T(A INTEGER) with the batch 1.1 of these rows and, from another origin, 2.5 of those.
-fn store_of(alloc: Global, first: &[Row], second: &[Row]) -> Result<Store, Refusal> {
+fn store_of(alloc: Global, first: &Rows, second: &Rows) -> Result<Store, Refusal> {
     let schema = Schema::new(alloc, "T", &[("A", ColType::Integer)])?;
     let mut store = Store::new(alloc, &schema, Origin(1))?;
     let _ = store.append(alloc, first)?;
@@ -120,7 +120,8 @@ fn store_of_two_batches(alloc: Global) -> Result<Store, Refusal> {
 /// Deletes those rows.
 fn delete_some(alloc: Global, store: &mut Store) -> Result<(), Refusal> {
     store.delete(alloc, row_name((1, 1, 2)), 2)?;
-    store.delete(alloc, row_name((2, 5, 0)), 1)
+    store.delete(alloc, row_name((2, 5, 0)), 1)?;
+    Ok(())
 }
 
 #[test]
@@ -172,7 +173,8 @@ fn store_of_vectors(alloc: Global) -> Result<Store, Refusal> {
 /// Deletes a vector of the first batch, and the last row of the second.
 fn delete_vectors(alloc: Global, store: &mut Store) -> Result<(), Refusal> {
     store.delete(alloc, row_name((1, 1, 0)), 1023)?;
-    store.delete(alloc, row_name((2, 5, 1024)), 1024)
+    store.delete(alloc, row_name((2, 5, 1024)), 1024)?;
+    Ok(())
 }
 
 #[test]

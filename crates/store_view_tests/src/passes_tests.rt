@@ -6,7 +6,7 @@ use replica_store::Store;
 use std::alloc::{AllocError, Global};
 use std::test::Fail;
 use store_view::StoreView;
-use table_model::{BatchName, ColType, Number, Origin, Query, Refusal, Row, RowName, Schema};
+use table_model::{BatchName, ColType, Number, Origin, Query, Refusal, RowName, Rows, Schema};
 use test_support::agree_at;
 
 /// A query, its answer's lines, and how many passes it takes at most.
@@ -16,7 +16,7 @@ pub(crate) type Asked = (&'static str, &'static str, u128);
 pub(crate) fn store_of(
     alloc: Global,
     columns: &[(&str, ColType)],
-    rows: &[Row],
+    rows: &Rows,
 ) -> Result<Store, Refusal> {
     let schema = Schema::new(alloc, "T", columns)?;
     let mut store = Store::new(alloc, &schema, Origin(1))?;
@@ -24,17 +24,12 @@ pub(crate) fn store_of(
     Ok(store)
 }
 
-/// A row with these cells.
-pub(crate) fn row_of(alloc: Global, cells: &[Option<i128>]) -> Result<Row, AllocError> {
-    Ok(Row::from_cells(Vec::from_slice(alloc, cells)?))
-}
-
 /// So many rows of one column: 0 each, or from 1 on where they differ.
-fn numbered_rows(alloc: Global, count: usize, differ: bool) -> Result<Vec<Row>, AllocError> {
-    let mut rows = Vec::new(alloc);
+fn numbered_rows(alloc: Global, count: usize, differ: bool) -> Result<Rows, AllocError> {
+    let mut rows = Rows::new(alloc);
     for n in 0..count {
         let value = if differ { n as i128 + 1 } else { 0 };
-        rows.push(row_of(alloc, &[Some(value)])?)?;
+        rows.push_row(&[Some(value)])?;
     }
     Ok(rows)
 }
@@ -42,7 +37,7 @@ fn numbered_rows(alloc: Global, count: usize, differ: bool) -> Result<Vec<Row>, 
 /// A store whose one batch has those rows.
 fn filled_store(alloc: Global, count: usize, differ: bool) -> Result<Store, Refusal> {
     let rows = numbered_rows(alloc, count, differ)?;
-    store_of(alloc, &[("A", ColType::SmallInt)], rows.as_slice())
+    store_of(alloc, &[("A", ColType::SmallInt)], &rows)
 }
 
 /// The lines of a query's answer over a store, and how many passes a view of the store made for it.
@@ -104,7 +99,8 @@ fn delete_first_vector(alloc: Global, store: &mut Store) -> Result<(), Refusal> 
         },
         ordinal: 0,
     };
-    store.delete(alloc, first, 1023)
+    let _ = store.delete(alloc, first, 1023)?;
+    Ok(())
 }
 
 /// Queries over the one row of 0 that is left in the second vector.
@@ -149,10 +145,10 @@ const THREE_COLUMNS: [[Option<i128>; 3]; 5] = [
 ];
 
 /// Those rows.
-fn rows_of_three_columns(alloc: Global) -> Result<Vec<Row>, AllocError> {
-    let mut rows = Vec::new(alloc);
+fn rows_of_three_columns(alloc: Global) -> Result<Rows, AllocError> {
+    let mut rows = Rows::new(alloc);
     for cells in &THREE_COLUMNS {
-        rows.push(row_of(alloc, cells.as_slice())?)?;
+        rows.push_row(cells.as_slice())?;
     }
     Ok(rows)
 }
@@ -165,7 +161,7 @@ fn store_of_three_columns(alloc: Global) -> Result<Store, Refusal> {
         ("C", ColType::BigInt),
     ];
     let rows = rows_of_three_columns(alloc)?;
-    store_of(alloc, &columns, rows.as_slice())
+    store_of(alloc, &columns, &rows)
 }
 
 /// Queries that mention three columns, over one vector.

@@ -7,7 +7,7 @@ use replica_store::Store;
 use std::alloc::{AllocError, Global};
 use std::test::Fail;
 use store_view::{StoreView, ask, names_where};
-use table_model::{Answer, ColType, Condition, Origin, Query, Refusal, Row, RowName, Schema};
+use table_model::{Answer, ColType, Condition, Origin, Query, Refusal, RowName, Rows, Schema};
 use test_support::growth_refused;
 
 /// Groups, a null one among them, an alias, and set functions in HAVING.
@@ -17,10 +17,10 @@ const QUERY: &str = "SELECT A N FROM T GROUP BY A HAVING AVG(A) >= 5 OR COUNT(A)
 const ANSWER: &[u8] = b"N\nNULL\n5\n";
 
 /// The rows 5, null, 5 and 2.
-fn some_rows(alloc: Global) -> Result<Vec<Row>, AllocError> {
-    let mut rows = Vec::with_capacity(alloc, 4)?;
+fn some_rows(alloc: Global) -> Result<Rows, AllocError> {
+    let mut rows = Rows::new(alloc);
     for &cell in &[Some(5), None, Some(5), Some(2)] {
-        rows.push(Row::from_cells(Vec::from_slice(alloc, &[cell])?))?;
+        rows.push_row(&[cell])?;
     }
     Ok(rows)
 }
@@ -35,7 +35,7 @@ fn empty_store(alloc: Global) -> Result<Store, Refusal> {
 fn filled_store(alloc: Global) -> Result<Store, Refusal> {
     let rows = some_rows(alloc)?;
     let mut store = empty_store(alloc)?;
-    let _ = store.append(alloc, rows.as_slice())?;
+    let _ = store.append(alloc, &rows)?;
     Ok(store)
 }
 

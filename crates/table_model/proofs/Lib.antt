@@ -3,6 +3,9 @@ pub mod AnswerOrder
 pub mod Appended
 pub mod Batches
 pub mod Bounds
+pub mod DigitFacts
+pub mod EndFacts
+pub mod Extremes
 pub mod Groups
 pub mod Joins
 pub mod KeyLists

@@ -1,4 +1,4 @@
--- The truth of a condition, whatever its operands stand for.
+-- The truth of a condition, whatever its operands represent.
 use Rattle.std.specs.Prelude.{◌≡◌, Bool, true, false, ◌&&◌, List, [], ◌∷◌, Option, ℤ, pos, ◌*ℤ◌, int_le, FitsSigned}
 use Rattle.std.specs.Int.{w128}
 use Rattle.std.specs.List.{list_any}
@@ -75,7 +75,7 @@ condition_truth value (both f g) = and_of (condition_truth value f) (condition_t
 condition_truth value no_term = False
 condition_truth value (either f g) = or_of (condition_truth value f) (condition_truth value g)
 
--- NOT BETWEEN and NOT IN are the negations of BETWEEN and IN; a whole number is between two where it isn't below the first nor above the second, and in a list where it stands there; a null is in no list, and between no two; cells are compared as the numbers and nulls that they are
+-- NOT BETWEEN and NOT IN are the negations of BETWEEN and IN; a whole number is between two where it isn't below the first nor above the second, and in a list where it is there; a null is in no list, and between no two; cells are compared as the numbers and nulls that they are
 pub record PredicateLaws : Type 0 where
   pub not_between : (value : Operand → Field) (operand low high : Operand) → predicate_truth value (Between operand true low high) ≡ not_of (predicate_truth value (Between operand false low high))
   pub not_in : (value : Operand → Field) (operand : Operand) (literals : List ℤ) → predicate_truth value (In operand true literals) ≡ not_of (predicate_truth value (In operand false literals))

@@ -38,7 +38,7 @@ CountsWrites other before after = after ≡ before
 abbrev pub CountsBoth : Type 0 → Refusal → ℕ → ℕ → ℕ → ℕ → Type 0
 CountsBoth many e r r' w w' = CountsReads many e r r' × CountsWrites e w w'
 
--- the same of a call that nothing refuses but a want of memory and a failed read or write
+-- the same of a call that nothing refuses but out of memory and a failed read or write
 abbrev pub Failed : Type 0 → Refusal → ℕ → ℕ → ℕ → ℕ → Type 0
 Failed many Memory r r' w w' = CountsBoth many Memory r r' w w'
 Failed many ReadFault r r' w w' = CountsBoth many ReadFault r r' w w'

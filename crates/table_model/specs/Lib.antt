@@ -1,12 +1,15 @@
 pub mod Answer
 pub mod Condition
 pub mod Counted
+pub mod Ends
+pub mod Extreme
 pub mod Faults
 pub mod Formula
 pub mod Group
 pub mod Identifier
 pub mod Meaning
 pub mod Name
+pub mod Numeral
 pub mod Operation
 pub mod Outcome
 pub mod Passes

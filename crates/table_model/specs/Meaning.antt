@@ -51,7 +51,7 @@ abbrev pub function_value : List ColumnShape → SetFunction → List Cells → 
 function_value columns CountRows rows = Whole (pos (length rows))
 function_value columns (Of fold distinct column) rows = fold_value fold (once_if distinct (values_in (place_of columns column.name) rows))
 
--- an operand of WHERE at a row: the row's cell, or the number; a set function doesn't stand there
+-- an operand of WHERE at a row: the row's cell, or the number; a set function isn't there
 abbrev pub at_row : List ColumnShape → Cells → Operand → Field
 at_row columns row (Column column) = whole (cell row (place_of columns column.name))
 at_row columns row (Literal n) = Whole n
@@ -107,12 +107,12 @@ abbrev pub function_text : SetFunction → List ℕ
 function_text CountRows = codes "COUNT(*)"
 function_text (Of fold distinct column) = fold_text fold ++ (codes "(" ++ (cond distinct (codes "DISTINCT ") [] ++ (column.name ++ codes ")")))
 
--- what stands over a column of the answer that has no alias: the column's name, which a query spells as the schema does, or the set function
+-- what is written over a column of the answer that has no alias: the column's name, which a query spells as the schema does, or the set function
 abbrev pub value_text : ItemValue → List ℕ
 value_text (Grouped column) = column.name
 value_text (Computed f) = function_text f
 
--- what stands over a column of the answer: its alias where it has one
+-- what is written over a column of the answer: its alias where it has one
 abbrev pub item_text : Item → List ℕ
 item_text item = unwrap_or item.alias (value_text item.value)
 

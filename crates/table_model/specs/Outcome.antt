@@ -1,4 +1,4 @@
--- How a call that may lack memory answers: the value or the refusal that its meaning gives, or Memory with nothing changed.
+-- How a call that may run out of memory answers: the value or the refusal that its meaning gives, or Memory with nothing changed.
 use Rattle.std.specs.Prelude.{◌≡◌, ◌⊎◌, Option, Some, None, Result, Ok, Err, IsOk}
 use Rattle.table_model.specs.declared.refusal.Refusal.{Refusal}
 use Rattle.table_model.specs.declared.refusal.Refusal.TheVariants.{Memory}

@@ -47,7 +47,7 @@ formula_of_term term = formula_of_factors term.factors.items
 abbrev pub formula_of_terms : List Term → Formula
 formula_of_terms terms = fold (λ f term. either f (formula_of_term term)) no_term terms
 
--- a query: its select items, its table, the formulas of WHERE and HAVING where they stand, and the columns of GROUP BY, none where that is absent
+-- a query: its select items, its table, the formulas of WHERE and HAVING if they are there, and the columns of GROUP BY, none where that is absent
 pub record QueryShape : Type 0 where
   pub items : List Item
   pub table : List ℕ

@@ -1,4 +1,4 @@
--- What is read, and what a call that reads it answers where memory may lack.
+-- What is read, and what a call that reads it answers where it may run out of memory.
 use Rattle.std.specs.Prelude.{◌≡◌, ◌⊎◌, Result, Ok, Err}
 use Rattle.table_model.specs.declared.refusal.Refusal.{Refusal}
 use Rattle.table_model.specs.declared.refusal.Refusal.TheVariants.{Memory}

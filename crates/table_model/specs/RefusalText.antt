@@ -1,7 +1,9 @@
--- A refusal's number, and how it is written: its name, and then its values, each after one space.
+-- A refusal's number, what it names, and how it is written: its name, and then its values, each after one space.
 use Rattle.std.specs.Prelude.{ℕ, List, [], ◌++◌, codes}
 use Rattle.std.specs.Fmt.{decimal}
 use Rattle.table_model.specs.Name.{name_text}
+use Rattle.table_model.specs.declared.place.Place.{Place}
+use Rattle.table_model.specs.declared.place.Place.TheVariants as places
 use Rattle.table_model.specs.declared.refusal.Refusal.{Refusal}
 use Rattle.table_model.specs.declared.refusal.Refusal.TheVariants as refusals
 
@@ -85,32 +87,40 @@ refusal_name refusals.BadLine = codes "BadLine"
 refusal_name refusals.NoSuchReplica = codes "NoSuchReplica"
 refusal_name refusals.NoSuchMessage = codes "NoSuchMessage"
 
+-- what it names
+abbrev pub place_of : Refusal → Place
+place_of (refusals.Conflict name) = places.Batch name
+place_of (refusals.WrongArity at) = places.Row at
+place_of (refusals.OutOfType row column) = places.Cell row column
+place_of (refusals.Truncated at) = places.Byte at
+place_of (refusals.BadOrder at) = places.Byte at
+place_of (refusals.BadCount at) = places.Byte at
+place_of (refusals.BadWidth at) = places.Byte at
+place_of (refusals.BadTag at) = places.Byte at
+place_of (refusals.BadMask at) = places.Byte at
+place_of (refusals.BadDictionary at) = places.Byte at
+place_of (refusals.BadCode at) = places.Byte at
+place_of (refusals.BadRange at) = places.Byte at
+place_of (refusals.TrailingBytes at) = places.Byte at
+place_of (refusals.NotCanonical at) = places.Byte at
+place_of (refusals.Syntax at) = places.Byte at
+place_of (refusals.NoSuchColumn at) = places.Byte at
+place_of (refusals.NotGrouped at) = places.Byte at
+place_of (refusals.NumberTooLarge at) = places.Byte at
+place_of other = places.Nowhere
+
 -- one value after a space
 abbrev pub word_of : ℕ → List ℕ
 word_of n = codes " " ++ decimal n
 
--- its values, each after one space
-abbrev pub refusal_values : Refusal → List ℕ
-refusal_values (refusals.Conflict name) = codes " " ++ name_text name
-refusal_values (refusals.WrongArity at) = word_of at
-refusal_values (refusals.OutOfType row column) = word_of row ++ word_of column
-refusal_values (refusals.Truncated at) = word_of at
-refusal_values (refusals.BadOrder at) = word_of at
-refusal_values (refusals.BadCount at) = word_of at
-refusal_values (refusals.BadWidth at) = word_of at
-refusal_values (refusals.BadTag at) = word_of at
-refusal_values (refusals.BadMask at) = word_of at
-refusal_values (refusals.BadDictionary at) = word_of at
-refusal_values (refusals.BadCode at) = word_of at
-refusal_values (refusals.BadRange at) = word_of at
-refusal_values (refusals.TrailingBytes at) = word_of at
-refusal_values (refusals.NotCanonical at) = word_of at
-refusal_values (refusals.Syntax at) = word_of at
-refusal_values (refusals.NoSuchColumn at) = word_of at
-refusal_values (refusals.NotGrouped at) = word_of at
-refusal_values (refusals.NumberTooLarge at) = word_of at
-refusal_values other = []
+-- the values of a place, each after one space
+abbrev pub place_text : Place → List ℕ
+place_text places.Nowhere = []
+place_text (places.Batch name) = codes " " ++ name_text name
+place_text (places.Row row) = word_of row
+place_text (places.Cell row column) = word_of row ++ word_of column
+place_text (places.Byte at) = word_of at
 
 -- as it is written: Full, or Conflict 1.7, or OutOfType 0 1
 abbrev pub refusal_text : Refusal → List ℕ
-refusal_text refusal = refusal_name refusal ++ refusal_values refusal
+refusal_text refusal = refusal_name refusal ++ place_text (place_of refusal)

@@ -168,7 +168,7 @@ pub record IsBatch (table : Table) (rows : Batch) : Type 0 where
   pub limit : length rows ≤ row_limit
   pub rows_fit : AreRows table.columns rows
 
--- the type of so many bits
+-- the type of a number of bits
 abbrev pub type_of : ℕ → ColType
 type_of bits = cond (bits == 8) TinyInt (cond (bits == 16) SmallInt (cond (bits == 32) Integer BigInt))
 

@@ -11,7 +11,7 @@ abbrev pub truth_of : Bool → Truth
 truth_of false = False
 truth_of true = True
 
--- AND: false beside anything is false, true beside anything changes nothing
+-- AND: false with anything is false, true with anything changes nothing
 abbrev pub and_of : Truth → Truth → Truth
 and_of False t = False
 and_of Unknown False = False
@@ -19,7 +19,7 @@ and_of Unknown Unknown = Unknown
 and_of Unknown True = Unknown
 and_of True t = t
 
--- OR: true beside anything is true, false beside anything changes nothing
+-- OR: true with anything is true, false with anything changes nothing
 abbrev pub or_of : Truth → Truth → Truth
 or_of False t = t
 or_of Unknown False = Unknown

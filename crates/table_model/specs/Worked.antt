@@ -31,7 +31,7 @@ rows =
     (Some (pos 1) ∷ Some (pos 10) ∷ []) ∷ (Some (pos 1) ∷ None ∷ []) ∷ (None ∷ Some (pos 5) ∷ [])
     ∷ (Some (pos 2) ∷ Some (pos 7) ∷ []) ∷ (Some (pos 2) ∷ Some (pos 7) ∷ []) ∷ []
 
--- A where a query names it; where that stands in its text changes no answer
+-- A where a query names it; where that is in its text changes no answer
 abbrev pub a : ColumnMention
 a = record { name = codes "A"; at = 0 }
 

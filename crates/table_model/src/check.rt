@@ -1,21 +1,21 @@
-//! Which rows may stand in a batch of a table.
+//! Which rows a batch of a table can have.
 ghost use Rattle.std.specs.Prelude.{◌≡◌, ◌↔◌, ◌==◌, IsOk, length};
 ghost use Rattle.table_model.specs.Outcome.{unless};
-ghost use Rattle.table_model.specs.Table.{fits, first_fault, row_fault, rows_fault, IsBatch};
+ghost use Rattle.table_model.specs.Table.{first_fault, row_fault, rows_fault, IsBatch};
 
 use crate::refusal::Refusal;
-use crate::row::Row;
+use crate::rows::Rows;
 use crate::schema::{Column, Schema};
 
 /// The greatest number of rows in a batch.
 const MAX_ROWS: usize = 65_536;
 
-/// Whether the rows may stand in a batch of the table, or their first fault.
+/// Whether a batch of the table can have these rows, or their first fault.
 ///
-/// Refused are, in this order: no rows (`EmptyBatch`), more than 65,536 (`BatchTooLong`), and then row by row a row that has
-/// not one cell for each column (`WrongArity`), and from the left a cell outside its column's type (`OutOfType`).
+/// The refusals are, in this order: no rows (`EmptyBatch`), more than 65,536 (`BatchTooLong`), and then row by row a row with the
+/// wrong number of cells (`WrongArity`), and from the left a cell outside its column's type (`OutOfType`).
 #[tactic(auto, unfolding(crate::specs::Table::rows_fault))]
-pub fn check_rows(schema: &Schema, rows: &[Row]) -> Result<(), Refusal>
+pub fn check_rows(schema: &Schema, rows: &Rows) -> Result<(), Refusal>
     ensures fault { result ≡ unless (rows_fault schema.now rows.now) }
     ensures accepts { IsOk result ↔ IsBatch schema.now rows.now }
 {
@@ -32,11 +32,11 @@ pub fn check_rows(schema: &Schema, rows: &[Row]) -> Result<(), Refusal>
 }
 
 /// The first fault of the rows, row by row.
-fn first_fault(columns: &[Column], rows: &[Row]) -> Option<Refusal>
+fn first_fault(columns: &[Column], rows: &Rows) -> Option<Refusal>
     ensures { result ≡ first_fault columns.now 0 rows.now }
 {
     for row in 0..rows.len() {
-        let fault = row_fault(columns, row, rows[row].cells());
+        let fault = row_fault(columns, row, rows.row(row));
         if fault.is_some() {
             return fault;
         }
@@ -52,19 +52,9 @@ fn row_fault(columns: &[Column], row: usize, cells: &[Option<i128>]) -> Option<R
         return Some(Refusal::WrongArity(row));
     }
     for column in 0..cells.len() {
-        if !fits(&columns[column], cells[column]) {
+        if !columns[column].fits(cells[column]) {
             return Some(Refusal::OutOfType { row, column });
         }
     }
     None
-}
-
-/// Whether the cell is null or a value of the column's type.
-fn fits(column: &Column, cell: Option<i128>) -> bool
-    ensures { result ≡ fits column.now cell }
-{
-    match cell {
-        None => true,
-        Some(value) => column.column_type().holds(value),
-    }
 }

@@ -52,7 +52,7 @@ pub fn same_word(a: &[u8], b: &[u8]) -> bool
 }
 
 /// Whether the text is a word: a letter, and then letters, digits and `_`, at most 64 bytes in all.
-pub fn is_word(text: &[u8]) -> bool
+fn is_word(text: &[u8]) -> bool
     ensures { result ≡ is_word text.now }
 {
     match text.split_first() {

@@ -49,7 +49,7 @@ pub fn answer_laws()
     ensures { AnswerLaws }
 {}
 
-/// The worked queries of docs/SQL.md have the answers that stand there.
+/// The worked queries of docs/SQL.md have the answers that are there.
 pub fn worked_answers()
     ensures { WorkedAnswers }
 {}

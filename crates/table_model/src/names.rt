@@ -35,7 +35,7 @@ impl BatchName {
         self.origin.0 != 0 && self.number.0 != 0
     }
 
-    /// How this name stands to another in the derived order: by origin, and then by number.
+    /// How this name compares with another in the derived order: by origin, and then by number.
     pub fn order(&self, other: &BatchName) -> Ordering
         ensures { result ≡ name_cmp self.now other.now }
     {
@@ -44,7 +44,7 @@ impl BatchName {
 }
 
 impl RowName {
-    /// How this name stands to another in the derived order: by batch, and then by ordinal.
+    /// How this name compares with another in the derived order: by batch, and then by ordinal.
     pub fn order(&self, other: &RowName) -> Ordering
         ensures { result ≡ row_name_cmp self.now other.now }
     {

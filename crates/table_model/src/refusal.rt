@@ -1,10 +1,12 @@
 //! Refusals: why a call changed nothing.
 ghost use Rattle.std.specs.Prelude.{◌≡◌};
 ghost use Rattle.table_model.specs.declared.refusal.Refusal.TheVariants.{Memory};
-ghost use Rattle.table_model.specs.RefusalText.{number_of, refusal_name};
+ghost use Rattle.table_model.specs.RefusalText.{number_of, place_of, refusal_name};
 
 use crate::names::BatchName;
+use crate::place::Place;
 use std::alloc::{AllocError, AllocFailed};
+use std::error::Error;
 use std::fmt;
 
 /// Why a call was refused. A refused call leaves its object as it was.
@@ -42,7 +44,7 @@ pub enum Refusal {
     BadMagic,
     /// A version that is not known.
     BadVersion,
-    /// Something that does not come after what stands before it.
+    /// Something that does not come after what is before it.
     BadOrder(u64),
     /// A count outside its limits.
     BadCount(u64),
@@ -60,13 +62,13 @@ pub enum Refusal {
     BadRange(u64),
     /// Bytes after the end.
     TrailingBytes(u64),
-    /// Not the one file of what it stands for.
+    /// Not the one file of what it represents.
     NotCanonical(u64),
     /// A query that the grammar has not.
     Syntax(u64),
     /// Another table than the schema's.
     NoSuchTable,
-    /// A column that the table has not.
+    /// A column that the table does not have.
     NoSuchColumn(u64),
     /// A column that GROUP BY does not name.
     NotGrouped(u64),
@@ -194,21 +196,15 @@ impl Refusal {
             Refusal::NoSuchMessage => "NoSuchMessage",
         }
     }
-}
 
-/// The refusal's name, and then its values, each after one space: `Conflict 1.7`.
-impl fmt::Display for Refusal {
-    ghost use Rattle.std.specs.Prelude.{Some};
-    ghost use Rattle.table_model.specs.RefusalText.{refusal_text};
-
-    ghost output = { λ refusal. Some (refusal_text refusal) };
-
-    fn fmt<W: fmt::Write>(&self, f: &mut fmt::Formatter<W>) -> fmt::Result {
-        f.write_str(self.name())?;
-        match self {
-            Refusal::Conflict(name) => write!(f, " {name}"),
-            Refusal::WrongArity(at) => write!(f, " {at}"),
-            Refusal::OutOfType { row, column } => write!(f, " {row} {column}"),
+    /// What the refusal names, with its values.
+    pub fn place(&self) -> Place
+        ensures { result ≡ place_of self.now }
+    {
+        match *self {
+            Refusal::Conflict(name) => Place::Batch(name),
+            Refusal::WrongArity(row) => Place::Row(row),
+            Refusal::OutOfType { row, column } => Place::Cell { row, column },
             Refusal::Truncated(at)
             | Refusal::BadOrder(at)
             | Refusal::BadCount(at)
@@ -223,8 +219,23 @@ impl fmt::Display for Refusal {
             | Refusal::Syntax(at)
             | Refusal::NoSuchColumn(at)
             | Refusal::NotGrouped(at)
-            | Refusal::NumberTooLarge(at) => write!(f, " {at}"),
-            _ => Ok(()),
+            | Refusal::NumberTooLarge(at) => Place::Byte(at),
+            _ => Place::Nowhere,
         }
     }
 }
+
+/// The refusal's name, and then its values, each after one space: `Conflict 1.7`.
+impl fmt::Display for Refusal {
+    ghost use Rattle.std.specs.Prelude.{Some};
+    ghost use Rattle.table_model.specs.RefusalText.{refusal_text};
+
+    ghost output = { λ refusal. Some (refusal_text refusal) };
+
+    fn fmt<W: fmt::Write>(&self, f: &mut fmt::Formatter<W>) -> fmt::Result {
+        f.write_str(self.name())?;
+        write!(f, "{}", self.place())
+    }
+}
+
+impl Error for Refusal {}

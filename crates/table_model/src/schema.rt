@@ -3,7 +3,7 @@ ghost use Rattle.std.specs.Prelude.{◌≡◌, ◌<◌, ◌≤◌, map, length, 
 ghost use Rattle.std.specs.List.{list_all, list_any, zip};
 ghost use Rattle.table_model.specs.Meaning.{column_at};
 ghost use Rattle.table_model.specs.Outcome.{Gives};
-ghost use Rattle.table_model.specs.Table.{bits_of, type_named, is_in_range, schema_of, folded_table, column_of, name_of, is_named, has_name, is_schema, are_distinct, same_column, same_columns, same_table, column_limit, IsTable};
+ghost use Rattle.table_model.specs.Table.{bits_of, type_named, is_in_range, schema_of, folded_table, column_of, fits, name_of, is_named, has_name, is_schema, are_distinct, same_column, same_columns, same_table, column_limit, IsTable};
 
 use crate::identifier::{folded_copy, is_identifier, same_text, same_word};
 use crate::refusal::Refusal;
@@ -112,6 +112,16 @@ impl Column {
         ensures { result ≡ self.now.column_type }
     {
         self.column_type
+    }
+
+    /// Whether the column can have the cell: a null, or a value of its type.
+    pub fn fits(&self, cell: Option<i128>) -> bool
+        ensures { result ≡ fits self.now cell }
+    {
+        match cell {
+            None => true,
+            Some(value) => self.column_type.holds(value),
+        }
     }
 
     /// A column of this name, folded to upper case, and this type.

@@ -61,7 +61,7 @@ impl Truth {
         self == value
     }
 
-    /// How this truth value stands to another in the derived order: false, unknown, true.
+    /// How this truth value compares with another in the derived order: false, unknown, true.
     pub fn order(&self, other: &Truth) -> Ordering
         ensures { result ≡ nat_cmp (rank self.now) (rank other.now) }
     {

@@ -3,7 +3,7 @@
 //! says; with none refused it passes. The command `tests/refused-memory` refuses each in turn and counts those texts.
 use std::alloc::{AllocError, Global};
 use std::test::Fail;
-use table_model::{ColType, Refusal, Row, Rows, Schema, same_rows};
+use table_model::{ColType, Refusal, Row, Rows, Schema};
 use test_support::growth_refused;
 
 /// The columns of these tests.
@@ -57,38 +57,6 @@ fn a_refused_copy_leaves_its_schema(rt: HostRuntime) -> Result<(), Fail> {
 /// The cells of a row of these tests.
 const CELLS: [Option<i128>; 2] = [Some(7), None];
 
-/// Copies a row of these tests.
-fn copy_row(alloc: Global, row: &Row) -> Result<(), Fail> {
-    match row.copy(alloc) {
-        Ok(copied) => if copied.cells() == CELLS.as_slice() {
-            Ok(())
-        } else {
-            growth_refused(false)
-        },
-        Err(AllocError) => growth_refused(
-            row.cells() == CELLS.as_slice() && row.copy(alloc).is_ok(),
-        ),
-    }
-}
-
-#[test]
-fn a_refused_copy_leaves_its_row(rt: HostRuntime) -> Result<(), Fail> {
-    let row = Row::from_cells(Vec::from_slice(rt.alloc(), &CELLS)?);
-    copy_row(rt.alloc(), &row)
-}
-
-/// Copies a list of rows.
-fn copy_rows(alloc: Global, rows: &[Row]) -> Result<(), Fail> {
-    match Rows::copy_of(alloc, rows) {
-        Ok(copied) => if same_rows(copied.as_slice(), rows) {
-            Ok(())
-        } else {
-            growth_refused(false)
-        },
-        Err(AllocError) => growth_refused(rows.len() == 2 && Rows::copy_of(alloc, rows).is_ok()),
-    }
-}
-
 /// Two rows of these tests.
 fn two_rows(alloc: Global) -> Result<[Row; 2], AllocError> {
     Ok([
@@ -97,8 +65,48 @@ fn two_rows(alloc: Global) -> Result<[Row; 2], AllocError> {
     ])
 }
 
+/// Whether the rows are so many of these tests.
+fn are_rows(rows: &Rows, count: usize) -> bool {
+    rows.len() == count
+        && (0..rows.len()).all(|row| row >= rows.len() || rows.row(row) == CELLS.as_slice())
+}
+
+/// Copies a list of rows.
+fn copy_rows(alloc: Global, rows: &[Row]) -> Result<(), Fail> {
+    match Rows::copy_of(alloc, rows) {
+        Ok(copied) => if are_rows(&copied, 2) {
+            Ok(())
+        } else {
+            growth_refused(false)
+        },
+        Err(AllocError) => growth_refused(rows.len() == 2 && Rows::copy_of(alloc, rows).is_ok()),
+    }
+}
+
 #[test]
 fn a_refused_copy_leaves_its_list_of_rows(rt: HostRuntime) -> Result<(), Fail> {
     let rows = two_rows(rt.alloc())?;
     copy_rows(rt.alloc(), &rows)
+}
+
+/// Adds a row to one that is there.
+fn push_row(alloc: Global) -> Result<(), Fail> {
+    let mut rows = Rows::new(alloc);
+    rows.push_row(&CELLS)?;
+    match rows.push_row(&CELLS) {
+        Ok(()) => if are_rows(&rows, 2) {
+            Ok(())
+        } else {
+            growth_refused(false)
+        },
+        Err(AllocError) => {
+            let is_same = are_rows(&rows, 1);
+            growth_refused(is_same && rows.push_row(&CELLS).is_ok())
+        }
+    }
+}
+
+#[test]
+fn a_refused_row_leaves_the_rows_before_it(rt: HostRuntime) -> Result<(), Fail> {
+    push_row(rt.alloc())
 }

@@ -5,10 +5,10 @@ use std::io::{Read, Write};
 use std::test::Fail;
 use table_model::{
     Answer, AnswerRow, BatchName, ColType, Counted, Field, IsTruth, Number, Op, Origin, Refusal,
-    Row, RowName, Rows, Schema, Stop, Truth, check_rows, column_at, is_identifier, is_keyword,
-    is_word, is_word_byte, same_rows, same_word,
+    Row, RowName, Rows, Schema, Truth, check_rows, column_at, is_identifier, is_keyword,
+    is_word_byte, same_word,
 };
-use test_support::{agree, agree_at};
+use test_support::{Stop, agree, agree_at};
 
 const A: &str = "A";
 
@@ -49,14 +49,10 @@ const COLUMNS: [(&str, ColType); 33] = [
     ("G1", ColType::SmallInt),
 ];
 
-fn row_of(alloc: Global, cells: &[Option<i128>]) -> Result<Row, AllocError> {
-    Ok(Row::from_cells(Vec::from_slice(alloc, cells)?))
-}
-
-fn rows_of(alloc: Global, rows: &[&[Option<i128>]]) -> Result<Vec<Row>, AllocError> {
-    let mut made = Vec::with_capacity(alloc, rows.len())?;
+fn rows_of(alloc: Global, rows: &[&[Option<i128>]]) -> Result<Rows, AllocError> {
+    let mut made = Rows::new(alloc);
     for cells in rows {
-        made.push(row_of(alloc, cells)?)?;
+        made.push_row(cells)?;
     }
     Ok(made)
 }
@@ -117,7 +113,7 @@ fn the_first_fault_of_a_batch_is_named(rt: HostRuntime) -> Result<(), Fail> {
     let schema = Schema::new(rt.alloc(), "T", &COLUMNS[..3])?;
     for &(rows, want) in &FAULTS {
         let rows = rows_of(rt.alloc(), rows)?;
-        agree(check_rows(&schema, rows.as_slice()), want)?;
+        agree(check_rows(&schema, &rows), want)?;
     }
     Ok(())
 }
@@ -135,7 +131,7 @@ fn a_tinyint_is_from_minus_128_to_127(rt: HostRuntime) -> Result<(), Fail> {
     let schema = Schema::new(rt.alloc(), "T", &[(A, ColType::TinyInt)])?;
     for &(cell, want) in &TINY {
         let rows = rows_of(rt.alloc(), &[&[Some(cell)]])?;
-        agree_at(cell, check_rows(&schema, rows.as_slice()), want)?;
+        agree_at(cell, check_rows(&schema, &rows), want)?;
         agree_at(cell, ColType::TinyInt.holds(cell), want.is_ok())?;
     }
     Ok(())
@@ -145,13 +141,13 @@ fn a_tinyint_is_from_minus_128_to_127(rt: HostRuntime) -> Result<(), Fail> {
 #[test]
 fn a_batch_has_at_most_65536_rows(rt: HostRuntime) -> Result<(), Fail> {
     let schema = Schema::new(rt.alloc(), "T", &COLUMNS[..1])?;
-    let mut rows = Vec::with_capacity(rt.alloc(), 65_537)?;
+    let mut rows = Rows::new(rt.alloc());
     for _ in 0..65_536 {
-        rows.push(row_of(rt.alloc(), &[None])?)?;
+        rows.push_row(&[None])?;
     }
-    let fits = check_rows(&schema, rows.as_slice());
-    rows.push(Row::from_cells(Vec::new(rt.alloc())))?;
-    let too_long = check_rows(&schema, rows.as_slice());
+    let fits = check_rows(&schema, &rows);
+    rows.push_row(&[])?;
+    let too_long = check_rows(&schema, &rows);
     agree((fits, too_long), (Ok(()), Err(Refusal::BatchTooLong)))
 }
 
@@ -244,7 +240,7 @@ fn keywords_are_known_in_either_case(rt: HostRuntime) -> Result<(), Fail> {
         "all AND As aVg BETWEEN by Count DISTINCT false FROM group HAVING in IS max MIN not NULL or SELECT sum TRUE unknown WHERE";
     for word in words.split(' ') {
         let text = word.as_bytes();
-        assert!(rt; is_keyword(text) && is_word(text) && !is_identifier(text));
+        assert!(rt; is_keyword(text) && !is_identifier(text));
     }
     assert!(rt;
         !is_keyword(b"ON")
@@ -592,19 +588,46 @@ fn a_long_piece_is_passed_on_whole(rt: HostRuntime) -> Result<(), Fail> {
     Ok(())
 }
 
+/// Rows of one cell, of none and of three.
+const RAGGED: [&[Option<i128>]; 5] = [
+    &[Some(1)],
+    &[],
+    &[None],
+    &[Some(-2), None, Some(170_141_183_460_469_231_731)],
+    &[],
+];
+
+/// Whether a batch has exactly these rows.
+fn has_rows(batch: &Rows, rows: &[&[Option<i128>]]) -> bool {
+    if batch.len() != rows.len() {
+        return false;
+    }
+    for n in 0..rows.len() {
+        if batch.row(n) != rows[n] {
+            return false;
+        }
+    }
+    true
+}
+
 #[test]
-fn rows_give_their_parts_back(rt: HostRuntime) -> Result<(), Fail> {
-    let row = row_of(rt.alloc(), &[Some(7), None])?;
-    let copy = row.copy(rt.alloc())?;
-    assert!(rt; row.into_cells().as_slice() == copy.cells());
-    let cells: [&[Option<i128>]; 2] = [&[Some(7), None], &[]];
-    let rows = Rows::from_vec(rows_of(rt.alloc(), &cells)?);
-    let copies = Rows::copy_of(rt.alloc(), rows.as_slice())?;
-    let one = rows_of(rt.alloc(), &cells[..1])?;
-    assert!(rt;
-        same_rows(copies.as_slice(), rows.as_slice()) && !same_rows(one.as_slice(), rows.as_slice())
-    );
-    assert!(rt; copies.into_vec().len() == 2);
+fn rows_of_any_number_of_cells_come_back(rt: HostRuntime) -> Result<(), Fail> {
+    for count in 0..6 {
+        let rows = &RAGGED[..count];
+        let batch = rows_of(rt.alloc(), rows)?;
+        agree(batch.is_empty(), count == 0)?;
+        assert!(rt; has_rows(&batch, rows));
+    }
+    Ok(())
+}
+
+#[test]
+fn a_copy_has_the_rows_of_its_list(rt: HostRuntime) -> Result<(), Fail> {
+    let row = Row::from_cells(Vec::from_slice(rt.alloc(), RAGGED[3])?);
+    agree(row.cells().len(), 3)?;
+    let list = vec![in rt.alloc(); row, Row::from_cells(Vec::new(rt.alloc()))]?;
+    let copy = Rows::copy_of(rt.alloc(), &list)?;
+    assert!(rt; has_rows(&copy, &RAGGED[3..]));
     Ok(())
 }
 

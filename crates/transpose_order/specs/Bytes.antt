@@ -1,4 +1,4 @@
--- Bits as bytes: bit b stands at bit b % 8 of byte b / 8.
+-- Bits as bytes: bit b is bit b % 8 of byte b / 8.
 use Rattle.std.specs.Prelude.{ℕ, ◌+◌, ◌*◌, ◌/◌, ◌%◌, List, map, slice_index}
 use Rattle.std.specs.Int.{bit_at}
 use Rattle.std.specs.List.{range_with_len}

@@ -1,4 +1,4 @@
--- Where a row of a vector of 1024 rows stands: its lane, its step, and its position in the one order of all widths.
+-- Where a row of a vector of 1024 rows is: its lane, its step, and its position in the one order of all widths.
 use Rattle.std.specs.Prelude.{◌≡◌, ℕ, zero, suc, ◌+◌, ◌*◌, ◌/◌, ◌%◌, ◌^◌, ◌<◌, cond, ◌==◌, ◌⊎◌}
 
 -- the k low bits of x in reverse

@@ -1,13 +1,12 @@
 //! Answers from finished groups.
 ghost use Rattle.std.specs.Prelude.{◌≡◌, List, IfOk, map};
-ghost use Rattle.table_model.specs.Meaning.{answer_over, rows_where};
+ghost use Rattle.table_model.specs.Meaning.{answer_over, item_text, rows_where};
 ghost use Rattle.table_model.specs.State.{Cells};
 ghost use Rattle.query_eval.specs.Finished.{groups_kept, groups_over, plan_of, seen_items};
 
-use crate::answers::finished_group::FinishedGroup;
 use crate::answers::having::{is_kept, item_at};
 use crate::answers::heading::heading;
-use crate::tallies::Plan;
+use crate::tallies::{FinishedGroup, Plan};
 use std::alloc::{AllocError, Global};
 use table_model::{Answer, AnswerRow, Condition, Item, Query, Schema};
 
@@ -48,16 +47,17 @@ fn kept_rows(
     Ok(rows)
 }
 
-/// The answer of a query whose groups are finished.
-pub fn finish(
+/// The answer of a query with these finished groups: its heading, and a row of each group that HAVING keeps, in the order of the
+/// groups.
+pub fn answer_of_groups(
     alloc: Global,
     schema: &Schema,
     query: &Query,
     plan: &Plan,
     groups: &[FinishedGroup],
 ) -> Result<Answer, AllocError>
-    requires { plan.now ≡ plan_of schema.now.columns query.now }
-    ensures { IfOk result (λ answer. (rows : List Cells) → groups.now ≡ groups_over schema.now query.now rows → answer ≡ answer_over schema.now query.now rows) }
+    ensures heading { IfOk result (λ answer. answer.heading ≡ map item_text query.now.items) }
+    ensures rows { IfOk result (λ answer. answer.rows ≡ map (seen_items schema.now.columns plan.now query.now.items) (groups_kept schema.now.columns plan.now query.now.having groups.now)) }
 {
     let texts = heading(alloc, query.items.as_slice())?;
     let rows = kept_rows(
@@ -69,4 +69,19 @@ pub fn finish(
         &query.having,
     )?;
     Ok(Answer::new(texts, rows))
+}
+
+/// The answer of a query whose groups are finished.
+pub fn finish(
+    alloc: Global,
+    schema: &Schema,
+    query: &Query,
+    plan: &Plan,
+    groups: &[FinishedGroup],
+) -> Result<Answer, AllocError>
+    requires { plan.now ≡ plan_of schema.now.columns query.now }
+    ensures { IfOk result (λ answer. (rows : List Cells) → groups.now ≡ groups_over schema.now query.now rows → answer ≡ answer_over schema.now query.now rows) }
+{
+    let answer = answer_of_groups(alloc, schema, query, plan, groups)?;
+    Ok(answer)
 }

@@ -8,8 +8,7 @@ ghost use Rattle.table_model.specs.Truth.{compared};
 ghost use Rattle.query_eval.specs.Aggregate.{same_aggregate};
 ghost use Rattle.query_eval.specs.Finished.{seen_aggregate, seen_cell, seen_item, seen_operand};
 
-use crate::answers::finished_group::FinishedGroup;
-use crate::tallies::{Aggregate, Plan, place_or_end};
+use crate::tallies::{Aggregate, FinishedGroup, Plan, place_or_end};
 use table_model::{
     Condition, Factor, Field, ItemValue, Literals, MILLION, Op, Operand, Predicate, Primary,
     Schema, Term, Test, Truth,

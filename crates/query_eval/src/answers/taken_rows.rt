@@ -9,13 +9,13 @@ ghost use Rattle.query_eval.specs.Kept.{has_live, live_vectors_in, live_vectors,
 ghost use Rattle.query_eval.specs.Taken.{AreTaken, TakesIn, all_mentions};
 ghost use Rattle.query_eval.specs.Vector.{IsThere, batch_count, vector_of};
 
-use crate::answers::finished_group::FinishedGroup;
-use crate::answers::grouped_table::grouped_table;
-use crate::columns::Columns;
+use crate::columns::{Columns, VectorId};
 use crate::filter::{KeptVector, has_rows, kept_mask};
-use crate::grouping::{Groups, Room, group_vector};
-use crate::tallies::{Plan, Tally, no_tallies, tally_vector, whole_group};
-use crate::vector_id::VectorId;
+use crate::grouping::Room;
+use crate::tallies::{
+    FinishedGroup, Groups, Plan, Tally, group_vector, grouped_table, no_tallies, tally_vector,
+    whole_group,
+};
 use std::alloc::{AllocError, Global};
 use table_model::Condition;
 

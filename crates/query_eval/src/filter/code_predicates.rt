@@ -7,7 +7,7 @@ ghost use Rattle.transpose_order.specs.Mask.{has};
 ghost use Rattle.query_eval.specs.Coded.{cell_of_code, is_code_among};
 ghost use Rattle.query_eval.specs.Where.{IsPair};
 
-use crate::code_rows::coded_rows;
+use crate::filter::code_rows::coded_rows;
 use crate::filter::pair::Pair;
 use table_model::Truth;
 use transpose_order::Mask;
@@ -76,7 +76,7 @@ fn rows_among(
     found
 }
 
-/// IN of a column at the rows of a mask, by the codes of its rows: a code at the count stands for null, and each below it for its key.
+/// IN of a column at the rows of a mask, by the codes of its rows: a code at the count represents null, and each below it for its key.
 pub fn among_codes(
     codes: &[u16; 1024],
     keys: &[i64; 1024],

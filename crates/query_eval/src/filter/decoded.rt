@@ -5,9 +5,8 @@ ghost use Rattle.query_eval.specs.Decoded.{decoded_at};
 ghost use Rattle.query_eval.specs.Side.{side_at, side_mentions, HasColumn};
 ghost use Rattle.query_eval.specs.Vector.{IsThere, vector_of};
 
-use crate::columns::Columns;
+use crate::columns::{Columns, VectorId};
 use crate::filter::side::Side;
-use crate::vector_id::VectorId;
 use transpose_order::Mask;
 
 /// The cells of a side at the rows of a vector: a column's nulls and values, or one cell that is the same at each row.

@@ -5,9 +5,8 @@ ghost use Rattle.query_eval.specs.Kept.{where_mentions, kept_mask, has_live};
 ghost use Rattle.query_eval.specs.Mentions.{condition_mentions};
 ghost use Rattle.query_eval.specs.Vector.{IsThere, vector_of};
 
-use crate::columns::Columns;
+use crate::columns::{Columns, VectorId};
 use crate::filter::true_rows::condition_rows;
-use crate::vector_id::VectorId;
 use table_model::Condition;
 use transpose_order::Mask;
 

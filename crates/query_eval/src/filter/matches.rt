@@ -6,9 +6,8 @@ ghost use Rattle.query_eval.specs.Kept.{live_vectors_in, live_vectors, batch_row
 ghost use Rattle.query_eval.specs.Mentions.{condition_mentions};
 ghost use Rattle.query_eval.specs.Vector.{batch_at, batch_count};
 
-use crate::columns::Columns;
+use crate::columns::{Columns, VectorId};
 use crate::filter::kept_rows::true_mask;
-use crate::vector_id::VectorId;
 use std::alloc::{AllocError, Global};
 use table_model::{BatchName, Condition, RowName};
 use transpose_order::{Mask, VECTOR_ROWS};

@@ -9,13 +9,12 @@ ghost use Rattle.query_eval.specs.Side.{side_seen, side_mentions, HasColumn};
 ghost use Rattle.query_eval.specs.Vector.{IsThere, cell_at, vector_of};
 ghost use Rattle.query_eval.specs.Where.{IsPair, between_seen, cell_between, operand_seen};
 
-use crate::columns::Columns;
+use crate::columns::{Columns, VectorId};
 use crate::filter::code_predicates::{MOST_KEYS, among_codes};
 use crate::filter::decoded::decode;
 use crate::filter::pair::Pair;
 use crate::filter::rows::{among, among_values, between, between_rows};
 use crate::filter::side::{Side, side_of};
-use crate::vector_id::VectorId;
 use table_model::{Literals, Operand};
 use transpose_order::Mask;
 

@@ -11,7 +11,7 @@ ghost use Rattle.query_eval.specs.Where.{IsPair, cell_between};
 
 use crate::filter::decoded::Decoded;
 use crate::filter::pair::Pair;
-use crate::tallies::equal_rows;
+use crate::filter::value_rows::equal_rows;
 use table_model::{Op, Truth};
 use transpose_order::Mask;
 

@@ -9,10 +9,9 @@ ghost use Rattle.query_eval.specs.Side.{side_at, side_mentions, HasColumn, Stand
 ghost use Rattle.query_eval.specs.Vector.{IsThere, vector_of};
 ghost use Rattle.query_eval.specs.Where.{IsPair, operand_seen};
 
-use crate::columns::Columns;
+use crate::columns::{Columns, VectorId};
 use crate::filter::column_places::place_of;
 use crate::filter::pair::Pair;
-use crate::vector_id::VectorId;
 use table_model::{Op, Operand, Truth};
 use transpose_order::Mask;
 
@@ -23,7 +22,7 @@ pub enum Side {
     Fixed(Option<i128>),
 }
 
-/// What an operand of WHERE stands for.
+/// What an operand of WHERE represents.
 pub fn side_of<C: Columns>(columns: &C, operand: &Operand) -> Side
     ensures value { StandsFor (C.seen columns.now).table (C.seen columns.now).state operand.now result }
     ensures column { HasColumn (C.seen columns.now).table result }

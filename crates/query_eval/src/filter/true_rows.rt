@@ -12,10 +12,9 @@ ghost use Rattle.query_eval.specs.Pairs.{yes_of};
 ghost use Rattle.query_eval.specs.Vector.{IsThere, vector_of};
 ghost use Rattle.query_eval.specs.Where.{truth_in};
 
-use crate::columns::Columns;
+use crate::columns::{Columns, VectorId};
 use crate::filter::predicates::range_rows;
 use crate::filter::where_masks::{factor_masks, predicate_masks, test_masks};
-use crate::vector_id::VectorId;
 use table_model::{Condition, Factor, Operand, Predicate, Primary, Term, Test};
 use transpose_order::Mask;
 

@@ -8,11 +8,10 @@ ghost use Rattle.query_eval.specs.Mentions.{condition_mentions, predicate_mentio
 ghost use Rattle.query_eval.specs.Vector.{IsThere, row_at, vector_of};
 ghost use Rattle.query_eval.specs.Where.{IsPair, truth_in};
 
-use crate::columns::Columns;
+use crate::columns::{Columns, VectorId};
 use crate::filter::pair::Pair;
 use crate::filter::predicates::{among_operand, between_operands};
 use crate::filter::side::{compare_operands, null_operand};
-use crate::vector_id::VectorId;
 use table_model::{Condition, Factor, Predicate, Primary, Term, Test, Truth};
 use transpose_order::Mask;
 

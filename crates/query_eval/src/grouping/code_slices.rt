@@ -9,7 +9,7 @@ ghost use Rattle.query_eval.specs.Slices.{IsCoded, code_limit};
 ghost use Rattle.query_eval.specs.Vector.{Vector, row_at};
 ghost use Rattle.query_eval.specs.declared.grouping.split.Slice.{Slice as ASlice};
 
-use crate::code_rows::coded_rows;
+use crate::filter::coded_rows;
 use crate::grouping::places::Places;
 use crate::grouping::split::Slice;
 use std::alloc::{AllocError, Global};
@@ -18,7 +18,7 @@ use transpose_order::Mask;
 /// The greatest number of codes below that of null by which rows are sliced.
 pub const MOST_CODES: usize = 63;
 
-/// The slice of rows with a code. The code equal to the count stands for null, and each below it for its key. A new key gets a new
+/// The slice of rows with a code. The code equal to the count represents null, and each below it for its key. A new key gets a new
 /// place.
 fn slice_of(
     alloc: Global,
@@ -43,7 +43,7 @@ fn slice_of(
     })
 }
 
-/// Slices the rows of a mask by their codes: a code at the count stands for null, and each below it for its key. Each code that a
+/// Slices the rows of a mask by their codes: a code at the count represents null, and each below it for its key. Each code that a
 /// row of the mask has is a slice, so no row is left. A new key gets a new place.
 pub fn slice_codes(
     alloc: Global,

@@ -6,9 +6,8 @@ ghost use Rattle.query_eval.specs.Keys.{AreKeys, column_key, key_cell};
 ghost use Rattle.query_eval.specs.Read.{IsRead, IsSame};
 ghost use Rattle.query_eval.specs.Vector.{IsThere, cell_at, vector_of};
 
-use crate::columns::Columns;
-use crate::tallies::{changed_rows, equal_rows};
-use crate::vector_id::VectorId;
+use crate::columns::{Columns, VectorId};
+use crate::filter::{changed_rows, equal_rows};
 use std::alloc::AllocError;
 use transpose_order::Mask;
 

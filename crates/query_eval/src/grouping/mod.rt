@@ -2,7 +2,6 @@
 
 mod code_slices;
 mod coded_runs;
-mod groups;
 mod key;
 mod key_columns;
 mod places;
@@ -12,7 +11,8 @@ mod slices;
 mod split;
 mod vector_keys;
 
-pub(crate) use groups::{Groups, group_vector};
-pub(crate) use key::Key;
+pub use key::Key;
+pub(crate) use places::Places;
 pub(crate) use room::Room;
+pub(crate) use row_places::place_rows;
 pub(crate) use split::{Slice, Span, Split};

@@ -7,14 +7,13 @@ ghost use Rattle.query_eval.specs.Slices.{AreByCode, IsSplit};
 ghost use Rattle.query_eval.specs.Vector.{IsThere, Vector, vector_of};
 
 use crate::columns::Columns;
-use crate::filter::KeptVector;
+use crate::filter::{KeptVector, is_set};
 use crate::grouping::key::Key;
 use crate::grouping::key_columns::KeyColumn;
 use crate::grouping::places::Places;
 use crate::grouping::room::Room;
 use crate::grouping::slices::read_key;
 use crate::grouping::vector_keys::read_keys;
-use crate::tallies::is_set;
 use std::alloc::{AllocError, Global};
 use transpose_order::Mask;
 

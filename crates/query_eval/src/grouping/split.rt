@@ -80,7 +80,7 @@ impl Split {
         Ok(())
     }
 
-    /// Splits the kept rows by their codes, of which the first `count` stand for values.
+    /// Splits the kept rows by their codes, of which the first `count` represent values.
     fn by_codes(
         &mut self,
         alloc: Global,

@@ -6,15 +6,14 @@ ghost use Rattle.query_eval.specs.Vector.{IsThere, vector_of};
 ghost use Rattle.query_eval.specs.declared.grouping.key_columns.KeyColumn.{KeyColumn as AKeyColumn};
 ghost use Rattle.query_eval.specs.declared.grouping.vector_keys.VectorKeys.TheVariants.{Codes};
 
-use crate::columns::Columns;
+use crate::columns::{Columns, VectorId};
 use crate::grouping::code_slices::MOST_CODES;
 use crate::grouping::key_columns::{KeyColumn, read_columns};
-use crate::vector_id::VectorId;
 use std::alloc::AllocError;
 use transpose_order::Mask;
 
 /// How the keys of a vector's rows are known: by the runs of one grouping column, given by the rows where they start, and their
-/// values; by codes of the rows and how many of them stand for values; or by the decoded columns.
+/// values; by codes of the rows and how many of them represent values; or by the decoded columns.
 #[derive(Clone, Copy, Debug)]
 pub enum VectorKeys {
     Runs(Mask),

@@ -7,7 +7,7 @@ ghost use Rattle.query_eval.specs.Aggregate.{aggregate_of, same_aggregate};
 use crate::filter::place_of;
 use table_model::{ColumnMention, Fold, Schema, SetFunction};
 
-/// A set function, its column by its place in the schema. A place past the last column stands for a name that the schema does not
+/// A set function, its column by its place in the schema. A place past the last column represents a name that the schema does not
 /// have: it has no value.
 #[derive(Clone, Copy, Debug)]
 pub enum Aggregate {

@@ -5,8 +5,8 @@ ghost use Rattle.query_eval.specs.Forms.{AreFormed, formed, formed_none, taken_f
 ghost use Rattle.query_eval.specs.Packed.{ArePackable, IsPackable};
 ghost use Rattle.query_eval.specs.declared.tallies.forms.Form.TheVariants as forms;
 
-use crate::tallies::bits::has_bit;
-use crate::tallies::extreme::Extreme;
+use crate::filter::has_bit;
+use table_model::Extreme;
 use transpose_order::Mask;
 
 /// What a row has in place of its value.
@@ -27,11 +27,11 @@ impl Form {
     {
         match self {
             Form::Packed => 2048 * value + 1,
-            Form::Shown(extreme) => extreme.shown(value),
+            Form::Shown(extreme) => extreme.turned(value),
         }
     }
 
-    /// What stands for no value.
+    /// What represents no value.
     #[inline(always)]
     fn none(self) -> i64
         ensures { result ≡ formed_none self }
@@ -42,7 +42,7 @@ impl Form {
         }
     }
 
-    /// A value in the form if it is taken, otherwise what stands for no value. There is no branch on that.
+    /// A value in the form if it is taken, otherwise what represents no value. There is no branch on that.
     #[inline(always)]
     pub fn at(self, taken: bool, value: i64) -> i64
         requires { self ≡ forms.Packed → IsPackable value }

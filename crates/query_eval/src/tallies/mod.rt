@@ -1,11 +1,14 @@
-//! Set functions under way: what a query asks for, and what is kept of the values so far.
+//! Set functions: what a query asks for, what is kept of the values so far, by groups or without, and the groups when they are
+//! finished.
 
 mod aggregate;
-mod bits;
 mod code_tallies;
 mod distinct;
-mod extreme;
+mod field_values;
+mod finished_group;
 mod forms;
+mod grouped_table;
+mod groups;
 mod masked_folds;
 mod packed;
 mod plan;
@@ -16,11 +19,13 @@ mod split_tallies;
 mod tally;
 mod whole_tallies;
 
-pub(crate) use aggregate::{Aggregate, place_or_end};
-pub(crate) use bits::is_set;
-pub use extreme::Extreme;
-pub(crate) use masked_folds::{changed_rows, equal_rows};
-pub(crate) use plan::Plan;
-pub(crate) use split_tallies::add_columns;
-pub(crate) use tally::Tally;
+pub use aggregate::Aggregate;
+pub(crate) use aggregate::place_or_end;
+pub use field_values::values_field;
+pub use finished_group::FinishedGroup;
+pub(crate) use grouped_table::grouped_table;
+pub use groups::Groups;
+pub(crate) use groups::group_vector;
+pub use plan::Plan;
+pub use tally::{Sums, Tally};
 pub(crate) use whole_tallies::{no_tallies, tally_vector, whole_group};

@@ -45,6 +45,17 @@ impl Plan {
         })
     }
 
+    /// A plan that groups by these places and asks for these aggregates. It takes no memory.
+    pub fn new(grouping: Vec<usize>, aggregates: Vec<Aggregate>) -> Plan
+        ensures grouping { result.grouping ≡ grouping.items }
+        ensures aggregates { result.aggregates ≡ aggregates.items }
+    {
+        Plan {
+            grouping,
+            aggregates,
+        }
+    }
+
     /// The places of the grouping columns, in GROUP BY's order.
     pub fn grouping(&self) -> &[usize]
         ensures { result.now ≡ self.now.grouping }

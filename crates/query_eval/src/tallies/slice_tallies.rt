@@ -1,14 +1,14 @@
 //! Tallies, a group each, as the slices of a vector's rows come: one step a slice.
 ghost use Rattle.std.specs.Prelude.{◌≡◌, ◌<◌, ℕ, List, ℤ, length, slice_index_or, true, OnOk};
 ghost use Rattle.table_model.specs.Values.{total};
-ghost use Rattle.query_eval.specs.Extreme.{extreme_of};
+ghost use Rattle.table_model.specs.Extreme.{extreme_of};
 ghost use Rattle.query_eval.specs.Grouping.{AreCells, AreNulls, HaveSlices};
 ghost use Rattle.query_eval.specs.Slices.{AreShort, values_at};
 ghost use Rattle.query_eval.specs.Tally.{HaveAt, HaveMoreAt, kind_of};
 ghost use Rattle.query_eval.specs.TallyKinds.{aggregate_kind};
 ghost use Rattle.query_eval.specs.Vector.{Vector};
 ghost use Rattle.query_eval.specs.declared.tallies.aggregate.Aggregate.{Aggregate as AnAggregate};
-ghost use Rattle.query_eval.specs.declared.tallies.extreme.Extreme.{Extreme as AnExtreme};
+ghost use Rattle.table_model.specs.declared.extreme.Extreme.{Extreme as AnExtreme};
 ghost use Rattle.query_eval.specs.declared.tallies.tally.Tally.{Tally as ATally};
 ghost use Rattle.query_eval.specs.declared.tallies.tally.TallyKind.TheVariants as kinds;
 

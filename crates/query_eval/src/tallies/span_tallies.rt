@@ -1,7 +1,7 @@
 //! Tallies, one for each group, as the spans of a vector's rows come: one step for each span, over adjacent rows.
 ghost use Rattle.std.specs.Prelude.{◌≡◌, ◌≤◌, Bool, List, ℤ, length, true, OnOk};
 ghost use Rattle.transpose_order.specs.Mask.{count_below, has};
-ghost use Rattle.query_eval.specs.Extreme.{extreme_of};
+ghost use Rattle.table_model.specs.Extreme.{extreme_of};
 ghost use Rattle.query_eval.specs.Forms.{AreFormed, top_between};
 ghost use Rattle.query_eval.specs.Grouping.{AreCells, AreNulls, HaveSpans, TakeCells, TakeSpans};
 ghost use Rattle.query_eval.specs.Packed.{ArePackable, ArePacked, AreSummable, packed_sum};
@@ -9,18 +9,18 @@ ghost use Rattle.query_eval.specs.Slices.{AreShort, rows_between, rows_sliced, s
 ghost use Rattle.query_eval.specs.TallyKinds.{aggregate_kind};
 ghost use Rattle.query_eval.specs.Vector.{Vector};
 ghost use Rattle.query_eval.specs.declared.tallies.aggregate.Aggregate.{Aggregate as AnAggregate};
-ghost use Rattle.query_eval.specs.declared.tallies.extreme.Extreme.{Extreme as AnExtreme};
+ghost use Rattle.table_model.specs.declared.extreme.Extreme.{Extreme as AnExtreme};
 ghost use Rattle.query_eval.specs.declared.tallies.forms.Form.TheVariants.{Shown};
 ghost use Rattle.query_eval.specs.declared.tallies.tally.TallyKind.TheVariants as kinds;
 
 use crate::grouping::Span;
-use crate::tallies::extreme::Extreme;
 use crate::tallies::forms::Form;
 use crate::tallies::masked_folds::are_short;
 use crate::tallies::packed::{are_packable, pack, unpacked};
 use crate::tallies::slice_tallies::{add_slice, count_more, extreme_more, sum_more};
 use crate::tallies::tally::{Tally, TallyKind};
 use std::alloc::AllocError;
+use table_model::Extreme;
 use transpose_order::Mask;
 
 /// A span of the rows that a vector has. One that ends before it begins has none.
@@ -170,7 +170,7 @@ fn extreme_between(
     if top == i64::MIN && end <= rows.next_true(first) {
         return None;
     }
-    Some(extreme.shown(top))
+    Some(extreme.turned(top))
 }
 
 /// Takes the values at the rows of a mask that spans cover, except nulls, into the tallies at their places, which keep an extreme.

@@ -16,7 +16,6 @@ use crate::filter::KeptVector;
 use crate::grouping::Split;
 use crate::tallies::aggregate::Aggregate;
 use crate::tallies::code_tallies::sum_codes;
-use crate::tallies::extreme::Extreme;
 use crate::tallies::masked_folds::are_short;
 use crate::tallies::packed::are_packable;
 use crate::tallies::row_tallies::{add_rows, count_rows, sum_rows};
@@ -24,7 +23,7 @@ use crate::tallies::slice_tallies::{add_slices, count_slices};
 use crate::tallies::span_tallies::{add_spans, count_spans};
 use crate::tallies::tally::{Tally, TallyKind};
 use std::alloc::{AllocError, Global};
-use table_model::Fold;
+use table_model::{Extreme, Fold};
 use transpose_order::Mask;
 
 /// What the tallies of a set function keep.

@@ -7,20 +7,19 @@ ghost use Rattle.table_model.specs.Group.{state_row_limit};
 ghost use Rattle.table_model.specs.Meaning.{fold_value};
 ghost use Rattle.table_model.specs.Values.{distinct, total};
 ghost use Rattle.table_model.proofs.Bounds.{AreSmall};
-ghost use Rattle.query_eval.specs.Extreme.{extreme_of};
+ghost use Rattle.table_model.specs.Extreme.{extreme_of};
 ghost use Rattle.query_eval.specs.Slices.{AreShort, values_at};
 ghost use Rattle.query_eval.specs.Tally.{AreAlike, AreTold, IsFieldOf, IsTally, TakesMore, kind_of};
-ghost use Rattle.query_eval.specs.declared.tallies.extreme.Extreme.{Extreme as AnExtreme};
+ghost use Rattle.table_model.specs.declared.extreme.Extreme.{Extreme as AnExtreme};
 ghost use Rattle.query_eval.specs.declared.tallies.tally.TallyKind.TheVariants as kinds;
 ghost use Rattle.query_eval.specs.TallyKinds.{fold_kind};
 
-use crate::answers::{sum_field, values_field, whole_field};
 use crate::tallies::distinct::{add_values, set_values};
-use crate::tallies::extreme::Extreme;
+use crate::tallies::field_values::{sum_field, values_field, whole_field};
 use crate::tallies::masked_folds::{count_at, extreme_at, sum_at};
 use std::alloc::{AllocError, Global};
 use std::collections::HashSet;
-use table_model::{Field, Fold, MILLION};
+use table_model::{Extreme, Field, Fold, MILLION};
 use transpose_order::Mask;
 
 /// How many values of a column a set function is exact of.
@@ -84,6 +83,20 @@ fn insert(seen: &mut HashSet<i64>, value: i64) -> Result<(), AllocError>
 }
 
 impl Sums {
+    /// How many values there are.
+    pub fn count(self) -> u64
+        ensures { result ≡ self.count }
+    {
+        self.count
+    }
+
+    /// The sum of the values.
+    pub fn sum(self) -> i128
+        ensures { result ≡ self.sum }
+    {
+        self.sum
+    }
+
     /// Takes in one value more.
     fn add(&mut self, value: i64)
         ensures { (values : List ℤ) → AreTold values self.old → AreTold (values ++ value ∷ []) self.new }

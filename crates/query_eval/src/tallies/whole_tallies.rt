@@ -11,16 +11,16 @@ ghost use Rattle.query_eval.specs.Taken.{AreTallied, TallyMore};
 ghost use Rattle.query_eval.specs.Tally.{IsTally, kind_of};
 ghost use Rattle.query_eval.specs.Vector.{IsThere, looked_at, vector_of};
 
-use crate::answers::{FinishedGroup, value_of};
 use crate::columns::Columns;
 use crate::filter::KeptVector;
 use crate::grouping::Key;
 use crate::tallies::aggregate::Aggregate;
-use crate::tallies::extreme::Extreme;
+use crate::tallies::finished_group::FinishedGroup;
+use crate::tallies::grouped_table::value_of;
 use crate::tallies::split_tallies::aggregate_kind;
 use crate::tallies::tally::{Tally, TallyKind};
 use std::alloc::{AllocError, Global};
-use table_model::Field;
+use table_model::{Extreme, Field};
 
 /// A tally of no rows for each aggregate.
 pub fn no_tallies(alloc: Global, aggregates: &[Aggregate]) -> Result<Vec<Tally>, AllocError>

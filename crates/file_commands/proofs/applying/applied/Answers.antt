@@ -8,6 +8,6 @@ use Rattle.file_commands.proofs.applying.applied.Goals as goal
 
 pub returns-in-Ok : goal.returns-in-Ok
 returns-in-Ok c =
-    changes_at (λ (d : Applied). (d.batches, d.ranges, d.new)) (λ (d : Applied). d.is_changed) (Ok c.in-Ok.answer) (applying c.args.offers.now) c.args.file.now _ _ _ _
+    changes_at (λ (d : Applied). (d.batches, d.ranges, d.new)) (λ (d : Applied). d.is_changed) (Ok c.in-Ok.answer) (applying c.args.offers.items) c.args.file.now _ _ _ _
     (ap (λ (w : Bor (List ℕ) × ℕ). w.0.now) c.new-2.ensures) (ap (λ (w : Vec ℕ × ℕ). w.0.items) c.new-writer.ensures ∙ c.new.ensures.items)
     (sym (ap (λ (w : Vec ℕ). w.items) c.into_inner.ensures)) c.in-Ok.ensures.made

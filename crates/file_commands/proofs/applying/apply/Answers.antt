@@ -10,7 +10,7 @@ use Rattle.file_commands.proofs.applying.apply.Goals as goal
 
 pub returns-in_err-old-clause-any_moment : goal.returns-in_err-old-clause-any_moment
 returns-in_err-old-clause-any_moment g c =
-    leaves (applying c.args.offers.now) _ _ (longer_is_other _ _ _ _ c.args.place.now.longer refl refl) _ _ c.in_err-old.ensures.left
+    leaves (applying c.args.offers.items) _ _ (longer_is_other _ _ _ _ c.args.place.now.longer refl refl) _ _ c.in_err-old.ensures.left
 
 pub returns-in_err-old-clause-refused : goal.returns-in_err-old-clause-refused
 returns-in_err-old-clause-refused g c =
@@ -18,19 +18,19 @@ returns-in_err-old-clause-refused g c =
 
 pub returns-in_err-replaced-in-Ok-clause-any_moment : goal.returns-in_err-replaced-in-Ok-clause-any_moment
 returns-in_err-replaced-in-Ok-clause-any_moment g c =
-    any_at (λ (d : Applied). (d.batches, d.ranges, d.new)) (λ (d : Applied). d.is_changed) (applying c.args.offers.now) _ _ (longer_is_other _ _ _ _ c.args.place.now.longer refl refl) _ _ _ c.in_ok-old.old.items c.as_slice.result.now c.in-Ok.new.items c.as_slice-in-Ok.result.now c.in_ok-old.ensures.read c.as_slice.ensures.value c.as_slice-in-Ok.ensures.value c.in-Ok.answer c.in-Ok.ensures c.finish.ensures.any_moment
+    any_at (λ (d : Applied). (d.batches, d.ranges, d.new)) (λ (d : Applied). d.is_changed) (applying c.args.offers.items) _ _ (longer_is_other _ _ _ _ c.args.place.now.longer refl refl) _ _ _ c.in_ok-old.old.items c.as_slice.result.now c.in-Ok.new.items c.as_slice-in-Ok.result.now c.in_ok-old.ensures.read c.as_slice.ensures.value c.as_slice-in-Ok.ensures.value c.in-Ok.answer c.in-Ok.ensures c.finish.ensures.any_moment
 
 pub returns-in-Ok-clause-any_moment : goal.returns-in-Ok-clause-any_moment
 returns-in-Ok-clause-any_moment g c =
-    any_at (λ (d : Applied). (d.batches, d.ranges, d.new)) (λ (d : Applied). d.is_changed) (applying c.args.offers.now) _ _ (longer_is_other _ _ _ _ c.args.place.now.longer refl refl) _ _ _ c.in_ok-old.old.items c.as_slice.result.now c.in-Ok.new.items c.as_slice-in-Ok.result.now c.in_ok-old.ensures.read c.as_slice.ensures.value c.as_slice-in-Ok.ensures.value c.in-Ok.answer c.in-Ok.ensures c.finish.ensures.any_moment
+    any_at (λ (d : Applied). (d.batches, d.ranges, d.new)) (λ (d : Applied). d.is_changed) (applying c.args.offers.items) _ _ (longer_is_other _ _ _ _ c.args.place.now.longer refl refl) _ _ _ c.in_ok-old.old.items c.as_slice.result.now c.in-Ok.new.items c.as_slice-in-Ok.result.now c.in_ok-old.ensures.read c.as_slice.ensures.value c.as_slice-in-Ok.ensures.value c.in-Ok.answer c.in-Ok.ensures c.finish.ensures.any_moment
 
 pub returns-in-Ok-clause-answered : goal.returns-in-Ok-clause-answered
 returns-in-Ok-clause-answered g c =
-    answered_at (λ (d : Applied). (d.batches, d.ranges, d.new)) (λ (d : Applied). d.is_changed) (applying c.args.offers.now) _ _ (longer_is_other _ _ _ _ c.args.place.now.longer refl refl) _ _ _ c.in_ok-old.old.items c.as_slice.result.now c.in-Ok.new.items c.as_slice-in-Ok.result.now c.in_ok-old.ensures.read c.as_slice.ensures.value c.as_slice-in-Ok.ensures.value c.in-Ok.answer c.in-Ok.ensures c.in_ok-replaced-in-Ok.replaced c.in_ok-replaced-in-Ok.ensures.finished
+    answered_at (λ (d : Applied). (d.batches, d.ranges, d.new)) (λ (d : Applied). d.is_changed) (applying c.args.offers.items) _ _ (longer_is_other _ _ _ _ c.args.place.now.longer refl refl) _ _ _ c.in_ok-old.old.items c.as_slice.result.now c.in-Ok.new.items c.as_slice-in-Ok.result.now c.in_ok-old.ensures.read c.as_slice.ensures.value c.as_slice-in-Ok.ensures.value c.in-Ok.answer c.in-Ok.ensures c.in_ok-replaced-in-Ok.replaced c.in_ok-replaced-in-Ok.ensures.finished
 
 pub returns-clause-any_moment : goal.returns-clause-any_moment
 returns-clause-any_moment g c =
-    leaves (applying c.args.offers.now) _ _ (longer_is_other _ _ _ _ c.args.place.now.longer refl refl) _ _ (read_then_left _ _ _ _ _ _ c.in_ok-old.ensures.read c.leave.ensures)
+    leaves (applying c.args.offers.items) _ _ (longer_is_other _ _ _ _ c.args.place.now.longer refl refl) _ _ (read_then_left _ _ _ _ _ _ c.in_ok-old.ensures.read c.leave.ensures)
 
 pub returns-clause-refused : goal.returns-clause-refused
 returns-clause-refused g c =

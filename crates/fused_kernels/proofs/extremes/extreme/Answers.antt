@@ -11,7 +11,7 @@ use Rattle.table_model.specs.Values.{greater}
 use Rattle.bit_interleave.specs.Range.{value_at}
 use Rattle.bit_interleave.proofs.PieceLemmas.{place_of-place_of}
 use Rattle.native_lanes.specs.Folds.{fold_to}
-use Rattle.fused_kernels.specs.Extremes.{turned}
+use Rattle.table_model.specs.Extreme.{turned}
 use Rattle.fused_kernels.specs.Seen.{LanesSeen, looked_at}
 use Rattle.native_lanes.proofs.FoldLemmas.{fold_to-zero, fold_to-more, fold_to-same}
 use Rattle.fused_kernels.proofs.ExtremeLemmas.{bottom, or_bottom, taken_by_greater, cell_fits, greatest_by_lanes, turned_fits, no_extreme, some_extreme, extreme-looked_at}

@@ -5,7 +5,7 @@ use Rattle.transpose_order.specs.Mask.{has}
 use Rattle.table_model.specs.Values.{greater}
 use Rattle.bit_interleave.specs.Range.{value_at}
 use Rattle.native_lanes.specs.Folds.{fold_to}
-use Rattle.fused_kernels.specs.Extremes.{turned}
+use Rattle.table_model.specs.Extreme.{turned}
 use Rattle.fused_kernels.specs.Seen.{given_of}
 use Rattle.fused_kernels.proofs.ExtremeLemmas.{or_bottom}
 use Rattle.fused_kernels.proofs.extremes.extreme.Given as goal

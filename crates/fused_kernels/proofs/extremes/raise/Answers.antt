@@ -5,7 +5,7 @@ use Rattle.std.proofs.lemmas.Int.{to_z-of_z}
 use Rattle.std.proofs.lemmas.List.{get_or-set_same, get_or-set_other, length-set}
 use Rattle.std.proofs.lemmas.Nat.Bits.{shr_and_one}
 use Rattle.bit_interleave.specs.Range.{value_at}
-use Rattle.fused_kernels.specs.Extremes.{turned}
+use Rattle.table_model.specs.Extreme.{turned}
 use Rattle.fused_kernels.proofs.ExtremeLemmas.{passed_greater}
 use Rattle.fused_kernels.proofs.extremes.raise.Goals as goal
 

@@ -2,7 +2,7 @@
 use Rattle.std.proofs.Common.{◌≡◌, ◌==◌, ℕ, ◌<◌, ◌≤◌, cond, length, slice_index}
 use Rattle.std.specs.Int.{bit_at, int_max}
 use Rattle.bit_interleave.specs.Range.{value_at}
-use Rattle.fused_kernels.specs.Extremes.{turned}
+use Rattle.table_model.specs.Extreme.{turned}
 use Rattle.fused_kernels.proofs.extremes.raise.Given as goal
 
 abbrev pub invariant-loop-i : goal.invariant-loop-i

@@ -15,7 +15,7 @@ write_distances-requires c = λ n h.
     let form : FrameForm = c.args.form.now in
     let rf : FitsSigned w64 c.args.reference = search rules in
     let re : to_z w64 (of_z w64 c.args.reference) ≡ form.reference = to_z-of_z w64 c.args.reference rf ∙ c.requires.reference in
-    let ve : value_at c.decode_frame.new.values n ≡ frame_value form n = ap (λ (xs : List ℤ). value_at xs n) c.decode_frame.ensures ∙ value_at-values_of (InFor form) n h in
+    let ve : value_at c.write_values.new.values n ≡ frame_value form n = ap (λ (xs : List ℤ). value_at xs n) c.write_values.ensures ∙ value_at-values_of (InFor form) n h in
     let d = plain_distance form n c.lane_width.ensures.form c.requires.plain c.requires.narrow in
     (omega (arith, ints, re, ve, d.0), omega (arith, ints, re, ve, d.1))
 
@@ -28,5 +28,5 @@ returns c = λ n h.
     let form : FrameForm = c.args.form.now in
     let rf : FitsSigned w64 c.args.reference = search rules in
     let re : to_z w64 (of_z w64 c.args.reference) ≡ form.reference = to_z-of_z w64 c.args.reference rf ∙ c.requires.reference in
-    let ve : value_at c.decode_frame.new.values n ≡ frame_value form n = ap (λ (xs : List ℤ). value_at xs n) c.decode_frame.ensures ∙ value_at-values_of (InFor form) n h in
+    let ve : value_at c.write_values.new.values n ≡ frame_value form n = ap (λ (xs : List ℤ). value_at xs n) c.write_values.ensures ∙ value_at-values_of (InFor form) n h in
     c.write_distances.ensures n h ∙ ap (λ z. z -ℤ to_z w64 (of_z w64 c.args.reference)) ve ∙ ap (λ z. frame_value form n -ℤ z) re

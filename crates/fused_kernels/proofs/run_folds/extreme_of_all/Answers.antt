@@ -5,7 +5,7 @@ use Rattle.std.proofs.lemmas.Int.{to_z-of_z}
 use Rattle.bit_interleave.specs.Range.{value_at}
 use Rattle.native_lanes.specs.Folds.{fold_to}
 use Rattle.native_lanes.proofs.FoldLemmas.{fold_to-zero, fold_to-more}
-use Rattle.fused_kernels.specs.Extremes.{turned}
+use Rattle.table_model.specs.Extreme.{turned}
 use Rattle.fused_kernels.proofs.ExtremeLemmas.{bottom}
 use Rattle.fused_kernels.proofs.run_folds.extreme_of_all.Goals as goal
 

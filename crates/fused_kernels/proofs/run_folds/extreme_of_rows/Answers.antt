@@ -9,7 +9,7 @@ use Rattle.bit_interleave.specs.LaneValues.{LaneValues}
 use Rattle.run_dictionary.specs.Runs.{run_value}
 use Rattle.native_lanes.specs.Folds.{fold_to}
 use Rattle.native_lanes.proofs.FoldLemmas.{fold_to-zero}
-use Rattle.fused_kernels.specs.Extremes.{turned}
+use Rattle.table_model.specs.Extreme.{turned}
 use Rattle.fused_kernels.proofs.ExtremeLemmas.{or_bottom, taken_by_greater, turned_fits, no_extreme, some_extreme}
 use Rattle.fused_kernels.proofs.RunLemmas.{first_run, next_run, value_of_run, all_runs}
 use Rattle.fused_kernels.proofs.RunFoldLemmas.{counted_in_words, greatest_more}

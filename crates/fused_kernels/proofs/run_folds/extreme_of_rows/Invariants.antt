@@ -4,7 +4,7 @@ use Rattle.table_model.specs.Values.{greater}
 use Rattle.transpose_order.specs.Mask.{has, count_below}
 use Rattle.run_dictionary.specs.Runs.{run_value}
 use Rattle.native_lanes.specs.Folds.{fold_to}
-use Rattle.fused_kernels.specs.Extremes.{turned}
+use Rattle.table_model.specs.Extreme.{turned}
 use Rattle.fused_kernels.proofs.ExtremeLemmas.{or_bottom}
 use Rattle.fused_kernels.proofs.RunLemmas.{BeginsRun}
 use Rattle.fused_kernels.proofs.run_folds.extreme_of_rows.Given as goal

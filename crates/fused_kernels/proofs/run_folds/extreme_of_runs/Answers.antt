@@ -7,7 +7,7 @@ use Rattle.bit_interleave.specs.LaneValues.{LaneValues}
 use Rattle.bit_interleave.specs.Range.{value_at}
 use Rattle.bit_interleave.proofs.WrapLemmas.{fits_wide}
 use Rattle.native_lanes.specs.Folds.{fold_to}
-use Rattle.fused_kernels.specs.Extremes.{turned}
+use Rattle.table_model.specs.Extreme.{turned}
 use Rattle.fused_kernels.proofs.ExtremeLemmas.{bottom}
 use Rattle.fused_kernels.proofs.RunFoldLemmas.{extreme_of_all_rows}
 use Rattle.fused_kernels.proofs.run_folds.extreme_of_runs.Goals as goal

@@ -11,11 +11,11 @@ pub returns-in-Some-clause-rows : goal.returns-in-Some-clause-rows
 returns-in-Some-clause-rows c =
     let l : ℕ → ℤ = value_in c.args.left.now in
     let r : ℕ → ℤ = value_in c.args.right.now in
-    let test = c.of-test.result in
-    let inside = test.holds in
+    let asked = c.of-asked.result in
+    let inside = asked.holds in
     c.held.ensures
     ∙ rows_of-like (λ n. if inside then has c.in-Some.found n else not (has c.in-Some.found n)) (λ n. compared c.args.op (l n) (r n))
     (λ n h.
     ap (λ b. if inside then b else not b)
-    (ap (λ m. has m n) c.in-Some.ensures.rows ∙ has-rows_of (λ n. value_passes test.equal (cond test.turned (r n) (l n)) (cond test.turned (l n) (r n))) n h)
-    ∙ sym (c.of-test.ensures (l n) (r n)))
+    (ap (λ m. has m n) c.in-Some.ensures.rows ∙ has-rows_of (λ n. value_passes asked.test (cond asked.turned (r n) (l n)) (cond asked.turned (l n) (r n))) n h)
+    ∙ sym (c.of-asked.ensures (l n) (r n)))

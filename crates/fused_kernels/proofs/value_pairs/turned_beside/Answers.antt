@@ -10,11 +10,11 @@ returns-then-turned-clause-rows c =
     let l : ℕ → ℤ = value_in c.args.left.now in
     let r : ℕ → ℤ = value_in c.args.right.now in
     c.in_ok-found.ensures.rows
-    ∙ ap (λ (b : Bool). rows_of (λ n. value_passes c.args.equal (cond b (r n) (l n)) (cond b (l n) (r n)))) (sym c.if-turned.true)
+    ∙ ap (λ (b : Bool). rows_of (λ n. value_passes c.args.test (cond b (r n) (l n)) (cond b (l n) (r n)))) (sym c.if-turned.true)
 
 pub returns-clause-rows : goal.returns-clause-rows
 returns-clause-rows c =
     let l : ℕ → ℤ = value_in c.args.left.now in
     let r : ℕ → ℤ = value_in c.args.right.now in
     c.in_ok-found-2.ensures.rows
-    ∙ ap (λ (b : Bool). rows_of (λ n. value_passes c.args.equal (cond b (r n) (l n)) (cond b (l n) (r n)))) (sym c.if-turned.false)
+    ∙ ap (λ (b : Bool). rows_of (λ n. value_passes c.args.test (cond b (r n) (l n)) (cond b (l n) (r n)))) (sym c.if-turned.false)

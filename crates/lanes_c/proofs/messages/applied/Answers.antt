@@ -12,13 +12,13 @@ use Rattle.lanes_c.proofs.messages.applied.Goals as goal
 
 pub returns : goal.returns
 returns c =
-    applied_given (given_by c.left.result) c.in_ok-offer.offer c.args.offer.now _ c.args.file.now (ap (λ (w : Bor (List ℕ) × ℕ). w.0.now) c.new.ensures) c.in_ok-offer.ensures.read
-    (changed_given (λ (done : Applied). (done.batches, done.ranges, done.new)) (λ (done : Applied). done.is_changed) c.in_ok-done.done (given_by c.left.result) c.args.file.now _ _ _ (applying (c.in_ok-offer.offer ∷ []))
+    applied_given (given_by c.left.result) c.in_ok-offer.offer c.in_ok-offers.offers.items c.args.offer.now _ c.args.file.now c.in_ok-offers.ensures.items (ap (λ (w : Bor (List ℕ) × ℕ). w.0.now) c.new.ensures) c.in_ok-offer.ensures.read
+    (changed_given (λ (done : Applied). (done.batches, done.ranges, done.new)) (λ (done : Applied). done.is_changed) c.in_ok-done.done (given_by c.left.result) c.args.file.now _ _ _ (applying c.in_ok-offers.offers.items)
     (ap (λ (w : Bor (List ℕ) × ℕ). w.0.now) c.new-3.ensures) (ap (λ (w : Vec ℕ × ℕ). w.0.items) c.new-writer.ensures ∙ c.new-2.ensures.items) c.in_ok-done.ensures.made c.left.ensures)
 
 pub returns-in_err-done : goal.returns-in_err-done
 returns-in_err-done c =
     let p = err_from_is_err_and c.from_residual-in_err-done.result c.from_residual-in_err-done.ensures.1 in
-    rw (p.1, p.2) (applied_given (Err (told c.in_err-done.field-0.0)) c.in_ok-offer.offer c.args.offer.now _ c.args.file.now (ap (λ (w : Bor (List ℕ) × ℕ). w.0.now) c.new.ensures) c.in_ok-offer.ensures.read
-    (refused_given (λ (done : Applied). (done.batches, done.ranges, done.new)) (λ (done : Applied). done.is_changed) c.in_err-done.field-0.0 (told c.in_err-done.field-0.0) c.args.file.now _ _ _ (applying (c.in_ok-offer.offer ∷ [])) refl
+    rw (p.1, p.2) (applied_given (Err (told c.in_err-done.field-0.0)) c.in_ok-offer.offer c.in_ok-offers.offers.items c.args.offer.now _ c.args.file.now c.in_ok-offers.ensures.items (ap (λ (w : Bor (List ℕ) × ℕ). w.0.now) c.new.ensures) c.in_ok-offer.ensures.read
+    (refused_given (λ (done : Applied). (done.batches, done.ranges, done.new)) (λ (done : Applied). done.is_changed) c.in_err-done.field-0.0 (told c.in_err-done.field-0.0) c.args.file.now _ _ _ (applying c.in_ok-offers.offers.items) refl
     (ap (λ (w : Bor (List ℕ) × ℕ). w.0.now) c.new-3.ensures) (ap (λ (w : Vec ℕ × ℕ). w.0.items) c.new-writer.ensures ∙ c.new-2.ensures.items) c.in_err-done.ensures.made))

@@ -11,7 +11,7 @@ loop-i-preserved c =
     let old = c.loop-i.marks in
     let word = c.with_step.result in
     let inside : i < length old = omega (arith, c.loop-i.invariant.long, c.loop-i-test.true) in
-    let test : ℕ → Bool = λ k. number_passes c.args.equal (slice_index c.args.numbers.now k) (slice_index c.args.others.now k) in
+    let test : ℕ → Bool = λ k. number_passes c.args.test (slice_index c.args.numbers.now k) (slice_index c.args.others.now k) in
     record {
       long = length-set old i word ∙ c.loop-i.invariant.long;
       marked = λ k r h l.

@@ -7,6 +7,6 @@ use Rattle.native_lanes.proofs.native_16.mark_beside.Given as goal
 abbrev pub invariant-loop-i : goal.invariant-loop-i
 invariant-loop-i l = record {
   long : length l.marks ≡ 64;
-  marked : (k r : ℕ) → k < l.i → r < 16 → (bit_at (slice_index l.marks k) r == 1) ≡ ((number_passes l.equal (slice_index l.numbers k) (slice_index l.others k) && (r == l.step)) || (bit_at (slice_index l.initial.marks k) r == 1));
+  marked : (k r : ℕ) → k < l.i → r < 16 → (bit_at (slice_index l.marks k) r == 1) ≡ ((number_passes l.test (slice_index l.numbers k) (slice_index l.others k) && (r == l.step)) || (bit_at (slice_index l.initial.marks k) r == 1));
   rest : (k : ℕ) → l.i ≤ k → slice_index l.marks k ≡ slice_index l.initial.marks k;
 }

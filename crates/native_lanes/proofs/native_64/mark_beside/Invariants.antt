@@ -8,6 +8,6 @@ use Rattle.native_lanes.proofs.native_64.mark_beside.Given as goal
 abbrev pub invariant-loop-i : goal.invariant-loop-i
 invariant-loop-i l = record {
   long : length l.marks ≡ 16;
-  marked : (k r : ℕ) → k < l.i → r < 64 → (bit_at (slice_index l.marks k) r == 1) ≡ ((number_passes l.equal (half_on (slice_index l.numbers k)) (half_on (slice_index l.others k)) && (r == l.step)) || (bit_at (slice_index l.initial.marks k) r == 1));
+  marked : (k r : ℕ) → k < l.i → r < 64 → (bit_at (slice_index l.marks k) r == 1) ≡ ((number_passes l.test (half_on (slice_index l.numbers k)) (half_on (slice_index l.others k)) && (r == l.step)) || (bit_at (slice_index l.initial.marks k) r == 1));
   rest : (k : ℕ) → l.i ≤ k → slice_index l.marks k ≡ slice_index l.initial.marks k;
 }

@@ -11,7 +11,7 @@ use Rattle.replica_files.proofs.applying.apply.Goals as goal
 pub returns-in_err-store-clause-made : goal.returns-in_err-store-clause-made
 returns-in_err-store-clause-made g c =
     let p = err_from_is_err_and c.from_residual.result c.from_residual.ensures.1 in
-    rw (p.1, p.2) (opening_changes {X = Applied} (λ (store : StoreForm). store.replica) (λ (d : Applied). (d.batches, d.ranges, d.new)) (λ (d : Applied). d.is_changed) c.in_err-store.field-0.0 (g.R.Read.remaining c.args.reader.now.0) (g.W.Write.contents c.args.writer.now.0) (applying c.args.offers.now) c.in_err-store.ensures.read)
+    rw (p.1, p.2) (opening_changes {X = Applied} (λ (store : StoreForm). store.replica) (λ (d : Applied). (d.batches, d.ranges, d.new)) (λ (d : Applied). d.is_changed) c.in_err-store.field-0.0 (g.R.Read.remaining c.args.reader.now.0) (g.W.Write.contents c.args.writer.now.0) (applying c.args.offers.items) c.in_err-store.ensures.read)
 
 pub returns-in_err-store-clause-fault : goal.returns-in_err-store-clause-fault
 returns-in_err-store-clause-fault g c =
@@ -21,7 +21,7 @@ returns-in_err-store-clause-fault g c =
 pub returns-in_err-done-clause-made : goal.returns-in_err-done-clause-made
 returns-in_err-done-clause-made g c =
     let p = err_from_is_err_and c.from_residual-in_err-done.result c.from_residual-in_err-done.ensures.1 in
-    rw (p.1, p.2) (command_changes {X = Applied} (λ (store : StoreForm). store.replica) c.in_ok-store.store (λ (d : Applied). (d.batches, d.ranges, d.new)) (λ (d : Applied). d.is_changed) c.in_err-done.field-0.0 (g.R.Read.remaining c.args.reader.now.0) (g.W.Write.contents c.args.writer.now.0) c.apply_offers.new.store.replica (applying c.args.offers.now) c.in_ok-store.ensures.read c.in_err-done.ensures.makes)
+    rw (p.1, p.2) (command_changes {X = Applied} (λ (store : StoreForm). store.replica) c.in_ok-store.store (λ (d : Applied). (d.batches, d.ranges, d.new)) (λ (d : Applied). d.is_changed) c.in_err-done.field-0.0 (g.R.Read.remaining c.args.reader.now.0) (g.W.Write.contents c.args.writer.now.0) c.apply_offers.new.store.replica (applying c.args.offers.items) c.in_ok-store.ensures.read c.in_err-done.ensures.makes)
 
 pub returns-in_err-done-clause-fault : goal.returns-in_err-done-clause-fault
 returns-in_err-done-clause-fault g c =
@@ -31,7 +31,7 @@ returns-in_err-done-clause-fault g c =
 pub returns-in_err-write_changed-clause-made : goal.returns-in_err-write_changed-clause-made
 returns-in_err-write_changed-clause-made g c =
     let p = err_from_is_err_and c.from_residual-in_err-write_changed.result c.from_residual-in_err-write_changed.ensures.1 in
-    rw (p.1, p.2) (unwritten_changes (λ (store : StoreForm). store.replica) c.in_ok-store.store (λ (d : Applied). (d.batches, d.ranges, d.new)) (λ (d : Applied). d.is_changed) c.in_ok-done.done _ c.in_err-write_changed.field-0.0 (g.R.Read.remaining c.args.reader.now.0) (g.W.Write.contents c.args.writer.now.0) (g.W.Write.contents c.write_changed.new.writer.0) c.apply_offers.new.store.replica (applying c.args.offers.now) c.in_ok-store.ensures.read c.in_ok-done.ensures.makes c.in_err-write_changed.ensures.put)
+    rw (p.1, p.2) (unwritten_changes (λ (store : StoreForm). store.replica) c.in_ok-store.store (λ (d : Applied). (d.batches, d.ranges, d.new)) (λ (d : Applied). d.is_changed) c.in_ok-done.done _ c.in_err-write_changed.field-0.0 (g.R.Read.remaining c.args.reader.now.0) (g.W.Write.contents c.args.writer.now.0) (g.W.Write.contents c.write_changed.new.writer.0) c.apply_offers.new.store.replica (applying c.args.offers.items) c.in_ok-store.ensures.read c.in_ok-done.ensures.makes c.in_err-write_changed.ensures.put)
 
 pub returns-in_err-write_changed-clause-unwritten : goal.returns-in_err-write_changed-clause-unwritten
 returns-in_err-write_changed-clause-unwritten g c =
@@ -46,5 +46,5 @@ returns-in_err-write_changed-clause-fault g c =
 
 pub returns-clause-made : goal.returns-clause-made
 returns-clause-made g c =
-    written_changes (λ (store : StoreForm). store.replica) c.in_ok-store.store (λ (d : Applied). (d.batches, d.ranges, d.new)) (λ (d : Applied). d.is_changed) c.in_ok-done.done _ (g.R.Read.remaining c.args.reader.now.0) (g.W.Write.contents c.args.writer.now.0) (g.W.Write.contents c.write_changed.new.writer.0) c.apply_offers.new.store.replica (applying c.args.offers.now)
+    written_changes (λ (store : StoreForm). store.replica) c.in_ok-store.store (λ (d : Applied). (d.batches, d.ranges, d.new)) (λ (d : Applied). d.is_changed) c.in_ok-done.done _ (g.R.Read.remaining c.args.reader.now.0) (g.W.Write.contents c.args.writer.now.0) (g.W.Write.contents c.write_changed.new.writer.0) c.apply_offers.new.store.replica (applying c.args.offers.items)
     refl c.in_ok-store.ensures.read c.in_ok-done.ensures.makes c.in_ok-write_changed.ensures.put

@@ -3,7 +3,7 @@ use Rattle.std.proofs.lemmas.Result.{err_from_is_err_and}
 use Rattle.replica_files.proofs.StoreCommands.{range_uncounted}
 use Rattle.replica_files.proofs.deleting.delete_range.Goals as goal
 
-pub returns-in_err-delete-clause-uncounted : goal.returns-in_err-delete-clause-uncounted
-returns-in_err-delete-clause-uncounted c =
-    let p = err_from_is_err_and c.from_residual-in_err-delete.result c.from_residual-in_err-delete.ensures.1 in
-    rw (p.1, p.2) (range_uncounted c.args.store.now.replica c.delete.new.self.replica c.args.first c.args.last c.in_err-delete.field-0.0 c.in_err-delete.ensures.acts.1)
+pub returns-in_err-is_changed-clause-uncounted : goal.returns-in_err-is_changed-clause-uncounted
+returns-in_err-is_changed-clause-uncounted c =
+    let p = err_from_is_err_and c.from_residual.result c.from_residual.ensures.1 in
+    rw (p.1, p.2) (range_uncounted c.args.store.now.replica c.delete.new.self.replica c.args.first c.args.last c.in_err-is_changed.field-0.0 c.in_err-is_changed.ensures.acts.1)

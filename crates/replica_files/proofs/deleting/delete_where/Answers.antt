@@ -29,4 +29,4 @@ pub returns-clause-makes : goal.returns-clause-makes
 returns-clause-makes c =
     let counted : c.len.result ≡ length c.in_ok-names.names.items = c.len.ensures ∙ sym c.as_slice.ensures.len ∙ ap length c.as_slice.ensures.value in
     let done : Deleted = record { rows = c.len.result } in
-    deletes_ok (λ (d : Deleted). d.rows) done c.args.condition.now c.args.store.now.replica c.delete_all.new.self.replica c.in_ok-names.names.items c.as_slice.result.now c.in_ok-delete_all.field-0 c.in_ok-names.ensures.read c.as_slice.ensures.value counted c.in_ok-delete_all.ensures.acts
+    deletes_ok (λ (d : Deleted). d.rows) done c.args.condition.now c.args.store.now.replica c.delete_all.new.self.replica c.in_ok-names.names.items c.as_slice.result.now tt c.in_ok-names.ensures.read c.as_slice.ensures.value counted c.in_ok-delete_all.ensures.acts

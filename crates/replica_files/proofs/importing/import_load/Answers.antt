@@ -18,19 +18,19 @@ into_entries-requires c =
     chosen_first c.args.store.now.replica.state c.args.given c.args.words.now (length c.args.load.batches) c.in_ok-name.name
     (ap (λ (n : ℕ). chosen_name c.args.store.now.replica.state c.args.given c.args.words.now n) (sym c.batches-batches.ensures.value) ∙ sym c.in_ok-name.ensures)
 
-pub returns-in_err-apply-clause-uncounted : goal.returns-in_err-apply-clause-uncounted
-returns-in_err-apply-clause-uncounted c =
-    let p = err_from_is_err_and c.from_residual-in_err-apply.result c.from_residual-in_err-apply.ensures.1 in
-    rw (p.1, p.2) (merge_uncounted c.args.store.now.replica (offering c.args.store.now.replica.own c.from_parts-offer.result) c.in_err-apply.field-0.0 c.in_err-apply.ensures.acts.1)
+pub returns-in_err-absorb-clause-uncounted : goal.returns-in_err-absorb-clause-uncounted
+returns-in_err-absorb-clause-uncounted c =
+    let p = err_from_is_err_and c.from_residual-in_err-absorb.result c.from_residual-in_err-absorb.ensures.1 in
+    rw (p.1, p.2) (merge_uncounted c.args.store.now.replica (offering c.args.store.now.replica.own c.from_parts-offer.result) c.in_err-absorb.field-0.0 c.in_err-absorb.ensures.acts.1)
 
-pub returns-in_err-apply-clause-makes : goal.returns-in_err-apply-clause-makes
-returns-in_err-apply-clause-makes c =
-    let p = err_from_is_err_and c.from_residual-in_err-apply.result c.from_residual-in_err-apply.ensures.1 in
+pub returns-in_err-absorb-clause-makes : goal.returns-in_err-absorb-clause-makes
+returns-in_err-absorb-clause-makes c =
+    let p = err_from_is_err_and c.from_residual-in_err-absorb.result c.from_residual-in_err-absorb.ensures.1 in
     let r = c.args.store.now.replica in
     let chosen = ap (λ (n : ℕ). chosen_name r.state c.args.given c.args.words.now n) (sym c.batches-batches.ensures.value) ∙ sym c.in_ok-name.ensures in
     let is = offer_is r c.args.load c.in_ok-name.name c.from_parts-offer.result c.in_ok-schema.entries.items (c.from_parts-offer.ensures.schema ∙ c.in_ok-schema.ensures.schema) c.from_parts-offer.ensures.batches (c.from_parts-offer.ensures.deleted ∙ c.new.ensures)
     c.from_parts-offer.ensures.entries c.in_ok-schema.ensures.named in
-    rw (p.1, p.2) (import_refused r c.apply.new.self.replica c.args.load c.args.given c.args.words.now c.in_ok-name.name c.from_parts-offer.result c.in_err-apply.field-0.0 chosen is c.in_err-apply.ensures.acts.1)
+    rw (p.1, p.2) (import_refused r c.absorb.new.self.replica c.args.load c.args.given c.args.words.now c.in_ok-name.name c.from_parts-offer.result c.in_err-absorb.field-0.0 chosen is c.in_err-absorb.ensures.acts.1)
 
 pub returns-clause-makes : goal.returns-clause-makes
 returns-clause-makes c =
@@ -38,12 +38,12 @@ returns-clause-makes c =
     let chosen = ap (λ (n : ℕ). chosen_name r.state c.args.given c.args.words.now n) (sym c.batches-batches.ensures.value) ∙ sym c.in_ok-name.ensures in
     let is = offer_is r c.args.load c.in_ok-name.name c.from_parts-offer.result c.in_ok-schema.entries.items (c.from_parts-offer.ensures.schema ∙ c.in_ok-schema.ensures.schema) c.from_parts-offer.ensures.batches (c.from_parts-offer.ensures.deleted ∙ c.new.ensures)
     c.from_parts-offer.ensures.entries c.in_ok-schema.ensures.named in
-    let news : c.saturating_sub.result ≡ new_since r c.apply.new.self.replica = c.saturating_sub.ensures ∙ (λ j. c.batches.ensures.value j - c.batches-held.ensures.value j) in
+    let news : c.saturating_sub.result ≡ new_since r c.absorb.new.self.replica = c.saturating_sub.ensures ∙ (λ j. c.batches.ensures.value j - c.batches-held.ensures.value j) in
     let answer : Imported = record { batches = c.batches-batches.result; new = c.saturating_sub.result; rows = c.rows-rows.result; first = c.name_of_some.result } in
-    let told : answer ≡ imported_as c.args.load c.in_ok-name.name r c.apply.new.self.replica = λ i. record {
+    let told : answer ≡ imported_as c.args.load c.in_ok-name.name r c.absorb.new.self.replica = λ i. record {
       batches = c.batches-batches.ensures.value i;
       new = news i;
       rows = c.rows-rows.ensures i;
       first = (c.name_of_some.ensures ∙ ap (λ (n : ℕ). name_of_some n c.in_ok-name.name) c.batches-batches.ensures.value) i;
     } in
-    import_done r c.apply.new.self.replica c.args.load c.args.given c.args.words.now c.in_ok-name.name c.from_parts-offer.result c.in_ok-apply.field-0 answer chosen is c.in_ok-apply.ensures.acts told
+    import_done r c.absorb.new.self.replica c.args.load c.args.given c.args.words.now c.in_ok-name.name c.from_parts-offer.result tt answer chosen is c.in_ok-absorb.ensures.acts told

@@ -1,9 +1,7 @@
 -- In order they are the same rows.
-use Rattle.std.proofs.Common.{◌≡◌, IsTrue, IfOk, ◌∙◌, ap, sym, subst}
-use Rattle.std.specs.FinSet as set
-use Rattle.std.specs.List.{All}
+use Rattle.std.proofs.Common.{IsTrue}
 use Rattle.std.proofs.lemmas.List.Sorted.{All-permutation}
-use Rattle.table_model.specs.Name.{is_proper_name, row_name_cmp}
+use Rattle.table_model.specs.Name.{is_proper_name}
 use Rattle.table_model.specs.declared.names.RowName.{RowName}
 use Rattle.catalogue_join.proofs.RowLists.{in_any_order}
 use Rattle.catalogue_join.proofs.tombs.Tombs.from_rows.Goals as goal

@@ -36,7 +36,7 @@ returns-in_err-delete c =
 pub returns : goal.returns
 unfolding delete_step
 returns c = (
-  call_done done_reply c.args.self.now.parts c.self.inside.schema c.self.inside.stores.items (messages_in c.self.inside.messages.items) c.args.replica c.in_ok-place.place (λ r. deleted_rows r c.args.first c.args.last) c.index_mut.result.now c.delete.new.self c.in_ok-delete.field-0
+  call_done done_reply c.args.self.now.parts c.self.inside.schema c.self.inside.stores.items (messages_in c.self.inside.messages.items) c.args.replica c.in_ok-place.place (λ r. deleted_rows r c.args.first c.args.last) c.index_mut.result.now c.delete.new.self tt
       (parts_same c.self.view_is) c.in_ok-place.ensures.place c.in_ok-place.ensures.bound c.index_mut.ensures.value c.in_ok-delete.ensures.acts,
   kept_at c.self.inside.schema c.self.inside.stores.items c.self.inside.messages.items c.in_ok-place.place c.index_mut.result.now c.delete.new.self c.args.self.now c.index_mut.ensures.value c.in_ok-delete.ensures.segments c.self.view_is,
 )

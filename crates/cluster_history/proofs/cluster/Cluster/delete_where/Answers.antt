@@ -57,6 +57,6 @@ returns c =
     subst (λ (s : StoreForm). condition_names c.args.condition.now s.replica.schema s.replica.state ≡ Ok c.in_ok-names.names.items) one c.in_ok-names.ensures.read in (
       call_done Deleted c.args.self.now.parts c.self.inside.schema c.self.inside.stores.items (messages_in c.self.inside.messages.items) c.args.replica c.in_ok-place.place (deleting c.args.condition.now) c.index_mut.result.now c.delete_all.new.self c.len.result
           (parts_same c.self.view_is) c.in_ok-place.ensures.place c.in_ok-place.ensures.bound c.index_mut.ensures.value
-          (deleting_ok c.args.condition.now c.index_mut.result.now.replica c.delete_all.new.self.replica c.in_ok-names.names.items c.as_slice.result.now c.len.result c.in_ok-delete_all.field-0 finds c.as_slice.ensures.value counted c.in_ok-delete_all.ensures.acts),
+          (deleting_ok c.args.condition.now c.index_mut.result.now.replica c.delete_all.new.self.replica c.in_ok-names.names.items c.as_slice.result.now c.len.result tt finds c.as_slice.ensures.value counted c.in_ok-delete_all.ensures.acts),
       kept_at c.self.inside.schema c.self.inside.stores.items c.self.inside.messages.items c.in_ok-place.place c.index_mut.result.now c.delete_all.new.self c.args.self.now c.index_mut.ensures.value c.in_ok-delete_all.ensures.segments c.self.view_is,
     )

@@ -48,7 +48,7 @@ pub returns : goal.returns
 returns c =
     let apart : c.in_ok-place.place ≢ c.in_ok-from.from = c.if-place-from.false in
     let same_len : length c.merge_apart.new.stores ≡ length c.as_mut_slice.result.now = c.merge_apart.ensures.count in (
-      merge_done c.args.self.now.parts c.self.inside.schema c.self.inside.stores.items c.as_mut_slice.result.now c.merge_apart.new.stores (messages_in c.self.inside.messages.items) c.self.inside.stores.len c.args.replica c.args.other c.in_ok-place.place c.in_ok-from.from c.in_ok-merge_apart.field-0
+      merge_done c.args.self.now.parts c.self.inside.schema c.self.inside.stores.items c.as_mut_slice.result.now c.merge_apart.new.stores (messages_in c.self.inside.messages.items) c.self.inside.stores.len c.args.replica c.args.other c.in_ok-place.place c.in_ok-from.from tt
           (parts_same c.self.view_is) c.as_mut_slice.ensures.value c.self.inside.stores.ok.0 same_len c.in_ok-place.ensures.place c.in_ok-from.ensures.place apart c.in_ok-merge_apart.ensures.acts,
       merged_at c.self.inside.schema c.self.inside.stores.items c.as_mut_slice.result.now c.merge_apart.new.stores c.self.inside.messages.items c.self.inside.stores.len c.args.replica c.args.other c.in_ok-place.place c.in_ok-from.from Done c.args.self.now
           c.as_mut_slice.ensures.value c.self.inside.stores.ok.0 c.in_ok-merge_apart.ensures.segments c.in_ok-from.ensures.place c.in_ok-from.ensures.bound c.self.view_is c.in_ok-place.ensures.place c.in_ok-place.ensures.bound,

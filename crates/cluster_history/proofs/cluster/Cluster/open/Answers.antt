@@ -58,7 +58,7 @@ returns c =
     let below = within c.args.self.now.parts c.self.inside.schema c.self.inside.stores.items (messages_in c.self.inside.messages.items) c.in_ok-place.place (parts_same c.self.view_is) c.in_ok-place.ensures.bound in
     let one : c.index.result.now ≡ c.index_mut.result.now = one_store c.self.inside.stores.items c.in_ok-place.place c.index.result.now c.index_mut.result.now below c.index.ensures c.index_mut.ensures.value in
     let own : c.own.result ≡ c.index_mut.result.now.replica.own = c.own.ensures.value ∙ ap (λ (s : StoreForm). s.replica.own) one in (
-      call_done done_reply c.args.self.now.parts c.self.inside.schema c.self.inside.stores.items (messages_in c.self.inside.messages.items) c.args.replica c.in_ok-place.place (opening (canonical_read c.args.file.now)) c.index_mut.result.now c.merge.new.self c.in_ok-merge.field-0
+      call_done done_reply c.args.self.now.parts c.self.inside.schema c.self.inside.stores.items (messages_in c.self.inside.messages.items) c.args.replica c.in_ok-place.place (opening (canonical_read c.args.file.now)) c.index_mut.result.now c.merge.new.self tt
           (parts_same c.self.view_is) c.in_ok-place.ensures.place c.in_ok-place.ensures.bound c.index_mut.ensures.value
           (opening_ok c.own.result c.args.file.now c.index_mut.result.now.replica c.in_ok-opened.opened.replica c.own.ensures.proper own c.in_ok-opened.ensures.made ∙ c.in_ok-merge.ensures.acts),
       opened_at c.self.inside.schema c.self.inside.stores.items c.self.inside.messages.items c.args.replica c.in_ok-place.place c.index_mut.result.now c.merge.new.self c.own.result c.args.file.now c.in_ok-opened.opened Done c.args.self.now

@@ -51,7 +51,7 @@ returns c =
     let offer = c.in-Some.offer.now in
     let is = said_of (λ (messages : List Carried). offering_in (numbered messages c.args.message)) c.args.self.now.parts c.self.inside.schema c.self.inside.stores.items c.self.inside.messages.items c.as_slice.result.now _
     (parts_same c.self.view_is) c.as_slice.ensures.value c.in-Some.ensures.offer in (
-      call_done done_reply c.args.self.now.parts c.self.inside.schema c.self.inside.stores.items (messages_in c.self.inside.messages.items) c.args.replica c.in_ok-place.place (taking (offering_in (numbered c.args.self.now.parts.messages c.args.message))) c.index_mut.result.now c.apply.new.self c.in_ok-apply.field-0
+      call_done done_reply c.args.self.now.parts c.self.inside.schema c.self.inside.stores.items (messages_in c.self.inside.messages.items) c.args.replica c.in_ok-place.place (taking (offering_in (numbered c.args.self.now.parts.messages c.args.message))) c.index_mut.result.now c.apply.new.self tt
           (parts_same c.self.view_is) c.in_ok-place.ensures.place c.in_ok-place.ensures.bound c.index_mut.ensures.value
           (taking_is c.args.self.now.parts c.args.message offer c.index_mut.result.now.replica is ∙ c.in_ok-apply.ensures.acts),
       (

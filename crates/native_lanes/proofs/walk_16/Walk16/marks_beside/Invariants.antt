@@ -9,5 +9,5 @@ abbrev pub invariant-loop-step : goal.invariant-loop-step
 invariant-loop-step l = record {
   numbers : (lane : ℕ) → lane < 64 → slice_index l.numbers lane ≡ number_before l.self lane l.step;
   others : (lane : ℕ) → lane < 64 → slice_index l.others lane ≡ number_before l.other lane l.step;
-  marks : (lane r : ℕ) → lane < 64 → r < 16 → (bit_at (slice_index l.marks lane) r == 1) ≡ (nat_lt r l.step && number_passes l.equal (number_at l.self lane r) (number_at l.other lane r));
+  marks : (lane r : ℕ) → lane < 64 → r < 16 → (bit_at (slice_index l.marks lane) r == 1) ≡ (nat_lt r l.step && number_passes l.test (number_at l.self lane r) (number_at l.other lane r));
 }

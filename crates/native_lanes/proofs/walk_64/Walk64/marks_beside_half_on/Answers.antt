@@ -24,22 +24,22 @@ loop-step-init c =
       marks = λ lane r h k.
           let off : nat_lt r 0 ≡ false = grind (arith, nat_tests) in
           ap (λ n. bit_at n r == 1) (get_or-replicate 16 lane 0 0 h) ∙ ap (λ b. b == 1) (bit_at-zero r)
-          ∙ sym (ap (λ b. b && number_passes c.args.equal (half_on (number_at c.args.self.now lane r)) (half_on (number_at c.args.other.now lane r))) off);
+          ∙ sym (ap (λ b. b && number_passes c.args.test (half_on (number_at c.args.self.now lane r)) (half_on (number_at c.args.other.now lane r))) off);
     }
 
 pub loop-step-preserved : goal.loop-step-preserved
 loop-step-preserved c =
     let step = c.loop-step.step in
-    let equal = c.args.equal in
+    let asked = c.args.test in
     record {
       numbers = λ lane h. c.go.ensures lane h;
       others = λ lane h. c.go-in-loop-step.ensures lane h;
       marks = λ lane r h k.
-          let test : ℕ → Bool = λ r. number_passes equal (half_on (number_at c.args.self.now lane r)) (half_on (number_at c.args.other.now lane r)) in
+          let test : ℕ → Bool = λ r. number_passes asked (half_on (number_at c.args.self.now lane r)) (half_on (number_at c.args.other.now lane r)) in
           let old = bit_at (slice_index c.loop-step.marks lane) r == 1 in
           c.mark_beside.ensures lane r h k
-          ∙ ap (λ n. (number_passes equal (half_on n) (half_on (slice_index c.go-in-loop-step.new.numbers lane)) && (r == step)) || old) (c.go.ensures lane h)
-          ∙ ap (λ n. (number_passes equal (half_on (number_at c.args.self.now lane step)) (half_on n) && (r == step)) || old) (c.go-in-loop-step.ensures lane h)
+          ∙ ap (λ n. (number_passes asked (half_on n) (half_on (slice_index c.go-in-loop-step.new.numbers lane)) && (r == step)) || old) (c.go.ensures lane h)
+          ∙ ap (λ n. (number_passes asked (half_on (number_at c.args.self.now lane step)) (half_on n) && (r == step)) || old) (c.go-in-loop-step.ensures lane h)
           ∙ ap (λ b. (test step && (r == step)) || b) (c.loop-step.invariant.marks lane r h k)
           ∙ bit_more step r (test step) (test r) (λ e. ap test (sym e));
     }
@@ -47,4 +47,4 @@ loop-step-preserved c =
 pub returns : goal.returns
 returns c = λ lane r h k.
     let on : nat_lt r c.loop-step.step ≡ true = grind (arith, nat_tests) in
-    c.loop-step.invariant.marks lane r h k ∙ ap (λ b. b && number_passes c.args.equal (half_on (number_at c.args.self.now lane r)) (half_on (number_at c.args.other.now lane r))) on
+    c.loop-step.invariant.marks lane r h k ∙ ap (λ b. b && number_passes c.args.test (half_on (number_at c.args.self.now lane r)) (half_on (number_at c.args.other.now lane r))) on

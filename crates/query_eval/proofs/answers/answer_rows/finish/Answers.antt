@@ -1,9 +1,8 @@
 -- The finished groups of the rows that WHERE keeps give the rows of the groups.
 use Rattle.std.proofs.Common.{List, map, filter, ap, ◌∙◌}
 use Rattle.table_model.specs.Group.{groups_of}
-use Rattle.table_model.specs.Meaning.{answer_over, grouping_of, groups_having, is_kept, item_text, rows_where}
+use Rattle.table_model.specs.Meaning.{answer_over, grouping_of, groups_having, is_kept, rows_where}
 use Rattle.table_model.specs.Query.{QueryShape}
-use Rattle.table_model.specs.declared.query.Item.{Item}
 use Rattle.query_eval.specs.Finished.{GroupFields, PlanShape, finished_groups, seen_item, seen_operand}
 use Rattle.query_eval.proofs.FinishLemmas.{rows_seen}
 use Rattle.query_eval.proofs.answers.answer_rows.finish.Goals as goal
@@ -15,12 +14,9 @@ returns c = λ rows is.
     let query = c.args.query.now in
     let by = grouping_of columns query in
     let selected = λ (q : QueryShape) (plan : PlanShape) (groups : List GroupFields). map (λ group. map (λ item. seen_item columns plan group item.value) q.items) (filter (λ group. is_kept q.having (seen_operand columns plan group)) groups) in
-    let texts = c.new.ensures.heading ∙ c.in_ok-texts.ensures ∙ ap (map item_text) c.as_slice.ensures.value ∙ ap (λ (q : QueryShape). map item_text q.items) c.query.view_is in
     let given =
-    c.new.ensures.rows ∙ c.in_ok-rows.ensures
-    ∙ ap (λ (items : List Item). map (λ group. map (λ item. seen_item columns c.args.plan.now group item.value) items) (filter (λ group. is_kept c.query.inside.having (seen_operand columns c.args.plan.now group)) c.args.groups.now)) c.as_slice-2.ensures.value
-    ∙ ap (λ (q : QueryShape). selected q c.args.plan.now c.args.groups.now) c.query.view_is
+    c.in_ok-answer.ensures.rows
     ∙ ap (λ (plan : PlanShape). selected query plan c.args.groups.now) c.requires
     ∙ ap (selected query _) is
     ∙ rows_seen columns query (groups_of by (rows_where columns query rows)) in
-    λ i. record { heading = texts i; rows = given i }
+    λ i. record { heading = c.in_ok-answer.ensures.heading i; rows = given i }

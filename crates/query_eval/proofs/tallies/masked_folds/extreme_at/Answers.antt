@@ -4,7 +4,8 @@ use Rattle.std.proofs.lemmas.Int.{to_z-of_z}
 use Rattle.std.specs.Int.{bit_at}
 use Rattle.std.proofs.lemmas.Nat.Bits.{bit_at-zero}
 use Rattle.transpose_order.specs.Mask.{has}
-use Rattle.query_eval.specs.Extreme.{shown_value, top_of}
+use Rattle.table_model.specs.Extreme.{turned}
+use Rattle.query_eval.specs.Forms.{top_of}
 use Rattle.query_eval.specs.Forms.{top_below}
 use Rattle.query_eval.specs.Slices.{values_at}
 use Rattle.query_eval.proofs.ExtremeLemmas.{extreme_none, extreme_some}
@@ -47,7 +48,7 @@ loop-index-preserved c =
     skipped : get_or words j 0 ≡ 0 → top_below c.args.extreme (64 * j) rows values ≡ top_below c.args.extreme (64 * j + 64) rows values
     skipped zero_word =
         let none : (b : ℕ) → b < 64 → has rows (64 * j + b) ≡ false = (λ b l. sym (bits b l) ∙ ap (λ n. bit_at n b == 1) zero_word ∙ ap (λ n. n == 1) (bit_at-zero b)) in
-        ap (λ zs. top_of (map (shown_value c.args.extreme) zs)) (sym (values_skip (64 * j) 64 rows values none))
+        ap (λ zs. top_of (map (turned c.args.extreme) zs)) (sym (values_skip (64 * j) 64 rows values none))
 
 pub returns : goal.returns
 returns c =
@@ -56,6 +57,6 @@ returns c =
     let values = c.args.values.now in
     let top : ℤ = to_z w64 c.loop-index.top-bits in
     let row : c.next_true.result < 1024 = omega (arith, c.next_true.ensures.within, c.if-next_true-eq1024.false) in
-    let fits : FitsSigned w64 c.shown.result = search rules in
-    ap Some (to_z-of_z w64 c.shown.result fits ∙ c.shown.ensures)
-    ∙ extreme_some c.args.extreme (values_at rows values) top (c.loop-index.invariant ∙ ap (λ zs. top_of (map (shown_value c.args.extreme) zs)) (values_all (64 * c.loop-index.index) rows values e)) (λ _. values_some c.next_true.result rows values (c.next_true.ensures.here row) row)
+    let fits : FitsSigned w64 c.turned.result = search rules in
+    ap Some (to_z-of_z w64 c.turned.result fits ∙ c.turned.ensures)
+    ∙ extreme_some c.args.extreme (values_at rows values) top (c.loop-index.invariant ∙ ap (λ zs. top_of (map (turned c.args.extreme) zs)) (values_all (64 * c.loop-index.index) rows values e)) (λ _. values_some c.next_true.result rows values (c.next_true.ensures.here row) row)

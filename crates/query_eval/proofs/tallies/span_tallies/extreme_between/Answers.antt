@@ -1,7 +1,8 @@
 -- Where the greatest isn't the least number, or a row is there, it is that of some values.
 use Rattle.std.proofs.Common.{rules, ◌≡◌, ◌≢◌, [], List, ℤ, Some, FitsSigned, w64, of_z, ap, ◌∙◌, arith}
 use Rattle.std.proofs.lemmas.Int.{to_z-of_z}
-use Rattle.query_eval.specs.Extreme.{least_number, shown_value}
+use Rattle.table_model.specs.Extreme.{turned}
+use Rattle.query_eval.specs.Forms.{least_number}
 use Rattle.query_eval.specs.Slices.{rows_between, values_at}
 use Rattle.query_eval.proofs.ExtremeLemmas.{extreme_none, extreme_some}
 use Rattle.query_eval.proofs.SpanTallyLemmas.{none_between, some_between}
@@ -18,7 +19,7 @@ returns c = λ values are.
     let zs : List ℤ = values_at (rows_between c.args.rows.now c.args.first c.args.end) values in
     let top = c.top_between-top.result in
     let fits : FitsSigned w64 top = search rules in
-    let now : FitsSigned w64 c.shown.result = search rules in
+    let now : FitsSigned w64 c.turned.result = search rules in
     let some : top ≡ least_number → zs ≢ [] =
     elim c.else-top.branch [
       | else-top-via-then-top+else-end-next_true w ↦
@@ -26,5 +27,5 @@ returns c = λ values are.
           some_between c.args.rows.now c.args.first c.args.end c.requires.within c.requires.order values w.next_true.result w.next_true.ensures.order w.if-end-next_true.false (w.next_true.ensures.here (omega (arith, w.if-end-next_true.false, c.requires.within)))
       | else-top-via-else-top w ↦ λ m e. absurd (w.if-top.false (ap (of_z w64) m))
     ] in
-    ap Some (to_z-of_z w64 c.shown.result now ∙ c.shown.ensures ∙ ap (shown_value c.args.extreme) (to_z-of_z w64 top fits))
+    ap Some (to_z-of_z w64 c.turned.result now ∙ c.turned.ensures ∙ ap (turned c.args.extreme) (to_z-of_z w64 top fits))
     ∙ extreme_some c.args.extreme zs top (c.top_between-top.ensures c.args.extreme c.args.rows.now values are) some

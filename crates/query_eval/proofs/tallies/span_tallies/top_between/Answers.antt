@@ -2,7 +2,8 @@
 use Rattle.std.proofs.Common.{rules, ◌≡◌, ◌+◌, ◌-◌, ◌<◌, ℤ, get_or, take, drop, map, pos, FitsSigned, w64, to_z, sym, ap, ◌∙◌, arith}
 use Rattle.std.specs.Int.{int_max}
 use Rattle.std.proofs.lemmas.Int.{to_z-of_z}
-use Rattle.query_eval.specs.Extreme.{shown_value, top_of}
+use Rattle.table_model.specs.Extreme.{turned}
+use Rattle.query_eval.specs.Forms.{top_of}
 use Rattle.query_eval.specs.Forms.{top_below}
 use Rattle.query_eval.specs.Slices.{rows_between}
 use Rattle.transpose_order.specs.Mask.{has}
@@ -13,7 +14,7 @@ use Rattle.query_eval.proofs.tallies.span_tallies.top_between.Goals as goal
 pub loop-value-init : goal.loop-value-init
 loop-value-init c = λ extreme rows values are.
     let start : c.args.first ≡ c.args.first + 0 = omega arith in
-    ap (λ zs. top_of (map (shown_value extreme) zs)) (sym (between_first rows c.args.first c.args.end c.requires.within c.requires.order values))
+    ap (λ zs. top_of (map (turned extreme) zs)) (sym (between_first rows c.args.first c.args.end c.requires.within c.requires.order values))
     ∙ ap (λ k. top_below extreme k (rows_between rows c.args.first c.args.end) values) start
 
 pub loop-value-preserved : goal.loop-value-preserved
@@ -39,4 +40,4 @@ returns c = λ extreme rows values are.
     let last = part_end c.args.first c.args.end c.loop-value.value-index c.args.shown.now c.told-shown c.requires.order c.requires.within c.loop-value-test.false c.loop-value.auto.value-index-end in
     c.loop-value.invariant extreme rows values are
     ∙ ap (λ k. top_below extreme k (rows_between rows c.args.first c.args.end) values) last
-    ∙ ap (λ zs. top_of (map (shown_value extreme) zs)) (between_all rows c.args.first c.args.end c.requires.within values)
+    ∙ ap (λ zs. top_of (map (turned extreme) zs)) (between_all rows c.args.first c.args.end c.requires.within values)

@@ -2,7 +2,7 @@
 use Rattle.std.proofs.Common.{◌≡◌, ◌+◌, Bool, List, ℤ}
 use Rattle.query_eval.specs.Forms.{AreFormed, top_below}
 use Rattle.query_eval.specs.Slices.{rows_between}
-use Rattle.query_eval.specs.declared.tallies.extreme.Extreme.{Extreme}
+use Rattle.table_model.specs.declared.extreme.Extreme.{Extreme}
 use Rattle.query_eval.specs.declared.tallies.forms.Form.TheVariants.{Shown}
 use Rattle.query_eval.proofs.tallies.span_tallies.top_between.Given as goal
 

@@ -4,7 +4,7 @@ use Rattle.std.specs.Int.{w128}
 use Rattle.std.proofs.lemmas.Int.{to_z-of_z}
 use Rattle.query_eval.specs.Tally.{IsTally}
 use Rattle.query_eval.specs.Vector.{vector_at, looked_at}
-use Rattle.query_eval.specs.declared.tallies.extreme.Extreme.TheVariants.{Least, Greatest}
+use Rattle.table_model.specs.declared.extreme.Extreme.TheVariants.{Least, Greatest}
 use Rattle.query_eval.specs.declared.tallies.tally.TallyKind.TheVariants as kinds
 use Rattle.query_eval.proofs.DistinctLemmas.{decoded-values}
 use Rattle.query_eval.proofs.tallies.whole_tallies.take_values.Goals as goal

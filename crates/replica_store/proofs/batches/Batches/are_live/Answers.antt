@@ -1,5 +1,5 @@
 -- Each batch has a live row where each of both parts has.
-use Rattle.std.specs.Prelude.{◌&&◌, Bool, List, true}
+use Rattle.std.specs.Prelude.{◌&&◌, Bool, List}
 use Rattle.std.proofs.Common.{refl, sym, ap, ◌∙◌}
 use Rattle.std.specs.List.{list_all}
 use Rattle.replica_store.specs.Forgets.{is_live_entry}

@@ -1,30 +1,14 @@
--- The parts merged with the parts of what is lacked are the union's.
+-- The copies are of what is lacked of both parts.
 use Rattle.std.specs.Prelude.{◌++◌}
-use Rattle.std.proofs.Common.{sym, ap, subst, ◌∙◌}
-use Rattle.std.specs.FinMap as map
-use Rattle.table_model.specs.State.{union_of}
-use Rattle.table_model.specs.Name.{name_cmp}
-use Rattle.segment_core.specs.Segment.{SegmentForm}
-use Rattle.replica_store.specs.Entries.{merge}
-use Rattle.replica_store.specs.Segments.{BatchesForm}
-use Rattle.replica_store.proofs.Maps.{Sorted, as_map}
-use Rattle.replica_store.proofs.Merges.{Sorted-lacked}
-use Rattle.replica_store.proofs.Putting.{kept_merged, map_merged}
+use Rattle.replica_store.proofs.Putting.{lacked_of, OnOk_then}
 use Rattle.replica_store.proofs.batches.Batches.join.Goals as goal
 
-pub parted-requires : goal.parted-requires
-parted-requires c = subst Sorted (sym c.in_ok-fresh.ensures) (Sorted-lacked c.self.inside.held (c.args.first.now ++ c.args.second.now) c.requires.sorted)
-
-pub invariant_of-self : goal.invariant_of-self
-invariant_of-self c =
-    kept_merged c.self.inside.own c.self.inside.up_to.items c.self.inside.past.items c.merged.result.items c.merged-2.result.items c.in_ok-fresh_up_to.fresh_up_to.items c.in_ok-fresh_up_to.fresh_past.items
-    (c.args.first.now ++ c.args.second.now) c.self.inside.held c.in_ok-held.held c.args.names.now c.self.invariant c.in_ok-fresh_up_to.ensures.parted (c.in_ok-fresh_up_to.ensures.whole ∙ c.in_ok-fresh.ensures) c.requires.sorted
-    (c.merged.ensures ∙ ap (λ v. merge name_cmp v.items c.in_ok-fresh_up_to.fresh_up_to.items) c.replace-up_to.ensures.value) (c.merged-2.ensures ∙ ap (λ v. merge name_cmp v.items c.in_ok-fresh_up_to.fresh_past.items) c.replace-past.ensures.value)
-    c.in_ok-held.ensures c.requires.names
+pub put_fresh-requires : goal.put_fresh-requires
+put_fresh-requires c = (
+  c.args.first.now ++ c.args.second.now,
+  lacked_of c.self.inside.own c.self.inside.up_to.items c.self.inside.past.items c.self.inside.held c.args.self.now c.self.invariant c.self.view_is (c.args.first.now ++ c.args.second.now) c.in_ok-fresh.fresh.items c.requires.sorted c.in_ok-fresh.ensures,
+  c.requires.names,
+)
 
 pub returns-clause-ok : goal.returns-clause-ok
-returns-clause-ok c =
-    map_merged c.self.inside.own c.self.inside.up_to.items c.self.inside.past.items c.merged.result.items c.merged-2.result.items c.in_ok-fresh_up_to.fresh_up_to.items c.in_ok-fresh_up_to.fresh_past.items
-    (c.args.first.now ++ c.args.second.now) c.self.inside.held c.self.invariant c.in_ok-fresh_up_to.ensures.parted (c.in_ok-fresh_up_to.ensures.whole ∙ c.in_ok-fresh.ensures) c.requires.sorted
-    (c.merged.ensures ∙ ap (λ v. merge name_cmp v.items c.in_ok-fresh_up_to.fresh_up_to.items) c.replace-up_to.ensures.value) (c.merged-2.ensures ∙ ap (λ v. merge name_cmp v.items c.in_ok-fresh_up_to.fresh_past.items) c.replace-past.ensures.value)
-    ∙ ap (λ (m : map.FinMap name_cmp SegmentForm). union_of m (as_map (c.args.first.now ++ c.args.second.now))) (ap (λ (b : BatchesForm). b.segments) c.self.view_is)
+returns-clause-ok c = OnOk_then c.put_fresh.result (λ then. then (c.args.first.now ++ c.args.second.now) (lacked_of c.self.inside.own c.self.inside.up_to.items c.self.inside.past.items c.self.inside.held c.args.self.now c.self.invariant c.self.view_is (c.args.first.now ++ c.args.second.now) c.in_ok-fresh.fresh.items c.requires.sorted c.in_ok-fresh.ensures)) c.put_fresh.ensures.ok

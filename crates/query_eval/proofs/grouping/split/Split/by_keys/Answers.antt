@@ -1,10 +1,6 @@
 -- By what is known of the keys.
-use Rattle.std.proofs.Common.{◌≡◌, ◌<◌, ℕ, List, OnOk, subst, sym}
-use Rattle.table_model.specs.Group.{key_of}
+use Rattle.std.proofs.Common.{OnOk, subst, sym}
 use Rattle.query_eval.specs.Keys.{IsSplitting, key_read}
-use Rattle.query_eval.specs.Places.{IsIndex}
-use Rattle.query_eval.specs.Slices.{IsSplit}
-use Rattle.query_eval.specs.Vector.{Vector, row_at}
 use Rattle.query_eval.specs.declared.grouping.vector_keys.VectorKeys.{VectorKeys}
 use Rattle.query_eval.proofs.grouping.split.Split.by_keys.Goals as goal
 

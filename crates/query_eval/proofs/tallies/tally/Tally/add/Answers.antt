@@ -3,7 +3,8 @@ use Rattle.std.proofs.Common.{[], ◌∷◌, rules, sym, FitsSigned, w64, subst}
 use Rattle.std.proofs.lemmas.Int.{to_z-of_z}
 use Rattle.query_eval.specs.Tally.{IsTally}
 use Rattle.query_eval.specs.declared.tallies.tally.Tally.{Tally}
-use Rattle.query_eval.proofs.ExtremeLemmas.{extreme_many, one_extreme}
+use Rattle.table_model.proofs.Extremes.{one_extreme}
+use Rattle.query_eval.proofs.ExtremeLemmas.{extreme_many}
 use Rattle.query_eval.proofs.tallies.tally.Tally.add.Goals as goal
 
 pub returns-in-Extreme-clause-values : goal.returns-in-Extreme-clause-values

@@ -1,8 +1,8 @@
 -- The further of the values' extreme and what there was.
 use Rattle.std.proofs.Common.{◌≡◌, sym, ap, subst, ◌∙◌}
-use Rattle.query_eval.specs.Extreme.{extreme_of}
+use Rattle.table_model.specs.Extreme.{extreme_of}
 use Rattle.query_eval.specs.Tally.{IsTally, kind_of}
-use Rattle.query_eval.specs.declared.tallies.extreme.Extreme.{Extreme}
+use Rattle.table_model.specs.declared.extreme.Extreme.{Extreme}
 use Rattle.query_eval.specs.declared.tallies.tally.Tally.{Tally}
 use Rattle.query_eval.proofs.ExtremeLemmas.{extreme_many, same_side}
 use Rattle.query_eval.proofs.tallies.tally.Tally.extreme_more.Goals as goal

@@ -1,0 +1,2 @@
+pub mod AnswerTexts
+pub mod TextFormats

@@ -1,0 +1,7 @@
+use Rattle.std.proofs.Common.{◌≡◌, ◌++◌, take}
+use Rattle.std.specs.List.{flat_map}
+use Rattle.answer_formats.proofs.TextFormats.{csv_line}
+use Rattle.answer_formats.proofs.csv_text.write_rows.Given as goal
+
+abbrev pub invariant-loop-row : goal.invariant-loop-row
+invariant-loop-row l = l.out.items ≡ l.initial.out.items ++ flat_map csv_line (take l.row-index l.rows)

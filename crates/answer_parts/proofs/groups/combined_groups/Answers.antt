@@ -1,0 +1,11 @@
+use Rattle.std.proofs.lemmas.Result.{err_from_is_err_and}
+use Rattle.answer_parts.proofs.PartIn.{combined_is}
+use Rattle.answer_parts.proofs.groups.combined_groups.Goals as goal
+
+pub returns-clause-both : goal.returns-clause-both
+returns-clause-both c = combined_is _ _ _ c.in_ok-both.ensures.both
+
+pub returns-in_err-both-clause-refused : goal.returns-in_err-both-clause-refused
+returns-in_err-both-clause-refused c =
+    let p = err_from_is_err_and c.from_residual.result c.from_residual.ensures.1 in
+    rw (p.1, p.2) c.in_err-both.ensures.refused

@@ -1,0 +1,32 @@
+-- One set function more of both.
+use Rattle.std.proofs.Common.{◌≡◌, ◌<◌, length, slice_index_or, subst, ◌∙◌, arith}
+use Rattle.std.proofs.lemmas.Result.{err_from_is_err_and}
+use Rattle.answer_parts.specs.Kept.{tally_in}
+use Rattle.answer_parts.specs.Part.{plus}
+use Rattle.answer_parts.specs.Refusing.{RefusesKept}
+use Rattle.answer_parts.specs.declared.kept.Kept.{Kept}
+use Rattle.answer_parts.proofs.GroupMore.{group_more}
+use Rattle.answer_parts.proofs.Refusing.{longer_differs, refuses_at}
+use Rattle.answer_parts.proofs.kept.group_of_both.Goals as goal
+
+pub loop-i-preserved : goal.loop-i-preserved
+loop-i-preserved c =
+    let same : length c.args.one.now ≡ length c.args.other.now = omega (arith, c.if-one-other.false) in
+    let within : c.loop-i.i < length c.args.one.now = omega (arith, c.loop-i-test.true) in
+    let one = c.index-one-i.is in
+    let other = c.index-other-i.is in
+    group_more c.args.one.now c.args.other.now c.loop-i.both.items c.push_kept.new.all.items c.loop-i.i c.index-one-i.result c.index-other-i.result c.in_ok-kept.kept
+    within (omega (arith, within, same)) c.loop-i.invariant (c.in_ok-kept.ensures.both ∙ (λ j. plus (tally_in (one j)) (tally_in (other j)))) c.in_ok-push_kept.ensures
+
+pub returns-in_err-kept-clause-refused : goal.returns-in_err-kept-clause-refused
+returns-in_err-kept-clause-refused c =
+    let p = err_from_is_err_and c.from_residual.result c.from_residual.ensures.1 in
+    let e = c.in_err-kept.field-0.0 in
+    let same : length c.args.one.now ≡ length c.args.other.now = omega (arith, c.if-one-other.false) in
+    let within : c.loop-i.i < length c.args.one.now = omega (arith, c.loop-i-test.true) in
+    let first = subst (λ (k : Kept). RefusesKept e k c.index-other-i.result) c.index-one-i.is c.in_err-kept.ensures.refused in
+    let both = subst (λ (k : Kept). RefusesKept e (slice_index_or c.args.one.now c.loop-i.i c.index-one-i.result) k) c.index-other-i.is first in
+    rw (p.1, p.2) (refuses_at e c.args.one.now c.args.other.now c.loop-i.i c.index-one-i.result c.index-other-i.result within (omega (arith, within, same)) both)
+
+pub returns-then-one-other-clause-refused : goal.returns-then-one-other-clause-refused
+returns-then-one-other-clause-refused c = longer_differs c.args.one.now c.args.other.now (λ e. absurd (omega (arith, c.if-one-other.true, e)))

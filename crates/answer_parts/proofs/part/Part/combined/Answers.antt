@@ -1,0 +1,44 @@
+-- Two parts of one query that are apart.
+use Rattle.std.proofs.Common.{◌≡◌, true, false, List, ℕ, Option, refl, rules, sym, ap, subst, ◌∙◌}
+use Rattle.std.specs.String.{string_bytes}
+use Rattle.std.proofs.lemmas.Bool.{false≢true}
+use Rattle.std.proofs.lemmas.Result.{err_from_is_err_and}
+use Rattle.table_model.specs.Identifier.{same_text}
+use Rattle.table_model.specs.Table.{Table, same_table}
+use Rattle.table_model.specs.declared.names.BatchName.{BatchName}
+use Rattle.table_model.proofs.SameTable.{one_table, itself_table, one_text, itself_text}
+use Rattle.answer_parts.specs.Between.{IsFirstBetween}
+use Rattle.answer_parts.specs.Combining.{counted_in}
+use Rattle.answer_parts.proofs.FirstBetween.{none_combined}
+use Rattle.answer_parts.proofs.RefusedParts.{groups_refuse}
+use Rattle.answer_parts.proofs.part.Part.combined.Goals as goal
+
+pub returns-clause-combined : goal.returns-clause-combined
+returns-clause-combined c =
+    let same : c.same.result ≡ true = search rules in
+    let also : c.same_text.result ≡ true = search rules in
+    let texts : same_text (string_bytes c.args.self.text) (string_bytes c.args.other.text) ≡ true = (λ i. same_text (sym c.as_bytes.ensures.value i) (sym c.as_bytes-2.ensures.value i)) ∙ sym c.same_text.ensures ∙ also in
+    record {
+      schemas = one_table c.args.self.schema c.args.other.schema (sym c.same.ensures ∙ same);
+      texts = one_text (string_bytes c.args.self.text) (string_bytes c.args.other.text) texts;
+      apart = none_combined (counted_in c.args.self) (counted_in c.args.other) (subst (λ (o : Option BatchName). IsFirstBetween (counted_in c.args.self) (counted_in c.args.other) o) c.in_default.is c.between.ensures);
+      schema = refl;
+      text = refl;
+      counted = λ i. record { part = c.in_ok-groups.ensures.both i; held = c.in_ok-held.ensures i; strays = c.in_ok-strays.ensures i };
+    }
+
+pub returns-in_err-groups-clause-refused : goal.returns-in_err-groups-clause-refused
+returns-in_err-groups-clause-refused c =
+    let p = err_from_is_err_and c.from_residual-in_err-groups.result c.from_residual-in_err-groups.ensures.1 in
+    rw (p.1, p.2) (groups_refuse c.in_err-groups.field-0.0 c.args.self c.args.other c.in_err-groups.ensures.refused)
+
+pub returns-then-not-same-clause-refused : goal.returns-then-not-same-clause-refused
+returns-then-not-same-clause-refused c = λ e.
+    let differs : c.same.result ≡ false = search rules in
+    false≢true (sym differs ∙ c.same.ensures ∙ ap (λ (t : Table). same_table c.args.self.schema t) (sym e) ∙ itself_table c.args.self.schema)
+
+pub returns-then-not-same_text-clause-refused : goal.returns-then-not-same_text-clause-refused
+returns-then-not-same_text-clause-refused c = λ e _.
+    let differs : c.same_text.result ≡ false = search rules in
+    let texts : same_text (string_bytes c.args.self.text) (string_bytes c.args.other.text) ≡ false = (λ i. same_text (sym c.as_bytes.ensures.value i) (sym c.as_bytes-2.ensures.value i)) ∙ sym c.same_text.ensures ∙ differs in
+    false≢true (sym texts ∙ ap (λ (t : List ℕ). same_text (string_bytes c.args.self.text) t) (sym e) ∙ itself_text (string_bytes c.args.self.text))

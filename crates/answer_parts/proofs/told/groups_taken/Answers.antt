@@ -1,0 +1,24 @@
+-- Of a query without GROUP BY and of one with it.
+use Rattle.std.proofs.Common.{◌≡◌, ◌∷◌, [], List, map, cond, Some, None, ap, subst, ◌∙◌}
+use Rattle.std.specs.Ordering.{eq_by_cmp}
+use Rattle.table_model.specs.Group.{key_cmp}
+use Rattle.query_eval.specs.Taken.{AreTaken}
+use Rattle.query_eval.specs.declared.answers.taken_rows.Taken.{Taken}
+use Rattle.query_eval.specs.declared.tallies.tally.Tally.{Tally as Running}
+use Rattle.query_eval.specs.declared.tallies.tally.Tally.TheVariants as running
+use Rattle.answer_parts.specs.Evaluated.{told}
+use Rattle.answer_parts.specs.Part.{Tallies}
+use Rattle.answer_parts.proofs.TakenParts.{whole_told, groups_told, within_told}
+use Rattle.answer_parts.proofs.told.groups_taken.Goals as goal
+
+pub returns-in_ok-made-in-Whole : goal.returns-in_ok-made-in-Whole
+returns-in_ok-made-in-Whole c = λ table plan rows few taken.
+    let h = subst (λ (t : Taken). AreTaken plan rows t) c.in-Whole.is taken in
+    whole_told table plan rows _ c.in-Whole.tallies.items h.0 few h.1
+    (λ k. c.in_ok-made-in-Whole.ensures k ∙ ap (λ (ts : List Running). cond (eq_by_cmp key_cmp [] k) (Some (map told ts)) None) c.as_slice.ensures.value)
+
+pub returns-in_ok-made-in-Grouped : goal.returns-in_ok-made-in-Grouped
+returns-in_ok-made-in-Grouped c = λ table plan rows few taken.
+    let h = subst (λ (t : Taken). AreTaken plan rows t) c.in-Grouped.is taken in
+    let t : Running = running.Count 0 in
+    groups_told table plan rows _ c.in-Grouped.groups t h.0 few h.1.1 (c.in_ok-made-in-Grouped.ensures t (within_told plan rows c.in-Grouped.groups h.1.1))

@@ -1,0 +1,9 @@
+use Rattle.std.proofs.Common.{◌≡◌, ℕ, ◌<◌, length, map, take, get_or}
+use Rattle.std.specs.Global.{Vec}
+use Rattle.query_eval.specs.declared.tallies.tally.Tally.{Tally as Running}
+use Rattle.answer_parts.specs.Evaluated.{told_at}
+use Rattle.answer_parts.specs.Kept.{tallies_in}
+use Rattle.answer_parts.proofs.told.kept_at.Given as goal
+
+abbrev pub invariant-loop-column : goal.invariant-loop-column
+invariant-loop-column l = (t : Running) → ((i : ℕ) (c : Vec Running) → i < length l.tallies → l.place < length (get_or l.tallies i c).items) → tallies_in l.all.items ≡ told_at (take l.column-index l.tallies) t l.place

@@ -1,0 +1,10 @@
+-- The values of the set, in order.
+use Rattle.std.proofs.Common.{List, ℤ, HashSet, refl, ap, ◌∙◌}
+use Rattle.std.specs.List.{list_any}
+use Rattle.std.specs.Ordering.{int_eq}
+use Rattle.answer_parts.specs.Evaluated.{told}
+use Rattle.answer_parts.proofs.Tallies.{tally_is, same_members}
+use Rattle.answer_parts.proofs.told.kept_of_tally.Goals as goal
+
+pub returns-in_ok-of_set-in-Distinct : goal.returns-in_ok-of_set-in-Distinct
+returns-in_ok-of_set-in-Distinct c = rw c.in-Distinct.is (tally_is _ _ refl refl refl refl (same_members _ _ (λ z. rw c.deref.ensures at (c.in_ok-of_set-in-Distinct.ensures z))))

@@ -1,0 +1,10 @@
+pub mod Measures
+pub mod Part
+pub mod PartLaws
+pub mod Counted
+pub mod Evaluated
+pub mod Kept
+pub mod Groups
+pub mod Between
+pub mod Refusing
+pub mod Combining

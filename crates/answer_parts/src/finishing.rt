@@ -1,0 +1,182 @@
+//! Finishing a part: the values of the set functions, and then HAVING and the select list.
+ghost use Rattle.std.specs.Prelude.{◌≡◌, ◌++◌, ◌∷◌, [], IfOk, OnOk, map};
+ghost use Rattle.std.specs.BTreeMap.{IsOrdered};
+ghost use Rattle.std.specs.FinMap as finite;
+ghost use Rattle.std.specs.List.{position, position_or_len};
+ghost use Rattle.std.specs.List.Sorted.{IsStrictlySortedBy};
+ghost use Rattle.std.specs.Ordering.{int_cmp};
+ghost use Rattle.table_model.specs.Answer.{millionths, whole};
+ghost use Rattle.table_model.specs.Group.{key_cmp};
+ghost use Rattle.table_model.specs.Meaning.{fold_value};
+ghost use Rattle.query_eval.specs.Aggregate.{same_aggregate};
+ghost use Rattle.answer_parts.specs.Groups.{part_in, shown_entries};
+ghost use Rattle.answer_parts.specs.Kept.{tally_in, tallies_in};
+ghost use Rattle.answer_parts.specs.Measures.{measures_of};
+ghost use Rattle.answer_parts.specs.Part.{field_of, field_at, fields_from, finish, mean_kept, set_of, sum_kept};
+
+use crate::fault::PartFault;
+use crate::kept::Kept;
+use crate::means::mean_of;
+use crate::measures::{measure_of, measures_of};
+use query_eval::{Aggregate, FinishedGroup, Key, Plan, answer_of_groups, values_field};
+use std::alloc::Global;
+use std::collections::BTreeMap;
+use table_model::{Answer, Field, Fold, Query, Schema};
+
+/// How many different values a set function under DISTINCT goes over at most.
+const MOST: usize = 1 << 36;
+
+/// A whole number, or null.
+fn whole_field(value: Option<i64>) -> Field
+    ensures { result ≡ whole value }
+{
+    match value {
+        None => Field::Null,
+        Some(value) => Field::Whole(i128::from(value)),
+    }
+}
+
+/// SUM: null of no values.
+fn sum_field(kept: &Kept) -> Field
+    ensures { result ≡ sum_kept (tally_in kept.now) }
+{
+    if kept.count() == 0 {
+        Field::Null
+    } else {
+        Field::Whole(kept.sum())
+    }
+}
+
+/// AVG, in millionths and truncated toward zero: null of no values.
+fn mean_field(kept: &Kept) -> Result<Field, PartFault>
+    ensures { IfOk result (λ field. field ≡ mean_kept (tally_in kept.now)) }
+{
+    let count = kept.count();
+    if count == 0 {
+        return Ok(Field::Null);
+    }
+    match mean_of(count, kept.sum()) {
+        None => Err(PartFault::TooMany),
+        Some(mean) => Ok(Field::Millionths(mean)),
+    }
+}
+
+/// A set function under DISTINCT.
+fn distinct_field(fold: Fold, kept: &Kept) -> Result<Field, PartFault>
+    ensures { IfOk result (λ field. field ≡ fold_value fold (finite.keys (tally_in kept.now).seen)) }
+{
+    let values = kept.values();
+    if values.len() > MOST {
+        return Err(PartFault::TooMany);
+    }
+    Ok(values_field(fold, values))
+}
+
+/// A set function's value, from what is kept of its measure.
+fn field_of(aggregate: Aggregate, kept: &Kept) -> Result<Field, PartFault>
+    ensures { IfOk result (λ field. field ≡ field_of aggregate (tally_in kept.now)) }
+{
+    match aggregate {
+        Aggregate::Rows => Ok(Field::Whole(i128::from(kept.count()))),
+        Aggregate::Folded {
+            fold,
+            distinct: true,
+            ..
+        } => distinct_field(fold, kept),
+        Aggregate::Folded {
+            fold,
+            distinct: false,
+            ..
+        } => match fold {
+            Fold::Count => Ok(Field::Whole(i128::from(kept.count()))),
+            Fold::Sum => Ok(sum_field(kept)),
+            Fold::Avg => mean_field(kept),
+            Fold::Min => Ok(whole_field(kept.least())),
+            Fold::Max => Ok(whole_field(kept.greatest())),
+        },
+    }
+}
+
+/// Which of some measures is the same first.
+fn find_measure(measures: &[Aggregate], measure: Aggregate) -> Option<usize>
+    ensures { result ≡ position (same_aggregate measure) measures.now }
+{
+    measures.iter().position(|other| measure.same(*other))
+}
+
+/// The first of some measures that is the same, or how many there are.
+fn measure_among(measures: &[Aggregate], measure: Aggregate) -> usize
+    ensures { result ≡ position_or_len (same_aggregate measure) measures.now }
+{
+    match find_measure(measures, measure) {
+        None => measures.len(),
+        Some(at) => at,
+    }
+}
+
+/// A set function's value, from what is kept of some measures.
+fn field_at(measures: &[Aggregate], kept: &[Kept], aggregate: Aggregate) -> Result<Field, PartFault>
+    ensures { IfOk result (λ field. field ≡ field_at measures.now (tallies_in kept.now) aggregate) }
+{
+    let field = match kept.get(measure_among(measures, measure_of(aggregate))) {
+        None => field_of(aggregate, &Kept::Count(0))?,
+        Some(one) => field_of(aggregate, one)?,
+    };
+    Ok(field)
+}
+
+/// The values of some set functions, from what is kept of their measures.
+fn fields_from(
+    alloc: Global,
+    aggregates: &[Aggregate],
+    measures: &[Aggregate],
+    kept: &[Kept],
+) -> Result<Vec<Field>, PartFault>
+    ensures { IfOk result (λ fields. fields.items ≡ map (field_at measures.now (tallies_in kept.now)) aggregates.now) }
+{
+    let mut fields = Vec::new(alloc);
+    for aggregate in aggregates {
+        fields.push(field_at(measures, kept, *aggregate)?)?;
+    }
+    Ok(fields)
+}
+
+/// The groups of a part when they are finished, in ascending order of their keys.
+fn finished(
+    alloc: Global,
+    aggregates: &[Aggregate],
+    measures: &[Aggregate],
+    groups: &mut BTreeMap<Key, Vec<Kept>>,
+) -> Result<Vec<FinishedGroup>, PartFault>
+    ensures ordered { IsOrdered key_cmp groups.old }
+    ensures value { IfOk result (λ all. all.items ≡ shown_entries measures.now aggregates.now groups.old.entries) }
+{
+    let mut all = Vec::new(alloc);
+    for _ in 0..groups.len() {
+        match groups.pop_first() {
+            None => {}
+            Some((key, kept)) => {
+                let fields = fields_from(alloc, aggregates, measures, kept.as_slice())?;
+                all.push(FinishedGroup::new(key, fields))?;
+            }
+        }
+    }
+    Ok(all)
+}
+
+/// The answer of the groups of a part to the query that the part is of.
+pub fn finish_groups(
+    alloc: Global,
+    schema: &Schema,
+    query: &Query,
+    groups: BTreeMap<Key, Vec<Kept>>,
+) -> Result<Answer, PartFault>
+    ensures { IfOk result (λ answer. answer ≡ finish schema.now query.now (part_in groups)) }
+{
+    let plan = Plan::of(alloc, schema, query)?;
+    let measures = measures_of(alloc, plan.aggregates())?;
+    let mut rest = groups;
+    let all = finished(alloc, plan.aggregates(), measures.as_slice(), &mut rest)?;
+    let answer = answer_of_groups(alloc, schema, query, &plan, all.as_slice())?;
+    Ok(answer)
+}

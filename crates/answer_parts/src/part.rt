@@ -1,0 +1,157 @@
+//! A part of an answer, with the names of the batches that it counted: parts are combined in any order, and then finished.
+ghost use Rattle.std.specs.Prelude.{◌≡◌, Ok, IfOk, IfErr};
+ghost use Rattle.std.specs.String.{string_bytes};
+ghost use Rattle.table_model.specs.Query.{QueryShape};
+ghost use Rattle.query_parser.specs.Descent.{query_of};
+ghost use Rattle.answer_parts.specs.Between.{IsFirstBetween};
+ghost use Rattle.answer_parts.specs.Combining.{AreCombined, IsRefused, counted_in};
+ghost use Rattle.answer_parts.specs.Groups.{part_in};
+ghost use Rattle.answer_parts.specs.Part.{finish};
+
+use crate::apart::{first_shared, lesser_name};
+use crate::fault::PartFault;
+use crate::finishing::finish_groups;
+use crate::groups::combined_groups;
+use crate::kept::Kept;
+use catalogue_join::Held;
+use query_eval::Key;
+use query_parser::parse;
+use std::alloc::Global;
+use std::collections::BTreeMap;
+use table_model::{Answer, BatchName, Schema, same_text};
+
+/// A part of an answer: what some batches of a table give to the answer of a query, before HAVING.
+///
+/// It has the table's schema, the query's text, the names of the batches that it counted, the names of batches of which the file
+/// deletes rows without holding them, and the groups, with what is kept of each for each measure of the query.
+#[derive(Drop)]
+pub struct Part {
+    schema: Schema,
+    text: String,
+    held: Held,
+    strays: Held,
+    groups: BTreeMap<Key, Vec<Kept>>,
+}
+
+impl Part {
+    /// The part that is made of these. It takes no memory.
+    pub fn new(
+        schema: Schema,
+        text: String,
+        held: Held,
+        strays: Held,
+        groups: BTreeMap<Key, Vec<Kept>>,
+    ) -> Part
+        ensures schema { result.schema ≡ schema }
+        ensures text { result.text ≡ text }
+        ensures held { result.held ≡ held }
+        ensures strays { result.strays ≡ strays }
+        ensures groups { result.groups ≡ groups }
+    {
+        Part {
+            schema,
+            text,
+            held,
+            strays,
+            groups,
+        }
+    }
+
+    /// The table's schema.
+    pub fn schema(&self) -> &Schema
+        ensures { result.now ≡ self.now.schema }
+    {
+        &self.schema
+    }
+
+    /// The query's text.
+    pub fn text(&self) -> &str
+        ensures { result.now ≡ string_bytes self.now.text }
+    {
+        self.text.as_str()
+    }
+
+    /// The names of the batches that were counted.
+    pub fn held(&self) -> &Held
+        ensures { result.now ≡ self.now.held }
+    {
+        &self.held
+    }
+
+    /// The names of batches that were not counted and of which rows are deleted.
+    pub fn strays(&self) -> &Held
+        ensures { result.now ≡ self.now.strays }
+    {
+        &self.strays
+    }
+
+    /// The groups by their keys, with what is kept of each.
+    pub fn groups(&self) -> &BTreeMap<Key, Vec<Kept>>
+        ensures { result.now ≡ self.now.groups }
+    {
+        &self.groups
+    }
+
+    /// The least batch that both parts counted, or that one counted and the other deletes rows of.
+    fn between(&self, other: &Part) -> Option<BatchName>
+        ensures { IsFirstBetween (counted_in self.now) (counted_in other.now) result }
+    {
+        let held = first_shared(&self.held, &other.held);
+        let first = first_shared(&self.strays, &other.held);
+        let second = first_shared(&other.strays, &self.held);
+        lesser_name(held, lesser_name(first, second))
+    }
+
+    /// Two parts of the same query, combined: the part of both files' rows.
+    ///
+    /// The refusals are, in this order: `SchemaDiffers`; `QueryDiffers` if the texts differ; `NotApart` with the least batch that was
+    /// counted in both parts, or of which one counted rows that the other's file deletes; `QueryDiffers` if the parts keep different
+    /// things of a group, which parts of one query do not; `TooMany` if a count leaves 64 bits or a sum 128. `Memory` can come in
+    /// place of the last two.
+    pub fn combined(self, alloc: Global, other: Part) -> Result<Part, PartFault>
+        ensures combined { IfOk result (λ both. AreCombined self other both) }
+        ensures refused { IfErr result (λ e. IsRefused e self other) }
+    {
+        if !self.schema.same(&other.schema) {
+            return Err(PartFault::SchemaDiffers);
+        }
+        if !same_text(self.text.as_bytes(), other.text.as_bytes()) {
+            return Err(PartFault::QueryDiffers);
+        }
+        if let Some(name) = self.between(&other) {
+            return Err(PartFault::NotApart(name));
+        }
+        let held = self.held.joined(&other.held)?;
+        let strays = self.strays.joined(&other.strays)?;
+        let groups = combined_groups(alloc, self.groups, other.groups)?;
+        Ok(Part {
+            schema: self.schema,
+            text: self.text,
+            held,
+            strays,
+            groups,
+        })
+    }
+
+    /// The answer of a part to its query: here AVG is divided, and then HAVING is applied.
+    ///
+    /// The refusals are `Query` if the text is no query, `TooMany` if a mean leaves 128 bits, which it does not in a part of fewer
+    /// than 2^28 files, or if a set function under DISTINCT goes over more than 2^36 values, and `Memory`.
+    pub fn finish(self, alloc: Global) -> Result<Answer, PartFault>
+        ensures { IfOk result (λ answer. (query : QueryShape) → query_of (string_bytes self.text) ≡ Ok query → answer ≡ finish self.schema query (part_in self.groups)) }
+    {
+        let Part {
+            schema,
+            text,
+            groups,
+            ..
+        } = self;
+        match parse(alloc, text.as_str()) {
+            Err(refusal) => Err(PartFault::Query(refusal)),
+            Ok(query) => {
+                let answer = finish_groups(alloc, &schema, &query, groups)?;
+                Ok(answer)
+            }
+        }
+    }
+}

@@ -1,6 +1,0 @@
-use Rattle.std.proofs.Common.{◌≡◌, ◌^◌, ◌<◌, take}
-use Rattle.std.specs.Str.Parse.{digits_value}
-use Rattle.csv_rows.proofs.field.digits_value.Given as goal
-
-abbrev pub invariant-loop-digit : goal.invariant-loop-digit
-invariant-loop-digit l = record { so_far : l.value ≡ digits_value 10 (take l.digit-index l.text); below : l.value < 10 ^ l.digit-index }

@@ -1,0 +1,13 @@
+pub mod FolderSets
+pub mod JoinedSoFar
+pub mod PackedAway
+pub mod PackedSoFar
+pub mod PartOpens
+pub mod PartsBring
+pub mod Removals
+pub mod Removed
+pub mod SummedSoFar
+pub mod Puts
+pub mod CanonicalJoins
+pub mod Fronts
+pub mod WholeFolders

@@ -1,0 +1,10 @@
+-- What is told is what the store has then.
+use Rattle.std.proofs.Common.{◌≡◌, ◌∙◌, ◌-◌}
+use Rattle.replica_files.proofs.StoreCommands.{told_applied}
+use Rattle.folder_parts.proofs.offers.take_counted.Goals as goal
+
+pub returns : goal.returns
+returns c = (
+  told_applied c.args.store.now.replica c.take_offers.new.store.replica c.args.offers.now c.in_ok-is_changed.is_changed c.ranges-2.result.now c.batches-batches.result c.saturating_sub.result c.in_ok-is_changed.ensures c.ranges-2.ensures.maximal (c.ranges-2.ensures.rows ∙ c.tombs.ensures) c.batches-batches.ensures.value (c.saturating_sub.ensures ∙ (λ i. c.batches-batches.ensures.value i - c.batches-before.ensures.value i)),
+  c.in_ok-is_changed.ensures.1,
+)

@@ -1,0 +1,29 @@
+//! A replica as a folder of parts: their names, their join, and the part that each command puts.
+#![tactic(auto)]
+
+mod beside;
+mod deletes;
+mod fault;
+mod heads;
+mod joining;
+mod laws;
+mod loads;
+mod offers;
+mod opening;
+mod packing;
+mod part;
+mod part_naming;
+mod room;
+mod writing;
+
+pub use deletes::{part_of_deletes, part_of_rows};
+pub use fault::{PartFault, PartRefusal};
+pub use heads::{HEAD_BYTES, Head, part_head};
+pub use laws::folder_laws;
+pub use loads::{part_of_load, part_of_named_load};
+pub use offers::part_of_offers;
+pub use opening::{join_parts, open_parts, pack};
+pub use packing::{is_removed, packed_prefix};
+pub use part::Part;
+pub use part_naming::{is_part, is_part_name, part_name};
+pub use room::check_room;

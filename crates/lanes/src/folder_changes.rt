@@ -1,0 +1,238 @@
+//! The commands that change a folder of parts: what each brings is put into it as one more part.
+
+use crate::change::Answer;
+use crate::changing::{
+    is_there, load_of, of_other_table, random_words, read_offers, refused_alone, schemas_of,
+    with_columns,
+};
+use crate::failure::{Failure, is_of_a_text};
+use crate::folders::{Opened, open_folder, read_heads};
+use crate::named_loads::put_named;
+use crate::names::fault_of_names;
+use crate::putting::{exists, make_folder, put_part, say};
+use command_line::Source;
+use file_replacing::Replaced;
+use folder_parts::{
+    check_room, part_of_deletes, part_of_load, part_of_named_load, part_of_offers, part_of_rows,
+};
+use refusal_sentences::CommandRefusal;
+use replica_files::{DeletedRows, OpenFile};
+use replica_store::Store;
+use std::fs::{File, Files};
+use std::random::RandomSource;
+use std::rt::Clock;
+use table_model::{BatchName, ColType, Counted, Refusal, RowName};
+
+/// What is written to memory is refused as that, if it runs out.
+pub fn in_memory(refusal: Refusal) -> CommandRefusal {
+    match refusal {
+        Refusal::WriteFault => CommandRefusal::from(Refusal::Memory),
+        other => CommandRefusal::from(other),
+    }
+}
+
+/// Makes a folder that has the empty table as its one part.
+pub fn create<R: Print + Eprint + Files<File = File> + RandomSource + AllocGlobal>(
+    rt: &R,
+    folder: &str,
+    table: &str,
+    columns: &[(&str, ColType)],
+    is_quiet: bool,
+) -> Result<(), Failure> {
+    if is_there(rt, folder.trim_end_matches('/')) {
+        return Err(exists(rt, folder));
+    }
+    let words = fault_of_names(rt.alloc(), table, columns)?;
+    let mut writer = Counted::new(Vec::new(rt.alloc()));
+    match (
+        replica_files::create(rt.alloc(), table, columns, &mut writer),
+        &words,
+    ) {
+        (Ok(()), _) => {}
+        (Err(Refusal::BadSchema), Some(words)) => {
+            let refusal = CommandRefusal::from(Refusal::BadSchema);
+            return Err(Failure::advised(rt.alloc(), refusal, "", words.as_str()));
+        }
+        (Err(refusal), _) => return Err(refused_alone(rt, folder, in_memory(refusal))),
+    }
+    let replaced = make_folder(rt, folder, writer.into_inner().as_slice())?;
+    say(rt, folder, Answer::Created, Some(replaced), is_quiet)
+}
+
+/// Puts the rows of comma-separated values into a folder as one part, under names that are drawn or begin with the one that is given.
+pub fn import<
+    R: Print
+        + Eprint
+        + Input
+        + Files<File = File>
+        + Clock
+        + RandomSource
+        + AllocGlobal
+        + Clone
+        + Drop,
+>(
+    rt: &R,
+    folder: &str,
+    csvs: &[Source<'_>],
+    first: Option<BatchName>,
+    has_header: bool,
+    is_quiet: bool,
+) -> Result<(), Failure> {
+    match first {
+        Some(first) => import_named(rt, folder, csvs, first, has_header, is_quiet),
+        None => import_drawn(rt, folder, csvs, has_header, is_quiet),
+    }
+}
+
+/// The same under names that are drawn, for which only the heads of the parts are read.
+fn import_drawn<
+    R: Print
+        + Eprint
+        + Input
+        + Files<File = File>
+        + Clock
+        + RandomSource
+        + AllocGlobal
+        + Clone
+        + Drop,
+>(
+    rt: &R,
+    folder: &str,
+    csvs: &[Source<'_>],
+    has_header: bool,
+    is_quiet: bool,
+) -> Result<(), Failure> {
+    let heads = read_heads(rt, folder)?;
+    let load = load_of(rt, csvs, &heads.schema, has_header)?;
+    if let Err(refusal) = check_room(heads.batches.as_slice(), load.batches() as u32) {
+        return Err(refused_alone(rt, folder, CommandRefusal::from(refusal)));
+    }
+    let Ok(words) = random_words(rt) else {
+        return Err(Failure::of(rt.alloc(), CommandRefusal::from(Refusal::ReadFault)));
+    };
+    let mut writer = Counted::new(Vec::new(rt.alloc()));
+    match part_of_load(rt.alloc(), load, &words, &mut writer) {
+        Ok(done) => {
+            let bytes = writer.into_inner();
+            let replaced = put_some(rt, folder, done.new != 0, bytes.as_slice())?;
+            say(rt, folder, Answer::Imported(done), replaced, is_quiet)
+        }
+        Err(refusal) => Err(refused_alone(rt, folder, in_memory(refusal))),
+    }
+}
+
+/// The same under names that begin with one that is given. Of two such loads at once under one name with other rows the second is
+/// refused.
+fn import_named<
+    R: Print
+        + Eprint
+        + Input
+        + Files<File = File>
+        + Clock
+        + RandomSource
+        + AllocGlobal
+        + Clone
+        + Drop,
+>(
+    rt: &R,
+    folder: &str,
+    csvs: &[Source<'_>],
+    first: BatchName,
+    has_header: bool,
+    is_quiet: bool,
+) -> Result<(), Failure> {
+    let mut opened: Opened<Store> = open_folder(rt, folder)?;
+    let load = load_of(rt, csvs, opened.held.schema(), has_header)?;
+    let mut writer = Counted::new(Vec::new(rt.alloc()));
+    match part_of_named_load(rt.alloc(), &mut opened.held, load, first, &mut writer) {
+        Ok(done) if done.new == 0 => { say(rt, folder, Answer::Imported(done), None, is_quiet) }
+        Ok(done) => {
+            let bytes = writer.into_inner();
+            let replaced = put_named(rt, folder, &opened.parts, bytes.as_slice())?;
+            say(rt, folder, Answer::Imported(done), Some(replaced), is_quiet)
+        }
+        Err(refusal) => Err(refused_alone(rt, folder, in_memory(refusal))),
+    }
+}
+
+/// Puts bytes into a folder as a part, if there is anything to put.
+fn put_some<R: Files<File = File> + RandomSource + AllocGlobal>(
+    rt: &R,
+    folder: &str,
+    is_some: bool,
+    bytes: &[u8],
+) -> Result<Option<Replaced>, Failure> {
+    if is_some {
+        let replaced = put_part(rt, folder, bytes)?;
+        Ok(Some(replaced))
+    } else {
+        Ok(None)
+    }
+}
+
+/// Puts the deletions of the rows for which a condition is true into a folder as one part.
+pub fn delete<
+    R: Print + Eprint + Files<File = File> + Clock + RandomSource + AllocGlobal + Clone + Drop,
+>(rt: &R, folder: &str, condition: &str, is_quiet: bool) -> Result<(), Failure> {
+    let opened: Opened<OpenFile> = open_folder(rt, folder)?;
+    let mut writer = Counted::new(Vec::new(rt.alloc()));
+    match part_of_deletes(rt.alloc(), opened.held.store(), condition, &mut writer) {
+        Ok(done) => {
+            let bytes = writer.into_inner();
+            let replaced = put_some(rt, folder, done.rows != 0, bytes.as_slice())?;
+            say(rt, folder, Answer::Deleted(done), replaced, is_quiet)
+        }
+        Err(refusal) if is_of_a_text(refusal) => {
+            let schema = Some(opened.held.schema());
+            Err(with_columns(rt.alloc(), refusal, condition, schema))
+        }
+        Err(refusal) => Err(refused_alone(rt, folder, in_memory(refusal))),
+    }
+}
+
+/// Puts the deletion of rows by their names into a folder as one part.
+pub fn delete_rows<
+    R: Print + Eprint + Files<File = File> + Clock + RandomSource + AllocGlobal + Clone + Drop,
+>(rt: &R, folder: &str, first: RowName, last: u16, is_quiet: bool) -> Result<(), Failure> {
+    let heads = read_heads(rt, folder)?;
+    let mut writer = Counted::new(Vec::new(rt.alloc()));
+    match part_of_rows(rt.alloc(), &heads.schema, first, last, &mut writer) {
+        Ok(()) => {
+            let replaced = put_part(rt, folder, writer.into_inner().as_slice())?;
+            let answer = Answer::DeletedRows(DeletedRows { is_changed: true });
+            say(rt, folder, answer, Some(replaced), is_quiet)
+        }
+        Err(refusal) => Err(refused_alone(rt, folder, in_memory(refusal))),
+    }
+}
+
+/// Puts what offers bring into a folder as one part, all or none.
+pub fn apply<
+    R: Print
+        + Eprint
+        + Input
+        + Files<File = File>
+        + Clock
+        + RandomSource
+        + AllocGlobal
+        + Clone
+        + Drop,
+>(rt: &R, folder: &str, sources: &[Source<'_>], is_quiet: bool) -> Result<(), Failure> {
+    let mut opened: Opened<Store> = open_folder(rt, folder)?;
+    let offers = read_offers(rt, sources)?;
+    let offers = offers.as_slice();
+    let mut writer = Counted::new(Vec::new(rt.alloc()));
+    match part_of_offers(rt.alloc(), &mut opened.held, offers, &mut writer) {
+        Ok(done) => {
+            let bytes = writer.into_inner();
+            let replaced = put_some(rt, folder, done.is_changed, bytes.as_slice())?;
+            say(rt, folder, Answer::Applied(done), replaced, is_quiet)
+        }
+        Err(Refusal::SchemaDiffers) => {
+            let schema = opened.held.schema();
+            let schemas = schemas_of(rt.alloc(), offers)?;
+            Err(of_other_table(rt, folder, schema, schemas.as_slice(), sources))
+        }
+        Err(refusal) => Err(refused_alone(rt, folder, in_memory(refusal))),
+    }
+}

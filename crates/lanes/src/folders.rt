@@ -1,0 +1,352 @@
+//! Folders of parts, as commands read them: they are listed under a lock, and read part by part.
+
+use crate::failure::Failure;
+use crate::part_failures::{Unread, busy, of_folder, refused, why_unread};
+use crate::parts::PartFile;
+use folder_parts::{
+    HEAD_BYTES, Head, Part, PartFault, PartRefusal, is_part_name, join_parts, open_parts, part_head,
+};
+use part_folder::{Listing, list, list_locked, path_in};
+use refusal_sentences::CommandRefusal;
+use replica_files::OpenFile;
+use replica_store::Store;
+use std::alloc::{AllocError, Global};
+use std::fs::{self, File, Files};
+use std::io::{self, ErrorKind, Read};
+use std::rt::Clock;
+use table_model::{Counted, Refusal, Schema};
+
+/// How often a folder is looked at, if parts are gone when they are read.
+const LOOKS: u32 = 100;
+
+/// The parts of a folder at one look, by their names and their paths in ascending order, and how many other names it has.
+#[derive(Drop)]
+pub struct Parts {
+    names: Vec<String>,
+    paths: Vec<String>,
+    others: usize,
+}
+
+/// What a folder holds, and its parts.
+#[derive(Drop)]
+pub struct Opened<H> {
+    pub held: H,
+    pub parts: Parts,
+}
+
+/// What parts are opened as: a file that is asked, or a store that is changed.
+pub trait Opens {
+    /// What some parts hold, which are read in this order.
+    fn from_parts<R: Read>(
+        alloc: Global,
+        first: &mut Part<R>,
+        others: &mut [Part<R>],
+    ) -> Result<Self, PartRefusal>
+    where
+        Self: Sized;
+}
+
+impl Opens for OpenFile {
+    fn from_parts<R: Read>(
+        alloc: Global,
+        first: &mut Part<R>,
+        others: &mut [Part<R>],
+    ) -> Result<OpenFile, PartRefusal> {
+        open_parts(alloc, first, others)
+    }
+}
+
+impl Opens for Store {
+    fn from_parts<R: Read>(
+        alloc: Global,
+        first: &mut Part<R>,
+        others: &mut [Part<R>],
+    ) -> Result<Store, PartRefusal> {
+        join_parts(alloc, first, others)
+    }
+}
+
+/// What the heads of a folder's parts say.
+#[derive(Drop)]
+pub struct Heads {
+    pub schema: Schema,
+    /// How many batches each part has.
+    pub batches: Vec<u32>,
+}
+
+impl Parts {
+    /// The parts among the names in a folder. A name that a folder has is none; that is looked at only if it is asked for.
+    fn among<R: Files + AllocGlobal>(
+        rt: &R,
+        folder: &str,
+        listing: Listing,
+        is_careful: bool,
+    ) -> Result<Parts, AllocError> {
+        let mut names = Vec::new(rt.alloc());
+        let mut paths = Vec::new(rt.alloc());
+        let mut others = listing.unreadable();
+        for name in listing.into_names() {
+            let path = path_in(rt.alloc(), folder, name.as_str())?;
+            if is_part_name(name.as_str()) && !(is_careful && is_folder(rt, path.as_str())) {
+                names.push(name)?;
+                paths.push(path)?;
+            } else {
+                others = others.saturating_add(1);
+            }
+        }
+        Ok(Parts {
+            names,
+            paths,
+            others,
+        })
+    }
+
+    /// The parts of a folder, listed under its shared lock. There is at least one.
+    pub fn listed<R: Files<File = File> + Clock + AllocGlobal + Clone + Drop>(
+        rt: &R,
+        folder: &str,
+        is_careful: bool,
+    ) -> Result<Parts, Failure> {
+        let listing = match list(rt, folder) {
+            Ok(listing) => listing,
+            Err(fault) => return Err(of_folder(rt.alloc(), folder, fault)),
+        };
+        let parts = Parts::among(rt, folder, listing, is_careful)?;
+        if parts.names.as_slice().is_empty() {
+            let refusal = CommandRefusal::from(Refusal::ReadFault);
+            let words = "this folder holds no part";
+            return Err(Failure::advised(rt.alloc(), refusal, folder, words));
+        }
+        Ok(parts)
+    }
+
+    /// The paths of the parts that a folder has and these are not, by who has its exclusive lock.
+    pub fn paths_since<R: Files<File = File> + AllocGlobal + Clone + Drop>(
+        &self,
+        rt: &R,
+        folder: &str,
+    ) -> Result<Vec<String>, Failure> {
+        let listing = match list_locked(rt, folder) {
+            Ok(listing) => listing,
+            Err(fault) => return Err(of_folder(rt.alloc(), folder, fault)),
+        };
+        let mut paths = Vec::new(rt.alloc());
+        let found = Parts::among(rt, folder, listing, true)?;
+        for path in found.paths {
+            if self.paths.as_slice().binary_search(&path).is_err() {
+                paths.push(path)?;
+            }
+        }
+        Ok(paths)
+    }
+
+    /// The paths.
+    pub fn paths(&self) -> &[String] {
+        self.paths.as_slice()
+    }
+
+    /// The paths.
+    pub fn into_paths(self) -> Vec<String> {
+        self.paths
+    }
+
+    /// How many parts there are.
+    pub fn count(&self) -> usize {
+        self.names.len()
+    }
+
+    /// How many other names the folder has.
+    pub fn others(&self) -> usize {
+        self.others
+    }
+}
+
+/// Whether a name is that of a folder, or of a link to one.
+pub fn is_folder<R: Files>(rt: &R, name: &str) -> bool {
+    match fs::metadata(rt, name) {
+        Ok(found) => found.is_dir(),
+        Err(_) => false,
+    }
+}
+
+/// The part of a name, which has this path.
+pub fn part_of<'r, R: Files + AllocGlobal>(
+    rt: &'r R,
+    name: &str,
+    path: &str,
+) -> Result<Part<PartFile<'r, R>>, AllocError> {
+    let name = String::from_str(rt.alloc(), name)?;
+    let path = String::from_str(rt.alloc(), path)?;
+    Ok(Part::new(name, Counted::new(PartFile::new(rt, path))))
+}
+
+/// The parts of these paths, whose last components are their names.
+pub fn parts_of<'r, R: Files + AllocGlobal>(
+    rt: &'r R,
+    paths: &[String],
+) -> Result<Vec<Part<PartFile<'r, R>>>, AllocError> {
+    let mut parts = Vec::with_capacity(rt.alloc(), paths.len())?;
+    for path in paths {
+        parts.push(part_of(rt, last_of(path.as_str()), path.as_str())?)?;
+    }
+    Ok(parts)
+}
+
+/// The last component of a path.
+pub fn last_of(path: &str) -> &str {
+    match path.rsplit_once('/') {
+        Some((_, name)) => name,
+        None => path,
+    }
+}
+
+/// What all parts of a folder hold.
+pub fn open_folder<H: Opens, R: Files<File = File> + Clock + AllocGlobal + Clone + Drop>(
+    rt: &R,
+    folder: &str,
+) -> Result<Opened<H>, Failure> {
+    let mut is_careful = false;
+    for _ in 0..LOOKS {
+        let parts = Parts::listed(rt, folder, is_careful)?;
+        match open_paths(rt, parts.paths()) {
+            Ok(held) => return Ok(Opened { held, parts }),
+            Err(Unread::Gone) => {}
+            Err(Unread::Folder) => is_careful = true,
+            Err(Unread::Refused(failure)) => return Err(failure),
+        }
+    }
+    Err(busy(rt.alloc(), folder))
+}
+
+/// What the parts of these paths hold, of which there is at least one.
+fn open_paths<H: Opens, R: Files + AllocGlobal>(rt: &R, paths: &[String]) -> Result<H, Unread> {
+    let mut readers = parts_of(rt, paths)?;
+    let opened = match readers.as_mut_slice().split_first_mut() {
+        Some((first, others)) => H::from_parts(rt.alloc(), first, others),
+        None => return Err(Unread::Gone),
+    };
+    match opened {
+        Ok(held) => Ok(held),
+        Err(refusal) => Err(why_unread(rt, paths, readers, refusal)),
+    }
+}
+
+/// What the heads of a folder's parts say. The smallest part is read whole.
+pub fn read_heads<R: Files<File = File> + Clock + AllocGlobal + Clone + Drop>(
+    rt: &R,
+    folder: &str,
+) -> Result<Heads, Failure> {
+    let mut is_careful = false;
+    for _ in 0..LOOKS {
+        let parts = Parts::listed(rt, folder, is_careful)?;
+        match heads_of(rt, parts.paths()) {
+            Ok(heads) => return Ok(heads),
+            Err(Unread::Gone) => {}
+            Err(Unread::Folder) => is_careful = true,
+            Err(Unread::Refused(failure)) => return Err(failure),
+        }
+    }
+    Err(busy(rt.alloc(), folder))
+}
+
+/// The front of a part's file.
+#[derive(Drop)]
+enum Front {
+    /// Its head, and the size of the file.
+    Head(Head, u64),
+    /// It is gone.
+    Gone,
+    /// It is a folder, and so no part.
+    Folder,
+}
+
+/// What the heads of the parts of these paths say, of which there is at least one. The smallest part is read whole.
+fn heads_of<R: Files<File = File> + AllocGlobal>(
+    rt: &R,
+    paths: &[String],
+) -> Result<Heads, Unread> {
+    let mut buffer = vec![in rt.alloc(); 0u8; HEAD_BYTES]?;
+    let mut batches = Vec::with_capacity(rt.alloc(), paths.len())?;
+    let mut found: Option<Schema> = None;
+    let mut smallest = (0, u64::MAX);
+    for (index, path) in paths.iter().enumerate() {
+        let (head, size) = match front_of(rt, path.as_str(), buffer.as_mut_slice()) {
+            Ok(Front::Head(head, size)) => (head, size),
+            Ok(Front::Gone) => return Err(Unread::Gone),
+            Ok(Front::Folder) => continue,
+            Err(fault) => return Err(Unread::Refused(refused(rt, paths, index, fault))),
+        };
+        if size < smallest.1 {
+            smallest = (index, size);
+        }
+        batches.push(head.batches)?;
+        match &found {
+            Some(schema) if !schema.same(&head.schema) => {
+                let fault = PartFault::Refused(Refusal::SchemaDiffers);
+                return Err(Unread::Refused(refused(rt, paths, index, fault)));
+            }
+            Some(_) => {}
+            None => found = Some(head.schema),
+        }
+    }
+    let Some(schema) = found else {
+        return Err(Unread::Folder);
+    };
+    let _whole = open_one(rt, paths, smallest.0)?;
+    Ok(Heads { schema, batches })
+}
+
+/// What the part of one of these paths holds, by its index.
+fn open_one<R: Files + AllocGlobal>(
+    rt: &R,
+    paths: &[String],
+    index: usize,
+) -> Result<OpenFile, Unread> {
+    match paths.get(index..index.saturating_add(1)) {
+        Some(path) => open_paths(rt, path),
+        None => Err(Unread::Gone),
+    }
+}
+
+/// The front of a part's file.
+fn front_of<R: Files<File = File> + AllocGlobal>(
+    rt: &R,
+    path: &str,
+    buffer: &mut [u8],
+) -> Result<Front, PartFault> {
+    match read_front(rt, path, buffer) {
+        Ok(Some((count, size))) => {
+            let bytes = buffer.get(..count).unwrap_or(&[]);
+            Ok(Front::Head(part_head(rt.alloc(), bytes)?, size))
+        }
+        Ok(None) => Ok(Front::Folder),
+        Err(error) if error.kind() == ErrorKind::NotFound => Ok(Front::Gone),
+        Err(_) => Err(PartFault::Refused(Refusal::ReadFault)),
+    }
+}
+
+/// Reads the front of a file into a buffer, as much as there is and fits; how many bytes these are, and how many the file has. None for
+/// a folder.
+fn read_front<R: Files<File = File>>(
+    rt: &R,
+    path: &str,
+    buffer: &mut [u8],
+) -> io::Result<Option<(usize, u64)>> {
+    let mut file = fs::open(rt, path)?;
+    let found = file.metadata()?;
+    if found.is_dir() {
+        return Ok(None);
+    }
+    let mut count = 0usize;
+    for _ in 0..buffer.len() {
+        let taken = match buffer.get_mut(count..) {
+            Some(rest) => file.read(rest)?,
+            None => 0,
+        };
+        count = count.saturating_add(taken);
+        if taken == 0 || count as u64 >= found.len() {
+            break;
+        }
+    }
+    Ok(Some((count, found.len())))
+}

@@ -1,0 +1,65 @@
+//! The parts of a folder, as commands read them.
+
+use std::fs::{self, Files};
+use std::io::{self, ErrorKind, Read};
+
+/// A part's file, which is opened at the first read and closed at its end, and why a read failed.
+#[derive(Drop)]
+pub struct PartFile<'r, R: Files> {
+    rt: &'r R,
+    path: String,
+    file: Option<R::File>,
+    is_begun: bool,
+    reason: Option<ErrorKind>,
+}
+
+impl<'r, R: Files> PartFile<'r, R> {
+    /// The part's file of this path.
+    pub fn new(rt: &'r R, path: String) -> PartFile<'r, R> {
+        PartFile {
+            rt,
+            path,
+            file: None,
+            is_begun: false,
+            reason: None,
+        }
+    }
+
+    /// Why the last read failed, if one did.
+    pub fn reason(&self) -> Option<ErrorKind> {
+        self.reason
+    }
+
+    /// Opens the file, if no read has begun.
+    fn begin(&mut self) -> io::Result<()> {
+        if !self.is_begun {
+            self.is_begun = true;
+            self.file = Some(fs::open(self.rt, self.path.as_str())?);
+        }
+        Ok(())
+    }
+}
+
+impl<'r, R: Files> Read for PartFile<'r, R> {
+    fn read(&mut self, buffer: &mut [u8]) -> io::Result<usize> {
+        if let Err(error) = self.begin() {
+            self.reason = Some(error.kind());
+            return Err(error);
+        }
+        let Some(file) = &mut self.file else {
+            return Ok(0);
+        };
+        match file.read(buffer) {
+            Ok(count) => {
+                if count == 0 && !buffer.is_empty() {
+                    self.file = None;
+                }
+                Ok(count)
+            }
+            Err(error) => {
+                self.reason = Some(error.kind());
+                Err(error)
+            }
+        }
+    }
+}

@@ -1,0 +1,138 @@
+//! Putting a part into a folder, and making a folder of one.
+
+use crate::change::{Answer, Done};
+use crate::failure::Failure;
+use crate::reports::write_line;
+use file_replacing::Replaced;
+use folder_parts::{is_part, part_name};
+use part_folder::{MakeFault, Placed, Temporary, make, path_in, settle};
+use refusal_sentences::{CommandRefusal, Printable};
+use std::fs::{self, File, Files};
+use std::io::ErrorKind;
+use std::random::RandomSource;
+use table_model::Refusal;
+
+/// How often a part is put, if the one that was there before is gone when it is compared.
+const TRIES: u32 = 100;
+
+/// Puts these bytes into a folder as a part, unless the folder has it already. Answers how the folder was synced.
+pub fn put_part<R: Files<File = File> + RandomSource + AllocGlobal>(
+    rt: &R,
+    folder: &str,
+    bytes: &[u8],
+) -> Result<Replaced, Failure> {
+    let name = part_name(rt.alloc(), bytes)?;
+    for _ in 0..TRIES {
+        let temporary = written(rt, folder, bytes)?;
+        if let Some(replaced) = place(rt, folder, temporary, name.as_str())? {
+            return Ok(replaced);
+        }
+    }
+    Err(unwritten(rt, folder, ErrorKind::ResourceBusy))
+}
+
+/// Writes these bytes to a temporary of a folder.
+pub fn written<'r, R: Files<File = File> + RandomSource + AllocGlobal>(
+    rt: &'r R,
+    folder: &str,
+    bytes: &[u8],
+) -> Result<Temporary<'r, R>, Failure> {
+    match Temporary::write(rt, folder, bytes) {
+        Ok(temporary) => Ok(temporary),
+        Err(error) => Err(unwritten(rt, folder, error.kind())),
+    }
+}
+
+/// Gives a temporary the name of the part that it is. None if a part that had the name before is gone since.
+pub fn place<R: Files<File = File> + RandomSource + AllocGlobal>(
+    rt: &R,
+    folder: &str,
+    temporary: Temporary<'_, R>,
+    name: &str,
+) -> Result<Option<Replaced>, Failure> {
+    let path = path_in(rt.alloc(), folder, name)?;
+    match temporary.place(path.as_str()) {
+        Ok(Placed::Synced) => Ok(Some(Replaced::Synced)),
+        Ok(Placed::Unsynced) => Ok(Some(Replaced::Unsynced)),
+        Ok(Placed::Taken) => keep(rt, folder, path.as_str(), name),
+        Err(error) => Err(unwritten(rt, folder, error.kind())),
+    }
+}
+
+/// Compares a part that is there already with its name, and has it on the disk. None if it is gone.
+fn keep<R: Files<File = File> + AllocGlobal>(
+    rt: &R,
+    folder: &str,
+    path: &str,
+    name: &str,
+) -> Result<Option<Replaced>, Failure> {
+    let bytes = match fs::read(rt, path) {
+        Ok(bytes) => bytes,
+        Err(error) if error.kind() == ErrorKind::NotFound => return Ok(None),
+        Err(error) => {
+            return Err(Failure::of_reason(rt.alloc(), Refusal::ReadFault, path, error.kind()));
+        }
+    };
+    if !is_part(rt.alloc(), name, bytes.as_slice())? {
+        return Err(Failure::of_file(rt, CommandRefusal::Damaged, path));
+    }
+    match settle(rt, folder, path) {
+        Ok(()) => Ok(Some(Replaced::Synced)),
+        Err(_) => Ok(Some(Replaced::Unsynced)),
+    }
+}
+
+/// A folder that is not written, for this reason.
+pub fn unwritten<R: AllocGlobal>(rt: &R, folder: &str, kind: ErrorKind) -> Failure {
+    Failure::of_reason(rt.alloc(), Refusal::WriteFault, folder, kind)
+}
+
+/// Makes a folder that has these bytes as its one part. Answers how the folder that it is in was synced.
+pub fn make_folder<R: Files<File = File> + RandomSource + AllocGlobal>(
+    rt: &R,
+    folder: &str,
+    bytes: &[u8],
+) -> Result<Replaced, Failure> {
+    let name = part_name(rt.alloc(), bytes)?;
+    match make(rt, folder, name.as_str(), bytes) {
+        Ok(true) => Ok(Replaced::Synced),
+        Ok(false) => Ok(Replaced::Unsynced),
+        Err(MakeFault::Exists) => Err(exists(rt, folder)),
+        Err(MakeFault::System(kind)) => Err(unwritten(rt, folder, kind)),
+    }
+}
+
+/// A folder that is not made, since something has its name.
+pub fn exists<R: AllocGlobal>(rt: &R, folder: &str) -> Failure {
+    let words = "there is a file or a folder of this name already";
+    Failure::advised(rt.alloc(), CommandRefusal::Exists, folder, words)
+}
+
+/// Says what came of a change of a folder, unless that is to be quiet. If that can't be written the folder is changed all the same.
+pub fn say<R: Print + Eprint + Files + AllocGlobal>(
+    rt: &R,
+    folder: &str,
+    answer: Answer,
+    replaced: Option<Replaced>,
+    is_quiet: bool,
+) -> Result<(), Failure> {
+    let done = Done::new(answer, replaced);
+    let line = format!(in rt.alloc(); "{done}\n")?;
+    let told = if is_quiet {
+        Ok(())
+    } else {
+        write_line(rt, line.as_bytes())
+    };
+    if done.is_unsynced() {
+        say_unsynced(rt, folder);
+    }
+    told
+}
+
+/// Says on standard error that a part was added, and its folder could not be synced.
+fn say_unsynced<R: Eprint>(rt: &R, folder: &str) {
+    let name = Printable(folder);
+    let _ = eprintln!(rt;
+        "{name}: the part was added, but the folder could not be synced: a loss of power may take it away"
+    );
+}

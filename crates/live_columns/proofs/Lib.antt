@@ -1,0 +1,7 @@
+pub mod Picked
+pub mod RowLemmas
+pub mod Walking
+pub mod BitSteps
+pub mod NameSteps
+pub mod CellSteps
+pub mod ColumnSteps

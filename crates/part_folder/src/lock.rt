@@ -1,0 +1,105 @@
+//! The lock of a folder, which is on the folder itself: shared while its names are listed, exclusive while files are removed.
+
+use crate::fault::FolderFault;
+use std::fs::{self, File, Files, TryLockError};
+use std::rt::Clock;
+use std::time::{Duration, Instant};
+use std::{io, thread};
+
+/// How often a lock is tried at most; with a sleep after each try that makes ten seconds, and sleeps may take longer.
+const TRIES: u32 = 1005;
+
+/// How many milliseconds one sleep takes at most; the first ones take 1, 2 and so on.
+const LONGEST_SLEEP: u64 = 10;
+
+/// How many seconds a lock is waited for.
+const LONGEST_WAIT: u64 = 10;
+
+/// How a folder is locked.
+#[derive(Clone, Copy, Debug, PartialEq, Eq)]
+enum Kind {
+    Shared,
+    Exclusive,
+}
+
+/// The lock of a folder, as long as this value is there.
+#[derive(Drop)]
+pub struct FolderLock {
+    folder: File,
+}
+
+impl FolderLock {
+    /// Waits for the shared lock of a folder; none if the file system has no such lock. Then names come and go unseen.
+    pub fn shared<R: Files<File = File> + Clock>(
+        rt: &R,
+        folder: &str,
+    ) -> Result<Option<FolderLock>, FolderFault> {
+        match FolderLock::of_kind(rt, folder, Kind::Shared) {
+            Ok(lock) => Ok(Some(lock)),
+            Err(FolderFault::NoLock) => Ok(None),
+            Err(fault) => Err(fault),
+        }
+    }
+
+    /// Waits for the exclusive lock of a folder.
+    ///
+    /// Refused are a folder that can't be opened, `Busy` after ten seconds, and `NoLock` if the file system has no such lock.
+    pub fn exclusive<R: Files<File = File> + Clock>(
+        rt: &R,
+        folder: &str,
+    ) -> Result<FolderLock, FolderFault> {
+        FolderLock::of_kind(rt, folder, Kind::Exclusive)
+    }
+
+    /// Opens a folder and waits for its lock.
+    fn of_kind<R: Files<File = File> + Clock>(
+        rt: &R,
+        folder: &str,
+        kind: Kind,
+    ) -> Result<FolderLock, FolderFault> {
+        let folder = fs::open(rt, folder)?;
+        wait(rt, &folder, kind)?;
+        Ok(FolderLock { folder })
+    }
+
+    /// Syncs the folder.
+    pub fn sync(&self) -> io::Result<()> {
+        self.folder.sync_all()
+    }
+
+    /// Lets the lock go.
+    pub fn release(self) {
+        let _ = self.folder.unlock();
+    }
+}
+
+/// Waits for the lock of a folder that is open.
+fn wait<R: Clock>(rt: &R, folder: &File, kind: Kind) -> Result<(), FolderFault> {
+    let began = Instant::now(rt);
+    let mut pause = 1u64;
+    for _ in 0..TRIES {
+        let tried = match kind {
+            Kind::Shared => folder.try_lock_shared(),
+            Kind::Exclusive => folder.try_lock(),
+        };
+        match tried {
+            Ok(()) => return Ok(()),
+            Err(TryLockError::Error(_)) => return Err(FolderFault::NoLock),
+            Err(TryLockError::WouldBlock) if has_waited(rt, &began) => break,
+            Err(TryLockError::WouldBlock) => thread::sleep(rt, Duration::from_millis(pause)),
+        }
+        pause = pause.saturating_add(1).min(LONGEST_SLEEP);
+    }
+    Err(FolderFault::Busy)
+}
+
+/// Whether a lock was waited for as long as it is, by a clock that can be read.
+fn has_waited<R: Clock>(rt: &R, began: &io::Result<Instant>) -> bool {
+    match began {
+        Ok(began) => match began.elapsed(rt) {
+            Ok(waited) => waited.as_secs() >= LONGEST_WAIT,
+            Err(_) => false,
+        },
+        Err(_) => false,
+    }
+}

@@ -1,8 +1,0 @@
-use Rattle.std.proofs.Common.{◌≡◌, ◌++◌, take}
-use Rattle.std.specs.List.{flat_map}
-use Rattle.std.specs.String.{string_bytes}
-use Rattle.query_eval.proofs.AnswerTexts.{comma}
-use Rattle.query_eval.proofs.answers.answer_text.write_more_texts.Given as goal
-
-abbrev pub invariant-loop-text : goal.invariant-loop-text
-invariant-loop-text l = l.out.items ≡ l.initial.out.items ++ flat_map (comma string_bytes) (take l.text-index l.texts)

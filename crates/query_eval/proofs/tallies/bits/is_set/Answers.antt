@@ -1,7 +1,0 @@
--- The bit, shifted to the right end.
-use Rattle.std.proofs.Common.{◌==◌, ap}
-use Rattle.std.proofs.lemmas.Nat.Bits.{shr_and_one}
-use Rattle.query_eval.proofs.tallies.bits.is_set.Goals as goal
-
-pub returns : goal.returns
-returns c = ap (λ b. b == 1) (shr_and_one c.args.word c.args.bit)

@@ -1,6 +1,0 @@
--- The rows so far are copied.
-use Rattle.std.proofs.Common.{◌≡◌, take}
-use Rattle.row_batch.proofs.row_batch.RowBatch.copy_of.Given as goal
-
-abbrev pub invariant-loop-row : goal.invariant-loop-row
-invariant-loop-row l = l.batch ≡ take l.row-index l.rows

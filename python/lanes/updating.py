@@ -1,0 +1,56 @@
+"""Reading, changing and writing a file under one lock, so that nothing that another process does meanwhile is lost."""
+
+from __future__ import annotations
+
+import contextlib
+import os
+from typing import Iterator, Union
+
+from . import replacing
+from .table import Table
+
+
+class Change:
+    """What `update` gives: the file's table as it is, and in its place the one that is to be written."""
+
+    __slots__ = ("_table",)
+
+    def __init__(self, table: Table) -> None:
+        self._table = table
+
+    @property
+    def table(self) -> Table:
+        """The table that is to be in the file; at first the one that is there."""
+        return self._table
+
+    @table.setter
+    def table(self, table: Table) -> None:
+        if not isinstance(table, Table):
+            raise TypeError(f"a Table is wanted here, and this is of type {type(table).__name__}")
+        self._table = table
+
+
+@contextlib.contextmanager
+def update(path: Union[str, os.PathLike[str]]) -> Iterator[Change]:
+    """Changes a file: reads it, and at the end of the block writes the table that `table` is then, under the lock that the program `lanes`
+    takes too. No import of another process is lost. While the block runs, others read the old file and wait with their changes.
+
+        with lanes.update("visits.lanes") as change:
+            change.table = change.table.import_csv(csv).delete("SITE = 2")
+
+    If the block raises, or the table is the same, the file is left as it was. Inside the block don't `save` to the same file and don't
+    run a command that changes it: they would wait for the lock.
+
+    Raises:
+        TimeoutError: another process has had the file for ten seconds.
+        FileNotFoundError: there is no such file.
+        OSError: the file can't be written. It is as it was.
+        Refused: the file's first fault.
+    """
+    os.stat(path)
+    with replacing.Held(path) as held:
+        before = Table.open(held.target)
+        change = Change(before)
+        yield change
+        if change.table != before:
+            held.put(change.table._view())

@@ -1,0 +1,140 @@
+"""Tables: their names, columns and rows, what is taken leniently, and what is refused. Expected values were worked out by hand."""
+
+from __future__ import annotations
+
+import copy
+import io
+import pickle
+import unittest
+
+from lanes import BatchName, Refused, Table
+
+
+def visits() -> Table:
+    table = Table.create("Visits", {"Site": "smallint", "Hits": "Integer"})
+    return table.import_csv("SITE,HITS\n1,10\n1,7\n2,\n", batch="1.1").import_csv("HITS,SITE\n20,3\n30,1\n", batch=(2, 1))
+
+
+class Descriptions(unittest.TestCase):
+    def test_a_table_has_a_name_columns_and_rows(self) -> None:
+        for table in visits(), Table.from_bytes(visits().to_bytes()):
+            self.assertEqual((table.name, table.columns, len(table)), ("VISITS", {"SITE": "SMALLINT", "HITS": "INTEGER"}, 5))
+            self.assertEqual(list(table.columns), ["SITE", "HITS"])
+            self.assertEqual(repr(table), f"<lanes.Table VISITS of {len(table.to_bytes())} bytes>")
+        self.assertEqual(len(visits().delete("SITE = 1")), 2)
+
+    def test_an_empty_table_is_true(self) -> None:
+        table = Table.create("T", {"A": "tinyint"})
+        self.assertEqual((len(table), bool(table)), (0, True))
+
+    def test_what_is_in_a_table_is_inspected(self) -> None:
+        table = visits().delete("SITE = 3")
+        self.assertEqual(
+            table.inspect(),
+            {
+                "table": "VISITS", "batches": 2, "live": 4, "ranges": 1, "bytes": len(table.to_bytes()),
+                "columns": [
+                    {"column": "SITE", "type": "SMALLINT", "nulls": 0, "values": 4, "least": 1, "greatest": 2},
+                    {"column": "HITS", "type": "INTEGER", "nulls": 1, "values": 3, "least": 7, "greatest": 30},
+                ],
+            },
+        )
+        self.assertEqual(Table.create("T", {"A": "BIGINT"}).inspect()["columns"], [{"column": "A", "type": "BIGINT", "nulls": 0, "values": 0, "least": None, "greatest": None}])
+
+    def test_a_table_is_copied_and_pickled(self) -> None:
+        for other in copy.copy(visits()), copy.deepcopy(visits()), pickle.loads(pickle.dumps(visits())):
+            self.assertEqual((other, len(other)), (visits(), 5))
+
+    def test_equal_tables_have_equal_hashes(self) -> None:
+        other = visits().delete("SITE = 3")
+        self.assertEqual(len({visits(), visits(), other}), 2)
+        self.assertNotEqual(visits(), other)
+        self.assertNotEqual(visits(), visits().to_bytes())
+
+
+class Lenience(unittest.TestCase):
+    def test_columns_are_a_dict_or_pairs(self) -> None:
+        pairs = [("A", "bigint"), ("B", "TinyInt")]
+        self.assertEqual(Table.create("T", pairs), Table.create("T", dict(pairs)))
+        for columns in [["A"], ["AB"], [("A",)], [("A", 4)]]:
+            with self.subTest(columns=columns), self.assertRaises(TypeError):
+                Table.create("T", columns)  # type: ignore[arg-type, list-item]
+
+    def test_a_type_that_is_none_is_named(self) -> None:
+        with self.assertRaises(Refused) as caught:
+            Table.create("T", {"A": "INT"})
+        self.assertEqual((caught.exception.name, caught.exception.sentence), ("BadSchema", "the type 'INT' of column A is unknown: a type is TINYINT, SMALLINT, INTEGER or BIGINT"))
+
+    def test_a_name_with_spaces_is_no_name(self) -> None:
+        for name, columns in [("T A INTEGER", {"B": "INTEGER"}), ("T", {"A INTEGER B": "INTEGER"}), ("T", {"A": "\u0131nteger"})]:
+            with self.subTest(name=name), self.assertRaises(Refused) as caught:
+                Table.create(name, columns)
+            self.assertEqual(caught.exception.name, "BadSchema")
+
+    def test_a_batch_is_named_by_a_text_or_a_pair(self) -> None:
+        empty = Table.create("T", {"A": "INTEGER"})
+        for batch in ["3.17", (3, 17), [3, 17], BatchName(3, 17), "03.0017"]:
+            with self.subTest(batch=batch):
+                table = empty.import_csv("A\n1\n", batch=batch)  # type: ignore[arg-type]
+                self.assertEqual(table.dump(names=True), "BATCH,ORDINAL,A\n3.17,0,1\n")
+        self.assertEqual(str(BatchName(3, 17)), "3.17")
+        for batch in ["3", "3.", "3.17.1", "3,17", "-3.1", "4294967296.1", "", "0.0", (3,), (1, 2, 3), "\u0663.1"]:
+            with self.subTest(batch=batch), self.assertRaises(ValueError):
+                empty.import_csv("A\n1\n", batch=batch)  # type: ignore[arg-type]
+        with self.assertRaises(Refused) as caught:
+            empty.import_csv("A\n1\n", batch="3.0")
+        self.assertEqual(caught.exception.name, "BadName")
+
+    def test_a_file_of_comma_separated_values_is_read(self) -> None:
+        empty, text = Table.create("T", {"A": "INTEGER"}), "A\n1\n\u2212\n"
+        wanted = empty.import_csv("A\n1\n", batch="1.1")
+        for csv in [io.StringIO("A\n1\n"), io.BytesIO(b"A\n1\n"), b"A\n1\n", bytearray(b"A\n1\n"), memoryview(b"A\n1\n")]:
+            self.assertEqual(empty.import_csv(csv, batch="1.1"), wanted)
+        with self.assertRaises(Refused):
+            empty.import_csv(io.StringIO(text))
+        for csv in [5, [1, 2], None, ["A", "1"], {"A": 1}]:
+            with self.subTest(csv=csv), self.assertRaisesRegex(TypeError, "a text of comma-separated values"):
+                empty.import_csv(csv)  # type: ignore[arg-type]
+
+    def test_a_number_is_not_taken_for_bytes(self) -> None:
+        for call in [Table.from_bytes, visits().apply, visits().offer]:
+            for given in [5, [1, 2], "text", None]:
+                with self.subTest(given=given), self.assertRaisesRegex(TypeError, "bytes are wanted"):
+                    call(given)  # type: ignore[operator]
+
+
+class Changes(unittest.TestCase):
+    def test_merges_of_many_tables_have_the_rows_of_all(self) -> None:
+        empty = Table.create("T", {"A": "INTEGER"})
+        tables = [empty.import_csv(f"{n}\n", heading=False, batch=(n, 1)) for n in range(1, 10)]
+        for count in range(1, 10):
+            some = tables[:count]
+            merged = some[0].merge(*some[1:])
+            self.assertEqual(merged.query("SELECT COUNT(*),SUM(A) FROM T"), [(count, count * (count + 1) // 2)])
+            self.assertEqual(merged, some[-1].merge(*some))
+        self.assertIs(tables[0].merge(), tables[0])
+
+    def test_rows_are_deleted_by_their_names(self) -> None:
+        self.assertEqual(visits().delete_rows("1.1", 0, 1).dump(), "SITE,HITS\n2,\n3,20\n1,30\n")
+        self.assertEqual(visits().delete_rows("2.1", 1), visits().delete("HITS = 30"))
+        self.assertEqual(visits().delete_rows("1.1", 1).delete_rows((1, 1), 0), visits().delete("HITS < 11"))
+        early = Table.create("VISITS", {"SITE": "SMALLINT", "HITS": "INTEGER"}).delete_rows("2.1", 0)
+        self.assertEqual(early.merge(visits()), visits().delete("HITS = 20"))
+
+    def test_rows_that_are_none_are_refused(self) -> None:
+        for batch, first, last, name in [("1.1", 2, 1, "BadRange"), ("1.0", 0, 0, "BadName"), ("0.1", 0, 0, "BadName")]:
+            with self.subTest(batch=batch), self.assertRaises(Refused) as caught:
+                visits().delete_rows(batch, first, last)
+            self.assertEqual(caught.exception.name, name)
+        for first, last in [(-1, 0), (0, 65_536), (65_536, None)]:
+            with self.subTest(first=first), self.assertRaises(ValueError):
+                visits().delete_rows("1.1", first, last)
+
+    def test_a_conflict_is_named_as_by_the_program(self) -> None:
+        with self.assertRaises(Refused) as caught:
+            visits().import_csv("SITE,HITS\n5,5\n", batch="1.1")
+        self.assertEqual(str(caught.exception), "Conflict 1.1: both have a batch 1.1, with different rows")
+
+
+if __name__ == "__main__":
+    unittest.main()

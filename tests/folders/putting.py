@@ -1,0 +1,303 @@
+"""How a part comes into a folder and goes: whole, in an order of system calls that no crash can spoil, under locks, or not at all."""
+
+import fcntl
+import os
+import random
+import re
+import shutil
+import signal
+import subprocess
+import time
+
+from parts import all_are_named, count, make_folder, parts_of
+from replacing import as_nobody, limited
+from room import Lacking
+
+CALLS = "openat,flock,getdents64,write,fsync,link,linkat,rename,renameat,renameat2,unlink,unlinkat,mkdir,mkdirat"
+
+
+def traced(room, *words, options=(), given=b""):
+    """What strace says of a command, with the command's status and what it says on standard error."""
+    if shutil.which("strace") is None:
+        raise Lacking("strace is not installed")
+    words = ["strace", "-f", "-y", "-o", "trace", "-e", f"trace={CALLS}", *options, room.program, *words]
+    done = subprocess.run(words, input=given, cwd=room.folder, capture_output=True, timeout=120)
+    if not os.path.exists(room.path("trace")) or not room.get("trace"):
+        raise Lacking(f"strace can't trace: {done.stderr[-200:]!r}")
+    return room.get("trace").decode(), done.returncode, done.stderr
+
+
+def in_order(trace, steps):
+    """Each of these steps is in a trace, in this order."""
+    place = 0
+    for step in steps:
+        found = re.compile(step).search(trace, place)
+        assert found, f"{step} is not in its place in\n{trace[-3000:]}"
+        place = found.end()
+
+
+def only_parts(room, folder="d"):
+    """The folder has parts and nothing else."""
+    assert sorted(os.listdir(room.path(folder))) == parts_of(room, folder), f"the folder has {os.listdir(room.path(folder))}"
+
+
+def an_import_lists_under_the_lock_and_syncs_before_it_answers(room):
+    make_folder(room)
+    trace, status, err = traced(room, "import", "--no-header", "d", "-", given=b"7,7\n")
+    assert status == 0, f"it said {err!r}"
+    in_order(
+        trace,
+        (
+            r"openat\(.*\"d\", O_RDONLY",
+            r"flock\(.*/d>, LOCK_SH\|LOCK_NB\) += 0",
+            r"getdents64\(",
+            r"getdents64\(.*\) += 0",
+            r"getdents64\(.*\) += [1-9]",
+            r"getdents64\(.*\) += 0",
+            r"flock\(.*/d>, LOCK_UN\)",
+            r"openat\(.*\"d/[0-9a-f]{32}\.lanes\", O_RDONLY",
+            r"openat\(.*\"d\", O_RDONLY",
+            r"openat\(.*\"d/\.part-[0-9a-f]{16}\", O_WRONLY\|O_CREAT\|O_EXCL",
+            r"flock\(.*\.part-[0-9a-f]{16}>, LOCK_EX\|LOCK_NB\) += 0",
+            r"write\(.*\.part-[0-9a-f]{16}>",
+            r"fsync\(.*\.part-[0-9a-f]{16}>\) += 0",
+            r"link.*\"d/\.part-[0-9a-f]{16}\".*\"d/[0-9a-f]{32}\.lanes\".* = 0",
+            r"unlink.*\"d/\.part-[0-9a-f]{16}\"",
+            r"fsync\([0-9]+<[^>]*/d>\) += 0",
+            r"write\(1<.*ok batches=1",
+        ),
+    )
+    assert trace.count("fsync(") == 2 and "rename" not in trace and "LOCK_EX" not in trace.replace(re.search(r"flock\(.*\.part-.*", trace)[0], "")
+
+
+def a_pack_is_on_the_disk_before_anything_is_removed_under_the_lock(room):
+    make_folder(room, loads=3)
+    trace, status, err = traced(room, "pack", "--all", "d")
+    assert status == 0, f"it said {err!r}"
+    in_order(
+        trace,
+        (
+            r"fsync\(.*\.part-[0-9a-f]{16}>\) += 0",
+            r"link.*\"d/\.part-[0-9a-f]{16}\".*\"d/[0-9a-f]{32}\.lanes\".* = 0",
+            r"fsync\([0-9]+<[^>]*/d>\) += 0",
+            r"flock\(.*/d>, LOCK_EX\|LOCK_NB\) += 0",
+            r"unlink.*\"d/[0-9a-f]{32}\.lanes\"",
+            r"unlink.*\"d/[0-9a-f]{32}\.lanes\"",
+            r"unlink.*\"d/[0-9a-f]{32}\.lanes\"",
+            r"unlink.*\"d/[0-9a-f]{32}\.lanes\"",
+            r"fsync\([0-9]+<[^>]*/d>\) += 0",
+            r"flock\(.*/d>, LOCK_UN\)",
+            r"write\(1<.*ok parts=1 packed=4",
+        ),
+    )
+    placed = trace.index("link")
+    assert not re.search(r"unlink.*\"d/[0-9a-f]{32}\.lanes\"", trace[:placed]), "a part was removed before the pack was in its place"
+    assert f"unlink(\"d/{parts_of(room)[0]}\"" not in trace and f"\"d/{parts_of(room)[0]}\", 0) = 0" not in trace
+
+
+def a_folder_is_made_all_at_once(room):
+    os.mkdir(room.path("e"))
+    trace, status, err = traced(room, "create", "e/d/", "T", "A", "SMALLINT")
+    assert status == 0, f"it said {err!r}"
+    new = r"e/\.d\.lanes-new-[0-9a-f]{16}"
+    in_order(
+        trace,
+        (
+            rf"mkdir.*\"{new}\"",
+            rf"openat\(.*\"{new}/[0-9a-f]{{32}}\.lanes\", O_WRONLY\|O_CREAT\|O_EXCL",
+            rf"write\(.*{new}/",
+            rf"fsync\(.*{new}/[0-9a-f]{{32}}\.lanes>\) += 0",
+            rf"fsync\(.*{new}>\) += 0",
+            rf"rename.*\"{new}\".*\"e/d\"",
+            r"fsync\([0-9]+<[^>]*/e>\) += 0",
+            r"write\(1<.*ok",
+        ),
+    )
+    assert os.listdir(room.path("e")) == ["d"]
+    for fault in ("fsync:error=EIO:when=1", "fsync:error=EIO:when=2", "write:error=EIO:when=1", "rename,renameat,renameat2:error=EIO"):
+        _, status, err = traced(room, "create", "e/f/", "T", "A", "SMALLINT", options=("-e", f"inject={fault}"))
+        assert status == 1 and err.startswith(b"refused WriteFault\n"), f"at {fault} it said {err!r}"
+        assert os.listdir(room.path("e")) == ["d"], f"at {fault} the folder has {os.listdir(room.path('e'))}"
+
+
+def a_failed_call_leaves_the_folder_as_it_was(room):
+    make_folder(room)
+    before = parts_of(room)
+    for fault in ("fsync:error=EIO:when=1", "write:error=ENOSPC:when=1"):
+        for words in (("import", "--no-header", "d", "-"), ("import", "--no-header", "--batch", "8.8", "d", "-"), ("delete", "d", "A = 1"), ("pack", "--all", "d")):
+            _, status, err = traced(room, *words, options=("-e", f"inject={fault}"), given=b"7,7\n")
+            assert status == 1 and err.startswith(b"refused WriteFault\nd: "), f"at {fault} {words} said {err!r}"
+            assert sorted(os.listdir(room.path("d"))) == before, f"at {fault} {words} left {os.listdir(room.path('d'))}"
+
+
+def a_folder_that_can_not_be_synced_is_told_and_the_part_is_there(room):
+    make_folder(room)
+    _, status, err = traced(room, "import", "--no-header", "d", "-", options=("-e", "inject=fsync:error=EIO:when=2"), given=b"7,7\n")
+    assert status == 0 and err == b"d: the part was added, but the folder could not be synced: a loss of power may take it away\n", f"it said {err!r}"
+    assert count(room) == 3
+    only_parts(room)
+
+
+def without_hard_links_a_part_is_renamed_and_replaces_none(room):
+    make_folder(room)
+    for error in ("EPERM", "EOPNOTSUPP", "ENOSYS"):
+        before = len(parts_of(room))
+        trace, status, err = traced(room, "import", "--no-header", "d", "-", options=("-e", f"inject=link,linkat:error={error}"), given=b"7,7\n")
+        assert status == 0, f"it said {err!r}"
+        in_order(trace, (r"link.*INJECTED", r"rename.*\"d/\.part-[0-9a-f]{16}\".*\"d/[0-9a-f]{32}\.lanes\".* = 0", r"fsync\([0-9]+<[^>]*/d>\) += 0"))
+        assert len(parts_of(room)) == before + 1
+    room.ok("delete-rows", "d", "5.5", "1", "1")
+    trace, status, err = traced(room, "delete-rows", "d", "5.5", "1", "1", options=("-e", "inject=link,linkat:error=EPERM"))
+    assert status == 0 and "rename" not in trace, f"it said {err!r}"
+    only_parts(room)
+
+
+def a_folder_that_can_not_be_locked_is_read_and_not_packed(room):
+    make_folder(room, loads=3)
+    no_lock = ("-e", "inject=flock:error=EOPNOTSUPP")
+    for words in (("query", "d", "SELECT COUNT(*) FROM T"), ("import", "--no-header", "d", "-"), ("import", "--no-header", "--batch", "8.8", "d", "-"), ("delete", "d", "A = 1")):
+        _, status, err = traced(room, *words, options=no_lock, given=b"7,7\n")
+        assert status == 0, f"{words} said {err!r}"
+    held = count(room)
+    before = set(parts_of(room))
+    _, status, err = traced(room, "pack", "--all", "d", options=no_lock)
+    assert status == 1 and err == b"refused WriteFault\nd: this folder can't be locked here, so that no part is removed from it\n", f"it said {err!r}"
+    assert before < set(parts_of(room)) and count(room) == held
+    room.ok("pack", "--all", "d")
+    assert len(parts_of(room)) == 1 and count(room) == held
+    only_parts(room)
+
+
+def a_folder_that_others_have_locked_is_busy_after_ten_seconds(room):
+    make_folder(room, loads=3)
+    before = parts_of(room)
+    lock = os.open(room.path("d"), os.O_RDONLY)
+    fcntl.flock(lock, fcntl.LOCK_SH)
+    started = time.monotonic()
+    waiting = [room.start(*words, stdin=subprocess.PIPE) for words in (("pack", "--all", "d"), ("import", "--no-header", "--batch", "8.8", "d", "-"))]
+    waiting[1].stdin.write(b"8,8\n")
+    for one in waiting:
+        one.stdin.close()
+    # A shared lock holds up neither a reader nor an import.
+    assert count(room) == 6
+    room.ok("import", "--no-header", "d", "-", given=b"7,7\n")
+    for one in waiting:
+        assert one.wait(60) == 1 and one.stderr.read() == b"refused Busy\nd: another command has had this folder for ten seconds\n"
+    assert 9 < time.monotonic() - started < 30
+    left = set(parts_of(room)) - set(before)
+    assert set(before) < set(parts_of(room)) and len(left) == 2 and count(room) == 7
+    only_parts(room)
+    fcntl.flock(lock, fcntl.LOCK_EX)
+    reading = room.start("query", "d", "SELECT COUNT(*) FROM T")
+    importing = room.start("import", "--no-header", "d", "-")
+    for one in (reading, importing):
+        assert one.wait(60) == 1 and one.stderr.read().startswith(b"refused Busy\n")
+    os.close(lock)
+    room.ok("pack", "--all", "d")
+
+
+def a_folder_without_the_right_to_write_is_a_failed_write(room):
+    how = as_nobody(room)
+    room.ok("create", "d/", "T", "A", "SMALLINT", **how)
+    room.ok("import", "--no-header", "d", "-", given=b"3\n", **how)
+    os.chmod(room.path("d"), 0o555)
+    sentence = "d: permission denied: this may not be written"
+    try:
+        for words in (("import", "--no-header", "d", "-"), ("import", "--no-header", "--batch", "8.8", "d", "-"), ("delete", "d", "A = 3"), ("delete-rows", "d", "1.1", "0", "0"), ("pack", "--all", "d")):
+            room.refused(*words, given=b"3\n", line="refused WriteFault", sentence=sentence, **how)
+        room.ok("query", "d", "SELECT COUNT(*) FROM T", prints=b"COUNT(*)\n1\n", **how)
+        room.ok("delete", "d", "A = 7", prints=b"ok 0\n", **how)
+        room.refused("delete", "d", "A", line="refused Syntax 1", **how)
+        os.chmod(room.path("d"), 0o333)
+        room.refused("query", "d", "SELECT COUNT(*) FROM T", line="refused ReadFault", sentence="d: permission denied: this may not be read", **how)
+    finally:
+        os.chmod(room.path("d"), 0o755)
+    only_parts(room)
+
+
+def a_folder_that_has_no_room_is_as_it_was(room):
+    make_folder(room)
+    before = parts_of(room)
+    pick = random.Random(3)
+    rows = "".join(f"{pick.randrange(30_000)},{pick.randrange(2**62)}\n" for _ in range(20_000)).encode()
+    for words in (("import", "--no-header", "d", "-"), ("import", "--no-header", "--batch", "8.8", "d", "-")):
+        room.refused(*words, given=rows, line="refused WriteFault", preexec_fn=limited(65_536))
+    room.refused("merge", "e/", "d", line="refused WriteFault", preexec_fn=limited(10))
+    assert parts_of(room) == before
+    only_parts(room)
+    room.only("d")
+
+
+def what_a_kill_leaves_is_swept_and_no_part_is_half(room):
+    make_folder(room)
+    rows = "".join(f"{at % 30_000},{at * 1_000_003}\n" for at in range(100_000)).encode()
+    room.put("rows", rows)
+    started = time.monotonic()
+    room.ok("import", "--no-header", "d", "rows")
+    whole = time.monotonic() - started
+    pick, killed = random.Random(5), 0
+    for _ in range(15):
+        with room.start("import", "--no-header", "d", "rows") as importing:
+            time.sleep(whole * pick.uniform(0.5, 1.05))
+            importing.send_signal(signal.SIGKILL)
+            importing.communicate(timeout=60)
+            killed += importing.returncode == -signal.SIGKILL
+        all_are_named(room)
+        assert (count(room) - 2) % 100_000 == 0
+    assert killed > 3, f"only {killed} of 15 were killed in time"
+    rows = count(room)
+    room.ok("pack", "d")
+    only_parts(room)
+    assert count(room) == rows
+
+
+def a_temporary_that_is_held_is_not_swept(room):
+    make_folder(room, loads=3)
+    room.put("d/.part-00000000000000ff", b"half")
+    with open(room.path("d/.part-00000000000000ff"), "rb") as held:
+        fcntl.flock(held, fcntl.LOCK_EX)
+        room.ok("pack", "--all", "d")
+        assert os.path.exists(room.path("d/.part-00000000000000ff"))
+    room.ok("pack", "d")
+    only_parts(room)
+
+
+def of_two_loads_of_one_name_at_once_one_is_refused(room):
+    for turn in range(1, 6):
+        if turn == 1:
+            make_folder(room)
+        lock = os.open(room.path("d"), os.O_RDONLY)
+        fcntl.flock(lock, fcntl.LOCK_SH)
+        loads = [room.start("import", "--no-header", "--batch", f"5.{turn}", "d", "-", stdin=subprocess.PIPE) for _ in range(3)]
+        for at, one in enumerate(loads):
+            one.stdin.write(b"1,1\n" if at < 2 else b"2,2\n")
+            one.stdin.close()
+        # All three have looked at the folder, and wait for its lock.
+        deadline = time.monotonic() + 8
+        while len([name for name in os.listdir(room.path("d")) if name.startswith(".part-")]) < 3 and time.monotonic() < deadline:
+            time.sleep(0.05)
+        os.close(lock)
+        ended = [(one.wait(60), one.stderr.read()) for one in loads]
+        other = ended[2]
+        assert ended[0][0] == ended[1][0] != other[0], f"they ended so: {ended}"
+        refused = other if other[0] else ended[0]
+        assert refused[1] == f"refused Conflict 5.{turn}\nboth have a batch 5.{turn}, with different rows\n".encode(), f"it said {refused}"
+        assert count(room) == 2 + turn
+        only_parts(room)
+
+
+TESTS = [
+    an_import_lists_under_the_lock_and_syncs_before_it_answers,
+    a_pack_is_on_the_disk_before_anything_is_removed_under_the_lock,
+    a_folder_is_made_all_at_once,
+    a_failed_call_leaves_the_folder_as_it_was,
+    a_folder_that_can_not_be_synced_is_told_and_the_part_is_there,
+    without_hard_links_a_part_is_renamed_and_replaces_none,
+    a_folder_that_can_not_be_locked_is_read_and_not_packed,
+    a_folder_that_others_have_locked_is_busy_after_ten_seconds,
+    a_folder_without_the_right_to_write_is_a_failed_write,
+    a_folder_that_has_no_room_is_as_it_was,
+    what_a_kill_leaves_is_swept_and_no_part_is_half,
+    a_temporary_that_is_held_is_not_swept,
+    of_two_loads_of_one_name_at_once_one_is_refused,
+]
