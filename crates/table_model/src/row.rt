@@ -1,7 +1,6 @@
 //! A row by itself: a list of optional whole numbers, one for each column.
-ghost use Rattle.std.specs.Prelude.{◌≡◌, IfOk};
+ghost use Rattle.std.specs.Prelude.{◌≡◌};
 
-use std::alloc::{AllocError, Global};
 use std::marker::Model;
 
 /// A row: for each column, from the left, a whole number or null. Contracts see it as that list.
@@ -31,13 +30,5 @@ impl Row {
         ensures { result.now ≡ self.now }
     {
         self.cells.as_slice()
-    }
-
-    /// A row with the same cells.
-    pub fn copy(&self, alloc: Global) -> Result<Row, AllocError>
-        ensures { IfOk result (λ copied. copied ≡ self.now) }
-    {
-        let cells = Vec::from_slice(alloc, self.cells.as_slice())?;
-        Ok(Row { cells })
     }
 }

@@ -1,14 +1,6 @@
 //! What least values, greatest values and sums take of a number that may not count.
 ghost use Rattle.std.specs.Prelude.{◌≡◌, cond, ◌^◌, pos, ◌+ℤ◌};
-ghost use Rattle.std.specs.Int.{int_min, int_max};
-
-/// The lesser of two numbers if the second is taken, otherwise the first.
-#[inline(always)]
-pub fn lesser_if(taken: bool, least: i64, number: i64) -> i64
-    ensures { result ≡ cond taken (int_min least number) least }
-{
-    if taken { least.min(number) } else { least }
-}
+ghost use Rattle.std.specs.Int.{int_max};
 
 /// The greater of two numbers if the second is taken, otherwise the first.
 #[inline(always)]

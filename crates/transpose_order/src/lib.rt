@@ -8,7 +8,7 @@ mod places;
 mod words;
 
 pub use bytes::{number_at, put_number};
-pub use extremes::{greater_if, lesser_if, raised_if};
+pub use extremes::{greater_if, raised_if};
 pub use masks::{Mask, counts_agree, masks_and_bytes_come_back};
 pub use places::{
     VECTOR_ROWS, every_place_is_a_row, one_order_serves_every_width, pieces_stand_in_words, place,
