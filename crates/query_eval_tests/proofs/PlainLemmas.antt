@@ -16,7 +16,7 @@ use Rattle.table_model.specs.Group.{cell}
 use Rattle.table_model.specs.Name.{name_cmp, row_name_cmp}
 use Rattle.table_model.specs.State.{Cells, Batch, named_from, named_rows}
 use Rattle.table_model.specs.Table.{Table, ColumnShape, IsRow, AreRows, IsBatch, least_of, greatest_of}
-use Rattle.table_model.specs.Truth.{comparison, is_true}
+use Rattle.table_model.specs.Truth.{comparison}
 use Rattle.table_model.specs.Values.{present}
 use Rattle.table_model.specs.declared.op.Op.{Op}
 use Rattle.table_model.specs.declared.names.BatchName.{BatchName}
@@ -27,9 +27,7 @@ use Rattle.transpose_order.specs.MaskWords.{has-rows_of, rows_of-like}
 use Rattle.query_eval.proofs.TableLemmas.{length-named_from}
 use Rattle.query_eval.specs.Below.{passing_below}
 use Rattle.query_eval.specs.Grouping.{as_list}
-use Rattle.query_eval.specs.Pairs.{yes_of}
 use Rattle.query_eval_tests.specs.PlainRows.{plain_name, plain_state, plain_vector}
-use Rattle.table_model.specs.declared.truth.Truth.{Truth}
 use Rattle.query_eval.specs.Vector.{Vector, IsThere, IsWithin, batch_at, batch_count, vector_count, vector_at, row_at, cell_at, is_live, looked_at}
 
 -- ---- the state and its vectors

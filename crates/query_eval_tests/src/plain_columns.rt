@@ -144,8 +144,9 @@ impl PlainColumns {
         requires row { row < 1024 }
         ensures { result ≡ cell_at (plain_vector self.now.rows vector) column row }
     {
+        let count = self.rows.len();
         let ordinal = VECTOR_ROWS * vector + row;
-        if ordinal < self.rows.len() {
+        if ordinal < count {
             match self.rows.row(ordinal).get(column) {
                 None => None,
                 Some(cell) => *cell,

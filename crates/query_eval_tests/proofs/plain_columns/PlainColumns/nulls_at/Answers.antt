@@ -1,5 +1,5 @@
 -- One row more.
-use Rattle.std.proofs.Common.{◌≡◌, ℕ, Bool, true, false, sym, ap, ◌∙◌, arith}
+use Rattle.std.proofs.Common.{◌≡◌, ℕ, Bool, sym, ap, ◌∙◌, arith}
 use Rattle.table_model.specs.Answer.{whole}
 use Rattle.table_model.specs.Condition.{is_null}
 use Rattle.query_eval_tests.specs.PlainRows.{plain_vector}

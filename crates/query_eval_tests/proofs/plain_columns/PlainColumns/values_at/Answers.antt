@@ -1,5 +1,5 @@
 -- One row more.
-use Rattle.std.proofs.Common.{◌≡◌, ◌+◌, ◌<◌, ◌∷◌, ◌++◌, [], true, false, cond, List, Option, Some, None, ℤ, length, length-set, set, take, FitsSigned, w64, rules, append-nil, sym, ap, ◌∙◌, arith}
+use Rattle.std.proofs.Common.{◌≡◌, ◌<◌, ◌∷◌, ◌++◌, [], cond, List, Option, Some, None, ℤ, length, length-set, set, take, FitsSigned, w64, rules, append-nil, sym, ap, ◌∙◌, arith}
 use Rattle.std.proofs.lemmas.Int.{to_z-of_z}
 use Rattle.std.proofs.lemmas.List.{take_more_set}
 use Rattle.query_eval_tests.specs.PlainRows.{plain_vector}
