@@ -3,6 +3,7 @@ use crate::choice_tests::table;
 use live_columns::{choose, rows_where, stride_of, write_columns};
 use replica_store::Store;
 use std::alloc::{AllocError, Global};
+use std::ops::Range;
 use std::test::Fail;
 use store_view::StoreView;
 use table_model::{BatchName, Number, Origin, Refusal, RowName, Rows};
@@ -25,10 +26,10 @@ fn rule(row: usize, column: usize) -> Option<i128> {
     }
 }
 
-/// Rows by the rule, from one on.
-fn rows_from(alloc: Global, first: usize, count: usize) -> Result<Rows, AllocError> {
+/// The rows of these ordinals by the rule.
+fn rows_of(alloc: Global, ordinals: Range<usize>) -> Result<Rows, AllocError> {
     let mut rows = Rows::new(alloc);
-    for row in first..first + count {
+    for row in ordinals {
         rows.push_row(&[rule(row, 0), rule(row, 1), rule(row, 2)])?;
     }
     Ok(rows)
@@ -46,8 +47,8 @@ fn batch(number: u32) -> BatchName {
 fn store(alloc: Global) -> Result<Store, Refusal> {
     let schema = table(alloc)?;
     let mut store = Store::new(alloc, &schema, Origin(9))?;
-    let first = rows_from(alloc, 0, 1500)?;
-    let second = rows_from(alloc, 1500, 1100)?;
+    let first = rows_of(alloc, 0..1500)?;
+    let second = rows_of(alloc, 1500..2600)?;
     let _ = store.insert(alloc, batch(1), &first)?;
     let _ = store.insert(alloc, batch(2), &second)?;
     store.delete(
@@ -111,7 +112,7 @@ fn has_cells(
     column: usize,
 ) -> Result<(), Fail> {
     agree_at("how many", values.len(), rows.len())?;
-    let mut missing = 0;
+    let mut missing: u64 = 0;
     for (cell, row) in rows.iter().enumerate() {
         let expected = rule(*row, column);
         agree_at("bit", bit(valid, cell), expected.is_some())?;
@@ -121,11 +122,11 @@ fn has_cells(
             Some(expected.unwrap_or(0)),
         )?;
         if expected.is_none() {
-            missing += 1;
+            missing = missing.saturating_add(1);
         }
     }
     agree_at("nulls", nulls, missing)?;
-    for cell in rows.len()..valid.len() * 8 {
+    for cell in rows.len()..valid.len().saturating_mul(8) {
         agree_at("past the end", bit(valid, cell), false)?;
     }
     Ok(())
@@ -140,7 +141,9 @@ fn check_condition(alloc: Global, store: &Store, condition: usize, text: &str) -
     let rows = wanted(alloc, condition)?;
     let mut view = StoreView::new(store);
     let chosen = rows_where(alloc, &mut view, &choice.condition)?;
-    agree_at(text, chosen.count, rows.len())?;
+    if choice.places.len() != PLACES.len() || chosen.count != rows.len() {
+        return Err(Fail::new("other columns or rows"));
+    }
     let stride = stride_of(chosen.count);
     agree_at(text, stride, 64 * rows.len().div_ceil(512))?;
     let mut values = vec![in alloc; 77i64; 4 * rows.len() + 1]?;
