@@ -75,12 +75,53 @@ fn summarized(alloc: Global, file: &[u8]) -> Result<Vec<u8>, Refusal> {
     Ok(writer.into_inner())
 }
 
+/// What was written, or the file if nothing was.
+fn written_or(alloc: Global, written: Vec<u8>, file: &[u8]) -> Result<Vec<u8>, Refusal> {
+    if written.as_slice().is_empty() {
+        return Ok(Vec::from_slice(alloc, file)?);
+    }
+    Ok(written)
+}
+
+/// A file after a load of a text under a first name.
+fn file_loaded(
+    alloc: Global,
+    file: &[u8],
+    first: (u32, u32),
+    text: &'static str,
+) -> Result<Vec<u8>, Refusal> {
+    let mut writer = Counted::new(Vec::new(alloc));
+    let load = loaded(alloc, text)?;
+    let first = Some(name(first.0, first.1));
+    import(
+        alloc,
+        &mut Counted::new(file),
+        load,
+        first,
+        &[],
+        &mut writer,
+    )?;
+    written_or(alloc, writer.into_inner(), file)
+}
+
+/// A file after a deletion of rows of a batch, from one up to an ordinal.
+fn file_without(
+    alloc: Global,
+    file: &[u8],
+    first: (u32, u32, u16),
+    last: u16,
+) -> Result<Vec<u8>, Refusal> {
+    let mut writer = Counted::new(Vec::new(alloc));
+    let first = row(first.0, first.1, first.2);
+    delete_rows(alloc, &mut Counted::new(file), first, last, &mut writer)?;
+    written_or(alloc, writer.into_inner(), file)
+}
+
 /// An offer of a load under a first name, whose first row is deleted.
 fn offered(alloc: Global, first: (u32, u32), text: &'static str) -> Result<Offer, Refusal> {
     let empty = created(alloc, "t")?;
-    let file = file_after(alloc, empty.as_slice(), Command::Load(first, text))?;
-    let rows = Command::Rows((first.0, first.1, 0), 0);
-    let file = file_after(alloc, file.as_slice(), rows)?;
+    let file = file_loaded(alloc, empty.as_slice(), first, text)?;
+    let file = file_without(alloc, file.as_slice(), (first.0, first.1, 0), 0)?;
     let asked = summarized(alloc, empty.as_slice())?;
     let asked = read_summary(alloc, &mut Counted::new(asked.as_slice()))?;
     let mut writer = Counted::new(Vec::new(alloc));
@@ -90,34 +131,30 @@ fn offered(alloc: Global, first: (u32, u32), text: &'static str) -> Result<Offer
     read_offer(alloc, &mut Counted::new(bytes.as_slice()))
 }
 
-/// What a command on a file writes, or the file where it writes nothing.
-pub fn file_after(alloc: Global, file: &[u8], command: Command) -> Result<Vec<u8>, Refusal> {
-    let mut reader = Counted::new(file);
+/// A file after a deletion by a condition.
+fn file_deleted(alloc: Global, file: &[u8], condition: &str) -> Result<Vec<u8>, Refusal> {
     let mut writer = Counted::new(Vec::new(alloc));
+    delete(alloc, &mut Counted::new(file), condition, &mut writer)?;
+    written_or(alloc, writer.into_inner(), file)
+}
+
+/// A file after an offer.
+fn file_applied(alloc: Global, file: &[u8], offer: Offer) -> Result<Vec<u8>, Refusal> {
+    let mut writer = Counted::new(Vec::new(alloc));
+    let mut offers = Vec::new(alloc);
+    offers.push(offer)?;
+    apply(alloc, &mut Counted::new(file), offers, &mut writer)?;
+    written_or(alloc, writer.into_inner(), file)
+}
+
+/// A file after a command.
+pub fn file_after(alloc: Global, file: &[u8], command: Command) -> Result<Vec<u8>, Refusal> {
     match command {
-        Command::Load(first, text) => {
-            let load = loaded(alloc, text)?;
-            let first = Some(name(first.0, first.1));
-            import(alloc, &mut reader, load, first, &[], &mut writer)?;
-        }
-        Command::Delete(condition) => {
-            delete(alloc, &mut reader, condition, &mut writer)?;
-        }
-        Command::Rows(first, last) => {
-            let first = row(first.0, first.1, first.2);
-            delete_rows(alloc, &mut reader, first, last, &mut writer)?;
-        }
-        Command::Apply(first, text) => {
-            let mut offers = Vec::new(alloc);
-            offers.push(offered(alloc, first, text)?)?;
-            apply(alloc, &mut reader, offers, &mut writer)?;
-        }
+        Command::Load(first, text) => file_loaded(alloc, file, first, text),
+        Command::Delete(condition) => file_deleted(alloc, file, condition),
+        Command::Rows(first, last) => file_without(alloc, file, first, last),
+        Command::Apply(first, text) => file_applied(alloc, file, offered(alloc, first, text)?),
     }
-    let written = writer.into_inner();
-    if written.as_slice().is_empty() {
-        return Ok(Vec::from_slice(alloc, file)?);
-    }
-    Ok(written)
 }
 
 /// The part that a command puts beside a folder's joined file; nothing where there is nothing to put.

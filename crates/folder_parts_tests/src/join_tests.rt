@@ -64,6 +64,9 @@ fn a_head_has_the_schema_and_the_number_of_batches(rt: HostRuntime) -> Result<()
     agree(found.batches, 1)?;
     agree(found.schema.table() == "T", true)?;
     // The head of a table T of one column A takes 4 + 2 + 2 + 2 + 3 + 4 bytes.
+    if file.len() < 17 {
+        return Err(Fail::new("a file without a head"));
+    }
     let (front, _) = file.as_slice().split_at(17);
     agree(part_head(alloc, front)?.batches, 1)?;
     let (short, _) = file.as_slice().split_at(16);

@@ -44,12 +44,34 @@ fn a_part_is_refused_at_its_place(rt: HostRuntime) -> Result<(), Fail> {
         refused(Refusal::SchemaDiffers),
     )?;
     let mut short = one_row(alloc, 3, "a\n3\n")?;
-    let length = short.len();
-    short.truncate(length - 1);
+    let _last = short.pop();
+    let length = short.len() as u64;
     agree(
         refused_beside(alloc, short)?,
-        refused(Refusal::Truncated(length as u64 - 1)),
+        refused(Refusal::Truncated(length)),
     )
+}
+
+/// What two parts are refused as that both have the name of one file's bytes.
+fn refused_under(
+    alloc: Global,
+    named: &[u8],
+    files: [&[u8]; 2],
+) -> Result<Option<PartRefusal>, Refusal> {
+    let mut parts = Vec::new(alloc);
+    for file in files {
+        let name = part_name(alloc, named)?;
+        parts.push(Part::new(name, Counted::new(file)))?;
+    }
+    Ok(opened(alloc, parts).err())
+}
+
+/// The refusal of a part whose bytes are not those of its name.
+fn damaged(part: usize) -> Option<PartRefusal> {
+    Some(PartRefusal {
+        part,
+        fault: PartFault::Damaged,
+    })
 }
 
 #[test]
@@ -57,20 +79,9 @@ fn a_part_under_another_name_is_damage(rt: HostRuntime) -> Result<(), Fail> {
     let alloc = rt.alloc();
     let file = one_row(alloc, 1, "a\n1\n")?;
     let other = one_row(alloc, 2, "a\n2\n")?;
-    for place in 0..2 {
-        let mut parts = Vec::new(alloc);
-        for index in 0..2 {
-            let bytes = if index == place { &other } else { &file };
-            let name = part_name(alloc, file.as_slice())?;
-            parts.push(Part::new(name, Counted::new(bytes.as_slice())))?;
-        }
-        let wanted = PartRefusal {
-            part: place,
-            fault: PartFault::Damaged,
-        };
-        agree(opened(alloc, parts).err(), Some(wanted))?;
-    }
-    Ok(())
+    let (file, other) = (file.as_slice(), other.as_slice());
+    agree(refused_under(alloc, file, [other, file])?, damaged(0))?;
+    agree(refused_under(alloc, file, [file, other])?, damaged(1))
 }
 
 #[test]
