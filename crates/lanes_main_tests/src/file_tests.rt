@@ -424,7 +424,7 @@ fn a_caret_stands_under_the_place_where_a_query_is_refused(rt: HostRuntime) -> R
         assert!(rt; outcome == Some(refusal));
         assert!(rt; answered.as_slice() == answers.as_bytes());
         let found = pointed(rt.alloc(), queries, refusal)?;
-        assert!(rt; found.as_str() == shown, "at {shown}");
+        assert!(rt; found.as_bytes() == shown.as_bytes(), "at {shown}");
     }
     Ok(())
 }
