@@ -256,11 +256,13 @@ def a_file_that_has_no_room_leaves_the_old_one(room):
 
 def a_file_without_room_for_its_last_bytes_leaves_the_old_one(room):
     held = room.make()
+    room.make("more", rows=b"")
+    room.ok("import", "--no-header", "--batch", "2.1", "more", "-", given=b"3,40\n")
     for count in (1, 50, len(held)):
         room.refused("import", "--no-header", "t", "-", given=b"3,40\n", line="refused WriteFault", sentence="t: this can't be written", preexec_fn=limited(count))
-        room.refused("merge", "t", "t", line="refused WriteFault", preexec_fn=limited(count - 1))
+        room.refused("merge", "t", "t", "more", line="refused WriteFault", preexec_fn=limited(count))
         assert room.get("t") == held
-        room.only("t")
+        room.only("more", "t")
 
 
 def what_is_said_to_a_full_device_is_a_failed_write_and_the_file_is_replaced(room):

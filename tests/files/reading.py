@@ -1,0 +1,121 @@
+"""How commands read FILE: its bytes once; and what is left alone if nothing changes."""
+
+import os
+import random
+import re
+import shutil
+import subprocess
+import time
+
+from replacing import LOCK
+from room import Lacking
+
+# What a file's schema is read from, before its lock is had.
+HEAD = 4_096
+
+
+def reads_of(room, name, *words, given=b""):
+    """How often a command opened a file to read it, and how many bytes it read from it each time."""
+    if shutil.which("strace") is None:
+        raise Lacking("strace is not installed")
+    run = ["strace", "-f", "-y", "-o", "trace", "-e", "trace=openat,read,pread64,readv,mmap,close", room.program, *words]
+    done = subprocess.run(run, input=given, cwd=room.folder, capture_output=True, timeout=120)
+    if not os.path.exists(room.path("trace")) or not room.get("trace"):
+        raise Lacking(f"strace can't trace: {done.stderr[-200:]!r}")
+    assert done.returncode == 0, f"{words} ended with {done.returncode} and said {done.stderr!r}"
+    return reads_in(room.get("trace").decode(), re.escape(room.path(name)))
+
+
+def reads_in(trace, path):
+    """For each time that a trace opens the file of a path to read it, how many bytes are read from it then."""
+    reads = []
+    for line in trace.split("\n"):
+        if re.search(rf"openat\(.*O_RDONLY.* = [0-9]+<{path}>$", line):
+            reads.append(0)
+        read = re.search(rf"(?:read|pread64|readv)\([0-9]+<{path}>.* = ([0-9]+)$", line)
+        if read:
+            reads[-1] += int(read[1])
+        assert not re.search(rf"mmap\(.*<{path}>", line), line
+    return reads
+
+
+def big(room, name="t"):
+    """A file of some 100 kB, and its size."""
+    pick = random.Random(4)
+    rows = "".join(f"{pick.randrange(30_000)},{pick.randrange(2**62)}\n" for _ in range(12_000)).encode()
+    return len(room.make(name, rows=rows))
+
+
+def a_command_that_reads_a_file_reads_its_bytes_once(room):
+    size = big(room)
+    room.put("s", room.ok("summary", "t"))
+    for words in (
+        ("check", "t"),
+        ("summary", "t"),
+        ("offer", "t", "s"),
+        ("inspect", "t"),
+        ("inspect", "--batches", "t"),
+        ("dump", "t"),
+        ("query", "t", "SELECT COUNT(*) FROM T", "SELECT SUM(B) FROM T"),
+        ("query", "t", "-"),
+        ("merge", "u", "t"),
+    ):
+        found = reads_of(room, "t", *words, given=b"SELECT COUNT(*) FROM T\nSELECT SUM(A) FROM T\n")
+        assert found == [size], f"{words} read {found} bytes of {size}"
+
+
+def a_command_that_changes_a_file_reads_its_bytes_once_under_the_lock(room):
+    room.put("empty", room.ok("create", "other", "T", "A", "SMALLINT", "B", "BIGINT") and room.ok("summary", "other"))
+    room.make("more", rows=b"")
+    room.ok("import", "--no-header", "--batch", "7.1", "more", "-", given=b"7,7\n")
+    room.put("o", room.ok("offer", "more", "empty"))
+    size = big(room)
+    held = room.get("t")
+    for words, ahead in (
+        (("delete", "t", "A = 7"), []),
+        (("delete-rows", "t", "1.1", "3", "5"), []),
+        (("apply", "t", "o"), []),
+        (("forget", "t"), []),
+        (("import", "--no-header", "--batch", "9.1", "t", "-"), [HEAD]),
+    ):
+        room.put("t", held)
+        found = reads_of(room, "t", *words, given=b"1,1\n")
+        assert found == [*ahead, size], f"{words} read {found} bytes of {size}"
+
+
+def an_import_opens_its_file_once_before_the_lock_and_once_under_it(room):
+    size = big(room)
+    assert reads_of(room, "t", "import", "--no-header", "--batch", "9.1", "t", "-", given=b"1,1\n") == [HEAD, size]
+    trace = room.get("trace").decode()
+    path, lock = re.escape(room.path("t")), re.escape(LOCK)
+    order = [found.lastgroup for found in re.finditer(rf"(?P<file>openat\(.*O_RDONLY.* = [0-9]+<{path}>\n)|(?P<lock>openat\(.*{lock}.*O_CREAT.* = [0-9])", trace)]
+    assert order == ["file", "lock", "file"], f"the order is {order}"
+
+
+def what_brings_nothing_leaves_the_file_alone(room):
+    room.make()
+    room.make("u")
+    room.put("old", room.ok("summary", "t"))
+    room.put("o", room.ok("offer", "t", "old"))
+    room.ok("delete", "t", "A = 1", prints=b"ok 1\n")
+    time.sleep(0.02)
+    before, held = os.stat(room.path("t")), room.get("t")
+    room.ok("merge", "t", "t", "u", prints=b"ok\n")
+    room.ok("merge", "t", "u", "t", prints=b"ok\n")
+    room.ok("merge", "t", "t", prints=b"ok\n")
+    room.ok("import", "--no-header", "--batch", "1.1", "t", "-", given=b"1,10\n2,20\n,30\n", prints=b"ok batches=1 new=0 rows=3 first=1.1\n")
+    room.ok("apply", "t", "o", prints=b"ok batches=1 ranges=1 new=0\n")
+    room.ok("delete", "t", "A = 1", prints=b"ok 0\n")
+    room.ok("delete", "t", "A = 7", prints=b"ok 0\n")
+    room.ok("delete-rows", "t", "1.1", "0", "0", prints=b"ok\n")
+    after = os.stat(room.path("t"))
+    assert room.get("t") == held and (before.st_ino, before.st_mtime_ns) == (after.st_ino, after.st_mtime_ns)
+    room.only("o", "old", "t", "u")
+
+
+TESTS = [
+    a_command_that_reads_a_file_reads_its_bytes_once,
+    a_command_that_changes_a_file_reads_its_bytes_once_under_the_lock,
+    an_import_opens_its_file_once_before_the_lock_and_once_under_it,
+    what_brings_nothing_leaves_the_file_alone,
+]
