@@ -18,7 +18,7 @@ use Rattle.replica_store.specs.Replica.{Replica, new_replica}
 use Rattle.column_file.specs.Files.{canonical_file, canonical_read, judged, offer_read, opened_from, offer_bytes, first_difference, Exports, OpensTo}
 use Rattle.column_file.specs.SummaryBytes.{summary_bytes}
 use Rattle.column_file.specs.Input.{Judges, IsUnread, is_refusal_of_reading}
-use Rattle.replica_files.specs.Commands.{held_in, file_of, as_held, Made, file_made, WritesFront, Refuses, Leaves, Changes, Makes, Puts, is_uncounted, CreatesOf}
+use Rattle.replica_files.specs.Commands.{held_in, file_of, as_held, Made, file_made, WritesFront, Refuses, Leaves, Changes, Makes, Puts, CreatesOf}
 
 -- ---- what was read is the canonical file of what it holds
 
@@ -72,6 +72,12 @@ pub reading_counts : (many : Type 0) (e : Refusal) (r r' w : ℕ) → IsTrue (is
 reading_counts many ReadFault r r' w listed h = (h, refl)
 reading_counts many WriteFault r r' w listed h = let wrong : false ≡ true = listed in absurd cc
 reading_counts many other r r' w listed h = (h, refl)
+
+-- whether a refusal is neither a read nor a write that failed, so that it is counted nowhere
+abbrev pub is_uncounted : Refusal → Bool
+is_uncounted ReadFault = false
+is_uncounted WriteFault = false
+is_uncounted other = true
 
 -- and after one of the command
 pub command_counts : (many : Type 0) (e : Refusal) (r r' w : ℕ) → r' ≡ r → IsTrue (is_uncounted e) → CountsBoth many e r r' w w
@@ -148,7 +154,7 @@ writing_none b e before now r put other = of (puts_why b e before now r put)
 
 -- ---- writing
 
-exported_put : (e : Refusal) (before now : Option (List ℕ)) (w w' : ℕ) (file : List ℕ) → Exports (Err e) before now w w' file
+pub exported_put : (e : Refusal) (before now : Option (List ℕ)) (w w' : ℕ) (file : List ℕ) → Exports (Err e) before now w w' file
     → ((e ≡ Memory) × (now ≡ before)) ⊎ ((e ≡ WriteFault) × AppendsFront before now file)
 exported_put Memory before now w w' file h = inl (refl, h.0)
 exported_put other before now w w' file h = inr (h.0, h.2)

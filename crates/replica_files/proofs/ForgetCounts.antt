@@ -15,7 +15,8 @@ use Rattle.forgotten_batches.proofs.Rests.{Sorted-filter, deleted-forgotten}
 use Rattle.replica_store.specs.Forgets.{forgotten_batches}
 use Rattle.replica_store.specs.Replica.{Replica, entries_of}
 use Rattle.replica_store.proofs.MergeAnswers.{made_of}
-use Rattle.replica_files.specs.Commands.{Made, Makes, is_uncounted}
+use Rattle.replica_files.specs.Commands.{Made, Makes}
+use Rattle.replica_files.specs.Refusals.{is_refusal_of_forget}
 use Rattle.replica_files.specs.Forgetting.{batches_of, dead_batches, forgetting}
 use Rattle.replica_files.specs.Loads.{row_count}
 use Rattle.replica_files.proofs.CommandSteps.{lacks_memory}
@@ -113,8 +114,8 @@ pub forget_refused : {X : Type 0} (view : X → ℕ × ℕ) (changed : X → Boo
     → Makes {X = X} view changed old (Err e) new (forgetting old)
 forget_refused view changed old new e why = inr (only_memory old e why)
 
-pub forget_uncounted : (old : Replica) (e : Refusal) → (forgotten_batches old ≡ Err e) ⊎ ((e ≡ Memory) × IsOk (forgotten_batches old)) → IsTrue (is_uncounted e)
-forget_uncounted old e why = ap is_uncounted (only_memory old e why)
+pub forget_listed : (old : Replica) (e : Refusal) → (forgotten_batches old ≡ Err e) ⊎ ((e ≡ Memory) × IsOk (forgotten_batches old)) → IsTrue (is_refusal_of_forget e)
+forget_listed old e why = ap is_refusal_of_forget (only_memory old e why)
 
 -- ---- counting the rows of a store
 

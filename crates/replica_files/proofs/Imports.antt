@@ -20,27 +20,34 @@ use Rattle.replica_store.specs.Exchange.{OfferForm, offering, applied}
 use Rattle.replica_store.specs.Replica.{Replica, merged}
 use Rattle.replica_store.specs.Segments.{Entry, rows_in, rows_entries}
 use Rattle.replica_store.proofs.RowsIn.{entries-rows_in}
-use Rattle.replica_files.specs.Commands.{Made, Makes, is_uncounted}
+use Rattle.replica_files.specs.Commands.{Made, Makes}
 use Rattle.replica_files.specs.Loads.{LoadForm, named_batches, named_entries, loaded, first_name, named_by, is_free, first_free, or_spent, chosen_name, new_since, name_of_some, row_count, imported_as, importing_as, importing, is_one_of}
+use Rattle.replica_files.specs.Refusals.{is_refusal_of_import, is_refusal_of_merge}
 use Rattle.replica_files.specs.declared.importing.Imported.{Imported}
 use Rattle.replica_files.proofs.StoreCommands.{merge_kept}
 
 -- ---- the first name
 
-first_fault : (first : BatchName) (e : Refusal) (a b c : Bool) → ◌≡◌ {A = Result BatchName Refusal} (cond a (Ok first) (cond b (cond c (Ok first) (Err NumbersSpent)) (Err BadName))) (Err e) → IsTrue (is_uncounted e)
+first_fault : (first : BatchName) (e : Refusal) (a b c : Bool) → ◌≡◌ {A = Result BatchName Refusal} (cond a (Ok first) (cond b (cond c (Ok first) (Err NumbersSpent)) (Err BadName))) (Err e) → IsTrue (is_refusal_of_import e)
 first_fault first e true b c is = cc
 first_fault first e false true true is = cc
-first_fault first e false true false is = let same : NumbersSpent ≡ e = cc in ap is_uncounted (sym same)
-first_fault first e false false c is = let same : BadName ≡ e = cc in ap is_uncounted (sym same)
+first_fault first e false true false is = let same : NumbersSpent ≡ e = cc in ap is_refusal_of_import (sym same)
+first_fault first e false false c is = let same : BadName ≡ e = cc in ap is_refusal_of_import (sym same)
 
-spent_fault : (o : Option BatchName) (e : Refusal) → or_spent o ≡ Err e → IsTrue (is_uncounted e)
+spent_fault : (o : Option BatchName) (e : Refusal) → or_spent o ≡ Err e → IsTrue (is_refusal_of_import e)
 spent_fault (Some name) e is = cc
-spent_fault None e is = let same : NumbersSpent ≡ e = cc in ap is_uncounted (sym same)
+spent_fault None e is = let same : NumbersSpent ≡ e = cc in ap is_refusal_of_import (sym same)
 
-pub name_uncounted : (s : State) (given : Option BatchName) (words : List ℕ) (count : ℕ) (e : Refusal) → chosen_name s given words count ≡ Err e → IsTrue (is_uncounted e)
+pub name_listed : (s : State) (given : Option BatchName) (words : List ℕ) (count : ℕ) (e : Refusal) → chosen_name s given words count ≡ Err e → IsTrue (is_refusal_of_import e)
 unfolding chosen_name first_name
-name_uncounted s (Some name) words count e is = first_fault name e (count == 0) (is_proper_name name) (nat_le (name.number.0 + count) 4294967296) is
-name_uncounted s None words count e is = spent_fault (first_free s count words) e is
+name_listed s (Some name) words count e is = first_fault name e (count == 0) (is_proper_name name) (nat_le (name.number.0 + count) 4294967296) is
+name_listed s None words count e is = spent_fault (first_free s count words) e is
+
+-- a refusal of a merge is one of an import
+pub merge_is_listed : (e : Refusal) → IsTrue (is_refusal_of_merge e) → IsTrue (is_refusal_of_import e)
+merge_is_listed BadName listed = refl
+merge_is_listed NumbersSpent listed = refl
+merge_is_listed other listed = listed
 
 given_again : (first name : BatchName) (a b c : Bool) → ◌≡◌ {A = Result BatchName Refusal} (cond a (Ok first) (cond b (cond c (Ok first) (Err NumbersSpent)) (Err BadName))) (Ok name) → first ≡ name
 given_again first name true b c e = cc

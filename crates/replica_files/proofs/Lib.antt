@@ -13,3 +13,5 @@ pub mod OperationSets
 pub mod StoreCommands
 pub mod DumpRows
 pub mod LinesTold
+pub mod RefusedOnFile
+pub mod ReadersInTurn

@@ -35,7 +35,8 @@ use Rattle.store_view.specs.Asked.{condition_names, is_refusal_of_condition}
 use Rattle.column_file.specs.Files.{ranges_of}
 use Rattle.column_file.proofs.RangeLists.{ranges_are}
 use Rattle.catalogue_join.specs.RowRange.{RowRange, AreMaximal, rows_in}
-use Rattle.replica_files.specs.Commands.{Made, Makes, deleting, applied_all, applying, is_uncounted}
+use Rattle.replica_files.specs.Commands.{Made, Makes, deleting, applied_all, applying}
+use Rattle.replica_files.specs.Refusals.{is_refusal_of_merge, is_refusal_of_range}
 
 -- ---- deletes by a condition
 
@@ -126,30 +127,22 @@ only_memory r names slice e proper same (inl refused) =
     let bad : ◌≡◌ {A = Result (Unit {0} × Replica) Refusal} (Ok (tt, with_deleted r names)) (Err e) =
     sym (ap (λ (b : Bool). unless_fault {X = Unit {0} × Replica} (cond b None (Some BadName)) (Ok (tt, with_deleted r names))) all) ∙ ap (deleted_names r) (sym same) ∙ refused in cc
 
-pub condition_uncounted : (e : Refusal) → IsTrue (is_refusal_of_condition e) → IsTrue (is_uncounted e)
-condition_uncounted ReadFault listed = listed
-condition_uncounted WriteFault listed = listed
-condition_uncounted other listed = refl
-
-pub memory_uncounted : (e : Refusal) → e ≡ Memory → IsTrue (is_uncounted e)
-memory_uncounted e is = ap is_uncounted is
-
 -- ---- deletes of ranges
 
 range_is : (first : RowName) (last : ℕ) (r : Replica) (o : Option Refusal) (e : Refusal) → unless_fault {X = Unit {0} × Replica} o (Ok (tt, r)) ≡ Err e → o ≡ Some e
 range_is first last r None e is = cc
 range_is first last r (Some fault) e is = cc
 
-range_fault : (a b : Bool) (e : Refusal) → cond a (cond b (Some (BadRange 0)) None) (Some BadName) ≡ Some e → IsTrue (is_uncounted e)
-range_fault true true e is = let same : BadRange 0 ≡ e = cc in ap is_uncounted (sym same)
+range_fault : (a b : Bool) (e : Refusal) → cond a (cond b (Some (BadRange 0)) None) (Some BadName) ≡ Some e → IsTrue (is_refusal_of_range e)
+range_fault true true e is = let same : BadRange 0 ≡ e = cc in ap is_refusal_of_range (sym same)
 range_fault true false e is = cc
-range_fault false b e is = let same : BadName ≡ e = cc in ap is_uncounted (sym same)
+range_fault false b e is = let same : BadName ≡ e = cc in ap is_refusal_of_range (sym same)
 
-pub range_uncounted : (r new : Replica) (first : RowName) (last : ℕ) (e : Refusal) → (deleted_rows r first last ≡ Err e) ⊎ ((e ≡ Memory) × IsOk (deleted_rows r first last)) → IsTrue (is_uncounted e)
+pub range_listed : (r new : Replica) (first : RowName) (last : ℕ) (e : Refusal) → (deleted_rows r first last ≡ Err e) ⊎ ((e ≡ Memory) × IsOk (deleted_rows r first last)) → IsTrue (is_refusal_of_range e)
 unfolding delete_fault
-range_uncounted r new first last e (inl refused) =
+range_listed r new first last e (inl refused) =
     range_fault (is_proper_name first.batch) (nat_lt last first.ordinal) e (range_is first last (with_deleted r (rows_between first last)) (delete_fault first last) e refused)
-range_uncounted r new first last e (inr lack) = memory_uncounted e lack.0
+range_listed r new first last e (inr lack) = ap is_refusal_of_range lack.0
 
 -- a call that acts on a replica, refused
 pub acts_refused : {X Y : Type 0} (view : X → Y) (changed : X → Bool) (r new : Replica) (e : Refusal) (made : Made Y) → (made ≡ Err e) ⊎ ((e ≡ Memory) × IsOk made) → Makes {X = X} view changed r (Err e) new made
@@ -184,24 +177,24 @@ merge_same r other new u e few within =
     let deleted = deletions_same r.state.deleted other.state.deleted within in
     sym m.made ∙ (λ i. record { schema = r.schema; own = r.own; state = record { batches = batches i; deleted = deleted i } })
 
-merge_fault_of : (a : Bool) (r other : Replica) (o : Option BatchName) (e : Refusal) → cond a (conflict_or_full r other o) (Some SchemaDiffers) ≡ Some e → IsTrue (is_uncounted e)
-merge_fault_of false r other o e is = let same : SchemaDiffers ≡ e = cc in ap is_uncounted (sym same)
-merge_fault_of true r other (Some name) e is = let same : Conflict name ≡ e = cc in ap is_uncounted (sym same)
+merge_fault_of : (a : Bool) (r other : Replica) (o : Option BatchName) (e : Refusal) → cond a (conflict_or_full r other o) (Some SchemaDiffers) ≡ Some e → IsTrue (is_refusal_of_merge e)
+merge_fault_of false r other o e is = let same : SchemaDiffers ≡ e = cc in ap is_refusal_of_merge (sym same)
+merge_fault_of true r other (Some name) e is = let same : Conflict name ≡ e = cc in ap is_refusal_of_merge (sym same)
 merge_fault_of true r other None e is = full (nat_lt batch_limit (map.len (union_of r.state.batches other.state.batches))) is
   where
-    full : (b : Bool) → cond b (Some Full) None ≡ Some e → IsTrue (is_uncounted e)
-    full true is = let same : Full ≡ e = cc in ap is_uncounted (sym same)
+    full : (b : Bool) → cond b (Some Full) None ≡ Some e → IsTrue (is_refusal_of_merge e)
+    full true is = let same : Full ≡ e = cc in ap is_refusal_of_merge (sym same)
     full false is = cc
 
 merged_fault : (o : Option Refusal) (r : Replica) (e : Refusal) → unless_fault {X = Unit {0} × Replica} o (Ok (tt, r)) ≡ Err e → o ≡ Some e
 merged_fault None r e is = cc
 merged_fault (Some fault) r e is = cc
 
-pub merge_uncounted : (r other : Replica) (e : Refusal) → (merged r other ≡ Err e) ⊎ ((e ≡ Memory) × IsOk (merged r other)) → IsTrue (is_uncounted e)
+pub merge_listed : (r other : Replica) (e : Refusal) → (merged r other ≡ Err e) ⊎ ((e ≡ Memory) × IsOk (merged r other)) → IsTrue (is_refusal_of_merge e)
 unfolding merge_fault
-merge_uncounted r other e (inl refused) =
+merge_listed r other e (inl refused) =
     merge_fault_of (same_table r.schema other.schema) r other (conflict_with r.state.batches (entries_of other)) e (merged_fault (merge_fault r other) (with_join r other) e refused)
-merge_uncounted r other e (inr lack) = memory_uncounted e lack.0
+merge_listed r other e (inr lack) = ap is_refusal_of_merge lack.0
 
 -- what both ways grow into each other is the same
 both_equal : (a b : Bool) → (IsTrue a → IsTrue b) → (IsTrue b → IsTrue a) → a ≡ b
@@ -279,14 +272,6 @@ pub untold_applied : {X : Type 0} (view : X → ℕ × ℕ × ℕ) (changed : X 
     → Makes {X = Bool} (λ is_changed. tt) (λ (is_changed : Bool). is_changed) old (Err e) new (applied_all old offers) → Makes {X = X} view changed old (Err e) new (applying offers old)
 untold_applied view changed old new offers e (inl refused) = inl (ap (λ (m : Made (Unit {0})). m >>= λ (done : Unit {0} × Replica). told_of old done.1) refused)
 untold_applied view changed old new offers e (inr lack) = inr lack
-
--- ---- what a merge of files may be refused as
-
-not_write : (e : Refusal) → IsTrue (is_uncounted e) → e ≢ WriteFault
-not_write e listed is = let bad : false ≡ true = sym (ap is_uncounted is) ∙ listed in cc
-
-pub merge_not_write : (r other : Replica) (e : Refusal) → (merged r other ≡ Err e) ⊎ ((e ≡ Memory) × IsOk (merged r other)) → e ≢ WriteFault
-merge_not_write r other e why = not_write e (merge_uncounted r other e why)
 
 -- ---- a merge that brings no deletion
 

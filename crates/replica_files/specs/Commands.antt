@@ -73,12 +73,6 @@ abbrev pub Makes : {X Y : Type 0} → (X → Y) → (X → Bool) → Replica →
 Makes view changed old (Ok x) new made = (made ≡ Ok (view x, new)) × SaysChange (changed x) old new
 Makes view changed old (Err e) new made = (made ≡ Err e) ⊎ (e ≡ Memory)
 
--- whether a refusal is neither a read nor a write that failed, so that it is counted nowhere
-abbrev pub is_uncounted : Refusal → Bool
-is_uncounted ReadFault = false
-is_uncounted WriteFault = false
-is_uncounted other = true
-
 -- A replica's file was written where something changed, and else nothing; refused as out of memory before anything was written, or
 -- for a failed write after a front. What was written is read as the replica.
 abbrev pub Puts : Bool → Result (Unit {0}) Refusal → Option (List ℕ) → Option (List ℕ) → Replica → Type 0

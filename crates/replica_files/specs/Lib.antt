@@ -8,3 +8,4 @@ pub mod Forgetting
 pub mod Loads
 pub mod DumpLaws
 pub mod QueryLines
+pub mod Refusals

@@ -1,9 +1,7 @@
 //! Applying offers to a replica in a file.
-ghost use Rattle.std.specs.Prelude.{◌≡◌, ◌≢◌, map, IsTrue, IfErr, OnOk};
-ghost use Rattle.std.specs.Io.KnownBytes.{IsAtEnd};
-ghost use Rattle.table_model.specs.Faults.{IsWithin, GaveMore, CountsBoth};
-ghost use Rattle.table_model.specs.declared.refusal.Refusal.TheVariants.{WriteFault};
-ghost use Rattle.replica_files.specs.Commands.{Changes, Makes, applied_all, applying, is_uncounted};
+ghost use Rattle.std.specs.Prelude.{◌≡◌, IsTrue, IfErr, OnOk};
+ghost use Rattle.replica_files.specs.Commands.{Changes, Makes, applied_all, applying};
+ghost use Rattle.replica_files.specs.Refusals.{EndsRefused, IsReadWhole, is_refusal_of_merge};
 
 use crate::file_writing::write_changed;
 use column_file::open;
@@ -28,7 +26,7 @@ pub struct Applied {
 /// Applies offers to a store, one after another, and moves their segments into it; answers whether the store has changed.
 pub fn apply_all(alloc: Global, store: &mut Store, mut offers: Vec<Offer>) -> Result<bool, Refusal>
     ensures makes { Makes (λ is_changed. tt) (λ is_changed. is_changed) store.old.replica result store.new.replica (applied_all store.old.replica offers.items) }
-    ensures uncounted { IfErr result (λ e. IsTrue (is_uncounted e)) }
+    ensures refused { IfErr result (λ e. IsTrue (is_refusal_of_merge e)) }
 {
     let mut is_changed = false;
     offers.reverse();
@@ -47,7 +45,7 @@ pub fn apply_offers(
     offers: Vec<Offer>,
 ) -> Result<Applied, Refusal>
     ensures makes { Makes (λ done. (done.batches, done.ranges, done.new)) (λ done. done.is_changed) store.old.replica result store.new.replica (applying offers.items store.old.replica) }
-    ensures uncounted { IfErr result (λ e. IsTrue (is_uncounted e)) }
+    ensures refused { IfErr result (λ e. IsTrue (is_refusal_of_merge e)) }
 {
     let before = store.batches();
     let is_changed = apply_all(alloc, store, offers)?;
@@ -72,11 +70,9 @@ pub fn apply<R: Read, W: Write>(
     writer: &mut Counted<W>,
 ) -> Result<Applied, Refusal>
     ensures made { Changes (λ done. (done.batches, done.ranges, done.new)) (λ done. done.is_changed) result (R.remaining reader.old.0) (W.contents writer.old.0) (W.contents writer.new.0) (applying offers.items) }
-    ensures unwritten { IfErr result (λ e. e ≢ WriteFault → W.contents writer.new.0 ≡ W.contents writer.old.0) }
-    ensures end { OnOk result (IsAtEnd (R.remaining reader.new.0)) }
-    ensures within { OnOk result (IsWithin (R.remaining reader.old.0)) }
-    ensures kept { OnOk result ((reader.new.1 ≡ reader.old.1) × (writer.new.1 ≡ writer.old.1)) }
-    ensures fault { IfErr result (λ e. CountsBoth (GaveMore (R.remaining reader.old.0) (R.remaining reader.new.0)) e reader.old.1 reader.new.1 writer.old.1 writer.new.1) }
+    ensures read { OnOk result (IsReadWhole R.remaining reader.old reader.new) }
+    ensures kept { OnOk result (writer.new.1 ≡ writer.old.1) }
+    ensures refused { IfErr result (EndsRefused R.remaining W.contents is_refusal_of_merge (applying offers.items) reader.old reader.new writer.old writer.new) }
 {
     let mut store = open(alloc, reader, Origin(1))?;
     let done = apply_offers(alloc, &mut store, offers)?;

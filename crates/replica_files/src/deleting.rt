@@ -1,10 +1,9 @@
 //! Deleting rows of a replica in a file.
-ghost use Rattle.std.specs.Prelude.{◌≡◌, ◌≢◌, ◌==◌, not, IsTrue, IfErr, OnOk};
-ghost use Rattle.std.specs.Io.KnownBytes.{IsAtEnd};
-ghost use Rattle.table_model.specs.Faults.{IsWithin, GaveMore, CountsBoth};
-ghost use Rattle.table_model.specs.declared.refusal.Refusal.TheVariants.{WriteFault};
+ghost use Rattle.std.specs.Prelude.{◌≡◌, ◌==◌, not, IsTrue, IfErr, OnOk};
 ghost use Rattle.replica_store.specs.Replica.{deleted_rows};
-ghost use Rattle.replica_files.specs.Commands.{Changes, Makes, deleting, is_uncounted};
+ghost use Rattle.store_view.specs.Asked.{is_refusal_of_condition};
+ghost use Rattle.replica_files.specs.Commands.{Changes, Makes, deleting};
+ghost use Rattle.replica_files.specs.Refusals.{EndsRefused, IsReadWhole, is_refusal_of_range};
 
 use crate::file_writing::write_changed;
 use column_file::open;
@@ -31,7 +30,7 @@ pub struct DeletedRows {
 /// Deletes the rows of a store that aren't deleted and at which a condition is true.
 fn delete_where(alloc: Global, store: &mut Store, condition: &str) -> Result<Deleted, Refusal>
     ensures makes { Makes (λ done. done.rows) (λ done. not (done.rows == 0)) store.old.replica result store.new.replica (deleting condition.now store.old.replica) }
-    ensures uncounted { IfErr result (λ e. IsTrue (is_uncounted e)) }
+    ensures refused { IfErr result (λ e. IsTrue (is_refusal_of_condition e)) }
 {
     let names = names_where(alloc, store, condition)?;
     store.delete_all(alloc, names.as_slice())?;
@@ -51,11 +50,9 @@ pub fn delete<R: Read, W: Write>(
     writer: &mut Counted<W>,
 ) -> Result<Deleted, Refusal>
     ensures made { Changes (λ done. done.rows) (λ done. not (done.rows == 0)) result (R.remaining reader.old.0) (W.contents writer.old.0) (W.contents writer.new.0) (deleting condition.now) }
-    ensures unwritten { IfErr result (λ e. e ≢ WriteFault → W.contents writer.new.0 ≡ W.contents writer.old.0) }
-    ensures end { OnOk result (IsAtEnd (R.remaining reader.new.0)) }
-    ensures within { OnOk result (IsWithin (R.remaining reader.old.0)) }
-    ensures kept { OnOk result ((reader.new.1 ≡ reader.old.1) × (writer.new.1 ≡ writer.old.1)) }
-    ensures fault { IfErr result (λ e. CountsBoth (GaveMore (R.remaining reader.old.0) (R.remaining reader.new.0)) e reader.old.1 reader.new.1 writer.old.1 writer.new.1) }
+    ensures read { OnOk result (IsReadWhole R.remaining reader.old reader.new) }
+    ensures kept { OnOk result (writer.new.1 ≡ writer.old.1) }
+    ensures refused { IfErr result (EndsRefused R.remaining W.contents is_refusal_of_condition (deleting condition.now) reader.old reader.new writer.old writer.new) }
 {
     let mut store = open(alloc, reader, Origin(1))?;
     let done = delete_where(alloc, &mut store, condition)?;
@@ -71,7 +68,7 @@ fn delete_range(
     last: u16,
 ) -> Result<DeletedRows, Refusal>
     ensures makes { Makes (λ done. tt) (λ done. done.is_changed) store.old.replica result store.new.replica (deleted_rows store.old.replica first last) }
-    ensures uncounted { IfErr result (λ e. IsTrue (is_uncounted e)) }
+    ensures refused { IfErr result (λ e. IsTrue (is_refusal_of_range e)) }
 {
     let is_changed = store.delete(alloc, first, last)?;
     Ok(DeletedRows { is_changed })
@@ -91,11 +88,9 @@ pub fn delete_rows<R: Read, W: Write>(
     writer: &mut Counted<W>,
 ) -> Result<DeletedRows, Refusal>
     ensures made { Changes (λ done. tt) (λ done. done.is_changed) result (R.remaining reader.old.0) (W.contents writer.old.0) (W.contents writer.new.0) (λ r. deleted_rows r first last) }
-    ensures unwritten { IfErr result (λ e. e ≢ WriteFault → W.contents writer.new.0 ≡ W.contents writer.old.0) }
-    ensures end { OnOk result (IsAtEnd (R.remaining reader.new.0)) }
-    ensures within { OnOk result (IsWithin (R.remaining reader.old.0)) }
-    ensures kept { OnOk result ((reader.new.1 ≡ reader.old.1) × (writer.new.1 ≡ writer.old.1)) }
-    ensures fault { IfErr result (λ e. CountsBoth (GaveMore (R.remaining reader.old.0) (R.remaining reader.new.0)) e reader.old.1 reader.new.1 writer.old.1 writer.new.1) }
+    ensures read { OnOk result (IsReadWhole R.remaining reader.old reader.new) }
+    ensures kept { OnOk result (writer.new.1 ≡ writer.old.1) }
+    ensures refused { IfErr result (EndsRefused R.remaining W.contents is_refusal_of_range (λ r. deleted_rows r first last) reader.old reader.new writer.old writer.new) }
 {
     let mut store = open(alloc, reader, Origin(1))?;
     let done = delete_range(alloc, &mut store, first, last)?;

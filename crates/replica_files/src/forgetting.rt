@@ -1,10 +1,8 @@
 //! Forgetting batches of a replica in a file of which every row is deleted.
-ghost use Rattle.std.specs.Prelude.{◌≡◌, ◌≢◌, ◌==◌, not, IsTrue, IfErr, OnOk};
-ghost use Rattle.std.specs.Io.KnownBytes.{IsAtEnd};
-ghost use Rattle.table_model.specs.Faults.{IsWithin, GaveMore, CountsBoth};
-ghost use Rattle.table_model.specs.declared.refusal.Refusal.TheVariants.{WriteFault};
-ghost use Rattle.replica_files.specs.Commands.{Changes, Makes, is_uncounted};
+ghost use Rattle.std.specs.Prelude.{◌≡◌, ◌==◌, not, IsTrue, IfErr, OnOk};
+ghost use Rattle.replica_files.specs.Commands.{Changes, Makes};
 ghost use Rattle.replica_files.specs.Forgetting.{forgetting};
+ghost use Rattle.replica_files.specs.Refusals.{EndsRefused, IsReadWhole, is_refusal_of_forget};
 
 use crate::file_writing::write_changed;
 use crate::stored::stored_rows;
@@ -26,7 +24,7 @@ pub struct Forgotten {
 /// Drops the batches of a store of which every row is deleted.
 fn forget_dead(alloc: Global, store: &mut Store) -> Result<Forgotten, Refusal>
     ensures makes { Makes (λ done. (done.batches, done.rows)) (λ done. not (done.batches == 0)) store.old.replica result store.new.replica (forgetting store.old.replica) }
-    ensures uncounted { IfErr result (λ e. IsTrue (is_uncounted e)) }
+    ensures refused { IfErr result (λ e. IsTrue (is_refusal_of_forget e)) }
 {
     let batches = store.batches();
     let rows = stored_rows(store);
@@ -48,11 +46,9 @@ pub fn forget<R: Read, W: Write>(
     writer: &mut Counted<W>,
 ) -> Result<Forgotten, Refusal>
     ensures made { Changes (λ done. (done.batches, done.rows)) (λ done. not (done.batches == 0)) result (R.remaining reader.old.0) (W.contents writer.old.0) (W.contents writer.new.0) forgetting }
-    ensures unwritten { IfErr result (λ e. e ≢ WriteFault → W.contents writer.new.0 ≡ W.contents writer.old.0) }
-    ensures end { OnOk result (IsAtEnd (R.remaining reader.new.0)) }
-    ensures within { OnOk result (IsWithin (R.remaining reader.old.0)) }
-    ensures kept { OnOk result ((reader.new.1 ≡ reader.old.1) × (writer.new.1 ≡ writer.old.1)) }
-    ensures fault { IfErr result (λ e. CountsBoth (GaveMore (R.remaining reader.old.0) (R.remaining reader.new.0)) e reader.old.1 reader.new.1 writer.old.1 writer.new.1) }
+    ensures read { OnOk result (IsReadWhole R.remaining reader.old reader.new) }
+    ensures kept { OnOk result (writer.new.1 ≡ writer.old.1) }
+    ensures refused { IfErr result (EndsRefused R.remaining W.contents is_refusal_of_forget forgetting reader.old reader.new writer.old writer.new) }
 {
     let mut store = open(alloc, reader, Origin(1))?;
     let done = forget_dead(alloc, &mut store)?;

@@ -1,10 +1,8 @@
 //! Imports into a replica in a file.
-ghost use Rattle.std.specs.Prelude.{◌≡◌, ◌≢◌, ◌==◌, not, IsTrue, IfErr, OnOk};
-ghost use Rattle.std.specs.Io.KnownBytes.{IsAtEnd};
-ghost use Rattle.table_model.specs.Faults.{IsWithin, GaveMore, CountsBoth};
-ghost use Rattle.table_model.specs.declared.refusal.Refusal.TheVariants.{WriteFault};
-ghost use Rattle.replica_files.specs.Commands.{Changes, Makes, is_uncounted};
+ghost use Rattle.std.specs.Prelude.{◌≡◌, ◌==◌, not, IsTrue, IfErr, OnOk};
+ghost use Rattle.replica_files.specs.Commands.{Changes, Makes};
 ghost use Rattle.replica_files.specs.Loads.{importing, name_of_some};
+ghost use Rattle.replica_files.specs.Refusals.{EndsRefused, IsReadWhole, is_refusal_of_import};
 
 use crate::file_writing::write_changed;
 use crate::load::Load;
@@ -45,7 +43,7 @@ pub fn import_load(
     words: &[u64],
 ) -> Result<Imported, Refusal>
     ensures makes { Makes (λ done. done) (λ done. not (done.new == 0)) store.old.replica result store.new.replica (importing load given words.now store.old.replica) }
-    ensures uncounted { IfErr result (λ e. IsTrue (is_uncounted e)) }
+    ensures refused { IfErr result (λ e. IsTrue (is_refusal_of_import e)) }
 {
     let batches = load.batches();
     let rows = load.rows();
@@ -78,11 +76,9 @@ pub fn import<R: Read, W: Write>(
     writer: &mut Counted<W>,
 ) -> Result<Imported, Refusal>
     ensures made { Changes (λ done. done) (λ done. not (done.new == 0)) result (R.remaining reader.old.0) (W.contents writer.old.0) (W.contents writer.new.0) (importing load given words.now) }
-    ensures unwritten { IfErr result (λ e. e ≢ WriteFault → W.contents writer.new.0 ≡ W.contents writer.old.0) }
-    ensures end { OnOk result (IsAtEnd (R.remaining reader.new.0)) }
-    ensures within { OnOk result (IsWithin (R.remaining reader.old.0)) }
-    ensures kept { OnOk result ((reader.new.1 ≡ reader.old.1) × (writer.new.1 ≡ writer.old.1)) }
-    ensures fault { IfErr result (λ e. CountsBoth (GaveMore (R.remaining reader.old.0) (R.remaining reader.new.0)) e reader.old.1 reader.new.1 writer.old.1 writer.new.1) }
+    ensures read { OnOk result (IsReadWhole R.remaining reader.old reader.new) }
+    ensures kept { OnOk result (writer.new.1 ≡ writer.old.1) }
+    ensures refused { IfErr result (EndsRefused R.remaining W.contents is_refusal_of_import (importing load given words.now) reader.old reader.new writer.old writer.new) }
 {
     let mut store = open(alloc, reader, Origin(1))?;
     let done = import_load(alloc, &mut store, load, given, words)?;

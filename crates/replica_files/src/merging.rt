@@ -1,8 +1,7 @@
 //! Merging files into one.
-ghost use Rattle.std.specs.Prelude.{◌≡◌, ◌≢◌, map, List, ℕ, Some, IfErr, OnOk};
-ghost use Rattle.table_model.specs.Faults.{CountsWrites};
-ghost use Rattle.table_model.specs.declared.refusal.Refusal.TheVariants.{WriteFault};
+ghost use Rattle.std.specs.Prelude.{◌≡◌, ◌∷◌, map, List, ℕ, Some, IsTrue, IfErr, OnOk};
 ghost use Rattle.replica_files.specs.Commands.{Merging, MergesAll, Merges};
+ghost use Rattle.replica_files.specs.Refusals.{IsReadWhole, AreReadWhole, StopsAt, ReadInTurn, EndsUnmerged, reading_or, is_refusal_of_merge};
 
 use crate::file_writing::write_changed;
 use column_file::open;
@@ -18,7 +17,9 @@ fn merge_one<R: Read>(
     reader: &mut Counted<R>,
 ) -> Result<(), Refusal>
     ensures merged { Merging result (R.remaining reader.old.0) store.old.replica store.new.replica }
-    ensures unwritten { IfErr result (λ e. e ≢ WriteFault) }
+    ensures read { OnOk result (IsReadWhole R.remaining reader.old reader.new) }
+    ensures listed { IfErr result (λ e. IsTrue (reading_or is_refusal_of_merge e)) }
+    ensures stops { IfErr result (λ e. StopsAt R.remaining e reader.old reader.new) }
 {
     let other = open(alloc, reader, Origin(1))?;
     store.merge(alloc, &other)?;
@@ -32,7 +33,9 @@ fn merge_others<R: Read>(
     readers: &mut [Counted<R>],
 ) -> Result<(), Refusal>
     ensures merged { (inputs : List (List ℕ)) → map (λ reader. R.remaining reader.0) readers.old ≡ map Some inputs → MergesAll result store.old.replica store.new.replica inputs }
-    ensures unwritten { IfErr result (λ e. e ≢ WriteFault) }
+    ensures read { OnOk result (AreReadWhole R.remaining readers.old readers.new) }
+    ensures listed { IfErr result (λ e. IsTrue (reading_or is_refusal_of_merge e)) }
+    ensures in_turn { IfErr result (λ e. ReadInTurn R.remaining e readers.old readers.new) }
 {
     for index in 0..readers.len() {
         merge_one(alloc, store, &mut readers[index])?;
@@ -54,9 +57,9 @@ pub fn merge<R: Read, W: Write>(
 ) -> Result<(), Refusal>
     ensures made { (input : List ℕ) (inputs : List (List ℕ)) → R.remaining first.old.0 ≡ Some input → map (λ reader. R.remaining reader.0) others.old ≡ map Some inputs →
         Merges result (W.contents writer.old.0) (W.contents writer.new.0) input inputs }
-    ensures unwritten { IfErr result (λ e. e ≢ WriteFault → W.contents writer.new.0 ≡ W.contents writer.old.0) }
+    ensures read { OnOk result (AreReadWhole R.remaining (first.old ∷ others.old) (first.new ∷ others.new)) }
     ensures kept { OnOk result (writer.new.1 ≡ writer.old.1) }
-    ensures fault { IfErr result (λ e. CountsWrites e writer.old.1 writer.new.1) }
+    ensures refused { IfErr result (EndsUnmerged R.remaining W.contents (first.old ∷ others.old) (first.new ∷ others.new) writer.old writer.new) }
 {
     let mut store = open(alloc, first, Origin(1))?;
     merge_others(alloc, &mut store, others)?;

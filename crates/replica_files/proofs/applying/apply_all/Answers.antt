@@ -5,13 +5,13 @@ use Rattle.std.proofs.Common.{sym, ap, subst, ◌∙◌}
 use Rattle.std.proofs.lemmas.List.{reverse-append}
 use Rattle.std.proofs.lemmas.Result.{err_from_is_err_and}
 use Rattle.replica_store.specs.Exchange.{OfferForm, offering}
-use Rattle.replica_files.proofs.StoreCommands.{AppliedSoFar, applied_next, merge_uncounted}
+use Rattle.replica_files.proofs.StoreCommands.{AppliedSoFar, applied_next, merge_listed}
 use Rattle.replica_files.proofs.applying.apply_all.Goals as goal
 
-pub returns-in_err-absorb-clause-uncounted : goal.returns-in_err-absorb-clause-uncounted
-returns-in_err-absorb-clause-uncounted c =
+pub returns-in_err-absorb-clause-refused : goal.returns-in_err-absorb-clause-refused
+returns-in_err-absorb-clause-refused c =
     let p = err_from_is_err_and c.from_residual.result c.from_residual.ensures.1 in
-    rw (p.1, p.2) (merge_uncounted c.loop-offer.store.replica (offering c.loop-offer.store.replica.own c.in-Some.offer) c.in_err-absorb.field-0.0 c.in_err-absorb.ensures.acts.1)
+    rw (p.1, p.2) (merge_listed c.loop-offer.store.replica (offering c.loop-offer.store.replica.own c.in-Some.offer) c.in_err-absorb.field-0.0 c.in_err-absorb.ensures.acts.1)
 
 pub loop-offer-preserved-then-branch : goal.loop-offer-preserved-then-branch
 loop-offer-preserved-then-branch c =

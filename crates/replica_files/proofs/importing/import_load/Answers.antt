@@ -4,24 +4,24 @@ use Rattle.std.proofs.lemmas.Result.{err_from_is_err_and}
 use Rattle.replica_store.specs.Exchange.{offering}
 use Rattle.replica_files.specs.Loads.{imported_as, chosen_name, name_of_some, new_since}
 use Rattle.replica_files.specs.declared.importing.Imported.{Imported}
-use Rattle.replica_files.proofs.StoreCommands.{merge_uncounted}
-use Rattle.replica_files.proofs.Imports.{name_uncounted, chosen_first, offer_is, import_refused, import_done}
+use Rattle.replica_files.proofs.StoreCommands.{merge_listed}
+use Rattle.replica_files.proofs.Imports.{name_listed, merge_is_listed, chosen_first, offer_is, import_refused, import_done}
 use Rattle.replica_files.proofs.importing.import_load.Goals as goal
 
-pub returns-in_err-name-clause-uncounted : goal.returns-in_err-name-clause-uncounted
-returns-in_err-name-clause-uncounted c =
+pub returns-in_err-name-clause-refused : goal.returns-in_err-name-clause-refused
+returns-in_err-name-clause-refused c =
     let p = err_from_is_err_and c.from_residual.result c.from_residual.ensures.1 in
-    rw (p.1, p.2) (name_uncounted c.args.store.now.replica.state c.args.given c.args.words.now _ c.in_err-name.field-0.0 (sym c.in_err-name.ensures))
+    rw (p.1, p.2) (name_listed c.args.store.now.replica.state c.args.given c.args.words.now _ c.in_err-name.field-0.0 (sym c.in_err-name.ensures))
 
 pub into_entries-requires : goal.into_entries-requires
 into_entries-requires c =
     chosen_first c.args.store.now.replica.state c.args.given c.args.words.now (length c.args.load.batches) c.in_ok-name.name
     (ap (λ (n : ℕ). chosen_name c.args.store.now.replica.state c.args.given c.args.words.now n) (sym c.batches-batches.ensures.value) ∙ sym c.in_ok-name.ensures)
 
-pub returns-in_err-absorb-clause-uncounted : goal.returns-in_err-absorb-clause-uncounted
-returns-in_err-absorb-clause-uncounted c =
+pub returns-in_err-absorb-clause-refused : goal.returns-in_err-absorb-clause-refused
+returns-in_err-absorb-clause-refused c =
     let p = err_from_is_err_and c.from_residual-in_err-absorb.result c.from_residual-in_err-absorb.ensures.1 in
-    rw (p.1, p.2) (merge_uncounted c.args.store.now.replica (offering c.args.store.now.replica.own c.from_parts-offer.result) c.in_err-absorb.field-0.0 c.in_err-absorb.ensures.acts.1)
+    rw (p.1, p.2) (merge_is_listed c.in_err-absorb.field-0.0 (merge_listed c.args.store.now.replica (offering c.args.store.now.replica.own c.from_parts-offer.result) c.in_err-absorb.field-0.0 c.in_err-absorb.ensures.acts.1))
 
 pub returns-in_err-absorb-clause-makes : goal.returns-in_err-absorb-clause-makes
 returns-in_err-absorb-clause-makes c =

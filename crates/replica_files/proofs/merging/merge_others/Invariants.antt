@@ -1,6 +1,10 @@
--- The files before this one are merged, and the readers from here on are as they were.
+-- The files before this one are read and merged, and the readers from here on are as they were.
 use Rattle.replica_files.proofs.FileMerges.{MergedSoFar}
+use Rattle.replica_files.proofs.ReadersInTurn.{ReadUpTo}
 use Rattle.replica_files.proofs.merging.merge_others.Given as goal
 
 abbrev pub invariant-loop-index : goal.invariant-loop-index
-invariant-loop-index g l = MergedSoFar g.R.Read.remaining l.initial.store.replica l.store.replica l.initial.readers l.readers l.index
+invariant-loop-index g l = record {
+  merged : MergedSoFar g.R.Read.remaining l.initial.store.replica l.store.replica l.initial.readers l.readers l.index;
+  read : ReadUpTo g.R.Read.remaining l.index l.initial.readers l.readers;
+}
