@@ -21,6 +21,7 @@ use Rattle.table_model.proofs.SameTable.{itself_text}
 use Rattle.csv_rows.specs.Line.{line_limit, pieces, onto_first, without, before_last, text_or, lines_between, lines_of, unmarked}
 use Rattle.table_model.specs.Numeral.{is_numeral, magnitude_of, value_digits}
 use Rattle.csv_rows.specs.Field.{fields_of, unquoted, is_null_word, integer_of, signed_of, value_of, cell_of, fitting, cell_in}
+use Rattle.csv_rows.specs.DialectForm.{usual}
 use Rattle.csv_rows.specs.CsvText.{◌>>=◌, in_line, place_named, new_place, order_from, has_each, header_order, cell_at, or_at, filled, null_row, row_of, is_passed, line_rows, before_rows, rows_from, header_rows}
 use Rattle.csv_rows.specs.Written.{cell_text, column_name, row_line, csv_text, WrittenRowsAreRead}
 use Rattle.csv_rows.specs.declared.error.CsvError.{CsvError}
@@ -67,7 +68,7 @@ pieces_only c [] h = refl
 pieces_only c (x ∷ xs) h = ap (λ (t : Bool). cond t ([] ∷ pieces c xs) (onto_first x (pieces c xs))) (other c x h.0) ∙ ap (onto_first x) (pieces_only c xs h.1)
 
 -- the fields of texts that are joined
-fields_joined : (t : List ℕ) (ts : List (List ℕ)) → EachFrom 45 (t ∷ ts) → fields_of (joined (t ∷ ts)) ≡ t ∷ ts
+fields_joined : (t : List ℕ) (ts : List (List ℕ)) → EachFrom 45 (t ∷ ts) → fields_of 44 (joined (t ∷ ts)) ≡ t ∷ ts
 fields_joined t [] h = pieces_only 44 t h.0
 fields_joined t (u ∷ us) h = pieces_end 44 t (joined (u ∷ us)) h.0 ∙ ap (λ (ps : List (List ℕ)). t ∷ ps) (fields_joined u us h.1)
 
@@ -136,7 +137,7 @@ small_neg Integer n h = omega (arith, ints)
 small_neg BigInt n h = omega (arith, ints)
 
 -- a text whose first byte is a digit is no null's word, and has no quotes and no sign
-no_word : (c : ℕ) (cs : List ℕ) → 48 ≤ c → c ≤ 57 → is_null_word (c ∷ cs) ≡ false
+no_word : (c : ℕ) (cs : List ℕ) → 48 ≤ c → c ≤ 57 → is_null_word usual (c ∷ cs) ≡ false
 unfolding is_null_word
 no_word c cs low high =
     let n : (c == 78) ≡ false = grind (arith, nat_tests) in
@@ -145,22 +146,22 @@ no_word c cs low high =
 not_quoted : (c : ℕ) (cs : List ℕ) → 35 ≤ c → unquoted (c ∷ cs) ≡ c ∷ cs
 not_quoted c cs h = ap (λ (t : Bool). text_or (option_and_then (before_last 34) (cond t (Some cs) None)) (c ∷ cs)) (other 34 c h)
 
-no_word_minus : (ds : List ℕ) → is_null_word (45 ∷ ds) ≡ false
+no_word_minus : (ds : List ℕ) → is_null_word usual (45 ∷ ds) ≡ false
 unfolding is_null_word
 no_word_minus ds = refl
 
-cell_digits : (n : ℕ) (ds : List ℕ) → list_all is_ascii_digit ds ≡ true → 0 < length ds → magnitude_of ds ≡ Some n → cell_of ds ≡ Some (Some (pos n))
+cell_digits : (n : ℕ) (ds : List ℕ) → list_all is_ascii_digit ds ≡ true → 0 < length ds → magnitude_of ds ≡ Some n → cell_of usual ds ≡ Some (Some (pos n))
 cell_digits n [] all some is = absurd (omega arith)
 cell_digits n (c ∷ cs) all some is =
     let first = digit_is c (and_parts (is_ascii_digit c) (list_all is_ascii_digit cs) all).0 in
-    ap value_of (not_quoted c cs (omega (arith, first.0)))
+    ap (value_of usual) (not_quoted c cs (omega (arith, first.0)))
     ∙ ap (λ (t : Bool). cond t (Some None) (option_map Some (integer_of (c ∷ cs)))) (no_word c cs first.0 first.1)
     ∙ ap (λ (t : Bool). option_map Some (signed_of (c ∷ cs) (cond t (Some cs) None))) (other 45 c (omega (arith, first.0)))
     ∙ ap (λ (o : Option ℕ). option_map Some (option_map pos o)) is
 
-cell_minus : (n : ℕ) (ds : List ℕ) → magnitude_of ds ≡ Some (suc n) → cell_of (45 ∷ ds) ≡ Some (Some (negsuc n))
+cell_minus : (n : ℕ) (ds : List ℕ) → magnitude_of ds ≡ Some (suc n) → cell_of usual (45 ∷ ds) ≡ Some (Some (negsuc n))
 cell_minus n ds is =
-    ap value_of (not_quoted 45 ds (omega arith))
+    ap (value_of usual) (not_quoted 45 ds (omega arith))
     ∙ ap (λ (t : Bool). cond t (Some None) (option_map Some (integer_of (45 ∷ ds)))) (no_word_minus ds)
     ∙ ap (λ (o : Option ℕ). option_map Some (option_map (λ k. neg_ℤ (pos k)) o)) is
 
@@ -168,13 +169,13 @@ cell_minus n ds is =
 record Spelled (column : ColumnShape) (v : Option ℤ) : Type 0 where
   bytes : AllFrom 45 (cell_text v)
   short : length (cell_text v) ≤ 64
-  reads : cell_in column (cell_text v) ≡ Some v
+  reads : cell_in usual column (cell_text v) ≡ Some v
 
 fits_true : (c : ColumnShape) (v : Option ℤ) → Fits c v → fits c v ≡ true
 fits_true c None h = refl
 fits_true c (Some z) h = true_from_T _ (both_of _ _ h.0.le h.1.le)
 
-fitting_is : (column : ColumnShape) (v : Option ℤ) → Fits column v → cell_of (cell_text v) ≡ Some v → cell_in column (cell_text v) ≡ Some v
+fitting_is : (column : ColumnShape) (v : Option ℤ) → Fits column v → cell_of usual (cell_text v) ≡ Some v → cell_in usual column (cell_text v) ≡ Some v
 fitting_is column v h is = ap (option_and_then (fitting column)) is ∙ ap (λ (t : Bool). cond t (Some v) None) (fits_true column v h)
 
 spelled : (column : ColumnShape) (v : Option ℤ) → Fits column v → Spelled column v
@@ -229,18 +230,18 @@ at_front (f ∷ fs) c cs = at_front fs c cs
 
 -- the cells are put one behind another
 fills : (front columns : List ColumnShape) (done row : Cells) (at : ℕ) → length done ≡ length front → IsRow columns row
-    → filled (front ++ columns) at (range_with_len (length front) (length columns)) (map cell_text row) (done ++ replicate (length columns) None) ≡ Ok (done ++ row)
+    → filled usual (front ++ columns) at (range_with_len (length front) (length columns)) (map cell_text row) (done ++ replicate (length columns) None) ≡ Ok (done ++ row)
 fills front [] done [] at same h = refl
 fills front [] done (v ∷ vs) at same h = absurd h
 fills front (c ∷ cs) done [] at same h = absurd h
 fills front (c ∷ cs) done (v ∷ vs) at same h =
-    let here : cell_at (front ++ (c ∷ cs)) (length front) (cell_text v) ≡ Some v = ap (λ (o : Option ColumnShape). option_and_then (λ column. cell_in column (cell_text v)) o) (at_front front c cs) ∙ (spelled c v h.0).reads in
+    let here : cell_at usual (front ++ (c ∷ cs)) (length front) (cell_text v) ≡ Some v = ap (λ (o : Option ColumnShape). option_and_then (λ column. cell_in usual column (cell_text v)) o) (at_front front c cs) ∙ (spelled c v h.0).reads in
     let put : set (done ++ (None ∷ replicate (length cs) None)) (length front) v ≡ (done ++ (v ∷ [])) ++ replicate (length cs) None = set_at done None (replicate (length cs) None) v (length front) same ∙ sym (append_assoc done (v ∷ []) (replicate (length cs) None)) in
     let longer : length (front ++ (c ∷ [])) ≡ length front + 1 = length_push front c in
     let step = fills (front ++ (c ∷ [])) cs (done ++ (v ∷ [])) vs (suc at) (length_push done v ∙ ap (λ (n : ℕ). n + 1) same ∙ sym longer) h.1 in
-    ap (λ (o : Option (Option ℤ)). or_at at o >>= (λ cell. filled (front ++ (c ∷ cs)) (suc at) (range_with_len (length front + 1) (length cs)) (map cell_text vs) (set (done ++ (None ∷ replicate (length cs) None)) (length front) cell))) here
-    ∙ ap (λ (row : Cells). filled (front ++ (c ∷ cs)) (suc at) (range_with_len (length front + 1) (length cs)) (map cell_text vs) row) put
-    ∙ (λ i. filled (sym (append_assoc front (c ∷ []) cs) i) (suc at) (range_with_len (sym longer i) (length cs)) (map cell_text vs) ((done ++ (v ∷ [])) ++ replicate (length cs) None))
+    ap (λ (o : Option (Option ℤ)). or_at at o >>= (λ cell. filled usual (front ++ (c ∷ cs)) (suc at) (range_with_len (length front + 1) (length cs)) (map cell_text vs) (set (done ++ (None ∷ replicate (length cs) None)) (length front) cell))) here
+    ∙ ap (λ (row : Cells). filled usual (front ++ (c ∷ cs)) (suc at) (range_with_len (length front + 1) (length cs)) (map cell_text vs) row) put
+    ∙ (λ i. filled usual (sym (append_assoc front (c ∷ []) cs) i) (suc at) (range_with_len (sym longer i) (length cs)) (map cell_text vs) ((done ++ (v ∷ [])) ++ replicate (length cs) None))
     ∙ step
     ∙ ap Ok (append_assoc done (v ∷ []) vs)
 
@@ -262,14 +263,14 @@ length-cells : (row : Cells) → length (map cell_text row) ≡ length row
 length-cells [] = refl
 length-cells (v ∷ vs) = ap suc (length-cells vs)
 
-fields_row : (columns : List ColumnShape) (row : Cells) → 1 ≤ length columns → IsRow columns row → fields_of (joined (map cell_text row)) ≡ map cell_text row
+fields_row : (columns : List ColumnShape) (row : Cells) → 1 ≤ length columns → IsRow columns row → fields_of 44 (joined (map cell_text row)) ≡ map cell_text row
 fields_row [] row some h = absurd (omega arith)
 fields_row (c ∷ cs) [] some h = absurd h
 fields_row (c ∷ cs) (v ∷ vs) some h = fields_joined (cell_text v) (map cell_text vs) (cells_from (c ∷ cs) (v ∷ vs) h)
 
 -- the line of a row makes the row
 row_line_rows : (columns : List ColumnShape) (row : Cells) (n : ℕ) → 1 ≤ length columns → length columns ≤ column_limit → IsRow columns row
-    → line_rows columns (range_with_len 0 (length columns)) n (joined (map cell_text row)) ≡ Ok (row ∷ [])
+    → line_rows usual columns (range_with_len 0 (length columns)) n (joined (map cell_text row)) ≡ Ok (row ∷ [])
 unfolding line_rows
 row_line_rows columns row n some few h =
     let line : List ℕ = joined (map cell_text row) in
@@ -277,24 +278,24 @@ row_line_rows columns row n some few h =
     let fields = fields_row columns row some h in
     let lengths : length (map cell_text row) ≡ length columns = length-cells row ∙ row_len columns row h in
     let short : nat_lt line_limit (length line) ≡ false = let most = joined_short (map cell_text row) (cells_short columns row h) in grind (arith, nat_tests) in
-    let each : has_each columns line ≡ true = ap (λ (k : ℕ). k == length columns) (ap (λ (fs : List (List ℕ)). length fs) fields ∙ lengths) ∙ itself (length columns) in
-    let read : row_of columns order line ≡ Ok row =
-    ap (λ (t : Bool). cond t (filled columns 1 order (fields_of line) (null_row columns)) (Err 0)) each
-    ∙ ap (λ (fs : List (List ℕ)). filled columns 1 order fs (null_row columns)) fields
+    let each : has_each usual columns line ≡ true = ap (λ (k : ℕ). k == length columns) (ap (λ (fs : List (List ℕ)). length fs) fields ∙ lengths) ∙ itself (length columns) in
+    let read : row_of usual columns order line ≡ Ok row =
+    ap (λ (t : Bool). cond t (filled usual columns 1 order (fields_of 44 line) (null_row columns)) (Err 0)) each
+    ∙ ap (λ (fs : List (List ℕ)). filled usual columns 1 order fs (null_row columns)) fields
     ∙ fills [] columns [] row 1 refl h
     in
-    ap (λ (t : Bool). cond t (Err (LineTooLong n)) (cond (is_passed columns line) (Ok []) (in_line n (row_of columns order line) >>= (λ r. Ok (r ∷ []))))) short
-    ∙ ap (λ (t : Bool). cond t (Ok []) (in_line n (row_of columns order line) >>= (λ r. Ok (r ∷ [])))) (not_passed columns row some h)
+    ap (λ (t : Bool). cond t (Err (LineTooLong n)) (cond (is_passed columns line) (Ok []) (in_line n (row_of usual columns order line) >>= (λ r. Ok (r ∷ []))))) short
+    ∙ ap (λ (t : Bool). cond t (Ok []) (in_line n (row_of usual columns order line) >>= (λ r. Ok (r ∷ [])))) (not_passed columns row some h)
     ∙ ap (λ (r : Result Cells ℕ). in_line n r >>= (λ row. Ok (row ∷ []))) read
 
 rows_lines : (columns : List ColumnShape) (rows : Batch) (n : ℕ) → 1 ≤ length columns → length columns ≤ column_limit → AreRows columns rows
-    → rows_from columns (range_with_len 0 (length columns)) n (lines_of (flat_map row_line rows)) ≡ Ok rows
+    → rows_from usual columns (range_with_len 0 (length columns)) n (lines_of (flat_map row_line rows)) ≡ Ok rows
 rows_lines columns [] n some few h = refl
 rows_lines columns (row ∷ rows) n some few h =
     let order : List ℕ = range_with_len 0 (length columns) in
     let line : List ℕ = joined (map cell_text row) in
-    ap (rows_from columns order n) (line_first line (flat_map row_line rows) (joined_from (map cell_text row) (cells_from columns row h.0)))
-    ∙ first_rows columns order n line (lines_of (flat_map row_line rows)) (row ∷ []) (row_line_rows columns row n some few h.0)
+    ap (rows_from usual columns order n) (line_first line (flat_map row_line rows) (joined_from (map cell_text row) (cells_from columns row h.0)))
+    ∙ first_rows usual columns order n line (lines_of (flat_map row_line rows)) (row ∷ []) (row_line_rows columns row n some few h.0)
     ∙ ap (before_rows (row ∷ [])) (rows_lines columns rows (suc n) some few h.1)
 
 -- ---- the header
@@ -425,18 +426,18 @@ joined_some t [] h = h
 joined_some t (u ∷ us) h = omega (arith, h, length-append t (44 ∷ joined (u ∷ us)))
 
 header_is : (columns : List ColumnShape) → 1 ≤ length columns → length columns ≤ column_limit → AreNamed columns → are_distinct (names columns) ≡ true
-    → header_order columns (joined (map column_name columns)) ≡ Ok (range_with_len 0 (length columns))
+    → header_order usual columns (joined (map column_name columns)) ≡ Ok (range_with_len 0 (length columns))
 unfolding header_order
 header_is [] some few named distinct = absurd (omega arith)
 header_is (c ∷ cs) some few named distinct =
     let columns : List ColumnShape = c ∷ cs in
     let line : List ℕ = joined (map column_name columns) in
     let whole : 0 + length columns ≡ length columns = omega arith in
-    let fields : fields_of line ≡ map column_name columns = fields_joined c.name (map column_name cs) (names_from columns named) in
+    let fields : fields_of 44 line ≡ map column_name columns = fields_joined c.name (map column_name cs) (names_from columns named) in
     let short : nat_lt line_limit (length line) ≡ false = let most = joined_short (map column_name columns) (names_short columns named) in let lengths = length-names columns in grind (arith, nat_tests) in
     let full : (length line == 0) ≡ false = other_number (length line) (joined_some c.name (map column_name cs) (name_facts c.name named.0).some) in
-    let each : has_each columns line ≡ true = ap (λ (k : ℕ). k == length columns) (ap (λ (fs : List (List ℕ)). length fs) fields ∙ length-names columns) ∙ itself (length columns) in
-    ap (λ (t : Bool). cond t (Err (LineTooLong 1)) (cond (not (length line == 0) && has_each columns line) (in_line 1 (order_from columns 1 [] (fields_of line))) (Err (BadCsv 1 0)))) short
+    let each : has_each usual columns line ≡ true = ap (λ (k : ℕ). k == length columns) (ap (λ (fs : List (List ℕ)). length fs) fields ∙ length-names columns) ∙ itself (length columns) in
+    ap (λ (t : Bool). cond t (Err (LineTooLong 1)) (cond (not (length line == 0) && has_each usual columns line) (in_line 1 (order_from columns 1 [] (fields_of 44 line))) (Err (BadCsv 1 0)))) short
     ∙ (λ i. cond (not (full i) && each i) (in_line 1 (order_from columns 1 [] (fields i))) (Err (BadCsv 1 0)))
     ∙ ap (in_line 1) (orders [] columns 1 named tt distinct)
     ∙ ap (λ (n : ℕ). Ok (range_with_len 0 n)) whole
@@ -470,7 +471,7 @@ rows_read_again table proper rows h =
     let columns : List ColumnShape = table.columns in
     let facts = table_facts table proper in
     let line : List ℕ = joined (map column_name columns) in
-    ap (λ (text : List ℕ). header_rows columns (lines_of text)) (plain_text columns rows proper.some facts.0)
-    ∙ ap (header_rows columns) (line_first line (flat_map row_line rows) (joined_from (map column_name columns) (names_from columns facts.0)))
-    ∙ ap (λ (r : Result (List ℕ) CsvError). r >>= (λ order. rows_from columns order 2 (lines_of (flat_map row_line rows)))) (header_is columns proper.some proper.limit facts.0 facts.1)
+    ap (λ (text : List ℕ). header_rows usual columns (lines_of text)) (plain_text columns rows proper.some facts.0)
+    ∙ ap (header_rows usual columns) (line_first line (flat_map row_line rows) (joined_from (map column_name columns) (names_from columns facts.0)))
+    ∙ ap (λ (r : Result (List ℕ) CsvError). r >>= (λ order. rows_from usual columns order 2 (lines_of (flat_map row_line rows)))) (header_is columns proper.some proper.limit facts.0 facts.1)
     ∙ rows_lines columns rows 2 proper.some proper.limit h

@@ -12,6 +12,7 @@ use Rattle.table_model.specs.declared.refusal.Refusal.TheVariants.{Memory}
 use Rattle.csv_rows.specs.Line.{line_limit}
 use Rattle.csv_rows.specs.LineReading.{FirstTooLong}
 use Rattle.csv_rows.specs.Field.{fields_of, cell_of, cell_in, fitting}
+use Rattle.csv_rows.specs.DialectForm.{DialectForm}
 use Rattle.csv_rows.specs.CsvText.{◌>>=◌, in_line, place_named, new_place, is_passed, row_of, has_each, cell_at, or_at, filled, null_row, line_rows, before_rows, rows_from, order_from, header_order, header_rows}
 use Rattle.csv_rows.specs.Outcome.{ReadsCsv}
 use Rattle.csv_rows.specs.Reading.{Counts}
@@ -27,33 +28,33 @@ before_nothing (Ok more) = refl
 before_nothing (Err e) = refl
 
 -- the rows of the first line
-pub first_rows : (columns : List ColumnShape) (order : List ℕ) (n : ℕ) (line : List ℕ) (lines : List (List ℕ)) (made : Batch) → line_rows columns order n line ≡ Ok made
-    → rows_from columns order n (line ∷ lines) ≡ before_rows made (rows_from columns order (suc n) lines)
-first_rows columns order n line lines made e = ap (λ (r : Result Batch CsvError). r >>= (λ rows. before_rows rows (rows_from columns order (suc n) lines))) e
+pub first_rows : (dialect : DialectForm) (columns : List ColumnShape) (order : List ℕ) (n : ℕ) (line : List ℕ) (lines : List (List ℕ)) (made : Batch) → line_rows dialect columns order n line ≡ Ok made
+    → rows_from dialect columns order n (line ∷ lines) ≡ before_rows made (rows_from dialect columns order (suc n) lines)
+first_rows dialect columns order n line lines made e = ap (λ (r : Result Batch CsvError). r >>= (λ rows. before_rows rows (rows_from dialect columns order (suc n) lines))) e
 
 -- the fault of the first line
-pub first_fault : (columns : List ColumnShape) (order : List ℕ) (n : ℕ) (line : List ℕ) (lines : List (List ℕ)) (fault : CsvError) → line_rows columns order n line ≡ Err fault → rows_from columns order n (line ∷ lines) ≡ Err fault
-first_fault columns order n line lines fault e = ap (λ (r : Result Batch CsvError). r >>= (λ rows. before_rows rows (rows_from columns order (suc n) lines))) e
+pub first_fault : (dialect : DialectForm) (columns : List ColumnShape) (order : List ℕ) (n : ℕ) (line : List ℕ) (lines : List (List ℕ)) (fault : CsvError) → line_rows dialect columns order n line ≡ Err fault → rows_from dialect columns order n (line ∷ lines) ≡ Err fault
+first_fault dialect columns order n line lines fault e = ap (λ (r : Result Batch CsvError). r >>= (λ rows. before_rows rows (rows_from dialect columns order (suc n) lines))) e
 
-long_line : (columns : List ColumnShape) (order : List ℕ) (n : ℕ) (line : List ℕ) → line_limit < length line → line_rows columns order n line ≡ Err (LineTooLong n)
+long_line : (dialect : DialectForm) (columns : List ColumnShape) (order : List ℕ) (n : ℕ) (line : List ℕ) → line_limit < length line → line_rows dialect columns order n line ≡ Err (LineTooLong n)
 unfolding line_rows
-long_line columns order n line past =
+long_line dialect columns order n line past =
     let test : nat_lt line_limit (length line) ≡ true = grind (arith, nat_tests) in
-    ap (λ (t : Bool). cond t (Err (LineTooLong n)) (cond (is_passed columns line) (Ok []) (in_line n (row_of columns order line) >>= (λ row. Ok (row ∷ []))))) test
+    ap (λ (t : Bool). cond t (Err (LineTooLong n)) (cond (is_passed columns line) (Ok []) (in_line n (row_of dialect columns order line) >>= (λ row. Ok (row ∷ []))))) test
 
-pub too_long : (columns : List ColumnShape) (order : List ℕ) (n : ℕ) (lines : List (List ℕ)) → FirstTooLong lines → rows_from columns order n lines ≡ Err (LineTooLong n)
-too_long columns order n [] h = absurd h
-too_long columns order n (line ∷ lines) h = first_fault columns order n line lines (LineTooLong n) (long_line columns order n line h)
+pub too_long : (dialect : DialectForm) (columns : List ColumnShape) (order : List ℕ) (n : ℕ) (lines : List (List ℕ)) → FirstTooLong lines → rows_from dialect columns order n lines ≡ Err (LineTooLong n)
+too_long dialect columns order n [] h = absurd h
+too_long dialect columns order n (line ∷ lines) h = first_fault dialect columns order n line lines (LineTooLong n) (long_line dialect columns order n line h)
 
-long_header : (columns : List ColumnShape) (line : List ℕ) → line_limit < length line → header_order columns line ≡ Err (LineTooLong 1)
+long_header : (dialect : DialectForm) (columns : List ColumnShape) (line : List ℕ) → line_limit < length line → header_order dialect columns line ≡ Err (LineTooLong 1)
 unfolding header_order
-long_header columns line past =
+long_header dialect columns line past =
     let test : nat_lt line_limit (length line) ≡ true = grind (arith, nat_tests) in
-    ap (λ (t : Bool). cond t (Err (LineTooLong 1)) (cond (not (length line == 0) && has_each columns line) (in_line 1 (order_from columns 1 [] (fields_of line))) (Err (BadCsv 1 0)))) test
+    ap (λ (t : Bool). cond t (Err (LineTooLong 1)) (cond (not (length line == 0) && has_each dialect columns line) (in_line 1 (order_from columns 1 [] (fields_of dialect.separator line))) (Err (BadCsv 1 0)))) test
 
-pub header_too_long : (columns : List ColumnShape) (lines : List (List ℕ)) → FirstTooLong lines → header_rows columns lines ≡ Err (LineTooLong 1)
-header_too_long columns [] h = absurd h
-header_too_long columns (line ∷ lines) h = ap (λ (r : Result (List ℕ) CsvError). r >>= (λ order. rows_from columns order 2 lines)) (long_header columns line h)
+pub header_too_long : (dialect : DialectForm) (columns : List ColumnShape) (lines : List (List ℕ)) → FirstTooLong lines → header_rows dialect columns lines ≡ Err (LineTooLong 1)
+header_too_long dialect columns [] h = absurd h
+header_too_long dialect columns (line ∷ lines) h = ap (λ (r : Result (List ℕ) CsvError). r >>= (λ order. rows_from dialect columns order 2 lines)) (long_header dialect columns line h)
 
 -- each cell that is put into a row is of its column's type
 fits_is : (c : ColumnShape) (v : Option ℤ) → fits c v ≡ true → Fits c v
@@ -73,8 +74,8 @@ set_fits (c ∷ cs) (x ∷ xs) zero column v at fit h = let same : c ≡ column 
 set_fits (c ∷ cs) (x ∷ xs) (suc place) column v at fit h = (h.0, set_fits cs xs place column v at fit h.1)
 
 -- what a field is below a column is of its type
-cell_fits : (columns : List ColumnShape) (place : ℕ) (field : List ℕ) (v : Option ℤ) → cell_at columns place field ≡ Some v → (column : ColumnShape) × (slice_get columns place ≡ Some column) × Fits column v
-cell_fits columns place field v e = at (slice_get columns place) refl e where
+cell_fits : (dialect : DialectForm) (columns : List ColumnShape) (place : ℕ) (field : List ℕ) (v : Option ℤ) → cell_at dialect columns place field ≡ Some v → (column : ColumnShape) × (slice_get columns place ≡ Some column) × Fits column v
+cell_fits dialect columns place field v e = at (slice_get columns place) refl e where
   below : (column : ColumnShape) (o : Option (Option ℤ)) → option_and_then (fitting column) o ≡ Some v → Fits column v
   below column None h = cc
   below column (Some cell) h = elim (fits column cell) as (λ t. fits column cell ≡ t → cond t (Some cell) None ≡ Some v → Fits column v) [
@@ -82,47 +83,47 @@ cell_fits columns place field v e = at (slice_get columns place) refl e where
     | false ↦ λ fit g. cc
   ] refl h
 
-  at : (o : Option ColumnShape) → slice_get columns place ≡ o → option_and_then (λ column. cell_in column field) o ≡ Some v → (column : ColumnShape) × (slice_get columns place ≡ Some column) × Fits column v
+  at : (o : Option ColumnShape) → slice_get columns place ≡ o → option_and_then (λ column. cell_in dialect column field) o ≡ Some v → (column : ColumnShape) × (slice_get columns place ≡ Some column) × Fits column v
   at None is h = cc
-  at (Some column) is h = (column, is, below column (cell_of field) h)
+  at (Some column) is h = (column, is, below column (cell_of dialect field) h)
 
-pub filled_fits : (columns : List ColumnShape) (at : ℕ) (order : List ℕ) (fields : List (List ℕ)) (row row' : Cells) → IsRow columns row → filled columns at order fields row ≡ Ok row' → IsRow columns row'
-filled_fits columns at [] fields row row' h e = let same : row ≡ row' = cc in subst (λ (r : Cells). IsRow columns r) same h
-filled_fits columns at (place ∷ order) [] row row' h e = let same : row ≡ row' = cc in subst (λ (r : Cells). IsRow columns r) same h
-filled_fits columns at (place ∷ order) (field ∷ fields) row row' h e =
-    by (cell_at columns place field) (λ v is g. let fit = cell_fits columns place field v is in filled_fits columns (suc at) order fields (set row place v) row' (set_fits columns row place fit.0 v fit.1 fit.2 h) g) e
+pub filled_fits : (dialect : DialectForm) (columns : List ColumnShape) (at : ℕ) (order : List ℕ) (fields : List (List ℕ)) (row row' : Cells) → IsRow columns row → filled dialect columns at order fields row ≡ Ok row' → IsRow columns row'
+filled_fits dialect columns at [] fields row row' h e = let same : row ≡ row' = cc in subst (λ (r : Cells). IsRow columns r) same h
+filled_fits dialect columns at (place ∷ order) [] row row' h e = let same : row ≡ row' = cc in subst (λ (r : Cells). IsRow columns r) same h
+filled_fits dialect columns at (place ∷ order) (field ∷ fields) row row' h e =
+    by (cell_at dialect columns place field) (λ v is g. let fit = cell_fits dialect columns place field v is in filled_fits dialect columns (suc at) order fields (set row place v) row' (set_fits columns row place fit.0 v fit.1 fit.2 h) g) e
   where
-    by : (o : Option (Option ℤ)) → ((v : Option ℤ) → o ≡ Some v → filled columns (suc at) order fields (set row place v) ≡ Ok row' → IsRow columns row')
-        → or_at at o >>= (λ cell. filled columns (suc at) order fields (set row place cell)) ≡ Ok row' → IsRow columns row'
+    by : (o : Option (Option ℤ)) → ((v : Option ℤ) → o ≡ Some v → filled dialect columns (suc at) order fields (set row place v) ≡ Ok row' → IsRow columns row')
+        → or_at at o >>= (λ cell. filled dialect columns (suc at) order fields (set row place cell)) ≡ Ok row' → IsRow columns row'
     by None goes g = cc
     by (Some v) goes g = goes v refl g
 
 -- a line's rows are rows of the table
-pub line_fits : (columns : List ColumnShape) (order : List ℕ) (n : ℕ) (line : List ℕ) (made : Batch) → line_rows columns order n line ≡ Ok made → AreRows columns made
+pub line_fits : (dialect : DialectForm) (columns : List ColumnShape) (order : List ℕ) (n : ℕ) (line : List ℕ) (made : Batch) → line_rows dialect columns order n line ≡ Ok made → AreRows columns made
 unfolding line_rows
-line_fits columns order n line made e =
-    elim (nat_lt line_limit (length line)) as (λ t. cond t (Err (LineTooLong n)) (cond (is_passed columns line) (Ok []) (in_line n (row_of columns order line) >>= (λ row. Ok (row ∷ [])))) ≡ Ok made → AreRows columns made) [
+line_fits dialect columns order n line made e =
+    elim (nat_lt line_limit (length line)) as (λ t. cond t (Err (LineTooLong n)) (cond (is_passed columns line) (Ok []) (in_line n (row_of dialect columns order line) >>= (λ row. Ok (row ∷ [])))) ≡ Ok made → AreRows columns made) [
       | true ↦ λ h. cc
-      | false ↦ λ h. elim (is_passed columns line) as (λ t. cond t (Ok []) (in_line n (row_of columns order line) >>= (λ row. Ok (row ∷ []))) ≡ Ok made → AreRows columns made) [
+      | false ↦ λ h. elim (is_passed columns line) as (λ t. cond t (Ok []) (in_line n (row_of dialect columns order line) >>= (λ row. Ok (row ∷ []))) ≡ Ok made → AreRows columns made) [
         | true ↦ λ g. let same : [] ≡ made = cc in subst (λ (rows : Batch). AreRows columns rows) same tt
-        | false ↦ λ g. one (row_of columns order line) refl g
+        | false ↦ λ g. one (row_of dialect columns order line) refl g
       ] h
     ] e where
-      row_fits : (t : Bool) (row : Cells) → cond t (filled columns 1 order (fields_of line) (null_row columns)) (Err 0) ≡ Ok row → IsRow columns row
-      row_fits true row h = filled_fits columns 1 order (fields_of line) (null_row columns) row (null_fits columns) h
+      row_fits : (t : Bool) (row : Cells) → cond t (filled dialect columns 1 order (fields_of dialect.separator line) (null_row columns)) (Err 0) ≡ Ok row → IsRow columns row
+      row_fits true row h = filled_fits dialect columns 1 order (fields_of dialect.separator line) (null_row columns) row (null_fits columns) h
       row_fits false row h = cc
 
-      one : (r : Result Cells ℕ) → row_of columns order line ≡ r → in_line n r >>= (λ row. Ok (row ∷ [])) ≡ Ok made → AreRows columns made
+      one : (r : Result Cells ℕ) → row_of dialect columns order line ≡ r → in_line n r >>= (λ row. Ok (row ∷ [])) ≡ Ok made → AreRows columns made
       one (Err at) is g = cc
-      one (Ok row) is g = let same : row ∷ [] ≡ made = cc in subst (λ (rows : Batch). AreRows columns rows) same (row_fits (has_each columns line) row is, tt)
+      one (Ok row) is g = let same : row ∷ [] ≡ made = cc in subst (λ (rows : Batch). AreRows columns rows) same (row_fits (has_each dialect columns line) row is, tt)
 
 pub fits_append : (columns : List ColumnShape) (xs ys : Batch) → AreRows columns xs → AreRows columns ys → AreRows columns (xs ++ ys)
 fits_append columns [] ys h g = g
 fits_append columns (x ∷ xs) ys h g = (h.0, fits_append columns xs ys h.1 g)
 
 -- what was read behind rows keeps them rows of the table
-pub behind_fits : (columns : List ColumnShape) (order : List ℕ) (n : ℕ) (line : List ℕ) (old new made : Batch) → line_rows columns order n line ≡ Ok made → new ≡ old ++ made → AreRows columns old → AreRows columns new
-behind_fits columns order n line old new made e is h = subst (λ (rows : Batch). AreRows columns rows) (sym is) (fits_append columns old made h (line_fits columns order n line made e))
+pub behind_fits : (dialect : DialectForm) (columns : List ColumnShape) (order : List ℕ) (n : ℕ) (line : List ℕ) (old new made : Batch) → line_rows dialect columns order n line ≡ Ok made → new ≡ old ++ made → AreRows columns old → AreRows columns new
+behind_fits dialect columns order n line old new made e is h = subst (λ (rows : Batch). AreRows columns rows) (sym is) (fits_append columns old made h (line_fits dialect columns order n line made e))
 
 -- one field more of a header
 pub order_more : (columns : List ColumnShape) (at : ℕ) (named : List ℕ) (fields : List (List ℕ)) (field : List ℕ) (left : List (List ℕ)) (place : ℕ) → fields ≡ field ∷ left → new_place at named (place_named columns field) ≡ Ok place
@@ -136,43 +137,43 @@ order_stop columns at named fields field left is fault =
     ap (order_from columns at named) is ∙ ap (λ (r : Result ℕ ℕ). r >>= (λ p. order_from columns (suc at) (named ++ (p ∷ [])) left)) fault
 
 -- one field more of a row
-pub filled_more : (columns : List ColumnShape) (at place : ℕ) (order : List ℕ) (fields : List (List ℕ)) (field : List ℕ) (left : List (List ℕ)) (row : Cells) (v : Option ℤ) → fields ≡ field ∷ left → cell_at columns place field ≡ Some v
-    → filled columns at (place ∷ order) fields row ≡ filled columns (suc at) order left (set row place v)
-filled_more columns at place order fields field left row v is some =
-    ap (λ (fs : List (List ℕ)). filled columns at (place ∷ order) fs row) is ∙ ap (λ (o : Option (Option ℤ)). or_at at o >>= (λ cell. filled columns (suc at) order left (set row place cell))) some
+pub filled_more : (dialect : DialectForm) (columns : List ColumnShape) (at place : ℕ) (order : List ℕ) (fields : List (List ℕ)) (field : List ℕ) (left : List (List ℕ)) (row : Cells) (v : Option ℤ) → fields ≡ field ∷ left → cell_at dialect columns place field ≡ Some v
+    → filled dialect columns at (place ∷ order) fields row ≡ filled dialect columns (suc at) order left (set row place v)
+filled_more dialect columns at place order fields field left row v is some =
+    ap (λ (fs : List (List ℕ)). filled dialect columns at (place ∷ order) fs row) is ∙ ap (λ (o : Option (Option ℤ)). or_at at o >>= (λ cell. filled dialect columns (suc at) order left (set row place cell))) some
 
-pub filled_stop : (columns : List ColumnShape) (at place : ℕ) (order : List ℕ) (fields : List (List ℕ)) (field : List ℕ) (left : List (List ℕ)) (row : Cells) → fields ≡ field ∷ left → cell_at columns place field ≡ None
-    → filled columns at (place ∷ order) fields row ≡ Err at
-filled_stop columns at place order fields field left row is none =
-    ap (λ (fs : List (List ℕ)). filled columns at (place ∷ order) fs row) is ∙ ap (λ (o : Option (Option ℤ)). or_at at o >>= (λ cell. filled columns (suc at) order left (set row place cell))) none
+pub filled_stop : (dialect : DialectForm) (columns : List ColumnShape) (at place : ℕ) (order : List ℕ) (fields : List (List ℕ)) (field : List ℕ) (left : List (List ℕ)) (row : Cells) → fields ≡ field ∷ left → cell_at dialect columns place field ≡ None
+    → filled dialect columns at (place ∷ order) fields row ≡ Err at
+filled_stop dialect columns at place order fields field left row is none =
+    ap (λ (fs : List (List ℕ)). filled dialect columns at (place ∷ order) fs row) is ∙ ap (λ (o : Option (Option ℤ)). or_at at o >>= (λ cell. filled dialect columns (suc at) order left (set row place cell))) none
 
 -- no field is left, or no place
-pub filled_all : (columns : List ColumnShape) (at : ℕ) (order : List ℕ) (fields : List (List ℕ)) (row : Cells) → fields ≡ [] → filled columns at order fields row ≡ Ok row
-filled_all columns at [] fields row none = refl
-filled_all columns at (place ∷ order) fields row none = ap (λ (fs : List (List ℕ)). filled columns at (place ∷ order) fs row) none
+pub filled_all : (dialect : DialectForm) (columns : List ColumnShape) (at : ℕ) (order : List ℕ) (fields : List (List ℕ)) (row : Cells) → fields ≡ [] → filled dialect columns at order fields row ≡ Ok row
+filled_all dialect columns at [] fields row none = refl
+filled_all dialect columns at (place ∷ order) fields row none = ap (λ (fs : List (List ℕ)). filled dialect columns at (place ∷ order) fs row) none
 
 -- a line's fault is of the text, never a refusal
-no_refusal : (columns : List ColumnShape) (order : List ℕ) (n : ℕ) (line : List ℕ) (r : Refusal) → line_rows columns order n line ≡ Err (Refused r) → ⊥
+no_refusal : (dialect : DialectForm) (columns : List ColumnShape) (order : List ℕ) (n : ℕ) (line : List ℕ) (r : Refusal) → line_rows dialect columns order n line ≡ Err (Refused r) → ⊥
 unfolding line_rows
-no_refusal columns order n line r e =
-    elim (nat_lt line_limit (length line)) as (λ t. cond t (Err (LineTooLong n)) (cond (is_passed columns line) (Ok []) (in_line n (row_of columns order line) >>= (λ row. Ok (row ∷ [])))) ≡ Err (Refused r) → ⊥) [
+no_refusal dialect columns order n line r e =
+    elim (nat_lt line_limit (length line)) as (λ t. cond t (Err (LineTooLong n)) (cond (is_passed columns line) (Ok []) (in_line n (row_of dialect columns order line) >>= (λ row. Ok (row ∷ [])))) ≡ Err (Refused r) → ⊥) [
       | true ↦ λ h. cc
-      | false ↦ λ h. elim (is_passed columns line) as (λ t. cond t (Ok []) (in_line n (row_of columns order line) >>= (λ row. Ok (row ∷ []))) ≡ Err (Refused r) → ⊥) [
+      | false ↦ λ h. elim (is_passed columns line) as (λ t. cond t (Ok []) (in_line n (row_of dialect columns order line) >>= (λ row. Ok (row ∷ []))) ≡ Err (Refused r) → ⊥) [
         | true ↦ λ g. cc
-        | false ↦ λ g. one (row_of columns order line) g
+        | false ↦ λ g. one (row_of dialect columns order line) g
       ] h
     ] e where
       one : (row : Result Cells ℕ) → in_line n row >>= (λ row. Ok (row ∷ [])) ≡ Err (Refused r) → ⊥
       one (Ok row) g = cc
       one (Err at) g = cc
 
-no_header_refusal : (columns : List ColumnShape) (line : List ℕ) (r : Refusal) → header_order columns line ≡ Err (Refused r) → ⊥
+no_header_refusal : (dialect : DialectForm) (columns : List ColumnShape) (line : List ℕ) (r : Refusal) → header_order dialect columns line ≡ Err (Refused r) → ⊥
 unfolding header_order
-no_header_refusal columns line r e =
-    elim (nat_lt line_limit (length line)) as (λ t. cond t (Err (LineTooLong 1)) (cond (not (length line == 0) && has_each columns line) (in_line 1 (order_from columns 1 [] (fields_of line))) (Err (BadCsv 1 0))) ≡ Err (Refused r) → ⊥) [
+no_header_refusal dialect columns line r e =
+    elim (nat_lt line_limit (length line)) as (λ t. cond t (Err (LineTooLong 1)) (cond (not (length line == 0) && has_each dialect columns line) (in_line 1 (order_from columns 1 [] (fields_of dialect.separator line))) (Err (BadCsv 1 0))) ≡ Err (Refused r) → ⊥) [
       | true ↦ λ h. cc
-      | false ↦ λ h. elim (not (length line == 0) && has_each columns line) as (λ t. cond t (in_line 1 (order_from columns 1 [] (fields_of line))) (Err (BadCsv 1 0)) ≡ Err (Refused r) → ⊥) [
-        | true ↦ λ g. one (order_from columns 1 [] (fields_of line)) g
+      | false ↦ λ h. elim (not (length line == 0) && has_each dialect columns line) as (λ t. cond t (in_line 1 (order_from columns 1 [] (fields_of dialect.separator line))) (Err (BadCsv 1 0)) ≡ Err (Refused r) → ⊥) [
+        | true ↦ λ g. one (order_from columns 1 [] (fields_of dialect.separator line)) g
         | false ↦ λ g. cc
       ] h
     ] e where
@@ -181,19 +182,19 @@ no_header_refusal columns line r e =
       one (Err at) g = cc
 
 -- the reader below didn't fail where a line is at fault, or memory lacked
-pub counts_line : (many : Type 0) (columns : List ColumnShape) (order : List ℕ) (n : ℕ) (line : List ℕ) (e : CsvError) (before after : ℕ) → (line_rows columns order n line ≡ Err e) ⊎ (e ≡ Refused Memory) → after ≡ before → Counts many e before after
-counts_line many columns order n line e before after (inr lack) same = subst (λ (fault : CsvError). Counts many fault before after) (sym lack) same
-counts_line many columns order n line (BadCsv l column) before after (inl fault) same = same
-counts_line many columns order n line (LineTooLong l) before after (inl fault) same = same
-counts_line many columns order n line (Refused r) before after (inl fault) same = absurd (no_refusal columns order n line r fault)
+pub counts_line : (many : Type 0) (dialect : DialectForm) (columns : List ColumnShape) (order : List ℕ) (n : ℕ) (line : List ℕ) (e : CsvError) (before after : ℕ) → (line_rows dialect columns order n line ≡ Err e) ⊎ (e ≡ Refused Memory) → after ≡ before → Counts many e before after
+counts_line many dialect columns order n line e before after (inr lack) same = subst (λ (fault : CsvError). Counts many fault before after) (sym lack) same
+counts_line many dialect columns order n line (BadCsv l column) before after (inl fault) same = same
+counts_line many dialect columns order n line (LineTooLong l) before after (inl fault) same = same
+counts_line many dialect columns order n line (Refused r) before after (inl fault) same = absurd (no_refusal dialect columns order n line r fault)
 
-pub counts_header : (many : Type 0) (columns : List ColumnShape) (line : List ℕ) (e : CsvError) (before after : ℕ) → (header_order columns line ≡ Err e) ⊎ (e ≡ Refused Memory) → after ≡ before → Counts many e before after
-counts_header many columns line e before after (inr lack) same = subst (λ (fault : CsvError). Counts many fault before after) (sym lack) same
-counts_header many columns line (BadCsv l column) before after (inl fault) same = same
-counts_header many columns line (LineTooLong l) before after (inl fault) same = same
-counts_header many columns line (Refused r) before after (inl fault) same = absurd (no_header_refusal columns line r fault)
+pub counts_header : (many : Type 0) (dialect : DialectForm) (columns : List ColumnShape) (line : List ℕ) (e : CsvError) (before after : ℕ) → (header_order dialect columns line ≡ Err e) ⊎ (e ≡ Refused Memory) → after ≡ before → Counts many e before after
+counts_header many dialect columns line e before after (inr lack) same = subst (λ (fault : CsvError). Counts many fault before after) (sym lack) same
+counts_header many dialect columns line (BadCsv l column) before after (inl fault) same = same
+counts_header many dialect columns line (LineTooLong l) before after (inl fault) same = same
+counts_header many dialect columns line (Refused r) before after (inl fault) same = absurd (no_header_refusal dialect columns line r fault)
 
-pub header_counts : {X : Type 0} (view : X → List ℕ) (many : Type 0) (columns : List ColumnShape) (line : List ℕ) (r : Result X CsvError) (before after : ℕ) → ReadsCsv view r (header_order columns line) → after ≡ before
+pub header_counts : {X : Type 0} (view : X → List ℕ) (many : Type 0) (dialect : DialectForm) (columns : List ColumnShape) (line : List ℕ) (r : Result X CsvError) (before after : ℕ) → ReadsCsv view r (header_order dialect columns line) → after ≡ before
     → IfErr r (λ e. Counts many e before after)
-header_counts view many columns line (Ok x) before after read same = tt
-header_counts view many columns line (Err e) before after read same = counts_header many columns line e before after read same
+header_counts view many dialect columns line (Ok x) before after read same = tt
+header_counts view many dialect columns line (Err e) before after read same = counts_header many dialect columns line e before after read same

@@ -3,6 +3,7 @@ use Rattle.std.specs.Prelude.{ℕ, suc, Bool, true, false, ◌==◌, ◌&&◌, n
 use Rattle.std.specs.List.{list_any, range_with_len}
 use Rattle.table_model.specs.State.{Cells, Batch}
 use Rattle.table_model.specs.Table.{Table, ColumnShape, has_name}
+use Rattle.csv_rows.specs.DialectForm.{DialectForm, usual}
 use Rattle.csv_rows.specs.Line.{line_limit, lines_of, unmarked}
 use Rattle.csv_rows.specs.Field.{fields_of, unquoted, cell_in}
 use Rattle.csv_rows.specs.declared.error.CsvError.{CsvError}
@@ -35,18 +36,18 @@ order_from columns at named [] = Ok named
 order_from columns at named (field ∷ fields) = new_place at named (place_named columns field) >>= (λ place. order_from columns (suc at) (named ++ (place ∷ [])) fields)
 
 -- whether a line has one field for each column
-abbrev pub has_each : List ColumnShape → List ℕ → Bool
-has_each columns line = length (fields_of line) == length columns
+abbrev pub has_each : DialectForm → List ColumnShape → List ℕ → Bool
+has_each dialect columns line = length (fields_of dialect.separator line) == length columns
 
 -- the order of the columns that a header, the first line, gives
-unfoldable pub header_order : List ColumnShape → List ℕ → Result (List ℕ) CsvError
-header_order columns line =
+unfoldable pub header_order : DialectForm → List ColumnShape → List ℕ → Result (List ℕ) CsvError
+header_order dialect columns line =
     cond (nat_lt line_limit (length line)) (Err (LineTooLong 1))
-    (cond (not (length line == 0) && has_each columns line) (in_line 1 (order_from columns 1 [] (fields_of line))) (Err (BadCsv 1 0)))
+    (cond (not (length line == 0) && has_each dialect columns line) (in_line 1 (order_from columns 1 [] (fields_of dialect.separator line))) (Err (BadCsv 1 0)))
 
 -- what a field is below the column of this place
-abbrev pub cell_at : List ColumnShape → ℕ → List ℕ → Option (Option ℤ)
-cell_at columns place field = option_and_then (λ column. cell_in column field) (slice_get columns place)
+abbrev pub cell_at : DialectForm → List ColumnShape → ℕ → List ℕ → Option (Option ℤ)
+cell_at dialect columns place field = option_and_then (λ column. cell_in dialect column field) (slice_get columns place)
 
 -- a cell, or the fault in the field of that column of the text
 abbrev pub or_at : ℕ → Option (Option ℤ) → Result (Option ℤ) ℕ
@@ -55,28 +56,28 @@ or_at at (Some cell) = Ok cell
 
 -- the row with the cell of each field put at its column's place, the columns standing in this order, or the first field at fault,
 -- counted from at
-abbrev pub filled : List ColumnShape → ℕ → List ℕ → List (List ℕ) → Cells → Result Cells ℕ
-filled columns at [] fields row = Ok row
-filled columns at (place ∷ order) [] row = Ok row
-filled columns at (place ∷ order) (field ∷ fields) row = or_at at (cell_at columns place field) >>= (λ cell. filled columns (suc at) order fields (set row place cell))
+abbrev pub filled : DialectForm → List ColumnShape → ℕ → List ℕ → List (List ℕ) → Cells → Result Cells ℕ
+filled dialect columns at [] fields row = Ok row
+filled dialect columns at (place ∷ order) [] row = Ok row
+filled dialect columns at (place ∷ order) (field ∷ fields) row = or_at at (cell_at dialect columns place field) >>= (λ cell. filled dialect columns (suc at) order fields (set row place cell))
 
 -- a row of nulls
 abbrev pub null_row : List ColumnShape → Cells
 null_row columns = replicate (length columns) None
 
 -- the row of a line, the columns standing in this order
-abbrev pub row_of : List ColumnShape → List ℕ → List ℕ → Result Cells ℕ
-row_of columns order line = cond (has_each columns line) (filled columns 1 order (fields_of line) (null_row columns)) (Err 0)
+abbrev pub row_of : DialectForm → List ColumnShape → List ℕ → List ℕ → Result Cells ℕ
+row_of dialect columns order line = cond (has_each dialect columns line) (filled dialect columns 1 order (fields_of dialect.separator line) (null_row columns)) (Err 0)
 
 -- whether a line is passed over: it is empty, and the table has not one column alone
 abbrev pub is_passed : List ColumnShape → List ℕ → Bool
 is_passed columns line = (length line == 0) && not (length columns == 1)
 
 -- the rows that a line makes: one, or none where it is passed over
-unfoldable pub line_rows : List ColumnShape → List ℕ → ℕ → List ℕ → Result Batch CsvError
-line_rows columns order number line =
+unfoldable pub line_rows : DialectForm → List ColumnShape → List ℕ → ℕ → List ℕ → Result Batch CsvError
+line_rows dialect columns order number line =
     cond (nat_lt line_limit (length line)) (Err (LineTooLong number))
-    (cond (is_passed columns line) (Ok []) (in_line number (row_of columns order line) >>= (λ row. Ok (row ∷ []))))
+    (cond (is_passed columns line) (Ok []) (in_line number (row_of dialect columns order line) >>= (λ row. Ok (row ∷ []))))
 
 -- rows before those that follow them
 abbrev pub before_rows : Batch → Result Batch CsvError → Result Batch CsvError
@@ -84,24 +85,28 @@ before_rows rows (Ok more) = Ok (rows ++ more)
 before_rows rows (Err e) = Err e
 
 -- the rows of lines, the first having this number, or the first fault
-abbrev pub rows_from : List ColumnShape → List ℕ → ℕ → List (List ℕ) → Result Batch CsvError
-rows_from columns order number [] = Ok []
-rows_from columns order number (line ∷ lines) = line_rows columns order number line >>= (λ rows. before_rows rows (rows_from columns order (suc number) lines))
+abbrev pub rows_from : DialectForm → List ColumnShape → List ℕ → ℕ → List (List ℕ) → Result Batch CsvError
+rows_from dialect columns order number [] = Ok []
+rows_from dialect columns order number (line ∷ lines) = line_rows dialect columns order number line >>= (λ rows. before_rows rows (rows_from dialect columns order (suc number) lines))
 
 -- the order of columns in the schema
 abbrev pub own_order : List ColumnShape → List ℕ
 own_order columns = range_with_len 0 (length columns)
 
 -- the rows of a header and the lines below it, or the first fault
-abbrev pub header_rows : List ColumnShape → List (List ℕ) → Result Batch CsvError
-header_rows columns [] = Err (BadCsv 1 0)
-header_rows columns (header ∷ lines) = header_order columns header >>= (λ order. rows_from columns order 2 lines)
+abbrev pub header_rows : DialectForm → List ColumnShape → List (List ℕ) → Result Batch CsvError
+header_rows dialect columns [] = Err (BadCsv 1 0)
+header_rows dialect columns (header ∷ lines) = header_order dialect columns header >>= (λ order. rows_from dialect columns order 2 lines)
 
 -- the rows of all lines, the first being a header if there is one
-abbrev pub lines_rows : Table → Bool → List (List ℕ) → Result Batch CsvError
-lines_rows table true lines = header_rows table.columns lines
-lines_rows table false lines = rows_from table.columns (own_order table.columns) 1 lines
+abbrev pub lines_rows : DialectForm → Table → Bool → List (List ℕ) → Result Batch CsvError
+lines_rows dialect table true lines = header_rows dialect table.columns lines
+lines_rows dialect table false lines = rows_from dialect table.columns (own_order table.columns) 1 lines
 
--- the rows of a text, or its first fault
+-- the rows of a text in a dialect, or its first fault
+abbrev pub rows_in : DialectForm → Table → Bool → List ℕ → Result Batch CsvError
+rows_in dialect table has_header text = lines_rows dialect table has_header (lines_of (unmarked text))
+
+-- the rows of a text in the usual dialect, or its first fault
 abbrev pub csv_rows : Table → Bool → List ℕ → Result Batch CsvError
-csv_rows table has_header text = lines_rows table has_header (lines_of (unmarked text))
+csv_rows table has_header text = rows_in usual table has_header text

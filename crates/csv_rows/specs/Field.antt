@@ -3,16 +3,17 @@ use Rattle.std.specs.Prelude.{ℕ, suc, Bool, cond, ◌||◌, List, [], ◌∷�
 use Rattle.table_model.specs.Identifier.{same_text}
 use Rattle.table_model.specs.Numeral.{magnitude_of}
 use Rattle.table_model.specs.Table.{ColumnShape, fits}
+use Rattle.csv_rows.specs.DialectForm.{DialectForm, is_own_word}
 use Rattle.csv_rows.specs.Line.{pieces, without, before_last, text_or}
 
--- the fields of a line, between its commas
-abbrev pub fields_of : List ℕ → List (List ℕ)
-fields_of line = pieces 44 line
+-- the fields of a line, between its separators
+abbrev pub fields_of : ℕ → List ℕ → List (List ℕ)
+fields_of separator line = pieces separator line
 
 -- the fields of what is left of a line, if anything is
-abbrev pub fields_left : Option (List ℕ) → List (List ℕ)
-fields_left None = []
-fields_left (Some rest) = fields_of rest
+abbrev pub fields_left : ℕ → Option (List ℕ) → List (List ℕ)
+fields_left separator None = []
+fields_left separator (Some rest) = fields_of separator rest
 
 -- how much is left of a line
 abbrev pub left_len : Option (List ℕ) → ℕ
@@ -36,23 +37,23 @@ signed_of text None = option_map pos (magnitude_of text)
 abbrev pub integer_of : List ℕ → Option ℤ
 integer_of text = signed_of text (without 45 text)
 
--- a null as it is written, but for the empty one: NULL, or a backslash and N
-unfoldable pub is_null_word : List ℕ → Bool
-is_null_word text = same_text text (codes "NULL") || same_text text (92 ∷ 78 ∷ [])
+-- a null as it is written, but for the empty one: NULL, a backslash and N, or the dialect's own word
+unfoldable pub is_null_word : DialectForm → List ℕ → Bool
+is_null_word dialect text = same_text text (codes "NULL") || (same_text text (92 ∷ 78 ∷ []) || is_own_word dialect.null_word text)
 
 -- a value that isn't empty: a null's word, or a whole number
-abbrev pub value_of : List ℕ → Option (Option ℤ)
-value_of text = cond (is_null_word text) (Some None) (option_map Some (integer_of text))
+abbrev pub value_of : DialectForm → List ℕ → Option (Option ℤ)
+value_of dialect text = cond (is_null_word dialect text) (Some None) (option_map Some (integer_of text))
 
 -- what a field is: nothing at all is a null; else a value, which may be in double quotes
-abbrev pub cell_of : List ℕ → Option (Option ℤ)
-cell_of [] = Some None
-cell_of (c ∷ cs) = value_of (unquoted (c ∷ cs))
+abbrev pub cell_of : DialectForm → List ℕ → Option (Option ℤ)
+cell_of dialect [] = Some None
+cell_of dialect (c ∷ cs) = value_of dialect (unquoted (c ∷ cs))
 
 -- a cell, where its column's type has it
 abbrev pub fitting : ColumnShape → Option ℤ → Option (Option ℤ)
 fitting column cell = cond (fits column cell) (Some cell) None
 
 -- what a field is below a column
-abbrev pub cell_in : ColumnShape → List ℕ → Option (Option ℤ)
-cell_in column field = option_and_then (fitting column) (cell_of field)
+abbrev pub cell_in : DialectForm → ColumnShape → List ℕ → Option (Option ℤ)
+cell_in dialect column field = option_and_then (fitting column) (cell_of dialect field)

@@ -1,4 +1,5 @@
 pub mod CsvText
+pub mod DialectForm
 pub mod Field
 pub mod Line
 pub mod LineReading

@@ -4,29 +4,35 @@ use Rattle.table_model.specs.Counted.{one_more}
 use Rattle.table_model.specs.State.{Batch}
 use Rattle.table_model.specs.Table.{Table}
 use Rattle.table_model.specs.declared.refusal.Refusal.TheVariants.{Memory, ReadFault}
+use Rattle.csv_rows.specs.DialectForm.{DialectForm, usual}
 use Rattle.csv_rows.specs.Line.{lines_of}
-use Rattle.csv_rows.specs.CsvText.{csv_rows, rows_from, before_rows}
+use Rattle.csv_rows.specs.CsvText.{rows_in, rows_from, before_rows}
 use Rattle.csv_rows.specs.declared.error.CsvError.{CsvError}
 use Rattle.csv_rows.specs.declared.error.CsvError.TheVariants.{Refused}
 
--- A reader of CSV: the table, whether the first line is a header, the order of the text's columns once that is known, how many lines
+-- A reader of CSV: the table, the dialect of the text, whether the first line is a header, the order of the text's columns once that is known, how many lines
 -- were read, the bytes that came and weren't taken yet, and how many bytes came in all.
 pub record Reading : Type 0 where
   pub table : Table
+  pub dialect : DialectForm
   pub has_header : Bool
   pub order : Option (List ℕ)
   pub number : ℕ
   pub pending : List ℕ
   pub given : ℕ
 
--- a reader that has read nothing
+-- a reader of a text in a dialect that has read nothing
+abbrev pub at_start_in : DialectForm → Table → Bool → Reading
+at_start_in dialect table has_header = record { table = table; dialect = dialect; has_header = has_header; order = None; number = 0; pending = []; given = 0 }
+
+-- a reader of a text in the usual dialect that has read nothing
 abbrev pub at_start : Table → Bool → Reading
-at_start table has_header = record { table = table; has_header = has_header; order = None; number = 0; pending = []; given = 0 }
+at_start table has_header = at_start_in usual table has_header
 
 -- the rows that these bytes make, or the first fault, before the order of columns is known and after
 abbrev pub rows_after : Reading → Option (List ℕ) → List ℕ → Result Batch CsvError
-rows_after csv None bytes = csv_rows csv.table csv.has_header bytes
-rows_after csv (Some order) bytes = rows_from csv.table.columns order (suc csv.number) (lines_of bytes)
+rows_after csv None bytes = rows_in csv.dialect csv.table csv.has_header bytes
+rows_after csv (Some order) bytes = rows_from csv.dialect csv.table.columns order (suc csv.number) (lines_of bytes)
 
 -- the rows that are still to come, or the first fault, where the reader below has these bytes left
 abbrev pub to_come : Reading → List ℕ → Result Batch CsvError

@@ -2,6 +2,7 @@
 use Rattle.std.specs.Prelude.{◌≡◌, ℕ, suc, List, [], ◌++◌, Option, Result, Ok, Err}
 use Rattle.table_model.specs.State.{Batch}
 use Rattle.table_model.specs.Table.{ColumnShape}
+use Rattle.csv_rows.specs.DialectForm.{DialectForm}
 use Rattle.csv_rows.specs.Line.{lines_of}
 use Rattle.csv_rows.specs.LinesForm.{LinesForm}
 use Rattle.csv_rows.specs.CsvText.{header_rows, rows_from, before_rows}
@@ -10,24 +11,24 @@ use Rattle.csv_rows.specs.declared.error.CsvError.{CsvError}
 use Rattle.csv_rows.specs.declared.error.CsvError.TheVariants.{Refused}
 
 -- the rows of the lines that are still to come, or the first fault
-abbrev pub lines_to_come : List ColumnShape → List ℕ → LinesForm → List ℕ → Result Batch CsvError
-lines_to_come columns order lines bytes = rows_from columns order (suc lines.number) (lines_of (lines.pending ++ bytes))
+abbrev pub lines_to_come : DialectForm → List ColumnShape → List ℕ → LinesForm → List ℕ → Result Batch CsvError
+lines_to_come dialect columns order lines bytes = rows_from dialect columns order (suc lines.number) (lines_of (lines.pending ++ bytes))
 
 -- rows were read behind those that were there
-abbrev pub ReadsOn : List ColumnShape → List ℕ → LinesForm → LinesForm → Batch → Batch → Option (List ℕ) → Option (List ℕ) → Type 0
-ReadsOn columns order old new rows rows' before after =
-    (made : Batch) × (rows' ≡ rows ++ made) × AsKnown (λ bytes rest. lines_to_come columns order old bytes ≡ before_rows made (lines_to_come columns order new rest)) before after
+abbrev pub ReadsOn : DialectForm → List ColumnShape → List ℕ → LinesForm → LinesForm → Batch → Batch → Option (List ℕ) → Option (List ℕ) → Type 0
+ReadsOn dialect columns order old new rows rows' before after =
+    (made : Batch) × (rows' ≡ rows ++ made) × AsKnown (λ bytes rest. lines_to_come dialect columns order old bytes ≡ before_rows made (lines_to_come dialect columns order new rest)) before after
 
 -- there are no more rows
-abbrev pub NoLines : List ColumnShape → List ℕ → LinesForm → Option (List ℕ) → Option (List ℕ) → Type 0
-NoLines columns order lines before after = AsKnown (λ bytes rest. lines_to_come columns order lines rest ≡ Ok []) before after
+abbrev pub NoLines : DialectForm → List ColumnShape → List ℕ → LinesForm → Option (List ℕ) → Option (List ℕ) → Type 0
+NoLines dialect columns order lines before after = AsKnown (λ bytes rest. lines_to_come dialect columns order lines rest ≡ Ok []) before after
 
 -- the first fault of the lines that are to come
-abbrev pub RefusesLines : List ColumnShape → List ℕ → LinesForm → CsvError → Option (List ℕ) → Type 0
-RefusesLines columns order old (Refused refusal) before = Unit {0}
-RefusesLines columns order old fault before = AsKnown (λ bytes rest. lines_to_come columns order old bytes ≡ Err fault) before before
+abbrev pub RefusesLines : DialectForm → List ColumnShape → List ℕ → LinesForm → CsvError → Option (List ℕ) → Type 0
+RefusesLines dialect columns order old (Refused refusal) before = Unit {0}
+RefusesLines dialect columns order old fault before = AsKnown (λ bytes rest. lines_to_come dialect columns order old bytes ≡ Err fault) before before
 
 -- the first fault of a header and the lines below it
-abbrev pub RefusesHeader : List ColumnShape → LinesForm → CsvError → Option (List ℕ) → Type 0
-RefusesHeader columns old (Refused refusal) before = Unit {0}
-RefusesHeader columns old fault before = AsKnown (λ bytes rest. header_rows columns (lines_of (old.pending ++ bytes)) ≡ Err fault) before before
+abbrev pub RefusesHeader : DialectForm → List ColumnShape → LinesForm → CsvError → Option (List ℕ) → Type 0
+RefusesHeader dialect columns old (Refused refusal) before = Unit {0}
+RefusesHeader dialect columns old fault before = AsKnown (λ bytes rest. header_rows dialect columns (lines_of (old.pending ++ bytes)) ≡ Err fault) before before

@@ -50,40 +50,40 @@ pub fn after_mark(text: &[u8]) -> Option<&[u8]>
     without(rest, 0xBF)
 }
 
-/// The place of the first comma.
-fn first_comma(text: &[u8]) -> Option<usize>
-    ensures { result ≡ position (λ byte. byte == 44) text.now }
+/// The place of the first separator.
+fn first_separator(text: &[u8], separator: u8) -> Option<usize>
+    ensures { result ≡ position (λ byte. byte == separator) text.now }
 {
-    text.iter().position(|byte| *byte == b',')
+    text.iter().position(|byte| *byte == separator)
 }
 
-/// The first field, and what follows its comma if it has one.
-pub fn first_field(text: &[u8]) -> (&[u8], Option<&[u8]>)
-    ensures fields { fields_of text.now ≡ result.0.now ∷ fields_left (option_map (λ rest. rest.now) result.1) }
+/// The first field, and what follows its separator if it has one.
+pub fn first_field(text: &[u8], separator: u8) -> (&[u8], Option<&[u8]>)
+    ensures fields { fields_of separator text.now ≡ result.0.now ∷ fields_left separator (option_map (λ rest. rest.now) result.1) }
     ensures shorter { left_len (option_map (λ rest. rest.now) result.1) ≤ length text.now }
 {
-    match first_comma(text) {
+    match first_separator(text, separator) {
         None => (text, None),
         Some(end) => (&text[..end], Some(&text[end + 1..])),
     }
 }
 
-/// How many commas a byte is.
+/// How many separators a byte is.
 #[inline]
-fn commas_in(byte: u8) -> usize
-    ensures count { result ≡ cond (byte == 44) 1 0 }
+fn separators_in(byte: u8, separator: u8) -> usize
+    ensures count { result ≡ cond (byte == separator) 1 0 }
     ensures bound { result ≤ 1 }
 {
-    if byte == b',' { 1 } else { 0 }
+    if byte == separator { 1 } else { 0 }
 }
 
 /// How many fields a line has: at least one.
-pub fn count_fields(line: &[u8]) -> usize
-    ensures { result ≡ length (fields_of line.now) }
+pub fn count_fields(line: &[u8], separator: u8) -> usize
+    ensures { result ≡ length (fields_of separator line.now) }
 {
-    let mut commas: usize = 0;
+    let mut separators: usize = 0;
     for byte in line {
-        commas += commas_in(*byte);
+        separators += separators_in(*byte, separator);
     }
-    commas + 1
+    separators + 1
 }

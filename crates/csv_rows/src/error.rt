@@ -4,6 +4,8 @@ ghost use Rattle.csv_rows.specs.declared.error.CsvError.TheVariants.{Refused};
 ghost use Rattle.table_model.specs.declared.refusal.Refusal.TheVariants.{Memory};
 
 use std::alloc::{AllocError, AllocFailed};
+use std::error::Error;
+use std::fmt;
 use table_model::Refusal;
 
 /// Why a text of comma-separated values is refused. Lines and columns of the text count from 1.
@@ -41,3 +43,16 @@ impl<T: Drop> From<AllocFailed<T>> for CsvError {
         CsvError::Refused(Refusal::Memory)
     }
 }
+
+/// The error's name and its place in the text, as `BadCsv 3 1`, or the refusal.
+impl fmt::Display for CsvError {
+    fn fmt<W: fmt::Write>(&self, f: &mut fmt::Formatter<W>) -> fmt::Result {
+        match self {
+            CsvError::BadCsv { line, column } => write!(f, "BadCsv {line} {column}"),
+            CsvError::LineTooLong { line } => write!(f, "LineTooLong {line}"),
+            CsvError::Refused(refusal) => write!(f, "{refusal}"),
+        }
+    }
+}
+
+impl Error for CsvError {}

@@ -3,6 +3,7 @@ ghost use Rattle.std.specs.Prelude.{◌≡◌};
 ghost use Rattle.csv_rows.specs.Field.{is_null_word, integer_of, value_of, cell_of, cell_in};
 
 use crate::bytes::{unquoted, without};
+use crate::dialect::Dialect;
 use table_model::{Column, magnitude, same_text};
 
 /// A whole number: an optional minus sign and 1 to 30 digits.
@@ -20,17 +21,17 @@ fn integer(text: &[u8]) -> Option<i128>
 
 /// Whether the text is a word for null.
 #[tactic(auto, unfolding(crate::specs::Field::is_null_word))]
-fn is_null_word(text: &[u8]) -> bool
-    ensures { result ≡ is_null_word text.now }
+fn is_null_word(dialect: &Dialect, text: &[u8]) -> bool
+    ensures { result ≡ is_null_word dialect.now text.now }
 {
-    same_text(text, b"NULL") || same_text(text, b"\\N")
+    same_text(text, b"NULL") || same_text(text, b"\\N") || dialect.is_own_word(text)
 }
 
 /// A value that isn't empty: a word for null, or a whole number.
-fn value(text: &[u8]) -> Option<Option<i128>>
-    ensures { result ≡ value_of text.now }
+fn value(dialect: &Dialect, text: &[u8]) -> Option<Option<i128>>
+    ensures { result ≡ value_of dialect.now text.now }
 {
-    if is_null_word(text) {
+    if is_null_word(dialect, text) {
         return Some(None);
     }
     let value = integer(text)?;
@@ -38,19 +39,19 @@ fn value(text: &[u8]) -> Option<Option<i128>>
 }
 
 /// What a field is, if it is a null or a whole number.
-fn cell(field: &[u8]) -> Option<Option<i128>>
-    ensures { result ≡ cell_of field.now }
+fn cell(dialect: &Dialect, field: &[u8]) -> Option<Option<i128>>
+    ensures { result ≡ cell_of dialect.now field.now }
 {
     if field.is_empty() {
         return Some(None);
     }
-    value(unquoted(field))
+    value(dialect, unquoted(field))
 }
 
 /// The cell that a field is below a column, if it is one.
-pub fn cell_in(column: &Column, field: &[u8]) -> Option<Option<i128>>
-    ensures { result ≡ cell_in column.now field.now }
+pub fn cell_in(dialect: &Dialect, column: &Column, field: &[u8]) -> Option<Option<i128>>
+    ensures { result ≡ cell_in dialect.now column.now field.now }
 {
-    let cell = cell(field)?;
+    let cell = cell(dialect, field)?;
     if column.fits(cell) { Some(cell) } else { None }
 }

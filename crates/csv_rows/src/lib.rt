@@ -2,6 +2,7 @@
 #![tactic(auto)]
 
 mod bytes;
+mod dialect;
 mod error;
 mod field;
 mod laws;
@@ -11,6 +12,7 @@ mod reader;
 mod row;
 mod writer;
 
+pub use dialect::Dialect;
 pub use error::CsvError;
 pub use laws::written_rows_are_read;
 pub use lines::LINE_LIMIT;

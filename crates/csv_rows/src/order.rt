@@ -8,6 +8,7 @@ ghost use Rattle.csv_rows.specs.CsvText.{place_named, new_place, in_line, order_
 ghost use Rattle.csv_rows.specs.Outcome.{ReadsCsv};
 
 use crate::bytes::{count_fields, first_field, unquoted};
+use crate::dialect::Dialect;
 use crate::error::CsvError;
 use std::alloc::{AllocError, Global};
 use std::marker::Model;
@@ -41,14 +42,19 @@ impl Order {
 
     /// The order that a header gives.
     #[tactic(auto, unfolding(crate::specs::CsvText::header_order))]
-    pub fn of_header(alloc: Global, columns: &[Column], line: &[u8]) -> Result<Order, CsvError>
+    pub fn of_header(
+        alloc: Global,
+        dialect: &Dialect,
+        columns: &[Column],
+        line: &[u8],
+    ) -> Result<Order, CsvError>
         requires { length line.now ≤ line_limit }
-        ensures { ReadsCsv (λ order. order) result (header_order columns.now line.now) }
+        ensures { ReadsCsv (λ order. order) result (header_order dialect.now columns.now line.now) }
     {
-        if line.is_empty() || count_fields(line) != columns.len() {
+        if line.is_empty() || count_fields(line, dialect.separator()) != columns.len() {
             return Err(CsvError::BadCsv { line: 1, column: 0 });
         }
-        let places = places_named(alloc, columns, line)?;
+        let places = places_named(alloc, dialect.separator(), columns, line)?;
         Ok(Order { places })
     }
 
@@ -83,13 +89,18 @@ fn new_place(columns: &[Column], named: &[usize], field: &[u8]) -> Option<usize>
 }
 
 /// The places of the columns that a header's fields name.
-fn places_named(alloc: Global, columns: &[Column], line: &[u8]) -> Result<Vec<usize>, CsvError>
-    ensures { ReadsCsv (λ places. places.items) result (in_line 1 (order_from columns.now 1 [] (fields_of line.now))) }
+fn places_named(
+    alloc: Global,
+    separator: u8,
+    columns: &[Column],
+    line: &[u8],
+) -> Result<Vec<usize>, CsvError>
+    ensures { ReadsCsv (λ places. places.items) result (in_line 1 (order_from columns.now 1 [] (fields_of separator line.now))) }
 {
     let mut places = Vec::with_capacity(alloc, columns.len())?;
     let mut rest = Some(line);
     while let Some(text) = rest {
-        let (field, after) = first_field(text);
+        let (field, after) = first_field(text, separator);
         let Some(place) = new_place(columns, places.as_slice(), field) else {
             let column = places.len() as u64 + 1;
             return Err(CsvError::BadCsv { line: 1, column });

@@ -3,12 +3,13 @@ ghost use Rattle.std.specs.Prelude.{◌≡◌, ◌<◌, ◌≤◌, ◌+◌, ◌+
 ghost use Rattle.std.specs.Io.KnownBytes.{IsAtEnd};
 ghost use Rattle.table_model.specs.Faults.{read_limit};
 ghost use Rattle.table_model.specs.Table.{AreRows, row_limit};
-ghost use Rattle.csv_rows.specs.Reading.{at_start, to_come, AsKnown, Gave, NothingToCome, Refuses, Came, Counts};
+ghost use Rattle.csv_rows.specs.Reading.{at_start, at_start_in, to_come, AsKnown, Gave, NothingToCome, Refuses, Came, Counts};
 ghost use Rattle.csv_rows.specs.CsvText.{header_rows, rows_from};
 ghost use Rattle.csv_rows.specs.Line.{lines_of};
 ghost use Rattle.csv_rows.specs.RowReading.{ReadsOn, RefusesLines, RefusesHeader, NoLines};
 
 use crate::bytes::first_field;
+use crate::dialect::Dialect;
 use crate::error::CsvError;
 use crate::lines::{Found, Lines};
 use crate::order::Order;
@@ -31,6 +32,7 @@ const SHOWN: usize = 40;
 #[derive(Drop)]
 pub struct CsvReader {
     schema: Schema,
+    dialect: Dialect,
     has_header: bool,
     order: Option<Order>,
     lines: Lines,
@@ -42,21 +44,34 @@ impl Model for CsvReader {
 
     ghost Value = { Reading };
 
-    ghost view = { λ c. record { table = c.schema; has_header = c.has_header; order = c.order; number = c.lines.number; pending = c.lines.pending; given = c.lines.given } };
+    ghost view = { λ c. record { table = c.schema; dialect = c.dialect; has_header = c.has_header; order = c.order; number = c.lines.number; pending = c.lines.pending; given = c.lines.given } };
 
     ghost invariant = { λ c. IfNone c.order ((c.lines.at ≡ 0) × (length c.lines.pending < 3) × (c.lines.number ≡ 0)) };
 }
 
 impl CsvReader {
-    /// A reader of rows of this schema, from the start of a text. If the text has a header, its first line names all columns. It reads
-    /// nothing yet.
+    /// A reader of rows of this schema, from the start of a text in the usual dialect. If the text has a header, its first line names
+    /// all columns. It reads nothing yet.
     pub fn new(alloc: Global, schema: &Schema, has_header: bool) -> Result<CsvReader, AllocError>
         ensures { IfOk result (λ csv. csv ≡ at_start schema.now has_header) }
+    {
+        CsvReader::in_dialect(alloc, schema, has_header, Dialect::usual())
+    }
+
+    /// The same, of a text in this dialect.
+    pub fn in_dialect(
+        alloc: Global,
+        schema: &Schema,
+        has_header: bool,
+        dialect: Dialect,
+    ) -> Result<CsvReader, AllocError>
+        ensures { IfOk result (λ csv. csv ≡ at_start_in dialect schema.now has_header) }
     {
         let schema = schema.copy(alloc)?;
         let lines = Lines::new(alloc)?;
         Ok(CsvReader {
             schema,
+            dialect,
             has_header,
             order: None,
             lines,
@@ -79,6 +94,7 @@ impl CsvReader {
         ensures further { IfOk result (λ rows. self.old.number + length rows ≤ self.new.number) }
         ensures bound { OnOk result (self.new.number ≤ read_limit) }
         ensures table { self.new.table ≡ self.old.table }
+        ensures dialect { self.new.dialect ≡ self.old.dialect }
         ensures fault { IfErr result (λ e. Refuses self.old e (R.remaining reader.old.0)) }
         ensures came { Came self.old.given self.new.given (R.remaining reader.old.0) (R.remaining reader.new.0) }
         ensures within { OnOk result (self.new.given ≤ read_limit) }
@@ -104,7 +120,7 @@ impl CsvReader {
     pub fn faulty_field(&self, column: u64) -> &[u8]
         ensures { length result.now ≤ 40 }
     {
-        let field = field_at(self.lines.line(), column);
+        let field = field_at(self.lines.line(), self.dialect.separator(), column);
         let (shown, _) = field.split_at(field.len().min(SHOWN));
         shown
     }
@@ -131,6 +147,7 @@ impl CsvReader {
         ensures rows { OnOk result (AsKnown (λ bytes rest. to_come self.old bytes ≡ to_come self.new rest) (R.remaining reader.old.0) (R.remaining reader.new.0)) }
         ensures further { self.old.number ≤ self.new.number }
         ensures table { self.new.table ≡ self.old.table }
+        ensures dialect { self.new.dialect ≡ self.old.dialect }
         ensures fault { IfErr result (λ e. Refuses self.old e (R.remaining reader.old.0)) }
         ensures came { Came self.old.given self.new.given (R.remaining reader.old.0) (R.remaining reader.new.0) }
         ensures within { OnOk result (self.old.given ≤ read_limit → self.new.given ≤ read_limit) }
@@ -143,7 +160,13 @@ impl CsvReader {
         if !self.has_header {
             return Ok(());
         }
-        let order = read_order(alloc, self.schema.column_list(), &mut self.lines, reader)?;
+        let order = read_order(
+            alloc,
+            &self.dialect,
+            self.schema.column_list(),
+            &mut self.lines,
+            reader,
+        )?;
         self.order = Some(order);
         Ok(())
     }
@@ -159,6 +182,7 @@ impl CsvReader {
         ensures further { IfOk result (λ rows. self.old.number + length rows ≤ self.new.number) }
         ensures bound { OnOk result (self.new.number ≤ read_limit) }
         ensures table { self.new.table ≡ self.old.table }
+        ensures dialect { self.new.dialect ≡ self.old.dialect }
         ensures fault { IfErr result (λ e. Refuses self.old e (R.remaining reader.old.0)) }
         ensures came { Came self.old.given self.new.given (R.remaining reader.old.0) (R.remaining reader.new.0) }
         ensures within { OnOk result (self.new.given ≤ read_limit) }
@@ -169,28 +193,36 @@ impl CsvReader {
             return Ok(Rows::new(alloc));
         };
         let columns = self.schema.column_list();
-        read_rows(alloc, columns, order.places(), &mut self.lines, reader)
+        read_rows(
+            alloc,
+            &self.dialect,
+            columns,
+            order.places(),
+            &mut self.lines,
+            reader,
+        )
     }
 }
 
 /// The order of the columns that the first line, a header, gives.
 fn read_order<R: Read>(
     alloc: Global,
+    dialect: &Dialect,
     columns: &[Column],
     lines: &mut Lines,
     reader: &mut Counted<R>,
 ) -> Result<Order, CsvError>
-    ensures order { IfOk result (λ order. AsKnown (λ bytes rest. header_rows columns.now (lines_of (lines.old.pending ++ bytes)) ≡ rows_from columns.now order 2 (lines_of (lines.new.pending ++ rest))) (R.remaining reader.old.0) (R.remaining reader.new.0)) }
+    ensures order { IfOk result (λ order. AsKnown (λ bytes rest. header_rows dialect.now columns.now (lines_of (lines.old.pending ++ bytes)) ≡ rows_from dialect.now columns.now order 2 (lines_of (lines.new.pending ++ rest))) (R.remaining reader.old.0) (R.remaining reader.new.0)) }
     ensures number { IfOk result (λ _. lines.new.number ≡ suc lines.old.number) }
     ensures further { lines.old.number ≤ lines.new.number }
-    ensures fault { IfErr result (λ e. RefusesHeader columns.now lines.old e (R.remaining reader.old.0)) }
+    ensures fault { IfErr result (λ e. RefusesHeader dialect.now columns.now lines.old e (R.remaining reader.old.0)) }
     ensures came { Came lines.old.given lines.new.given (R.remaining reader.old.0) (R.remaining reader.new.0) }
     ensures within { OnOk result (lines.old.given ≤ read_limit → lines.new.given ≤ read_limit) }
     ensures kept { OnOk result (reader.new.1 ≡ reader.old.1) }
     ensures counts { IfErr result (λ e. Counts (read_limit < lines.new.given) e reader.old.1 reader.new.1) }
 {
     match lines.advance(reader)? {
-        Found::Line => Order::of_header(alloc, columns, lines.line()),
+        Found::Line => Order::of_header(alloc, dialect, columns, lines.line()),
         Found::TooLong => Err(CsvError::LineTooLong { line: 1 }),
         Found::End => Err(CsvError::BadCsv { line: 1, column: 0 }),
     }
@@ -199,6 +231,7 @@ fn read_order<R: Read>(
 /// Reads a line, and adds its row after the rows unless it is skipped; answers whether there was a line. The row is read into
 /// `cells`, in place of what is there.
 fn read_line<R: Read>(
+    dialect: &Dialect,
     columns: &[Column],
     order: &[usize],
     lines: &mut Lines,
@@ -207,12 +240,12 @@ fn read_line<R: Read>(
     rows: &mut Rows,
 ) -> Result<bool, CsvError>
     requires { lines.old.given ≤ read_limit }
-    ensures rows { OnOk result (ReadsOn columns.now order.now lines.old lines.new rows.old rows.new (R.remaining reader.old.0) (R.remaining reader.new.0)) }
+    ensures rows { OnOk result (ReadsOn dialect.now columns.now order.now lines.old lines.new rows.old rows.new (R.remaining reader.old.0) (R.remaining reader.new.0)) }
     ensures fits { OnOk result (AreRows columns.now rows.old → AreRows columns.now rows.new) }
     ensures len { OnOk result (length rows.new ≤ length rows.old + 1) }
     ensures further { IfOk result (λ found. IsTrue found → (lines.new.number ≡ suc lines.old.number)) }
-    ensures end { IfOk result (λ found. IsFalse found → (rows.new ≡ rows.old) × (lines.new.number ≡ lines.old.number) × NoLines columns.now order.now lines.new (R.remaining reader.old.0) (R.remaining reader.new.0)) }
-    ensures fault { IfErr result (λ e. RefusesLines columns.now order.now lines.old e (R.remaining reader.old.0)) }
+    ensures end { IfOk result (λ found. IsFalse found → (rows.new ≡ rows.old) × (lines.new.number ≡ lines.old.number) × NoLines dialect.now columns.now order.now lines.new (R.remaining reader.old.0) (R.remaining reader.new.0)) }
+    ensures fault { IfErr result (λ e. RefusesLines dialect.now columns.now order.now lines.old e (R.remaining reader.old.0)) }
     ensures bound { OnOk result (lines.new.number ≤ read_limit) }
     ensures came { Came lines.old.given lines.new.given (R.remaining reader.old.0) (R.remaining reader.new.0) }
     ensures within { OnOk result (lines.new.given ≤ read_limit) }
@@ -221,7 +254,15 @@ fn read_line<R: Read>(
 {
     match lines.advance(reader)? {
         Found::Line => {
-            push_row(columns, order, lines.number(), lines.line(), cells, rows)?;
+            push_row(
+                dialect,
+                columns,
+                order,
+                lines.number(),
+                lines.line(),
+                cells,
+                rows,
+            )?;
             Ok(true)
         }
         Found::TooLong => Err(CsvError::LineTooLong {
@@ -234,19 +275,20 @@ fn read_line<R: Read>(
 /// Reads rows until there are 65,536, or no more lines.
 fn read_rows<R: Read>(
     alloc: Global,
+    dialect: &Dialect,
     columns: &[Column],
     order: &[usize],
     lines: &mut Lines,
     reader: &mut Counted<R>,
 ) -> Result<Rows, CsvError>
     requires { lines.old.given ≤ read_limit }
-    ensures rows { IfOk result (λ rows. ReadsOn columns.now order.now lines.old lines.new [] rows (R.remaining reader.old.0) (R.remaining reader.new.0)) }
+    ensures rows { IfOk result (λ rows. ReadsOn dialect.now columns.now order.now lines.old lines.new [] rows (R.remaining reader.old.0) (R.remaining reader.new.0)) }
     ensures fits { IfOk result (λ rows. AreRows columns.now rows) }
     ensures limit { IfOk result (λ rows. length rows ≤ row_limit) }
-    ensures end { IfOk result (λ rows. length rows < row_limit → NoLines columns.now order.now lines.new (R.remaining reader.old.0) (R.remaining reader.new.0)) }
+    ensures end { IfOk result (λ rows. length rows < row_limit → NoLines dialect.now columns.now order.now lines.new (R.remaining reader.old.0) (R.remaining reader.new.0)) }
     ensures further { IfOk result (λ rows. lines.old.number + length rows ≤ lines.new.number) }
     ensures bound { OnOk result (lines.new.number ≤ read_limit) }
-    ensures fault { IfErr result (λ e. RefusesLines columns.now order.now lines.old e (R.remaining reader.old.0)) }
+    ensures fault { IfErr result (λ e. RefusesLines dialect.now columns.now order.now lines.old e (R.remaining reader.old.0)) }
     ensures came { Came lines.old.given lines.new.given (R.remaining reader.old.0) (R.remaining reader.new.0) }
     ensures within { OnOk result (lines.new.given ≤ read_limit) }
     ensures kept { OnOk result (reader.new.1 ≡ reader.old.1) }
@@ -255,7 +297,9 @@ fn read_rows<R: Read>(
     let mut rows = Rows::new(alloc);
     let mut cells = Vec::new(alloc);
     for _turn in 0..TURNS {
-        if !read_line(columns, order, lines, reader, &mut cells, &mut rows)? {
+        if !read_line(
+            dialect, columns, order, lines, reader, &mut cells, &mut rows,
+        )? {
             return Ok(rows);
         }
         if rows.len() >= BATCH_ROWS {
@@ -266,10 +310,10 @@ fn read_rows<R: Read>(
 }
 
 /// A field of a line, by its column, counted from 1.
-fn field_at(line: &[u8], column: u64) -> &[u8] {
+fn field_at(line: &[u8], separator: u8, column: u64) -> &[u8] {
     let mut at: u64 = 1;
     let mut rest = line;
-    while let (field, Some(after)) = first_field(rest) {
+    while let (field, Some(after)) = first_field(rest, separator) {
         if at >= column {
             return field;
         }

@@ -6,32 +6,39 @@ ghost use Rattle.csv_rows.specs.CsvText.{cell_at, filled, in_line, row_of, line_
 ghost use Rattle.csv_rows.specs.Outcome.{ReadsCsv, ReadsBehind};
 
 use crate::bytes::{count_fields, first_field};
+use crate::dialect::Dialect;
 use crate::error::CsvError;
 use crate::field::cell_in;
 use table_model::{Column, Rows};
 
 /// The cell that a field is below the column of this place, if it is one.
-fn cell_at(columns: &[Column], place: usize, field: &[u8]) -> Option<Option<i128>>
-    ensures cell { result ≡ cell_at columns.now place field.now }
+fn cell_at(
+    dialect: &Dialect,
+    columns: &[Column],
+    place: usize,
+    field: &[u8],
+) -> Option<Option<i128>>
+    ensures cell { result ≡ cell_at dialect.now columns.now place field.now }
     ensures place { IfSome result (λ _. place < length columns.now) }
 {
     let column = columns.get(place)?;
-    cell_in(column, field)
+    cell_in(dialect, column, field)
 }
 
 /// How many fields the rest of a line has.
-fn count_left(rest: Option<&[u8]>) -> usize
-    ensures { result ≡ length (fields_left (option_map (λ text. text.now) rest.entry)) }
+fn count_left(dialect: &Dialect, rest: Option<&[u8]>) -> usize
+    ensures { result ≡ length (fields_left dialect.now.separator (option_map (λ text. text.now) rest.entry)) }
 {
     match rest {
         None => 0,
-        Some(text) => count_fields(text),
+        Some(text) => count_fields(text, dialect.separator()),
     }
 }
 
 /// Puts the cell of each field at its column's place, and answers how many fields the line has; or answers the first faulty
 /// field, counted from 1.
 fn fill(
+    dialect: &Dialect,
     columns: &[Column],
     order: &[usize],
     line: &[u8],
@@ -39,9 +46,9 @@ fn fill(
 ) -> Result<usize, u64>
     requires long { length cells.old.items ≡ length columns.now }
     requires limit { length line.now ≤ line_limit }
-    ensures row { MatchResult result (λ _. filled columns.now 1 order.now (fields_of line.now) cells.old.items ≡ Ok cells.new.items)
-        (λ column. filled columns.now 1 order.now (fields_of line.now) cells.old.items ≡ Err column) }
-    ensures fields { IfOk result (λ fields. fields ≡ length (fields_of line.now)) }
+    ensures row { MatchResult result (λ _. filled dialect.now columns.now 1 order.now (fields_of dialect.now.separator line.now) cells.old.items ≡ Ok cells.new.items)
+        (λ column. filled dialect.now columns.now 1 order.now (fields_of dialect.now.separator line.now) cells.old.items ≡ Err column) }
+    ensures fields { IfOk result (λ fields. fields ≡ length (fields_of dialect.now.separator line.now)) }
 {
     let mut rest = Some(line);
     let mut fields: usize = 0;
@@ -49,20 +56,21 @@ fn fill(
         let Some(text) = rest else {
             return Ok(fields);
         };
-        let (field, after) = first_field(text);
+        let (field, after) = first_field(text, dialect.separator());
         fields += 1;
-        let Some(cell) = cell_at(columns, *place, field) else {
+        let Some(cell) = cell_at(dialect, columns, *place, field) else {
             return Err(fields as u64);
         };
         cells[*place] = cell;
         rest = after;
     }
-    Ok(fields + count_left(rest))
+    Ok(fields + count_left(dialect, rest))
 }
 
 /// Reads the row of a line with this number into `cells`, in place of what is there. The fields of a good line are cut once, and
 /// counted on the way; a wrong number of fields is reported before a fault in one of them.
 fn read_row(
+    dialect: &Dialect,
     columns: &[Column],
     order: &[usize],
     number: u64,
@@ -70,16 +78,18 @@ fn read_row(
     cells: &mut Vec<Option<i128>>,
 ) -> Result<(), CsvError>
     requires { length line.now ≤ line_limit }
-    ensures { ReadsCsv (λ done. cells.new.items) result (in_line number (row_of columns.now order.now line.now)) }
+    ensures { ReadsCsv (λ done. cells.new.items) result (in_line number (row_of dialect.now columns.now order.now line.now)) }
 {
     cells.clear();
     cells.resize(columns.len(), None)?;
-    match fill(columns, order, line, cells) {
+    match fill(dialect, columns, order, line, cells) {
         Ok(fields) if fields == columns.len() => Ok(()),
-        Err(column) if count_fields(line) == columns.len() => Err(CsvError::BadCsv {
-            line: number,
-            column,
-        }),
+        Err(column) if count_fields(line, dialect.separator()) == columns.len() => Err(
+            CsvError::BadCsv {
+                line: number,
+                column,
+            },
+        ),
         _ => Err(CsvError::BadCsv {
             line: number,
             column: 0,
@@ -91,6 +101,7 @@ fn read_row(
 /// what is there.
 #[tactic(auto, unfolding(crate::specs::CsvText::line_rows))]
 pub fn push_row(
+    dialect: &Dialect,
     columns: &[Column],
     order: &[usize],
     number: u64,
@@ -99,13 +110,13 @@ pub fn push_row(
     rows: &mut Rows,
 ) -> Result<(), CsvError>
     requires { length line.now ≤ line_limit }
-    ensures rows { ReadsBehind rows.old result rows.new (line_rows columns.now order.now number line.now) }
+    ensures rows { ReadsBehind rows.old result rows.new (line_rows dialect.now columns.now order.now number line.now) }
     ensures len { length rows.new ≤ length rows.old + 1 }
 {
     if line.is_empty() && columns.len() != 1 {
         return Ok(());
     }
-    read_row(columns, order, number, line, cells)?;
+    read_row(dialect, columns, order, number, line, cells)?;
     rows.push_row(cells.as_slice())?;
     Ok(())
 }

@@ -9,6 +9,6 @@ loop-byte-preserved c =
     let line : List ℕ = c.args.line.now in
     let i : ℕ = c.loop-byte.byte-index in
     let split : drop i line ≡ get_or line i 0 ∷ drop (i + 1) line = drop_more line i 0 (omega arith) in
-    let count : length (fields_of (drop i line)) ≡ cond (get_or line i 0 == 44) 1 0 + length (fields_of (drop (i + 1) line)) = ap (λ (bytes : List ℕ). length (fields_of bytes)) split ∙ count_more 44 (get_or line i 0) (drop (i + 1) line) in
-    let one : c.commas_in-commas.result ≡ cond (get_or line i 0 == 44) 1 0 = c.commas_in-commas.ensures.count in
-    record { pieces = omega (arith, c.loop-byte.invariant.pieces, count, one); few = omega (arith, c.loop-byte.invariant.few, c.commas_in-commas.ensures.bound) }
+    let count : length (fields_of c.args.separator (drop i line)) ≡ cond (get_or line i 0 == c.args.separator) 1 0 + length (fields_of c.args.separator (drop (i + 1) line)) = ap (λ (bytes : List ℕ). length (fields_of c.args.separator bytes)) split ∙ count_more c.args.separator (get_or line i 0) (drop (i + 1) line) in
+    let one : c.separators_in-separators.result ≡ cond (get_or line i 0 == c.args.separator) 1 0 = c.separators_in-separators.ensures.count in
+    record { pieces = omega (arith, c.loop-byte.invariant.pieces, count, one); few = omega (arith, c.loop-byte.invariant.few, c.separators_in-separators.ensures.bound) }

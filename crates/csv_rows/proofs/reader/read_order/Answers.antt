@@ -7,9 +7,9 @@ use Rattle.csv_rows.proofs.reader.read_order.Goals as goal
 
 pub returns-in-Line-clause-counts : goal.returns-in-Line-clause-counts
 returns-in-Line-clause-counts g c =
-    header_counts (λ (order : List ℕ). order) _ c.args.columns.now c.line.result.now c.of_header.result c.args.reader.now.1 c.advance.new.reader.1 c.of_header.ensures c.in_ok-advance.ensures.kept
+    header_counts (λ (order : List ℕ). order) _ c.args.dialect.now c.args.columns.now c.line.result.now c.of_header.result c.args.reader.now.1 c.advance.new.reader.1 c.of_header.ensures c.in_ok-advance.ensures.kept
 
 pub returns-in-TooLong-clause-fault : goal.returns-in-TooLong-clause-fault
 returns-in-TooLong-clause-fault g c =
     let found = subst (λ (f : Found). Finds f c.args.lines.now c.advance.new.self (g.R.Read.remaining c.args.reader.now.0) (g.R.Read.remaining c.advance.new.reader.0)) c.in-TooLong.is c.in_ok-advance.ensures.found in
-    header_long c.args.columns.now c.args.lines.now (g.R.Read.remaining c.args.reader.now.0) (g.R.Read.remaining c.advance.new.reader.0) found.1
+    header_long c.args.dialect.now c.args.columns.now c.args.lines.now (g.R.Read.remaining c.args.reader.now.0) (g.R.Read.remaining c.advance.new.reader.0) found.1

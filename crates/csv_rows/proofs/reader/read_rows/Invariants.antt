@@ -7,7 +7,7 @@ use Rattle.csv_rows.proofs.reader.read_rows.Given as goal
 
 abbrev pub invariant-loop-turn : goal.invariant-loop-turn
 invariant-loop-turn g l = record {
-  rows : ReadsOn l.columns l.order l.initial.lines l.lines [] l.rows (g.R.Read.remaining l.initial.reader.0) (g.R.Read.remaining l.reader.0);
+  rows : ReadsOn l.dialect l.columns l.order l.initial.lines l.lines [] l.rows (g.R.Read.remaining l.initial.reader.0) (g.R.Read.remaining l.reader.0);
   fits : AreRows l.columns l.rows;
   few : length l.rows < 65536;
   further : l.initial.lines.number + length l.rows ≤ l.lines.number;
