@@ -11,5 +11,7 @@ pub mod Imports
 pub mod LoadedBatches
 pub mod OperationSets
 pub mod StoreCommands
+pub mod DecodedRooms
 pub mod DumpRows
+pub mod DumpChoices
 pub mod LinesTold
