@@ -27,7 +27,7 @@ class Site(Maker):
     def tell(self):
         """The first command that the program answers otherwise, or None."""
         words = [word for name, kind in self.schema.columns for word in (name.lower(), kind.lower())]
-        steps = [self.load] * 5 + [self.load_again, self.delete, self.delete, self.delete_rows, self.delete_rows, self.forget] + [self.read_out] * 2 + [self.ask] * 5
+        steps = [self.load] * 5 + [self.load_again, self.delete, self.delete, self.delete_rows, self.delete_rows, self.forget] + [self.read_out] * 2 + [self.dump_some] * 2 + [self.ask] * 5
         if self.said("create", "t", "t", *words) != (0, b"ok\n", b""):
             return "create"
         for step in self.pick.choices(steps, k=STEPS):
@@ -156,6 +156,16 @@ class Site(Maker):
             or self.compared(["inspect", "--format", "json", "t"], inspected_as_json(self.schema, self.state))
             or self.compared(["inspect", "--batches", "t"], batches_of(self.state))
         )
+
+    def dump_some(self):
+        text, names = self.text_of(self.changed(self.condition(2, self.row_operand))), self.schema.names()
+        columns = self.pick.choices(names, k=self.pick.choice([1, 1, 2, 3]))
+        try:
+            kept = set(names_where(read_condition(text, names), self.state.live_named(), names)) if text else None
+            wanted = dumped(self.schema, self.state, False, columns, kept)
+        except Fault as fault:
+            wanted = fault
+        return self.compared(["dump", "--where", text, "--columns", ",".join(columns).lower(), "t"], wanted)
 
     def ask(self):
         text = self.query().removeprefix("query  ")

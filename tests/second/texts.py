@@ -76,11 +76,16 @@ def values_line(cells):
     return ",".join("" if it is None else spelled(it) for it in cells)
 
 
-def dumped(schema, state, has_names):
-    """The live rows in order, below a header."""
-    lines = [",".join([*["BATCH", "ORDINAL"][: 2 * has_names], *schema.names()])]
-    for (origin, number, at), row in state.live_named():
-        lines.append(f"{origin}.{number},{at},{values_line(row)}" if has_names else values_line(row))
+def dumped(schema, state, has_names, columns=None, kept=None):
+    """The live rows in order, below a header: all, or those of these names; in all columns, or in those of these names."""
+    names = schema.names()
+    columns = names if columns is None else columns
+    lines = [",".join([*["BATCH", "ORDINAL"][: 2 * has_names], *columns])]
+    for name, row in state.live_named():
+        if kept is None or name in kept:
+            line = values_line([row[names.index(column)] for column in columns])
+            origin, number, at = name
+            lines.append(f"{origin}.{number},{at},{line}" if has_names else line)
     return "".join(f"{line}\n" for line in lines)
 
 

@@ -208,6 +208,8 @@ impl Verb {
             Verb::Dump => Ok(Request::Dump {
                 file: text_of(given, "FILE"),
                 has_names: given.get_flag("names"),
+                condition: text_of(given, "where"),
+                columns: text_of(given, "columns"),
             }),
             Verb::Inspect => self.inspect_request(alloc, given),
             Verb::Summary => Ok(Request::Summary {
@@ -393,7 +395,7 @@ impl Verb {
     }
 }
 
-/// The word that was given for an argument that is required.
+/// The word that was given for an argument; empty if none was.
 fn text_of<'a>(given: &ArgMatches<'a>, argument: &str) -> &'a str {
     given.get_str(argument).unwrap_or("")
 }
@@ -556,13 +558,25 @@ fn query_command<'a>(alloc: Global, command: Command<'a>) -> Result<Command<'a>,
 }
 
 fn dump_command<'a>(alloc: Global, command: Command<'a>) -> Result<Command<'a>, AllocError> {
+    let names = flag(
+        alloc,
+        "names",
+        "Put each row's batch and ordinal before its values",
+    );
+    let condition = Arg::new(alloc, "where")
+        .long("where")
+        .value_name("COND")
+        .help("Only the rows for which this condition is true, as in WHERE")
+        .allow_hyphen_values(true);
+    let columns = Arg::new(alloc, "columns")
+        .long("columns")
+        .value_name("NAMES")
+        .help("Only these columns, in this order, with a comma between each two");
     command
         .about("Writes the rows as comma-separated values")
-        .arg(flag(
-            alloc,
-            "names",
-            "Put each row's batch and ordinal before its values",
-        ))?
+        .arg(names)?
+        .arg(condition)?
+        .arg(columns)?
         .arg(file(alloc))
 }
 

@@ -103,12 +103,17 @@ pub enum Request<'a> {
         /// The form of the answers.
         format: Format,
     },
-    /// `lanes dump [--names] FILE`: the live rows as comma-separated values.
+    /// `lanes dump [--names] [--where COND] [--columns NAMES] FILE`: the live rows as comma-separated values, or some of them, in all
+    /// columns or some.
     Dump {
         /// The file's name.
         file: &'a str,
         /// Whether each row's name comes before its values.
         has_names: bool,
+        /// The condition that is true at the rows; empty for all rows.
+        condition: &'a str,
+        /// The names of the columns, with a comma between each two; empty for all columns.
+        columns: &'a str,
     },
     /// `lanes inspect [--batches] [--format FORMAT] FILE`: what a file holds and how it is coded, or a list of its batches.
     Inspect {

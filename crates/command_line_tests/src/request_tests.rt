@@ -24,7 +24,7 @@ fn asked(alloc: Global, words: &[&str]) -> Result<String, AllocError> {
     }
 }
 
-const REQUESTS: [(&[&str], &str); 48] = [
+const REQUESTS: [(&[&str], &str); 49] = [
     (&["run"], "Run { source: Input, is_explained: false }"),
     (&["run", "-"], "Run { source: Input, is_explained: false }"),
     (
@@ -137,7 +137,11 @@ const REQUESTS: [(&[&str], &str); 48] = [
     (&["pack", "d", "--all"], "fault"),
     (
         &["dump", "--names", "f"],
-        "Dump { file: \"f\", has_names: true }",
+        "Dump { file: \"f\", has_names: true, condition: \"\", columns: \"\" }",
+    ),
+    (
+        &["dump", "--columns", "b,A", "--where", "-1 = A", "f"],
+        "Dump { file: \"f\", has_names: false, condition: \"-1 = A\", columns: \"b,A\" }",
     ),
     (
         &["inspect", "f"],
@@ -169,7 +173,7 @@ fn no_word_of_a_command_line_is_dropped_or_taken_for_another(rt: HostRuntime) ->
 }
 
 /// Command lines that lack a word, have one too many, or one that is malformed.
-const FAULTS: [&[&str]; 27] = [
+const FAULTS: [&[&str]; 28] = [
     &["forget"],
     &["forget", "f", "f"],
     &["pack"],
@@ -182,6 +186,7 @@ const FAULTS: [&[&str]; 27] = [
     &["summary", "f", "f"],
     &["dump"],
     &["dump", "--name", "f"],
+    &["dump", "--where", "f"],
     &["inspect"],
     &["delete", "f"],
     &["delete", "f", "A", "B"],

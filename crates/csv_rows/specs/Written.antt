@@ -1,5 +1,5 @@
 -- The text of rows as comma-separated values.
-use Rattle.std.specs.Prelude.{◌≡◌, ℕ, List, [], ◌++◌, map, codes, Option, Some, None, Result, Ok, Err, ℤ, true}
+use Rattle.std.specs.Prelude.{◌≡◌, ℕ, List, [], ◌++◌, map, slice_index_or, codes, Option, Some, None, Result, Ok, Err, ℤ, true}
 use Rattle.std.specs.Fmt.{decimal, signed_decimal}
 use Rattle.std.specs.List.{flat_map}
 use Rattle.std.specs.Io.KnownBytes.{Appends}
@@ -27,6 +27,14 @@ column_name column = column.name
 abbrev pub header_line : List ColumnShape → List ℕ
 header_line columns = line_of (map column_name columns)
 
+-- the name of the column at a place
+abbrev pub name_at : List ColumnShape → ℕ → List ℕ
+name_at columns place = slice_index_or (map column_name columns) place []
+
+-- the line of the names of columns by their places
+abbrev pub header_line_at : List ColumnShape → List ℕ → List ℕ
+header_line_at columns places = line_of (map (name_at columns) places)
+
 -- the line of a row
 abbrev pub row_line : Cells → List ℕ
 row_line cells = line_of (map cell_text cells)
@@ -34,6 +42,10 @@ row_line cells = line_of (map cell_text cells)
 -- the line of the columns' names, with those of the columns of a row's name before them
 abbrev pub named_header_line : List ColumnShape → List ℕ
 named_header_line columns = codes "BATCH,ORDINAL," ++ header_line columns
+
+-- the same of columns by their places
+abbrev pub named_header_line_at : List ColumnShape → List ℕ → List ℕ
+named_header_line_at columns places = codes "BATCH,ORDINAL," ++ header_line_at columns places
 
 -- a row's name, with a comma behind each of its parts
 abbrev pub row_name_text : RowName → List ℕ

@@ -1,8 +1,8 @@
 //! The text of rows as comma-separated values.
-ghost use Rattle.std.specs.Prelude.{◌≡◌, ◌∷◌, ◌++◌, [], OnOk, IfOk, map};
+ghost use Rattle.std.specs.Prelude.{◌≡◌, ◌<◌, ◌∷◌, ◌++◌, [], OnOk, IfOk, length, map};
 ghost use Rattle.std.specs.Fmt.{decimal, signed_decimal};
-ghost use Rattle.std.specs.List.{flat_map};
-ghost use Rattle.csv_rows.specs.Written.{WritesText, cell_text, header_line, row_line, named_header_line, named_row_line, row_name_text};
+ghost use Rattle.std.specs.List.{All, flat_map};
+ghost use Rattle.csv_rows.specs.Written.{WritesText, cell_text, header_line_at, name_at, row_line, named_header_line_at, named_row_line, row_name_text};
 
 use itoa::Buffer;
 use std::alloc::{AllocError, Global};
@@ -23,16 +23,18 @@ impl CsvWriter {
         }
     }
 
-    /// Writes the line of the columns' names.
+    /// Writes the line of the names of columns by their places, from the left and from 0.
     pub fn header<W: Write>(
         &mut self,
         columns: &[Column],
+        places: &[usize],
         writer: &mut Counted<W>,
     ) -> Result<(), Refusal>
-        ensures { WritesText result (W.contents writer.old.0) (W.contents writer.new.0) writer.old.1 writer.new.1 (header_line columns.now) }
+        requires { All (λ place. place < length columns.now) places.now }
+        ensures { WritesText result (W.contents writer.old.0) (W.contents writer.new.0) writer.old.1 writer.new.1 (header_line_at columns.now places.now) }
     {
         self.line.clear();
-        push_header(&mut self.line, columns)?;
+        push_header(&mut self.line, columns, places)?;
         writer.write_whole(self.line.as_slice())
     }
 
@@ -49,17 +51,19 @@ impl CsvWriter {
         writer.write_whole(self.line.as_slice())
     }
 
-    /// Writes the line of the columns' names, with `BATCH` and `ORDINAL` before them.
+    /// Writes the line of columns' names, with `BATCH` and `ORDINAL` before them.
     pub fn named_header<W: Write>(
         &mut self,
         columns: &[Column],
+        places: &[usize],
         writer: &mut Counted<W>,
     ) -> Result<(), Refusal>
-        ensures { WritesText result (W.contents writer.old.0) (W.contents writer.new.0) writer.old.1 writer.new.1 (named_header_line columns.now) }
+        requires { All (λ place. place < length columns.now) places.now }
+        ensures { WritesText result (W.contents writer.old.0) (W.contents writer.new.0) writer.old.1 writer.new.1 (named_header_line_at columns.now places.now) }
     {
         self.line.clear();
         self.line.extend_from_slice(b"BATCH,ORDINAL,")?;
-        push_header(&mut self.line, columns)?;
+        push_header(&mut self.line, columns, places)?;
         writer.write_whole(self.line.as_slice())
     }
 
@@ -99,26 +103,40 @@ fn push_decimal(out: &mut Vec<u8>, value: u64) -> Result<(), AllocError>
     out.extend_from_slice(buffer.format(value).as_bytes())
 }
 
-/// Adds the line of columns' names to the end of a text.
-fn push_header(out: &mut Vec<u8>, columns: &[Column]) -> Result<(), AllocError>
-    ensures { OnOk result (out.new.items ≡ out.old.items ++ header_line columns.now) }
+/// The name of the column at a place.
+fn name_at(columns: &[Column], place: usize) -> &[u8]
+    requires { place < length columns.now }
+    ensures { result.now ≡ name_at columns.now place }
 {
-    let Some((first, rest)) = columns.split_first() else {
+    columns[place].name().as_bytes()
+}
+
+/// Adds the line of the names of columns by their places to the end of a text.
+fn push_header(out: &mut Vec<u8>, columns: &[Column], places: &[usize]) -> Result<(), AllocError>
+    requires { All (λ place. place < length columns.now) places.now }
+    ensures { OnOk result (out.new.items ≡ out.old.items ++ header_line_at columns.now places.now) }
+{
+    let Some((first, rest)) = places.split_first() else {
         return out.extend_from_slice(b"\n");
     };
-    out.extend_from_slice(first.name().as_bytes())?;
-    push_more_names(out, rest)?;
+    out.extend_from_slice(name_at(columns, *first))?;
+    push_more_names(out, columns, rest)?;
     out.extend_from_slice(b"\n")?;
     Ok(())
 }
 
-/// Adds each column's name to the end of a text, with a comma before it.
-fn push_more_names(out: &mut Vec<u8>, columns: &[Column]) -> Result<(), AllocError>
-    ensures { OnOk result (out.new.items ≡ out.old.items ++ flat_map (λ column. 44 ∷ column.name) columns.now) }
+/// Adds the name of each column by its place to the end of a text, with a comma before it.
+fn push_more_names(
+    out: &mut Vec<u8>,
+    columns: &[Column],
+    places: &[usize],
+) -> Result<(), AllocError>
+    requires { All (λ place. place < length columns.now) places.now }
+    ensures { OnOk result (out.new.items ≡ out.old.items ++ flat_map (λ place. 44 ∷ name_at columns.now place) places.now) }
 {
-    for column in columns {
+    for place in places {
         out.extend_from_slice(b",")?;
-        out.extend_from_slice(column.name().as_bytes())?;
+        out.extend_from_slice(name_at(columns, *place))?;
     }
     Ok(())
 }

@@ -157,6 +157,29 @@ fn an_empty_line_is_a_null_of_a_single_column(rt: HostRuntime) -> Result<(), Fai
     are_read(alloc, &one(alloc)?, false, LINES.as_slice())
 }
 
+/// The places of the columns of a table of three.
+const PLACES: [usize; 3] = [0, 1, 2];
+
+/// Writes the heading of columns at places of a table.
+fn heading(
+    csv: &mut CsvWriter,
+    schema: &Schema,
+    has_names: bool,
+    places: &[usize],
+    writer: &mut Counted<Vec<u8>>,
+) -> Result<(), Fail> {
+    let columns = schema.column_list();
+    if !places.iter().all(|place| *place < columns.len()) {
+        return Err(Fail::new("no such column"));
+    }
+    if has_names {
+        csv.named_header(columns, places, writer)?;
+    } else {
+        csv.header(columns, places, writer)?;
+    }
+    Ok(())
+}
+
 /// The text of a dump of a table's rows that a text has.
 fn dumped(alloc: Global, schema: &Schema, has_names: bool, text: &[u8]) -> Result<String, Fail> {
     let mut reader = Counted::new(text);
@@ -173,11 +196,7 @@ fn dumped(alloc: Global, schema: &Schema, has_names: bool, text: &[u8]) -> Resul
         },
         ordinal: 0,
     };
-    if has_names {
-        csv.named_header(schema.column_list(), &mut writer)?;
-    } else {
-        csv.header(schema.column_list(), &mut writer)?;
-    }
+    heading(&mut csv, schema, has_names, &PLACES, &mut writer)?;
     for ordinal in 0..rows.len() {
         if has_names {
             csv.named_row(name, rows.row(ordinal), &mut writer)?;
@@ -205,4 +224,19 @@ fn what_is_written_is_read_again(rt: HostRuntime) -> Result<(), Fail> {
         IN_ORDER,
     )?;
     agree(dumped(alloc, &schema, true, UNORDERED)?.as_str(), NAMED)
+}
+
+#[test]
+fn a_heading_has_the_columns_at_its_places(rt: HostRuntime) -> Result<(), Fail> {
+    let alloc = rt.alloc();
+    let schema = three(alloc)?;
+    let mut csv = CsvWriter::new(alloc);
+    let mut writer = Counted::new(Vec::new(alloc));
+    heading(&mut csv, &schema, false, &[2, 0, 2], &mut writer)?;
+    heading(&mut csv, &schema, true, &[1], &mut writer)?;
+    heading(&mut csv, &schema, false, &[], &mut writer)?;
+    agree(
+        String::from_utf8(writer.into_inner())?.as_str(),
+        "C,A,C\nBATCH,ORDINAL,B\n\n",
+    )
 }

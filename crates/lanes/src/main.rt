@@ -106,7 +106,12 @@ fn run<
             is_quiet,
         } => changing::apply(rt, file, offers.as_slice(), is_quiet)?,
         Request::Forget { file, is_quiet } => changing::forget(rt, file, is_quiet)?,
-        Request::Dump { file, has_names } => reports::dump(rt, file, has_names)?,
+        Request::Dump {
+            file,
+            has_names,
+            condition,
+            columns,
+        } => reports::dump(rt, file, has_names, condition, columns)?,
         Request::Inspect {
             file,
             has_batches,

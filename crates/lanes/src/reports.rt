@@ -1,13 +1,14 @@
 //! The commands that read a file and write to standard output what is in it.
 
-use crate::failure::Failure;
+use crate::failure::{Failure, is_of_a_text};
 use crate::folder_reports;
 use crate::folders::is_folder;
 use crate::inputs::{name_of, opened, source_of, unread};
 use crate::watched::{Cause, Watched};
 use command_line::{ReportForm, Source, not_for_a_terminal};
-use refusal_sentences::CommandRefusal;
-use replica_files::list_batches;
+use live_columns::{Unchosen, choose};
+use refusal_sentences::{CommandRefusal, Text};
+use replica_files::{OpenFile, dump_where, list_batches};
 use std::fs::{File, Files};
 use std::io::{self, BufWriter, Printer, Write};
 use std::rt::Clock;
@@ -37,16 +38,53 @@ pub fn check<R: Print + Files<File = File> + Clock + AllocGlobal + Clone + Drop>
     told(rt, writer.into_inner().ended(outcome))
 }
 
-/// Writes a file's live rows as comma-separated values, with their names or without.
+/// Writes a file's live rows as comma-separated values, with their names or without: those for which a condition is true, in the
+/// columns of a list of names. An empty condition is true for all rows, and an empty list is all columns.
 pub fn dump<R: Print + Files<File = File> + Clock + AllocGlobal + Clone + Drop>(
     rt: &R,
     file: &str,
     has_names: bool,
+    condition: &str,
+    columns: &str,
 ) -> Result<(), Failure> {
     let held = opened(rt, file)?;
+    let choice = match choose(
+        rt.alloc(),
+        held.schema(),
+        columns.as_bytes(),
+        b',',
+        condition,
+    ) {
+        Ok(choice) => choice,
+        Err(Unchosen::NoSuchName(at)) => {
+            return Err(unchosen(rt, Refusal::NoSuchColumn(at), "--columns", columns, &held));
+        }
+        Err(Unchosen::Refused(refusal)) => {
+            return Err(unchosen(rt, refusal, "--where", condition, &held));
+        }
+    };
     let mut writer = buffered(rt)?;
-    let outcome = replica_files::dump(rt.alloc(), &held, has_names, &mut writer);
+    let outcome = dump_where(rt.alloc(), &held, &choice, has_names, &mut writer);
     told(rt, flushed(writer, outcome))
+}
+
+/// The refusal of the text that is given with an option.
+fn unchosen<R: AllocGlobal>(
+    rt: &R,
+    refusal: Refusal,
+    option: &str,
+    text: &str,
+    held: &OpenFile,
+) -> Failure {
+    if !is_of_a_text(refusal) {
+        return Failure::from(refusal);
+    }
+    let text = Text {
+        text,
+        is_condition: true,
+        schema: Some(held.schema()),
+    };
+    Failure::of_text(rt.alloc(), refusal, option, text)
 }
 
 /// Writes what a file holds and how its columns are coded, or a list of its batches.

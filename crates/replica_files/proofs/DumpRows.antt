@@ -64,9 +64,9 @@ kept_fit columns keeps (x ∷ xs) h = elim (keeps x) as (λ b. AreRows columns (
   | false ↦ kept_fit columns keeps xs h.1
 ]
 
-live_fit : (r : Replica) → HasFile r.schema r.state → AreRows r.schema.columns (cells_of (live_rows r.state))
+pub live_fit : (r : Replica) → AllFit r.schema (map.entries r.state.batches) → AreRows r.schema.columns (cells_of (live_rows r.state))
 unfolding live_rows
-live_fit r h = kept_fit r.schema.columns (λ (row : RowName × Cells). not (set.contains r.state.deleted row.0)) (named_rows r.state) (entries_fit r.schema (map.entries r.state.batches) h.within.fits)
+live_fit r h = kept_fit r.schema.columns (λ (row : RowName × Cells). not (set.contains r.state.deleted row.0)) (named_rows r.state) (entries_fit r.schema (map.entries r.state.batches) h)
 
 row_lines : (xs : List (RowName × Cells)) → flat_map (row_text false) xs ≡ flat_map row_line (cells_of xs)
 row_lines [] = refl
@@ -75,7 +75,7 @@ row_lines (x ∷ xs) = ap (λ (t : List ℕ). row_line x.1 ++ t) (row_lines xs)
 dump_is_read : (old : Replica) → HasFile old.schema old.state → csv_rows old.schema true (dumping false old) ≡ Ok (cells_of (live_rows old.state))
 dump_is_read old h =
     ap (λ (t : List ℕ). csv_rows old.schema true (header_line old.schema.columns ++ t)) (row_lines (live_rows old.state))
-    ∙ rows_read_again old.schema h.schema (cells_of (live_rows old.state)) (live_fit old h)
+    ∙ rows_read_again old.schema h.schema (cells_of (live_rows old.state)) (live_fit old h.within.fits)
 
 -- ---- imported
 

@@ -11,7 +11,9 @@ pub mod Imports
 pub mod LoadedBatches
 pub mod OperationSets
 pub mod StoreCommands
+pub mod DecodedRooms
 pub mod DumpRows
+pub mod DumpChoices
 pub mod LinesTold
 pub mod RefusedOnFile
 pub mod ReadersInTurn

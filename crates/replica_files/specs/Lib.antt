@@ -1,6 +1,8 @@
 pub mod Asking
 pub mod Commands
 pub mod CsvLoads
+pub mod DumpColumnLaws
+pub mod DumpRooms
 pub mod Dumps
 pub mod FileLaws
 pub mod ForgetFileLaws

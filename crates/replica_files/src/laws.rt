@@ -1,4 +1,5 @@
 //! Laws of files, of forgetting and of imports, each the contract of a function that does nothing.
+ghost use Rattle.replica_files.specs.DumpColumnLaws.{DumpColumnLaws};
 ghost use Rattle.replica_files.specs.DumpLaws.{DumpLaws};
 ghost use Rattle.replica_files.specs.FileLaws.{FileLaws};
 ghost use Rattle.replica_files.specs.ForgetFileLaws.{ForgetFileLaws};
@@ -30,4 +31,10 @@ pub fn drawn_names_are_free()
 /// rows in the same order.
 pub fn dump_laws()
     ensures { DumpLaws }
+{}
+
+/// The columns that are given for a choice of columns and a condition are those of the rows that a dump of the same choice writes,
+/// column by column; without a condition the rows are the live rows. A dump of all columns without a condition is the whole dump.
+pub fn dump_column_laws()
+    ensures { DumpColumnLaws }
 {}

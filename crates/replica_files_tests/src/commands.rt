@@ -3,9 +3,10 @@
 use answer_formats::ReportForm;
 use column_file::{read_offer, read_summary};
 use csv_rows::{CsvError, CsvReader};
+use live_columns::{Unchosen, choose};
 use replica_files::{
-    Applied, Load, OpenFile, apply, create, delete, delete_rows, dump, file_schema, forget, import,
-    inspect, merge, offer, read_csv, summary,
+    Applied, Load, OpenFile, apply, create, delete, delete_rows, dump, dump_where, file_schema,
+    forget, import, inspect, merge, offer, read_csv, summary,
 };
 use replica_store::Offer;
 use std::alloc::Global;
@@ -137,6 +138,25 @@ pub fn opened(alloc: Global, file: &[u8]) -> Result<OpenFile, Refusal> {
 pub fn dumped(alloc: Global, file: &[u8], has_names: bool) -> Result<Vec<u8>, Refusal> {
     let mut writer = Counted::new(Vec::new(alloc));
     dump(alloc, &opened(alloc, file)?, has_names, &mut writer)?;
+    Ok(writer.into_inner())
+}
+
+/// The dump of a file's columns by their names, at the rows for which a condition is true.
+pub fn dumped_where(
+    alloc: Global,
+    file: &[u8],
+    columns: &str,
+    condition: &str,
+    has_names: bool,
+) -> Result<Vec<u8>, Refusal> {
+    let file = opened(alloc, file)?;
+    let choice = match choose(alloc, file.schema(), columns.as_bytes(), b',', condition) {
+        Ok(choice) => choice,
+        Err(Unchosen::NoSuchName(at)) => return Err(Refusal::NoSuchColumn(at)),
+        Err(Unchosen::Refused(refusal)) => return Err(refusal),
+    };
+    let mut writer = Counted::new(Vec::new(alloc));
+    dump_where(alloc, &file, &choice, has_names, &mut writer)?;
     Ok(writer.into_inner())
 }
 

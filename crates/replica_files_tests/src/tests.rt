@@ -1,7 +1,7 @@
 //! Commands on files, by what they answer and what the file holds then.
 use crate::commands::{
-    Answer, Command, applied, created, done, dumped, file_of, inspected, merged, name, offered,
-    row, summarized,
+    Answer, Command, applied, created, done, dumped, dumped_where, file_of, inspected, merged,
+    name, offered, row, summarized,
 };
 use std::test::Fail;
 use table_model::{BatchName, ColType, Number, Origin, Refusal};
@@ -110,6 +110,60 @@ fn a_dump_with_names_begins_with_batch_and_ordinal(rt: HostRuntime) -> Result<()
         text.as_slice()
             == b"BATCH,ORDINAL,A,B\n7.5,0,2,1\n7.5,1,-3,\n7.5,2,4,9000000000\n".as_slice()
     );
+    Ok(())
+}
+
+/// Columns by their names, a condition, whether rows are named, and the dump of these.
+const CHOSEN: [(&str, &str, bool, &str); 7] = [
+    ("", "", false, "A,B\n2,1\n-3,\n4,9000000000\n"),
+    ("b", "", false, "B\n1\n\n9000000000\n"),
+    (
+        "B,a,B",
+        "A > 0",
+        false,
+        "B,A,B\n1,2,1\n9000000000,4,9000000000\n",
+    ),
+    ("", "b IS NULL", true, "BATCH,ORDINAL,A,B\n7.5,1,-3,\n"),
+    (
+        "A",
+        "B = 1 OR A = 4",
+        true,
+        "BATCH,ORDINAL,A\n7.5,0,2\n7.5,2,4\n",
+    ),
+    ("A", "B > 9000000000", true, "BATCH,ORDINAL,A\n"),
+    ("A", "B <> 1", false, "A\n4\n"),
+];
+
+#[test]
+fn a_dump_has_the_rows_and_the_columns_that_are_chosen(rt: HostRuntime) -> Result<(), Fail> {
+    let file = file_of(rt.alloc(), &COLUMNS, &BEFORE)?;
+    for (columns, condition, has_names, want) in CHOSEN {
+        let text = dumped_where(rt.alloc(), file.as_slice(), columns, condition, has_names)?;
+        assert!(rt;
+            text.as_slice() == want.as_bytes(),
+            "{columns} at {condition}"
+        );
+    }
+    Ok(())
+}
+
+/// Columns by their names and a condition that are refused, and the refusal.
+const UNCHOSEN: [(&str, &str, Refusal); 6] = [
+    ("A,C", "", Refusal::NoSuchColumn(2)),
+    ("A,", "", Refusal::NoSuchColumn(2)),
+    ("", "A = 1 AND C = 2", Refusal::NoSuchColumn(10)),
+    ("", "A =", Refusal::Syntax(3)),
+    ("C", "A =", Refusal::Syntax(3)),
+    ("C", "D = 1", Refusal::NoSuchColumn(0)),
+];
+
+#[test]
+fn a_choice_of_rows_and_columns_is_refused_at_its_place(rt: HostRuntime) -> Result<(), Fail> {
+    let file = file_of(rt.alloc(), &COLUMNS, &BEFORE)?;
+    for (columns, condition, want) in UNCHOSEN {
+        let outcome = dumped_where(rt.alloc(), file.as_slice(), columns, condition, false);
+        agree_at(columns, refused(outcome), Some(want))?;
+    }
     Ok(())
 }
 
