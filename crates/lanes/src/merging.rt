@@ -197,7 +197,7 @@ fn merged_files<R: Eprint + Files<File = File> + Clock + AllocGlobal + Clone + D
         let outcome = if fault.is_some() && inputs.paths.as_slice().is_empty() {
             Ok(Vec::new(rt.alloc()))
         } else {
-            merged_inputs(rt, progress, names, &inputs)
+            merged_inputs(rt, &*progress, names, &inputs)
         };
         match outcome {
             Ok(bytes) => return told_last(bytes, fault),
