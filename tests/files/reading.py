@@ -1,6 +1,7 @@
-"""How commands read FILE: its bytes once; and what is left alone if nothing changes."""
+"""How commands read: FILE once, the line at a terminal that says how far a reading is, and what is left alone if nothing changes."""
 
 import os
+import pty
 import random
 import re
 import shutil
@@ -8,7 +9,7 @@ import subprocess
 import time
 
 from replacing import LOCK
-from room import Lacking
+from room import Lacking, rows_text
 
 # What a file's schema is read from, before its lock is had.
 HEAD = 4_096
@@ -113,9 +114,102 @@ def what_brings_nothing_leaves_the_file_alone(room):
     room.only("o", "old", "t", "u")
 
 
+def at_a_terminal(room, *words, pieces, pause):
+    """What a command shows on a terminal that is its standard error, and its status, if `pipe` gives it these pieces with a pause after each."""
+    if not os.path.exists(room.path("pipe")):
+        os.mkfifo(room.path("pipe"))
+    screen, terminal = pty.openpty()
+    running = room.start(*words, stderr=terminal)
+    os.close(terminal)
+    with open(room.path("pipe"), "wb", buffering=0) as pipe:
+        for piece in pieces:
+            try:
+                pipe.write(piece)
+            except BrokenPipeError:
+                break
+            time.sleep(pause)
+    running.communicate(timeout=120)
+    shown = b""
+    with os.fdopen(screen, "rb", buffering=0) as reader:
+        try:
+            while part := reader.read(65_536):
+                shown += part
+        except OSError:
+            pass
+    return shown.replace(b"\r\n", b"\n"), running.returncode
+
+
+CLEAR = b"\r\x1b[K"
+
+
+def a_slow_reading_says_at_a_terminal_how_far_it_is_and_clears_the_line(room):
+    room.make()
+    line = b"1,10\n"
+    shown, status = at_a_terminal(room, "import", "--no-header", "--quiet", "t", "pipe", pieces=[line] * 30, pause=0.1)
+    assert status == 0 and shown == b"", f"with --quiet it showed {shown!r}"
+    shown, status = at_a_terminal(room, "import", "--no-header", "t", "pipe", pieces=[line] * 6, pause=0.1)
+    assert status == 0 and shown == b"", f"within two seconds it showed {shown!r}"
+    shown, status = at_a_terminal(room, "import", "--no-header", "t", "pipe", pieces=[line] * 40, pause=0.1)
+    steps = shown.split(CLEAR)
+    assert status == 0 and steps[0] == b"" and steps[-1] == b"", f"it showed {shown!r}"
+    counts = [int(re.fullmatch(rb"reading pipe: ([0-9]+) bytes", step)[1]) for step in steps[1:-1]]
+    assert 3 <= len(counts) <= 9 and counts == sorted(counts) and counts[0] >= 80 and counts[-1] <= 200, f"it showed {shown!r}"
+
+
+def each_command_that_reads_slowly_says_so(room):
+    held = room.make()
+    summary = room.ok("summary", "t")
+    for words, given in (
+        (("check", "pipe"), held),
+        (("query", "pipe", "SELECT COUNT(*) FROM T"), held),
+        (("dump", "pipe"), held),
+        (("inspect", "pipe"), held),
+        (("summary", "pipe"), held),
+        (("merge", "out", "t", "pipe"), held),
+        (("offer", "t", "pipe"), summary),
+        (("run", "pipe"), b"table 1 T A INTEGER\n" * 2),
+    ):
+        half = len(given) // 2
+        shown, status = at_a_terminal(room, *words, pieces=[given[:half], given[half:-1], given[-1:]], pause=1.2)
+        assert status == 0 and b"reading pipe: " in shown and shown.endswith(CLEAR), f"{words} ended with {status} and showed {shown!r}"
+
+
+def the_line_is_cleared_before_a_refusal(room):
+    room.make()
+    rows = [b"1,10\n"] * 25 + [b"x,10\n"]
+    shown, status = at_a_terminal(room, "import", "--no-header", "t", "pipe", pieces=rows, pause=0.1)
+    assert status == 1 and b"reading pipe: " in shown and CLEAR + b"refused BadCsv 26 1\n" in shown, f"it showed {shown!r}"
+    assert shown.rindex(b"reading pipe: ") < shown.rindex(CLEAR)
+
+
+def the_size_of_a_file_is_said(room):
+    room.make()
+    room.put("rows", rows_text(10_000))
+    size = len(room.get("rows")) // 1_000
+    shown, status = at_a_terminal(room, "import", "--no-header", "t", "pipe", "rows", pieces=[b"1,10\n"], pause=2.2)
+    assert status == 0 and shown.startswith(CLEAR + b"reading rows: 65 kB of %d kB" % size + CLEAR) and shown.endswith(CLEAR), f"it showed {shown!r}"
+
+
+def nothing_is_said_where_standard_error_is_no_terminal(room):
+    room.make()
+    os.mkfifo(room.path("pipe"))
+    running = room.start("import", "--no-header", "t", "pipe")
+    with open(room.path("pipe"), "wb", buffering=0) as pipe:
+        for _ in range(5):
+            pipe.write(b"1,10\n")
+            time.sleep(0.6)
+    _, err = running.communicate(timeout=60)
+    assert running.returncode == 0 and err == b"", f"it said {err!r}"
+
+
 TESTS = [
     a_command_that_reads_a_file_reads_its_bytes_once,
     a_command_that_changes_a_file_reads_its_bytes_once_under_the_lock,
     an_import_opens_its_file_once_before_the_lock_and_once_under_it,
     what_brings_nothing_leaves_the_file_alone,
+    a_slow_reading_says_at_a_terminal_how_far_it_is_and_clears_the_line,
+    each_command_that_reads_slowly_says_so,
+    the_line_is_cleared_before_a_refusal,
+    the_size_of_a_file_is_said,
+    nothing_is_said_where_standard_error_is_no_terminal,
 ]

@@ -15,6 +15,8 @@ from room import Lacking, rows_text
 
 LOCK = ".t.lanes-lock"
 NOBODY = 65_534
+TOO_LARGE = "t: the file would be larger than is allowed"
+NO_NEW_FILE = "t: permission denied: the folder that it is in may not be written, and a file is replaced whole"
 
 
 def as_nobody(room):
@@ -204,10 +206,12 @@ def a_folder_without_the_right_to_write_is_a_failed_write(room):
     held = room.get("t")
     os.chmod(room.folder, 0o555)
     try:
-        room.refused("import", "--no-header", "t", "-", given=b"3\n", line="refused WriteFault", **how)
+        room.refused("import", "--no-header", "t", "-", given=b"3\n", line="refused WriteFault", sentence=NO_NEW_FILE, **how)
         room.refused("import", "--no-header", "--batch", "0.1", "t", "-", given=b"3\n", line="refused BadName", **how)
-        room.refused("delete", "t", "A = 7", line="refused WriteFault", **how)
-        room.refused("forget", "t", line="refused WriteFault", **how)
+        room.refused("delete", "t", "A = 7", line="refused WriteFault", sentence=NO_NEW_FILE, **how)
+        room.refused("forget", "t", line="refused WriteFault", sentence=NO_NEW_FILE, **how)
+        room.refused("merge", "t", "t", line="refused WriteFault", sentence=NO_NEW_FILE, **how)
+        room.refused("create", "u", "T", "A", "SMALLINT", line="refused WriteFault", sentence=NO_NEW_FILE.replace("t", "u", 1), **how)
         room.refused("delete", "t", "A", line="refused Syntax 1", **how)
     finally:
         os.chmod(room.folder, 0o755)
@@ -222,7 +226,7 @@ def a_folder_that_can_not_be_opened_is_a_failed_write_before_the_file_is_replace
     try:
         if how:
             for _ in range(2):
-                room.refused("import", "--no-header", "--batch", "1.1", "t", "-", given=b"3\n", line="refused WriteFault", **how)
+                room.refused("import", "--no-header", "--batch", "1.1", "t", "-", given=b"3\n", line="refused WriteFault", sentence="t: permission denied: this may not be written", **how)
     finally:
         os.chmod(room.folder, 0o755)
     assert room.get("t") == held and not os.path.exists(room.path(LOCK))
@@ -249,7 +253,7 @@ def a_file_that_has_no_room_leaves_the_old_one(room):
     held = room.make()
     pick = random.Random(3)
     rows = "".join(f"{pick.randrange(30_000)},{pick.randrange(2**62)}\n" for _ in range(70_000)).encode()
-    room.refused("import", "--no-header", "t", "-", given=rows, line="refused WriteFault", sentence="t: this can't be written", preexec_fn=limited(65_536))
+    room.refused("import", "--no-header", "t", "-", given=rows, line="refused WriteFault", sentence=TOO_LARGE, preexec_fn=limited(65_536))
     assert room.get("t") == held
     room.only("t")
 
@@ -259,8 +263,8 @@ def a_file_without_room_for_its_last_bytes_leaves_the_old_one(room):
     room.make("more", rows=b"")
     room.ok("import", "--no-header", "--batch", "2.1", "more", "-", given=b"3,40\n")
     for count in (1, 50, len(held)):
-        room.refused("import", "--no-header", "t", "-", given=b"3,40\n", line="refused WriteFault", sentence="t: this can't be written", preexec_fn=limited(count))
-        room.refused("merge", "t", "t", "more", line="refused WriteFault", preexec_fn=limited(count))
+        room.refused("import", "--no-header", "t", "-", given=b"3,40\n", line="refused WriteFault", sentence=TOO_LARGE, preexec_fn=limited(count))
+        room.refused("merge", "t", "t", "more", line="refused WriteFault", sentence=TOO_LARGE, preexec_fn=limited(count))
         assert room.get("t") == held
         room.only("more", "t")
 
@@ -282,7 +286,7 @@ def a_merge_into_a_device_is_written_in_place(room):
     room.make()
     room.ok("merge", "/dev/null", "t", prints=b"")
     assert stat.S_ISCHR(os.stat("/dev/null").st_mode)
-    room.refused("merge", "/dev/full", "t", line="refused WriteFault")
+    room.refused("merge", "/dev/full", "t", line="refused WriteFault", sentence="/dev/full: no space is left on the device")
     os.mkfifo(room.path("pipe"))
     with room.start("merge", "pipe", "t") as merging:
         assert room.get("pipe") == room.get("t")
@@ -345,12 +349,21 @@ def a_file_that_can_not_be_synced_is_a_failed_write(room):
     held = room.make("e/t")
     if shutil.which("strace") is None:
         raise Lacking("strace is not installed")
-    for fault in ("fsync:error=EIO:when=1", "write:error=EIO:when=1", "rename,renameat,renameat2:error=EIO"):
+    for fault, reason in (
+        ("fsync:error=EIO:when=1", "this can't be written"),
+        ("fsync:error=ENOSPC:when=1", "no space is left on the device"),
+        ("write:error=ENOSPC:when=1", "no space is left on the device"),
+        ("write:error=EDQUOT:when=1", "the quota of this user is used up"),
+        ("write:error=EFBIG:when=1", "the file would be larger than is allowed"),
+        ("ftruncate:error=EROFS", "the file system is read-only"),
+        ("rename,renameat,renameat2:error=EPERM", "permission denied: this may not be written"),
+        ("rename,renameat,renameat2:error=EIO", "this can't be written"),
+    ):
         words = ["strace", "-f", "-o", "trace", "-e", f"inject={fault}", room.program, "import", "--no-header", "e/t", "-"]
         done = subprocess.run(words, input=b"3,40\n", cwd=room.folder, capture_output=True, timeout=60)
         if not os.path.exists(room.path("trace")) or not room.get("trace"):
             raise Lacking(f"strace can't trace: {done.stderr[-200:]!r}")
-        assert done.returncode == 1 and done.stderr.startswith(b"refused WriteFault\n"), f"it said {done.stderr!r}"
+        assert done.returncode == 1 and done.stderr == f"refused WriteFault\ne/t: {reason}\n".encode(), f"with {fault} it said {done.stderr!r}"
         assert room.get("e/t") == held and os.listdir(room.path("e")) == ["t"]
 
 

@@ -221,8 +221,8 @@ def a_folder_that_has_no_room_is_as_it_was(room):
     pick = random.Random(3)
     rows = "".join(f"{pick.randrange(30_000)},{pick.randrange(2**62)}\n" for _ in range(20_000)).encode()
     for words in (("import", "--no-header", "d", "-"), ("import", "--no-header", "--batch", "8.8", "d", "-")):
-        room.refused(*words, given=rows, line="refused WriteFault", preexec_fn=limited(65_536))
-    room.refused("merge", "e/", "d", line="refused WriteFault", preexec_fn=limited(10))
+        room.refused(*words, given=rows, line="refused WriteFault", sentence="d: the file would be larger than is allowed", preexec_fn=limited(65_536))
+    room.refused("merge", "e/", "d", line="refused WriteFault", sentence="e/: the file would be larger than is allowed", preexec_fn=limited(10))
     assert parts_of(room) == before
     only_parts(room)
     room.only("d")

@@ -6,16 +6,18 @@ use crate::folder_changes;
 use crate::folders::is_folder;
 use crate::inputs::{name_of, reader_of, schema_again, schema_ahead, schema_of, source_of, unread};
 use crate::names::fault_of_names;
+use crate::progress::Progress;
 use crate::reports::write_line;
+use crate::watched_folder::{Unheld, WatchedFolder};
 use command_line::{Source, not_for_a_folder};
 use csv_rows::{CsvError, CsvReader};
-use file_replacing::{Folder, HoldError, Place, SystemFolder, hold};
+use file_replacing::{Folder, HoldError, Place, SystemFolder};
 use refusal_sentences::{CommandRefusal, Fields, Knowledge, Printable, Sentence, Text};
 use replica_files::{Load, read_csv};
 use replica_store::Offer;
 use std::alloc::{AllocError, Global};
 use std::fs::{self, File, Files};
-use std::io::{self, Read};
+use std::io::{self, ErrorKind, Read};
 use std::random::RandomSource;
 use std::rt::Clock;
 use table_model::{BatchName, ColType, Counted, Refusal, RowName, Schema};
@@ -23,6 +25,10 @@ use table_model::{BatchName, ColType, Counted, Refusal, RowName, Schema};
 /// What to do instead of a forget in a folder.
 const NO_FORGET: &str =
     "FILE is a folder, and a forget takes a file: lanes merge FILE FOLDER writes one, and lanes merge NEW/ FILE makes a folder of it";
+
+/// What is said of a file if its lock may not be made.
+const NO_NEW_FILE: &str =
+    "permission denied: the folder that it is in may not be written, and a file is replaced whole";
 
 /// How many random words an import may draw a name with.
 const DRAWS: usize = 16;
@@ -65,6 +71,7 @@ pub fn import<
         + Drop,
 >(
     rt: &R,
+    progress: &Progress<'_, R>,
     file: &str,
     csvs: &[Source<'_>],
     first: Option<BatchName>,
@@ -72,10 +79,10 @@ pub fn import<
     is_quiet: bool,
 ) -> Result<(), Failure> {
     if is_folder(rt, file) {
-        return folder_changes::import(rt, file, csvs, first, has_header, is_quiet);
+        return folder_changes::import(rt, progress, file, csvs, first, has_header, is_quiet);
     }
     let schema = schema_ahead(rt, file)?;
-    let load = match load_of(rt, csvs, &schema, has_header) {
+    let load = match load_of(rt, progress, csvs, &schema, has_header) {
         Ok(load) => load,
         Err(fault) => {
             let _schema = schema_of(rt, file)?;
@@ -100,15 +107,16 @@ pub fn import<
 }
 
 /// The rows of comma-separated values, of one text after another, coded in batches of a table.
-pub fn load_of<R: Input + Files + AllocGlobal>(
-    rt: &R,
+pub fn load_of<'r, R: Eprint + Input + Files + Clock + AllocGlobal>(
+    rt: &'r R,
+    progress: &'r Progress<'r, R>,
     csvs: &[Source<'_>],
     schema: &Schema,
     has_header: bool,
 ) -> Result<Load, Failure> {
     let mut load = Load::new(rt.alloc(), schema)?;
     for csv in csvs {
-        let mut reader = source_of(rt, *csv);
+        let mut reader = source_of(rt, progress, *csv);
         add_rows(rt, *csv, &mut reader, schema, has_header, &mut load)?;
     }
     Ok(load)
@@ -169,11 +177,17 @@ pub fn apply<
         + AllocGlobal
         + Clone
         + Drop,
->(rt: &R, file: &str, sources: &[Source<'_>], is_quiet: bool) -> Result<(), Failure> {
+>(
+    rt: &R,
+    progress: &Progress<'_, R>,
+    file: &str,
+    sources: &[Source<'_>],
+    is_quiet: bool,
+) -> Result<(), Failure> {
     if is_folder(rt, file) {
-        return folder_changes::apply(rt, file, sources, is_quiet);
+        return folder_changes::apply(rt, progress, file, sources, is_quiet);
     }
-    let offers = match read_offers(rt, sources) {
+    let offers = match read_offers(rt, progress, sources) {
         Ok(offers) => offers,
         Err(failure) => {
             let _schema = schema_of(rt, file)?;
@@ -187,13 +201,14 @@ pub fn apply<
 }
 
 /// The offers of these sources, one after another.
-pub fn read_offers<R: Input + Files + AllocGlobal>(
-    rt: &R,
+pub fn read_offers<'r, R: Eprint + Input + Files + Clock + AllocGlobal>(
+    rt: &'r R,
+    progress: &'r Progress<'r, R>,
     sources: &[Source<'_>],
 ) -> Result<Vec<Offer>, Failure> {
     let mut offers = Vec::new(rt.alloc());
     for source in sources {
-        match column_file::read_offer(rt.alloc(), &mut source_of(rt, *source)) {
+        match column_file::read_offer(rt.alloc(), &mut source_of(rt, progress, *source)) {
             Ok(offer) => offers.push(offer)?,
             Err(refusal) => return Err(unread(rt, CommandRefusal::from(refusal), *source)),
         }
@@ -340,21 +355,24 @@ fn change<R: Print + Eprint + Files<File = File> + Clock + AllocGlobal>(
     is_quiet: bool,
 ) -> Result<(), Failure> {
     let place = Place::followed(rt, file)?;
-    let mut folder = SystemFolder::new(rt);
-    if let Err(error) = hold(rt, &mut folder, &place) {
-        return Err(not_held(rt, file, &place, change, error, about));
+    let mut folder = WatchedFolder::new(SystemFolder::new(rt));
+    if let Err(why) = folder.hold(rt, &place) {
+        return Err(not_held(rt, file, &place, change, why, about));
     }
     match changed(rt, change, &mut folder, &place) {
         Ok(done) => say(rt, file, &done, is_quiet),
+        Err(CommandRefusal::Named(Refusal::WriteFault)) => {
+            Err(not_written(rt, file, folder.reason()))
+        }
         Err(refusal) => Err(refused(rt, file, refusal, about)),
     }
 }
 
 /// Changes a file whose lock is had, and gives the lock back.
-fn changed<R: Files<File = File> + AllocGlobal>(
+fn changed<R: Files + AllocGlobal, F: Folder>(
     rt: &R,
     change: Change<'_>,
-    folder: &mut SystemFolder<'_, R>,
+    folder: &mut F,
     place: &Place,
 ) -> Result<Done, CommandRefusal> {
     if change.is_creation() && is_there(rt, place.name()) {
@@ -371,32 +389,42 @@ fn not_held<R: Files + AllocGlobal>(
     file: &str,
     place: &Place,
     change: Change<'_>,
-    error: HoldError,
+    why: Unheld,
     about: About<'_>,
 ) -> Failure {
-    if error == HoldError::Busy {
+    if why.error == HoldError::Busy {
         return match change.fault_of_file(rt.alloc(), &mut reader_of(rt, place.name())) {
             Ok(()) => Failure::of_file(rt, CommandRefusal::Busy, file),
             Err(earlier) => refused_alone(rt, file, CommandRefusal::from(earlier)),
         };
     }
     match change.judge(rt.alloc(), &mut reader_of(rt, place.name())) {
-        Ok(()) => unlocked(rt, file, place, error),
+        Ok(()) => unlocked(rt, file, place, why),
         Err(earlier) => refused(rt, file, CommandRefusal::from(earlier), about),
     }
 }
 
-/// The refusal of a file whose lock is not had: of the lock, where something else has its name.
-pub fn unlocked<R: Files + AllocGlobal>(
+/// A file that is not written, for this reason if the system gives one.
+pub fn not_written<R: Files + AllocGlobal>(
     rt: &R,
     file: &str,
-    place: &Place,
-    error: HoldError,
+    reason: Option<ErrorKind>,
 ) -> Failure {
-    let refusal = CommandRefusal::from(Refusal::WriteFault);
-    match error {
+    match reason {
+        Some(kind) => Failure::of_reason(rt.alloc(), Refusal::WriteFault, file, kind),
+        None => Failure::of_file(rt, CommandRefusal::from(Refusal::WriteFault), file),
+    }
+}
+
+/// The refusal of a file whose lock is not had: of the lock, where something else has its name.
+pub fn unlocked<R: Files + AllocGlobal>(rt: &R, file: &str, place: &Place, why: Unheld) -> Failure {
+    match why.error {
         HoldError::Busy => Failure::of_file(rt, CommandRefusal::Busy, file),
-        HoldError::Unmade => Failure::of_file(rt, refusal, file),
+        HoldError::Unmade if why.reason == Some(ErrorKind::PermissionDenied) => {
+            let refusal = CommandRefusal::from(Refusal::WriteFault);
+            Failure::advised(rt.alloc(), refusal, file, NO_NEW_FILE)
+        }
+        HoldError::Unmade => not_written(rt, file, why.reason),
         HoldError::InTheWay => Failure::of_lock(rt.alloc(), place.lock()),
     }
 }

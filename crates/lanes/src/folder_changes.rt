@@ -9,6 +9,7 @@ use crate::failure::{Failure, is_of_a_text};
 use crate::folders::{Opened, open_folder, read_heads};
 use crate::named_loads::put_named;
 use crate::names::fault_of_names;
+use crate::progress::Progress;
 use crate::putting::{exists, make_folder, put_part, say};
 use command_line::Source;
 use file_replacing::Replaced;
@@ -72,6 +73,7 @@ pub fn import<
         + Drop,
 >(
     rt: &R,
+    progress: &Progress<'_, R>,
     folder: &str,
     csvs: &[Source<'_>],
     first: Option<BatchName>,
@@ -79,8 +81,8 @@ pub fn import<
     is_quiet: bool,
 ) -> Result<(), Failure> {
     match first {
-        Some(first) => import_named(rt, folder, csvs, first, has_header, is_quiet),
-        None => import_drawn(rt, folder, csvs, has_header, is_quiet),
+        Some(first) => import_named(rt, progress, folder, csvs, first, has_header, is_quiet),
+        None => import_drawn(rt, progress, folder, csvs, has_header, is_quiet),
     }
 }
 
@@ -97,13 +99,14 @@ fn import_drawn<
         + Drop,
 >(
     rt: &R,
+    progress: &Progress<'_, R>,
     folder: &str,
     csvs: &[Source<'_>],
     has_header: bool,
     is_quiet: bool,
 ) -> Result<(), Failure> {
     let heads = read_heads(rt, folder)?;
-    let load = load_of(rt, csvs, &heads.schema, has_header)?;
+    let load = load_of(rt, progress, csvs, &heads.schema, has_header)?;
     if let Err(refusal) = check_room(heads.batches.as_slice(), load.batches() as u32) {
         return Err(refused_alone(rt, folder, CommandRefusal::from(refusal)));
     }
@@ -135,6 +138,7 @@ fn import_named<
         + Drop,
 >(
     rt: &R,
+    progress: &Progress<'_, R>,
     folder: &str,
     csvs: &[Source<'_>],
     first: BatchName,
@@ -142,7 +146,7 @@ fn import_named<
     is_quiet: bool,
 ) -> Result<(), Failure> {
     let mut opened: Opened<Store> = open_folder(rt, folder)?;
-    let load = load_of(rt, csvs, opened.held.schema(), has_header)?;
+    let load = load_of(rt, progress, csvs, opened.held.schema(), has_header)?;
     let mut writer = Counted::new(Vec::new(rt.alloc()));
     match part_of_named_load(rt.alloc(), &mut opened.held, load, first, &mut writer) {
         Ok(done) if done.new == 0 => { say(rt, folder, Answer::Imported(done), None, is_quiet) }
@@ -217,9 +221,15 @@ pub fn apply<
         + AllocGlobal
         + Clone
         + Drop,
->(rt: &R, folder: &str, sources: &[Source<'_>], is_quiet: bool) -> Result<(), Failure> {
+>(
+    rt: &R,
+    progress: &Progress<'_, R>,
+    folder: &str,
+    sources: &[Source<'_>],
+    is_quiet: bool,
+) -> Result<(), Failure> {
     let mut opened: Opened<Store> = open_folder(rt, folder)?;
-    let offers = read_offers(rt, sources)?;
+    let offers = read_offers(rt, progress, sources)?;
     let offers = offers.as_slice();
     let mut writer = Counted::new(Vec::new(rt.alloc()));
     match part_of_offers(rt.alloc(), &mut opened.held, offers, &mut writer) {

@@ -2,6 +2,7 @@
 
 use crate::failure::{Failure, INPUT};
 use crate::folders::{Opened, is_folder, open_folder};
+use crate::progress::{Progress, Told};
 use column_file::read_schema;
 use command_line::Source;
 use either::Either;
@@ -73,15 +74,17 @@ pub fn reader_of<'r, 'n, R: Files>(rt: &'r R, name: &'n str) -> Counted<LazyFile
     Counted::new(LazyFile::new(rt, name))
 }
 
-/// A source, as a reader that counts its failures.
-pub fn source_of<'r, 'n, R: Input + Files>(
+/// A source, as a reader that counts its failures and says how far it is.
+pub fn source_of<'r, 'n, R: Eprint + Input + Files + Clock>(
     rt: &'r R,
+    progress: &'r Progress<'r, R>,
     source: Source<'n>,
-) -> Counted<Either<R::Reader, LazyFile<'r, 'n, R>>> {
-    match source {
-        Source::Input => Counted::new(Either::Left(rt.reader())),
-        Source::File(name) => Counted::new(Either::Right(LazyFile::new(rt, name))),
-    }
+) -> Counted<Told<'r, 'n, R, Either<R::Reader, LazyFile<'r, 'n, R>>>> {
+    let input = match source {
+        Source::Input => Either::Left(rt.reader()),
+        Source::File(name) => Either::Right(LazyFile::new(rt, name)),
+    };
+    Counted::new(Told::new(progress, source, input))
 }
 
 /// The schema of a file that was read before, for a sentence. None if it can't be read twice, as a pipe can't.
@@ -167,15 +170,17 @@ fn schema_in(alloc: Global, head: &[u8]) -> Option<Schema> {
 }
 
 /// What a file or a folder holds, once all of it was read and judged.
-pub fn opened<R: Files<File = File> + Clock + AllocGlobal + Clone + Drop>(
+pub fn opened<R: Eprint + Files<File = File> + Clock + AllocGlobal + Clone + Drop>(
     rt: &R,
+    progress: &Progress<'_, R>,
     file: &str,
 ) -> Result<OpenFile, Failure> {
     if is_folder(rt, file) {
         let opened: Opened<OpenFile> = open_folder(rt, file)?;
         return Ok(opened.held);
     }
-    match OpenFile::read(rt.alloc(), &mut reader_of(rt, file)) {
+    let told = Told::new(progress, Source::File(file), LazyFile::new(rt, file));
+    match OpenFile::read(rt.alloc(), &mut Counted::new(told)) {
         Ok(held) => Ok(held),
         Err(Refusal::Memory) => Err(Failure::from(Refusal::Memory)),
         Err(refusal) => Err(Failure::of_file(rt, CommandRefusal::from(refusal), file)),

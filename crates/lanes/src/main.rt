@@ -16,14 +16,17 @@ mod output;
 mod packing;
 mod part_failures;
 mod parts;
+mod progress;
 mod putting;
 mod queries;
 mod reports;
 mod scripts;
 mod watched;
+mod watched_folder;
 
 use command_line::{Format, Queries, Request};
 use failure::Failure;
+use progress::Progress;
 use std::fs::{File, Files};
 use std::io::{IsTerminal, Write};
 use std::process::ExitCode;
@@ -66,16 +69,54 @@ fn run<
     N: Write,
 >(rt: &R, terminals: Terminals, notes: &mut N) -> Result<ExitCode, Failure> {
     let words = command_line::arguments(rt)?;
-    match command_line::read_request(rt.alloc(), words.as_slice())? {
+    let request = command_line::read_request(rt.alloc(), words.as_slice())?;
+    let is_told = terminals.errors && is_told(&request, terminals.output);
+    let progress = Progress::new(rt, is_told, terminals.input);
+    let outcome = answer(rt, request, terminals, &progress, notes);
+    progress.clear();
+    outcome
+}
+
+/// Whether it is said at a terminal how far the reading is: unless it is to be quiet, or other lines come there meanwhile.
+fn is_told(request: &Request<'_>, is_shown: bool) -> bool {
+    match request {
+        Request::Run { is_explained, .. } => !*is_explained && !is_shown,
+        Request::Import { is_quiet, .. }
+        | Request::Apply { is_quiet, .. }
+        | Request::Merge { is_quiet, .. } => !*is_quiet,
+        _ => true,
+    }
+}
+
+/// Does what a request asks for.
+fn answer<
+    R: Print
+        + Eprint
+        + Input
+        + Files<File = File>
+        + Clock
+        + RandomSource
+        + AllocGlobal
+        + Clone
+        + Drop,
+    N: Write,
+>(
+    rt: &R,
+    request: Request<'_>,
+    terminals: Terminals,
+    progress: &Progress<'_, R>,
+    notes: &mut N,
+) -> Result<ExitCode, Failure> {
+    match request {
         Request::Run {
             source,
             is_explained,
-        } => scripts::run(rt, source, is_explained, terminals.input, notes)?,
+        } => scripts::run(rt, progress, source, is_explained, terminals.input, notes)?,
         Request::Query {
             file,
             queries,
             format,
-        } => return query(rt, file, queries, format, terminals, notes),
+        } => return query(rt, progress, file, queries, format, terminals, notes),
         Request::Create {
             file,
             table,
@@ -88,7 +129,15 @@ fn run<
             first,
             has_header,
             is_quiet,
-        } => changing::import(rt, file, csvs.as_slice(), first, has_header, is_quiet)?,
+        } => changing::import(
+            rt,
+            progress,
+            file,
+            csvs.as_slice(),
+            first,
+            has_header,
+            is_quiet,
+        )?,
         Request::Delete {
             file,
             condition,
@@ -104,27 +153,33 @@ fn run<
             file,
             offers,
             is_quiet,
-        } => changing::apply(rt, file, offers.as_slice(), is_quiet)?,
+        } => changing::apply(rt, progress, file, offers.as_slice(), is_quiet)?,
         Request::Forget { file, is_quiet } => changing::forget(rt, file, is_quiet)?,
         Request::Dump {
             file,
             has_names,
             condition,
             columns,
-        } => reports::dump(rt, file, has_names, condition, columns)?,
+        } => reports::dump(rt, progress, file, has_names, condition, columns)?,
         Request::Inspect {
             file,
             has_batches,
             form,
-        } => reports::inspect(rt, file, has_batches, form)?,
-        Request::Summary { file } => reports::summary(rt, file, terminals.output)?,
-        Request::Offer { file, summary } => reports::offer(rt, file, summary, terminals.output)?,
-        Request::Check { file } => reports::check(rt, file)?,
+        } => reports::inspect(rt, progress, file, has_batches, form)?,
+        Request::Summary { file } => reports::summary(rt, progress, file, terminals.output)?,
+        Request::Offer { file, summary } => reports::offer(
+            rt,
+            progress,
+            file,
+            summary,
+            terminals.output,
+        )?,
+        Request::Check { file } => reports::check(rt, progress, file)?,
         Request::Merge {
             out,
             files,
             is_quiet,
-        } => merging::merge(rt, out, files.as_slice(), is_quiet)?,
+        } => merging::merge(rt, progress, out, files.as_slice(), is_quiet)?,
         Request::Pack {
             folder,
             is_all,
@@ -140,6 +195,7 @@ fn query<
     N: Write,
 >(
     rt: &R,
+    progress: &Progress<'_, R>,
     file: &str,
     queries: Queries<'_>,
     format: Format,
@@ -148,11 +204,12 @@ fn query<
 ) -> Result<ExitCode, Failure> {
     let is_whole = match queries {
         Queries::Texts(texts) => {
-            queries::answer_texts(rt, file, texts.as_slice(), format)?;
+            queries::answer_texts(rt, progress, file, texts.as_slice(), format)?;
             true
         }
         Queries::Lines => queries::answer_typed(
             rt,
+            progress,
             file,
             format,
             terminals.input,

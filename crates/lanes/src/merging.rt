@@ -7,9 +7,10 @@ use crate::folders::{Parts, is_folder};
 use crate::inputs::{LazyFile, schema_again};
 use crate::output::{Output, is_special, write_in_place};
 use crate::part_failures::{Unread, refused as part_refused, unread_for};
+use crate::progress::{Progress, Told};
 use crate::putting::{make_folder, say};
 use crate::reports::write_line;
-use command_line::not_for_a_folder;
+use command_line::{Source, not_for_a_folder};
 use either::Either;
 use file_commands::merged;
 use folder_parts::PartFault;
@@ -38,18 +39,24 @@ const CHUNK: usize = 65_536;
 /// read. A name that ends in `/` is that of a folder that is made, with what is written as its one part.
 pub fn merge<
     R: Print + Eprint + Files<File = File> + Clock + RandomSource + AllocGlobal + Clone + Drop,
->(rt: &R, out: &str, names: &[&str], is_quiet: bool) -> Result<(), Failure> {
+>(
+    rt: &R,
+    progress: &Progress<'_, R>,
+    out: &str,
+    names: &[&str],
+    is_quiet: bool,
+) -> Result<(), Failure> {
     if out.ends_with('/') {
-        return merge_into_folder(rt, out, names, is_quiet);
+        return merge_into_folder(rt, progress, out, names, is_quiet);
     }
     if is_folder(rt, out) {
         return Err(Failure::from(not_for_a_folder(rt.alloc(), NO_FOLDER)));
     }
     let is_special = is_special(rt, out);
     let outcome = if is_special {
-        fill(rt, out, names)
+        fill(rt, progress, out, names)
     } else {
-        replace(rt, out, names)
+        replace(rt, progress, out, names)
     };
     if is_special || is_quiet || outcome.is_err() {
         return outcome;
@@ -60,19 +67,26 @@ pub fn merge<
 /// Makes a folder whose one part is what all of some files hold.
 fn merge_into_folder<
     R: Print + Eprint + Files<File = File> + Clock + RandomSource + AllocGlobal + Clone + Drop,
->(rt: &R, out: &str, names: &[&str], is_quiet: bool) -> Result<(), Failure> {
+>(
+    rt: &R,
+    progress: &Progress<'_, R>,
+    out: &str,
+    names: &[&str],
+    is_quiet: bool,
+) -> Result<(), Failure> {
     let mut sources = Vec::new(rt.alloc());
     for name in names {
         sources.push(*name)?;
     }
-    let bytes = merged_files(rt, names, sources.as_slice())?;
+    let bytes = merged_files(rt, progress, names, sources.as_slice())?;
     let replaced = make_folder(rt, out, bytes.as_slice())?;
     say(rt, out, Answer::Created, Some(replaced), is_quiet)
 }
 
 /// Writes what all of some files hold to what is no regular file.
-fn fill<R: Files<File = File> + Clock + AllocGlobal + Clone + Drop>(
+fn fill<R: Eprint + Files<File = File> + Clock + AllocGlobal + Clone + Drop>(
     rt: &R,
+    progress: &Progress<'_, R>,
     out: &str,
     names: &[&str],
 ) -> Result<(), Failure> {
@@ -80,7 +94,7 @@ fn fill<R: Files<File = File> + Clock + AllocGlobal + Clone + Drop>(
     for name in names {
         sources.push(*name)?;
     }
-    let bytes = merged_files(rt, names, sources.as_slice())?;
+    let bytes = merged_files(rt, progress, names, sources.as_slice())?;
     write_in_place(rt, out, bytes.as_slice())
 }
 
@@ -88,6 +102,7 @@ fn fill<R: Files<File = File> + Clock + AllocGlobal + Clone + Drop>(
 /// link that is switched meanwhile changes nothing. If one of them is the file itself and nothing changed, the file is left alone.
 fn replace<R: Eprint + Files<File = File> + Clock + AllocGlobal + Clone + Drop>(
     rt: &R,
+    progress: &Progress<'_, R>,
     out: &str,
     names: &[&str],
 ) -> Result<(), Failure> {
@@ -96,7 +111,7 @@ fn replace<R: Eprint + Files<File = File> + Clock + AllocGlobal + Clone + Drop>(
     if own.contains(&true) {
         output.hold(rt);
     }
-    match merged_with_own(rt, names, own.as_slice(), output.name()) {
+    match merged_with_own(rt, progress, names, own.as_slice(), output.name()) {
         Ok(bytes)
             if own.contains(&true)
                 && output.is_held()
@@ -133,8 +148,9 @@ fn has_bytes<R: Files + AllocGlobal>(rt: &R, name: &str, bytes: &[u8]) -> bool {
 }
 
 /// The canonical file of what all of some files hold, of which those that are the file itself are read under its own name.
-fn merged_with_own<R: Files<File = File> + Clock + AllocGlobal + Clone + Drop>(
+fn merged_with_own<R: Eprint + Files<File = File> + Clock + AllocGlobal + Clone + Drop>(
     rt: &R,
+    progress: &Progress<'_, R>,
     names: &[&str],
     own: &[bool],
     own_name: &str,
@@ -143,7 +159,7 @@ fn merged_with_own<R: Files<File = File> + Clock + AllocGlobal + Clone + Drop>(
     for (name, is_own) in names.iter().zip(own.iter()) {
         sources.push(if *is_own { own_name } else { *name })?;
     }
-    merged_files(rt, names, sources.as_slice())
+    merged_files(rt, progress, names, sources.as_slice())
 }
 
 /// Of each of these names whether it leads to a file.
@@ -169,8 +185,9 @@ fn is_same<R: Files>(rt: &R, one: &str, other: &str) -> bool {
 
 /// The canonical file of what all of some files and folders hold, which are read from these sources and called by these names in a
 /// sentence.
-fn merged_files<R: Files<File = File> + Clock + AllocGlobal + Clone + Drop>(
+fn merged_files<R: Eprint + Files<File = File> + Clock + AllocGlobal + Clone + Drop>(
     rt: &R,
+    progress: &Progress<'_, R>,
     names: &[&str],
     sources: &[&str],
 ) -> Result<Vec<u8>, Failure> {
@@ -180,7 +197,7 @@ fn merged_files<R: Files<File = File> + Clock + AllocGlobal + Clone + Drop>(
         let outcome = if fault.is_some() && inputs.paths.as_slice().is_empty() {
             Ok(Vec::new(rt.alloc()))
         } else {
-            merged_inputs(rt, names, &inputs)
+            merged_inputs(rt, &*progress, names, &inputs)
         };
         match outcome {
             Ok(bytes) => return told_last(bytes, fault),
@@ -246,11 +263,12 @@ impl Inputs {
 }
 
 /// A file, or a part of a folder.
-type Input<'r, 'n, R> = Either<LazyFile<'r, 'n, R>, CheckedPart<'r, 'n, R>>;
+type Input<'r, 'n, R> = Told<'r, 'n, R, Either<LazyFile<'r, 'n, R>, CheckedPart<'r, 'n, R>>>;
 
 /// The canonical file of what all inputs hold.
-fn merged_inputs<R: Files + AllocGlobal>(
-    rt: &R,
+fn merged_inputs<'r, R: Eprint + Files + Clock + AllocGlobal>(
+    rt: &'r R,
+    progress: &'r Progress<'r, R>,
     names: &[&str],
     inputs: &Inputs,
 ) -> Result<Vec<u8>, Unread> {
@@ -261,7 +279,8 @@ fn merged_inputs<R: Files + AllocGlobal>(
         } else {
             Either::Left(LazyFile::new(rt, path.as_str()))
         };
-        readers.push(Counted::new(input))?;
+        let told = Told::new(progress, Source::File(path.as_str()), input);
+        readers.push(Counted::new(told))?;
     }
     let outcome = match readers.as_mut_slice().split_first_mut() {
         Some((first, others)) => merged(rt.alloc(), first, others),
@@ -294,11 +313,13 @@ fn merged_inputs<R: Files + AllocGlobal>(
 
 /// How many of the readers, which are read in their order, have begun to read, and why nothing was read from the last of these, if it
 /// is a part.
-fn begun<R: Files>(readers: Vec<Counted<Input<'_, '_, R>>>) -> (usize, Option<PartReason>) {
+fn begun<R: Eprint + Files + Clock>(
+    readers: Vec<Counted<Input<'_, '_, R>>>,
+) -> (usize, Option<PartReason>) {
     let mut count = 0usize;
     let mut reason = None;
     for reader in readers {
-        let is_begun = match reader.into_inner() {
+        let is_begun = match reader.into_inner().into_inner() {
             Either::Left(file) => file.is_begun(),
             Either::Right(part) => {
                 reason = part.reason().or(reason);

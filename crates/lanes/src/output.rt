@@ -1,29 +1,28 @@
 //! The file that a merge writes.
 
-use crate::changing::{say_unsynced, unlocked};
+use crate::changing::{not_written, say_unsynced, unlocked};
 use crate::failure::Failure;
+use crate::watched_folder::{Unheld, WatchedFolder};
 use file_commands::put;
-use file_replacing::{Folder, HoldError, Place, Replaced, SystemFolder, hold};
-use refusal_sentences::CommandRefusal;
+use file_replacing::{Folder, Place, Replaced, SystemFolder};
 use std::alloc::AllocError;
 use std::fs::{self, File, Files};
-use std::io::Write;
+use std::io::{self, Write};
 use std::rt::Clock;
-use table_model::Refusal;
 
 /// A file that a merge replaces, and whether its lock is had.
 #[derive(Drop)]
 pub struct Output<'r, R: Files<File = File>> {
-    folder: SystemFolder<'r, R>,
+    folder: WatchedFolder<SystemFolder<'r, R>>,
     place: Place,
-    held: Option<Result<(), HoldError>>,
+    held: Option<Result<(), Unheld>>,
 }
 
 impl<'r, R: Eprint + Files<File = File> + Clock + AllocGlobal> Output<'r, R> {
     /// The file of this name, whose symbolic links are followed. Its lock was not tried yet.
     pub fn new(rt: &'r R, name: &str) -> Result<Output<'r, R>, AllocError> {
         Ok(Output {
-            folder: SystemFolder::new(rt),
+            folder: WatchedFolder::new(SystemFolder::new(rt)),
             place: Place::followed(rt, name)?,
             held: None,
         })
@@ -36,7 +35,7 @@ impl<'r, R: Eprint + Files<File = File> + Clock + AllocGlobal> Output<'r, R> {
 
     /// Tries to have the lock. What came of that is reported by [`Output::replace`].
     pub fn hold(&mut self, rt: &R) {
-        self.held = Some(hold(rt, &mut self.folder, &self.place));
+        self.held = Some(self.folder.hold(rt, &self.place));
     }
 
     /// Whether the lock is had.
@@ -65,10 +64,10 @@ impl<'r, R: Eprint + Files<File = File> + Clock + AllocGlobal> Output<'r, R> {
         } = self;
         let held = match held {
             Some(held) => held,
-            None => hold(rt, &mut folder, &place),
+            None => folder.hold(rt, &place),
         };
-        if let Err(error) = held {
-            return Err(unlocked(rt, file, &place, error));
+        if let Err(why) = held {
+            return Err(unlocked(rt, file, &place, why));
         }
         match put(&mut folder, &place, bytes) {
             Ok(Replaced::Synced) => Ok(()),
@@ -76,7 +75,7 @@ impl<'r, R: Eprint + Files<File = File> + Clock + AllocGlobal> Output<'r, R> {
                 say_unsynced(rt, file);
                 Ok(())
             }
-            Err(refusal) => Err(Failure::of_file(rt, CommandRefusal::from(refusal), file)),
+            Err(_) => Err(not_written(rt, file, folder.reason())),
         }
     }
 }
@@ -87,14 +86,17 @@ pub fn write_in_place<R: Files + AllocGlobal>(
     name: &str,
     bytes: &[u8],
 ) -> Result<(), Failure> {
-    let written = match fs::create(rt, name) {
-        Ok(mut file) => file.write_all(bytes).is_ok() && file.flush().is_ok(),
-        Err(_) => false,
-    };
-    if written {
-        return Ok(());
+    match write_whole(rt, name, bytes) {
+        Ok(()) => Ok(()),
+        Err(error) => Err(not_written(rt, name, Some(error.kind()))),
     }
-    Err(Failure::of_file(rt, CommandRefusal::from(Refusal::WriteFault), name))
+}
+
+/// Writes these bytes to what has this name.
+fn write_whole<R: Files>(rt: &R, name: &str, bytes: &[u8]) -> io::Result<()> {
+    let mut file = fs::create(rt, name)?;
+    file.write_all(bytes)?;
+    file.flush()
 }
 
 /// Whether there is something of this name that is no regular file.

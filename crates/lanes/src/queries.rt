@@ -2,6 +2,7 @@
 
 use crate::failure::{Failure, INPUT};
 use crate::inputs::opened;
+use crate::progress::Progress;
 use crate::watched::{Cause, Watched};
 use command_line::Format;
 use refusal_sentences::{CommandRefusal, Knowledge, Sentence, Text};
@@ -18,13 +19,14 @@ use table_model::{Counted, Refusal, Schema};
 const PROMPT: &str = "lanes> ";
 
 /// Writes the answers of queries over a file, one after another, up to the first that is refused.
-pub fn answer_texts<R: Print + Files<File = File> + Clock + AllocGlobal + Clone + Drop>(
+pub fn answer_texts<R: Print + Eprint + Files<File = File> + Clock + AllocGlobal + Clone + Drop>(
     rt: &R,
+    progress: &Progress<'_, R>,
     file: &str,
     queries: &[&str],
     format: Format,
 ) -> Result<(), Failure> {
-    let held = opened(rt, file)?;
+    let held = opened(rt, progress, file)?;
     let mut writer = Counted::new(Watched::new(io::writer(rt)));
     let outcome = answer_all(rt.alloc(), &held, queries, format, &mut writer);
     let Err(stopped) = outcome else {
@@ -79,13 +81,14 @@ pub fn answer_typed<
     N: Write,
 >(
     rt: &R,
+    progress: &Progress<'_, R>,
     file: &str,
     format: Format,
     is_typed: bool,
     is_shown: bool,
     notes: &mut N,
 ) -> Result<bool, Failure> {
-    let held = opened(rt, file)?;
+    let held = opened(rt, progress, file)?;
     let mut reader = Counted::new(rt.reader());
     let mut writer = Counted::new(Watched::new(io::writer(rt)));
     let mut person = Person {

@@ -4,6 +4,7 @@ use crate::failure::{Failure, is_of_a_text};
 use crate::folder_reports;
 use crate::folders::is_folder;
 use crate::inputs::{name_of, opened, source_of, unread};
+use crate::progress::Progress;
 use crate::watched::{Cause, Watched};
 use command_line::{ReportForm, Source, not_for_a_terminal};
 use live_columns::{Unchosen, choose};
@@ -25,14 +26,15 @@ pub fn buffered<R: Print + AllocGlobal>(
 }
 
 /// Says whether a file is a canonical one, and how much is in it.
-pub fn check<R: Print + Files<File = File> + Clock + AllocGlobal + Clone + Drop>(
+pub fn check<R: Print + Eprint + Files<File = File> + Clock + AllocGlobal + Clone + Drop>(
     rt: &R,
+    progress: &Progress<'_, R>,
     file: &str,
 ) -> Result<(), Failure> {
     if is_folder(rt, file) {
         return folder_reports::check(rt, file);
     }
-    let held = opened(rt, file)?;
+    let held = opened(rt, progress, file)?;
     let mut writer = Counted::new(Watched::new(io::writer(rt)));
     let outcome = replica_files::check(rt.alloc(), &held, &mut writer);
     told(rt, writer.into_inner().ended(outcome))
@@ -40,14 +42,15 @@ pub fn check<R: Print + Files<File = File> + Clock + AllocGlobal + Clone + Drop>
 
 /// Writes a file's live rows as comma-separated values, with their names or without: those for which a condition is true, in the
 /// columns of a list of names. An empty condition is true for all rows, and an empty list is all columns.
-pub fn dump<R: Print + Files<File = File> + Clock + AllocGlobal + Clone + Drop>(
+pub fn dump<R: Print + Eprint + Files<File = File> + Clock + AllocGlobal + Clone + Drop>(
     rt: &R,
+    progress: &Progress<'_, R>,
     file: &str,
     has_names: bool,
     condition: &str,
     columns: &str,
 ) -> Result<(), Failure> {
-    let held = opened(rt, file)?;
+    let held = opened(rt, progress, file)?;
     let choice = match choose(
         rt.alloc(),
         held.schema(),
@@ -88,8 +91,9 @@ fn unchosen<R: AllocGlobal>(
 }
 
 /// Writes what a file holds and how its columns are coded, or a list of its batches.
-pub fn inspect<R: Print + Files<File = File> + Clock + AllocGlobal + Clone + Drop>(
+pub fn inspect<R: Print + Eprint + Files<File = File> + Clock + AllocGlobal + Clone + Drop>(
     rt: &R,
+    progress: &Progress<'_, R>,
     file: &str,
     has_batches: bool,
     form: ReportForm,
@@ -97,7 +101,7 @@ pub fn inspect<R: Print + Files<File = File> + Clock + AllocGlobal + Clone + Dro
     if !has_batches && is_folder(rt, file) {
         return folder_reports::inspect(rt, file, form);
     }
-    let held = opened(rt, file)?;
+    let held = opened(rt, progress, file)?;
     let mut writer = buffered(rt)?;
     let outcome = if has_batches {
         list_batches(rt.alloc(), &held, form, &mut writer)
@@ -108,23 +112,25 @@ pub fn inspect<R: Print + Files<File = File> + Clock + AllocGlobal + Clone + Dro
 }
 
 /// Writes the names of a file's batches, as a message.
-pub fn summary<R: Print + Files<File = File> + Clock + AllocGlobal + Clone + Drop>(
+pub fn summary<R: Print + Eprint + Files<File = File> + Clock + AllocGlobal + Clone + Drop>(
     rt: &R,
+    progress: &Progress<'_, R>,
     file: &str,
     is_terminal: bool,
 ) -> Result<(), Failure> {
     if is_terminal {
         return Err(Failure::from(not_for_a_terminal(rt.alloc())));
     }
-    let held = opened(rt, file)?;
+    let held = opened(rt, progress, file)?;
     let mut writer = buffered(rt)?;
     let outcome = replica_files::summary(rt.alloc(), &held, &mut writer);
     told(rt, flushed(writer, outcome))
 }
 
 /// Writes what a file has beyond a summary, as a message. The file is judged before the summary is read.
-pub fn offer<R: Print + Input + Files<File = File> + Clock + AllocGlobal + Clone + Drop>(
+pub fn offer<R: Print + Eprint + Input + Files<File = File> + Clock + AllocGlobal + Clone + Drop>(
     rt: &R,
+    progress: &Progress<'_, R>,
     file: &str,
     source: Source<'_>,
     is_terminal: bool,
@@ -132,8 +138,11 @@ pub fn offer<R: Print + Input + Files<File = File> + Clock + AllocGlobal + Clone
     if is_terminal {
         return Err(Failure::from(not_for_a_terminal(rt.alloc())));
     }
-    let held = opened(rt, file)?;
-    let summary = match column_file::read_summary(rt.alloc(), &mut source_of(rt, source)) {
+    let held = opened(rt, progress, file)?;
+    let summary = match column_file::read_summary(
+        rt.alloc(),
+        &mut source_of(rt, progress, source),
+    ) {
         Ok(summary) => summary,
         Err(refusal) => return Err(unread(rt, CommandRefusal::from(refusal), source)),
     };

@@ -2,12 +2,14 @@
 
 use crate::failure::Failure;
 use crate::inputs::{source_of, unread};
+use crate::progress::Progress;
 use crate::watched::Watched;
 use command_line::Source;
 use lanes_main::{script, script_with_notes};
 use refusal_sentences::CommandRefusal;
 use std::fs::Files;
 use std::io::{self, Write};
+use std::rt::Clock;
 use table_model::{Counted, Refusal};
 
 /// What a person at a terminal reads.
@@ -16,8 +18,9 @@ const WAITING: &str =
 
 /// Runs a script to its end, and writes its replies to standard output, and where that is asked for its notes. Where a person would
 /// have to type it, the notes say that lines are waited for.
-pub fn run<R: Print + Input + Files + AllocGlobal, N: Write>(
+pub fn run<R: Print + Eprint + Input + Files + Clock + AllocGlobal, N: Write>(
     rt: &R,
+    progress: &Progress<'_, R>,
     source: Source<'_>,
     is_explained: bool,
     is_typed: bool,
@@ -26,7 +29,7 @@ pub fn run<R: Print + Input + Files + AllocGlobal, N: Write>(
     if is_typed && source == Source::Input {
         let _ = notes.write_all(WAITING.as_bytes());
     }
-    let mut reader = source_of(rt, source);
+    let mut reader = source_of(rt, progress, source);
     let mut writer = Counted::new(Watched::new(io::writer(rt)));
     let outcome = if is_explained {
         script_with_notes(rt.alloc(), &mut reader, &mut writer, notes)

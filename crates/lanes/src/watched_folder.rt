@@ -1,0 +1,126 @@
+//! A folder that remembers why the system did not do what was asked of it.
+
+use file_replacing::{Folder, HoldError, Place, hold};
+use std::alloc::Global;
+use std::cell::Cell;
+use std::io::{self, ErrorKind};
+use std::rt::Clock;
+
+/// Why a lock is not had, and the system's reason if it is known.
+#[derive(Clone, Copy, Debug, PartialEq, Eq, Drop)]
+pub struct Unheld {
+    pub error: HoldError,
+    pub reason: Option<ErrorKind>,
+}
+
+/// A folder, with the kind of the last error of a call that was to write.
+#[derive(Drop)]
+pub struct WatchedFolder<F: Folder + Drop> {
+    inner: F,
+    reason: Cell<Option<ErrorKind>>,
+}
+
+impl<F: Folder + Drop> WatchedFolder<F> {
+    /// A folder of which no call has failed yet.
+    pub fn new(inner: F) -> WatchedFolder<F> {
+        WatchedFolder {
+            inner,
+            reason: Cell::new(None),
+        }
+    }
+
+    /// Why the last call that failed did.
+    pub fn reason(&self) -> Option<ErrorKind> {
+        self.reason.get()
+    }
+
+    /// Has the lock of a file.
+    pub fn hold<R: Clock>(&mut self, rt: &R, place: &Place) -> Result<(), Unheld> {
+        match hold(rt, self, place) {
+            Ok(()) => Ok(()),
+            Err(error) => Err(Unheld {
+                error,
+                reason: self.reason(),
+            }),
+        }
+    }
+
+    /// Remembers an error.
+    fn note<T>(&self, answer: &io::Result<T>) {
+        if let Err(error) = answer {
+            self.reason.set(Some(error.kind()));
+        }
+    }
+}
+
+impl<F: Folder + Drop> Folder for WatchedFolder<F> {
+    ghost history = { λ folder. F.history folder.inner };
+
+    fn open(&mut self, name: &str) -> io::Result<()> {
+        let answer = self.inner.open(name);
+        self.note(&answer);
+        answer
+    }
+
+    fn is_new(&self) -> bool {
+        self.inner.is_new()
+    }
+
+    fn try_lock(&mut self) -> io::Result<bool> {
+        let answer = self.inner.try_lock();
+        self.note(&answer);
+        answer
+    }
+
+    fn take_mode(&self, name: &str) -> io::Result<()> {
+        let answer = self.inner.take_mode(name);
+        self.note(&answer);
+        answer
+    }
+
+    fn is_named(&mut self, name: &str) -> bool {
+        self.inner.is_named(name)
+    }
+
+    fn empty(&mut self) -> io::Result<()> {
+        let answer = self.inner.empty();
+        self.note(&answer);
+        answer
+    }
+
+    fn write(&mut self, bytes: &[u8]) -> io::Result<usize> {
+        let answer = self.inner.write(bytes);
+        self.note(&answer);
+        answer
+    }
+
+    fn sync(&mut self) -> io::Result<()> {
+        let answer = self.inner.sync();
+        self.note(&answer);
+        answer
+    }
+
+    fn open_folder(&mut self, name: &str) -> io::Result<()> {
+        let answer = self.inner.open_folder(name);
+        self.note(&answer);
+        answer
+    }
+
+    fn rename(&mut self, from: &str, to: &str) -> io::Result<()> {
+        let answer = self.inner.rename(from, to);
+        self.note(&answer);
+        answer
+    }
+
+    fn remove(&mut self, name: &str) -> io::Result<()> {
+        self.inner.remove(name)
+    }
+
+    fn settle(&mut self) -> io::Result<()> {
+        self.inner.settle()
+    }
+
+    fn read(&mut self, alloc: Global, name: &str) -> io::Result<Option<Vec<u8>>> {
+        self.inner.read(alloc, name)
+    }
+}
