@@ -7,8 +7,8 @@ use crate::folders::is_folder;
 use crate::inputs::{name_of, reader_of, schema_again, schema_ahead, schema_of, source_of, unread};
 use crate::names::fault_of_names;
 use crate::reports::write_line;
-use command_line::{Source, not_for_a_folder};
-use csv_rows::{CsvError, CsvReader};
+use command_line::{CsvForm, Source, not_for_a_folder};
+use csv_rows::{CsvError, CsvReader, Dialect};
 use file_replacing::{Folder, HoldError, Place, SystemFolder, hold};
 use refusal_sentences::{CommandRefusal, Fields, Knowledge, Printable, Sentence, Text};
 use replica_files::{Load, read_csv};
@@ -68,14 +68,14 @@ pub fn import<
     file: &str,
     csvs: &[Source<'_>],
     first: Option<BatchName>,
-    has_header: bool,
+    form: CsvForm<'_>,
     is_quiet: bool,
 ) -> Result<(), Failure> {
     if is_folder(rt, file) {
-        return folder_changes::import(rt, file, csvs, first, has_header, is_quiet);
+        return folder_changes::import(rt, file, csvs, first, form, is_quiet);
     }
     let schema = schema_ahead(rt, file)?;
-    let load = match load_of(rt, csvs, &schema, has_header) {
+    let load = match load_of(rt, csvs, &schema, form) {
         Ok(load) => load,
         Err(fault) => {
             let _schema = schema_of(rt, file)?;
@@ -104,12 +104,12 @@ pub fn load_of<R: Input + Files + AllocGlobal>(
     rt: &R,
     csvs: &[Source<'_>],
     schema: &Schema,
-    has_header: bool,
+    form: CsvForm<'_>,
 ) -> Result<Load, Failure> {
     let mut load = Load::new(rt.alloc(), schema)?;
     for csv in csvs {
         let mut reader = source_of(rt, *csv);
-        add_rows(rt, *csv, &mut reader, schema, has_header, &mut load)?;
+        add_rows(rt, *csv, &mut reader, schema, form, &mut load)?;
     }
     Ok(load)
 }
@@ -250,10 +250,15 @@ fn add_rows<R: Files + AllocGlobal, D: Read>(
     source: Source<'_>,
     reader: &mut Counted<D>,
     schema: &Schema,
-    has_header: bool,
+    form: CsvForm<'_>,
     load: &mut Load,
 ) -> Result<(), Failure> {
-    let mut csv = CsvReader::new(rt.alloc(), schema, has_header)?;
+    let mut csv = CsvReader::in_dialect(
+        rt.alloc(),
+        schema,
+        form.has_header,
+        dialect_of(rt.alloc(), form)?,
+    )?;
     match read_csv(rt.alloc(), &mut csv, reader, load) {
         Ok(()) => Ok(()),
         Err(CsvError::Refused(refusal)) => Err(unread(rt, CommandRefusal::from(refusal), source)),
@@ -267,9 +272,18 @@ fn add_rows<R: Files + AllocGlobal, D: Read>(
             rt.alloc(),
             source,
             CommandRefusal::BadCsv { line, column },
-            known_of_field(&csv, schema, has_header && line == 1, column),
+            known_of_field(&csv, schema, form, line == 1, column),
         )),
     }
+}
+
+/// The dialect in which texts are written.
+fn dialect_of(alloc: Global, form: CsvForm<'_>) -> Result<Dialect, AllocError> {
+    let null_word = match form.null_word {
+        None => None,
+        Some(word) => Some(String::from_str(alloc, word)?),
+    };
+    Ok(Dialect::new(form.separator, null_word))
 }
 
 /// A fault of comma-separated values.
@@ -294,11 +308,17 @@ fn fault_of_csv(
 fn known_of_field<'a>(
     csv: &'a CsvReader,
     schema: &'a Schema,
-    is_header: bool,
+    form: CsvForm<'_>,
+    is_first: bool,
     column: u64,
 ) -> Knowledge<'a> {
     if column == 0 {
-        return Knowledge::Fields(Fields::new(csv.line(), b',', schema.columns(), is_header));
+        return Knowledge::Fields(Fields::new(
+            csv.line(),
+            form.separator,
+            schema.columns(),
+            form.has_header && is_first,
+        ));
     }
     let text = csv.faulty_field(column);
     match csv.column_of(column) {

@@ -86,9 +86,9 @@ fn run<
             file,
             csvs,
             first,
-            has_header,
+            form,
             is_quiet,
-        } => changing::import(rt, file, csvs.as_slice(), first, has_header, is_quiet)?,
+        } => changing::import(rt, file, csvs.as_slice(), first, form, is_quiet)?,
         Request::Delete {
             file,
             condition,
