@@ -25,6 +25,10 @@ def file_of(table, *batches, ranges=()):
 # The canonical file of T(A SMALLINT) with the batch 1.1 of one row, 7: 42 bytes; and files like it.
 ONE_ROW = file_of(b"T", batch(1, 1, 7))
 OTHER_ROW = file_of(b"T", batch(1, 1, 8))
+# The canonical file of T(A SMALLINT, B SMALLINT), empty, and with the batch 2.1 of one row, 7 and 8.
+PAIR = b"FLCF" + bytes([1, 0, 2, 0, 1]) + b"T" + bytes([2, 1]) + b"A" + bytes([2, 1]) + b"B"
+NO_PAIR = PAIR + bytes(12)
+ONE_PAIR = PAIR + bytes([1, 0, 0, 0]) + batch(2, 1, 7) + bytes(5) + bytes([8, 0]) + bytes(8)
 SECOND_BATCH = file_of(b"T", batch(2, 1, 7))
 BOTH = file_of(b"T", batch(1, 1, 7), batch(2, 1, 7))
 THIRD_BATCH = file_of(b"T", batch(3, 1, 7))
@@ -217,6 +221,15 @@ CASES = [
     Case("a name with a number that is too great is one too", ["import", "--batch", "1.4294967296", "t", "-"], 2, err=[b"a batch is named O.N"]),
     Case("a name with a 0 is refused", ["import", "--no-header", "--batch", "0.1", "t", "-"], 1, err=[b"refused BadName\n"], input=b"7\n", files={"t": ONE_ROW}, writes={"t": ONE_ROW}),
     Case("but not where there are no rows", ["import", "--no-header", "--batch", "0.1", "t", "-"], 0, b"ok batches=0 new=0 rows=0\n", files={"t": ONE_ROW}, writes={"t": ONE_ROW}),
+    Case("fields are separated by another character if it is given", ["import", "--separator", ";", "--batch", "2.1", "t", "-"], 0, b"ok batches=1 new=1 rows=1 first=2.1\n", input=b"B;A\n8;7\n", files={"t": NO_PAIR}, writes={"t": ONE_PAIR}),
+    Case("a tab is written with a backslash, or as itself", ["import", "--separator", "\\t", "--batch", "2.1", "t", "-"], 0, b"ok batches=1 new=1 rows=1 first=2.1\n", input=b"B\tA\n8\t7\n", files={"t": NO_PAIR}, writes={"t": ONE_PAIR}),
+    Case("a comma is then part of a field", ["import", "--separator=;", "--no-header", "t", "v"], 1, err=b'refused BadCsv 1 2\nv, line 1, column B: "2," is not a whole number\n', files={"t": NO_PAIR, "v": b"1;2,\n"}, writes={"t": NO_PAIR}),
+    Case("a wrong number of fields is told by that separator", ["import", "--separator=;", "--no-header", "t", "v"], 1, err=b'refused BadCsv 1 0\nv, line 1: the line has 1 field, and the table has 2 columns; commas seem to separate its fields\n', files={"t": NO_PAIR, "v": b"1,2\n"}, writes={"t": NO_PAIR}),
+    Case("a separator of two characters is a fault of the command line", ["import", "--separator", ";;", "t", "-"], 2, err=[b"C is one ASCII character"], files={"t": ONE_ROW}),
+    Case("a separator that a number has is one too", ["import", "--separator", "-", "t", "-"], 2, err=[b"C is one ASCII character"], files={"t": ONE_ROW}),
+    Case("a further word is a null if it is given", ["import", "--null", "NA", "--no-header", "--batch", "2.1", "t", "-"], 0, b"ok batches=1 new=1 rows=3 first=2.1\n", input=b'NA\n"NA"\nNULL\n', files={"t": ONE_ROW}),
+    Case("it is exactly that word", ["import", "--null", "NA", "--no-header", "t", "v"], 1, err=b'refused BadCsv 1 1\nv, line 1, column A: "na" is not a whole number\n', files={"t": ONE_ROW, "v": b"na\n"}, writes={"t": ONE_ROW}),
+    Case("a number is no word for a null", ["import", "--null", "-99", "t", "-"], 2, err=[b"WORD is a number"], files={"t": ONE_ROW}),
     Case("a field that is no number is refused with its place", ["import", "t", "v"], 1, err=b'refused BadCsv 3 1\nv, line 3, column A: "x" is not a whole number\n', files={"t": ONE_ROW, "v": b"A\n1\nx\n"}, writes={"t": ONE_ROW}),
     Case("the file is judged before the rows", ["import", "t", "v"], 1, err=b"refused Truncated 0\nt: this is empty: did the command before it fail?\n", files={"t": b"", "v": b"x"}),
     Case("rows are deleted for which a condition is true", ["delete", "t", "A = 7"], 0, b"ok 2\n", files={"t": BOTH}),

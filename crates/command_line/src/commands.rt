@@ -3,7 +3,7 @@ ghost use Rattle.std.specs.Prelude.{IfErr};
 ghost use Rattle.command_line.specs.Outcome.{IsUnread};
 
 use crate::fault::Fault;
-use crate::requests::{Queries, Request, Source};
+use crate::requests::{CsvForm, Queries, Request, Source};
 use crate::words;
 use clap::error::ErrorKind;
 use clap::{Arg, ArgAction, ArgMatches, Command};
@@ -32,6 +32,10 @@ const PACK_HELP: &str =
 /// What is shown below the help of `lanes import`.
 const IMPORT_HELP: &str =
     "Rows become batches of 65,536. Their names are drawn at random, or begin at O.N: a load that arrives twice under one name is\nheld once. Of several CSVs all are imported or none, one after another, under names that count on.";
+
+/// What is wrong with a separator.
+const SEPARATOR_FAULT: &str =
+    "C is one ASCII character, or \\t for a tab; no letter, no digit, and none of \" - _ \\ and a line's end";
 
 /// What comes below the help of `lanes forget`.
 const FORGET_HELP: &str =
@@ -273,6 +277,7 @@ impl Verb {
             None => None,
             Some(text) => Some(self.batch_name(alloc, text)?),
         };
+        let form = self.csv_form(alloc, given)?;
         let names = given.get_strs("CSV").unwrap_or(&[]);
         if has_late_option(names) {
             return Err(self.fault(alloc, LATE_OPTION));
@@ -285,8 +290,30 @@ impl Verb {
             file: text_of(given, "FILE"),
             csvs,
             first,
-            has_header: !given.get_flag("no-header"),
+            form,
             is_quiet: given.get_flag("quiet"),
+        })
+    }
+
+    /// How the texts of an import are written.
+    fn csv_form<'a>(self, alloc: Global, given: &ArgMatches<'a>) -> Result<CsvForm<'a>, Fault>
+        ensures { IfErr result IsUnread }
+    {
+        let separator = match given.get_str("separator") {
+            None => Some(b','),
+            Some(text) => words::separator(text),
+        };
+        let Some(separator) = separator else {
+            return Err(self.fault(alloc, SEPARATOR_FAULT));
+        };
+        let null_word = given.get_str("null");
+        if null_word.is_some_and(words::is_number) {
+            return Err(self.fault(alloc, "WORD is a number, so it can't be a null too"));
+        }
+        Ok(CsvForm {
+            has_header: !given.get_flag("no-header"),
+            separator,
+            null_word,
         })
     }
 
@@ -502,11 +529,23 @@ fn import_command<'a>(alloc: Global, command: Command<'a>) -> Result<Command<'a>
         "no-header",
         "The first line has values, not names of columns",
     );
+    let separator = Arg::new(alloc, "separator")
+        .long("separator")
+        .value_name("C")
+        .help("The character between two fields, instead of a comma; \\t is a tab")
+        .allow_hyphen_values(true);
+    let null_word = Arg::new(alloc, "null")
+        .long("null")
+        .value_name("WORD")
+        .help("A further word for a null, besides an empty field, NULL and \\N")
+        .allow_hyphen_values(true);
     command
         .about("Inserts rows of comma-separated values")
         .after_help(IMPORT_HELP)
         .arg(batch)?
         .arg(header)?
+        .arg(separator)?
+        .arg(null_word)?
         .arg(quiet(alloc))?
         .arg(file(alloc))?
         .arg(word(alloc, "CSV", "The files of values, or - for standard input").num_args(1..))

@@ -11,4 +11,4 @@ pub use answer_formats::{Format, ReportForm};
 pub use commands::read_request;
 pub use fault::{Fault, not_for_a_folder, not_for_a_terminal};
 pub use program_arguments::arguments;
-pub use requests::{Queries, Request, Source};
+pub use requests::{CsvForm, Queries, Request, Source};

@@ -32,6 +32,17 @@ pub enum Queries<'a> {
     Texts(Vec<&'a str>),
 }
 
+/// How texts of comma-separated values are written.
+#[derive(Clone, Copy, Debug, PartialEq, Eq)]
+pub struct CsvForm<'a> {
+    /// Whether each text's first line has the columns' names.
+    pub has_header: bool,
+    /// The byte between two fields.
+    pub separator: u8,
+    /// A word that is a null besides the usual ones.
+    pub null_word: Option<&'a str>,
+}
+
 /// What the command line asks for.
 #[derive(Debug, Drop)]
 pub enum Request<'a> {
@@ -54,7 +65,8 @@ pub enum Request<'a> {
         /// Whether nothing is printed if all is well.
         is_quiet: bool,
     },
-    /// `lanes import [--batch O.N] [--no-header] [--quiet] FILE CSV..`: the rows of texts, inserted as new batches.
+    /// `lanes import [--batch O.N] [--no-header] [--separator C] [--null WORD] [--quiet] FILE CSV..`: the rows of texts, inserted as new
+    /// batches.
     Import {
         /// The file's name.
         file: &'a str,
@@ -62,8 +74,8 @@ pub enum Request<'a> {
         csvs: Vec<Source<'a>>,
         /// The name of the first batch, if it isn't drawn.
         first: Option<BatchName>,
-        /// Whether each text's first line has the columns' names.
-        has_header: bool,
+        /// How the texts are written.
+        form: CsvForm<'a>,
         /// Whether nothing is printed if all is well.
         is_quiet: bool,
     },

@@ -94,6 +94,25 @@ pub fn sources<'a>(alloc: Global, names: &[&'a str]) -> Result<Vec<Source<'a>>, 
     Ok(sources)
 }
 
+/// The separator of fields that is written so: one ASCII character, or `\t` for a tab. None for a letter, a digit, and each other
+/// character that a name, a number, a null or a line's end has.
+pub fn separator(text: &str) -> Option<u8> {
+    let byte = match text.as_bytes() {
+        b"\\t" => b'\t',
+        [byte] => *byte,
+        _ => return None,
+    };
+    let is_taken = byte.is_ascii_alphanumeric()
+        || matches!(byte, b'"' | b'-' | b'_' | b'\\' | b'\r' | b'\n');
+    if is_taken { None } else { Some(byte) }
+}
+
+/// Whether a text is a whole number: an optional minus sign and digits.
+pub fn is_number(text: &str) -> bool {
+    let digits = text.strip_prefix('-').unwrap_or(text);
+    !digits.is_empty() && digits.bytes().all(|byte| byte.is_ascii_digit())
+}
+
 /// How many of these sources are standard input.
 pub fn inputs(sources: &[Source<'_>]) -> usize {
     sources

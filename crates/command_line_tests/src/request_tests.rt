@@ -24,7 +24,7 @@ fn asked(alloc: Global, words: &[&str]) -> Result<String, AllocError> {
     }
 }
 
-const REQUESTS: [(&[&str], &str); 49] = [
+const REQUESTS: [(&[&str], &str); 64] = [
     (&["run"], "Run { source: Input, is_explained: false }"),
     (&["run", "-"], "Run { source: Input, is_explained: false }"),
     (
@@ -77,12 +77,44 @@ const REQUESTS: [(&[&str], &str); 49] = [
     (&["create", "f", "t"], "fault"),
     (
         &["import", "f", "-"],
-        "Import { file: \"f\", csvs: [Input], first: None, has_header: true, is_quiet: false }",
+        "Import { file: \"f\", csvs: [Input], first: None, form: CsvForm { has_header: true, separator: 44, null_word: None }, is_quiet: false }",
     ),
     (
         &["import", "--quiet", "f", "c", "-", "-d"],
-        "Import { file: \"f\", csvs: [File(\"c\"), Input, File(\"-d\")], first: None, has_header: true, is_quiet: true }",
+        "Import { file: \"f\", csvs: [File(\"c\"), Input, File(\"-d\")], first: None, form: CsvForm { has_header: true, separator: 44, null_word: None }, is_quiet: true }",
     ),
+    (
+        &["import", "--separator", "\\t", "--null", "-", "f", "c"],
+        "Import { file: \"f\", csvs: [File(\"c\")], first: None, form: CsvForm { has_header: true, separator: 9, null_word: Some(\"-\") }, is_quiet: false }",
+    ),
+    (
+        &[
+            "import",
+            "--no-header",
+            "--separator",
+            ";",
+            "--null=",
+            "f",
+            "c",
+        ],
+        "Import { file: \"f\", csvs: [File(\"c\")], first: None, form: CsvForm { has_header: false, separator: 59, null_word: Some(\"\") }, is_quiet: false }",
+    ),
+    (
+        &["import", "--separator", "\t", "--null", "9a", "f", "c"],
+        "Import { file: \"f\", csvs: [File(\"c\")], first: None, form: CsvForm { has_header: true, separator: 9, null_word: Some(\"9a\") }, is_quiet: false }",
+    ),
+    (&["import", "--separator", "", "f", "c"], "fault"),
+    (&["import", "--separator", ";;", "f", "c"], "fault"),
+    (&["import", "--separator", "é", "f", "c"], "fault"),
+    (&["import", "--separator", "7", "f", "c"], "fault"),
+    (&["import", "--separator", "x", "f", "c"], "fault"),
+    (&["import", "--separator", "-", "f", "c"], "fault"),
+    (&["import", "--separator", "_", "f", "c"], "fault"),
+    (&["import", "--separator", "\"", "f", "c"], "fault"),
+    (&["import", "--separator", "\\", "f", "c"], "fault"),
+    (&["import", "--separator", "\n", "f", "c"], "fault"),
+    (&["import", "--null", "-99", "f", "c"], "fault"),
+    (&["import", "--null", "0", "f", "c"], "fault"),
     (&["import", "f", "-", "-"], "fault"),
     (&["import", "f", "c", "--batch", "1.1"], "fault"),
     (
@@ -111,7 +143,7 @@ const REQUESTS: [(&[&str], &str); 49] = [
             "-f",
             "--batch",
         ],
-        "Import { file: \"-f\", csvs: [File(\"--batch\")], first: Some(BatchName { origin: Origin(7), number: Number(0) }), has_header: false, is_quiet: false }",
+        "Import { file: \"-f\", csvs: [File(\"--batch\")], first: Some(BatchName { origin: Origin(7), number: Number(0) }), form: CsvForm { has_header: false, separator: 44, null_word: None }, is_quiet: false }",
     ),
     (&["import", "--batch", "1.4294967296", "f", "c"], "fault"),
     (&["import", "--batch", "00000000001.1", "f", "c"], "fault"),

@@ -2,6 +2,8 @@
 #![tactic(auto)]
 
 #[cfg(test)]
+mod dialect_tests;
+#[cfg(test)]
 mod limit_tests;
 #[cfg(test)]
 mod refused_tests;

@@ -35,8 +35,12 @@ fn lines(alloc: Global, rows: &Rows) -> Result<String, Fail> {
 
 /// What is read of a text: the rows' text, or the fault and the field that is shown of it.
 pub fn read(alloc: Global, schema: &Schema, has_header: bool, text: &[u8]) -> Result<String, Fail> {
+    read_by(alloc, CsvReader::new(alloc, schema, has_header)?, text)
+}
+
+/// The same, by this reader.
+pub fn read_by(alloc: Global, mut csv: CsvReader, text: &[u8]) -> Result<String, Fail> {
     let mut reader = Counted::new(text);
-    let mut csv = CsvReader::new(alloc, schema, has_header)?;
     match csv.next_batch(alloc, &mut reader) {
         Ok(rows) => lines(alloc, &rows),
         Err(CsvError::BadCsv { line, column: 0 }) => Ok(format!(in alloc; "BadCsv {line} 0")?),

@@ -9,8 +9,8 @@ use crate::names::fault_of_names;
 use crate::progress::Progress;
 use crate::reports::write_line;
 use crate::watched_folder::{Unheld, WatchedFolder};
-use command_line::{Source, not_for_a_folder};
-use csv_rows::{CsvError, CsvReader};
+use command_line::{CsvForm, Source, not_for_a_folder};
+use csv_rows::{CsvError, CsvReader, Dialect};
 use file_replacing::{Folder, HoldError, Place, SystemFolder};
 use refusal_sentences::{CommandRefusal, Fields, Knowledge, Printable, Sentence, Text};
 use replica_files::{Load, read_csv};
@@ -75,14 +75,14 @@ pub fn import<
     file: &str,
     csvs: &[Source<'_>],
     first: Option<BatchName>,
-    has_header: bool,
+    form: CsvForm<'_>,
     is_quiet: bool,
 ) -> Result<(), Failure> {
     if is_folder(rt, file) {
-        return folder_changes::import(rt, progress, file, csvs, first, has_header, is_quiet);
+        return folder_changes::import(rt, progress, file, csvs, first, form, is_quiet);
     }
     let schema = schema_ahead(rt, file)?;
-    let load = match load_of(rt, progress, csvs, &schema, has_header) {
+    let load = match load_of(rt, progress, csvs, &schema, form) {
         Ok(load) => load,
         Err(fault) => {
             let _schema = schema_of(rt, file)?;
@@ -112,12 +112,12 @@ pub fn load_of<'r, R: Eprint + Input + Files + Clock + AllocGlobal>(
     progress: &'r Progress<'r, R>,
     csvs: &[Source<'_>],
     schema: &Schema,
-    has_header: bool,
+    form: CsvForm<'_>,
 ) -> Result<Load, Failure> {
     let mut load = Load::new(rt.alloc(), schema)?;
     for csv in csvs {
         let mut reader = source_of(rt, progress, *csv);
-        add_rows(rt, *csv, &mut reader, schema, has_header, &mut load)?;
+        add_rows(rt, *csv, &mut reader, schema, form, &mut load)?;
     }
     Ok(load)
 }
@@ -265,10 +265,15 @@ fn add_rows<R: Files + AllocGlobal, D: Read>(
     source: Source<'_>,
     reader: &mut Counted<D>,
     schema: &Schema,
-    has_header: bool,
+    form: CsvForm<'_>,
     load: &mut Load,
 ) -> Result<(), Failure> {
-    let mut csv = CsvReader::new(rt.alloc(), schema, has_header)?;
+    let mut csv = CsvReader::in_dialect(
+        rt.alloc(),
+        schema,
+        form.has_header,
+        dialect_of(rt.alloc(), form)?,
+    )?;
     match read_csv(rt.alloc(), &mut csv, reader, load) {
         Ok(()) => Ok(()),
         Err(CsvError::Refused(refusal)) => Err(unread(rt, CommandRefusal::from(refusal), source)),
@@ -282,9 +287,18 @@ fn add_rows<R: Files + AllocGlobal, D: Read>(
             rt.alloc(),
             source,
             CommandRefusal::BadCsv { line, column },
-            known_of_field(&csv, schema, has_header && line == 1, column),
+            known_of_field(&csv, schema, form, line == 1, column),
         )),
     }
+}
+
+/// The dialect in which texts are written.
+fn dialect_of(alloc: Global, form: CsvForm<'_>) -> Result<Dialect, AllocError> {
+    let null_word = match form.null_word {
+        None => None,
+        Some(word) => Some(String::from_str(alloc, word)?),
+    };
+    Ok(Dialect::new(form.separator, null_word))
 }
 
 /// A fault of comma-separated values.
@@ -309,11 +323,17 @@ fn fault_of_csv(
 fn known_of_field<'a>(
     csv: &'a CsvReader,
     schema: &'a Schema,
-    is_header: bool,
+    form: CsvForm<'_>,
+    is_first: bool,
     column: u64,
 ) -> Knowledge<'a> {
     if column == 0 {
-        return Knowledge::Fields(Fields::new(csv.line(), b',', schema.columns(), is_header));
+        return Knowledge::Fields(Fields::new(
+            csv.line(),
+            form.separator,
+            schema.columns(),
+            form.has_header && is_first,
+        ));
     }
     let text = csv.faulty_field(column);
     match csv.column_of(column) {

@@ -11,7 +11,7 @@ use crate::named_loads::put_named;
 use crate::names::fault_of_names;
 use crate::progress::Progress;
 use crate::putting::{exists, make_folder, put_part, say};
-use command_line::Source;
+use command_line::{CsvForm, Source};
 use file_replacing::Replaced;
 use folder_parts::{
     check_room, part_of_deletes, part_of_load, part_of_named_load, part_of_offers, part_of_rows,
@@ -77,12 +77,12 @@ pub fn import<
     folder: &str,
     csvs: &[Source<'_>],
     first: Option<BatchName>,
-    has_header: bool,
+    form: CsvForm<'_>,
     is_quiet: bool,
 ) -> Result<(), Failure> {
     match first {
-        Some(first) => import_named(rt, progress, folder, csvs, first, has_header, is_quiet),
-        None => import_drawn(rt, progress, folder, csvs, has_header, is_quiet),
+        Some(first) => import_named(rt, progress, folder, csvs, first, form, is_quiet),
+        None => import_drawn(rt, progress, folder, csvs, form, is_quiet),
     }
 }
 
@@ -102,11 +102,11 @@ fn import_drawn<
     progress: &Progress<'_, R>,
     folder: &str,
     csvs: &[Source<'_>],
-    has_header: bool,
+    form: CsvForm<'_>,
     is_quiet: bool,
 ) -> Result<(), Failure> {
     let heads = read_heads(rt, folder)?;
-    let load = load_of(rt, progress, csvs, &heads.schema, has_header)?;
+    let load = load_of(rt, progress, csvs, &heads.schema, form)?;
     if let Err(refusal) = check_room(heads.batches.as_slice(), load.batches() as u32) {
         return Err(refused_alone(rt, folder, CommandRefusal::from(refusal)));
     }
@@ -142,11 +142,11 @@ fn import_named<
     folder: &str,
     csvs: &[Source<'_>],
     first: BatchName,
-    has_header: bool,
+    form: CsvForm<'_>,
     is_quiet: bool,
 ) -> Result<(), Failure> {
     let mut opened: Opened<Store> = open_folder(rt, folder)?;
-    let load = load_of(rt, progress, csvs, opened.held.schema(), has_header)?;
+    let load = load_of(rt, progress, csvs, opened.held.schema(), form)?;
     let mut writer = Counted::new(Vec::new(rt.alloc()));
     match part_of_named_load(rt.alloc(), &mut opened.held, load, first, &mut writer) {
         Ok(done) if done.new == 0 => { say(rt, folder, Answer::Imported(done), None, is_quiet) }
