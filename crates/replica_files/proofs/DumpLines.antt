@@ -93,10 +93,11 @@ rows_are has_names result a b w w' rows all is h = let P : List (RowName × Cell
 longer_by : {X : Type 0} (k j : ℕ) (mask : List Bool) (item : ℕ → X) → (rest : List X) × (picked_below (k + j) mask item ≡ picked_below k mask item ++ rest)
 longer_by k zero mask item = ([], ap (λ n. picked_below n mask item) (let e : k + zero ≡ k = omega arith in e) ∙ sym (append-nil (picked_below k mask item)))
 longer_by k (suc j) mask item =
-    let before = longer_by k j mask item in
-    (before.0 ++ cond (has mask (k + j)) (item (k + j) ∷ []) [],
-    ap (λ n. picked_below n mask item) (let e : k + suc j ≡ (k + j) + 1 = omega arith in e) ∙ picked_more (k + j) mask item (has mask (k + j)) refl
-    ∙ ap (λ l. l ++ cond (has mask (k + j)) (item (k + j) ∷ []) []) before.1 ∙ append_assoc (picked_below k mask item) before.0 (cond (has mask (k + j)) (item (k + j) ∷ []) []))
+    let before = longer_by k j mask item in (
+      before.0 ++ cond (has mask (k + j)) (item (k + j) ∷ []) [],
+      ap (λ n. picked_below n mask item) (let e : k + suc j ≡ (k + j) + 1 = omega arith in e) ∙ picked_more (k + j) mask item (has mask (k + j)) refl
+          ∙ ap (λ l. l ++ cond (has mask (k + j)) (item (k + j) ∷ []) []) before.1 ∙ append_assoc (picked_below k mask item) before.0 (cond (has mask (k + j)) (item (k + j) ∷ []) []),
+    )
 
 -- those below a row are a front of all
 pub picked_front : {X : Type 0} (k : ℕ) (mask : List Bool) (item : ℕ → X) → k ≤ 1024 → (rest : List X) × (picked mask item ≡ picked_below k mask item ++ rest)
