@@ -1,0 +1,2 @@
+pub mod RunLists
+pub mod Spelled
