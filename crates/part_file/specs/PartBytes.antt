@@ -14,7 +14,7 @@ use Rattle.table_model.specs.declared.names.BatchName.{BatchName}
 use Rattle.table_model.specs.declared.refusal.Refusal.TheVariants.{BadName, BadOrder, BadRange, BadTag, BadWidth, Syntax}
 use Rattle.catalogue_join.specs.Run.{name_at}
 use Rattle.catalogue_join.specs.declared.run.Run.{Run}
-use Rattle.segment_core.specs.Format.{Format, raw, seen, checked, before, optional, all, number, signed, is_in_bits}
+use Rattle.segment_core.specs.Format.{Format, IsLawful, raw, seen, checked, before, optional, all, number, signed, is_in_bits}
 use Rattle.column_file.specs.Ordered.{in_order}
 use Rattle.column_file.specs.SummaryBytes.{head}
 use Rattle.answer_parts.specs.Refusing.{kept_kind}
@@ -209,3 +209,7 @@ body_of p = (string_bytes p.text, (runs_of p.held, (runs_of p.strays, each entry
 -- the bytes of a part
 abbrev pub part_bytes : Part → List ℕ
 part_bytes p = part.spell (p.schema, body_of p)
+
+-- what is read of a part is spelled so and valid, and what is valid and spelled so is read
+abbrev pub PartsComeBack : Type 0
+PartsComeBack = IsLawful part
