@@ -1,5 +1,5 @@
 -- The laws of a part in bytes.
-use Rattle.std.proofs.Common.{◌≡◌, ◌≤◌, ◌^◌, ◌<◌, ℕ, zero, suc, Bool, true, false, cond, ◌&&◌, eqb, leb, List, [], length, codes, ℤ, pos, negsuc, Option, Some, None, FitsSigned, inr, refl, sym, ap, subst, ◌∙◌, arith}
+use Rattle.std.proofs.Common.{◌≡◌, ◌≤◌, ◌^◌, ◌<◌, ℕ, zero, suc, Bool, true, false, cond, eqb, leb, List, [], length, codes, ℤ, pos, negsuc, Option, Some, None, FitsSigned, inr, refl, sym, ap, subst, ◌∙◌, arith}
 use Rattle.std.specs.Int.{w128, cast_signed, cast_unsigned, int_wrap}
 use Rattle.std.specs.Str.{is_utf8}
 use Rattle.std.proofs.lemmas.Bool.{eqb-true, leb-true, lt-ltb, ltb-true, and_parts}
@@ -8,7 +8,6 @@ use Rattle.std.proofs.Math.Nat.{mod-eq_of_lt}
 use Rattle.bit_interleave.proofs.WrapLemmas.{int_wrap_pos}
 use Rattle.transpose_order.specs.Place.{IsLaneWidth}
 use Rattle.table_model.specs.State.{Cells}
-use Rattle.table_model.specs.declared.names.BatchName.{BatchName}
 use Rattle.table_model.specs.declared.refusal.Refusal.TheVariants.{BadName, BadOrder, BadRange, BadTag, BadWidth, Syntax}
 use Rattle.catalogue_join.specs.Run.{name_at}
 use Rattle.catalogue_join.specs.declared.run.Run.{Run}
