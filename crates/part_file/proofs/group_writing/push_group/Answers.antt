@@ -1,0 +1,10 @@
+use Rattle.std.proofs.Common.{[]}
+use Rattle.part_file.specs.PartBytes.{Entry, counted, group, kept, key}
+use Rattle.part_file.proofs.Spelled.{both_put, group_spelled}
+use Rattle.part_file.proofs.group_writing.push_group.Goals as goal
+
+pub returns : goal.returns
+returns c =
+    let g : Entry = (c.args.key.now, c.args.measures.now) in
+    both_put c.args.bytes.now.items c.push_key.new.bytes.items c.push_measures.new.bytes.items (key.spell c.args.key.now) ((counted (λ _. kept)).spell c.args.measures.now) ((group []).spell g)
+    (rw c.cells.ensures at c.in_ok-push_key.ensures) c.in_ok-push_measures.ensures (group_spelled g)

@@ -1,0 +1,10 @@
+use Rattle.answer_parts.specs.Refusing.{kept_kind}
+use Rattle.segment_core.specs.Format.{number}
+use Rattle.part_file.specs.PartBytes.{kept, kept_as}
+use Rattle.part_file.proofs.Spelled.{both_put, kept_spelled}
+use Rattle.part_file.proofs.kept_writing.push_kept.Goals as goal
+
+pub returns : goal.returns
+returns c =
+    both_put c.args.bytes.now.items c.push_number.new.bytes.items c.push_content.new.bytes.items ((number 1).spell (kept_kind c.args.measure.now)) ((kept_as (kept_kind c.args.measure.now)).spell c.args.measure.now) (kept.spell c.args.measure.now)
+    (rw c.kind.ensures at c.in_ok-push_number.ensures) c.in_ok-push_content.ensures (kept_spelled c.args.measure.now)

@@ -1,0 +1,7 @@
+use Rattle.std.proofs.Common.{◌≡◌, ◌++◌, take}
+use Rattle.std.specs.List.{flat_map}
+use Rattle.part_file.specs.PartBytes.{kept}
+use Rattle.part_file.proofs.kept_writing.push_measure_list.Given as goal
+
+abbrev pub invariant-loop-measure : goal.invariant-loop-measure
+invariant-loop-measure l = l.bytes.items ≡ l.initial.bytes.items ++ flat_map kept.spell (take l.measure-index l.measures)

@@ -1,0 +1,10 @@
+use Rattle.std.proofs.Common.{length}
+use Rattle.segment_core.specs.Format.{number}
+use Rattle.part_file.specs.PartBytes.{text}
+use Rattle.part_file.proofs.Spelled.{both_put, text_spelled}
+use Rattle.part_file.proofs.part_writing.push_text.Goals as goal
+
+pub returns : goal.returns
+returns c =
+    both_put c.args.bytes.now.items c.push_number.new.bytes.items c.extend_from_slice.new.self.items ((number 8).spell (length c.args.query.now)) c.args.query.now (text.spell c.args.query.now)
+    c.in_ok-push_number.ensures c.in_ok-extend_from_slice.ensures.items (text_spelled c.args.query.now)

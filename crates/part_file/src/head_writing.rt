@@ -1,0 +1,40 @@
+//! Writing what a part begins with: its own four bytes, the version, and a schema.
+ghost use Rattle.std.specs.Prelude.{◌≡◌, cond};
+ghost use Rattle.segment_core.specs.Format.{Format, Writes};
+ghost use Rattle.column_file.specs.SchemaBytes.{has_tiny, version_of};
+ghost use Rattle.column_file.specs.SummaryBytes.{head};
+
+use column_file::write_schema;
+use segment_core::{write_number, write_whole};
+use std::io::Write;
+use table_model::{Counted, Refusal, Schema};
+
+/// Whether a schema has a column of 8 bits.
+fn has_tiny(schema: &Schema) -> bool
+    ensures { result ≡ has_tiny schema.now }
+{
+    schema
+        .column_list()
+        .iter()
+        .any(|column| column.column_type().bits() == 8)
+}
+
+/// The version of a schema: 2 exactly if it has a column of 8 bits, otherwise 1.
+fn version_of(schema: &Schema) -> u64
+    ensures { result ≡ version_of schema.now }
+{
+    if has_tiny(schema) { 2 } else { 1 }
+}
+
+/// Writes what a format begins with: its own four bytes, the schema's version, and the schema.
+pub fn write_head<W: Write>(
+    writer: &mut Counted<W>,
+    magic: &[u8],
+    schema: &Schema,
+) -> Result<(), Refusal>
+    ensures { Writes result (W.contents writer.old.0) (W.contents writer.new.0) writer.old.1 writer.new.1 ((head magic.now).spell schema.now) }
+{
+    write_whole(writer, magic)?;
+    write_number(writer, version_of(schema), 2)?;
+    write_schema(writer, schema)
+}

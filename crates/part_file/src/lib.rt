@@ -1,0 +1,13 @@
+//! Parts of answers in bytes: one form for each part, which is written and read back.
+#![tactic(auto)]
+
+mod group_writing;
+mod head_writing;
+mod kept_writing;
+mod laws;
+mod number_writing;
+mod part_writing;
+mod run_writing;
+
+pub use laws::parts_and_bytes_come_back;
+pub use part_writing::write_part;
