@@ -3,27 +3,32 @@ _lanes() {
     local word=${COMP_WORDS[COMP_CWORD]} before=${COMP_WORDS[COMP_CWORD - 1]} options=
     COMPREPLY=()
     if [ "$COMP_CWORD" = 1 ]; then
-        mapfile -t COMPREPLY < <(compgen -W 'create import query delete delete-rows forget dump inspect summary offer apply check merge run help --help --version' -- "$word")
+        mapfile -t COMPREPLY < <(compgen -W 'create import query delete delete-rows forget dump inspect summary offer apply check merge pack run help --help --version' -- "$word")
         return
     fi
     case $before in
         --batch) return ;;
+        --columns) return ;;
         --format) mapfile -t COMPREPLY < <(compgen -W 'text csv json table' -- "$word"); return ;;
+        --null) return ;;
+        --separator) return ;;
+        --where) return ;;
     esac
     case ${COMP_WORDS[1]} in
         create) options='--quiet --help' ;;
-        import) options='--batch --no-header --quiet --help' ;;
+        import) options='--batch --no-header --separator --null --quiet --help' ;;
         query) options='--format --help' ;;
         delete) options='--quiet --help' ;;
         delete-rows) options='--quiet --help' ;;
         forget) options='--quiet --help' ;;
-        dump) options='--names --help' ;;
+        dump) options='--names --where --columns --help' ;;
         inspect) options='--batches --format --help' ;;
         summary) options='--help' ;;
         offer) options='--help' ;;
         apply) options='--quiet --help' ;;
         check) options='--help' ;;
         merge) options='--quiet --help' ;;
+        pack) options='--all --quiet --help' ;;
         run) options='--explain --help' ;;
     esac
     if [[ $word == -* ]]; then
