@@ -54,7 +54,7 @@ class Storm:
         pick, number = random.Random(importer), 0
         while not self.is_over():
             number += 1
-            key = importer * 1_000 + number
+            key = importer * 100_000 + number
             rows = "".join(f"{importer},{key * 100 + at}\n" for at in range(ROWS)).encode()
             with self.lock:
                 self.begun.add(key)
