@@ -1,5 +1,5 @@
 -- All lines are told, the last one at the end.
-use Rattle.std.proofs.Common.{ℕ, subst, ◌∙◌}
+use Rattle.std.proofs.Common.{ℕ, refl, subst, ◌∙◌}
 use Rattle.std.proofs.lemmas.Result.{err_from_is_err_and}
 use Rattle.table_model.specs.Faults.{GaveMore, Failed}
 use Rattle.replica_files.proofs.LinesTold.{heard_last, heard_all, telling_failed}
@@ -15,6 +15,16 @@ pub returns-clause-heard : goal.returns-clause-heard
 returns-clause-heard g c =
     heard_all c.args.format c.args.file.now.replica (g.R.Read.remaining c.args.reader.now.0) (g.R.Read.remaining c.rounds.new.reader.0) (g.W.Write.contents c.args.writer.now.0) (g.W.Write.contents c.rounds.new.writer.0) (g.W.Write.contents c.answer.new.writer.0)
     c.in_ok-lines.lines.is_whole c.answer.new.self.is_whole c.in_ok-lines.lines.line c.in_ok-lines.ensures.heard.0 c.in_ok-lines.ensures.heard.1 c.in_ok-lines.ensures.ends.read.end c.in_ok-answer.ensures.told c.in_ok-answer.ensures.whole
+
+pub returns-in_err-buffer-clause-ends : goal.returns-in_err-buffer-clause-ends
+returns-in_err-buffer-clause-ends g c =
+    let p = err_from_is_err_and c.from_residual.result c.from_residual.ensures.1 in
+    rw (p.1, p.2) (refl, refl)
+
+pub returns-in_err-lines-clause-ends : goal.returns-in_err-lines-clause-ends
+returns-in_err-lines-clause-ends g c =
+    let p = err_from_is_err_and c.from_residual-in_err-lines.result c.from_residual-in_err-lines.ensures.1 in
+    rw (p.1, p.2) c.in_err-lines.ensures.ends
 
 pub returns-in_err-answer-clause-ends : goal.returns-in_err-answer-clause-ends
 returns-in_err-answer-clause-ends g c =
