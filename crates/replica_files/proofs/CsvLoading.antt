@@ -10,7 +10,7 @@ use Rattle.csv_rows.specs.Reading.{Reading, to_come, AsKnown, Gave, NothingToCom
 use Rattle.csv_rows.specs.declared.error.CsvError.{CsvError}
 use Rattle.csv_rows.specs.declared.error.CsvError.TheVariants.{Refused, BadCsv, LineTooLong}
 use Rattle.replica_files.specs.Loads.{LoadForm}
-use Rattle.replica_files.specs.CsvLoads.{AreFull, rows_of, last_batch, AreCut, with_batches, LoadsRows, RefusesText, IsRefused}
+use Rattle.replica_files.specs.CsvLoads.{AreFull, rows_of, last_batch, AreCut, with_batches, LoadsRows, RefusesText, IsNotAdded}
 
 -- full batches were loaded, and the rest of the text is to come
 pub record LoadedSoFar (start now : Reading) (before after : Option (List ℕ)) (old new : LoadForm) : Type 0 where
@@ -109,5 +109,5 @@ load_refused start now (LineTooLong line) None after old load so h = tt
 load_refused start now (LineTooLong line) (Some bytes) after old load so h = refuses_bad start now (LineTooLong line) (Some bytes) after so.full so.rest h bytes refl
 
 -- what is no fault of it
-pub none_refused : (start : Reading) (e : CsvError) (before : Option (List ℕ)) → IsRefused e → RefusesText start e before
-none_refused start e before (refusal, is) = let P : CsvError → Type 0 = λ x. RefusesText start x before in subst P (sym is) tt
+pub none_refused : (start : Reading) (e : CsvError) (before : Option (List ℕ)) (load : LoadForm) (rows : Batch) → IsNotAdded load rows e → RefusesText start e before
+none_refused start e before load rows (refusal, is, some, why) = let P : CsvError → Type 0 = λ x. RefusesText start x before in subst P (sym is) tt

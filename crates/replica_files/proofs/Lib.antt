@@ -1,6 +1,7 @@
 pub mod AskedTexts
 pub mod CommandSteps
 pub mod CsvLoading
+pub mod StoppedLoads
 pub mod DrawnNames
 pub mod DumpLines
 pub mod FileLaws

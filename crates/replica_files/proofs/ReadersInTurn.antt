@@ -1,13 +1,13 @@
 -- Readers that are read one after another: those before a place were read whole, and those from there on are as they were.
 use Rattle.std.specs.Prelude.{◌≡◌, ◌⊎◌, ℕ, true, false, zero, suc, ◌+◌, ◌<◌, ◌≤◌, List, [], ◌∷◌, length, Option, Result, Ok, Err, IsTrue, IfErr, OnOk}
 use Rattle.std.proofs.Common.{refl, sym, subst, inl, inr, arith, get_or, set}
-use Rattle.table_model.specs.Faults.{GaveMore, CountsReads, CountsWrites}
+use Rattle.table_model.specs.Faults.{GaveMore, CountsWrites}
 use Rattle.table_model.specs.declared.refusal.Refusal.{Refusal}
 use Rattle.table_model.specs.declared.refusal.Refusal.TheVariants.{Memory, WriteFault}
-use Rattle.column_file.specs.Input.{ComesOfWhole, is_refusal_of_reading}
+use Rattle.column_file.specs.Input.{is_refusal_of_reading}
 use Rattle.replica_store.specs.Replica.{Replica}
 use Rattle.replica_files.specs.Commands.{Puts}
-use Rattle.replica_files.specs.Refusals.{is_refusal_of_merge, reading_or, IsReadWhole, AreReadWhole, StopsAt, ReadInTurn, EndsUnmerged}
+use Rattle.replica_files.specs.Refusals.{is_refusal_of_merge, reading_or, IsReadWhole, StopsReading, AreReadWhole, StopsAt, ReadInTurn, EndsUnmerged, EndsMerge}
 use Rattle.replica_files.proofs.CommandSteps.{reading_counts, command_counts, writing_is, writing_none}
 use Rattle.replica_files.proofs.RefusedOnFile.{or_reading, listed_on_file, writing_listed, listed_uncounted}
 
@@ -84,13 +84,12 @@ unmerged_stops remaining e reader reader' whole listed = record {
 
 -- refused as the first file is read
 pub first_unread : {D E : Type 0} (remaining : D → Option (List ℕ)) (contents : E → Option (List ℕ)) (first first' : D × ℕ) (others : List (D × ℕ)) (writer : E × ℕ) (e : Refusal)
-    → IsTrue (is_refusal_of_reading e) → ComesOfWhole e (remaining first.0) (remaining first'.0) → CountsReads (GaveMore (remaining first.0) (remaining first'.0)) e first.1 first'.1
-    → EndsUnmerged remaining contents (first ∷ others) (first' ∷ others) writer writer e
-first_unread remaining contents first first' others writer e listed whole counts = record {
-  listed = listed_on_file is_refusal_of_merge e (or_reading is_refusal_of_merge e listed);
-  reads = inr (record { whole = whole; counts = counts }, refl);
+    → StopsReading remaining is_refusal_of_reading first first' e → EndsUnmerged remaining contents (first ∷ others) (first' ∷ others) writer writer e
+first_unread remaining contents first first' others writer e h = record {
+  listed = listed_on_file is_refusal_of_merge e (or_reading is_refusal_of_merge e h.listed);
+  reads = inr (record { whole = h.whole; counts = h.counts }, refl);
   unwritten = λ other. refl;
-  counts = (reading_counts (GaveMore (remaining first.0) (remaining first'.0)) e first.1 first'.1 writer.1 listed counts).1;
+  counts = (reading_counts (GaveMore (remaining first.0) (remaining first'.0)) e first.1 first'.1 writer.1 h.listed h.counts).1;
 }
 
 no_write : (e : Refusal) (w : ℕ) → IsTrue (reading_or is_refusal_of_merge e) → CountsWrites e w w
@@ -122,12 +121,7 @@ merged_unwritten remaining contents first first' others others' writer writer' n
 
 -- all were read, and the whole is written or not
 pub all_then_written : {D E : Type 0} (remaining : D → Option (List ℕ)) (contents : E → Option (List ℕ)) (first first' : D × ℕ) (others others' : List (D × ℕ)) (writer writer' : E × ℕ) (new : Replica) (result : Result (Unit {0}) Refusal)
-    → IsReadWhole remaining first first' → AreReadWhole remaining others others' → Puts true result (contents writer.0) (contents writer'.0) new → IfErr result (λ e. CountsWrites e writer.1 writer'.1)
-    → IfErr result (EndsUnmerged remaining contents (first ∷ others) (first' ∷ others') writer writer')
-all_then_written remaining contents first first' others others' writer writer' new (Ok done) whole all put counts = tt
-all_then_written remaining contents first first' others others' writer writer' new (Err e) whole all put counts = merged_unwritten remaining contents first first' others others' writer writer' new e whole all put counts
-
-pub then_read : {D : Type 0} (remaining : D → Option (List ℕ)) (first first' : D × ℕ) (others others' : List (D × ℕ)) (result : Result (Unit {0}) Refusal)
-    → IsReadWhole remaining first first' → AreReadWhole remaining others others' → OnOk result (AreReadWhole remaining (first ∷ others) (first' ∷ others'))
-then_read remaining first first' others others' (Ok done) whole all = (whole, all)
-then_read remaining first first' others others' (Err e) whole all = tt
+    → IsReadWhole remaining first first' → AreReadWhole remaining others others' → Puts true result (contents writer.0) (contents writer'.0) new → OnOk result (writer'.1 ≡ writer.1) → IfErr result (λ e. CountsWrites e writer.1 writer'.1)
+    → EndsMerge remaining contents (first ∷ others) (first' ∷ others') writer writer' result
+all_then_written remaining contents first first' others others' writer writer' new (Ok done) whole all put kept counts = record { read = (whole, all); kept = kept }
+all_then_written remaining contents first first' others others' writer writer' new (Err e) whole all put kept counts = merged_unwritten remaining contents first first' others others' writer writer' new e whole all put counts

@@ -1,17 +1,17 @@
 -- How a refused call on a file ends: refused as the file is read, by the command, or as the file is written; and which refusals a new file has.
 use Rattle.std.specs.Prelude.{◌≡◌, ◌⊎◌, ℕ, Bool, true, false, ◌||◌, cond, List, Option, Some, None, Result, Ok, Err, IsTrue, IfErr}
 use Rattle.std.proofs.Common.{refl, sym, ap, ◌∙◌, inl, inr}
-use Rattle.table_model.specs.Faults.{AppendsFront, GaveMore, CountsReads, CountsWrites}
+use Rattle.table_model.specs.Faults.{AppendsFront, GaveMore, CountsWrites}
 use Rattle.table_model.specs.Outcome.{Gives}
 use Rattle.table_model.specs.Table.{Table, schema_of, folded_table, is_schema}
 use Rattle.table_model.specs.declared.schema.ColType.{ColType}
 use Rattle.table_model.specs.declared.refusal.Refusal.{Refusal}
 use Rattle.table_model.specs.declared.refusal.Refusal.TheVariants.{Memory, ReadFault, WriteFault, BadSchema}
 use Rattle.column_file.specs.Files.{Exports}
-use Rattle.column_file.specs.Input.{Judges, ComesOfWhole, is_refusal_of_reading}
+use Rattle.column_file.specs.Input.{Judges, is_refusal_of_reading}
 use Rattle.replica_store.specs.Replica.{Replica}
 use Rattle.replica_files.specs.Commands.{held_in, Made, Makes, Puts}
-use Rattle.replica_files.specs.Refusals.{is_refusal_of_create, reading_or, on_file, IsReadWhole, ComesOf, EndsRefused}
+use Rattle.replica_files.specs.Refusals.{is_refusal_of_create, reading_or, on_file, IsReadWhole, StopsReading, ComesOf, EndsRefused}
 use Rattle.replica_files.proofs.CommandSteps.{is_uncounted, reading_counts, command_counts, writing_counts, writing_is, writing_none, exported_put}
 
 -- ---- refusals that are listed
@@ -63,14 +63,13 @@ writing_why input command e (inr is) = inr (inr is)
 
 -- refused as the file is read
 pub opening_ends : {D E Y : Type 0} (remaining : D → Option (List ℕ)) (contents : E → Option (List ℕ)) (is_refusal : Refusal → Bool) (command : Replica → Made Y) (reader reader' : D × ℕ) (writer : E × ℕ) (e : Refusal)
-    → IsTrue (is_refusal_of_reading e) → ComesOfWhole e (remaining reader.0) (remaining reader'.0) → CountsReads (GaveMore (remaining reader.0) (remaining reader'.0)) e reader.1 reader'.1
-    → EndsRefused remaining contents is_refusal command reader reader' writer writer e
-opening_ends remaining contents is_refusal command reader reader' writer e listed whole counts = record {
-  listed = listed_on_file is_refusal e (or_reading is_refusal e listed);
-  why = inl listed;
-  whole = whole;
+    → StopsReading remaining is_refusal_of_reading reader reader' e → EndsRefused remaining contents is_refusal command reader reader' writer writer e
+opening_ends remaining contents is_refusal command reader reader' writer e h = record {
+  listed = listed_on_file is_refusal e (or_reading is_refusal e h.listed);
+  why = inl h.listed;
+  whole = h.whole;
   unwritten = λ other. refl;
-  counts = reading_counts (GaveMore (remaining reader.0) (remaining reader'.0)) e reader.1 reader'.1 writer.1 listed counts;
+  counts = reading_counts (GaveMore (remaining reader.0) (remaining reader'.0)) e reader.1 reader'.1 writer.1 h.listed h.counts;
 }
 
 -- refused by the command
@@ -99,6 +98,10 @@ writing_ends remaining contents is_refusal command reader reader' writer writer'
       unwritten = writing_none b e (contents writer.0) (contents writer'.0) new put;
       counts = writing_counts (GaveMore (remaining reader.0) (remaining reader'.0)) e reader.1 reader'.1 writer.1 writer'.1 whole.kept why counts;
     }
+
+-- a call whose reader was read whole has no memory
+pub memory_stops : {D : Type 0} (remaining : D → Option (List ℕ)) (reader reader' : D × ℕ) → IsReadWhole remaining reader reader' → StopsReading remaining is_refusal_of_reading reader reader' Memory
+memory_stops remaining reader reader' whole = record { listed = refl; whole = λ memory failed. (whole.within, whole.end); counts = whole.kept }
 
 -- ---- a file that is made
 

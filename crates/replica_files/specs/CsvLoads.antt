@@ -1,12 +1,15 @@
 -- The rows of a text as batches: 65,536 rows in each but the last.
-use Rattle.std.specs.Prelude.{◌≡◌, ℕ, List, [], ◌∷◌, ◌++◌, length, Option, Some, None, Result, Ok, Err}
+use Rattle.std.specs.Prelude.{◌≡◌, ◌⊎◌, ℕ, ◌≤◌, List, [], ◌∷◌, ◌++◌, length, Option, Some, None, Result, Ok, Err}
+use Rattle.table_model.specs.Counted.{one_more}
 use Rattle.table_model.specs.State.{Batch}
 use Rattle.table_model.specs.Table.{row_limit}
 use Rattle.table_model.specs.declared.refusal.Refusal.{Refusal}
+use Rattle.table_model.specs.declared.refusal.Refusal.TheVariants.{Memory, ReadFault, Full}
+use Rattle.replica_store.specs.Replica.{batch_limit}
 use Rattle.csv_rows.specs.Reading.{Reading, to_come}
 use Rattle.csv_rows.specs.declared.error.CsvError.{CsvError}
 use Rattle.csv_rows.specs.declared.error.CsvError.TheVariants.{Refused}
-use Rattle.replica_files.specs.Loads.{LoadForm}
+use Rattle.replica_files.specs.Loads.{LoadForm, added_batch}
 
 -- each has as many rows as a batch may have
 abbrev pub AreFull : List Batch → Type 0
@@ -46,6 +49,36 @@ RefusesText csv (Refused refusal) before = Unit {0}
 RefusesText csv fault None = Unit {0}
 RefusesText csv fault (Some bytes) = to_come csv bytes ≡ Err fault
 
--- the error is a refusal of the call below, and no fault of the text
-abbrev pub IsRefused : CsvError → Type 0
-IsRefused e = (refusal : Refusal) × (e ≡ Refused refusal)
+-- rows weren't added to a load: it refused them, or memory ran out
+abbrev pub IsNotAdded : LoadForm → Batch → CsvError → Type 0
+IsNotAdded load rows e = (refusal : Refusal) × (e ≡ Refused refusal) × (1 ≤ length rows) × ((added_batch load rows ≡ Err refusal) ⊎ (refusal ≡ Memory))
+
+-- ---- a load that was stopped
+
+-- Which errors stop a load of the text's own table: a fault of the text; out of memory; a failed read; and that it has as many batches as
+-- a load may have.
+abbrev pub MayStop : LoadForm → CsvError → Type 0
+MayStop load (Refused Memory) = Unit {0}
+MayStop load (Refused ReadFault) = Unit {0}
+MayStop load (Refused Full) = batch_limit ≤ length load.batches
+MayStop load (Refused other) = ⊥
+MayStop load fault = Unit {0}
+
+-- a reader's count of failures before and after an error: it rose with a ReadFault, unless many is what made that, and else it stayed
+abbrev pub CountsText : Type 0 → CsvError → ℕ → ℕ → Type 0
+CountsText many (Refused ReadFault) before after = (after ≡ one_more before) ⊎ (many × (after ≡ before))
+CountsText many other before after = after ≡ before
+
+-- these batches are the first rows of a text that has no fault; if the load was full, more rows come after them
+abbrev pub AreFirst : Reading → CsvError → Option (List ℕ) → List Batch → Type 0
+AreFirst csv e before batches =
+    (bytes : List ℕ) (rows : Batch) → before ≡ Some bytes → to_come csv bytes ≡ Ok rows → ((left : Batch) × (rows ≡ rows_of batches ++ left) × (e ≡ Refused Full → 1 ≤ length left))
+
+-- What a load has when an error stopped it: full batches were added, which are the first rows of the text if that has no fault; and the
+-- error is one that may stop it.
+pub record StopsLoading (csv : Reading) (before : Option (List ℕ)) (old new : LoadForm) (e : CsvError) : Type 0 where
+  pub full : List Batch
+  pub are_full : AreFull full
+  pub loaded : new ≡ with_batches old full
+  pub first : AreFirst csv e before full
+  pub may_stop : old.schema ≡ csv.table → MayStop new e

@@ -1,7 +1,7 @@
 -- Which refusals a call on files has, what each comes of, and how its readers and its writer are left.
 use Rattle.std.specs.Prelude.{◌≡◌, ◌≢◌, ◌⊎◌, ℕ, Bool, true, false, ◌||◌, List, [], ◌∷◌, Option, Result, Ok, Err, IsTrue}
 use Rattle.std.specs.Io.KnownBytes.{IsAtEnd}
-use Rattle.table_model.specs.Faults.{IsWithin, GaveMore, CountsReads, CountsWrites, CountsBoth}
+use Rattle.table_model.specs.Faults.{IsWithin, GaveMore, CountsReads, CountsWrites, CountsBoth, Failed}
 use Rattle.table_model.specs.declared.refusal.Refusal.{Refusal}
 use Rattle.table_model.specs.declared.refusal.Refusal.TheVariants.{Memory, Conflict, Full, SchemaDiffers, NumbersSpent, BadName, BadSchema, BadRange, WriteFault}
 use Rattle.column_file.specs.Input.{Judges, ComesOfWhole, is_refusal_of_reading}
@@ -52,13 +52,40 @@ abbrev pub on_file : (Refusal → Bool) → Refusal → Bool
 on_file is_refusal WriteFault = true
 on_file is_refusal other = reading_or is_refusal other
 
--- ---- a call that reads a file, does a command with what it holds, and writes the file anew
+-- ---- a call that reads to the end
 
 -- A reader was read to its end without a failure, and it had no more than a call reads.
 pub record IsReadWhole {D : Type 0} (remaining : D → Option (List ℕ)) (old new : D × ℕ) : Type 0 where
   pub end : IsAtEnd (remaining new.0)
   pub within : IsWithin (remaining old.0)
   pub kept : new.1 ≡ old.1
+
+-- The call was refused: as one of the refusals that it has; unless memory ran out or a read failed, the reader was read to its end; and
+-- a failed read is counted.
+pub record StopsReading {D : Type 0} (remaining : D → Option (List ℕ)) (is_refusal : Refusal → Bool) (old new : D × ℕ) (e : Refusal) : Type 0 where
+  pub listed : IsTrue (is_refusal e)
+  pub whole : ComesOfWhole e (remaining old.0) (remaining new.0)
+  pub counts : CountsReads (GaveMore (remaining old.0) (remaining new.0)) e old.1 new.1
+
+-- how a call ends that reads its reader to the end: it was read whole, or the call was refused
+abbrev pub ReadsWhole : {D X : Type 0} → (D → Option (List ℕ)) → (Refusal → Bool) → D × ℕ → D × ℕ → Result X Refusal → Type 0
+ReadsWhole remaining is_refusal old new (Ok x) = IsReadWhole remaining old new
+ReadsWhole remaining is_refusal old new (Err e) = StopsReading remaining is_refusal old new e
+
+-- ---- a call that reads to the end, and writes
+
+-- The reader was read whole, and no write failed.
+pub record IsReadAndWritten {D E : Type 0} (remaining : D → Option (List ℕ)) (reader reader' : D × ℕ) (writer writer' : E × ℕ) : Type 0 where
+  pub read : IsReadWhole remaining reader reader'
+  pub kept : writer'.1 ≡ writer.1
+
+-- How a call ends that nothing refuses but out of memory and a failed read or write: with that, or refused, and then each failed read
+-- and write is counted.
+abbrev pub EndsFailed : {D E X : Type 0} → (D → Option (List ℕ)) → D × ℕ → D × ℕ → E × ℕ → E × ℕ → Result X Refusal → Type 0
+EndsFailed remaining reader reader' writer writer' (Ok x) = IsReadAndWritten remaining reader reader' writer writer'
+EndsFailed remaining reader reader' writer writer' (Err e) = Failed (GaveMore (remaining reader.0) (remaining reader'.0)) e reader.1 reader'.1 writer.1 writer'.1
+
+-- ---- a call that reads a file, does a command with what it holds, and writes the file anew
 
 -- What a refusal comes of: of reading; of the command, which refuses so what the file holds, and that is what the bytes hold, if the
 -- reader tells them; or of a failed write.
@@ -74,6 +101,11 @@ pub record EndsRefused {D E Y : Type 0} (remaining : D → Option (List ℕ)) (c
   pub whole : ComesOfWhole e (remaining reader.0) (remaining reader'.0)
   pub unwritten : e ≢ WriteFault → contents writer'.0 ≡ contents writer.0
   pub counts : CountsBoth (GaveMore (remaining reader.0) (remaining reader'.0)) e reader.1 reader'.1 writer.1 writer'.1
+
+-- how a command on a file ends: the file was read whole and no write failed, or it was refused
+abbrev pub Ends : {D E X Y : Type 0} → (D → Option (List ℕ)) → (E → Option (List ℕ)) → (Refusal → Bool) → (Replica → Made Y) → D × ℕ → D × ℕ → E × ℕ → E × ℕ → Result X Refusal → Type 0
+Ends remaining contents is_refusal command reader reader' writer writer' (Ok x) = IsReadAndWritten remaining reader reader' writer writer'
+Ends remaining contents is_refusal command reader reader' writer writer' (Err e) = EndsRefused remaining contents is_refusal command reader reader' writer writer' e
 
 -- ---- a call that reads several files, one after another
 
@@ -102,3 +134,13 @@ pub record EndsUnmerged {D E : Type 0} (remaining : D → Option (List ℕ)) (co
   pub reads : ReadInTurn remaining e readers readers'
   pub unwritten : e ≢ WriteFault → contents writer'.0 ≡ contents writer.0
   pub counts : CountsWrites e writer.1 writer'.1
+
+-- Each reader was read whole, and no write failed.
+pub record IsMerged {D E : Type 0} (remaining : D → Option (List ℕ)) (readers readers' : List (D × ℕ)) (writer writer' : E × ℕ) : Type 0 where
+  pub read : AreReadWhole remaining readers readers'
+  pub kept : writer'.1 ≡ writer.1
+
+-- how a merge of files ends: each file was read whole and no write failed, or it was refused
+abbrev pub EndsMerge : {D E X : Type 0} → (D → Option (List ℕ)) → (E → Option (List ℕ)) → List (D × ℕ) → List (D × ℕ) → E × ℕ → E × ℕ → Result X Refusal → Type 0
+EndsMerge remaining contents readers readers' writer writer' (Ok x) = IsMerged remaining readers readers' writer writer'
+EndsMerge remaining contents readers readers' writer writer' (Err e) = EndsUnmerged remaining contents readers readers' writer writer' e

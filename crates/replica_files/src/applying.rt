@@ -1,7 +1,7 @@
 //! Applying offers to a replica in a file.
-ghost use Rattle.std.specs.Prelude.{◌≡◌, IsTrue, IfErr, OnOk};
+ghost use Rattle.std.specs.Prelude.{◌≡◌, IsTrue, IfErr};
 ghost use Rattle.replica_files.specs.Commands.{Changes, Makes, applied_all, applying};
-ghost use Rattle.replica_files.specs.Refusals.{EndsRefused, IsReadWhole, is_refusal_of_merge};
+ghost use Rattle.replica_files.specs.Refusals.{Ends, is_refusal_of_merge};
 
 use crate::file_writing::write_changed;
 use column_file::open;
@@ -70,9 +70,7 @@ pub fn apply<R: Read, W: Write>(
     writer: &mut Counted<W>,
 ) -> Result<Applied, Refusal>
     ensures made { Changes (λ done. (done.batches, done.ranges, done.new)) (λ done. done.is_changed) result (R.remaining reader.old.0) (W.contents writer.old.0) (W.contents writer.new.0) (applying offers.items) }
-    ensures read { OnOk result (IsReadWhole R.remaining reader.old reader.new) }
-    ensures kept { OnOk result (writer.new.1 ≡ writer.old.1) }
-    ensures refused { IfErr result (EndsRefused R.remaining W.contents is_refusal_of_merge (applying offers.items) reader.old reader.new writer.old writer.new) }
+    ensures ends { Ends R.remaining W.contents is_refusal_of_merge (applying offers.items) reader.old reader.new writer.old writer.new result }
 {
     let mut store = open(alloc, reader, Origin(1))?;
     let done = apply_offers(alloc, &mut store, offers)?;

@@ -1,9 +1,9 @@
 //! Deleting rows of a replica in a file.
-ghost use Rattle.std.specs.Prelude.{◌≡◌, ◌==◌, not, IsTrue, IfErr, OnOk};
+ghost use Rattle.std.specs.Prelude.{◌≡◌, ◌==◌, not, IsTrue, IfErr};
 ghost use Rattle.replica_store.specs.Replica.{deleted_rows};
 ghost use Rattle.store_view.specs.Asked.{is_refusal_of_condition};
 ghost use Rattle.replica_files.specs.Commands.{Changes, Makes, deleting};
-ghost use Rattle.replica_files.specs.Refusals.{EndsRefused, IsReadWhole, is_refusal_of_range};
+ghost use Rattle.replica_files.specs.Refusals.{Ends, is_refusal_of_range};
 
 use crate::file_writing::write_changed;
 use column_file::open;
@@ -50,9 +50,7 @@ pub fn delete<R: Read, W: Write>(
     writer: &mut Counted<W>,
 ) -> Result<Deleted, Refusal>
     ensures made { Changes (λ done. done.rows) (λ done. not (done.rows == 0)) result (R.remaining reader.old.0) (W.contents writer.old.0) (W.contents writer.new.0) (deleting condition.now) }
-    ensures read { OnOk result (IsReadWhole R.remaining reader.old reader.new) }
-    ensures kept { OnOk result (writer.new.1 ≡ writer.old.1) }
-    ensures refused { IfErr result (EndsRefused R.remaining W.contents is_refusal_of_condition (deleting condition.now) reader.old reader.new writer.old writer.new) }
+    ensures ends { Ends R.remaining W.contents is_refusal_of_condition (deleting condition.now) reader.old reader.new writer.old writer.new result }
 {
     let mut store = open(alloc, reader, Origin(1))?;
     let done = delete_where(alloc, &mut store, condition)?;
@@ -88,9 +86,7 @@ pub fn delete_rows<R: Read, W: Write>(
     writer: &mut Counted<W>,
 ) -> Result<DeletedRows, Refusal>
     ensures made { Changes (λ done. tt) (λ done. done.is_changed) result (R.remaining reader.old.0) (W.contents writer.old.0) (W.contents writer.new.0) (λ r. deleted_rows r first last) }
-    ensures read { OnOk result (IsReadWhole R.remaining reader.old reader.new) }
-    ensures kept { OnOk result (writer.new.1 ≡ writer.old.1) }
-    ensures refused { IfErr result (EndsRefused R.remaining W.contents is_refusal_of_range (λ r. deleted_rows r first last) reader.old reader.new writer.old writer.new) }
+    ensures ends { Ends R.remaining W.contents is_refusal_of_range (λ r. deleted_rows r first last) reader.old reader.new writer.old writer.new result }
 {
     let mut store = open(alloc, reader, Origin(1))?;
     let done = delete_range(alloc, &mut store, first, last)?;

@@ -1,8 +1,8 @@
 //! Forgetting batches of a replica in a file of which every row is deleted.
-ghost use Rattle.std.specs.Prelude.{◌≡◌, ◌==◌, not, IsTrue, IfErr, OnOk};
+ghost use Rattle.std.specs.Prelude.{◌≡◌, ◌==◌, not, IsTrue, IfErr};
 ghost use Rattle.replica_files.specs.Commands.{Changes, Makes};
 ghost use Rattle.replica_files.specs.Forgetting.{forgetting};
-ghost use Rattle.replica_files.specs.Refusals.{EndsRefused, IsReadWhole, is_refusal_of_forget};
+ghost use Rattle.replica_files.specs.Refusals.{Ends, is_refusal_of_forget};
 
 use crate::file_writing::write_changed;
 use crate::stored::stored_rows;
@@ -46,9 +46,7 @@ pub fn forget<R: Read, W: Write>(
     writer: &mut Counted<W>,
 ) -> Result<Forgotten, Refusal>
     ensures made { Changes (λ done. (done.batches, done.rows)) (λ done. not (done.batches == 0)) result (R.remaining reader.old.0) (W.contents writer.old.0) (W.contents writer.new.0) forgetting }
-    ensures read { OnOk result (IsReadWhole R.remaining reader.old reader.new) }
-    ensures kept { OnOk result (writer.new.1 ≡ writer.old.1) }
-    ensures refused { IfErr result (EndsRefused R.remaining W.contents is_refusal_of_forget forgetting reader.old reader.new writer.old writer.new) }
+    ensures ends { Ends R.remaining W.contents is_refusal_of_forget forgetting reader.old reader.new writer.old writer.new result }
 {
     let mut store = open(alloc, reader, Origin(1))?;
     let done = forget_dead(alloc, &mut store)?;

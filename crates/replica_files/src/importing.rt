@@ -1,8 +1,8 @@
 //! Imports into a replica in a file.
-ghost use Rattle.std.specs.Prelude.{◌≡◌, ◌==◌, not, IsTrue, IfErr, OnOk};
+ghost use Rattle.std.specs.Prelude.{◌≡◌, ◌==◌, not, IsTrue, IfErr};
 ghost use Rattle.replica_files.specs.Commands.{Changes, Makes};
 ghost use Rattle.replica_files.specs.Loads.{importing, name_of_some};
-ghost use Rattle.replica_files.specs.Refusals.{EndsRefused, IsReadWhole, is_refusal_of_import};
+ghost use Rattle.replica_files.specs.Refusals.{Ends, is_refusal_of_import};
 
 use crate::file_writing::write_changed;
 use crate::load::Load;
@@ -76,9 +76,7 @@ pub fn import<R: Read, W: Write>(
     writer: &mut Counted<W>,
 ) -> Result<Imported, Refusal>
     ensures made { Changes (λ done. done) (λ done. not (done.new == 0)) result (R.remaining reader.old.0) (W.contents writer.old.0) (W.contents writer.new.0) (importing load given words.now) }
-    ensures read { OnOk result (IsReadWhole R.remaining reader.old reader.new) }
-    ensures kept { OnOk result (writer.new.1 ≡ writer.old.1) }
-    ensures refused { IfErr result (EndsRefused R.remaining W.contents is_refusal_of_import (importing load given words.now) reader.old reader.new writer.old writer.new) }
+    ensures ends { Ends R.remaining W.contents is_refusal_of_import (importing load given words.now) reader.old reader.new writer.old writer.new result }
 {
     let mut store = open(alloc, reader, Origin(1))?;
     let done = import_load(alloc, &mut store, load, given, words)?;

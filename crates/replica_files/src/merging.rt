@@ -1,7 +1,7 @@
 //! Merging files into one.
 ghost use Rattle.std.specs.Prelude.{◌≡◌, ◌∷◌, map, List, ℕ, Some, IsTrue, IfErr, OnOk};
 ghost use Rattle.replica_files.specs.Commands.{Merging, MergesAll, Merges};
-ghost use Rattle.replica_files.specs.Refusals.{IsReadWhole, AreReadWhole, StopsAt, ReadInTurn, EndsUnmerged, reading_or, is_refusal_of_merge};
+ghost use Rattle.replica_files.specs.Refusals.{IsReadWhole, AreReadWhole, StopsAt, ReadInTurn, EndsMerge, reading_or, is_refusal_of_merge};
 
 use crate::file_writing::write_changed;
 use column_file::open;
@@ -57,9 +57,7 @@ pub fn merge<R: Read, W: Write>(
 ) -> Result<(), Refusal>
     ensures made { (input : List ℕ) (inputs : List (List ℕ)) → R.remaining first.old.0 ≡ Some input → map (λ reader. R.remaining reader.0) others.old ≡ map Some inputs →
         Merges result (W.contents writer.old.0) (W.contents writer.new.0) input inputs }
-    ensures read { OnOk result (AreReadWhole R.remaining (first.old ∷ others.old) (first.new ∷ others.new)) }
-    ensures kept { OnOk result (writer.new.1 ≡ writer.old.1) }
-    ensures refused { IfErr result (EndsUnmerged R.remaining W.contents (first.old ∷ others.old) (first.new ∷ others.new) writer.old writer.new) }
+    ensures ends { EndsMerge R.remaining W.contents (first.old ∷ others.old) (first.new ∷ others.new) writer.old writer.new result }
 {
     let mut store = open(alloc, first, Origin(1))?;
     merge_others(alloc, &mut store, others)?;

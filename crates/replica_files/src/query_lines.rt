@@ -1,11 +1,12 @@
 //! Queries that are the lines of a text, answered as they come.
 ghost use Rattle.std.specs.Prelude.{◌≡◌, ◌≢◌, ◌⊎◌, ◌&&◌, ◌==◌, ◌<◌, ◌≤◌, true, [], None, List, ℕ, Ok, Err, length, position, MatchResult, MatchOption, IfSome, IfOk, IfErr, OnOk, OnErr};
 ghost use Rattle.std.specs.Io.KnownBytes.{Appends, IsAtEnd};
-ghost use Rattle.table_model.specs.Faults.{AppendsFront, CountsWrites, IsWithin, GaveMore, Failed};
+ghost use Rattle.table_model.specs.Faults.{AppendsFront, CountsWrites, Failed};
 ghost use Rattle.table_model.specs.declared.refusal.Refusal.TheVariants.{Memory, ReadFault, Syntax, WriteFault};
 ghost use Rattle.std.specs.Str.{IsUtf8};
 ghost use Rattle.std.specs.Str.Lossy.{utf8_valid_len};
 ghost use Rattle.replica_files.specs.Asking.{WritesText};
+ghost use Rattle.replica_files.specs.Refusals.{EndsFailed};
 ghost use Rattle.replica_files.specs.QueryLines.{CutAt, Fed, FedFront, Heard, HeardAll, HeardFront, HeardMore, EndsEarly, answer_in_bytes, grown, line_answer, still_told, told_of};
 
 use crate::answers::answer;
@@ -234,12 +235,9 @@ fn rounds<R: Read, W: Write, L: Listener>(
 ) -> Result<QueryLines, Refusal>
     requires some { 0 < length buffer.old }
     requires limit { length buffer.old ≤ 65536 }
-    ensures end { OnOk result (IsAtEnd (R.remaining reader.new.0)) }
-    ensures within { OnOk result (IsWithin (R.remaining reader.old.0)) }
     ensures heard { IfOk result (λ lines. (total : ℕ) × Heard asked.now.format asked.now.file.now.replica (R.remaining reader.old.0) (R.remaining reader.new.0) (W.contents writer.old.0) (W.contents writer.new.0) lines.is_whole lines.line total) }
     ensures early { OnErr result (HeardFront asked.now.format asked.now.file.now.replica (R.remaining reader.old.0) (W.contents writer.old.0) (W.contents writer.new.0)) }
-    ensures kept { OnOk result ((reader.new.1 ≡ reader.old.1) × (writer.new.1 ≡ writer.old.1)) }
-    ensures fault { IfErr result (λ e. Failed (GaveMore (R.remaining reader.old.0) (R.remaining reader.new.0)) e reader.old.1 reader.new.1 writer.old.1 writer.new.1) }
+    ensures ends { EndsFailed R.remaining reader.old reader.new writer.old writer.new result }
 {
     let mut lines = QueryLines::new(asked.alloc);
     let mut total: u64 = 0;
@@ -272,10 +270,7 @@ pub fn answer_lines<R: Read, W: Write, L: Listener>(
 ) -> Result<bool, Refusal>
     ensures heard { IfOk result (λ whole. HeardAll format file.now.replica (R.remaining reader.old.0) (W.contents writer.old.0) (W.contents writer.new.0) whole) }
     ensures front { OnErr result (HeardFront format file.now.replica (R.remaining reader.old.0) (W.contents writer.old.0) (W.contents writer.new.0)) }
-    ensures end { OnOk result (IsAtEnd (R.remaining reader.new.0)) }
-    ensures within { OnOk result (IsWithin (R.remaining reader.old.0)) }
-    ensures kept { OnOk result ((reader.new.1 ≡ reader.old.1) × (writer.new.1 ≡ writer.old.1)) }
-    ensures fault { IfErr result (λ e. Failed (GaveMore (R.remaining reader.old.0) (R.remaining reader.new.0)) e reader.old.1 reader.new.1 writer.old.1 writer.new.1) }
+    ensures ends { EndsFailed R.remaining reader.old reader.new writer.old writer.new result }
 {
     let asked = Asked {
         alloc,

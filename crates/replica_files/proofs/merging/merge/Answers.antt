@@ -3,16 +3,16 @@ use Rattle.std.proofs.Common.{◌≡◌, arith}
 use Rattle.std.proofs.lemmas.Result.{err_from_is_err_and}
 use Rattle.replica_store.specs.Segments.{StoreForm}
 use Rattle.replica_files.proofs.FileMerges.{merge_written}
-use Rattle.replica_files.proofs.ReadersInTurn.{first_unread, others_unmerged, all_then_written, then_read}
+use Rattle.replica_files.proofs.ReadersInTurn.{first_unread, others_unmerged, all_then_written}
 use Rattle.replica_files.proofs.merging.merge.Goals as goal
 
-pub returns-in_err-store-clause-refused : goal.returns-in_err-store-clause-refused
-returns-in_err-store-clause-refused g c =
+pub returns-in_err-store-clause-ends : goal.returns-in_err-store-clause-ends
+returns-in_err-store-clause-ends g c =
     let p = err_from_is_err_and c.from_residual.result c.from_residual.ensures.1 in
-    rw (p.1, p.2) (first_unread g.R.Read.remaining g.W.Write.contents c.args.first.now c.open.new.reader c.args.others.now c.args.writer.now c.in_err-store.field-0.0 c.in_err-store.ensures.refused (c.in_err-store.ensures.whole (omega arith)) c.in_err-store.ensures.fault)
+    rw (p.1, p.2) (first_unread g.R.Read.remaining g.W.Write.contents c.args.first.now c.open.new.reader c.args.others.now c.args.writer.now c.in_err-store.field-0.0 (record { listed = c.in_err-store.ensures.refused; whole = c.in_err-store.ensures.whole (omega arith); counts = c.in_err-store.ensures.fault }))
 
-pub returns-in_err-merge_others-clause-refused : goal.returns-in_err-merge_others-clause-refused
-returns-in_err-merge_others-clause-refused g c =
+pub returns-in_err-merge_others-clause-ends : goal.returns-in_err-merge_others-clause-ends
+returns-in_err-merge_others-clause-ends g c =
     let p = err_from_is_err_and c.from_residual-in_err-merge_others.result c.from_residual-in_err-merge_others.ensures.1 in
     rw (p.1, p.2) (others_unmerged g.R.Read.remaining g.W.Write.contents c.args.first.now c.open.new.reader c.args.others.now c.merge_others.new.readers c.args.writer.now c.in_err-merge_others.field-0.0
     (record { end = c.in_ok-store.ensures.end; within = c.in_ok-store.ensures.within; kept = c.in_ok-store.ensures.kept }) c.in_err-merge_others.ensures.listed c.in_err-merge_others.ensures.in_turn)
@@ -22,12 +22,7 @@ returns-clause-made g c = λ input inputs is known.
     merge_written (λ (store : StoreForm). store.replica) c.in_ok-store.store c.write_changed.result c.in_ok-merge_others.field-0 (g.R.Read.remaining c.args.first.now.0) (g.W.Write.contents c.args.writer.now.0) (g.W.Write.contents c.write_changed.new.writer.0) c.merge_others.new.store.replica input inputs
     is c.in_ok-store.ensures.read (c.in_ok-merge_others.ensures.merged inputs known) c.write_changed.ensures.put
 
-pub returns-clause-read : goal.returns-clause-read
-returns-clause-read g c =
-    then_read g.R.Read.remaining c.args.first.now c.open.new.reader c.args.others.now c.merge_others.new.readers c.write_changed.result
-    (record { end = c.in_ok-store.ensures.end; within = c.in_ok-store.ensures.within; kept = c.in_ok-store.ensures.kept }) c.in_ok-merge_others.ensures.read
-
-pub returns-clause-refused : goal.returns-clause-refused
-returns-clause-refused g c =
+pub returns-clause-ends : goal.returns-clause-ends
+returns-clause-ends g c =
     all_then_written g.R.Read.remaining g.W.Write.contents c.args.first.now c.open.new.reader c.args.others.now c.merge_others.new.readers c.args.writer.now c.write_changed.new.writer c.merge_others.new.store.replica c.write_changed.result
-    (record { end = c.in_ok-store.ensures.end; within = c.in_ok-store.ensures.within; kept = c.in_ok-store.ensures.kept }) c.in_ok-merge_others.ensures.read c.write_changed.ensures.put c.write_changed.ensures.fault
+    (record { end = c.in_ok-store.ensures.end; within = c.in_ok-store.ensures.within; kept = c.in_ok-store.ensures.kept }) c.in_ok-merge_others.ensures.read c.write_changed.ensures.put c.write_changed.ensures.kept c.write_changed.ensures.fault

@@ -19,8 +19,8 @@ returns-in_err-count-clause-early g c =
     let p = err_from_is_err_and c.from_residual.result c.from_residual.ensures.1 in
     rw p.1 (c.in_err-count.ensures.early (g.R.Read.remaining c.args.reader.now.0) (g.W.Write.contents c.args.writer.now.0) c.loop-turn.total c.loop-turn.invariant.heard)
 
-pub returns-in_err-count-clause-fault : goal.returns-in_err-count-clause-fault
-returns-in_err-count-clause-fault g c =
+pub returns-in_err-count-clause-ends : goal.returns-in_err-count-clause-ends
+returns-in_err-count-clause-ends g c =
     let p = err_from_is_err_and c.from_residual.result c.from_residual.ensures.1 in
     rw (p.1, p.2) (failed_since (GaveMore (g.R.Read.remaining c.args.reader.now.0) (g.R.Read.remaining c.round.new.reader.0)) c.in_err-count.field-0.0 c.args.reader.now.1 c.loop-turn.reader.1 c.round.new.reader.1 c.args.writer.now.1 c.loop-turn.writer.1 c.round.new.writer.1
     c.loop-turn.invariant.reader c.loop-turn.invariant.writer c.in_err-count.ensures.fault)
@@ -29,14 +29,15 @@ pub returns-then-count-eq0-clause-heard : goal.returns-then-count-eq0-clause-hea
 returns-then-count-eq0-clause-heard g c =
     (c.loop-turn.total + c.in_ok-count.count, c.in_ok-count.ensures.heard (g.R.Read.remaining c.args.reader.now.0) (g.W.Write.contents c.args.writer.now.0) c.loop-turn.total c.loop-turn.invariant.heard)
 
-pub returns-then-count-eq0-clause-within : goal.returns-then-count-eq0-clause-within
-returns-then-count-eq0-clause-within g c =
-    heard_within c.args.asked.now.format c.args.asked.now.file.now.replica (g.R.Read.remaining c.args.reader.now.0) (g.R.Read.remaining c.round.new.reader.0) (g.W.Write.contents c.args.writer.now.0) (g.W.Write.contents c.round.new.writer.0) c.round.new.lines.is_whole c.round.new.lines.line (c.loop-turn.total + c.in_ok-count.count)
+pub returns-then-count-eq0-clause-ends : goal.returns-then-count-eq0-clause-ends
+returns-then-count-eq0-clause-ends g c =
+    let within = heard_within c.args.asked.now.format c.args.asked.now.file.now.replica (g.R.Read.remaining c.args.reader.now.0) (g.R.Read.remaining c.round.new.reader.0) (g.W.Write.contents c.args.writer.now.0) (g.W.Write.contents c.round.new.writer.0) c.round.new.lines.is_whole c.round.new.lines.line (c.loop-turn.total + c.in_ok-count.count)
     (c.in_ok-count.ensures.heard (g.R.Read.remaining c.args.reader.now.0) (g.W.Write.contents c.args.writer.now.0) c.loop-turn.total c.loop-turn.invariant.heard)
-    (c.in_ok-count.ensures.end (omega arith)) (omega (arith, c.loop-turn.invariant.limit))
-
-pub returns-then-count-eq0-clause-kept : goal.returns-then-count-eq0-clause-kept
-returns-then-count-eq0-clause-kept g c = (c.in_ok-count.ensures.kept.0 ∙ c.loop-turn.invariant.reader, c.in_ok-count.ensures.kept.1 ∙ c.loop-turn.invariant.writer)
+    (c.in_ok-count.ensures.end (omega arith)) (omega (arith, c.loop-turn.invariant.limit)) in
+    record {
+      read = record { end = c.in_ok-count.ensures.end (omega arith); within = within; kept = c.in_ok-count.ensures.kept.0 ∙ c.loop-turn.invariant.reader };
+      kept = c.in_ok-count.ensures.kept.1 ∙ c.loop-turn.invariant.writer;
+    }
 
 pub overflow_add-total : goal.overflow_add-total
 overflow_add-total g c = omega (arith, c.loop-turn.invariant.limit, c.in_ok-count.ensures.bound, c.requires.limit)
@@ -55,8 +56,8 @@ returns-then-total-gt-READ_LIMIT-clause-early g c =
     heard_front c.args.asked.now.format c.args.asked.now.file.now.replica (g.R.Read.remaining c.args.reader.now.0) (g.R.Read.remaining c.round.new.reader.0) (g.W.Write.contents c.args.writer.now.0) (g.W.Write.contents c.round.new.writer.0) c.round.new.lines.is_whole c.round.new.lines.line (c.loop-turn.total + c.in_ok-count.count)
     (c.in_ok-count.ensures.heard (g.R.Read.remaining c.args.reader.now.0) (g.W.Write.contents c.args.writer.now.0) c.loop-turn.total c.loop-turn.invariant.heard)
 
-pub returns-then-total-gt-READ_LIMIT-clause-fault : goal.returns-then-total-gt-READ_LIMIT-clause-fault
-returns-then-total-gt-READ_LIMIT-clause-fault g c = (
+pub returns-then-total-gt-READ_LIMIT-clause-ends : goal.returns-then-total-gt-READ_LIMIT-clause-ends
+returns-then-total-gt-READ_LIMIT-clause-ends g c = (
   inr (
     heard_past c.args.asked.now.format c.args.asked.now.file.now.replica (g.R.Read.remaining c.args.reader.now.0) (g.R.Read.remaining c.round.new.reader.0) (g.W.Write.contents c.args.writer.now.0) (g.W.Write.contents c.round.new.writer.0) c.round.new.lines.is_whole c.round.new.lines.line (c.loop-turn.total + c.in_ok-count.count)
         (c.in_ok-count.ensures.heard (g.R.Read.remaining c.args.reader.now.0) (g.W.Write.contents c.args.writer.now.0) c.loop-turn.total c.loop-turn.invariant.heard) (omega arith),
@@ -68,5 +69,5 @@ returns-then-total-gt-READ_LIMIT-clause-fault g c = (
 pub returns-clause-early : goal.returns-clause-early
 returns-clause-early g c = absurd (omega (arith, c.loop-turn.invariant.some, c.loop-turn.invariant.limit))
 
-pub returns-clause-fault : goal.returns-clause-fault
-returns-clause-fault g c = absurd (omega (arith, c.loop-turn.invariant.some, c.loop-turn.invariant.limit))
+pub returns-clause-ends : goal.returns-clause-ends
+returns-clause-ends g c = absurd (omega (arith, c.loop-turn.invariant.some, c.loop-turn.invariant.limit))
