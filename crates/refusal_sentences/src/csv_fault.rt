@@ -5,8 +5,13 @@ use crate::tables::Names;
 use std::fmt;
 use table_model::{ColType, Schema, same_word};
 
-/// Separators that are met in place of commas, and what each is called.
-const SEPARATORS: [(u8, &str); 3] = [(b';', "semicolons"), (b'\t', "tabs"), (b'|', "bars")];
+/// The usual separators, and what each is called.
+const SEPARATORS: [(u8, &str); 4] = [
+    (b',', "commas"),
+    (b';', "semicolons"),
+    (b'\t', "tabs"),
+    (b'|', "bars"),
+];
 
 /// How texts begin that are not of this format, and what to do.
 const OTHER_FORMATS: [(&[u8], &str); 4] = [
