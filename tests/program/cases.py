@@ -123,8 +123,17 @@ CASES = [
         ["run", "--explain"],
         0,
         b"ok\nrefused OutOfType 0 0\nrefused BadLine\nok 1.1\n",
-        b"line 2: refused OutOfType 0 0: the number is outside its column's type\nline 4: refused BadLine: rows are written (V,..),(V,..)\n",
+        b"line 2: refused OutOfType 0 0: the number is outside the type SMALLINT of A\nline 4: refused BadLine: rows are written (V,..),(V,..)\n",
         input=b"table 1 T A SMALLINT\nappend 1 (32768)\n\nappend 1 7\nappend 1 (7)\n",
+    ),
+    Case(
+        "what is wrong in a query is explained",
+        ["run", "--explain"],
+        0,
+        b"ok\nrefused Syntax 7\nrefused NoSuchTable\nrefused NoSuchColumn 0\nrefused WrongArity 0\n",
+        b'line 2: refused Syntax 7: a query lists grouping columns and set functions: lanes dump writes the rows\nline 3: refused NoSuchTable: there is no table "U": the table here is T\n'
+        b'line 4: refused NoSuchColumn 0: there is no column "B": the table has A\nline 5: refused WrongArity 0: the row has the wrong number of cells: the columns are A\n',
+        input=b"table 1 T A SMALLINT\nquery 1 SELECT * FROM T\nquery 1 SELECT COUNT(*) FROM U\ndelete where 1 B = 1\nappend 1 (1,2)\n",
     ),
     Case(
         "a query without its SQL is explained",
@@ -183,7 +192,7 @@ CASES = [
     Case("the first refusal ends them", ["query", "t", "SELECT SUM(A) FROM T", "SELECT B FROM T GROUP BY B", "SELECT"], 1, b"SUM(A)\n7\n", b"refused NoSuchColumn 7\nquery 2, byte 7: there is no column \"B\": the table has A\n", files={"t": ONE_ROW}),
     Case("an empty query is a fault at its beginning", ["query", "t", ""], 1, err=b"refused Syntax 0\nbyte 0: the text ends too early; expected is SELECT\n", files={"t": ONE_ROW}),
     Case("a query that begins with a hyphen is a query", ["query", "t", "-x"], 1, err=b"refused Syntax 0\nbyte 0: there is no arithmetic: compute with the answer\n", files={"t": ONE_ROW}),
-    Case("another table's query is refused", ["query", "t", "SELECT SUM(A) FROM U"], 1, err=b"refused NoSuchTable\nthere is no table \"U\": this file has T\n", files={"t": ONE_ROW}),
+    Case("another table's query is refused", ["query", "t", "SELECT SUM(A) FROM U"], 1, err=b"refused NoSuchTable\nthere is no table \"U\": the table here is T\n", files={"t": ONE_ROW}),
     Case("a file is judged before a query", ["query", "t", "SELECT"], 1, err=b"refused Truncated 3\nt, byte 3: the bytes end too early\n", files={"t": b"FLC"}),
     Case("an answer that can't be written is a failed write", ["query", "t", "SELECT SUM(A) FROM T"], 1, err=b"refused WriteFault\nstandard output: no space is left on the device\n", files={"t": ONE_ROW}, output_to="full"),
     Case(
@@ -197,7 +206,7 @@ CASES = [
     ),
     Case("a query that ends too early has the caret at its end", ["query", "t", "SELECT"], 1, err=b"refused Syntax 6\nbyte 6: the text ends too early; expected is a column or a set function\nSELECT\n      ^\n", files={"t": ONE_ROW}, errors_to="terminal"),
     Case("the caret stands in the line of the place", ["query", "t", "SELECT A\nFROM T"], 1, err=b"refused NotGrouped 7\nbyte 7: \"A\" must be in GROUP BY or inside a set function\nSELECT A\n       ^\n", files={"t": ONE_ROW}, errors_to="terminal"),
-    Case("a refusal that names no place of a query has no caret", ["query", "t", "SELECT SUM(A) FROM U"], 1, err=b"refused NoSuchTable\nthere is no table \"U\": this file has T\n", files={"t": ONE_ROW}, errors_to="terminal"),
+    Case("a refusal that names no place of a query has no caret", ["query", "t", "SELECT SUM(A) FROM U"], 1, err=b"refused NoSuchTable\nthere is no table \"U\": the table here is T\n", files={"t": ONE_ROW}, errors_to="terminal"),
     Case("query wants a file and a query", ["query", "t"], 2, err=[b"SQL"], files={"t": ONE_ROW}),
     Case("a refused file is explained in a sentence on a terminal too", ["check", "none"], 1, err=b"refused ReadFault\nnone: no such file or folder\n", errors_to="terminal"),
     Case("a refused merge too", ["merge", "out", "t", "u"], 1, err=b"refused Truncated 0\nu: this is empty: did the command before it fail?\n", files={"t": ONE_ROW, "u": b""}, errors_to="terminal"),

@@ -151,7 +151,7 @@ const QUERIES: [(&str, Refusal, &str); 33] = [
     (
         "SELECT COUNT(*) FROM visit",
         Refusal::NoSuchTable,
-        "there is no table \"visit\": this file has VISITS",
+        "there is no table \"visit\": the table here is VISITS",
     ),
     (
         "SELECT SITE, COUNT(*) FROM VISITS",

@@ -1,7 +1,7 @@
 //! The commands that change a file: it is read, then its lock is taken, and it is read again and replaced whole.
 
 use crate::change::{Change, Done};
-use crate::failure::{Failure, is_of_a_text};
+use crate::failure::Failure;
 use crate::folder_changes;
 use crate::folders::is_folder;
 use crate::inputs::{name_of, reader_of, schema_again, schema_ahead, schema_of, source_of, unread};
@@ -12,7 +12,9 @@ use crate::watched_folder::{Unheld, WatchedFolder};
 use command_line::{CsvForm, Source, not_for_a_folder};
 use csv_rows::{CsvError, CsvReader, Dialect};
 use file_replacing::{Folder, HoldError, Place, SystemFolder};
-use refusal_sentences::{CommandRefusal, Fields, Knowledge, Printable, Sentence, Text};
+use refusal_sentences::{
+    CommandRefusal, Fields, Knowledge, Printable, Sentence, Text, is_of_a_text,
+};
 use replica_files::{Load, read_csv};
 use replica_store::Offer;
 use std::alloc::{AllocError, Global};

@@ -5,7 +5,7 @@ use crate::changing::{
     is_there, load_of, of_other_table, random_words, read_offers, refused_alone, schemas_of,
     with_columns,
 };
-use crate::failure::{Failure, is_of_a_text};
+use crate::failure::Failure;
 use crate::folders::{Opened, open_folder, read_heads};
 use crate::named_loads::put_named;
 use crate::names::fault_of_names;
@@ -16,7 +16,7 @@ use file_replacing::Replaced;
 use folder_parts::{
     check_room, part_of_deletes, part_of_load, part_of_named_load, part_of_offers, part_of_rows,
 };
-use refusal_sentences::CommandRefusal;
+use refusal_sentences::{CommandRefusal, is_of_a_text};
 use replica_files::{DeletedRows, OpenFile};
 use replica_store::Store;
 use std::fs::{File, Files};
