@@ -6,7 +6,7 @@ use crate::folder_changes;
 use crate::folders::is_folder;
 use crate::inputs::{name_of, reader_of, schema_again, schema_ahead, schema_of, source_of, unread};
 use crate::names::fault_of_names;
-use crate::progress::Progress;
+use crate::progress::{LockedReading, Progress};
 use crate::reports::write_line;
 use crate::watched_folder::{Unheld, WatchedFolder};
 use command_line::{CsvForm, Source, not_for_a_folder};
@@ -40,6 +40,7 @@ pub fn create<
     R: Print + Eprint + Files<File = File> + Clock + RandomSource + AllocGlobal + Clone + Drop,
 >(
     rt: &R,
+    progress: &Progress<'_, R>,
     file: &str,
     table: &str,
     columns: &[(&str, ColType)],
@@ -56,7 +57,14 @@ pub fn create<
         Some(words) => About::Names(words.as_str()),
         None => About::Nothing,
     };
-    change(rt, file, Change::Create { table, columns }, about, is_quiet)
+    change(
+        rt,
+        progress,
+        file,
+        Change::Create { table, columns },
+        about,
+        is_quiet,
+    )
 }
 
 /// Inserts the rows of comma-separated values, of one text after another: all, or none. The file is judged under its lock; if a text is
@@ -101,6 +109,7 @@ pub fn import<
     let words = words.as_slice();
     change(
         rt,
+        progress,
         file,
         Change::Import { load, first, words },
         About::Nothing,
@@ -127,12 +136,19 @@ pub fn load_of<'r, R: Eprint + Input + Files + Clock + AllocGlobal>(
 /// Deletes the rows for which a condition is true.
 pub fn delete<
     R: Print + Eprint + Files<File = File> + Clock + RandomSource + AllocGlobal + Clone + Drop,
->(rt: &R, file: &str, condition: &str, is_quiet: bool) -> Result<(), Failure> {
+>(
+    rt: &R,
+    progress: &Progress<'_, R>,
+    file: &str,
+    condition: &str,
+    is_quiet: bool,
+) -> Result<(), Failure> {
     if is_folder(rt, file) {
-        return folder_changes::delete(rt, file, condition, is_quiet);
+        return folder_changes::delete(rt, progress, file, condition, is_quiet);
     }
     change(
         rt,
+        progress,
         file,
         Change::Delete { condition },
         About::Condition(condition),
@@ -143,12 +159,20 @@ pub fn delete<
 /// Deletes rows by their names, held or not.
 pub fn delete_rows<
     R: Print + Eprint + Files<File = File> + Clock + RandomSource + AllocGlobal + Clone + Drop,
->(rt: &R, file: &str, first: RowName, last: u16, is_quiet: bool) -> Result<(), Failure> {
+>(
+    rt: &R,
+    progress: &Progress<'_, R>,
+    file: &str,
+    first: RowName,
+    last: u16,
+    is_quiet: bool,
+) -> Result<(), Failure> {
     if is_folder(rt, file) {
         return folder_changes::delete_rows(rt, file, first, last, is_quiet);
     }
     change(
         rt,
+        progress,
         file,
         Change::DeleteRows { first, last },
         About::Nothing,
@@ -159,13 +183,14 @@ pub fn delete_rows<
 /// Drops the batches of which every row is deleted.
 pub fn forget<R: Print + Eprint + Files<File = File> + Clock + AllocGlobal>(
     rt: &R,
+    progress: &Progress<'_, R>,
     file: &str,
     is_quiet: bool,
 ) -> Result<(), Failure> {
     if is_folder(rt, file) {
         return Err(Failure::from(not_for_a_folder(rt.alloc(), NO_FORGET)));
     }
-    change(rt, file, Change::Forget, About::Nothing, is_quiet)
+    change(rt, progress, file, Change::Forget, About::Nothing, is_quiet)
 }
 
 /// Applies offers, all or none.
@@ -199,7 +224,14 @@ pub fn apply<
     let schemas = schemas_of(rt.alloc(), offers.as_slice())?;
     let schemas = schemas.as_slice();
     let about = About::Offers { schemas, sources };
-    change(rt, file, Change::Apply { offers }, about, is_quiet)
+    change(
+        rt,
+        progress,
+        file,
+        Change::Apply { offers },
+        about,
+        is_quiet,
+    )
 }
 
 /// The offers of these sources, one after another.
@@ -377,7 +409,8 @@ fn change<R: Print + Eprint + Files<File = File> + Clock + AllocGlobal>(
     is_quiet: bool,
 ) -> Result<(), Failure> {
     let place = Place::followed(rt, file)?;
-    let mut folder = WatchedFolder::new(SystemFolder::new(rt));
+    let watch = LockedReading::new(progress);
+    let mut folder = WatchedFolder::new(SystemFolder::watched(rt, watch));
     if let Err(why) = folder.hold(rt, &place) {
         return Err(not_held(rt, file, &place, change, why, about));
     }
@@ -402,6 +435,7 @@ fn changed<R: Files + AllocGlobal, F: Folder>(
         return Err(CommandRefusal::Exists);
     }
     Ok(change.make(rt.alloc(), folder, place)?)
+    progress: &Progress<'_, R>,
 }
 
 /// What a change of a file whose lock is not had is refused as. That the lock can't be made comes after all that the change itself is

@@ -145,7 +145,7 @@ fn import_named<
     form: CsvForm<'_>,
     is_quiet: bool,
 ) -> Result<(), Failure> {
-    let mut opened: Opened<Store> = open_folder(rt, folder)?;
+    let mut opened: Opened<Store> = open_folder(rt, progress, folder)?;
     let load = load_of(rt, progress, csvs, opened.held.schema(), form)?;
     let mut writer = Counted::new(Vec::new(rt.alloc()));
     match part_of_named_load(rt.alloc(), &mut opened.held, load, first, &mut writer) {
@@ -177,8 +177,14 @@ fn put_some<R: Files<File = File> + RandomSource + AllocGlobal>(
 /// Puts the deletions of the rows for which a condition is true into a folder as one part.
 pub fn delete<
     R: Print + Eprint + Files<File = File> + Clock + RandomSource + AllocGlobal + Clone + Drop,
->(rt: &R, folder: &str, condition: &str, is_quiet: bool) -> Result<(), Failure> {
-    let opened: Opened<OpenFile> = open_folder(rt, folder)?;
+>(
+    rt: &R,
+    progress: &Progress<'_, R>,
+    folder: &str,
+    condition: &str,
+    is_quiet: bool,
+) -> Result<(), Failure> {
+    let opened: Opened<OpenFile> = open_folder(rt, progress, folder)?;
     let mut writer = Counted::new(Vec::new(rt.alloc()));
     match part_of_deletes(rt.alloc(), opened.held.store(), condition, &mut writer) {
         Ok(done) => {
@@ -228,7 +234,7 @@ pub fn apply<
     sources: &[Source<'_>],
     is_quiet: bool,
 ) -> Result<(), Failure> {
-    let mut opened: Opened<Store> = open_folder(rt, folder)?;
+    let mut opened: Opened<Store> = open_folder(rt, progress, folder)?;
     let offers = read_offers(rt, progress, sources)?;
     let offers = offers.as_slice();
     let mut writer = Counted::new(Vec::new(rt.alloc()));

@@ -32,7 +32,7 @@ pub fn check<R: Print + Eprint + Files<File = File> + Clock + AllocGlobal + Clon
     file: &str,
 ) -> Result<(), Failure> {
     if is_folder(rt, file) {
-        return folder_reports::check(rt, file);
+        return folder_reports::check(rt, progress, file);
     }
     let held = opened(rt, progress, file)?;
     let mut writer = Counted::new(Watched::new(io::writer(rt)));
@@ -99,7 +99,7 @@ pub fn inspect<R: Print + Eprint + Files<File = File> + Clock + AllocGlobal + Cl
     form: ReportForm,
 ) -> Result<(), Failure> {
     if !has_batches && is_folder(rt, file) {
-        return folder_reports::inspect(rt, file, form);
+        return folder_reports::inspect(rt, progress, file, form);
     }
     let held = opened(rt, progress, file)?;
     let mut writer = buffered(rt)?;
