@@ -10,10 +10,10 @@ use crate::progress::{LockedReading, Progress};
 use crate::reports::write_line;
 use crate::watched_folder::{Unheld, WatchedFolder};
 use command_line::{CsvForm, Source, not_for_a_folder};
-use csv_rows::{CsvError, CsvReader, Dialect};
+use csv_rows::{CsvError, CsvReader, Dialect, Order, WordError};
 use file_replacing::{Folder, HoldError, Place, SystemFolder};
 use refusal_sentences::{
-    CommandRefusal, Fields, Knowledge, Printable, Sentence, Text, is_of_a_text,
+    CommandRefusal, Fields, Knowledge, Printable, Sentence, Text, Wanted, is_of_a_text,
 };
 use replica_files::{Load, read_csv};
 use replica_store::Offer;
@@ -306,7 +306,7 @@ fn add_rows<R: Files + AllocGlobal, D: Read>(
         rt.alloc(),
         schema,
         form.has_header,
-        dialect_of(rt.alloc(), form)?,
+        dialect_of(rt.alloc(), schema, form)?,
     )?;
     match read_csv(rt.alloc(), &mut csv, reader, load) {
         Ok(()) => Ok(()),
@@ -327,12 +327,43 @@ fn add_rows<R: Files + AllocGlobal, D: Read>(
 }
 
 /// The dialect in which texts are written.
-fn dialect_of(alloc: Global, form: CsvForm<'_>) -> Result<Dialect, AllocError> {
+fn dialect_of(alloc: Global, schema: &Schema, form: CsvForm<'_>) -> Result<Dialect, Failure> {
     let null_word = match form.null_word {
         None => None,
         Some(word) => Some(String::from_str(alloc, word)?),
     };
-    Ok(Dialect::new(form.separator, null_word))
+    let dialect = Dialect::new(form.separator, null_word);
+    let Some(words) = form.columns else {
+        return Ok(dialect);
+    };
+    match Order::of_words(alloc, schema.column_list(), words.as_bytes()) {
+        Ok(order) => Ok(dialect.with_order(order)),
+        Err(WordError::NoNewColumn(word)) => Err(no_column(alloc, schema, words, word)),
+        Err(WordError::Memory) => Err(Failure::from(Refusal::Memory)),
+    }
+}
+
+/// The refusal of a word that names no column, by its place in a list, from 1.
+fn no_column(alloc: Global, schema: &Schema, words: &str, place: u64) -> Failure {
+    let before = words.split(',').take(place.saturating_sub(1) as usize);
+    let at = before.fold(
+        0u64,
+        |at, word| at.saturating_add(word.len() as u64).saturating_add(1),
+    );
+    let text = Text {
+        text: words,
+        is_condition: true,
+        schema: Some(schema),
+    };
+    Failure::of_text(alloc, Refusal::NoSuchColumn(at), "--columns", text)
+}
+
+/// How many fields a line should have.
+fn wanted_fields(schema: &Schema, form: CsvForm<'_>) -> Wanted {
+    match form.columns {
+        None => Wanted::Columns(schema.columns()),
+        Some(words) => Wanted::Words(words.split(',').count()),
+    }
 }
 
 /// A fault of comma-separated values.
@@ -365,7 +396,7 @@ fn known_of_field<'a>(
         return Knowledge::Fields(Fields::new(
             csv.line(),
             form.separator,
-            schema.columns(),
+            wanted_fields(schema, form),
             form.has_header && is_first,
         ));
     }
@@ -403,6 +434,7 @@ enum About<'a> {
 /// what is locked is what is read and replaced.
 fn change<R: Print + Eprint + Files<File = File> + Clock + AllocGlobal>(
     rt: &R,
+    progress: &Progress<'_, R>,
     file: &str,
     change: Change<'_>,
     about: About<'_>,
@@ -435,7 +467,6 @@ fn changed<R: Files + AllocGlobal, F: Folder>(
         return Err(CommandRefusal::Exists);
     }
     Ok(change.make(rt.alloc(), folder, place)?)
-    progress: &Progress<'_, R>,
 }
 
 /// What a change of a file whose lock is not had is refused as. That the lock can't be made comes after all that the change itself is

@@ -12,7 +12,7 @@ mod tables;
 mod text_fault;
 
 pub use command_refusal::CommandRefusal;
-pub use csv_fault::Fields;
+pub use csv_fault::{Fields, Wanted};
 pub use pointer::Pointer;
 pub use quoted::{Printable, Quoted};
 pub use sentence::{Knowledge, Sentence, Words};
