@@ -16,7 +16,7 @@ _lanes() {
     esac
     case ${COMP_WORDS[1]} in
         create) options='--quiet --help' ;;
-        import) options='--batch --no-header --separator --null --quiet --help' ;;
+        import) options='--batch --no-header --separator --null --columns --quiet --help' ;;
         query) options='--format --help' ;;
         delete) options='--quiet --help' ;;
         delete-rows) options='--quiet --help' ;;

@@ -47,6 +47,19 @@ def an_empty_line_is_a_row_of_a_table_of_one_column_alone(room):
     assert made(room, b"\n1,2\n\n3,4\n\n", "--no-header") == dumped(((1, 2), (3, 4)))
 
 
+def the_fields_of_a_text_are_those_that_words_name(room):
+    text = b"when,b,who,a\n2026-11-27,20,Ada,1\n2026-11-28,,Bob,\n"
+    assert made(room, text, "--columns", "-,B,-,a") == dumped(((1, 20), (None, None)))
+    room.ok("import", "--no-header", "--columns", "b", "t", "-", given=b"7\n\n8\n")
+    assert sorted(room.ok("dump", "t").split(b"\n")) == sorted(dumped(((1, 20), (None, None), (None, 7), (None, None), (None, 8))).split(b"\n"))
+    room.ok("create", "u", "T", "A", "SMALLINT", "B", "BIGINT")
+    room.ok("import", "--columns", "", "u", "-", given=b"B,A\n2,1\n")
+    room.ok("dump", "u", prints=dumped(((1, 2),)))
+    room.ok("create", "d/", "T", "A", "SMALLINT", "B", "BIGINT")
+    room.ok("import", "--separator", ";", "--columns", "A,-", "d", "-", given=b"x;y\n1;2\n")
+    room.ok("dump", "d", prints=dumped(((1, None),)))
+
+
 def what_is_dumped_is_imported_as_the_same_rows(room):
     text = dumped(ROWS)
     assert made(room, text) == text
@@ -104,6 +117,15 @@ FAULTS = (
     (b"\xff\xfeA\0", [], "BadCsv 1 0", "visits.csv, line 1: this is UTF-16: save it as UTF-8"),
     (b"", [], "BadCsv 1 0", "visits.csv, line 1: the header is missing: did the command before it fail?"),
     (b"\nA,B\n", [], "BadCsv 1 0", "visits.csv, line 1: the header is missing: did the command before it fail?"),
+    (b"A;B\n1,2\n", ["--separator", ";"], "BadCsv 2 0", "visits.csv, line 2: the line has 1 field, and the table has 2 columns; commas seem to separate its fields"),
+    (b"x,y,z\n1,2\n", ["--columns", "A,-,B"], "BadCsv 2 0", "visits.csv, line 2: the line has 2 fields, and --columns has 3 words"),
+    (b"x,y\n", ["--columns", "A,-,B"], "BadCsv 1 0", "visits.csv, line 1: the line has 2 fields, and --columns has 3 words"),
+    (b"x,y\n", ["--columns", "b"], "BadCsv 1 0", "visits.csv, line 1: the line has 2 fields, and --columns has 1 word"),
+    (b"1,x,2\n3,y,4\n", ["--columns", "A,-,B"], "BadCsv 1 0", "visits.csv, line 1: this is a row and no header: with --no-header it is read as a row"),
+    (b"", ["--columns", "A,-"], "BadCsv 1 0", "visits.csv, line 1: the header is missing: did the command before it fail?"),
+    (b"x,40000\n", ["--no-header", "--columns", "-,A"], "BadCsv 1 2", 'visits.csv, line 1, column A: "40000" is outside the type SMALLINT'),
+    (b"x,y\n1,2\n", ["--columns", "B,C"], "NoSuchColumn 2", '--columns, byte 2: there is no column "C": the table has A, B'),
+    (b"x,y\n1,2\n", ["--columns", "B,-,,A"], "NoSuchColumn 4", '--columns, byte 4: there is no column "": the table has A, B'),
     (b"A,C\n", [], "BadCsv 1 2", 'visits.csv, line 1, field 2: "C" is not a column of the table, which has A, B'),
     (b"A,a\n", [], "BadCsv 1 2", 'visits.csv, line 1, field 2: "a" is there for the second time'),
     (b"1,2\n+5,2\n", ["--no-header"], "BadCsv 2 1", None),
@@ -163,6 +185,7 @@ TESTS = [
     a_spreadsheet_with_a_mark_and_carriage_returns,
     nulls_in_each_form_and_a_last_line_without_its_end,
     an_empty_line_is_a_row_of_a_table_of_one_column_alone,
+    the_fields_of_a_text_are_those_that_words_name,
     what_is_dumped_is_imported_as_the_same_rows,
     what_sqlite_writes_is_imported,
     what_is_dumped_loads_into_sqlite_with_the_same_sums,

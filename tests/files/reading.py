@@ -166,6 +166,8 @@ def each_command_that_reads_slowly_says_so(room):
         (("inspect", "pipe"), held),
         (("summary", "pipe"), held),
         (("merge", "out", "t", "pipe"), held),
+        (("delete", "pipe", "A = 99"), held),
+        (("forget", "pipe"), held),
         (("offer", "t", "pipe"), summary),
         (("run", "pipe"), b"table 1 T A INTEGER\n" * 2),
     ):
@@ -190,6 +192,21 @@ def the_size_of_a_file_is_said(room):
     assert status == 0 and shown.startswith(CLEAR + b"reading rows: 65 kB of %d kB" % size + CLEAR) and shown.endswith(CLEAR), f"it showed {shown!r}"
 
 
+def a_folder_that_opens_slowly_says_which_part_is_read(room):
+    room.ok("create", "d/", "T", "A", "SMALLINT", "B", "BIGINT")
+    for number in range(3):
+        room.ok("import", "--no-header", "--batch", f"{number + 1}.1", "d", "-", given=b"%d,10\n" % number)
+    first = "d/" + sorted(name for name in os.listdir(room.path("d")) if not name.startswith("."))[0]
+    held = room.get(first)
+    os.remove(room.path(first))
+    os.symlink("../pipe", room.path(first))
+    for words in (("query", "d", "SELECT COUNT(*) FROM T"), ("check", "d"), ("dump", "d"), ("inspect", "d"), ("summary", "d")):
+        shown, status = at_a_terminal(room, *words, pieces=[held[:8], held[8:-1], held[-1:]], pause=1.2)
+        assert status == 0 and shown.startswith(CLEAR + b"reading d: part 2 of 4" + CLEAR) and shown.endswith(CLEAR), f"{words} ended with {status} and showed {shown!r}"
+    shown, status = at_a_terminal(room, "delete", "--quiet", "d", "A = 9", pieces=[held[:8], held[8:-1], held[-1:]], pause=1.2)
+    assert status == 0 and shown == b"", f"with --quiet it showed {shown!r}"
+
+
 def nothing_is_said_where_standard_error_is_no_terminal(room):
     room.make()
     os.mkfifo(room.path("pipe"))
@@ -211,5 +228,6 @@ TESTS = [
     each_command_that_reads_slowly_says_so,
     the_line_is_cleared_before_a_refusal,
     the_size_of_a_file_is_said,
+    a_folder_that_opens_slowly_says_which_part_is_read,
     nothing_is_said_where_standard_error_is_no_terminal,
 ]

@@ -310,10 +310,15 @@ impl Verb {
         if null_word.is_some_and(words::is_number) {
             return Err(self.fault(alloc, "WORD is a number, so it can't be a null too"));
         }
+        let columns = given.get_str("columns").filter(|words| !words.is_empty());
+        if let Some(message) = columns.and_then(words::fault_of_columns) {
+            return Err(self.fault(alloc, message));
+        }
         Ok(CsvForm {
             has_header: !given.get_flag("no-header"),
             separator,
             null_word,
+            columns,
         })
     }
 
@@ -539,6 +544,11 @@ fn import_command<'a>(alloc: Global, command: Command<'a>) -> Result<Command<'a>
         .value_name("WORD")
         .help("A further word for a null, besides an empty field, NULL and \\N")
         .allow_hyphen_values(true);
+    let columns = Arg::new(alloc, "columns")
+        .long("columns")
+        .value_name("NAMES")
+        .help("What the fields are, as A,B,-: columns, and - for a field that is passed over")
+        .allow_hyphen_values(true);
     command
         .about("Inserts rows of comma-separated values")
         .after_help(IMPORT_HELP)
@@ -546,6 +556,7 @@ fn import_command<'a>(alloc: Global, command: Command<'a>) -> Result<Command<'a>
         .arg(header)?
         .arg(separator)?
         .arg(null_word)?
+        .arg(columns)?
         .arg(quiet(alloc))?
         .arg(file(alloc))?
         .arg(word(alloc, "CSV", "The files of values, or - for standard input").num_args(1..))

@@ -41,6 +41,9 @@ pub struct CsvForm<'a> {
     pub separator: u8,
     /// A word that is a null besides the usual ones.
     pub null_word: Option<&'a str>,
+    /// What the fields of a line are, if the header does not say it: names of columns, or `-` for a field that is passed over, with a comma
+    /// between each two.
+    pub columns: Option<&'a str>,
 }
 
 /// What the command line asks for.
@@ -65,8 +68,8 @@ pub enum Request<'a> {
         /// Whether nothing is printed if all is well.
         is_quiet: bool,
     },
-    /// `lanes import [--batch O.N] [--no-header] [--separator C] [--null WORD] [--quiet] FILE CSV..`: the rows of texts, inserted as new
-    /// batches.
+    /// `lanes import [--batch O.N] [--no-header] [--separator C] [--null WORD] [--columns NAMES] [--quiet] FILE CSV..`: the rows of
+    /// texts, inserted as new batches.
     Import {
         /// The file's name.
         file: &'a str,

@@ -107,6 +107,28 @@ pub fn separator(text: &str) -> Option<u8> {
     if is_taken { None } else { Some(byte) }
 }
 
+/// What is wrong with a list of what fields are, with a comma between each two words: no word is a name, or one is there twice.
+pub fn fault_of_columns(words: &str) -> Option<&'static str> {
+    if words.split(',').all(|word| word == "-") {
+        Some("NAMES has no name of a column")
+    } else if has_name_twice(words) {
+        Some("NAMES has a name twice")
+    } else {
+        None
+    }
+}
+
+/// Whether a list has a name twice, in any case.
+fn has_name_twice(words: &str) -> bool {
+    for (index, word) in words.split(',').enumerate() {
+        let mut before = words.split(',').take(index);
+        if word != "-" && before.any(|other| other.eq_ignore_ascii_case(word)) {
+            return true;
+        }
+    }
+    false
+}
+
 /// Whether a text is a whole number: an optional minus sign and digits.
 pub fn is_number(text: &str) -> bool {
     let digits = text.strip_prefix('-').unwrap_or(text);

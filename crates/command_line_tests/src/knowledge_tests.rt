@@ -1,6 +1,6 @@
 //! What sentences say of queries, lines of values and tables.
 
-use refusal_sentences::{CommandRefusal, Fields, Knowledge, Sentence, Text};
+use refusal_sentences::{CommandRefusal, Fields, Knowledge, Sentence, Text, Wanted};
 use std::alloc::{AllocError, Global};
 use std::test::Fail;
 use table_model::{ColType, Refusal, Schema};
@@ -151,7 +151,7 @@ const QUERIES: [(&str, Refusal, &str); 33] = [
     (
         "SELECT COUNT(*) FROM visit",
         Refusal::NoSuchTable,
-        "there is no table \"visit\": this file has VISITS",
+        "there is no table \"visit\": the table here is VISITS",
     ),
     (
         "SELECT SITE, COUNT(*) FROM VISITS",
@@ -249,10 +249,47 @@ const LINES: [(&[u8], bool, &str); 10] = [
 #[test]
 fn a_line_is_refused_with_how_many_fields_it_has(rt: HostRuntime) -> Result<(), Fail> {
     for &(line, is_header, want) in &LINES {
-        let fields = Fields::new(line, b',', 3, is_header);
+        let fields = Fields::new(line, b',', Wanted::Columns(3), is_header);
         let said = fields.to_string(rt.alloc())?;
         assert!(rt; said.as_str() == want, "said {said}");
     }
+    Ok(())
+}
+
+#[test]
+fn a_line_is_compared_with_a_list_of_words(rt: HostRuntime) -> Result<(), Fail> {
+    let cases: [(&[u8], bool, usize, &str); 5] = [
+        (b"1,2", false, 3, "the line has 2 fields, and --columns has 3 words"),
+        (b"1,2", false, 1, "the line has 2 fields, and --columns has 1 word"),
+        (
+            b"1,2",
+            true,
+            2,
+            "this is a row and no header: with --no-header it is read as a row",
+        ),
+        (
+            b"",
+            true,
+            1,
+            "the header is missing: did the command before it fail?",
+        ),
+        (
+            b"1;2",
+            false,
+            2,
+            "the line has 1 field, and --columns has 2 words; semicolons seem to separate its fields",
+        ),
+    ];
+    for (line, is_header, words, want) in cases {
+        let fields = Fields::new(line, b',', Wanted::Words(words), is_header);
+        let said = fields.to_string(rt.alloc())?;
+        assert!(rt; said.as_str() == want, "said {said}");
+    }
+    let fields = Fields::new(b"1,2", b';', Wanted::Columns(2), false);
+    let said = fields.to_string(rt.alloc())?;
+    let want =
+        "the line has 1 field, and the table has 2 columns; commas seem to separate its fields";
+    assert!(rt; said.as_str() == want, "said {said}");
     Ok(())
 }
 

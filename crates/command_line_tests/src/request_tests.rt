@@ -24,7 +24,7 @@ fn asked(alloc: Global, words: &[&str]) -> Result<String, AllocError> {
     }
 }
 
-const REQUESTS: [(&[&str], &str); 64] = [
+const REQUESTS: [(&[&str], &str); 69] = [
     (&["run"], "Run { source: Input, is_explained: false }"),
     (&["run", "-"], "Run { source: Input, is_explained: false }"),
     (
@@ -77,15 +77,15 @@ const REQUESTS: [(&[&str], &str); 64] = [
     (&["create", "f", "t"], "fault"),
     (
         &["import", "f", "-"],
-        "Import { file: \"f\", csvs: [Input], first: None, form: CsvForm { has_header: true, separator: 44, null_word: None }, is_quiet: false }",
+        "Import { file: \"f\", csvs: [Input], first: None, form: CsvForm { has_header: true, separator: 44, null_word: None, columns: None }, is_quiet: false }",
     ),
     (
         &["import", "--quiet", "f", "c", "-", "-d"],
-        "Import { file: \"f\", csvs: [File(\"c\"), Input, File(\"-d\")], first: None, form: CsvForm { has_header: true, separator: 44, null_word: None }, is_quiet: true }",
+        "Import { file: \"f\", csvs: [File(\"c\"), Input, File(\"-d\")], first: None, form: CsvForm { has_header: true, separator: 44, null_word: None, columns: None }, is_quiet: true }",
     ),
     (
         &["import", "--separator", "\\t", "--null", "-", "f", "c"],
-        "Import { file: \"f\", csvs: [File(\"c\")], first: None, form: CsvForm { has_header: true, separator: 9, null_word: Some(\"-\") }, is_quiet: false }",
+        "Import { file: \"f\", csvs: [File(\"c\")], first: None, form: CsvForm { has_header: true, separator: 9, null_word: Some(\"-\"), columns: None }, is_quiet: false }",
     ),
     (
         &[
@@ -97,12 +97,23 @@ const REQUESTS: [(&[&str], &str); 64] = [
             "f",
             "c",
         ],
-        "Import { file: \"f\", csvs: [File(\"c\")], first: None, form: CsvForm { has_header: false, separator: 59, null_word: Some(\"\") }, is_quiet: false }",
+        "Import { file: \"f\", csvs: [File(\"c\")], first: None, form: CsvForm { has_header: false, separator: 59, null_word: Some(\"\"), columns: None }, is_quiet: false }",
     ),
     (
         &["import", "--separator", "\t", "--null", "9a", "f", "c"],
-        "Import { file: \"f\", csvs: [File(\"c\")], first: None, form: CsvForm { has_header: true, separator: 9, null_word: Some(\"9a\") }, is_quiet: false }",
+        "Import { file: \"f\", csvs: [File(\"c\")], first: None, form: CsvForm { has_header: true, separator: 9, null_word: Some(\"9a\"), columns: None }, is_quiet: false }",
     ),
+    (
+        &["import", "--columns", "A,-,b", "f", "c"],
+        "Import { file: \"f\", csvs: [File(\"c\")], first: None, form: CsvForm { has_header: true, separator: 44, null_word: None, columns: Some(\"A,-,b\") }, is_quiet: false }",
+    ),
+    (
+        &["import", "--columns", "", "f", "c"],
+        "Import { file: \"f\", csvs: [File(\"c\")], first: None, form: CsvForm { has_header: true, separator: 44, null_word: None, columns: None }, is_quiet: false }",
+    ),
+    (&["import", "--columns", "-", "f", "c"], "fault"),
+    (&["import", "--columns", "-,-", "f", "c"], "fault"),
+    (&["import", "--columns", "A,-,B,a", "f", "c"], "fault"),
     (&["import", "--separator", "", "f", "c"], "fault"),
     (&["import", "--separator", ";;", "f", "c"], "fault"),
     (&["import", "--separator", "é", "f", "c"], "fault"),
@@ -143,7 +154,7 @@ const REQUESTS: [(&[&str], &str); 64] = [
             "-f",
             "--batch",
         ],
-        "Import { file: \"-f\", csvs: [File(\"--batch\")], first: Some(BatchName { origin: Origin(7), number: Number(0) }), form: CsvForm { has_header: false, separator: 44, null_word: None }, is_quiet: false }",
+        "Import { file: \"-f\", csvs: [File(\"--batch\")], first: Some(BatchName { origin: Origin(7), number: Number(0) }), form: CsvForm { has_header: false, separator: 44, null_word: None, columns: None }, is_quiet: false }",
     ),
     (&["import", "--batch", "1.4294967296", "f", "c"], "fault"),
     (&["import", "--batch", "00000000001.1", "f", "c"], "fault"),

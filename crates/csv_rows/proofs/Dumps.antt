@@ -22,7 +22,7 @@ use Rattle.csv_rows.specs.Line.{line_limit, pieces, onto_first, without, before_
 use Rattle.table_model.specs.Numeral.{is_numeral, magnitude_of, value_digits}
 use Rattle.csv_rows.specs.Field.{fields_of, unquoted, is_null_word, integer_of, signed_of, value_of, cell_of, fitting, cell_in}
 use Rattle.csv_rows.specs.DialectForm.{usual}
-use Rattle.csv_rows.specs.CsvText.{◌>>=◌, in_line, place_named, new_place, order_from, has_each, header_order, cell_at, or_at, filled, null_row, row_of, is_passed, line_rows, before_rows, rows_from, header_rows}
+use Rattle.csv_rows.specs.CsvText.{◌>>=◌, in_line, place_named, new_place, order_from, has_each, header_order, cell_at, or_at, with_field, each_of, own_order, named_order, filled, null_row, row_of, is_passed, line_rows, before_rows, rows_from, header_rows}
 use Rattle.csv_rows.specs.Written.{cell_text, column_name, row_line, csv_text, WrittenRowsAreRead}
 use Rattle.csv_rows.specs.declared.error.CsvError.{CsvError}
 use Rattle.csv_rows.specs.declared.error.CsvError.TheVariants.{BadCsv, LineTooLong}
@@ -228,9 +228,14 @@ at_front : (front : List ColumnShape) (c : ColumnShape) (cs : List ColumnShape) 
 at_front [] c cs = refl
 at_front (f ∷ fs) c cs = at_front fs c cs
 
+-- the schema has one field for each column
+own_len : (first n : ℕ) → length (each_of (range_with_len first n)) ≡ n
+own_len first zero = refl
+own_len first (suc n) = ap suc (own_len (first + 1) n)
+
 -- the cells are put one behind another
 fills : (front columns : List ColumnShape) (done row : Cells) (at : ℕ) → length done ≡ length front → IsRow columns row
-    → filled usual (front ++ columns) at (range_with_len (length front) (length columns)) (map cell_text row) (done ++ replicate (length columns) None) ≡ Ok (done ++ row)
+    → filled usual (front ++ columns) at (each_of (range_with_len (length front) (length columns))) (map cell_text row) (done ++ replicate (length columns) None) ≡ Ok (done ++ row)
 fills front [] done [] at same h = refl
 fills front [] done (v ∷ vs) at same h = absurd h
 fills front (c ∷ cs) done [] at same h = absurd h
@@ -239,25 +244,28 @@ fills front (c ∷ cs) done (v ∷ vs) at same h =
     let put : set (done ++ (None ∷ replicate (length cs) None)) (length front) v ≡ (done ++ (v ∷ [])) ++ replicate (length cs) None = set_at done None (replicate (length cs) None) v (length front) same ∙ sym (append_assoc done (v ∷ []) (replicate (length cs) None)) in
     let longer : length (front ++ (c ∷ [])) ≡ length front + 1 = length_push front c in
     let step = fills (front ++ (c ∷ [])) cs (done ++ (v ∷ [])) vs (suc at) (length_push done v ∙ ap (λ (n : ℕ). n + 1) same ∙ sym longer) h.1 in
-    ap (λ (o : Option (Option ℤ)). or_at at o >>= (λ cell. filled usual (front ++ (c ∷ cs)) (suc at) (range_with_len (length front + 1) (length cs)) (map cell_text vs) (set (done ++ (None ∷ replicate (length cs) None)) (length front) cell))) here
-    ∙ ap (λ (row : Cells). filled usual (front ++ (c ∷ cs)) (suc at) (range_with_len (length front + 1) (length cs)) (map cell_text vs) row) put
-    ∙ (λ i. filled usual (sym (append_assoc front (c ∷ []) cs) i) (suc at) (range_with_len (sym longer i) (length cs)) (map cell_text vs) ((done ++ (v ∷ [])) ++ replicate (length cs) None))
+    ap (λ (o : Option (Option ℤ)). or_at at o >>= (λ cell. Ok (set (done ++ (None ∷ replicate (length cs) None)) (length front) cell)) >>= filled usual (front ++ (c ∷ cs)) (suc at) (each_of (range_with_len (length front + 1) (length cs))) (map cell_text vs)) here
+    ∙ ap (λ (row : Cells). filled usual (front ++ (c ∷ cs)) (suc at) (each_of (range_with_len (length front + 1) (length cs))) (map cell_text vs) row) put
+    ∙ (λ i. filled usual (sym (append_assoc front (c ∷ []) cs) i) (suc at) (each_of (range_with_len (sym longer i) (length cs))) (map cell_text vs) ((done ++ (v ∷ [])) ++ replicate (length cs) None))
     ∙ step
     ∙ ap Ok (append_assoc done (v ∷ []) vs)
 
-not_passed : (columns : List ColumnShape) (row : Cells) → 1 ≤ length columns → IsRow columns row → is_passed columns (joined (map cell_text row)) ≡ false
-not_passed [] row some h = absurd (omega arith)
-not_passed (c ∷ []) row some h = by (length (joined (map cell_text row)) == 0) where
+not_empty : (columns : List ColumnShape) (row : Cells) → 1 ≤ length columns → IsRow columns row → ((length (joined (map cell_text row)) == 0) && not (length columns == 1)) ≡ false
+not_empty [] row some h = absurd (omega arith)
+not_empty (c ∷ []) row some h = by (length (joined (map cell_text row)) == 0) where
   by : (t : Bool) → (t && false) ≡ false
   by true = refl
   by false = refl
-not_passed (c ∷ d ∷ cs) [] some h = absurd h
-not_passed (c ∷ d ∷ cs) (v ∷ []) some h = absurd h.1
-not_passed (c ∷ d ∷ cs) (v ∷ w ∷ vs) some h =
+not_empty (c ∷ d ∷ cs) [] some h = absurd h
+not_empty (c ∷ d ∷ cs) (v ∷ []) some h = absurd h.1
+not_empty (c ∷ d ∷ cs) (v ∷ w ∷ vs) some h =
     let rest : List ℕ = joined (cell_text w ∷ map cell_text vs) in
     let long : length (cell_text v ++ (44 ∷ rest)) ≡ length (cell_text v) + suc (length rest) = length-append (cell_text v) (44 ∷ rest) in
     let test : (length (cell_text v ++ (44 ∷ rest)) == 0) ≡ false = other_number (length (cell_text v ++ (44 ∷ rest))) (omega (arith, long)) in
     ap (λ (t : Bool). t && not (length (c ∷ d ∷ cs) == 1)) test
+
+not_passed : (columns : List ColumnShape) (row : Cells) → 1 ≤ length columns → IsRow columns row → is_passed (own_order columns) (joined (map cell_text row)) ≡ false
+not_passed columns row some h = ap (λ (n : ℕ). (length (joined (map cell_text row)) == 0) && not (n == 1)) (own_len 0 (length columns)) ∙ not_empty columns row some h
 
 length-cells : (row : Cells) → length (map cell_text row) ≡ length row
 length-cells [] = refl
@@ -270,29 +278,29 @@ fields_row (c ∷ cs) (v ∷ vs) some h = fields_joined (cell_text v) (map cell_
 
 -- the line of a row makes the row
 row_line_rows : (columns : List ColumnShape) (row : Cells) (n : ℕ) → 1 ≤ length columns → length columns ≤ column_limit → IsRow columns row
-    → line_rows usual columns (range_with_len 0 (length columns)) n (joined (map cell_text row)) ≡ Ok (row ∷ [])
+    → line_rows usual columns (own_order columns) n (joined (map cell_text row)) ≡ Ok (row ∷ [])
 unfolding line_rows
 row_line_rows columns row n some few h =
     let line : List ℕ = joined (map cell_text row) in
-    let order : List ℕ = range_with_len 0 (length columns) in
+    let order : List (Option ℕ) = own_order columns in
     let fields = fields_row columns row some h in
     let lengths : length (map cell_text row) ≡ length columns = length-cells row ∙ row_len columns row h in
     let short : nat_lt line_limit (length line) ≡ false = let most = joined_short (map cell_text row) (cells_short columns row h) in grind (arith, nat_tests) in
-    let each : has_each usual columns line ≡ true = ap (λ (k : ℕ). k == length columns) (ap (λ (fs : List (List ℕ)). length fs) fields ∙ lengths) ∙ itself (length columns) in
+    let each : has_each usual (length order) line ≡ true = ap (λ (k : ℕ). k == length order) (ap (λ (fs : List (List ℕ)). length fs) fields ∙ lengths ∙ sym (own_len 0 (length columns))) ∙ itself (length order) in
     let read : row_of usual columns order line ≡ Ok row =
     ap (λ (t : Bool). cond t (filled usual columns 1 order (fields_of 44 line) (null_row columns)) (Err 0)) each
     ∙ ap (λ (fs : List (List ℕ)). filled usual columns 1 order fs (null_row columns)) fields
     ∙ fills [] columns [] row 1 refl h
     in
-    ap (λ (t : Bool). cond t (Err (LineTooLong n)) (cond (is_passed columns line) (Ok []) (in_line n (row_of usual columns order line) >>= (λ r. Ok (r ∷ []))))) short
+    ap (λ (t : Bool). cond t (Err (LineTooLong n)) (cond (is_passed order line) (Ok []) (in_line n (row_of usual columns order line) >>= (λ r. Ok (r ∷ []))))) short
     ∙ ap (λ (t : Bool). cond t (Ok []) (in_line n (row_of usual columns order line) >>= (λ r. Ok (r ∷ [])))) (not_passed columns row some h)
     ∙ ap (λ (r : Result Cells ℕ). in_line n r >>= (λ row. Ok (row ∷ []))) read
 
 rows_lines : (columns : List ColumnShape) (rows : Batch) (n : ℕ) → 1 ≤ length columns → length columns ≤ column_limit → AreRows columns rows
-    → rows_from usual columns (range_with_len 0 (length columns)) n (lines_of (flat_map row_line rows)) ≡ Ok rows
+    → rows_from usual columns (own_order columns) n (lines_of (flat_map row_line rows)) ≡ Ok rows
 rows_lines columns [] n some few h = refl
 rows_lines columns (row ∷ rows) n some few h =
-    let order : List ℕ = range_with_len 0 (length columns) in
+    let order : List (Option ℕ) = own_order columns in
     let line : List ℕ = joined (map cell_text row) in
     ap (rows_from usual columns order n) (line_first line (flat_map row_line rows) (joined_from (map cell_text row) (cells_from columns row h.0)))
     ∙ first_rows usual columns order n line (lines_of (flat_map row_line rows)) (row ∷ []) (row_line_rows columns row n some few h.0)
@@ -426,7 +434,7 @@ joined_some t [] h = h
 joined_some t (u ∷ us) h = omega (arith, h, length-append t (44 ∷ joined (u ∷ us)))
 
 header_is : (columns : List ColumnShape) → 1 ≤ length columns → length columns ≤ column_limit → AreNamed columns → are_distinct (names columns) ≡ true
-    → header_order usual columns (joined (map column_name columns)) ≡ Ok (range_with_len 0 (length columns))
+    → header_order usual columns (joined (map column_name columns)) ≡ Ok (own_order columns)
 unfolding header_order
 header_is [] some few named distinct = absurd (omega arith)
 header_is (c ∷ cs) some few named distinct =
@@ -436,11 +444,11 @@ header_is (c ∷ cs) some few named distinct =
     let fields : fields_of 44 line ≡ map column_name columns = fields_joined c.name (map column_name cs) (names_from columns named) in
     let short : nat_lt line_limit (length line) ≡ false = let most = joined_short (map column_name columns) (names_short columns named) in let lengths = length-names columns in grind (arith, nat_tests) in
     let full : (length line == 0) ≡ false = other_number (length line) (joined_some c.name (map column_name cs) (name_facts c.name named.0).some) in
-    let each : has_each usual columns line ≡ true = ap (λ (k : ℕ). k == length columns) (ap (λ (fs : List (List ℕ)). length fs) fields ∙ length-names columns) ∙ itself (length columns) in
-    ap (λ (t : Bool). cond t (Err (LineTooLong 1)) (cond (not (length line == 0) && has_each usual columns line) (in_line 1 (order_from columns 1 [] (fields_of 44 line))) (Err (BadCsv 1 0)))) short
-    ∙ (λ i. cond (not (full i) && each i) (in_line 1 (order_from columns 1 [] (fields i))) (Err (BadCsv 1 0)))
-    ∙ ap (in_line 1) (orders [] columns 1 named tt distinct)
-    ∙ ap (λ (n : ℕ). Ok (range_with_len 0 n)) whole
+    let each : has_each usual (length columns) line ≡ true = ap (λ (k : ℕ). k == length columns) (ap (λ (fs : List (List ℕ)). length fs) fields ∙ length-names columns) ∙ itself (length columns) in
+    ap (λ (t : Bool). cond t (Err (LineTooLong 1)) (cond (not (length line == 0) && has_each usual (length columns) line) (named_order usual None columns line) (Err (BadCsv 1 0)))) short
+    ∙ (λ i. cond (not (full i) && each i) (in_line 1 (order_from columns 1 [] (fields i)) >>= (λ places. Ok (each_of places))) (Err (BadCsv 1 0)))
+    ∙ ap (λ (r : Result (List ℕ) ℕ). in_line 1 r >>= (λ places. Ok (each_of places))) (orders [] columns 1 named tt distinct)
+    ∙ ap (λ (n : ℕ). Ok (each_of (range_with_len 0 n))) whole
 
 -- what a table's columns are
 table_facts : (table : Table) → IsTable table → AreNamed table.columns × (are_distinct (names table.columns) ≡ true)
@@ -473,5 +481,5 @@ rows_read_again table proper rows h =
     let line : List ℕ = joined (map column_name columns) in
     ap (λ (text : List ℕ). header_rows usual columns (lines_of text)) (plain_text columns rows proper.some facts.0)
     ∙ ap (header_rows usual columns) (line_first line (flat_map row_line rows) (joined_from (map column_name columns) (names_from columns facts.0)))
-    ∙ ap (λ (r : Result (List ℕ) CsvError). r >>= (λ order. rows_from usual columns order 2 (lines_of (flat_map row_line rows)))) (header_is columns proper.some proper.limit facts.0 facts.1)
+    ∙ ap (λ (r : Result (List (Option ℕ)) CsvError). r >>= (λ order. rows_from usual columns order 2 (lines_of (flat_map row_line rows)))) (header_is columns proper.some proper.limit facts.0 facts.1)
     ∙ rows_lines columns rows 2 proper.some proper.limit h

@@ -9,3 +9,4 @@ mod Ranges
 pub mod RowFacts
 mod RowTexts
 mod Steps
+mod WordFacts

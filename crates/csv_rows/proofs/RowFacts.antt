@@ -13,7 +13,7 @@ use Rattle.csv_rows.specs.Line.{line_limit}
 use Rattle.csv_rows.specs.LineReading.{FirstTooLong}
 use Rattle.csv_rows.specs.Field.{fields_of, cell_of, cell_in, fitting}
 use Rattle.csv_rows.specs.DialectForm.{DialectForm}
-use Rattle.csv_rows.specs.CsvText.{◌>>=◌, in_line, place_named, new_place, is_passed, row_of, has_each, cell_at, or_at, filled, null_row, line_rows, before_rows, rows_from, order_from, header_order, header_rows}
+use Rattle.csv_rows.specs.CsvText.{◌>>=◌, in_line, place_named, new_place, is_passed, row_of, has_each, width_of, each_of, named_order, unless_row, cell_at, or_at, with_field, filled, null_row, line_rows, before_rows, rows_from, order_from, header_order, header_rows}
 use Rattle.csv_rows.specs.Outcome.{ReadsCsv}
 use Rattle.csv_rows.specs.Reading.{Counts}
 use Rattle.csv_rows.specs.declared.error.CsvError.{CsvError}
@@ -28,21 +28,21 @@ before_nothing (Ok more) = refl
 before_nothing (Err e) = refl
 
 -- the rows of the first line
-pub first_rows : (dialect : DialectForm) (columns : List ColumnShape) (order : List ℕ) (n : ℕ) (line : List ℕ) (lines : List (List ℕ)) (made : Batch) → line_rows dialect columns order n line ≡ Ok made
+pub first_rows : (dialect : DialectForm) (columns : List ColumnShape) (order : List (Option ℕ)) (n : ℕ) (line : List ℕ) (lines : List (List ℕ)) (made : Batch) → line_rows dialect columns order n line ≡ Ok made
     → rows_from dialect columns order n (line ∷ lines) ≡ before_rows made (rows_from dialect columns order (suc n) lines)
 first_rows dialect columns order n line lines made e = ap (λ (r : Result Batch CsvError). r >>= (λ rows. before_rows rows (rows_from dialect columns order (suc n) lines))) e
 
 -- the fault of the first line
-pub first_fault : (dialect : DialectForm) (columns : List ColumnShape) (order : List ℕ) (n : ℕ) (line : List ℕ) (lines : List (List ℕ)) (fault : CsvError) → line_rows dialect columns order n line ≡ Err fault → rows_from dialect columns order n (line ∷ lines) ≡ Err fault
+pub first_fault : (dialect : DialectForm) (columns : List ColumnShape) (order : List (Option ℕ)) (n : ℕ) (line : List ℕ) (lines : List (List ℕ)) (fault : CsvError) → line_rows dialect columns order n line ≡ Err fault → rows_from dialect columns order n (line ∷ lines) ≡ Err fault
 first_fault dialect columns order n line lines fault e = ap (λ (r : Result Batch CsvError). r >>= (λ rows. before_rows rows (rows_from dialect columns order (suc n) lines))) e
 
-long_line : (dialect : DialectForm) (columns : List ColumnShape) (order : List ℕ) (n : ℕ) (line : List ℕ) → line_limit < length line → line_rows dialect columns order n line ≡ Err (LineTooLong n)
+long_line : (dialect : DialectForm) (columns : List ColumnShape) (order : List (Option ℕ)) (n : ℕ) (line : List ℕ) → line_limit < length line → line_rows dialect columns order n line ≡ Err (LineTooLong n)
 unfolding line_rows
 long_line dialect columns order n line past =
     let test : nat_lt line_limit (length line) ≡ true = grind (arith, nat_tests) in
-    ap (λ (t : Bool). cond t (Err (LineTooLong n)) (cond (is_passed columns line) (Ok []) (in_line n (row_of dialect columns order line) >>= (λ row. Ok (row ∷ []))))) test
+    ap (λ (t : Bool). cond t (Err (LineTooLong n)) (cond (is_passed order line) (Ok []) (in_line n (row_of dialect columns order line) >>= (λ row. Ok (row ∷ []))))) test
 
-pub too_long : (dialect : DialectForm) (columns : List ColumnShape) (order : List ℕ) (n : ℕ) (lines : List (List ℕ)) → FirstTooLong lines → rows_from dialect columns order n lines ≡ Err (LineTooLong n)
+pub too_long : (dialect : DialectForm) (columns : List ColumnShape) (order : List (Option ℕ)) (n : ℕ) (lines : List (List ℕ)) → FirstTooLong lines → rows_from dialect columns order n lines ≡ Err (LineTooLong n)
 too_long dialect columns order n [] h = absurd h
 too_long dialect columns order n (line ∷ lines) h = first_fault dialect columns order n line lines (LineTooLong n) (long_line dialect columns order n line h)
 
@@ -50,11 +50,11 @@ long_header : (dialect : DialectForm) (columns : List ColumnShape) (line : List 
 unfolding header_order
 long_header dialect columns line past =
     let test : nat_lt line_limit (length line) ≡ true = grind (arith, nat_tests) in
-    ap (λ (t : Bool). cond t (Err (LineTooLong 1)) (cond (not (length line == 0) && has_each dialect columns line) (in_line 1 (order_from columns 1 [] (fields_of dialect.separator line))) (Err (BadCsv 1 0)))) test
+    ap (λ (t : Bool). cond t (Err (LineTooLong 1)) (cond (not (length line == 0) && has_each dialect (width_of dialect.order columns) line) (named_order dialect dialect.order columns line) (Err (BadCsv 1 0)))) test
 
 pub header_too_long : (dialect : DialectForm) (columns : List ColumnShape) (lines : List (List ℕ)) → FirstTooLong lines → header_rows dialect columns lines ≡ Err (LineTooLong 1)
 header_too_long dialect columns [] h = absurd h
-header_too_long dialect columns (line ∷ lines) h = ap (λ (r : Result (List ℕ) CsvError). r >>= (λ order. rows_from dialect columns order 2 lines)) (long_header dialect columns line h)
+header_too_long dialect columns (line ∷ lines) h = ap (λ (r : Result (List (Option ℕ)) CsvError). r >>= (λ order. rows_from dialect columns order 2 lines)) (long_header dialect columns line h)
 
 -- each cell that is put into a row is of its column's type
 fits_is : (c : ColumnShape) (v : Option ℤ) → fits c v ≡ true → Fits c v
@@ -87,24 +87,34 @@ cell_fits dialect columns place field v e = at (slice_get columns place) refl e 
   at None is h = cc
   at (Some column) is h = (column, is, below column (cell_of dialect field) h)
 
-pub filled_fits : (dialect : DialectForm) (columns : List ColumnShape) (at : ℕ) (order : List ℕ) (fields : List (List ℕ)) (row row' : Cells) → IsRow columns row → filled dialect columns at order fields row ≡ Ok row' → IsRow columns row'
+field_fits : (dialect : DialectForm) (columns : List ColumnShape) (at : ℕ) (place : Option ℕ) (field : List ℕ) (row mid : Cells) → IsRow columns row → with_field dialect columns at place field row ≡ Ok mid → IsRow columns mid
+field_fits dialect columns at None field row mid h e = let same : row ≡ mid = cc in subst (λ (r : Cells). IsRow columns r) same h
+field_fits dialect columns at (Some place) field row mid h e = by (cell_at dialect columns place field) refl e where
+  by : (o : Option (Option ℤ)) → cell_at dialect columns place field ≡ o → or_at at o >>= (λ cell. Ok (set row place cell)) ≡ Ok mid → IsRow columns mid
+  by None is g = cc
+  by (Some v) is g =
+      let same : set row place v ≡ mid = cc in
+      let fit = cell_fits dialect columns place field v is in
+      subst (λ (r : Cells). IsRow columns r) same (set_fits columns row place fit.0 v fit.1 fit.2 h)
+
+pub filled_fits : (dialect : DialectForm) (columns : List ColumnShape) (at : ℕ) (order : List (Option ℕ)) (fields : List (List ℕ)) (row row' : Cells) → IsRow columns row → filled dialect columns at order fields row ≡ Ok row' → IsRow columns row'
 filled_fits dialect columns at [] fields row row' h e = let same : row ≡ row' = cc in subst (λ (r : Cells). IsRow columns r) same h
 filled_fits dialect columns at (place ∷ order) [] row row' h e = let same : row ≡ row' = cc in subst (λ (r : Cells). IsRow columns r) same h
 filled_fits dialect columns at (place ∷ order) (field ∷ fields) row row' h e =
-    by (cell_at dialect columns place field) (λ v is g. let fit = cell_fits dialect columns place field v is in filled_fits dialect columns (suc at) order fields (set row place v) row' (set_fits columns row place fit.0 v fit.1 fit.2 h) g) e
+    by (with_field dialect columns at place field row) (λ mid is g. filled_fits dialect columns (suc at) order fields mid row' (field_fits dialect columns at place field row mid h is) g) e
   where
-    by : (o : Option (Option ℤ)) → ((v : Option ℤ) → o ≡ Some v → filled dialect columns (suc at) order fields (set row place v) ≡ Ok row' → IsRow columns row')
-        → or_at at o >>= (λ cell. filled dialect columns (suc at) order fields (set row place cell)) ≡ Ok row' → IsRow columns row'
-    by None goes g = cc
-    by (Some v) goes g = goes v refl g
+    by : (r : Result Cells ℕ) → ((mid : Cells) → r ≡ Ok mid → filled dialect columns (suc at) order fields mid ≡ Ok row' → IsRow columns row')
+        → r >>= filled dialect columns (suc at) order fields ≡ Ok row' → IsRow columns row'
+    by (Err fault) goes g = cc
+    by (Ok mid) goes g = goes mid refl g
 
 -- a line's rows are rows of the table
-pub line_fits : (dialect : DialectForm) (columns : List ColumnShape) (order : List ℕ) (n : ℕ) (line : List ℕ) (made : Batch) → line_rows dialect columns order n line ≡ Ok made → AreRows columns made
+pub line_fits : (dialect : DialectForm) (columns : List ColumnShape) (order : List (Option ℕ)) (n : ℕ) (line : List ℕ) (made : Batch) → line_rows dialect columns order n line ≡ Ok made → AreRows columns made
 unfolding line_rows
 line_fits dialect columns order n line made e =
-    elim (nat_lt line_limit (length line)) as (λ t. cond t (Err (LineTooLong n)) (cond (is_passed columns line) (Ok []) (in_line n (row_of dialect columns order line) >>= (λ row. Ok (row ∷ [])))) ≡ Ok made → AreRows columns made) [
+    elim (nat_lt line_limit (length line)) as (λ t. cond t (Err (LineTooLong n)) (cond (is_passed order line) (Ok []) (in_line n (row_of dialect columns order line) >>= (λ row. Ok (row ∷ [])))) ≡ Ok made → AreRows columns made) [
       | true ↦ λ h. cc
-      | false ↦ λ h. elim (is_passed columns line) as (λ t. cond t (Ok []) (in_line n (row_of dialect columns order line) >>= (λ row. Ok (row ∷ []))) ≡ Ok made → AreRows columns made) [
+      | false ↦ λ h. elim (is_passed order line) as (λ t. cond t (Ok []) (in_line n (row_of dialect columns order line) >>= (λ row. Ok (row ∷ []))) ≡ Ok made → AreRows columns made) [
         | true ↦ λ g. let same : [] ≡ made = cc in subst (λ (rows : Batch). AreRows columns rows) same tt
         | false ↦ λ g. one (row_of dialect columns order line) refl g
       ] h
@@ -115,14 +125,14 @@ line_fits dialect columns order n line made e =
 
       one : (r : Result Cells ℕ) → row_of dialect columns order line ≡ r → in_line n r >>= (λ row. Ok (row ∷ [])) ≡ Ok made → AreRows columns made
       one (Err at) is g = cc
-      one (Ok row) is g = let same : row ∷ [] ≡ made = cc in subst (λ (rows : Batch). AreRows columns rows) same (row_fits (has_each dialect columns line) row is, tt)
+      one (Ok row) is g = let same : row ∷ [] ≡ made = cc in subst (λ (rows : Batch). AreRows columns rows) same (row_fits (has_each dialect (length order) line) row is, tt)
 
 pub fits_append : (columns : List ColumnShape) (xs ys : Batch) → AreRows columns xs → AreRows columns ys → AreRows columns (xs ++ ys)
 fits_append columns [] ys h g = g
 fits_append columns (x ∷ xs) ys h g = (h.0, fits_append columns xs ys h.1 g)
 
 -- what was read behind rows keeps them rows of the table
-pub behind_fits : (dialect : DialectForm) (columns : List ColumnShape) (order : List ℕ) (n : ℕ) (line : List ℕ) (old new made : Batch) → line_rows dialect columns order n line ≡ Ok made → new ≡ old ++ made → AreRows columns old → AreRows columns new
+pub behind_fits : (dialect : DialectForm) (columns : List ColumnShape) (order : List (Option ℕ)) (n : ℕ) (line : List ℕ) (old new made : Batch) → line_rows dialect columns order n line ≡ Ok made → new ≡ old ++ made → AreRows columns old → AreRows columns new
 behind_fits dialect columns order n line old new made e is h = subst (λ (rows : Batch). AreRows columns rows) (sym is) (fits_append columns old made h (line_fits dialect columns order n line made e))
 
 -- one field more of a header
@@ -137,28 +147,28 @@ order_stop columns at named fields field left is fault =
     ap (order_from columns at named) is ∙ ap (λ (r : Result ℕ ℕ). r >>= (λ p. order_from columns (suc at) (named ++ (p ∷ [])) left)) fault
 
 -- one field more of a row
-pub filled_more : (dialect : DialectForm) (columns : List ColumnShape) (at place : ℕ) (order : List ℕ) (fields : List (List ℕ)) (field : List ℕ) (left : List (List ℕ)) (row : Cells) (v : Option ℤ) → fields ≡ field ∷ left → cell_at dialect columns place field ≡ Some v
-    → filled dialect columns at (place ∷ order) fields row ≡ filled dialect columns (suc at) order left (set row place v)
-filled_more dialect columns at place order fields field left row v is some =
-    ap (λ (fs : List (List ℕ)). filled dialect columns at (place ∷ order) fs row) is ∙ ap (λ (o : Option (Option ℤ)). or_at at o >>= (λ cell. filled dialect columns (suc at) order left (set row place cell))) some
+pub filled_more : (dialect : DialectForm) (columns : List ColumnShape) (at : ℕ) (place : Option ℕ) (order : List (Option ℕ)) (fields : List (List ℕ)) (field : List ℕ) (left : List (List ℕ)) (row row' : Cells) → fields ≡ field ∷ left → with_field dialect columns at place field row ≡ Ok row'
+    → filled dialect columns at (place ∷ order) fields row ≡ filled dialect columns (suc at) order left row'
+filled_more dialect columns at place order fields field left row row' is some =
+    ap (λ (fs : List (List ℕ)). filled dialect columns at (place ∷ order) fs row) is ∙ ap (λ (r : Result Cells ℕ). r >>= filled dialect columns (suc at) order left) some
 
-pub filled_stop : (dialect : DialectForm) (columns : List ColumnShape) (at place : ℕ) (order : List ℕ) (fields : List (List ℕ)) (field : List ℕ) (left : List (List ℕ)) (row : Cells) → fields ≡ field ∷ left → cell_at dialect columns place field ≡ None
-    → filled dialect columns at (place ∷ order) fields row ≡ Err at
-filled_stop dialect columns at place order fields field left row is none =
-    ap (λ (fs : List (List ℕ)). filled dialect columns at (place ∷ order) fs row) is ∙ ap (λ (o : Option (Option ℤ)). or_at at o >>= (λ cell. filled dialect columns (suc at) order left (set row place cell))) none
+pub filled_stop : (dialect : DialectForm) (columns : List ColumnShape) (at : ℕ) (place : Option ℕ) (order : List (Option ℕ)) (fields : List (List ℕ)) (field : List ℕ) (left : List (List ℕ)) (row : Cells) (fault : ℕ) → fields ≡ field ∷ left → with_field dialect columns at place field row ≡ Err fault
+    → filled dialect columns at (place ∷ order) fields row ≡ Err fault
+filled_stop dialect columns at place order fields field left row fault is none =
+    ap (λ (fs : List (List ℕ)). filled dialect columns at (place ∷ order) fs row) is ∙ ap (λ (r : Result Cells ℕ). r >>= filled dialect columns (suc at) order left) none
 
 -- no field is left, or no place
-pub filled_all : (dialect : DialectForm) (columns : List ColumnShape) (at : ℕ) (order : List ℕ) (fields : List (List ℕ)) (row : Cells) → fields ≡ [] → filled dialect columns at order fields row ≡ Ok row
+pub filled_all : (dialect : DialectForm) (columns : List ColumnShape) (at : ℕ) (order : List (Option ℕ)) (fields : List (List ℕ)) (row : Cells) → fields ≡ [] → filled dialect columns at order fields row ≡ Ok row
 filled_all dialect columns at [] fields row none = refl
 filled_all dialect columns at (place ∷ order) fields row none = ap (λ (fs : List (List ℕ)). filled dialect columns at (place ∷ order) fs row) none
 
 -- a line's fault is of the text, never a refusal
-no_refusal : (dialect : DialectForm) (columns : List ColumnShape) (order : List ℕ) (n : ℕ) (line : List ℕ) (r : Refusal) → line_rows dialect columns order n line ≡ Err (Refused r) → ⊥
+no_refusal : (dialect : DialectForm) (columns : List ColumnShape) (order : List (Option ℕ)) (n : ℕ) (line : List ℕ) (r : Refusal) → line_rows dialect columns order n line ≡ Err (Refused r) → ⊥
 unfolding line_rows
 no_refusal dialect columns order n line r e =
-    elim (nat_lt line_limit (length line)) as (λ t. cond t (Err (LineTooLong n)) (cond (is_passed columns line) (Ok []) (in_line n (row_of dialect columns order line) >>= (λ row. Ok (row ∷ [])))) ≡ Err (Refused r) → ⊥) [
+    elim (nat_lt line_limit (length line)) as (λ t. cond t (Err (LineTooLong n)) (cond (is_passed order line) (Ok []) (in_line n (row_of dialect columns order line) >>= (λ row. Ok (row ∷ [])))) ≡ Err (Refused r) → ⊥) [
       | true ↦ λ h. cc
-      | false ↦ λ h. elim (is_passed columns line) as (λ t. cond t (Ok []) (in_line n (row_of dialect columns order line) >>= (λ row. Ok (row ∷ []))) ≡ Err (Refused r) → ⊥) [
+      | false ↦ λ h. elim (is_passed order line) as (λ t. cond t (Ok []) (in_line n (row_of dialect columns order line) >>= (λ row. Ok (row ∷ []))) ≡ Err (Refused r) → ⊥) [
         | true ↦ λ g. cc
         | false ↦ λ g. one (row_of dialect columns order line) g
       ] h
@@ -170,19 +180,27 @@ no_refusal dialect columns order n line r e =
 no_header_refusal : (dialect : DialectForm) (columns : List ColumnShape) (line : List ℕ) (r : Refusal) → header_order dialect columns line ≡ Err (Refused r) → ⊥
 unfolding header_order
 no_header_refusal dialect columns line r e =
-    elim (nat_lt line_limit (length line)) as (λ t. cond t (Err (LineTooLong 1)) (cond (not (length line == 0) && has_each dialect columns line) (in_line 1 (order_from columns 1 [] (fields_of dialect.separator line))) (Err (BadCsv 1 0))) ≡ Err (Refused r) → ⊥) [
+    elim (nat_lt line_limit (length line)) as (λ t. cond t (Err (LineTooLong 1)) (cond (not (length line == 0) && has_each dialect (width_of dialect.order columns) line) (named_order dialect dialect.order columns line) (Err (BadCsv 1 0))) ≡ Err (Refused r) → ⊥) [
       | true ↦ λ h. cc
-      | false ↦ λ h. elim (not (length line == 0) && has_each dialect columns line) as (λ t. cond t (in_line 1 (order_from columns 1 [] (fields_of dialect.separator line))) (Err (BadCsv 1 0)) ≡ Err (Refused r) → ⊥) [
-        | true ↦ λ g. one (order_from columns 1 [] (fields_of dialect.separator line)) g
+      | false ↦ λ h. elim (not (length line == 0) && has_each dialect (width_of dialect.order columns) line) as (λ t. cond t (named_order dialect dialect.order columns line) (Err (BadCsv 1 0)) ≡ Err (Refused r) → ⊥) [
+        | true ↦ λ g. one dialect.order g
         | false ↦ λ g. cc
       ] h
     ] e where
-      one : (order : Result (List ℕ) ℕ) → in_line {X = List ℕ} 1 order ≡ Err (Refused r) → ⊥
-      one (Ok order) g = cc
-      one (Err at) g = cc
+      named : (places : Result (List ℕ) ℕ) → in_line {X = List ℕ} 1 places >>= (λ places. Ok (each_of places)) ≡ Err (Refused r) → ⊥
+      named (Ok places) g = cc
+      named (Err at) g = cc
+
+      given : (order : List (Option ℕ)) (row : Result Cells CsvError) → unless_row order row ≡ Err (Refused r) → ⊥
+      given order (Ok row) g = cc
+      given order (Err e) g = cc
+
+      one : (order : Option (List (Option ℕ))) → named_order dialect order columns line ≡ Err (Refused r) → ⊥
+      one None g = named (order_from columns 1 [] (fields_of dialect.separator line)) g
+      one (Some order) g = given order (in_line 1 (row_of dialect columns order line)) g
 
 -- the reader below didn't fail where a line is at fault, or memory lacked
-pub counts_line : (many : Type 0) (dialect : DialectForm) (columns : List ColumnShape) (order : List ℕ) (n : ℕ) (line : List ℕ) (e : CsvError) (before after : ℕ) → (line_rows dialect columns order n line ≡ Err e) ⊎ (e ≡ Refused Memory) → after ≡ before → Counts many e before after
+pub counts_line : (many : Type 0) (dialect : DialectForm) (columns : List ColumnShape) (order : List (Option ℕ)) (n : ℕ) (line : List ℕ) (e : CsvError) (before after : ℕ) → (line_rows dialect columns order n line ≡ Err e) ⊎ (e ≡ Refused Memory) → after ≡ before → Counts many e before after
 counts_line many dialect columns order n line e before after (inr lack) same = subst (λ (fault : CsvError). Counts many fault before after) (sym lack) same
 counts_line many dialect columns order n line (BadCsv l column) before after (inl fault) same = same
 counts_line many dialect columns order n line (LineTooLong l) before after (inl fault) same = same
@@ -194,7 +212,7 @@ counts_header many dialect columns line (BadCsv l column) before after (inl faul
 counts_header many dialect columns line (LineTooLong l) before after (inl fault) same = same
 counts_header many dialect columns line (Refused r) before after (inl fault) same = absurd (no_header_refusal dialect columns line r fault)
 
-pub header_counts : {X : Type 0} (view : X → List ℕ) (many : Type 0) (dialect : DialectForm) (columns : List ColumnShape) (line : List ℕ) (r : Result X CsvError) (before after : ℕ) → ReadsCsv view r (header_order dialect columns line) → after ≡ before
+pub header_counts : {X : Type 0} (view : X → List (Option ℕ)) (many : Type 0) (dialect : DialectForm) (columns : List ColumnShape) (line : List ℕ) (r : Result X CsvError) (before after : ℕ) → ReadsCsv view r (header_order dialect columns line) → after ≡ before
     → IfErr r (λ e. Counts many e before after)
 header_counts view many dialect columns line (Ok x) before after read same = tt
 header_counts view many dialect columns line (Err e) before after read same = counts_header many dialect columns line e before after read same

@@ -1,5 +1,5 @@
 -- The rows of a text of comma-separated values, or its first fault.
-use Rattle.std.specs.Prelude.{ℕ, suc, Bool, true, false, ◌==◌, ◌&&◌, not, cond, nat_lt, List, [], ◌∷◌, ◌++◌, length, replicate, set, slice_get, Option, Some, None, option_and_then, Result, Ok, Err, ℤ, position}
+use Rattle.std.specs.Prelude.{ℕ, suc, Bool, true, false, ◌==◌, ◌&&◌, not, cond, nat_lt, List, [], ◌∷◌, ◌++◌, length, map, replicate, set, slice_get, Option, Some, None, option_and_then, Result, Ok, Err, ℤ, position}
 use Rattle.std.specs.List.{list_any, range_with_len}
 use Rattle.table_model.specs.State.{Cells, Batch}
 use Rattle.table_model.specs.Table.{Table, ColumnShape, has_name}
@@ -35,15 +35,18 @@ abbrev pub order_from : List ColumnShape → ℕ → List ℕ → List (List ℕ
 order_from columns at named [] = Ok named
 order_from columns at named (field ∷ fields) = new_place at named (place_named columns field) >>= (λ place. order_from columns (suc at) (named ++ (place ∷ [])) fields)
 
--- whether a line has one field for each column
-abbrev pub has_each : DialectForm → List ColumnShape → List ℕ → Bool
-has_each dialect columns line = length (fields_of dialect.separator line) == length columns
+-- whether a line has so many fields
+abbrev pub has_each : DialectForm → ℕ → List ℕ → Bool
+has_each dialect width line = length (fields_of dialect.separator line) == width
 
--- the order of the columns that a header, the first line, gives
-unfoldable pub header_order : DialectForm → List ColumnShape → List ℕ → Result (List ℕ) CsvError
-header_order dialect columns line =
-    cond (nat_lt line_limit (length line)) (Err (LineTooLong 1))
-    (cond (not (length line == 0) && has_each dialect columns line) (in_line 1 (order_from columns 1 [] (fields_of dialect.separator line))) (Err (BadCsv 1 0)))
+-- the columns of these places, one field for each
+abbrev pub each_of : List ℕ → List (Option ℕ)
+each_of places = map (λ place. Some place) places
+
+-- how many fields a line has: one for each column, where the dialect does not say what they are
+abbrev pub width_of : Option (List (Option ℕ)) → List ColumnShape → ℕ
+width_of None columns = length columns
+width_of (Some order) columns = length order
 
 -- what a field is below the column of this place
 abbrev pub cell_at : DialectForm → List ColumnShape → ℕ → List ℕ → Option (Option ℤ)
@@ -54,30 +57,51 @@ abbrev pub or_at : ℕ → Option (Option ℤ) → Result (Option ℤ) ℕ
 or_at at None = Err at
 or_at at (Some cell) = Ok cell
 
+-- the row with a field's cell put at its column's place, or as it was where the field is passed over; or the fault
+abbrev pub with_field : DialectForm → List ColumnShape → ℕ → Option ℕ → List ℕ → Cells → Result Cells ℕ
+with_field dialect columns at None field row = Ok row
+with_field dialect columns at (Some place) field row = or_at at (cell_at dialect columns place field) >>= (λ cell. Ok (set row place cell))
+
 -- the row with the cell of each field put at its column's place, the columns standing in this order, or the first field at fault,
 -- counted from at
-abbrev pub filled : DialectForm → List ColumnShape → ℕ → List ℕ → List (List ℕ) → Cells → Result Cells ℕ
+abbrev pub filled : DialectForm → List ColumnShape → ℕ → List (Option ℕ) → List (List ℕ) → Cells → Result Cells ℕ
 filled dialect columns at [] fields row = Ok row
 filled dialect columns at (place ∷ order) [] row = Ok row
-filled dialect columns at (place ∷ order) (field ∷ fields) row = or_at at (cell_at dialect columns place field) >>= (λ cell. filled dialect columns (suc at) order fields (set row place cell))
+filled dialect columns at (place ∷ order) (field ∷ fields) row = with_field dialect columns at place field row >>= filled dialect columns (suc at) order fields
 
 -- a row of nulls
 abbrev pub null_row : List ColumnShape → Cells
 null_row columns = replicate (length columns) None
 
--- the row of a line, the columns standing in this order
-abbrev pub row_of : DialectForm → List ColumnShape → List ℕ → List ℕ → Result Cells ℕ
-row_of dialect columns order line = cond (has_each dialect columns line) (filled dialect columns 1 order (fields_of dialect.separator line) (null_row columns)) (Err 0)
+-- the row of a line, the columns standing in this order: a column that no field is of is null
+abbrev pub row_of : DialectForm → List ColumnShape → List (Option ℕ) → List ℕ → Result Cells ℕ
+row_of dialect columns order line = cond (has_each dialect (length order) line) (filled dialect columns 1 order (fields_of dialect.separator line) (null_row columns)) (Err 0)
 
--- whether a line is passed over: it is empty, and the table has not one column alone
-abbrev pub is_passed : List ColumnShape → List ℕ → Bool
-is_passed columns line = (length line == 0) && not (length columns == 1)
+-- an order, unless the first line is a row by it, and so no header
+abbrev pub unless_row : List (Option ℕ) → Result Cells CsvError → Result (List (Option ℕ)) CsvError
+unless_row order (Ok row) = Err (BadCsv 1 0)
+unless_row order (Err e) = Ok order
+
+-- the order that a header gives: that of the columns that its fields name, where the dialect gives none
+abbrev pub named_order : DialectForm → Option (List (Option ℕ)) → List ColumnShape → List ℕ → Result (List (Option ℕ)) CsvError
+named_order dialect None columns line = in_line 1 (order_from columns 1 [] (fields_of dialect.separator line)) >>= (λ places. Ok (each_of places))
+named_order dialect (Some order) columns line = unless_row order (in_line 1 (row_of dialect columns order line))
+
+-- the order of the columns that a header, the first line, gives
+unfoldable pub header_order : DialectForm → List ColumnShape → List ℕ → Result (List (Option ℕ)) CsvError
+header_order dialect columns line =
+    cond (nat_lt line_limit (length line)) (Err (LineTooLong 1))
+    (cond (not (length line == 0) && has_each dialect (width_of dialect.order columns) line) (named_order dialect dialect.order columns line) (Err (BadCsv 1 0)))
+
+-- whether a line is passed over: it is empty, and lines have not one field alone
+abbrev pub is_passed : List (Option ℕ) → List ℕ → Bool
+is_passed order line = (length line == 0) && not (length order == 1)
 
 -- the rows that a line makes: one, or none where it is passed over
-unfoldable pub line_rows : DialectForm → List ColumnShape → List ℕ → ℕ → List ℕ → Result Batch CsvError
+unfoldable pub line_rows : DialectForm → List ColumnShape → List (Option ℕ) → ℕ → List ℕ → Result Batch CsvError
 line_rows dialect columns order number line =
     cond (nat_lt line_limit (length line)) (Err (LineTooLong number))
-    (cond (is_passed columns line) (Ok []) (in_line number (row_of dialect columns order line) >>= (λ row. Ok (row ∷ []))))
+    (cond (is_passed order line) (Ok []) (in_line number (row_of dialect columns order line) >>= (λ row. Ok (row ∷ []))))
 
 -- rows before those that follow them
 abbrev pub before_rows : Batch → Result Batch CsvError → Result Batch CsvError
@@ -85,13 +109,18 @@ before_rows rows (Ok more) = Ok (rows ++ more)
 before_rows rows (Err e) = Err e
 
 -- the rows of lines, the first having this number, or the first fault
-abbrev pub rows_from : DialectForm → List ColumnShape → List ℕ → ℕ → List (List ℕ) → Result Batch CsvError
+abbrev pub rows_from : DialectForm → List ColumnShape → List (Option ℕ) → ℕ → List (List ℕ) → Result Batch CsvError
 rows_from dialect columns order number [] = Ok []
 rows_from dialect columns order number (line ∷ lines) = line_rows dialect columns order number line >>= (λ rows. before_rows rows (rows_from dialect columns order (suc number) lines))
 
 -- the order of columns in the schema
-abbrev pub own_order : List ColumnShape → List ℕ
-own_order columns = range_with_len 0 (length columns)
+abbrev pub own_order : List ColumnShape → List (Option ℕ)
+own_order columns = each_of (range_with_len 0 (length columns))
+
+-- the order of the fields of a text without a header: that of the schema, where the dialect gives none
+abbrev pub plain_order : Option (List (Option ℕ)) → List ColumnShape → List (Option ℕ)
+plain_order None columns = own_order columns
+plain_order (Some order) columns = order
 
 -- the rows of a header and the lines below it, or the first fault
 abbrev pub header_rows : DialectForm → List ColumnShape → List (List ℕ) → Result Batch CsvError
@@ -101,7 +130,7 @@ header_rows dialect columns (header ∷ lines) = header_order dialect columns he
 -- the rows of all lines, the first being a header if there is one
 abbrev pub lines_rows : DialectForm → Table → Bool → List (List ℕ) → Result Batch CsvError
 lines_rows dialect table true lines = header_rows dialect table.columns lines
-lines_rows dialect table false lines = rows_from dialect table.columns (own_order table.columns) 1 lines
+lines_rows dialect table false lines = rows_from dialect table.columns (plain_order dialect.order table.columns) 1 lines
 
 -- the rows of a text in a dialect, or its first fault
 abbrev pub rows_in : DialectForm → Table → Bool → List ℕ → Result Batch CsvError

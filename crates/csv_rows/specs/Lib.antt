@@ -7,4 +7,5 @@ pub mod LinesForm
 pub mod Outcome
 pub mod Reading
 pub mod RowReading
+pub mod Wording
 pub mod Written

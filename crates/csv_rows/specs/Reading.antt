@@ -10,13 +10,14 @@ use Rattle.csv_rows.specs.CsvText.{rows_in, rows_from, before_rows}
 use Rattle.csv_rows.specs.declared.error.CsvError.{CsvError}
 use Rattle.csv_rows.specs.declared.error.CsvError.TheVariants.{Refused}
 
--- A reader of CSV: the table, the dialect of the text, whether the first line is a header, the order of the text's columns once that is known, how many lines
--- were read, the bytes that came and weren't taken yet, and how many bytes came in all.
+-- A reader of CSV: the table, the dialect of the text, whether the first line is a header, for each field of a line the place of its
+-- column, or none where it is passed over, once that is known, how many lines were read, the bytes that came and weren't taken yet, and
+-- how many bytes came in all.
 pub record Reading : Type 0 where
   pub table : Table
   pub dialect : DialectForm
   pub has_header : Bool
-  pub order : Option (List ℕ)
+  pub order : Option (List (Option ℕ))
   pub number : ℕ
   pub pending : List ℕ
   pub given : ℕ
@@ -30,7 +31,7 @@ abbrev pub at_start : Table → Bool → Reading
 at_start table has_header = at_start_in usual table has_header
 
 -- the rows that these bytes make, or the first fault, before the order of columns is known and after
-abbrev pub rows_after : Reading → Option (List ℕ) → List ℕ → Result Batch CsvError
+abbrev pub rows_after : Reading → Option (List (Option ℕ)) → List ℕ → Result Batch CsvError
 rows_after csv None bytes = rows_in csv.dialect csv.table csv.has_header bytes
 rows_after csv (Some order) bytes = rows_from csv.dialect csv.table.columns order (suc csv.number) (lines_of bytes)
 

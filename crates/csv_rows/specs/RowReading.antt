@@ -11,20 +11,20 @@ use Rattle.csv_rows.specs.declared.error.CsvError.{CsvError}
 use Rattle.csv_rows.specs.declared.error.CsvError.TheVariants.{Refused}
 
 -- the rows of the lines that are still to come, or the first fault
-abbrev pub lines_to_come : DialectForm → List ColumnShape → List ℕ → LinesForm → List ℕ → Result Batch CsvError
+abbrev pub lines_to_come : DialectForm → List ColumnShape → List (Option ℕ) → LinesForm → List ℕ → Result Batch CsvError
 lines_to_come dialect columns order lines bytes = rows_from dialect columns order (suc lines.number) (lines_of (lines.pending ++ bytes))
 
 -- rows were read behind those that were there
-abbrev pub ReadsOn : DialectForm → List ColumnShape → List ℕ → LinesForm → LinesForm → Batch → Batch → Option (List ℕ) → Option (List ℕ) → Type 0
+abbrev pub ReadsOn : DialectForm → List ColumnShape → List (Option ℕ) → LinesForm → LinesForm → Batch → Batch → Option (List ℕ) → Option (List ℕ) → Type 0
 ReadsOn dialect columns order old new rows rows' before after =
     (made : Batch) × (rows' ≡ rows ++ made) × AsKnown (λ bytes rest. lines_to_come dialect columns order old bytes ≡ before_rows made (lines_to_come dialect columns order new rest)) before after
 
 -- there are no more rows
-abbrev pub NoLines : DialectForm → List ColumnShape → List ℕ → LinesForm → Option (List ℕ) → Option (List ℕ) → Type 0
+abbrev pub NoLines : DialectForm → List ColumnShape → List (Option ℕ) → LinesForm → Option (List ℕ) → Option (List ℕ) → Type 0
 NoLines dialect columns order lines before after = AsKnown (λ bytes rest. lines_to_come dialect columns order lines rest ≡ Ok []) before after
 
 -- the first fault of the lines that are to come
-abbrev pub RefusesLines : DialectForm → List ColumnShape → List ℕ → LinesForm → CsvError → Option (List ℕ) → Type 0
+abbrev pub RefusesLines : DialectForm → List ColumnShape → List (Option ℕ) → LinesForm → CsvError → Option (List ℕ) → Type 0
 RefusesLines dialect columns order old (Refused refusal) before = Unit {0}
 RefusesLines dialect columns order old fault before = AsKnown (λ bytes rest. lines_to_come dialect columns order old bytes ≡ Err fault) before before
 

@@ -1,16 +1,21 @@
 //! Dialects of comma-separated values.
-ghost use Rattle.std.specs.Prelude.{◌≡◌, option_map};
+ghost use Rattle.std.specs.Prelude.{◌≡◌, None, Some, IfOk, option_map};
 ghost use Rattle.std.specs.String.{string_bytes};
+ghost use Rattle.csv_rows.specs.CsvText.{plain_order, width_of};
 ghost use Rattle.csv_rows.specs.DialectForm.{usual, is_own_word};
 
+use crate::order::Order;
+use std::alloc::{AllocError, Global};
 use std::marker::Model;
-use table_model::same_text;
+use table_model::{Column, same_text};
 
-/// How a text of comma-separated values is written: what separates its fields, and which word is a null.
+/// How a text of comma-separated values is written: what separates its fields, which word is a null, and what the fields are if the header
+/// does not say it.
 #[derive(Debug, Drop)]
 pub struct Dialect {
     separator: u8,
     null_word: Option<String>,
+    order: Option<Order>,
 }
 
 impl Model for Dialect {
@@ -20,7 +25,7 @@ impl Model for Dialect {
 
     ghost Value = { DialectForm };
 
-    ghost view = { λ d. record { separator = d.separator; null_word = option_map string_bytes d.null_word } };
+    ghost view = { λ d. record { separator = d.separator; null_word = option_map string_bytes d.null_word; order = d.order } };
 }
 
 impl Dialect {
@@ -31,17 +36,63 @@ impl Dialect {
         Dialect {
             separator: b',',
             null_word: None,
+            order: None,
         }
     }
 
     /// The dialect in which this byte separates, and this word, if there is one, is a null besides those of the usual dialect. A line
     /// feed never separates fields, since it ends the line.
     pub fn new(separator: u8, null_word: Option<String>) -> Dialect
-        ensures { result ≡ record { separator = separator; null_word = option_map string_bytes null_word } }
+        ensures { result ≡ record { separator = separator; null_word = option_map string_bytes null_word; order = None } }
     {
         Dialect {
             separator,
             null_word,
+            order: None,
+        }
+    }
+
+    /// The same dialect, in which the fields of each line have this order: a header is then any line that is no row, and a column
+    /// that no field is of is null in each row.
+    pub fn with_order(self, order: Order) -> Dialect
+        ensures { result ≡ record { separator = self.separator; null_word = self.null_word; order = Some order } }
+    {
+        let Dialect {
+            separator,
+            null_word,
+            ..
+        } = self;
+        Dialect {
+            separator,
+            null_word,
+            order: Some(order),
+        }
+    }
+
+    /// The order of the fields, if it is given.
+    pub(crate) fn order(&self) -> Option<&Order>
+        ensures { option_map (λ order. order.now) result ≡ self.now.order }
+    {
+        self.order.as_ref()
+    }
+
+    /// How many fields a line of a table's rows has.
+    pub(crate) fn width(&self, columns: &[Column]) -> usize
+        ensures { result ≡ width_of self.now.order columns.now }
+    {
+        match self.order() {
+            None => columns.len(),
+            Some(order) => order.fields().len(),
+        }
+    }
+
+    /// The order of the fields of a text without a header.
+    pub(crate) fn plain_order(&self, alloc: Global, columns: &[Column]) -> Result<Order, AllocError>
+        ensures { IfOk result (λ order. order ≡ plain_order self.now.order columns.now) }
+    {
+        match self.order() {
+            None => Order::own(alloc, columns),
+            Some(order) => order.copy(alloc),
         }
     }
 

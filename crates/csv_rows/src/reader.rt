@@ -11,6 +11,7 @@ ghost use Rattle.csv_rows.specs.RowReading.{ReadsOn, RefusesLines, RefusesHeader
 use crate::bytes::first_field;
 use crate::dialect::Dialect;
 use crate::error::CsvError;
+use crate::header::order_of_header;
 use crate::lines::{Found, Lines};
 use crate::order::Order;
 use crate::row::push_row;
@@ -126,17 +127,20 @@ impl CsvReader {
     }
 
     /// The place in the schema, from 0, of the column to which a field belongs, by the field's column in the text, counted from 1:
-    /// after `BadCsv` in a row, that of the faulty field's column. None for a field of the header, and if a line does not have that
-    /// field.
+    /// after `BadCsv` in a row, that of the faulty field's column. None for a field of the header and one that is passed over, and if a
+    /// line does not have that field.
     pub fn column_of(&self, column: u64) -> Option<usize>
-        ensures { IfSome result (λ place. IfSome self.now.order (λ order. slice_get order (column - 1) ≡ Some place)) }
+        ensures { IfSome result (λ place. IfSome self.now.order (λ order. slice_get order (column - 1) ≡ Some (Some place))) }
     {
         if column == 0 || (self.has_header && self.lines.number() <= 1) {
             return None;
         }
         match &self.order {
             None => None,
-            Some(order) => order.places().get(column as usize - 1).copied(),
+            Some(order) => match order.fields().get(column as usize - 1) {
+                None => None,
+                Some(place) => *place,
+            },
         }
     }
 
@@ -154,9 +158,9 @@ impl CsvReader {
         ensures kept { OnOk result (reader.new.1 ≡ reader.old.1) }
         ensures counts { IfErr result (λ e. Counts (read_limit < self.new.given) e reader.old.1 reader.new.1) }
     {
-        let own = Order::own(alloc, self.schema.column_list())?;
+        let plain = self.dialect.plain_order(alloc, self.schema.column_list())?;
         self.lines.skip_mark(reader)?;
-        self.order = Some(own);
+        self.order = Some(plain);
         if !self.has_header {
             return Ok(());
         }
@@ -197,7 +201,7 @@ impl CsvReader {
             alloc,
             &self.dialect,
             columns,
-            order.places(),
+            order.fields(),
             &mut self.lines,
             reader,
         )
@@ -222,7 +226,7 @@ fn read_order<R: Read>(
     ensures counts { IfErr result (λ e. Counts (read_limit < lines.new.given) e reader.old.1 reader.new.1) }
 {
     match lines.advance(reader)? {
-        Found::Line => Order::of_header(alloc, dialect, columns, lines.line()),
+        Found::Line => order_of_header(alloc, dialect, columns, lines.line()),
         Found::TooLong => Err(CsvError::LineTooLong { line: 1 }),
         Found::End => Err(CsvError::BadCsv { line: 1, column: 0 }),
     }
@@ -233,7 +237,7 @@ fn read_order<R: Read>(
 fn read_line<R: Read>(
     dialect: &Dialect,
     columns: &[Column],
-    order: &[usize],
+    order: &[Option<usize>],
     lines: &mut Lines,
     reader: &mut Counted<R>,
     cells: &mut Vec<Option<i128>>,
@@ -277,7 +281,7 @@ fn read_rows<R: Read>(
     alloc: Global,
     dialect: &Dialect,
     columns: &[Column],
-    order: &[usize],
+    order: &[Option<usize>],
     lines: &mut Lines,
     reader: &mut Counted<R>,
 ) -> Result<Rows, CsvError>

@@ -2,7 +2,7 @@
 ghost use Rattle.std.specs.Prelude.{◌≡◌, ◌+◌, ◌<◌, ◌≤◌, length, option_map, MatchResult, Ok, Err, IfSome, IfOk};
 ghost use Rattle.csv_rows.specs.Field.{fields_of, fields_left};
 ghost use Rattle.csv_rows.specs.Line.{line_limit};
-ghost use Rattle.csv_rows.specs.CsvText.{cell_at, filled, in_line, row_of, line_rows};
+ghost use Rattle.csv_rows.specs.CsvText.{cell_at, with_field, filled, in_line, row_of, line_rows};
 ghost use Rattle.csv_rows.specs.Outcome.{ReadsCsv, ReadsBehind};
 
 use crate::bytes::{count_fields, first_field};
@@ -25,6 +25,32 @@ fn cell_at(
     cell_in(dialect, column, field)
 }
 
+/// Puts the cell of a field at its column's place, unless the field is passed over; or answers the field's place in its line if it is
+/// at fault.
+#[inline]
+fn put_field(
+    dialect: &Dialect,
+    columns: &[Column],
+    at: u64,
+    place: Option<usize>,
+    field: &[u8],
+    cells: &mut Vec<Option<i128>>,
+) -> Result<(), u64>
+    requires { length cells.old.items ≡ length columns.now }
+    ensures put { MatchResult result (λ _. with_field dialect.now columns.now at place field.now cells.old.items ≡ Ok cells.new.items)
+        (λ column. with_field dialect.now columns.now at place field.now cells.old.items ≡ Err column) }
+    ensures long { length cells.new.items ≡ length columns.now }
+{
+    let Some(place) = place else {
+        return Ok(());
+    };
+    let Some(cell) = cell_at(dialect, columns, place, field) else {
+        return Err(at);
+    };
+    cells[place] = cell;
+    Ok(())
+}
+
 /// How many fields the rest of a line has.
 fn count_left(dialect: &Dialect, rest: Option<&[u8]>) -> usize
     ensures { result ≡ length (fields_left dialect.now.separator (option_map (λ text. text.now) rest.entry)) }
@@ -40,7 +66,7 @@ fn count_left(dialect: &Dialect, rest: Option<&[u8]>) -> usize
 fn fill(
     dialect: &Dialect,
     columns: &[Column],
-    order: &[usize],
+    order: &[Option<usize>],
     line: &[u8],
     cells: &mut Vec<Option<i128>>,
 ) -> Result<usize, u64>
@@ -58,10 +84,9 @@ fn fill(
         };
         let (field, after) = first_field(text, dialect.separator());
         fields += 1;
-        let Some(cell) = cell_at(dialect, columns, *place, field) else {
-            return Err(fields as u64);
-        };
-        cells[*place] = cell;
+        if let Err(column) = put_field(dialect, columns, fields as u64, *place, field, cells) {
+            return Err(column);
+        }
         rest = after;
     }
     Ok(fields + count_left(dialect, rest))
@@ -69,10 +94,10 @@ fn fill(
 
 /// Reads the row of a line with this number into `cells`, in place of what is there. The fields of a good line are cut once, and
 /// counted on the way; a wrong number of fields is reported before a fault in one of them.
-fn read_row(
+pub fn read_row(
     dialect: &Dialect,
     columns: &[Column],
-    order: &[usize],
+    order: &[Option<usize>],
     number: u64,
     line: &[u8],
     cells: &mut Vec<Option<i128>>,
@@ -83,8 +108,8 @@ fn read_row(
     cells.clear();
     cells.resize(columns.len(), None)?;
     match fill(dialect, columns, order, line, cells) {
-        Ok(fields) if fields == columns.len() => Ok(()),
-        Err(column) if count_fields(line, dialect.separator()) == columns.len() => Err(
+        Ok(fields) if fields == order.len() => Ok(()),
+        Err(column) if count_fields(line, dialect.separator()) == order.len() => Err(
             CsvError::BadCsv {
                 line: number,
                 column,
@@ -103,7 +128,7 @@ fn read_row(
 pub fn push_row(
     dialect: &Dialect,
     columns: &[Column],
-    order: &[usize],
+    order: &[Option<usize>],
     number: u64,
     line: &[u8],
     cells: &mut Vec<Option<i128>>,
@@ -113,7 +138,7 @@ pub fn push_row(
     ensures rows { ReadsBehind rows.old result rows.new (line_rows dialect.now columns.now order.now number line.now) }
     ensures len { length rows.new ≤ length rows.old + 1 }
 {
-    if line.is_empty() && columns.len() != 1 {
+    if line.is_empty() && order.len() != 1 {
         return Ok(());
     }
     read_row(dialect, columns, order, number, line, cells)?;

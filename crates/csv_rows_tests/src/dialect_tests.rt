@@ -1,6 +1,6 @@
 //! Texts in dialects with another separator or a word for a null, by the grammar and by hand.
 use crate::tests::{read_by, three};
-use csv_rows::{CsvError, CsvReader, Dialect};
+use csv_rows::{CsvError, CsvReader, Dialect, Order, WordError};
 use std::alloc::Global;
 use std::test::Fail;
 use table_model::Refusal;
@@ -25,6 +25,24 @@ const CASES: [Case; 13] = [
     (b',', Some(""), b"A,B,C\n1,\"\",\n", "1,,\n"),
 ];
 
+/// What the fields of a text are, whether it has a header, the text, and what is read of it.
+type OrderCase = (&'static str, bool, &'static [u8], &'static str);
+
+const ORDERS: [OrderCase; 9] = [
+    ("C,-,a", true, b"x,y,z\n1,x,3\n", "3,,1\n"),
+    ("A,B,C,-", false, b"1,2,3,4\n", "1,2,3\n"),
+    ("b", false, b"1\n\n2\n", ",1,\n,,\n,2,\n"),
+    ("A,-", false, b"1,\n\n2,x\n", "1,,\n2,,\n"),
+    ("A,-", true, b"\n1,2\n", "BadCsv 1 0"),
+    ("A,-", true, b"A\n1,2\n", "BadCsv 1 0"),
+    ("A,-", true, b"1,2\n3,4\n", "BadCsv 1 0"),
+    ("A,-", true, b"A,D\n1,2,3\n", "BadCsv 2 0"),
+    ("-,A", false, b"x,300\n", "BadCsv 1 2 300"),
+];
+
+/// Lists of words, and the first word of each that names no new column.
+const WORDS: [(&str, u64); 5] = [("A,D", 2), ("A,-,a", 3), ("", 1), ("A,,B", 2), ("- ,A", 1)];
+
 /// The dialect with this separator and this word.
 fn dialect(alloc: Global, separator: u8, word: Option<&str>) -> Result<Dialect, Fail> {
     let word = match word {
@@ -43,6 +61,31 @@ fn a_text_is_read_in_its_dialect(rt: HostRuntime) -> Result<(), Fail> {
         let csv = CsvReader::in_dialect(alloc, &schema, true, dialect)?;
         let found = read_by(alloc, csv, text)?;
         agree_at(wanted, found.as_str(), wanted)?;
+    }
+    Ok(())
+}
+
+#[test]
+fn a_text_is_read_in_the_order_that_words_say(rt: HostRuntime) -> Result<(), Fail> {
+    let alloc = rt.alloc();
+    let schema = three(alloc)?;
+    for (words, has_header, text, wanted) in ORDERS {
+        let order = Order::of_words(alloc, schema.column_list(), words.as_bytes())?;
+        let dialect = Dialect::usual().with_order(order);
+        let csv = CsvReader::in_dialect(alloc, &schema, has_header, dialect)?;
+        let found = read_by(alloc, csv, text)?;
+        agree_at(words, found.as_str(), wanted)?;
+    }
+    Ok(())
+}
+
+#[test]
+fn a_word_names_a_new_column_or_is_a_hyphen(rt: HostRuntime) -> Result<(), Fail> {
+    let alloc = rt.alloc();
+    let schema = three(alloc)?;
+    for (words, at) in WORDS {
+        let found = Order::of_words(alloc, schema.column_list(), words.as_bytes());
+        assert!(rt; found.err() == Some(WordError::NoNewColumn(at)), "of {words}");
     }
     Ok(())
 }

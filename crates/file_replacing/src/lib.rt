@@ -11,6 +11,7 @@ mod place;
 mod record;
 mod replacing;
 mod system;
+mod watch;
 
 pub use folder::Folder;
 pub use holding::{HoldError, hold, try_hold};
@@ -21,3 +22,4 @@ pub use place::Place;
 pub use record::Record;
 pub use replacing::replace;
 pub use system::SystemFolder;
+pub use watch::{ReadWatch, Unwatched};

@@ -5,28 +5,40 @@ ghost use Rattle.file_replacing.specs.Note.{events_of};
 use crate::Folder;
 use crate::names::folder_of;
 use crate::record::Record;
+use crate::watch::{ReadWatch, Unwatched, WatchedFile};
 use std::alloc::Global;
 use std::fs::{self, File, Files, OpenOptions, TryLockError};
 use std::io::{self, ErrorKind, Read, Write};
 use std::os::unix::fs::MetadataExt;
 
-/// The files of the operating system's folders, one that is open, and the folder that is synced.
+/// The files of the operating system's folders, one that is open, and the folder that is synced; and what is told of the reading.
 #[derive(Drop)]
-pub struct SystemFolder<'r, R: Files<File = File>> {
+pub struct SystemFolder<'r, R: Files<File = File>, W: ReadWatch + Drop> {
     rt: &'r R,
+    watch: W,
     file: Option<File>,
     is_new: bool,
     folder: Option<File>,
     calls: Record,
 }
 
-impl<'r, R: Files<File = File>> SystemFolder<'r, R> {
-    /// No file is open yet.
-    pub fn new(rt: &'r R) -> SystemFolder<'r, R>
+impl<'r, R: Files<File = File>> SystemFolder<'r, R, Unwatched> {
+    /// No file is open yet. Nothing is told of the reading.
+    pub fn new(rt: &'r R) -> SystemFolder<'r, R, Unwatched>
+        ensures { events_of result.calls.noted ≡ [] }
+    {
+        SystemFolder::watched(rt, Unwatched)
+    }
+}
+
+impl<'r, R: Files<File = File>, W: ReadWatch + Drop> SystemFolder<'r, R, W> {
+    /// No file is open yet. This is told of the bytes of a file as they are read.
+    pub fn watched(rt: &'r R, watch: W) -> SystemFolder<'r, R, W>
         ensures { events_of result.calls.noted ≡ [] }
     {
         SystemFolder {
             rt,
+            watch,
             file: None,
             is_new: false,
             folder: None,
@@ -93,15 +105,16 @@ fn is_same<R: Files>(rt: &R, file: &Option<File>, name: &str) -> bool {
 }
 
 /// The bytes of a file, if there is one.
-fn read_whole<R: Files<File = File>>(
+fn read_whole<R: Files<File = File>, W: ReadWatch>(
     rt: &R,
+    watch: &W,
     alloc: Global,
     name: &str,
 ) -> io::Result<Option<Vec<u8>>> {
     match fs::open(rt, name) {
-        Ok(mut file) => {
+        Ok(file) => {
             let mut bytes = Vec::new(alloc);
-            file.read_to_end(&mut bytes)?;
+            WatchedFile::new(file, name, watch).read_to_end(&mut bytes)?;
             Ok(Some(bytes))
         }
         Err(error) if error.kind() == ErrorKind::NotFound => Ok(None),
@@ -109,7 +122,7 @@ fn read_whole<R: Files<File = File>>(
     }
 }
 
-impl<'r, R: Files<File = File>> Folder for SystemFolder<'r, R> {
+impl<'r, R: Files<File = File>, W: ReadWatch + Drop> Folder for SystemFolder<'r, R, W> {
     ghost history = { λ folder. events_of folder.calls.noted };
 
     fn open(&mut self, name: &str) -> io::Result<()> {
@@ -223,7 +236,7 @@ impl<'r, R: Files<File = File>> Folder for SystemFolder<'r, R> {
     }
 
     fn read(&mut self, alloc: Global, name: &str) -> io::Result<Option<Vec<u8>>> {
-        let answer = read_whole(self.rt, alloc, name);
+        let answer = read_whole(self.rt, &self.watch, alloc, name);
         match &answer {
             Ok(Some(bytes)) => self.calls.read(name, bytes),
             Ok(None) => self.calls.read_nothing(name),

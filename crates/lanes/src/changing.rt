@@ -1,18 +1,20 @@
 //! The commands that change a file: it is read, then its lock is taken, and it is read again and replaced whole.
 
 use crate::change::{Change, Done};
-use crate::failure::{Failure, is_of_a_text};
+use crate::failure::Failure;
 use crate::folder_changes;
 use crate::folders::is_folder;
 use crate::inputs::{name_of, reader_of, schema_again, schema_ahead, schema_of, source_of, unread};
 use crate::names::fault_of_names;
-use crate::progress::Progress;
+use crate::progress::{LockedReading, Progress};
 use crate::reports::write_line;
 use crate::watched_folder::{Unheld, WatchedFolder};
 use command_line::{CsvForm, Source, not_for_a_folder};
-use csv_rows::{CsvError, CsvReader, Dialect};
+use csv_rows::{CsvError, CsvReader, Dialect, Order, WordError};
 use file_replacing::{Folder, HoldError, Place, SystemFolder};
-use refusal_sentences::{CommandRefusal, Fields, Knowledge, Printable, Sentence, Text};
+use refusal_sentences::{
+    CommandRefusal, Fields, Knowledge, Printable, Sentence, Text, Wanted, is_of_a_text,
+};
 use replica_files::{Load, read_csv};
 use replica_store::Offer;
 use std::alloc::{AllocError, Global};
@@ -38,6 +40,7 @@ pub fn create<
     R: Print + Eprint + Files<File = File> + Clock + RandomSource + AllocGlobal + Clone + Drop,
 >(
     rt: &R,
+    progress: &Progress<'_, R>,
     file: &str,
     table: &str,
     columns: &[(&str, ColType)],
@@ -54,7 +57,14 @@ pub fn create<
         Some(words) => About::Names(words.as_str()),
         None => About::Nothing,
     };
-    change(rt, file, Change::Create { table, columns }, about, is_quiet)
+    change(
+        rt,
+        progress,
+        file,
+        Change::Create { table, columns },
+        about,
+        is_quiet,
+    )
 }
 
 /// Inserts the rows of comma-separated values, of one text after another: all, or none. The file is judged under its lock; if a text is
@@ -99,6 +109,7 @@ pub fn import<
     let words = words.as_slice();
     change(
         rt,
+        progress,
         file,
         Change::Import { load, first, words },
         About::Nothing,
@@ -125,12 +136,19 @@ pub fn load_of<'r, R: Eprint + Input + Files + Clock + AllocGlobal>(
 /// Deletes the rows for which a condition is true.
 pub fn delete<
     R: Print + Eprint + Files<File = File> + Clock + RandomSource + AllocGlobal + Clone + Drop,
->(rt: &R, file: &str, condition: &str, is_quiet: bool) -> Result<(), Failure> {
+>(
+    rt: &R,
+    progress: &Progress<'_, R>,
+    file: &str,
+    condition: &str,
+    is_quiet: bool,
+) -> Result<(), Failure> {
     if is_folder(rt, file) {
-        return folder_changes::delete(rt, file, condition, is_quiet);
+        return folder_changes::delete(rt, progress, file, condition, is_quiet);
     }
     change(
         rt,
+        progress,
         file,
         Change::Delete { condition },
         About::Condition(condition),
@@ -141,12 +159,20 @@ pub fn delete<
 /// Deletes rows by their names, held or not.
 pub fn delete_rows<
     R: Print + Eprint + Files<File = File> + Clock + RandomSource + AllocGlobal + Clone + Drop,
->(rt: &R, file: &str, first: RowName, last: u16, is_quiet: bool) -> Result<(), Failure> {
+>(
+    rt: &R,
+    progress: &Progress<'_, R>,
+    file: &str,
+    first: RowName,
+    last: u16,
+    is_quiet: bool,
+) -> Result<(), Failure> {
     if is_folder(rt, file) {
         return folder_changes::delete_rows(rt, file, first, last, is_quiet);
     }
     change(
         rt,
+        progress,
         file,
         Change::DeleteRows { first, last },
         About::Nothing,
@@ -157,13 +183,14 @@ pub fn delete_rows<
 /// Drops the batches of which every row is deleted.
 pub fn forget<R: Print + Eprint + Files<File = File> + Clock + AllocGlobal>(
     rt: &R,
+    progress: &Progress<'_, R>,
     file: &str,
     is_quiet: bool,
 ) -> Result<(), Failure> {
     if is_folder(rt, file) {
         return Err(Failure::from(not_for_a_folder(rt.alloc(), NO_FORGET)));
     }
-    change(rt, file, Change::Forget, About::Nothing, is_quiet)
+    change(rt, progress, file, Change::Forget, About::Nothing, is_quiet)
 }
 
 /// Applies offers, all or none.
@@ -197,7 +224,14 @@ pub fn apply<
     let schemas = schemas_of(rt.alloc(), offers.as_slice())?;
     let schemas = schemas.as_slice();
     let about = About::Offers { schemas, sources };
-    change(rt, file, Change::Apply { offers }, about, is_quiet)
+    change(
+        rt,
+        progress,
+        file,
+        Change::Apply { offers },
+        about,
+        is_quiet,
+    )
 }
 
 /// The offers of these sources, one after another.
@@ -272,7 +306,7 @@ fn add_rows<R: Files + AllocGlobal, D: Read>(
         rt.alloc(),
         schema,
         form.has_header,
-        dialect_of(rt.alloc(), form)?,
+        dialect_of(rt.alloc(), schema, form)?,
     )?;
     match read_csv(rt.alloc(), &mut csv, reader, load) {
         Ok(()) => Ok(()),
@@ -293,12 +327,43 @@ fn add_rows<R: Files + AllocGlobal, D: Read>(
 }
 
 /// The dialect in which texts are written.
-fn dialect_of(alloc: Global, form: CsvForm<'_>) -> Result<Dialect, AllocError> {
+fn dialect_of(alloc: Global, schema: &Schema, form: CsvForm<'_>) -> Result<Dialect, Failure> {
     let null_word = match form.null_word {
         None => None,
         Some(word) => Some(String::from_str(alloc, word)?),
     };
-    Ok(Dialect::new(form.separator, null_word))
+    let dialect = Dialect::new(form.separator, null_word);
+    let Some(words) = form.columns else {
+        return Ok(dialect);
+    };
+    match Order::of_words(alloc, schema.column_list(), words.as_bytes()) {
+        Ok(order) => Ok(dialect.with_order(order)),
+        Err(WordError::NoNewColumn(word)) => Err(no_column(alloc, schema, words, word)),
+        Err(WordError::Memory) => Err(Failure::from(Refusal::Memory)),
+    }
+}
+
+/// The refusal of a word that names no column, by its place in a list, from 1.
+fn no_column(alloc: Global, schema: &Schema, words: &str, place: u64) -> Failure {
+    let before = words.split(',').take(place.saturating_sub(1) as usize);
+    let at = before.fold(
+        0u64,
+        |at, word| at.saturating_add(word.len() as u64).saturating_add(1),
+    );
+    let text = Text {
+        text: words,
+        is_condition: true,
+        schema: Some(schema),
+    };
+    Failure::of_text(alloc, Refusal::NoSuchColumn(at), "--columns", text)
+}
+
+/// How many fields a line should have.
+fn wanted_fields(schema: &Schema, form: CsvForm<'_>) -> Wanted {
+    match form.columns {
+        None => Wanted::Columns(schema.columns()),
+        Some(words) => Wanted::Words(words.split(',').count()),
+    }
 }
 
 /// A fault of comma-separated values.
@@ -331,7 +396,7 @@ fn known_of_field<'a>(
         return Knowledge::Fields(Fields::new(
             csv.line(),
             form.separator,
-            schema.columns(),
+            wanted_fields(schema, form),
             form.has_header && is_first,
         ));
     }
@@ -369,13 +434,15 @@ enum About<'a> {
 /// what is locked is what is read and replaced.
 fn change<R: Print + Eprint + Files<File = File> + Clock + AllocGlobal>(
     rt: &R,
+    progress: &Progress<'_, R>,
     file: &str,
     change: Change<'_>,
     about: About<'_>,
     is_quiet: bool,
 ) -> Result<(), Failure> {
     let place = Place::followed(rt, file)?;
-    let mut folder = WatchedFolder::new(SystemFolder::new(rt));
+    let watch = LockedReading::new(progress);
+    let mut folder = WatchedFolder::new(SystemFolder::watched(rt, watch));
     if let Err(why) = folder.hold(rt, &place) {
         return Err(not_held(rt, file, &place, change, why, about));
     }

@@ -203,19 +203,6 @@ impl Failure {
     }
 }
 
-/// Whether it is the text of a query or a condition that is refused, and not the file or the output.
-pub fn is_of_a_text(refusal: Refusal) -> bool {
-    matches!(
-        refusal,
-        Refusal::Syntax(_)
-            | Refusal::NoSuchTable
-            | Refusal::NoSuchColumn(_)
-            | Refusal::NotGrouped(_)
-            | Refusal::NumberTooLarge(_)
-            | Refusal::TooDeep
-    )
-}
-
 /// What is known of a file that can't be read.
 fn known_of_reading<R: Files>(rt: &R, name: &str) -> Knowledge<'static> {
     match fs::metadata(rt, name) {

@@ -5,7 +5,7 @@ use crate::changing::{
     is_there, load_of, of_other_table, random_words, read_offers, refused_alone, schemas_of,
     with_columns,
 };
-use crate::failure::{Failure, is_of_a_text};
+use crate::failure::Failure;
 use crate::folders::{Opened, open_folder, read_heads};
 use crate::named_loads::put_named;
 use crate::names::fault_of_names;
@@ -16,7 +16,7 @@ use file_replacing::Replaced;
 use folder_parts::{
     check_room, part_of_deletes, part_of_load, part_of_named_load, part_of_offers, part_of_rows,
 };
-use refusal_sentences::CommandRefusal;
+use refusal_sentences::{CommandRefusal, is_of_a_text};
 use replica_files::{DeletedRows, OpenFile};
 use replica_store::Store;
 use std::fs::{File, Files};
@@ -145,7 +145,7 @@ fn import_named<
     form: CsvForm<'_>,
     is_quiet: bool,
 ) -> Result<(), Failure> {
-    let mut opened: Opened<Store> = open_folder(rt, folder)?;
+    let mut opened: Opened<Store> = open_folder(rt, progress, folder)?;
     let load = load_of(rt, progress, csvs, opened.held.schema(), form)?;
     let mut writer = Counted::new(Vec::new(rt.alloc()));
     match part_of_named_load(rt.alloc(), &mut opened.held, load, first, &mut writer) {
@@ -177,8 +177,14 @@ fn put_some<R: Files<File = File> + RandomSource + AllocGlobal>(
 /// Puts the deletions of the rows for which a condition is true into a folder as one part.
 pub fn delete<
     R: Print + Eprint + Files<File = File> + Clock + RandomSource + AllocGlobal + Clone + Drop,
->(rt: &R, folder: &str, condition: &str, is_quiet: bool) -> Result<(), Failure> {
-    let opened: Opened<OpenFile> = open_folder(rt, folder)?;
+>(
+    rt: &R,
+    progress: &Progress<'_, R>,
+    folder: &str,
+    condition: &str,
+    is_quiet: bool,
+) -> Result<(), Failure> {
+    let opened: Opened<OpenFile> = open_folder(rt, progress, folder)?;
     let mut writer = Counted::new(Vec::new(rt.alloc()));
     match part_of_deletes(rt.alloc(), opened.held.store(), condition, &mut writer) {
         Ok(done) => {
@@ -228,7 +234,7 @@ pub fn apply<
     sources: &[Source<'_>],
     is_quiet: bool,
 ) -> Result<(), Failure> {
-    let mut opened: Opened<Store> = open_folder(rt, folder)?;
+    let mut opened: Opened<Store> = open_folder(rt, progress, folder)?;
     let offers = read_offers(rt, progress, sources)?;
     let offers = offers.as_slice();
     let mut writer = Counted::new(Vec::new(rt.alloc()));

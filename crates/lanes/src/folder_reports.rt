@@ -2,6 +2,7 @@
 
 use crate::failure::Failure;
 use crate::folders::{Opened, Parts, open_folder};
+use crate::progress::Progress;
 use crate::reports::write_line;
 use command_line::ReportForm;
 use replica_files::OpenFile;
@@ -10,11 +11,12 @@ use std::rt::Clock;
 use table_model::Counted;
 
 /// Says how much is in a folder, how many parts it has, and how many other names.
-pub fn check<R: Print + Files<File = File> + Clock + AllocGlobal + Clone + Drop>(
+pub fn check<R: Print + Eprint + Files<File = File> + Clock + AllocGlobal + Clone + Drop>(
     rt: &R,
+    progress: &Progress<'_, R>,
     folder: &str,
 ) -> Result<(), Failure> {
-    let opened: Opened<OpenFile> = open_folder(rt, folder)?;
+    let opened: Opened<OpenFile> = open_folder(rt, progress, folder)?;
     let Opened { held, parts } = opened;
     let batches = held.store().batches();
     let ranges = held.store().tombs().ranges().len();
@@ -27,12 +29,13 @@ pub fn check<R: Print + Files<File = File> + Clock + AllocGlobal + Clone + Drop>
 }
 
 /// Writes what a folder holds and how its columns are coded, with how many parts it has, and how many other names.
-pub fn inspect<R: Print + Files<File = File> + Clock + AllocGlobal + Clone + Drop>(
+pub fn inspect<R: Print + Eprint + Files<File = File> + Clock + AllocGlobal + Clone + Drop>(
     rt: &R,
+    progress: &Progress<'_, R>,
     folder: &str,
     form: ReportForm,
 ) -> Result<(), Failure> {
-    let opened: Opened<OpenFile> = open_folder(rt, folder)?;
+    let opened: Opened<OpenFile> = open_folder(rt, progress, folder)?;
     let Opened { held, parts } = opened;
     let mut report = Counted::new(Vec::new(rt.alloc()));
     if let Err(refusal) = replica_files::inspect(rt.alloc(), &held, form, &mut report) {

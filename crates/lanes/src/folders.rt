@@ -2,7 +2,8 @@
 
 use crate::failure::Failure;
 use crate::part_failures::{Unread, busy, of_folder, refused, why_unread};
-use crate::parts::PartFile;
+use crate::parts::{Opening, PartFile, Untold};
+use crate::progress::{PartCount, Progress, ToldOpening};
 use folder_parts::{
     HEAD_BYTES, Head, Part, PartFault, PartRefusal, is_part_name, join_parts, open_parts, part_head,
 };
@@ -169,25 +170,27 @@ pub fn is_folder<R: Files>(rt: &R, name: &str) -> bool {
     }
 }
 
-/// The part of a name, which has this path.
-pub fn part_of<'r, R: Files + AllocGlobal>(
+/// The part of a name, which has this path; what is told when it is opened.
+pub fn part_of<'r, R: Files + AllocGlobal, O: Opening + Drop>(
     rt: &'r R,
     name: &str,
     path: &str,
-) -> Result<Part<PartFile<'r, R>>, AllocError> {
+    opening: O,
+) -> Result<Part<PartFile<'r, R, O>>, AllocError> {
     let name = String::from_str(rt.alloc(), name)?;
     let path = String::from_str(rt.alloc(), path)?;
-    Ok(Part::new(name, Counted::new(PartFile::new(rt, path))))
+    Ok(Part::new(name, Counted::new(PartFile::new(rt, path, opening))))
 }
 
 /// The parts of these paths, whose last components are their names.
-pub fn parts_of<'r, R: Files + AllocGlobal>(
+pub fn parts_of<'r, R: Files + AllocGlobal, O: Opening + Copy + Drop>(
     rt: &'r R,
     paths: &[String],
-) -> Result<Vec<Part<PartFile<'r, R>>>, AllocError> {
+    opening: O,
+) -> Result<Vec<Part<PartFile<'r, R, O>>>, AllocError> {
     let mut parts = Vec::with_capacity(rt.alloc(), paths.len())?;
     for path in paths {
-        parts.push(part_of(rt, last_of(path.as_str()), path.as_str())?)?;
+        parts.push(part_of(rt, last_of(path.as_str()), path.as_str(), opening)?)?;
     }
     Ok(parts)
 }
@@ -200,15 +203,19 @@ pub fn last_of(path: &str) -> &str {
     }
 }
 
-/// What all parts of a folder hold.
-pub fn open_folder<H: Opens, R: Files<File = File> + Clock + AllocGlobal + Clone + Drop>(
+/// What all parts of a folder hold. It says at a terminal how many of them were opened.
+pub fn open_folder<H: Opens, R: Eprint + Files<File = File> + Clock + AllocGlobal + Clone + Drop>(
     rt: &R,
+    progress: &Progress<'_, R>,
     folder: &str,
 ) -> Result<Opened<H>, Failure> {
     let mut is_careful = false;
     for _ in 0..LOOKS {
         let parts = Parts::listed(rt, folder, is_careful)?;
-        match open_paths(rt, parts.paths()) {
+        let count = PartCount::new(progress, folder, parts.count());
+        let outcome = open_paths(rt, parts.paths(), ToldOpening::new(&count));
+        progress.clear();
+        match outcome {
             Ok(held) => return Ok(Opened { held, parts }),
             Err(Unread::Gone) => {}
             Err(Unread::Folder) => is_careful = true,
@@ -218,9 +225,13 @@ pub fn open_folder<H: Opens, R: Files<File = File> + Clock + AllocGlobal + Clone
     Err(busy(rt.alloc(), folder))
 }
 
-/// What the parts of these paths hold, of which there is at least one.
-fn open_paths<H: Opens, R: Files + AllocGlobal>(rt: &R, paths: &[String]) -> Result<H, Unread> {
-    let mut readers = parts_of(rt, paths)?;
+/// What the parts of these paths hold, of which there is at least one; what is told when each is opened.
+fn open_paths<H: Opens, R: Files + AllocGlobal, O: Opening + Copy + Drop>(
+    rt: &R,
+    paths: &[String],
+    opening: O,
+) -> Result<H, Unread> {
+    let mut readers = parts_of(rt, paths, opening)?;
     let opened = match readers.as_mut_slice().split_first_mut() {
         Some((first, others)) => H::from_parts(rt.alloc(), first, others),
         None => return Err(Unread::Gone),
@@ -303,7 +314,7 @@ fn open_one<R: Files + AllocGlobal>(
     index: usize,
 ) -> Result<OpenFile, Unread> {
     match paths.get(index..index.saturating_add(1)) {
-        Some(path) => open_paths(rt, path),
+        Some(path) => open_paths(rt, path, Untold),
         None => Err(Unread::Gone),
     }
 }

@@ -176,7 +176,7 @@ pub fn opened<R: Eprint + Files<File = File> + Clock + AllocGlobal + Clone + Dro
     file: &str,
 ) -> Result<OpenFile, Failure> {
     if is_folder(rt, file) {
-        let opened: Opened<OpenFile> = open_folder(rt, file)?;
+        let opened: Opened<OpenFile> = open_folder(rt, progress, file)?;
         return Ok(opened.held);
     }
     let told = Told::new(progress, Source::File(file), LazyFile::new(rt, file));

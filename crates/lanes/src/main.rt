@@ -82,6 +82,9 @@ fn is_told(request: &Request<'_>, is_shown: bool) -> bool {
     match request {
         Request::Run { is_explained, .. } => !*is_explained && !is_shown,
         Request::Import { is_quiet, .. }
+        | Request::Delete { is_quiet, .. }
+        | Request::DeleteRows { is_quiet, .. }
+        | Request::Forget { is_quiet, .. }
         | Request::Apply { is_quiet, .. }
         | Request::Merge { is_quiet, .. } => !*is_quiet,
         _ => true,
@@ -122,7 +125,7 @@ fn answer<
             table,
             columns,
             is_quiet,
-        } => changing::create(rt, file, table, columns.as_slice(), is_quiet)?,
+        } => changing::create(rt, progress, file, table, columns.as_slice(), is_quiet)?,
         Request::Import {
             file,
             csvs,
@@ -134,19 +137,19 @@ fn answer<
             file,
             condition,
             is_quiet,
-        } => changing::delete(rt, file, condition, is_quiet)?,
+        } => changing::delete(rt, progress, file, condition, is_quiet)?,
         Request::DeleteRows {
             file,
             first,
             last,
             is_quiet,
-        } => changing::delete_rows(rt, file, first, last, is_quiet)?,
+        } => changing::delete_rows(rt, progress, file, first, last, is_quiet)?,
         Request::Apply {
             file,
             offers,
             is_quiet,
         } => changing::apply(rt, progress, file, offers.as_slice(), is_quiet)?,
-        Request::Forget { file, is_quiet } => changing::forget(rt, file, is_quiet)?,
+        Request::Forget { file, is_quiet } => changing::forget(rt, progress, file, is_quiet)?,
         Request::Dump {
             file,
             has_names,

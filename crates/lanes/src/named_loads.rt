@@ -3,6 +3,7 @@
 use crate::failure::Failure;
 use crate::folders::{Parts, part_of, parts_of};
 use crate::part_failures::{Unread, busy, of_folder, why_unread};
+use crate::parts::Untold;
 use crate::putting::{place, unwritten, written};
 use file_replacing::Replaced;
 use folder_parts::{PartFault, PartRefusal, join_parts, part_name};
@@ -91,8 +92,8 @@ fn go_together<R: Files + AllocGlobal>(
     if others.is_empty() {
         return Ok(());
     }
-    let mut first = part_of(rt, name, path)?;
-    let mut readers = parts_of(rt, others)?;
+    let mut first = part_of(rt, name, path, Untold)?;
+    let mut readers = parts_of(rt, others, Untold)?;
     let refusal = match join_parts(rt.alloc(), &mut first, readers.as_mut_slice()) {
         Ok(_store) => return Ok(()),
         Err(refusal) => refusal,

@@ -4,7 +4,7 @@ use crate::changing::{not_written, say_unsynced, unlocked};
 use crate::failure::Failure;
 use crate::watched_folder::{Unheld, WatchedFolder};
 use file_commands::put;
-use file_replacing::{Folder, Place, Replaced, SystemFolder};
+use file_replacing::{Folder, Place, Replaced, SystemFolder, Unwatched};
 use std::alloc::AllocError;
 use std::fs::{self, File, Files};
 use std::io::{self, Write};
@@ -13,7 +13,7 @@ use std::rt::Clock;
 /// A file that a merge replaces, and whether its lock is had.
 #[derive(Drop)]
 pub struct Output<'r, R: Files<File = File>> {
-    folder: WatchedFolder<SystemFolder<'r, R>>,
+    folder: WatchedFolder<SystemFolder<'r, R, Unwatched>>,
     place: Place,
     held: Option<Result<(), Unheld>>,
 }

@@ -4,6 +4,7 @@ use crate::failure::Failure;
 use crate::folder_changes::in_memory;
 use crate::folders::{Parts, last_of, parts_of};
 use crate::part_failures::{Unread, of_folder, why_unread};
+use crate::parts::Untold;
 use crate::putting::put_part;
 use crate::reports::write_line;
 use folder_parts::{PartFault, PartRefusal, is_removed, packed_prefix, part_name};
@@ -123,7 +124,7 @@ fn pack_once<R: Files<File = File> + Clock + RandomSource + AllocGlobal + Clone 
 /// The join of the parts of these paths, as a part; or which of them is not taken, by its index, and why.
 fn joined<R: Files + AllocGlobal>(rt: &R, paths: &[String]) -> Result<Vec<u8>, (usize, Unread)> {
     let mut writer = Counted::new(Vec::new(rt.alloc()));
-    let mut readers = match parts_of(rt, paths) {
+    let mut readers = match parts_of(rt, paths, Untold) {
         Ok(readers) => readers,
         Err(lacking) => return Err((0, Unread::from(lacking))),
     };

@@ -2,7 +2,7 @@
 
 use crate::failure::Failure;
 use crate::inputs::reader_of;
-use crate::parts::PartFile;
+use crate::parts::{Opening, PartFile};
 use folder_parts::{Part, PartFault, PartRefusal};
 use part_folder::FolderFault;
 use refusal_sentences::{CommandRefusal, Knowledge, Sentence};
@@ -42,10 +42,10 @@ impl<T: Drop> From<AllocFailed<T>> for Unread {
 }
 
 /// Why a part of these paths, which were read in this order, is not taken.
-pub fn why_unread<R: Files + AllocGlobal>(
+pub fn why_unread<R: Files + AllocGlobal, O: Opening + Drop>(
     rt: &R,
     paths: &[String],
-    mut parts: Vec<Part<PartFile<'_, R>>>,
+    mut parts: Vec<Part<PartFile<'_, R, O>>>,
     refusal: PartRefusal,
 ) -> Unread {
     let at = refusal.part;

@@ -2,7 +2,9 @@
 
 use crate::folders::last_of;
 use crate::inputs::name_of;
+use crate::parts::Opening;
 use command_line::Source;
+use file_replacing::ReadWatch;
 use refusal_sentences::Printable;
 use std::cell::Cell;
 use std::fmt;
@@ -88,6 +90,17 @@ impl<'r, R: Clock + Eprint> Progress<'r, R> {
         self.is_shown.set(true);
     }
 
+    /// Says that the part of this number of a folder is opened, and how many parts there are, if that is due.
+    fn tell_part(&self, folder: &str, number: usize, parts: usize) {
+        let source = Source::File(folder);
+        self.begin(source);
+        if self.is_due(source) {
+            let name = Printable(shown_name(folder));
+            let _ = eprint!(self.rt; "{CLEAR}reading {name}: part {number} of {parts}");
+            self.is_shown.set(true);
+        }
+    }
+
     /// Takes the line away, if it is there.
     pub fn clear(&self) {
         if self.is_shown.get() {
@@ -107,6 +120,95 @@ fn shown_name(name: &str) -> &str {
         last
     } else {
         "a file"
+    }
+}
+
+/// What says how far the reading of a file under its lock is.
+#[derive(Drop)]
+pub struct LockedReading<'p, R> {
+    progress: &'p Progress<'p, R>,
+    read: Cell<u64>,
+    size: Cell<Option<u64>>,
+}
+
+impl<'p, R> LockedReading<'p, R> {
+    /// Nothing was read yet.
+    pub fn new(progress: &'p Progress<'p, R>) -> LockedReading<'p, R> {
+        LockedReading {
+            progress,
+            read: Cell::new(0),
+            size: Cell::new(None),
+        }
+    }
+}
+
+impl<'p, R: Files + Clock + Eprint> ReadWatch for LockedReading<'p, R> {
+    fn came(&self, name: &str, count: usize) {
+        let source = Source::File(name);
+        let read = self.read.get();
+        if count == 0 {
+            self.progress.clear();
+            return;
+        }
+        if read == 0 {
+            self.progress.begin(source);
+        }
+        let read = read.saturating_add(count as u64);
+        self.read.set(read);
+        if self.progress.is_due(source) {
+            if self.size.get().is_none() {
+                self.size.set(size_of(self.progress.rt, source));
+            }
+            self.progress.show(name, read, self.size.get());
+        }
+    }
+}
+
+/// How many parts of a folder were opened, and how many it has.
+#[derive(Drop)]
+pub struct PartCount<'p, 'n, R> {
+    progress: &'p Progress<'p, R>,
+    folder: &'n str,
+    opened: Cell<usize>,
+    parts: usize,
+}
+
+impl<'p, 'n, R: Clock + Eprint> PartCount<'p, 'n, R> {
+    /// Of so many parts none was opened.
+    pub fn new(
+        progress: &'p Progress<'p, R>,
+        folder: &'n str,
+        parts: usize,
+    ) -> PartCount<'p, 'n, R> {
+        PartCount {
+            progress,
+            folder,
+            opened: Cell::new(0),
+            parts,
+        }
+    }
+}
+
+/// What counts the parts that are opened, and says how many they are.
+#[derive(Clone, Copy, Drop)]
+pub struct ToldOpening<'c, 'p, 'n, R> {
+    count: &'c PartCount<'p, 'n, R>,
+}
+
+impl<'c, 'p, 'n, R> ToldOpening<'c, 'p, 'n, R> {
+    /// What counts here.
+    pub fn new(count: &'c PartCount<'p, 'n, R>) -> ToldOpening<'c, 'p, 'n, R> {
+        ToldOpening { count }
+    }
+}
+
+impl<'c, 'p, 'n, R: Clock + Eprint> Opening for ToldOpening<'c, 'p, 'n, R> {
+    fn begin(&self) {
+        let number = self.count.opened.get().saturating_add(1);
+        self.count.opened.set(number);
+        self.count
+            .progress
+            .tell_part(self.count.folder, number, self.count.parts);
     }
 }
 

@@ -1,6 +1,6 @@
 //! The commands that read a file and write to standard output what is in it.
 
-use crate::failure::{Failure, is_of_a_text};
+use crate::failure::Failure;
 use crate::folder_reports;
 use crate::folders::is_folder;
 use crate::inputs::{name_of, opened, source_of, unread};
@@ -8,7 +8,7 @@ use crate::progress::Progress;
 use crate::watched::{Cause, Watched};
 use command_line::{ReportForm, Source, not_for_a_terminal};
 use live_columns::{Unchosen, choose};
-use refusal_sentences::{CommandRefusal, Text};
+use refusal_sentences::{CommandRefusal, Text, is_of_a_text};
 use replica_files::{OpenFile, dump_where, list_batches};
 use std::fs::{File, Files};
 use std::io::{self, BufWriter, Printer, Write};
@@ -32,7 +32,7 @@ pub fn check<R: Print + Eprint + Files<File = File> + Clock + AllocGlobal + Clon
     file: &str,
 ) -> Result<(), Failure> {
     if is_folder(rt, file) {
-        return folder_reports::check(rt, file);
+        return folder_reports::check(rt, progress, file);
     }
     let held = opened(rt, progress, file)?;
     let mut writer = Counted::new(Watched::new(io::writer(rt)));
@@ -99,7 +99,7 @@ pub fn inspect<R: Print + Eprint + Files<File = File> + Clock + AllocGlobal + Cl
     form: ReportForm,
 ) -> Result<(), Failure> {
     if !has_batches && is_folder(rt, file) {
-        return folder_reports::inspect(rt, file, form);
+        return folder_reports::inspect(rt, progress, file, form);
     }
     let held = opened(rt, progress, file)?;
     let mut writer = buffered(rt)?;

@@ -1,10 +1,11 @@
 //! Notes on the lines that were refused.
 
-use refusal_sentences::{CommandRefusal, Knowledge, Sentence};
-use script_lines::expected;
+use cluster_history::{Sql, Step};
+use refusal_sentences::{CommandRefusal, Knowledge, Sentence, Text, Words, is_of_a_text};
+use script_lines::{Command, expected, parse_line};
 use std::alloc::{AllocError, Global};
 use std::io::Write;
-use table_model::Refusal;
+use table_model::{Refusal, Schema};
 
 /// The notes on refused lines that weren't written yet: for each its number, counted from 1, its reply, and what that means, or
 /// if it is not a command what was expected there.
@@ -28,23 +29,23 @@ impl Notes {
         self.lines = self.lines.saturating_add(1);
     }
 
-    /// Notes that the line is refused.
+    /// Notes that the line is refused; if there is a table, it has this schema.
     pub fn refused(
         &mut self,
         alloc: Global,
         line: &[u8],
-        has_table: bool,
+        schema: Option<&Schema>,
         refusal: Refusal,
     ) -> Result<(), AllocError> {
         let number = self.lines;
         let note = match refusal {
             Refusal::BadLine => format!(in alloc;
                 "line {number}: refused {refusal}: {}\n",
-                expected(line, has_table)
+                expected(line, schema.is_some())
             )?,
             _ => format!(in alloc;
                 "line {number}: refused {refusal}: {}\n",
-                meaning_of(refusal)
+                words_of(alloc, line, schema, refusal)?
             )?,
         };
         self.text.extend_from_slice(note.as_bytes())
@@ -57,10 +58,54 @@ impl Notes {
     }
 }
 
-/// What a refusal means, without its place, which is among its values.
-fn meaning_of<'a>(refusal: Refusal) -> Sentence<'a> {
-    Sentence {
-        knowledge: Knowledge::Argument,
-        ..Sentence::new(CommandRefusal::from(refusal))
+/// A query or a condition in a line.
+#[derive(Drop)]
+struct Asked {
+    text: Sql,
+    is_condition: bool,
+}
+
+impl Asked {
+    /// What a line asks, if it asks something and there is memory for that.
+    fn in_line(alloc: Global, line: &[u8]) -> Option<Asked> {
+        match parse_line(alloc, line) {
+            Ok(Command::Act(Step::Query { sql, .. })) => Some(Asked {
+                text: sql,
+                is_condition: false,
+            }),
+            Ok(Command::Act(Step::DeleteWhere { condition, .. })) => Some(Asked {
+                text: condition,
+                is_condition: true,
+            }),
+            _ => None,
+        }
     }
+}
+
+/// What a line's refusal means, without its place, which is among its values.
+fn words_of(
+    alloc: Global,
+    line: &[u8],
+    schema: Option<&Schema>,
+    refusal: Refusal,
+) -> Result<String, AllocError> {
+    let asked = if is_of_a_text(refusal) {
+        Asked::in_line(alloc, line)
+    } else {
+        None
+    };
+    let knowledge = match (&asked, schema) {
+        (Some(asked), _) => Knowledge::Text(Text {
+            text: asked.text.as_str(),
+            is_condition: asked.is_condition,
+            schema,
+        }),
+        (None, Some(schema)) => Knowledge::Rows(schema),
+        (None, None) => Knowledge::Nothing,
+    };
+    let sentence = Sentence {
+        knowledge,
+        ..Sentence::new(CommandRefusal::from(refusal))
+    };
+    Words(sentence).to_string(alloc)
 }

@@ -201,13 +201,20 @@ fn answer_line(
     if line.is_empty() {
         return Ok(());
     }
-    let has_table = cluster.is_some();
     let reply = line_reply(alloc, cluster, line)?;
     write_reply(alloc, out, &reply)?;
     if let Reply::Refused(refusal) = &reply {
-        notes.refused(alloc, line, has_table, *refusal)?;
+        notes.refused(alloc, line, table_of(cluster.as_ref()), *refusal)?;
     }
     Ok(())
+}
+
+/// The schema of the table, if there is one.
+fn table_of(cluster: Option<&Cluster>) -> Option<&Schema> {
+    match cluster {
+        Some(open) => Some(open.schema()),
+        None => None,
+    }
 }
 
 /// The place of the first line feed.

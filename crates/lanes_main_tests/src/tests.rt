@@ -162,7 +162,7 @@ fn a_script_has_the_reply_to_each_line(rt: HostRuntime) -> Result<(), Fail> {
 }
 
 /// Scripts and the notes on their refused lines: the forms of lines are those of the page on the script language.
-const NOTED: [(&str, &str); 13] = [
+const NOTED: [(&str, &str); 16] = [
     ("table 1 T A SMALLINT\nappend 1 (1)\n", ""),
     (
         "merge 1 1\ntable 65 T A SMALLINT\ntable 1\ntable 1 T A FLOAT\ntable 1 1T A SMALLINT\n",
@@ -191,7 +191,7 @@ const NOTED: [(&str, &str); 13] = [
     ),
     (
         "table 1 T A SMALLINT\nquery 1\nquery 1 SELECT A FROM T\n",
-        "line 2: refused BadLine: a query is written query R SQL\nline 3: refused NotGrouped 7: this column must be in GROUP BY or inside a set function\n",
+        "line 2: refused BadLine: a query is written query R SQL\nline 3: refused NotGrouped 7: \"A\" must be in GROUP BY or inside a set function\n",
     ),
     (
         "table 1 T A SMALLINT\nrecode 1 1.1 0 0\nrecode 1 11 0 0 FOR\nrecode 1 1.1 x 0 FOR\nrecode 1 1.1 0 x FOR\nrecode 1 1.1 0 0 for\nrecode 1 1.1 0 0 FOR RLE\n",
@@ -199,7 +199,7 @@ const NOTED: [(&str, &str); 13] = [
     ),
     (
         "table 1 T A SMALLINT\nopen\nopen 1\nopen x 46\nopen 1 464\nopen 1 4G\nexport\nexport x\nexport 1 1\n",
-        "line 2: refused BadLine: an open is written open R HEX\nline 3: refused BadLine: an open is written open R HEX\nline 4: refused BadLine: a replica is a number of 1 to 10 digits, at most 4294967295\nline 5: refused BadLine: a file is an even number of hexadecimal digits, not zero of them\nline 6: refused BadLine: a file is an even number of hexadecimal digits, not zero of them\nline 7: refused BadLine: an export is written export R, R being a replica's number\nline 8: refused BadLine: a replica is a number of 1 to 10 digits, at most 4294967295\nline 9: refused BadLine: an export is written export R, R being a replica's number\n",
+        "line 2: refused BadLine: an open is written open R HEX\nline 3: refused BadLine: an open is written open R HEX\nline 4: refused BadLine: a replica is a number of 1 to 10 digits, at most 4294967295\nline 5: refused BadLine: a file is its bytes as hexadecimal digits, two for each, and at least one byte\nline 6: refused BadLine: a file is its bytes as hexadecimal digits, two for each, and at least one byte\nline 7: refused BadLine: an export is written export R, R being a replica's number\nline 8: refused BadLine: a replica is a number of 1 to 10 digits, at most 4294967295\nline 9: refused BadLine: an export is written export R, R being a replica's number\n",
     ),
     (
         "table 1 T A SMALLINT\ndelete where\ndelete where 1\ndelete where x A = 1\ndelete where 1 \nmerge 1 1 1\n",
@@ -208,6 +208,18 @@ const NOTED: [(&str, &str); 13] = [
     (
         "table 1 T A SMALLINT\nAPPEND 1 (1)\nmerge\t1 1\n",
         "line 2: refused BadLine: a line begins with append, insert, delete, merge, ask, serve, take, recode, open, export or query, and words are separated by one space each\nline 3: refused BadLine: a line has printable ASCII characters alone\n",
+    ),
+    (
+        "table 1 T A SMALLINT\nquery 1 SELECT * FROM T\nquery 1 SELECT COUNT(*) FROM U\ndelete where 1 B = 1\nquery 1 SELECT SUM(A) FROM T WHERE A < 1234567890123456789012345678901\n",
+        "line 2: refused Syntax 7: a query lists grouping columns and set functions: lanes dump writes the rows\nline 3: refused NoSuchTable: there is no table \"U\": the table here is T\nline 4: refused NoSuchColumn 0: there is no column \"B\": the table has A\nline 5: refused NumberTooLarge 35: the number has more than 30 digits\n",
+    ),
+    (
+        "table 1 T A SMALLINT,\n",
+        "line 1: refused BadLine: a column is a name and TINYINT, SMALLINT, INTEGER or BIGINT\n",
+    ),
+    (
+        "table 1 T A SMALLINT B TINYINT\nappend 1 (1)\ninsert 1 1.1 (1,128)\n",
+        "line 2: refused WrongArity 0: the row has the wrong number of cells: the columns are A, B\nline 3: refused OutOfType 0 1: the number is outside the type TINYINT of B\n",
     ),
     (
         "table 1 T A SMALLINT\ntable 1 T A SMALLINT\n",

@@ -5,8 +5,13 @@ use crate::tables::Names;
 use std::fmt;
 use table_model::{ColType, Schema, same_word};
 
-/// Separators that are met in place of commas, and what each is called.
-const SEPARATORS: [(u8, &str); 3] = [(b';', "semicolons"), (b'\t', "tabs"), (b'|', "bars")];
+/// The usual separators, and what each is called.
+const SEPARATORS: [(u8, &str); 4] = [
+    (b',', "commas"),
+    (b';', "semicolons"),
+    (b'\t', "tabs"),
+    (b'|', "bars"),
+];
 
 /// How texts begin that are not of this format, and what to do.
 const OTHER_FORMATS: [(&[u8], &str); 4] = [
@@ -22,18 +27,48 @@ const OTHER_FORMATS: [(&[u8], &str); 4] = [
     ),
 ];
 
-/// A line that has the wrong number of fields.
+/// How many fields a line should have, and what says so.
+#[derive(Clone, Copy, Debug, PartialEq, Eq)]
+pub enum Wanted {
+    /// One for each column of the table.
+    Columns(usize),
+    /// One for each word of a list.
+    Words(usize),
+}
+
+impl Wanted {
+    /// How many they are.
+    fn count(self) -> usize {
+        match self {
+            Wanted::Columns(count) | Wanted::Words(count) => count,
+        }
+    }
+}
+
+/// How many fields a line should have, as the end of a sentence: `the table has 2 columns`.
+impl fmt::Display for Wanted {
+    fn fmt<W: fmt::Write>(&self, f: &mut fmt::Formatter<W>) -> fmt::Result {
+        match *self {
+            Wanted::Columns(1) => f.write_str("the table has 1 column"),
+            Wanted::Columns(count) => write!(f, "the table has {count} columns"),
+            Wanted::Words(1) => f.write_str("--columns has 1 word"),
+            Wanted::Words(count) => write!(f, "--columns has {count} words"),
+        }
+    }
+}
+
+/// A line that has the wrong number of fields, or is no header.
 #[derive(Clone, Copy)]
 pub struct Fields<'a> {
     line: &'a [u8],
     separator: u8,
-    wanted: usize,
+    wanted: Wanted,
     is_header: bool,
 }
 
 impl<'a> Fields<'a> {
     /// A line, the separator of its fields, how many fields it should have, and whether it is the header.
-    pub fn new(line: &'a [u8], separator: u8, wanted: usize, is_header: bool) -> Fields<'a> {
+    pub fn new(line: &'a [u8], separator: u8, wanted: Wanted, is_header: bool) -> Fields<'a> {
         Fields {
             line,
             separator,
@@ -61,7 +96,7 @@ impl<'a> Fields<'a> {
     /// What seems to separate the fields, if it is another byte than it should be.
     fn likely_separator(&self) -> Option<&'static str> {
         for (separator, name) in SEPARATORS {
-            if separator != self.separator && self.count(separator) == self.wanted {
+            if separator != self.separator && self.count(separator) == self.wanted.count() {
                 return Some(name);
             }
         }
@@ -79,14 +114,15 @@ impl<'a> fmt::Display for Fields<'a> {
         }
         let found = self.count(self.separator);
         let wanted = self.wanted;
+        if found == wanted.count() {
+            return f.write_str("this is a row and no header: with --no-header it is read as a row");
+        }
         let fields = if found == 1 { "field" } else { "fields" };
-        let columns = if wanted == 1 { "column" } else { "columns" };
-        write!(
-            f,
-            "the line has {found} {fields}, and the table has {wanted} {columns}"
-        )?;
+        write!(f, "the line has {found} {fields}, and {wanted}")?;
         match self.likely_separator() {
-            Some(name) if self.wanted > 1 => { write!(f, "; {name} seem to separate its fields") }
+            Some(name) if wanted.count() > 1 => {
+                write!(f, "; {name} seem to separate its fields")
+            }
             _ => Ok(()),
         }
     }

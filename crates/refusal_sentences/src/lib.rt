@@ -12,8 +12,8 @@ mod tables;
 mod text_fault;
 
 pub use command_refusal::CommandRefusal;
-pub use csv_fault::Fields;
+pub use csv_fault::{Fields, Wanted};
 pub use pointer::Pointer;
 pub use quoted::{Printable, Quoted};
-pub use sentence::{Knowledge, Sentence};
-pub use text_fault::Text;
+pub use sentence::{Knowledge, Sentence, Words};
+pub use text_fault::{Text, is_of_a_text};

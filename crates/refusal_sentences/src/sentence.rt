@@ -5,7 +5,7 @@ use crate::csv_fault::{Fields, write_fault_of_field, write_fault_of_heading};
 use crate::meaning::meaning_of;
 use crate::quoted::Printable;
 use crate::reason::{unread, unwritten};
-use crate::tables::Table;
+use crate::tables::{Names, Table};
 use crate::text_fault::Text;
 use std::fmt;
 use std::io::ErrorKind;
@@ -39,6 +39,8 @@ pub enum Knowledge<'a> {
     },
     /// The text of a query or a condition, and the table that it asks.
     Text(Text<'a>),
+    /// The table that rows are for.
+    Rows(&'a Schema),
     /// The other input that has a batch of the same name.
     Other(&'a str),
     /// The table of the input, the one that it should have, and whose that is.
@@ -147,6 +149,23 @@ impl<'a> Sentence<'a> {
 impl<'a> fmt::Display for Sentence<'a> {
     fn fmt<W: fmt::Write>(&self, f: &mut fmt::Formatter<W>) -> fmt::Result {
         self.write_place(f)?;
+        self.write_words(f)
+    }
+}
+
+/// A sentence without its place and without what it is said of.
+#[derive(Clone, Copy)]
+pub struct Words<'a>(pub Sentence<'a>);
+
+impl<'a> fmt::Display for Words<'a> {
+    fn fmt<W: fmt::Write>(&self, f: &mut fmt::Formatter<W>) -> fmt::Result {
+        self.0.write_words(f)
+    }
+}
+
+impl<'a> Sentence<'a> {
+    /// Writes what is wrong, without its place.
+    fn write_words<W: fmt::Write>(&self, f: &mut fmt::Formatter<W>) -> fmt::Result {
         if self.write_knowledge(f)? {
             return Ok(());
         }
@@ -203,6 +222,9 @@ impl<'a> Sentence<'a> {
                     "this and {other} have a batch {name}, with different rows"
                 )?;
             }
+            (CommandRefusal::Named(refusal), Knowledge::Rows(schema)) => {
+                return write_fault_of_rows(refusal, schema, f);
+            }
             (CommandRefusal::Named(refusal), Knowledge::Text(text)) => {
                 return text.write_fault(refusal, f);
             }
@@ -213,6 +235,34 @@ impl<'a> Sentence<'a> {
         }
         Ok(true)
     }
+}
+
+/// Writes what is wrong with rows for a table. Answers whether that is known.
+fn write_fault_of_rows<W: fmt::Write>(
+    refusal: Refusal,
+    schema: &Schema,
+    f: &mut fmt::Formatter<W>,
+) -> Result<bool, fmt::Error> {
+    let columns = schema.column_list();
+    match refusal {
+        Refusal::WrongArity(_) => {
+            let names = Names(schema);
+            write!(
+                f,
+                "the row has the wrong number of cells: the columns are {names}"
+            )?;
+        }
+        Refusal::OutOfType { column, .. } => {
+            let Some(found) = columns.get(column) else {
+                return Ok(false);
+            };
+            let name = found.name();
+            let column_type = found.column_type();
+            write!(f, "the number is outside the type {column_type} of {name}")?;
+        }
+        _ => return Ok(false),
+    }
+    Ok(true)
 }
 
 /// Writes what is wrong with a line of comma-separated values, or with one of its fields. Answers whether that is known.

@@ -153,6 +153,19 @@ const EXPECTED: [(&[u8], &str); 18] = [
     (b"SUM", "a column in parentheses"),
 ];
 
+/// Whether it is the text of a query or a condition that is refused, and not the file or the output.
+pub fn is_of_a_text(refusal: Refusal) -> bool {
+    matches!(
+        refusal,
+        Refusal::Syntax(_)
+            | Refusal::NoSuchTable
+            | Refusal::NoSuchColumn(_)
+            | Refusal::NotGrouped(_)
+            | Refusal::NumberTooLarge(_)
+            | Refusal::TooDeep
+    )
+}
+
 /// Whether a byte is of no word.
 fn is_between(byte: &u8) -> bool {
     !is_word_byte(*byte)
@@ -395,7 +408,7 @@ impl<'a> Text<'a> {
         match self.schema {
             Some(schema) => {
                 let table = schema.table();
-                write!(f, ": this file has {table}")
+                write!(f, ": the table here is {table}")
             }
             None => Ok(()),
         }

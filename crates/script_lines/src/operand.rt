@@ -52,7 +52,8 @@ impl Operand {
                 "a column and a vector are numbers of 1 to 10 digits, at most 4294967295, counted from 0"
             }
             Operand::Coding => "a coding is FOR, DELTA, RLE or DICT",
-            Operand::File => "a file is an even number of hexadecimal digits, not zero of them",
+            Operand::File =>
+                "a file is its bytes as hexadecimal digits, two for each, and at least one byte",
             Operand::Sql => "the SQL of a query is not empty",
             Operand::Condition => "the condition of a delete is not empty",
         }

@@ -100,7 +100,7 @@ const EXPECTED: [(&str, &str); 16] = [
     ),
     (
         "open 1 4",
-        "a file is an even number of hexadecimal digits, not zero of them",
+        "a file is its bytes as hexadecimal digits, two for each, and at least one byte",
     ),
     (
         "export",

@@ -1,4 +1,4 @@
-use Rattle.std.proofs.Common.{List, ℕ, subst}
+use Rattle.std.proofs.Common.{List, Option, ℕ, subst}
 use Rattle.csv_rows.specs.declared.lines.Found.{Found}
 use Rattle.csv_rows.specs.LineReading.{Finds}
 use Rattle.csv_rows.proofs.RowFacts.{header_counts}
@@ -7,7 +7,7 @@ use Rattle.csv_rows.proofs.reader.read_order.Goals as goal
 
 pub returns-in-Line-clause-counts : goal.returns-in-Line-clause-counts
 returns-in-Line-clause-counts g c =
-    header_counts (λ (order : List ℕ). order) _ c.args.dialect.now c.args.columns.now c.line.result.now c.of_header.result c.args.reader.now.1 c.advance.new.reader.1 c.of_header.ensures c.in_ok-advance.ensures.kept
+    header_counts (λ (order : List (Option ℕ)). order) _ c.args.dialect.now c.args.columns.now c.line.result.now c.order_of_header.result c.args.reader.now.1 c.advance.new.reader.1 c.order_of_header.ensures c.in_ok-advance.ensures.kept
 
 pub returns-in-TooLong-clause-fault : goal.returns-in-TooLong-clause-fault
 returns-in-TooLong-clause-fault g c =
