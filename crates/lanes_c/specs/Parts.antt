@@ -8,12 +8,12 @@ use Rattle.answer_formats.specs.declared.format.Format.{Format}
 use Rattle.answer_formats.specs.declared.format.Format.TheVariants as formats
 use Rattle.answer_parts.specs.declared.part.Part.{Part}
 use Rattle.column_file.specs.Input.{IsUnread, Judges}
-use Rattle.part_commands.specs.Commands.{CombinesNext, IsAnswerText, RefusesNext}
-use Rattle.part_commands.specs.StorePart.{PartForm, form_of, query_part}
+use Rattle.part_commands.specs.PartTurns.{CombinesNext, IsAnswerText, RefusesNext}
+use Rattle.part_commands.specs.StorePart.{PartMeaning, meaning_of, query_part}
 use Rattle.part_commands.specs.declared.part_error.PartError.{PartError}
 use Rattle.part_commands.specs.declared.part_error.PartError.TheVariants as errors
 use Rattle.part_file.specs.PartBytes.{part_bytes}
-use Rattle.part_file.specs.PartReading.{part_read, read_form}
+use Rattle.part_file.specs.PartReading.{form_of, part_read}
 use Rattle.replica_store.specs.Replica.{Replica}
 use Rattle.lanes_c.specs.Faults.{told_of_part}
 use Rattle.lanes_c.specs.Opened.{IsNotOpen}
@@ -23,9 +23,14 @@ use Rattle.lanes_c.specs.declared.fault.Fault.TheVariants.{Refused}
 use Rattle.lanes_c.specs.declared.fault.Place.{Place}
 use Rattle.lanes_c.specs.declared.handle.Table.{Table}
 
+-- bytes are given, if memory doesn't run out
+abbrev pub IsSpelled : Given → List ℕ → Type 0
+IsSpelled (Ok bytes) wanted = bytes ≡ wanted
+IsSpelled (Err fault) wanted = fault ≡ Refused Memory
+
 -- What is given are the bytes of the part that is meant, or the refusal; out of memory may come in the place of anything.
-abbrev pub GivesPart : Given → Result PartForm Refusal → Type 0
-GivesPart (Ok bytes) meaning = (p : Part) × (meaning ≡ Ok (form_of p)) × (bytes ≡ part_bytes p)
+abbrev pub GivesPart : Given → Result PartMeaning Refusal → Type 0
+GivesPart (Ok bytes) meaning = (p : Part) × (meaning ≡ Ok (meaning_of p)) × (bytes ≡ part_bytes p)
 GivesPart (Err (Refused e)) meaning = (meaning ≡ Err e) ⊎ IsUnread e
 GivesPart (Err other) meaning = ⊥
 
@@ -55,10 +60,10 @@ format_numbered n = cond (n == 1) formats.Csv (cond (n == 2) formats.Json (cond 
 
 -- a part isn't finished: its bytes are refused, or there is no answer of it, or memory runs out
 abbrev pub IsWhyNotFinished : PartError → List ℕ → Type 0
-IsWhyNotFinished (errors.Refused e) part = Judges {X = Part} read_form (Err e) (Some part) part_read
-IsWhyNotFinished (errors.Fault f) part = (p : Part) × (part_read part ≡ Ok (read_form p))
+IsWhyNotFinished (errors.Refused e) part = Judges {X = Part} form_of (Err e) (Some part) part_read
+IsWhyNotFinished (errors.Fault f) part = (p : Part) × (part_read part ≡ Ok (form_of p))
 
 -- lanes_finish: the text is that of the answer that the part is finished to
 abbrev pub Finishes : Given → Format → List ℕ → Type 0
-Finishes (Ok text) format part = (p : Part) × (part_read part ≡ Ok (read_form p)) × IsAnswerText format p text
+Finishes (Ok text) format part = (p : Part) × (part_read part ≡ Ok (form_of p)) × IsAnswerText format p text
 Finishes (Err fault) format part = ((e : PartError) × (fault ≡ told_of_part e) × IsWhyNotFinished e part) ⊎ (fault ≡ Refused Memory)

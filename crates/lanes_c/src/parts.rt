@@ -1,11 +1,10 @@
 //! The calls on parts of an answer: what a file gives to it, two parts combined, and the answer that a part is finished to.
-ghost use Rattle.std.specs.Prelude.{◌≡◌, Ok, Some, None, IfErr, IfOk};
+ghost use Rattle.std.specs.Prelude.{◌≡◌, Some, None, IfErr, IfOk};
 ghost use Rattle.answer_parts.specs.declared.part.Part.{Part as CodePart};
-ghost use Rattle.part_commands.specs.Commands.{CombinesNext};
+ghost use Rattle.part_commands.specs.PartTurns.{CombinesNext};
 ghost use Rattle.part_commands.specs.StorePart.{query_part};
 ghost use Rattle.part_file.specs.PartBytes.{part_bytes};
-ghost use Rattle.lanes_c.specs.Calls.{Yields};
-ghost use Rattle.lanes_c.specs.Parts.{AsksPart, Combines, Finishes, GivesPart, IsWhyNotCombined, PartsOpen, format_numbered};
+ghost use Rattle.lanes_c.specs.Parts.{AsksPart, Combines, Finishes, GivesPart, IsSpelled, IsWhyNotCombined, PartsOpen, format_numbered};
 ghost use Rattle.lanes_c.specs.Rooms.{Tells, given_by};
 
 use crate::fault::{Fault, Place};
@@ -24,7 +23,7 @@ use table_model::Counted;
 
 /// A part in bytes.
 fn bytes_of(alloc: Global, part: &Part) -> Result<Vec<u8>, Fault>
-    ensures { Yields (given_by result) (Ok (part_bytes part.now)) }
+    ensures { IsSpelled (given_by result) (part_bytes part.now) }
 {
     let mut writer = Counted::new(Vec::new(alloc));
     let done = write_part(alloc, part, &mut writer);
