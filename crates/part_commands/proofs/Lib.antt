@@ -1,0 +1,3 @@
+pub mod StrayNames
+pub mod StoreParts
+pub mod Trees

@@ -1,0 +1,2 @@
+pub mod StorePart
+pub mod PartCommandLaws
