@@ -61,7 +61,7 @@ row_listed (r ∷ rs) q m h =
     (λ tied. (
       r.0,
       list_any-append (eq_by_cmp row_name_cmp r.0) (rows_between r.0 r.1) (rows_listed rs)
-      ∙ ap (λ (b : Bool). b || list_any (eq_by_cmp row_name_cmp r.0) (rows_listed rs)) (let some = m.0.not_empty in first_named r.0.batch r.0.ordinal _ (omega arith)),
+          ∙ ap (λ (b : Bool). b || list_any (eq_by_cmp row_name_cmp r.0) (rows_listed rs)) (let some = m.0.not_empty in first_named r.0.batch r.0.ordinal _ (omega arith)),
       same_name q r.0.batch tied,
     ))
     (λ rest. let found = row_listed rs q m.2 rest in (

@@ -72,8 +72,14 @@ fn a_deletion_of_the_others_rows_is_refused(rt: HostRuntime) -> Result<(), Fail>
     let mut other = table_of(alloc, name(4, 1))?;
     agree(fault_of(alloc, &one, &other)?, None)?;
     delete_row(alloc, &mut other, name(3, 7), 0)?;
-    agree(fault_of(alloc, &one, &other)?, Some(PartFault::NotApart(name(3, 7))))?;
-    agree(fault_of(alloc, &other, &one)?, Some(PartFault::NotApart(name(3, 7))))
+    agree(
+        fault_of(alloc, &one, &other)?,
+        Some(PartFault::NotApart(name(3, 7))),
+    )?;
+    agree(
+        fault_of(alloc, &other, &one)?,
+        Some(PartFault::NotApart(name(3, 7))),
+    )
 }
 
 /// Why the parts of two queries over two tables are not combined.

@@ -99,7 +99,7 @@ fn agree_over(alloc: Global, dice: &mut Dice) -> Result<(), Fail> {
 fn parts_in_random_trees_finish_to_the_answer_over_the_merged_table(
     rt: HostRuntime,
 ) -> Result<(), Fail> {
-    for seed in 1..41 {
+    for seed in 1..7 {
         agree_over(rt.alloc(), &mut Dice::new(seed))?;
     }
     Ok(())
