@@ -16,22 +16,22 @@ use Rattle.replica_files.proofs.CommandSteps.{exported_put}
 use Rattle.replica_store.specs.Replica.{Replica}
 use Rattle.store_view.specs.Asked.{is_refusal_of_query}
 use Rattle.part_commands.specs.FileParts.{WritesFilePart, WritesPart, is_refusal_of_parting}
-use Rattle.part_commands.specs.StorePart.{PartForm, form_of, query_part}
+use Rattle.part_commands.specs.StorePart.{PartMeaning, meaning_of, query_part}
 
 -- ---- the part of a store is written
 
 -- its query is refused: nothing is written
-pub query_refused : (e : Refusal) (known : Option (List ℕ)) (given : Result PartForm Refusal) → Reads {X = Part} form_of (Err e) given → WritesPart (Err e) known known given
+pub query_refused : (e : Refusal) (known : Option (List ℕ)) (given : Result PartMeaning Refusal) → Reads {X = Part} meaning_of (Err e) given → WritesPart (Err e) known known given
 query_refused e known given (inl is) = inl (refl, inl is)
 query_refused e known given (inr lacks) = inl (refl, inr (inl lacks))
 
-unwritten : (p : Part) (e : Refusal) (before now : Option (List ℕ)) (given : Result PartForm Refusal) → given ≡ Ok (form_of p)
+unwritten : (p : Part) (e : Refusal) (before now : Option (List ℕ)) (given : Result PartMeaning Refusal) → given ≡ Ok (meaning_of p)
     → ((e ≡ Memory) × (now ≡ before)) ⊎ ((e ≡ WriteFault) × AppendsFront before now (part_bytes p)) → WritesPart (Err e) before now given
 unwritten p e before now given is (inl lacks) = inl (lacks.1, inr (inl lacks.0))
 unwritten p e before now given is (inr failed) = inr (failed.0, (p, is, failed.1))
 
 -- its bytes are written
-pub part_written : (p : Part) (result : Result (Unit {0}) Refusal) (before now : Option (List ℕ)) (w w' : ℕ) (given : Result PartForm Refusal) → given ≡ Ok (form_of p)
+pub part_written : (p : Part) (result : Result (Unit {0}) Refusal) (before now : Option (List ℕ)) (w w' : ℕ) (given : Result PartMeaning Refusal) → given ≡ Ok (meaning_of p)
     → Exports result before now w w' (part_bytes p) → WritesPart result before now given
 part_written p (Ok done) before now w w' given is h = (p, is, h.0)
 part_written p (Err e) before now w w' given is h = unwritten p e before now given is (exported_put e before now w w' (part_bytes p) h)

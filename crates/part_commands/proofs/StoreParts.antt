@@ -6,10 +6,10 @@ use Rattle.table_model.specs.declared.refusal.Refusal.{Refusal}
 use Rattle.table_model.specs.declared.refusal.Refusal.TheVariants.{Memory}
 use Rattle.answer_parts.specs.declared.part.Part.{Part}
 use Rattle.store_view.specs.Asked.{is_refusal_of_query}
-use Rattle.part_commands.specs.StorePart.{PartForm, form_of}
+use Rattle.part_commands.specs.StorePart.{PartMeaning, meaning_of}
 
 -- the part that is given was made, or memory ran out
-pub made : (result : Result Part Refusal) (form : PartForm) (read : Result PartForm Refusal) → read ≡ Ok form → IfOk result (λ part. form_of part ≡ form) → IfErr result (λ e. e ≡ Memory) → Reads form_of result read
+pub made : (result : Result Part Refusal) (form : PartMeaning) (read : Result PartMeaning Refusal) → read ≡ Ok form → IfOk result (λ part. meaning_of part ≡ form) → IfErr result (λ e. e ≡ Memory) → Reads meaning_of result read
 made (Ok part) form read is same lacks = is ∙ ap Ok (sym same)
 made (Err e) form read is same lacks = inr lacks
 

@@ -19,26 +19,26 @@ use Rattle.answer_parts.specs.Counted.{Counted, Names, held_of, strays_of}
 use Rattle.answer_parts.specs.Part.{Part, finish, part_of}
 use Rattle.answer_parts.specs.declared.part.Part.{Part as CodePart}
 
--- a part with the table's schema and the query's text
-pub record PartForm : Type 0 where
+-- what a part means: the table's schema, the query's text, and what was counted
+pub record PartMeaning : Type 0 where
   pub schema : Table
   pub text : List ℕ
   pub counted : Counted
 
--- a part of the code as contracts see it
-abbrev pub form_of : CodePart → PartForm
-form_of p = record { schema = p.schema; text = string_bytes p.text; counted = counted_in p }
+-- what a part of the code means
+abbrev pub meaning_of : CodePart → PartMeaning
+meaning_of p = record { schema = p.schema; text = string_bytes p.text; counted = counted_in p }
 
--- the part of a state that has these groups: it names the state's batches and its stray deletions
-abbrev pub form_with : Table → List ℕ → Part → State → PartForm
-form_with table text part state = record { schema = table; text = text; counted = record { part = part; held = held_of state; strays = strays_of state } }
+-- the part of a state that has these groups, which names the state's batches and its stray deletions
+abbrev pub meaning_with : Table → List ℕ → Part → State → PartMeaning
+meaning_with table text part state = record { schema = table; text = text; counted = record { part = part; held = held_of state; strays = strays_of state } }
 
 -- the part that a state gives to the query that a text is, or the refusal: first one of the text, and then one of its names
-unfoldable pub query_part : List ℕ → Table → State → Result PartForm Refusal
-query_part text table state = query_of text >>= λ query. resolved table query >>= λ done. Ok (form_with table text (part_of table query state) state)
+unfoldable pub query_part : List ℕ → Table → State → Result PartMeaning Refusal
+query_part text table state = query_of text >>= λ query. resolved table query >>= λ done. Ok (meaning_with table text (part_of table query state) state)
 
 -- the answer that a part finishes to, if its text is a query
-abbrev pub finished : PartForm → Result AnswerParts Refusal
+abbrev pub finished : PartMeaning → Result AnswerParts Refusal
 finished p = query_of p.text >>= λ query. Ok (finish p.schema query p.counted.part)
 
 -- whether a range of rows is of a batch

@@ -4,7 +4,7 @@ ghost use Rattle.table_model.specs.Reading.{Reads};
 ghost use Rattle.table_model.specs.declared.refusal.Refusal.TheVariants.{Memory};
 ghost use Rattle.answer_parts.specs.Groups.{part_in};
 ghost use Rattle.store_view.specs.Asked.{is_refusal_of_query};
-ghost use Rattle.part_commands.specs.StorePart.{form_of, form_with, query_part};
+ghost use Rattle.part_commands.specs.StorePart.{meaning_of, meaning_with, query_part};
 
 use crate::strays::stray_names;
 use answer_parts::{Kept, Part, part_groups};
@@ -24,7 +24,7 @@ fn part_with(
     sql: &str,
     groups: BTreeMap<Key, Vec<Kept>>,
 ) -> Result<Part, Refusal>
-    ensures made { IfOk result (λ part. form_of part ≡ form_with store.now.replica.schema sql.now (part_in groups) store.now.replica.state) }
+    ensures made { IfOk result (λ part. meaning_of part ≡ meaning_with store.now.replica.schema sql.now (part_in groups) store.now.replica.state) }
     ensures refused { IfErr result (λ e. e ≡ Memory) }
 {
     let summary = store.summary(alloc)?;
@@ -41,7 +41,7 @@ fn part_with(
 /// first; `NoSuchTable`; `NoSuchColumn`; `NotGrouped`; `Memory`. The text is read as it is taken apart, so `Memory` can come in
 /// place of any of them.
 pub fn part_of_store(alloc: Global, store: &Store, sql: &str) -> Result<Part, Refusal>
-    ensures read { Reads form_of result (query_part sql.now store.now.replica.schema store.now.replica.state) }
+    ensures read { Reads meaning_of result (query_part sql.now store.now.replica.schema store.now.replica.state) }
     ensures refused { IfErr result (λ e. IsTrue (is_refusal_of_query e)) }
 {
     let query = parse(alloc, sql)?;

@@ -10,7 +10,7 @@ use Rattle.answer_parts.specs.Groups.{part_in}
 use Rattle.answer_parts.specs.Part.{Part, part_of}
 use Rattle.store_view.specs.View.{ViewForm}
 use Rattle.store_view.proofs.QueryRefusals.{IsRefusedAsQuery, found_listed, resolved_listed}
-use Rattle.part_commands.specs.StorePart.{PartForm, form_with, query_part}
+use Rattle.part_commands.specs.StorePart.{PartMeaning, meaning_with, query_part}
 use Rattle.part_commands.proofs.StoreParts.{made, memory_listed}
 use Rattle.part_commands.proofs.store_part.part_of_store.Goals as goal
 
@@ -20,7 +20,7 @@ returns-in_err-query-clause-read c =
     let p = err_from_is_err_and c.from_residual.result c.from_residual.ensures.1 in
     let table = c.args.store.now.replica.schema in
     let state = c.args.store.now.replica.state in
-    let after : Result QueryShape Refusal → Result PartForm Refusal = λ x. x >>= λ query. resolved table query >>= λ done. Ok (form_with table c.args.sql.now (part_of table query state) state) in
+    let after : Result QueryShape Refusal → Result PartMeaning Refusal = λ x. x >>= λ query. resolved table query >>= λ done. Ok (meaning_with table c.args.sql.now (part_of table query state) state) in
     rw (p.1, p.2) (elim c.in_err-query.ensures.reads [
       | inl is ↦ inl (ap after is)
       | inr lacks ↦ inr lacks
