@@ -36,7 +36,8 @@ extern "C" {
 
 /* Where a call was refused: one or two numbers, by the refusal's number. What isn't named here is 0.
  *
- *   LANES_CONFLICT      first: the batch's origin; second: its number
+ *   LANES_CONFLICT, LANES_NOT_APART
+ *                       first: the batch's origin; second: its number
  *   LANES_WRONG_ARITY   first: the row, from 0
  *   LANES_OUT_OF_TYPE   first: the row, from 0; second: the column, from 0
  *   LANES_BAD_CSV       first: the line, from 1; second: its field, from 1, or 0 for a wrong number of fields
@@ -96,7 +97,10 @@ enum {
     LANES_NO_SUCH_REPLICA = 36,
     LANES_NO_SUCH_MESSAGE = 37,
     LANES_BAD_CSV = 38,
-    LANES_NOT_OPEN = 39
+    LANES_NOT_OPEN = 39,
+    LANES_NOT_APART = 40,
+    LANES_QUERY_DIFFERS = 41,
+    LANES_TOO_MANY = 42
 };
 
 /* Makes the file of an empty table. The words are the table's name and, column by column, the column's name and its type, with one
@@ -229,6 +233,36 @@ uint8_t lanes_share(lanes_table *table, lanes_table *other);
  * Refused: LANES_NOT_OPEN when the handle is closed; else what lanes_query refuses of that file. */
 uint8_t lanes_ask(lanes_table *table, const uint8_t *sql, size_t sql_length, uint8_t *out, size_t room, size_t *length,
                   lanes_place *place);
+
+/* Gives what a file gives to the answer of a query over several files: a part, in bytes. The parts of files that share no batch are
+ * combined by lanes_combine, in any order, and lanes_finish gives the answer: that of the query over all these files merged.
+ *
+ * Gives: the part of the file that the handle is of. The program `lanes` writes and reads the same bytes; docs/FORMATS.md has them.
+ * Refused: LANES_NOT_OPEN when the handle is closed; else what lanes_ask refuses of the query. */
+uint8_t lanes_part(lanes_table *table, const uint8_t *sql, size_t sql_length, uint8_t *out, size_t room, size_t *length,
+                   lanes_place *place);
+
+/* Combines two parts. Whichever comes first, the bytes are the same.
+ *
+ * Gives: the part of the files of both.
+ * Refused, in this order: the first fault of the one part, LANES_BAD_SCHEMA, LANES_BAD_NAME, LANES_SYNTAX and LANES_TRUNCATED to
+ * LANES_TRAILING_BYTES; that of the other; LANES_SCHEMA_DIFFERS; LANES_QUERY_DIFFERS when their queries' texts differ; LANES_NOT_APART
+ * with the least batch that both have, or of which one has rows and the file of the other deletes some; LANES_TOO_MANY when a count
+ * takes more than 64 bits or a sum more than 128. */
+uint8_t lanes_combine(const uint8_t *one, size_t one_length, const uint8_t *other, size_t other_length, uint8_t *out, size_t room,
+                      size_t *length, lanes_place *place);
+
+/* The forms of an answer. */
+enum { LANES_TEXT = 0, LANES_CSV = 1, LANES_JSON = 2, LANES_TABLE = 3 };
+
+/* Answers the query that a part is of. The format is LANES_TEXT, LANES_CSV, LANES_JSON or LANES_TABLE; another number is taken for
+ * LANES_TEXT.
+ *
+ * Gives: the answer's text; with LANES_TEXT that which lanes_query gives of one file that has all rows of the part's files.
+ * Refused, in this order: the part's first fault; a fault of a query's text, which the part of lanes_part does not have; LANES_TOO_MANY
+ * when a mean takes more than 128 bits, or DISTINCT more than 2^36 values. */
+uint8_t lanes_finish(const uint8_t *part, size_t part_length, uint8_t format, uint8_t *out, size_t room, size_t *length,
+                     lanes_place *place);
 
 /* Gives the cells of columns at the live rows at which a condition is true, in order of row name: the rows of lanes_dump.
  *

@@ -3,7 +3,7 @@ _lanes() {
     local word=${COMP_WORDS[COMP_CWORD]} before=${COMP_WORDS[COMP_CWORD - 1]} options=
     COMPREPLY=()
     if [ "$COMP_CWORD" = 1 ]; then
-        mapfile -t COMPREPLY < <(compgen -W 'create import query delete delete-rows forget dump inspect summary offer apply check merge pack run help --help --version' -- "$word")
+        mapfile -t COMPREPLY < <(compgen -W 'create import query part combine finish delete delete-rows forget dump inspect summary offer apply check merge pack run help --help --version' -- "$word")
         return
     fi
     case $before in
@@ -18,6 +18,9 @@ _lanes() {
         create) options='--quiet --help' ;;
         import) options='--batch --no-header --separator --null --columns --quiet --help' ;;
         query) options='--format --help' ;;
+        part) options='--help' ;;
+        combine) options='--help' ;;
+        finish) options='--format --help' ;;
         delete) options='--quiet --help' ;;
         delete-rows) options='--quiet --help' ;;
         forget) options='--quiet --help' ;;

@@ -10,7 +10,7 @@ from typing import IO, Any, Iterable, Mapping, Optional, Tuple, Union
 
 from . import calls, part_folder
 from .answer import Answer
-from .apart import Holdings
+from .holdings import Holdings
 from .batch_name import GivenName
 from .refused import Refused
 from .table import Table
@@ -80,6 +80,10 @@ class Folder:
     def query(self, sql: str) -> Answer:
         """The answer of a query, as of `Table.query`."""
         return self.read().query(sql)
+
+    def part(self, sql: str) -> bytes:
+        """What the folder gives to the answer of a query over several tables, as of `Table.part`."""
+        return self.read().part(sql)
 
     def queries(self, sqls: Iterable[str]) -> list[Answer]:
         """The answers of several queries over one state."""

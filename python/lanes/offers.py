@@ -6,7 +6,7 @@ import secrets
 from typing import TYPE_CHECKING, Any, List, Mapping, Optional
 
 from . import calls
-from .apart import Holdings
+from .holdings import Holdings
 from .batch_name import GREATEST, BatchName
 from .columns import BITS, ColumnData
 

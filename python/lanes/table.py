@@ -194,6 +194,14 @@ class Table:
         """
         return Answer.from_text(self._asked().ask(_ROOM, sql.encode()).decode())
 
+    def part(self, sql: str) -> bytes:
+        """What this table gives to the answer of a query over several tables, for `lanes.combine` and `lanes.finish`.
+
+        Raises:
+            Refused: what `query` refuses.
+        """
+        return self._asked().part(_ROOM, sql.encode())
+
     def queries(self, sqls: Iterable[str]) -> list[Answer]:
         """The answers of several queries, in order.
 

@@ -1,10 +1,13 @@
-"""Answers over many files: random questions over random files, whose parts are combined in random trees, beside `query` over the merged
-file; faulty ones are refused alike; and files that aren't apart are refused."""
+"""Answers over many files: random questions over random files, whose parts are combined in random trees, in Python and by the program,
+beside `query` over the merged file; faulty ones are refused alike; files that aren't apart are refused, and so are damaged parts."""
 
 from __future__ import annotations
 
+import pathlib
 import pickle
 import random
+import subprocess
+import tempfile
 
 import lanes
 import questions
@@ -26,16 +29,21 @@ def text(answer):
     return answer.headings, [[str(field) for field in row] for row in answer]
 
 
+def shards(pick):
+    """The columns of a table, and some tables of them that share no batch."""
+    columns = questions.schema(pick)
+    tables = [questions.table(pick, columns, origin) for origin in range(1, pick.randint(2, 7))]
+    for at in range(len(tables)):
+        if pick.random() < 0.2:  # a deletion of rows that nobody has
+            tables[at] = tables[at].delete_rows((99, 1), pick.randint(0, 5), 9)
+    return columns, tables
+
+
 def questions_have_the_answer_of_the_merged_file(seed, count):
     pick = random.Random(seed)
     asked = refused = 0
     while asked < count:
-        columns = questions.schema(pick)
-        tables = [questions.table(pick, columns, origin) for origin in range(1, pick.randint(2, 7))]
-        if pick.random() < 0.3:  # a deletion of rows that nobody has
-            tables[0] = tables[0].delete_rows((99, 1), 0, 9)
-        if pick.random() < 0.3:  # a deletion that both have
-            tables = [table.delete_rows((1, 1), 1, 2) for table in tables]
+        columns, tables = shards(pick)
         merged = tables[0].merge(*tables[1:])
         for _ in range(20):
             sql = questions.question(pick, columns) if pick.random() < 0.8 else questions.faulty(pick, columns)
@@ -44,17 +52,22 @@ def questions_have_the_answer_of_the_merged_file(seed, count):
                 wanted = merged.query(sql)
             except lanes.Refused as refusal:
                 refused += 1
-                try:
-                    lanes.split(sql, tables[0])
-                except lanes.Refused as other:
-                    assert (other.number, other.place) == (refusal.number, refusal.place), sql
-                    continue
-                raise AssertionError(f"{sql!r} was not refused")
+                for act in (lambda: lanes.split(sql, tables[0]), lambda: tables[0].part(sql)):
+                    try:
+                        act()
+                    except lanes.Refused as other:
+                        assert (other.number, other.place) == (refusal.number, refusal.place), sql
+                        continue
+                    raise AssertionError(f"{sql!r} was not refused")
+                continue
             plan = pickle.loads(pickle.dumps(lanes.split(sql, tables[0])))
             parts = [pickle.loads(pickle.dumps(plan.ask(table, is_apart=pick.random() < 0.1))) for table in tables]
             if pick.random() < 0.3:
                 parts.append(plan.none())
-            found = plan.finish(tree(pick, plan, parts))
+            whole = tree(pick, plan, parts)
+            pick.shuffle(parts)
+            assert whole == lanes.combine(parts) == merged.part(sql), sql
+            found = plan.finish(whole)
             assert text(found) == text(wanted), f"{sql!r} over {[table.dump(names=True) for table in tables]}\n{found}\n{wanted}"
     assert refused > count // 50
     return asked
@@ -68,8 +81,7 @@ def files_that_are_not_apart_are_refused():
         (one, one, "1.1"),
         (one, other.merge(one), "1.1"),
         (deleting, other, "2.1"),
-        (deleting, other.delete_rows("2.1", 1), "2.1"),
-        (deleting, other.delete_rows("2.1", 2, 3), "2.1"),
+        (deleting, other.delete_rows("2.1", 1, 3), "2.1"),
     ]:
         for pair in (first, second), (second, first):
             for act in (lambda: lanes.check_apart(pair), lambda: plan.combine(*map(plan.ask, pair))):
@@ -79,10 +91,11 @@ def files_that_are_not_apart_are_refused():
                     assert message in str(told)
                     continue
                 raise AssertionError("files that aren't apart were taken")
-    for last in 2, 3:
-        both = deleting, other.delete_rows("2.1", 1, last)
-        lanes.check_apart(both)
-        assert plan.finish(plan.combine(*map(plan.ask, both))) == both[0].merge(both[1]).query(plan.sql)
+    both = deleting, other
+    whole = both[0].merge(both[1])
+    assert plan.finish(plan.combine(plan.ask(whole), plan.none())) == whole.query(plan.sql)
+    lanes.check_apart([])
+    lanes.check_apart([deleting])
     widened = lanes.Table.create("T", {"A": "BIGINT"})
     try:
         plan.ask(widened)
@@ -98,3 +111,62 @@ def sums_go_past_64_bits():
     plan = lanes.split("SELECT SUM(A),AVG(A),MAX(A) FROM T HAVING SUM(A) > 100000000000000000000", tables[0])
     found = plan.finish(tree(random.Random(1), plan, map(plan.ask, tables)))
     assert text(found)[1] == [[str(15 * most), f"{most}.000000", str(most)]], found
+
+
+def damaged_parts_are_refused_or_read(seed):
+    """Each front of a part is refused, and one with a changed byte is refused or is another part: no call ends the process."""
+    pick = random.Random(seed)
+    columns, tables = shards(pick)
+    while len(tables) < 2 or not all(map(len, tables)):
+        columns, tables = shards(pick)
+    asked = f"SELECT {','.join(f'COUNT(DISTINCT {name}),SUM({name}),MIN({name})' for name in columns)} FROM T GROUP BY A"
+    one, other = (table.part(asked) for table in tables[:2])
+    refused = 0
+    for at in range(len(one)):
+        changed = bytearray(one)
+        changed[at] ^= 1 << pick.randrange(8)
+        for act in (lambda part: lanes.combine([other, part]), lanes.finish):
+            try:
+                act(bytes(changed))
+            except (lanes.Refused, lanes.NotApart):
+                refused += 1
+            try:
+                act(one[:at])
+            except lanes.Refused as refusal:
+                assert refusal.name in ("Truncated", "BadMagic"), refusal
+                continue
+            raise AssertionError(f"a part of {at} bytes was taken")
+    assert refused > len(one) // 4, refused
+
+
+def by_the_program(program, room, pick, parts, form):
+    """The answer that some parts, which are files, come to: combined by the program, a few at a time."""
+    files = [room / f"{at}.part" for at in range(len(parts))]
+    for file, part in zip(files, parts):
+        file.write_bytes(part)
+    while len(files) > 1:
+        pick.shuffle(files)
+        taken = [files.pop() for _ in range(min(len(files), pick.randint(2, 3)))]
+        made = subprocess.run([program, "combine", *taken[:-1], "-"], input=taken[-1].read_bytes(), stdout=subprocess.PIPE, check=True).stdout
+        taken[0].write_bytes(made)
+        files.append(taken[0])
+    return subprocess.run([program, "finish", "--format", form, files[0]], stdout=subprocess.PIPE, check=True).stdout
+
+
+def the_program_gives_the_answer_of_the_merged_file(program, seed, count):
+    """Byte for byte, in each form; and its parts are those of Python."""
+    pick = random.Random(seed)
+    with tempfile.TemporaryDirectory(prefix="lanes-parts-") as folder:
+        room = pathlib.Path(folder)
+        for _ in range(count):
+            columns, tables = shards(pick)
+            sql, form = questions.question(pick, columns), pick.choice(["text", "csv", "json", "table"])
+            parts = []
+            for table in tables:
+                table.save(room / "t.lanes")
+                parts.append(subprocess.run([program, "part", room / "t.lanes", sql], stdout=subprocess.PIPE, check=True).stdout)
+                assert parts[-1] == table.part(sql), sql
+            tables[0].merge(*tables[1:]).save(room / "t.lanes")
+            wanted = subprocess.run([program, "query", "--format", form, room / "t.lanes", sql], stdout=subprocess.PIPE, check=True).stdout
+            found = by_the_program(program, room, pick, parts, form)
+            assert found == wanted, f"{sql!r}: {found} and {wanted}"

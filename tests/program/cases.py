@@ -54,7 +54,7 @@ FOLDER = {"d/kept": b"old"}
 WIDER = ONE_ROW[:29] + b"\x01" + ONE_ROW[30:34] + bytes(128) + ONE_ROW[34:]
 
 # All commands.
-COMMANDS = ["create", "import", "query", "delete", "delete-rows", "forget", "dump", "inspect", "summary", "offer", "apply", "check", "merge", "run"]
+COMMANDS = ["create", "import", "query", "part", "combine", "finish", "delete", "delete-rows", "forget", "dump", "inspect", "summary", "offer", "apply", "check", "merge", "run"]
 
 
 # Batches of one row and of two, and which rows of them are deleted.

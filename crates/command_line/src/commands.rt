@@ -3,8 +3,10 @@ ghost use Rattle.std.specs.Prelude.{IfErr};
 ghost use Rattle.command_line.specs.Outcome.{IsUnread};
 
 use crate::fault::Fault;
+use crate::part_forms::{combine_command, finish_command, part_command};
 use crate::requests::{CsvForm, Queries, Request, Source};
 use crate::words;
+use answer_formats::Format;
 use clap::error::ErrorKind;
 use clap::{Arg, ArgAction, ArgMatches, Command};
 use std::alloc::{AllocError, Global};
@@ -51,6 +53,9 @@ enum Verb {
     DeleteRows,
     Forget,
     Query,
+    Part,
+    Combine,
+    Finish,
     Dump,
     Inspect,
     Summary,
@@ -62,10 +67,13 @@ enum Verb {
 }
 
 /// All commands, in the order of the help.
-const VERBS: [Verb; 15] = [
+const VERBS: [Verb; 18] = [
     Verb::Create,
     Verb::Import,
     Verb::Query,
+    Verb::Part,
+    Verb::Combine,
+    Verb::Finish,
     Verb::Delete,
     Verb::DeleteRows,
     Verb::Forget,
@@ -145,6 +153,9 @@ impl Verb {
             Verb::DeleteRows => "delete-rows",
             Verb::Forget => "forget",
             Verb::Query => "query",
+            Verb::Part => "part",
+            Verb::Combine => "combine",
+            Verb::Finish => "finish",
             Verb::Dump => "dump",
             Verb::Inspect => "inspect",
             Verb::Summary => "summary",
@@ -179,6 +190,9 @@ impl Verb {
             Verb::DeleteRows => delete_rows_command(alloc, command),
             Verb::Forget => forget_command(alloc, command),
             Verb::Query => query_command(alloc, command),
+            Verb::Part => part_command(alloc, command),
+            Verb::Combine => combine_command(alloc, command),
+            Verb::Finish => finish_command(alloc, command),
             Verb::Dump => dump_command(alloc, command),
             Verb::Inspect => inspect_command(alloc, command),
             Verb::Summary => summary_command(alloc, command),
@@ -209,6 +223,15 @@ impl Verb {
                 is_quiet: given.get_flag("quiet"),
             }),
             Verb::Query => self.query_request(alloc, given),
+            Verb::Part => Ok(Request::Part {
+                file: Source::named(text_of(given, "FILE")),
+                sql: text_of(given, "SQL"),
+            }),
+            Verb::Combine => self.combine_request(alloc, given),
+            Verb::Finish => Ok(Request::Finish {
+                part: Source::named(text_of(given, "PART")),
+                format: self.format(alloc, given)?,
+            }),
             Verb::Dump => Ok(Request::Dump {
                 file: text_of(given, "FILE"),
                 has_names: given.get_flag("names"),
@@ -367,13 +390,21 @@ impl Verb {
         })
     }
 
+    /// The form of answers in an argument.
+    fn format(self, alloc: Global, given: &ArgMatches<'_>) -> Result<Format, Fault>
+        ensures { IfErr result IsUnread }
+    {
+        match words::format(given.get_str("format").unwrap_or("text")) {
+            Some(format) => Ok(format),
+            None => Err(self.fault(alloc, "FORMAT is text, csv, json or table")),
+        }
+    }
+
     /// What `lanes query` asks for.
     fn query_request<'a>(self, alloc: Global, given: &ArgMatches<'a>) -> Result<Request<'a>, Fault>
         ensures { IfErr result IsUnread }
     {
-        let Some(format) = words::format(given.get_str("format").unwrap_or("text")) else {
-            return Err(self.fault(alloc, "FORMAT is text, csv, json or table"));
-        };
+        let format = self.format(alloc, given)?;
         let texts = texts_of(alloc, given, "SQL")?;
         if has_late_option(texts.as_slice()) {
             return Err(self.fault(alloc, LATE_OPTION));
@@ -390,6 +421,22 @@ impl Verb {
             queries,
             format,
         })
+    }
+
+    /// What `lanes combine` asks for.
+    fn combine_request<'a>(
+        self,
+        alloc: Global,
+        given: &ArgMatches<'a>,
+    ) -> Result<Request<'a>, Fault>
+        ensures { IfErr result IsUnread }
+    {
+        let names = given.get_strs("PART").unwrap_or(&[]);
+        let parts = words::sources(alloc, names)?;
+        if words::inputs(parts.as_slice()) > 1 {
+            return Err(self.fault(alloc, "only one PART can be -"));
+        }
+        Ok(Request::Combine { parts })
     }
 
     /// What `lanes inspect` asks for.
@@ -458,7 +505,7 @@ fn run_request<'a>(given: &ArgMatches<'a>) -> Request<'a> {
 }
 
 /// A word that is required, taken as it is.
-fn word<'a>(alloc: Global, name: &'a str, help: &'a str) -> Arg<'a> {
+pub(crate) fn word<'a>(alloc: Global, name: &'a str, help: &'a str) -> Arg<'a> {
     Arg::new(alloc, name)
         .help(help)
         .required(true)
@@ -466,7 +513,7 @@ fn word<'a>(alloc: Global, name: &'a str, help: &'a str) -> Arg<'a> {
 }
 
 /// The first word of a command on a file. All that follows is taken as it is: options come before it.
-fn first_word<'a>(alloc: Global, name: &'a str, help: &'a str) -> Arg<'a> {
+pub(crate) fn first_word<'a>(alloc: Global, name: &'a str, help: &'a str) -> Arg<'a> {
     word(alloc, name, help).trailing_var_arg(true)
 }
 
@@ -480,6 +527,14 @@ fn flag<'a>(alloc: Global, name: &'a str, help: &'a str) -> Arg<'a> {
     Arg::new(alloc, name)
         .long(name)
         .action(ArgAction::SetTrue)
+        .help(help)
+}
+
+/// The option of commands that write answers or reports, which chooses their form.
+pub(crate) fn format<'a>(alloc: Global, help: &'a str) -> Arg<'a> {
+    Arg::new(alloc, "format")
+        .long("format")
+        .value_name("FORMAT")
         .help(help)
 }
 
@@ -589,15 +644,11 @@ fn forget_command<'a>(alloc: Global, command: Command<'a>) -> Result<Command<'a>
 }
 
 fn query_command<'a>(alloc: Global, command: Command<'a>) -> Result<Command<'a>, AllocError> {
-    let format = Arg::new(alloc, "format")
-        .long("format")
-        .value_name("FORMAT")
-        .help("The form of the answers: text, csv, json or table");
     command
         .about(
             "Writes the answers of queries, one after another; docs/SQL.md describes the language",
         )
-        .arg(format)?
+        .arg(format(alloc, "The form of the answers: text, csv, json or table"))?
         .arg(file(alloc))?
         .arg(word(
             alloc,
@@ -631,10 +682,6 @@ fn dump_command<'a>(alloc: Global, command: Command<'a>) -> Result<Command<'a>, 
 }
 
 fn inspect_command<'a>(alloc: Global, command: Command<'a>) -> Result<Command<'a>, AllocError> {
-    let format = Arg::new(alloc, "format")
-        .long("format")
-        .value_name("FORMAT")
-        .help("The form of the report: text or json");
     let batches = flag(
         alloc,
         "batches",
@@ -643,7 +690,7 @@ fn inspect_command<'a>(alloc: Global, command: Command<'a>) -> Result<Command<'a
     command
         .about("Writes what a file holds and how its columns are coded")
         .arg(batches)?
-        .arg(format)?
+        .arg(format(alloc, "The form of the report: text or json"))?
         .arg(file(alloc))
 }
 

@@ -118,6 +118,25 @@ pub enum Request<'a> {
         /// The form of the answers.
         format: Format,
     },
+    /// `lanes part FILE SQL`: what a file gives to the answer of a query over several files, as bytes.
+    Part {
+        /// Where the file is read from. Its name may be that of a folder.
+        file: Source<'a>,
+        /// The query.
+        sql: &'a str,
+    },
+    /// `lanes combine PART..`: the part of all files that some parts are of.
+    Combine {
+        /// Where the parts are read from, at least one.
+        parts: Vec<Source<'a>>,
+    },
+    /// `lanes finish [--format FORMAT] PART`: the answer of the query that a part is of.
+    Finish {
+        /// Where the part is read from.
+        part: Source<'a>,
+        /// The form of the answer.
+        format: Format,
+    },
     /// `lanes dump [--names] [--where COND] [--columns NAMES] FILE`: the live rows as comma-separated values, or some of them, in all
     /// columns or some.
     Dump {

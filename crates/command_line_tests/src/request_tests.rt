@@ -24,7 +24,7 @@ fn asked(alloc: Global, words: &[&str]) -> Result<String, AllocError> {
     }
 }
 
-const REQUESTS: [(&[&str], &str); 69] = [
+const REQUESTS: [(&[&str], &str); 78] = [
     (&["run"], "Run { source: Input, is_explained: false }"),
     (&["run", "-"], "Run { source: Input, is_explained: false }"),
     (
@@ -179,6 +179,30 @@ const REQUESTS: [(&[&str], &str); 69] = [
     ),
     (&["pack", "d", "--all"], "fault"),
     (
+        &["part", "t", "A"],
+        "Part { file: File(\"t\"), sql: \"A\" }",
+    ),
+    (&["part", "-", "-"], "Part { file: Input, sql: \"-\" }"),
+    (
+        &["part", "t", "--x"],
+        "Part { file: File(\"t\"), sql: \"--x\" }",
+    ),
+    (
+        &["combine", "a", "-", "--b", "a"],
+        "Combine { parts: [File(\"a\"), Input, File(\"--b\"), File(\"a\")] }",
+    ),
+    (&["combine", "-"], "Combine { parts: [Input] }"),
+    (
+        &["finish", "p"],
+        "Finish { part: File(\"p\"), format: Text }",
+    ),
+    (
+        &["finish", "--format", "json", "-"],
+        "Finish { part: Input, format: Json }",
+    ),
+    (&["finish", "--format", "xml", "p"], "fault"),
+    (&["finish", "p", "--format"], "fault"),
+    (
         &["dump", "--names", "f"],
         "Dump { file: \"f\", has_names: true, condition: \"\", columns: \"\" }",
     ),
@@ -216,7 +240,7 @@ fn no_word_of_a_command_line_is_dropped_or_taken_for_another(rt: HostRuntime) ->
 }
 
 /// Command lines that lack a word, have one too many, or one that is malformed.
-const FAULTS: [&[&str]; 28] = [
+const FAULTS: [&[&str]; 34] = [
     &["forget"],
     &["forget", "f", "f"],
     &["pack"],
@@ -245,6 +269,12 @@ const FAULTS: [&[&str]; 28] = [
     &["import", "--batch", ".1", "f", "c"],
     &["imports", "f", "c"],
     &["query", "t"],
+    &["part", "t"],
+    &["part", "t", "A", "B"],
+    &["combine"],
+    &["combine", "-", "a", "-"],
+    &["finish"],
+    &["finish", "p", "p"],
 ];
 
 #[test]

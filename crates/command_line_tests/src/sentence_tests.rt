@@ -211,6 +211,24 @@ fn a_sentence_names_its_input_and_what_is_known_beside(rt: HostRuntime) -> Resul
             "d/p.lanes: its bytes are not those of its name: copy it again, or remove it",
         ),
         (
+            CommandRefusal::NotApart(NAME),
+            "b.part",
+            Knowledge::Nothing,
+            "b.part: batch 1.7 is in both parts, or one file deletes rows of it that the other has: merge these files, and make one part of what comes",
+        ),
+        (
+            CommandRefusal::QueryDiffers,
+            "b.part",
+            Knowledge::Nothing,
+            "b.part: the parts are of different queries: make all parts with the same text",
+        ),
+        (
+            CommandRefusal::TooMany,
+            "",
+            Knowledge::Nothing,
+            "a count has more than 64 bits, a sum or a mean more than 128, or DISTINCT more than 2^36 values: ask fewer files at once",
+        ),
+        (
             CommandRefusal::from(Refusal::Conflict(BatchName {
                 origin: Origin(7),
                 number: Number(1),

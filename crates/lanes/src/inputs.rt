@@ -3,9 +3,11 @@
 use crate::failure::{Failure, INPUT};
 use crate::folders::{Opened, is_folder, open_folder};
 use crate::progress::{Progress, Told};
+use answer_parts::Part;
 use column_file::read_schema;
 use command_line::Source;
 use either::Either;
+use part_file::read_part;
 use refusal_sentences::{CommandRefusal, Sentence};
 use replica_files::{OpenFile, file_schema};
 use std::alloc::Global;
@@ -91,6 +93,17 @@ pub fn source_of<'r, 'n, R: Eprint + Input + Files + Clock>(
 pub fn schema_again<R: Files + AllocGlobal>(rt: &R, name: &str) -> Option<Schema> {
     match fs::metadata(rt, name) {
         Ok(found) if found.is_file() => file_schema(rt.alloc(), &mut reader_of(rt, name)).ok(),
+        _ => None,
+    }
+}
+
+/// A part that was read before, for a sentence. None if it can't be read twice, as a pipe can't.
+pub fn part_again<R: Files + AllocGlobal>(rt: &R, source: Source<'_>) -> Option<Part> {
+    let Source::File(name) = source else {
+        return None;
+    };
+    match fs::metadata(rt, name) {
+        Ok(found) if found.is_file() => read_part(rt.alloc(), &mut reader_of(rt, name)).ok(),
         _ => None,
     }
 }
@@ -184,5 +197,20 @@ pub fn opened<R: Eprint + Files<File = File> + Clock + AllocGlobal + Clone + Dro
         Ok(held) => Ok(held),
         Err(Refusal::Memory) => Err(Failure::from(Refusal::Memory)),
         Err(refusal) => Err(Failure::of_file(rt, CommandRefusal::from(refusal), file)),
+    }
+}
+
+/// The same of a source, which may be standard input.
+pub fn opened_from<R: Eprint + Input + Files<File = File> + Clock + AllocGlobal + Clone + Drop>(
+    rt: &R,
+    progress: &Progress<'_, R>,
+    source: Source<'_>,
+) -> Result<OpenFile, Failure> {
+    if let Source::File(name) = source {
+        return opened(rt, progress, name);
+    }
+    match OpenFile::read(rt.alloc(), &mut source_of(rt, progress, source)) {
+        Ok(held) => Ok(held),
+        Err(refusal) => Err(unread(rt, CommandRefusal::from(refusal), source)),
     }
 }

@@ -19,6 +19,7 @@ mod parts;
 mod progress;
 mod putting;
 mod queries;
+mod query_parts;
 mod reports;
 mod scripts;
 mod watched;
@@ -120,6 +121,13 @@ fn answer<
             queries,
             format,
         } => return query(rt, progress, file, queries, format, terminals, notes),
+        Request::Part { file, sql } => {
+            query_parts::part(rt, progress, file, sql, terminals.output)?;
+        }
+        Request::Combine { parts } => {
+            query_parts::combine(rt, progress, parts.as_slice(), terminals.output)?;
+        }
+        Request::Finish { part, format } => query_parts::finish(rt, progress, part, format)?,
         Request::Create {
             file,
             table,

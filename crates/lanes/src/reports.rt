@@ -183,7 +183,7 @@ pub fn flushed<W: Write + Drop>(
 }
 
 /// What came of a report: a refusal of it is one of standard output, or out of memory.
-fn told<R: AllocGlobal>(rt: &R, outcome: Result<(), Cause>) -> Result<(), Failure> {
+pub fn told<R: AllocGlobal>(rt: &R, outcome: Result<(), Cause>) -> Result<(), Failure> {
     match outcome {
         Ok(()) => Ok(()),
         Err(cause) if cause.refusal == Refusal::WriteFault => {

@@ -5,6 +5,10 @@ use Rattle.table_model.specs.declared.place.Place.{Place as Named}
 use Rattle.table_model.specs.declared.place.Place.TheVariants as named
 use Rattle.table_model.specs.declared.refusal.Refusal.{Refusal}
 use Rattle.table_model.specs.declared.refusal.Refusal.TheVariants as refusals
+use Rattle.answer_parts.specs.declared.fault.PartFault.{PartFault}
+use Rattle.answer_parts.specs.declared.fault.PartFault.TheVariants as parts
+use Rattle.part_commands.specs.declared.part_error.PartError.{PartError}
+use Rattle.part_commands.specs.declared.part_error.PartError.TheVariants as errors
 use Rattle.csv_rows.specs.declared.error.CsvError.{CsvError}
 use Rattle.csv_rows.specs.declared.error.CsvError.TheVariants as csv
 use Rattle.live_columns.specs.declared.choice.Unchosen.{Unchosen}
@@ -33,7 +37,7 @@ numbers_of (named.Byte at) = pair at 0
 abbrev pub place_of : Refusal → Place
 place_of refusal = numbers_of (named_by refusal)
 
--- the number of a fault: a refusal's own, 38 for comma-separated values outside the grammar, and 39 for a closed handle
+-- the number of a fault: a refusal's own, 38 for comma-separated values outside the grammar, 39 for a closed handle, and 40 to 42 for parts that don't go together
 abbrev pub number_of_fault : Fault → ℕ
 number_of_fault (faults.Refused refusal) = number_of refusal
 number_of_fault (faults.BadCsv line column) = 38
@@ -41,6 +45,9 @@ number_of_fault (faults.LineTooLong line) = 32
 number_of_fault (faults.OfQuery refusal query) = number_of refusal
 number_of_fault (faults.InNames refusal) = number_of refusal
 number_of_fault faults.NotOpen = 39
+number_of_fault (faults.NotApart name) = 40
+number_of_fault faults.QueryDiffers = 41
+number_of_fault faults.TooMany = 42
 
 -- the place of a fault; that of one query of several has the query, from 0, next to the byte, and that of the names of columns has 1
 abbrev pub place_of_fault : Fault → Place
@@ -50,6 +57,9 @@ place_of_fault (faults.LineTooLong line) = pair line 0
 place_of_fault (faults.OfQuery refusal query) = pair (place_of refusal).first query
 place_of_fault (faults.InNames refusal) = pair (place_of refusal).first 1
 place_of_fault faults.NotOpen = nowhere
+place_of_fault (faults.NotApart name) = pair name.origin.0 name.number.0
+place_of_fault faults.QueryDiffers = nowhere
+place_of_fault faults.TooMany = nowhere
 
 -- a refusal as that of one query of several
 abbrev pub of_query : Fault → ℕ → Fault
@@ -76,3 +86,17 @@ abbrev pub told_of_csv : CsvError → Fault
 told_of_csv (csv.BadCsv line column) = faults.BadCsv line column
 told_of_csv (csv.LineTooLong line) = faults.LineTooLong line
 told_of_csv (csv.Refused refusal) = told refusal
+
+-- what C gets of parts that aren't combined, or of one that isn't finished
+abbrev pub told_of_parts : PartFault → Fault
+told_of_parts parts.Memory = faults.Refused refusals.Memory
+told_of_parts parts.SchemaDiffers = faults.Refused refusals.SchemaDiffers
+told_of_parts parts.QueryDiffers = faults.QueryDiffers
+told_of_parts (parts.NotApart name) = faults.NotApart name
+told_of_parts parts.TooMany = faults.TooMany
+told_of_parts (parts.Query refusal) = faults.Refused refusal
+
+-- the same where its bytes may be refused
+abbrev pub told_of_part : PartError → Fault
+told_of_part (errors.Refused refusal) = told refusal
+told_of_part (errors.Fault fault) = told_of_parts fault

@@ -1,13 +1,15 @@
 //! Why a call gave nothing, as C gets it: a number and a place.
 ghost use Rattle.std.specs.Prelude.{◌≡◌};
-ghost use Rattle.lanes_c.specs.Faults.{number_of_fault, place_of, place_of_fault, in_names, nowhere, of_query, pair, told, told_of_choice, told_of_csv};
+ghost use Rattle.lanes_c.specs.Faults.{number_of_fault, place_of, place_of_fault, in_names, nowhere, of_query, pair, told, told_of_choice, told_of_csv, told_of_part, told_of_parts};
 ghost use Rattle.lanes_c.specs.declared.fault.Fault.TheVariants.{Refused};
 ghost use Rattle.table_model.specs.declared.refusal.Refusal.TheVariants.{Memory};
 
+use answer_parts::PartFault;
 use csv_rows::CsvError;
 use live_columns::Unchosen;
+use part_commands::PartError;
 use std::alloc::{AllocError, AllocFailed};
-use table_model::Refusal;
+use table_model::{BatchName, Refusal};
 
 /// Where a call was refused: one or two numbers, which the refusal's name explains, and 0 for each that it has not.
 #[repr(C)]
@@ -34,6 +36,12 @@ pub enum Fault {
     InNames(Refusal),
     /// A handle that is closed.
     NotOpen,
+    /// Two parts of an answer that would count a batch twice, or rows that one of their files deletes; the least batch.
+    NotApart(BatchName),
+    /// Parts of the answers of different queries.
+    QueryDiffers,
+    /// A number of an answer that is past its range.
+    TooMany,
 }
 
 /// A refusal as it is reported: a write into memory fails only if memory runs out.
@@ -87,11 +95,46 @@ impl From<Unchosen> for Fault {
     }
 }
 
+impl From<PartFault> for Fault {
+    ghost from_gives = { λ given fault. fault ≡ told_of_parts given };
+
+    fn from(given: PartFault) -> Fault {
+        match given {
+            PartFault::Memory => Fault::Refused(Refusal::Memory),
+            PartFault::SchemaDiffers => Fault::Refused(Refusal::SchemaDiffers),
+            PartFault::QueryDiffers => Fault::QueryDiffers,
+            PartFault::NotApart(name) => Fault::NotApart(name),
+            PartFault::TooMany => Fault::TooMany,
+            PartFault::Query(refusal) => Fault::Refused(refusal),
+        }
+    }
+}
+
+impl From<PartError> for Fault {
+    ghost from_gives = { λ given fault. fault ≡ told_of_part given };
+
+    fn from(given: PartError) -> Fault {
+        match given {
+            PartError::Refused(refusal) => Fault::from(refusal),
+            PartError::Fault(fault) => Fault::from(fault),
+        }
+    }
+}
+
 /// The number of `BadCsv`, which is no refusal of the table's own calls.
-pub const BAD_CSV: u8 = 38;
+const BAD_CSV: u8 = 38;
 
 /// The number of `NotOpen`, which is no refusal of the table's own calls.
 pub const NOT_OPEN: u8 = 39;
+
+/// The number of `NotApart`, which is no refusal of the table's own calls.
+const NOT_APART: u8 = 40;
+
+/// The number of `QueryDiffers`, which is no refusal of the table's own calls.
+const QUERY_DIFFERS: u8 = 41;
+
+/// The number of `TooMany`, which is no refusal of the table's own calls.
+const TOO_MANY: u8 = 42;
 
 impl Place {
     /// No place.
@@ -108,16 +151,23 @@ impl Place {
         Place { first, second: 0 }
     }
 
+    /// A batch: its origin and its number.
+    fn of_batch(name: BatchName) -> Place
+        ensures { result ≡ pair name.origin.0 name.number.0 }
+    {
+        Place {
+            first: u64::from(name.origin.0),
+            second: u64::from(name.number.0),
+        }
+    }
+
     /// The place that a refusal names.
     pub fn of(refusal: Refusal) -> Place
         ensures { result ≡ place_of refusal }
     {
         match refusal.place() {
             table_model::Place::Nowhere => Place::nowhere(),
-            table_model::Place::Batch(name) => Place {
-                first: u64::from(name.origin.0),
-                second: u64::from(name.number.0),
-            },
+            table_model::Place::Batch(name) => Place::of_batch(name),
             table_model::Place::Row(row) => Place::at(row as u64),
             table_model::Place::Cell { row, column } => Place {
                 first: row as u64,
@@ -129,7 +179,7 @@ impl Place {
 }
 
 impl Fault {
-    /// The number that C is answered: a refusal's own, 38 for `BadCsv`, and 39 for `NotOpen`.
+    /// The number that C is answered: a refusal's own, or one from 38 on.
     pub fn number(self) -> u8
         ensures { result ≡ number_of_fault self }
     {
@@ -139,6 +189,9 @@ impl Fault {
             Fault::LineTooLong { .. } => Refusal::LineTooLong.number(),
             Fault::OfQuery { refusal, .. } | Fault::InNames(refusal) => refusal.number(),
             Fault::NotOpen => NOT_OPEN,
+            Fault::NotApart(_) => NOT_APART,
+            Fault::QueryDiffers => QUERY_DIFFERS,
+            Fault::TooMany => TOO_MANY,
         }
     }
 
@@ -181,7 +234,8 @@ impl Fault {
                 first: Place::of(refusal).first,
                 second: 1,
             },
-            Fault::NotOpen => Place::nowhere(),
+            Fault::NotApart(name) => Place::of_batch(name),
+            Fault::NotOpen | Fault::QueryDiffers | Fault::TooMany => Place::nowhere(),
         }
     }
 }

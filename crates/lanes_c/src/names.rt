@@ -1,10 +1,10 @@
 //! What a number and a place say: a refusal's name and its sentence; and the library's version.
 ghost use Rattle.std.specs.Prelude.{◌≡◌, ◌⊎◌, ◌<◌, IfSome, IfNone, codes, ⊤};
 ghost use Rattle.table_model.specs.RefusalText.{number_of};
-ghost use Rattle.lanes_c.specs.Names.{IsNameOf};
+ghost use Rattle.lanes_c.specs.Names.{IsNameOf, own_name};
 ghost use Rattle.lanes_c.specs.Rooms.{IsFilled};
 
-use crate::fault::{BAD_CSV, NOT_OPEN, Place};
+use crate::fault::{NOT_OPEN, Place};
 use crate::room::fill;
 use refusal_sentences::{CommandRefusal, Knowledge, Sentence};
 use std::alloc::{AllocError, Global};
@@ -18,6 +18,14 @@ fn low(number: u64) -> u32 {
     (number % 4_294_967_296) as u32
 }
 
+/// The batch that a place is.
+fn batch_at(place: Place) -> BatchName {
+    BatchName {
+        origin: Origin(low(place.first)),
+        number: Number(low(place.second)),
+    }
+}
+
 /// The refusal of a number from 1 to 12, at a place.
 fn refusal_of_calls(number: u8, place: Place) -> Option<Refusal>
     ensures some { IfSome result (λ refusal. number_of refusal ≡ number) }
@@ -25,10 +33,7 @@ fn refusal_of_calls(number: u8, place: Place) -> Option<Refusal>
 {
     match number {
         1 => Some(Refusal::Memory),
-        2 => Some(Refusal::Conflict(BatchName {
-            origin: Origin(low(place.first)),
-            number: Number(low(place.second)),
-        })),
+        2 => Some(Refusal::Conflict(batch_at(place))),
         3 => Some(Refusal::Full),
         4 => Some(Refusal::EmptyBatch),
         5 => Some(Refusal::BatchTooLong),
@@ -105,19 +110,27 @@ fn refusal_of(number: u8, place: Place) -> Option<Refusal>
     }
 }
 
+/// The name of a number that is none of a refusal's of the table's own calls; empty where it has none.
+fn own_name(number: u8) -> &'static str
+    ensures { result.now ≡ own_name number }
+{
+    match number {
+        38 => "BadCsv",
+        39 => "NotOpen",
+        40 => "NotApart",
+        41 => "QueryDiffers",
+        42 => "TooMany",
+        _ => "",
+    }
+}
+
 /// The name of a number; empty where it has none.
 fn name_of(number: u8) -> &'static str
     ensures { IsNameOf number result.now }
 {
-    if number == BAD_CSV {
-        return "BadCsv";
-    }
-    if number == NOT_OPEN {
-        return "NotOpen";
-    }
     match refusal_of(number, Place::nowhere()) {
         Some(refusal) => refusal.name(),
-        None => "",
+        None => own_name(number),
     }
 }
 
@@ -131,17 +144,27 @@ pub extern "C" fn lanes_refusal(number: u8, room: &mut [u8]) -> usize
     name.len()
 }
 
-/// The sentence of a refusal at a place; none where the number has none.
-fn sentence_of(alloc: Global, number: u8, place: Place) -> Result<String, AllocError> {
-    if number == BAD_CSV {
-        let refusal = CommandRefusal::BadCsv {
+/// The refusal of a number that is none of the table's own calls, at a place.
+fn own_refusal(number: u8, place: Place) -> Option<CommandRefusal> {
+    match number {
+        38 => Some(CommandRefusal::BadCsv {
             line: place.first,
             column: place.second,
-        };
-        return format!(in alloc; "{}", Sentence::new(refusal));
+        }),
+        40 => Some(CommandRefusal::NotApart(batch_at(place))),
+        41 => Some(CommandRefusal::QueryDiffers),
+        42 => Some(CommandRefusal::TooMany),
+        _ => None,
     }
+}
+
+/// The sentence of a refusal at a place; none where the number has none.
+fn sentence_of(alloc: Global, number: u8, place: Place) -> Result<String, AllocError> {
     if number == NOT_OPEN {
         return format!(in alloc; "{}", "no file is open in this handle");
+    }
+    if let Some(refusal) = own_refusal(number, place) {
+        return format!(in alloc; "{}", Sentence::new(refusal));
     }
     let Some(refusal) = refusal_of(number, place) else {
         return Ok(String::new(alloc));

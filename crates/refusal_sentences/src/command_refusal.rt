@@ -4,7 +4,7 @@ ghost use Rattle.refusal_sentences.specs.declared.command_refusal.CommandRefusal
 
 use std::alloc::AllocError;
 use std::fmt;
-use table_model::Refusal;
+use table_model::{BatchName, Refusal};
 
 /// Why a command was refused.
 #[derive(Clone, Copy, Debug, PartialEq, Eq)]
@@ -19,6 +19,12 @@ pub enum CommandRefusal {
     Busy,
     /// A part of a folder has other bytes than its name says.
     Damaged,
+    /// Two parts of an answer that would count a batch twice, or rows that one of their files deletes; the least batch.
+    NotApart(BatchName),
+    /// Parts of the answers of different queries.
+    QueryDiffers,
+    /// A number of an answer that is past its range.
+    TooMany,
 }
 
 impl From<Refusal> for CommandRefusal {
@@ -53,6 +59,9 @@ impl fmt::Display for CommandRefusal {
             CommandRefusal::Exists => f.write_str("Exists"),
             CommandRefusal::Busy => f.write_str("Busy"),
             CommandRefusal::Damaged => f.write_str("Damaged"),
+            CommandRefusal::NotApart(name) => write!(f, "NotApart {name}"),
+            CommandRefusal::QueryDiffers => f.write_str("QueryDiffers"),
+            CommandRefusal::TooMany => f.write_str("TooMany"),
         }
     }
 }

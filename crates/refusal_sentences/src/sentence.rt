@@ -129,7 +129,10 @@ impl<'a> Sentence<'a> {
             (CommandRefusal::Named(refusal), _) => place_of(refusal),
             (CommandRefusal::Exists, _)
             | (CommandRefusal::Busy, _)
-            | (CommandRefusal::Damaged, _) => Place::None,
+            | (CommandRefusal::Damaged, _)
+            | (CommandRefusal::NotApart(_), _)
+            | (CommandRefusal::QueryDiffers, _)
+            | (CommandRefusal::TooMany, _) => Place::None,
         }
     }
 
@@ -187,6 +190,16 @@ impl<'a> Sentence<'a> {
             }
             CommandRefusal::Damaged => f.write_str(
                 "its bytes are not those of its name: copy it again, or remove it",
+            ),
+            CommandRefusal::NotApart(name) => write!(
+                f,
+                "batch {name} is in both parts, or one file deletes rows of it that the other has: merge these files, and make one part of what comes"
+            ),
+            CommandRefusal::QueryDiffers => f.write_str(
+                "the parts are of different queries: make all parts with the same text",
+            ),
+            CommandRefusal::TooMany => f.write_str(
+                "a count has more than 64 bits, a sum or a mean more than 128, or DISTINCT more than 2^36 values: ask fewer files at once",
             ),
         }
     }

@@ -1,0 +1,4 @@
+pub mod StrayNames
+pub mod StoreParts
+pub mod FileSteps
+pub mod Trees

@@ -1,0 +1,3 @@
+pub mod StorePart
+pub mod FileParts
+pub mod PartCommandLaws

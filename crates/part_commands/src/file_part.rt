@@ -1,0 +1,55 @@
+//! The part of a file: what it gives to the answer of a query, written as bytes.
+ghost use Rattle.std.specs.Prelude.{◌≡◌, IsTrue, OnOk, IfErr};
+ghost use Rattle.std.specs.Io.KnownBytes.{IsAtEnd};
+ghost use Rattle.table_model.specs.Faults.{IsWithin, GaveMore, CountsBoth, CountsWrites};
+ghost use Rattle.replica_files.specs.Asking.{is_refusal_of_answering};
+ghost use Rattle.part_commands.specs.FileParts.{WritesFilePart, WritesPart, is_refusal_of_parting};
+ghost use Rattle.part_commands.specs.StorePart.{query_part};
+
+use crate::store_part::part_of_store;
+use part_file::write_part;
+use replica_files::OpenFile;
+use replica_store::Store;
+use std::alloc::Global;
+use std::io::{Read, Write};
+use table_model::{Counted, Refusal};
+
+/// Writes what a store gives to the answer of a query.
+///
+/// The refusals are those of [`part_of_store`], and `WriteFault`. Only with the last anything is written: a front.
+fn write_part_of_store<W: Write>(
+    alloc: Global,
+    store: &Store,
+    sql: &str,
+    writer: &mut Counted<W>,
+) -> Result<(), Refusal>
+    ensures told { WritesPart result (W.contents writer.old.0) (W.contents writer.new.0) (query_part sql.now store.now.replica.schema store.now.replica.state) }
+    ensures refused { IfErr result (λ e. IsTrue (is_refusal_of_answering e)) }
+    ensures kept { OnOk result (writer.new.1 ≡ writer.old.1) }
+    ensures fault { IfErr result (λ e. CountsWrites e writer.old.1 writer.new.1) }
+{
+    let part = part_of_store(alloc, store, sql)?;
+    write_part(alloc, &part, writer)
+}
+
+/// Reads a file whole and writes what it gives to the answer of a query: its part.
+///
+/// The refusals are, in this order, those of [`OpenFile::read`]; those of [`part_of_store`]; `WriteFault`. Only with the last
+/// anything is written: a front. `ReadFault` is answered only if the reader's count of failures rose or it gave more than 2^48
+/// bytes, and `WriteFault` only if the writer's count rose.
+pub fn write_part_of_file<R: Read, W: Write>(
+    alloc: Global,
+    reader: &mut Counted<R>,
+    sql: &str,
+    writer: &mut Counted<W>,
+) -> Result<(), Refusal>
+    ensures told { WritesFilePart result (R.remaining reader.old.0) (W.contents writer.old.0) (W.contents writer.new.0) sql.now }
+    ensures refused { IfErr result (λ e. IsTrue (is_refusal_of_parting e)) }
+    ensures end { OnOk result (IsAtEnd (R.remaining reader.new.0)) }
+    ensures within { OnOk result (IsWithin (R.remaining reader.old.0)) }
+    ensures kept { OnOk result ((reader.new.1 ≡ reader.old.1) × (writer.new.1 ≡ writer.old.1)) }
+    ensures fault { IfErr result (λ e. CountsBoth (GaveMore (R.remaining reader.old.0) (R.remaining reader.new.0)) e reader.old.1 reader.new.1 writer.old.1 writer.new.1) }
+{
+    let file = OpenFile::read(alloc, reader)?;
+    write_part_of_store(alloc, file.store(), sql, writer)
+}

@@ -1,0 +1,51 @@
+//! What a store gives to the answer of a query.
+ghost use Rattle.std.specs.Prelude.{◌≡◌, IsTrue, IfOk, IfErr};
+ghost use Rattle.table_model.specs.Reading.{Reads};
+ghost use Rattle.table_model.specs.declared.refusal.Refusal.TheVariants.{Memory};
+ghost use Rattle.answer_parts.specs.Groups.{part_in};
+ghost use Rattle.store_view.specs.Asked.{is_refusal_of_query};
+ghost use Rattle.part_commands.specs.StorePart.{meaning_of, meaning_with, query_part};
+
+use crate::strays::stray_names;
+use answer_parts::{Kept, Part, part_groups};
+use query_eval::Key;
+use query_parser::{parse, resolve};
+use replica_store::Store;
+use std::alloc::Global;
+use std::collections::BTreeMap;
+use store_view::StoreView;
+use table_model::Refusal;
+
+/// The part of a store that has these groups: with the store's schema, the query's text, and the names of the store's batches and
+/// of its stray deletions.
+fn part_with(
+    alloc: Global,
+    store: &Store,
+    sql: &str,
+    groups: BTreeMap<Key, Vec<Kept>>,
+) -> Result<Part, Refusal>
+    ensures made { IfOk result (λ part. meaning_of part ≡ meaning_with store.now.replica.schema sql.now (part_in groups) store.now.replica.state) }
+    ensures refused { IfErr result (λ e. e ≡ Memory) }
+{
+    let summary = store.summary(alloc)?;
+    let held = summary.names().copy(alloc)?;
+    let strays = stray_names(alloc, store.tombs(), &held)?;
+    let schema = store.schema().copy(alloc)?;
+    let text = String::from_str(alloc, sql)?;
+    Ok(Part::new(schema, text, held, strays, groups))
+}
+
+/// What a store gives to the answer of a query, given as a text: the part of its rows that aren't deleted.
+///
+/// The refusals are those of the query, with the same place: `Syntax`, `NumberTooLarge` and `TooDeep`, the one whose token comes
+/// first; `NoSuchTable`; `NoSuchColumn`; `NotGrouped`; `Memory`. The text is read as it is taken apart, so `Memory` can come in
+/// place of any of them.
+pub fn part_of_store(alloc: Global, store: &Store, sql: &str) -> Result<Part, Refusal>
+    ensures read { Reads meaning_of result (query_part sql.now store.now.replica.schema store.now.replica.state) }
+    ensures refused { IfErr result (λ e. IsTrue (is_refusal_of_query e)) }
+{
+    let query = parse(alloc, sql)?;
+    resolve(&query, store.schema())?;
+    let groups = part_groups(alloc, &mut StoreView::new(store), &query)?;
+    part_with(alloc, store, sql, groups)
+}
