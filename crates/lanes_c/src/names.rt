@@ -11,7 +11,7 @@ use std::alloc::{AllocError, Global};
 use table_model::{BatchName, Number, Origin, Refusal};
 
 /// The library's version, which is the program's.
-const VERSION: &str = "0.4.0";
+const VERSION: &str = "0.5.0";
 
 /// A number's low 32 bits.
 fn low(number: u64) -> u32 {
