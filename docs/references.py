@@ -1,6 +1,6 @@
 #!/usr/bin/env python3
-"""Checks what pages refer to: that each link to another file leads to one, and that docs/GLOSSARY.md names for each word a file that
-defines it. It prints what is wrong, and the status is then 1."""
+"""Checks what pages refer to: that each link to another file leads to one, that docs/GLOSSARY.md names for each word a file that defines
+it, and that the examples in the READMEs of crates are those that their tests run. It prints what is wrong, and the status is then 1."""
 import pathlib, re, sys
 
 TOP = pathlib.Path(__file__).resolve().parent.parent
@@ -31,8 +31,18 @@ def lost_words():
                     yield f"docs/GLOSSARY.md: {word} is not defined in {cells[2]}"
 
 
+def untested_examples():
+    """The READMEs of crates with an example that the crate's tests don't have, and tests of an example that isn't in the README."""
+    for crate in sorted((TOP / "crates").iterdir()):
+        readme, test = crate / "README.md", TOP / "crates" / f"{crate.name}_tests" / "src" / "readme_example.rt"
+        examples = re.findall(r"```rust\n(.*?)```", readme.read_text(), re.S) if readme.exists() else []
+        text = test.read_text() if test.exists() else ""
+        if any(example not in text for example in examples) or (text and not examples):
+            yield f"{readme.relative_to(TOP)}: its example isn't the one in {test.relative_to(TOP)}"
+
+
 def main():
-    wrong = [*dead_links(), *lost_words()]
+    wrong = [*dead_links(), *lost_words(), *untested_examples()]
     print("".join(f"{line}\n" for line in wrong), end="")
     sys.exit(1 if wrong else 0)
 

@@ -3,7 +3,7 @@ ghost use Rattle.std.specs.Prelude.{◌≡◌, ◌<◌, OnOk, OnErr, IfOk, IsTru
 ghost use Rattle.std.specs.FinSet as set;
 ghost use Rattle.table_model.specs.Name.{is_proper_name};
 ghost use Rattle.catalogue_join.specs.Held.{IsFront, IsListOf, IsNameAt, lacks};
-ghost use Rattle.catalogue_join.specs.Run.{names_of, names_listed, run_shape};
+ghost use Rattle.catalogue_join.specs.Run.{names_in, names_of, names_listed, run_shape};
 ghost use Rattle.catalogue_join.specs.Span.{Rises};
 
 use crate::ranges::Ranges;
@@ -41,6 +41,16 @@ impl Held {
     {
         Held {
             runs: Ranges::new(alloc),
+        }
+    }
+
+    /// The set of maximal runs in ascending order. It takes no memory, however many names the runs have.
+    pub fn from_runs(runs: Vec<Run>) -> Self
+        requires { Rises run_shape 0 runs.items }
+        ensures { result ≡ names_in runs.items }
+    {
+        Held {
+            runs: Ranges::from_rising(runs),
         }
     }
 

@@ -35,6 +35,14 @@ impl<S: Span> Ranges<S> {
         }
     }
 
+    /// The set that these ranges are: they are maximal already, and ascend.
+    pub fn from_rising(ranges: Vec<S>) -> Self
+        requires { Rises S.shape 0 ranges.items }
+        ensures { result ≡ ranges.items }
+    {
+        Ranges { ranges }
+    }
+
     /// The ranges, ascending.
     pub fn as_slice(&self) -> &[S]
         ensures ranges { result.now ≡ self.now }

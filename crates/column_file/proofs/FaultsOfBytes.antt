@@ -50,18 +50,18 @@ short : (F : Refusal → Bool) {X : Type 0} (b : Bool) (e : Refusal) (x : X) →
 short F true e x h = h
 short F false e x h = tt
 
-seen_judges : (F : Refusal → Bool) {A B : Type 0} (f : Format A) (to : A → B) → Judges F f → (total : ℕ) (bytes : List ℕ) → Judged F {X = B × List ℕ} (f.read total bytes >>= λ (x : A × List ℕ). Ok (to x.0, x.1))
+pub seen_judges : (F : Refusal → Bool) {A B : Type 0} (f : Format A) (to : A → B) → Judges F f → (total : ℕ) (bytes : List ℕ) → Judged F {X = B × List ℕ} (f.read total bytes >>= λ (x : A × List ℕ). Ok (to x.0, x.1))
 seen_judges F {A = A} {B = B} f to q = λ total bytes. then_judged F {Y = B × List ℕ} (f.read total bytes) (λ (x : A × List ℕ). Ok (to x.0, x.1)) (q total bytes) (λ x. tt)
 
-checked_judges : (F : Refusal → Bool) {A : Type 0} (f : Format A) (test : A → Bool) (fault : ℕ → Refusal) → ((n : ℕ) → F (fault n) ≡ true) → Judges F f → Judges F (checked f test fault)
+pub checked_judges : (F : Refusal → Bool) {A : Type 0} (f : Format A) (test : A → Bool) (fault : ℕ → Refusal) → ((n : ℕ) → F (fault n) ≡ true) → Judges F f → Judges F (checked f test fault)
 checked_judges F {A = A} f test fault h q = λ total bytes. then_judged F (f.read total bytes) (λ (x : A × List ℕ). cond (test x.0) (Ok x) (Err (fault (total - length bytes)))) (q total bytes) (λ x. guard F (test x.0) x (fault (total - length bytes)) (h (total - length bytes)))
 
-before_judges : (F : Refusal → Bool) {A B : Type 0} (f : Format A) (g : A → Format B) → Judges F f → ((x : A) → Judges F (g x)) → Judges F (before f g)
+pub before_judges : (F : Refusal → Bool) {A B : Type 0} (f : Format A) (g : A → Format B) → Judges F f → ((x : A) → Judges F (g x)) → Judges F (before f g)
 before_judges F {A = A} {B = B} f g q r = λ total bytes.
     then_judged F (f.read total bytes) (λ (x : A × List ℕ). (g x.0).read total x.1 >>= λ (y : B × List ℕ). Ok ((x.0, y.0), y.1)) (q total bytes)
     (λ x. then_judged F ((g x.0).read total x.1) (λ (y : B × List ℕ). Ok ((x.0, y.0), y.1)) (r x.0 total x.1) (λ y. tt))
 
-optional_judges : (F : Refusal → Bool) {A : Type 0} (flag : Bool) (f : Format A) → Judges F f → Judges F (optional flag f)
+pub optional_judges : (F : Refusal → Bool) {A : Type 0} (flag : Bool) (f : Format A) → Judges F f → Judges F (optional flag f)
 optional_judges F true f q = seen_judges F f Some q
 optional_judges F false f q = λ total bytes. tt
 
@@ -71,7 +71,7 @@ items_judged F item q zero front total bytes = tt
 items_judged F {A = A} item q (suc n) front total bytes =
     then_judged F ((item front).read total bytes) (λ (x : A × List ℕ). read_all item n (front ++ x.0 ∷ []) total x.1) (q front total bytes) (λ x. items_judged F item q n (front ++ x.0 ∷ []) total x.1)
 
-all_judges : (F : Refusal → Bool) {A : Type 0} (n : ℕ) (item : List A → Format A) → ((front : List A) → Judges F (item front)) → Judges F (all n item)
+pub all_judges : (F : Refusal → Bool) {A : Type 0} (n : ℕ) (item : List A → Format A) → ((front : List A) → Judges F (item front)) → Judges F (all n item)
 all_judges F n item q = items_judged F item q n []
 
 -- ---- faults of a summary are faults of a container, and those are faults of a file
@@ -102,10 +102,10 @@ judged_widest (Err e) q = widest e q
 
 -- ---- numbers, masks and words
 
-raw_judges : (n : ℕ) → Judges is_fault_of_summary (raw n)
+pub raw_judges : (n : ℕ) → Judges is_fault_of_summary (raw n)
 raw_judges n = λ total bytes. short is_fault_of_summary (ltb (length bytes) n) (Truncated total) (take n bytes, drop n bytes) refl
 
-number_judges : (n : ℕ) → Judges is_fault_of_summary (number n)
+pub number_judges : (n : ℕ) → Judges is_fault_of_summary (number n)
 number_judges n = λ total bytes. then_judged is_fault_of_summary ((raw n).read total bytes) _ (raw_judges n total bytes) (λ x. tt)
 
 raw_fits : (n : ℕ) → Judges is_fault_of_container (raw n)
@@ -269,7 +269,7 @@ version_judges : Judges is_fault_of_summary version
 unfolding version
 version_judges = checked_judges is_fault_of_summary (number 2) is_version (λ _. BadVersion) (λ n. refl) (number_judges 2)
 
-head_judges : (magic : List ℕ) → Judges is_fault_of_summary (head magic)
+pub head_judges : (magic : List ℕ) → Judges is_fault_of_summary (head magic)
 unfolding head
 head_judges magic =
     let first = constant magic BadMagic in
@@ -355,7 +355,7 @@ container_judges =
 
 -- ---- whole inputs
 
-whole_judged : (F : Refusal → Bool) {A : Type 0} (f : Format A) → ((n : ℕ) → F (TrailingBytes n) ≡ true) → Judges F f → (bytes : List ℕ) → Judged F (read_whole f bytes)
+pub whole_judged : (F : Refusal → Bool) {A : Type 0} (f : Format A) → ((n : ℕ) → F (TrailingBytes n) ≡ true) → Judges F f → (bytes : List ℕ) → Judged F (read_whole f bytes)
 whole_judged F {A = A} f trailing q bytes =
     then_judged F (f.read (length bytes) bytes) (λ (x : A × List ℕ). cond (eqb (length x.1) 0) (Ok x.0) (Err (TrailingBytes (length bytes - length x.1)))) (q (length bytes) bytes)
     (λ x. guard F (eqb (length x.1) 0) x.0 (TrailingBytes (length bytes - length x.1)) (trailing (length bytes - length x.1)))

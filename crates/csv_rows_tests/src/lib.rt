@@ -6,6 +6,8 @@ mod dialect_tests;
 #[cfg(test)]
 mod limit_tests;
 #[cfg(test)]
+mod readme_example;
+#[cfg(test)]
 mod refused_tests;
 #[cfg(test)]
 mod stop_tests;

@@ -4,6 +4,8 @@
 #[cfg(test)]
 mod place_tests;
 #[cfg(test)]
+mod readme_example;
+#[cfg(test)]
 mod refused_tests;
 #[cfg(test)]
 mod tests;

@@ -1,4 +1,5 @@
 pub mod Feeds
+pub mod FileHistories
 pub mod FileReports
 pub mod ScriptRuns
 pub mod Tellings

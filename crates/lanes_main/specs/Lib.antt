@@ -1,3 +1,4 @@
+pub mod FileHistory
 pub mod FileReport
 pub mod ReplyText
 pub mod Script

@@ -1,4 +1,5 @@
 //! Laws of scripts, each the contract of a function that does nothing.
+ghost use Rattle.lanes_main.specs.FileHistory.{FilesAreExports};
 ghost use Rattle.lanes_main.specs.FileReport.{FirstAnswersStay};
 ghost use Rattle.lanes_main.specs.ScriptRun.{ScriptLaws};
 
@@ -13,4 +14,10 @@ pub fn script_laws()
 /// Queries over a file that version 1 accepted are answered as version 1 answered them.
 pub fn first_answers_stay()
     ensures { FirstAnswersStay }
+{}
+
+/// Files hold what histories take. If a file of commands holds the same operations as a replica took in a history of one table, in
+/// whatever order and however often, then the replica exports that file, byte for byte.
+pub fn file_history_laws()
+    ensures { FilesAreExports }
 {}

@@ -1,5 +1,6 @@
 //! Frames and deltas whose numbers stay packed, gone through in lanes of their own type.
 ghost use Rattle.std.specs.Prelude.{◌≡◌, ◌==◌, ℕ, ◌^◌, ◌<◌, ◌&&◌, nat_lt, cond, is_some, IfSome, IsSome, pos, ◌+ℤ◌};
+ghost use Rattle.table_model.specs.declared.extreme.Extreme.TheVariants as sides;
 ghost use Rattle.transpose_order.specs.Mask.{has, rows_of};
 ghost use Rattle.transpose_order.specs.Place.{IsLaneWidth};
 ghost use Rattle.native_lanes.specs.Between.{between};
@@ -89,23 +90,44 @@ impl<'a> Packed<'a> {
         }
     }
 
-    /// The answer of `extreme`. Frames and deltas have loops of their own for each lane width.
-    #[inline(always)]
-    fn extreme_by_walk(self, side: Extreme, rows: &Mask) -> Option<Option<i64>>
-        ensures value { IfSome result (λ found. found ≡ extreme_at side rows.now (value_of self.entry)) }
+    /// The least of the values of a mask's rows, none over none, or none at a lane width of 8. The loops are fast if the side is a
+    /// constant. One function for both sides would be too large for the compiler to inline it, so each side has its own.
+    fn least(self, rows: &Mask) -> Option<Option<i64>>
+        ensures value { IfSome result (λ found. found ≡ extreme_at sides.Least rows.now (value_of self.entry)) }
         ensures answers { is_some result ≡ nat_lt 8 (width_of self.entry) }
     {
         match self {
             Packed::Frame(form) => match form.lane_width() {
-                16 => Some(walk_of_frame_16(form).extreme_value(side, rows)),
-                32 => Some(walk_of_frame_32(form).extreme_value(side, rows)),
-                64 => Some(walk_of_frame_64(form).extreme_value(side, rows)),
+                16 => Some(walk_of_frame_16(form).extreme_value(Extreme::Least, rows)),
+                32 => Some(walk_of_frame_32(form).extreme_value(Extreme::Least, rows)),
+                64 => Some(walk_of_frame_64(form).extreme_value(Extreme::Least, rows)),
                 _ => None,
             },
             Packed::Deltas(form) => match form.lane_width() {
-                16 => Some(walk_of_deltas_16(form).extreme_value(side, rows)),
-                32 => Some(walk_of_deltas_32(form).extreme_value(side, rows)),
-                64 => Some(walk_of_deltas_64(form).extreme_value(side, rows)),
+                16 => Some(walk_of_deltas_16(form).extreme_value(Extreme::Least, rows)),
+                32 => Some(walk_of_deltas_32(form).extreme_value(Extreme::Least, rows)),
+                64 => Some(walk_of_deltas_64(form).extreme_value(Extreme::Least, rows)),
+                _ => None,
+            },
+        }
+    }
+
+    /// The greatest of the values of a mask's rows, none over none, or none at a lane width of 8.
+    fn greatest(self, rows: &Mask) -> Option<Option<i64>>
+        ensures value { IfSome result (λ found. found ≡ extreme_at sides.Greatest rows.now (value_of self.entry)) }
+        ensures answers { is_some result ≡ nat_lt 8 (width_of self.entry) }
+    {
+        match self {
+            Packed::Frame(form) => match form.lane_width() {
+                16 => Some(walk_of_frame_16(form).extreme_value(Extreme::Greatest, rows)),
+                32 => Some(walk_of_frame_32(form).extreme_value(Extreme::Greatest, rows)),
+                64 => Some(walk_of_frame_64(form).extreme_value(Extreme::Greatest, rows)),
+                _ => None,
+            },
+            Packed::Deltas(form) => match form.lane_width() {
+                16 => Some(walk_of_deltas_16(form).extreme_value(Extreme::Greatest, rows)),
+                32 => Some(walk_of_deltas_32(form).extreme_value(Extreme::Greatest, rows)),
+                64 => Some(walk_of_deltas_64(form).extreme_value(Extreme::Greatest, rows)),
                 _ => None,
             },
         }
@@ -116,10 +138,9 @@ impl<'a> Packed<'a> {
         ensures value { IfSome result (λ found. found ≡ extreme_at side rows.now (value_of self.entry)) }
         ensures answers { is_some result ≡ nat_lt 8 (width_of self.entry) }
     {
-        // Each extreme has loops of its own, in which it is a constant.
         match side {
-            Extreme::Least => self.extreme_by_walk(Extreme::Least, rows),
-            Extreme::Greatest => self.extreme_by_walk(Extreme::Greatest, rows),
+            Extreme::Least => self.least(rows),
+            Extreme::Greatest => self.greatest(rows),
         }
     }
 

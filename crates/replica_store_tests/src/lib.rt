@@ -8,6 +8,8 @@ mod delete_all_tests;
 #[cfg(test)]
 mod exchange_tests;
 #[cfg(test)]
+mod readme_example;
+#[cfg(test)]
 mod recode_tests;
 #[cfg(test)]
 mod refused_tests;
