@@ -89,3 +89,7 @@ pub answering_counts : (many : Type 0) (result : Result (Unit {0}) Refusal) (r r
     → IfErr result (λ e. CountsBoth many e r r' w w')
 answering_counts many (Ok done) r r' w w' same h c = tt
 answering_counts many (Err e) r r' w w' same h c = counts many e r r' w w' same h c
+
+pub kept_both : (result : Result (Unit {0}) Refusal) (r r' w w' : ℕ) → r' ≡ r → OnOk result (w' ≡ w) → OnOk result ((r' ≡ r) × (w' ≡ w))
+kept_both (Ok done) r r' w w' same h = (same, h)
+kept_both (Err e) r r' w w' same h = tt

@@ -4,9 +4,28 @@ use Rattle.std.proofs.Common.{inr, refl, sym, ap, ◌∙◌}
 use Rattle.table_model.specs.Reading.{Reads}
 use Rattle.table_model.specs.declared.refusal.Refusal.{Refusal}
 use Rattle.table_model.specs.declared.refusal.Refusal.TheVariants.{Memory}
+use Rattle.std.specs.FinSet as set
+use Rattle.table_model.specs.Name.{row_name_cmp}
+use Rattle.table_model.specs.State.{State}
+use Rattle.replica_store.specs.Exchange.{SummaryForm, summary_of}
+use Rattle.replica_store.specs.Replica.{Replica, names_of}
+use Rattle.answer_parts.specs.Counted.{Names, held_of, strays_of}
 use Rattle.answer_parts.specs.declared.part.Part.{Part}
 use Rattle.store_view.specs.Asked.{is_refusal_of_query}
-use Rattle.part_commands.specs.StorePart.{PartMeaning, meaning_of}
+use Rattle.part_commands.specs.StorePart.{PartMeaning, batches_deleted, meaning_of}
+
+ok_one : {X : Type 0} (x y : X) → ◌≡◌ {A = Result X Refusal} (Ok x) (Ok y) → x ≡ y
+ok_one x y e = cc
+
+-- the names of a summary are those of the batches
+pub held_named : (r : Replica) (s : SummaryForm) → ◌≡◌ {A = Result SummaryForm Refusal} (Ok (summary_of r)) (Ok s) → s.names ≡ held_of r.state
+unfolding names_of held_of
+held_named r s is = ap (λ (x : SummaryForm). x.names) (sym (ok_one (summary_of r) s is))
+
+-- the deleted batches without the held ones are the strays
+pub strays_named : (s : State) (deleted : set.FinSet row_name_cmp) (held strays : Names) → strays ≡ set.difference (batches_deleted deleted) held → deleted ≡ s.deleted → held ≡ held_of s → strays ≡ strays_of s
+unfolding strays_of
+strays_named s deleted held strays is same also = is ∙ (λ i. set.difference (batches_deleted (same i)) (also i))
 
 -- the part that is given was made, or memory ran out
 pub made : (result : Result Part Refusal) (form : PartMeaning) (read : Result PartMeaning Refusal) → read ≡ Ok form → IfOk result (λ part. meaning_of part ≡ form) → IfErr result (λ e. e ≡ Memory) → Reads meaning_of result read

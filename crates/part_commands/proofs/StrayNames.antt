@@ -1,5 +1,5 @@
 -- The batches of deleted rows are those of their ranges.
-use Rattle.std.specs.Prelude.{◌≡◌, ℕ, zero, suc, ◌+◌, ◌<◌, ◌≤◌, Bool, true, false, ◌&&◌, ◌||◌, not, List, [], ◌∷◌, map as each, length, IsTrue}
+use Rattle.std.specs.Prelude.{◌≡◌, ℕ, zero, suc, ◌+◌, ◌-◌, ◌<◌, ◌≤◌, Bool, true, false, ◌&&◌, ◌||◌, not, List, [], ◌∷◌, map as each, length, IsTrue}
 use Rattle.std.proofs.Common.{refl, sym, ap, subst, ◌∙◌, get_or, take, arith}
 use Rattle.std.proofs.lemmas.Bool.{or_right, false≢true}
 use Rattle.std.proofs.lemmas.List.Folds.{list_any-append, list_any_more}
@@ -50,7 +50,7 @@ batch_listed (r ∷ rs) q h =
     let behind : Bool = list_any (eq_by_cmp row_name_cmp q) (rows_listed rs) in
     let either : (here || behind) ≡ true = sym (list_any-append (eq_by_cmp row_name_cmp q) (rows_between r.0 r.1) (rows_listed rs)) ∙ h in
     one_of here behind either ((eq_by_cmp name_cmp q.batch r.0.batch || list_any (is_of_batch q.batch) rs) ≡ true)
-    (λ has. ap (λ (b : Bool). b || list_any (is_of_batch q.batch) rs) (ap (λ (n : BatchName). eq_by_cmp name_cmp n r.0.batch) (batch_named r.0.batch r.0.ordinal _ q has) ∙ itself r.0.batch))
+    (λ has. ap (λ (b : Bool). b || list_any (is_of_batch q.batch) rs) (ap (λ (n : BatchName). eq_by_cmp name_cmp n r.0.batch) (batch_named r.0.batch r.0.ordinal (r.1 + 1 - r.0.ordinal) q has) ∙ itself r.0.batch))
     (λ rest. or_right (eq_by_cmp name_cmp q.batch r.0.batch) _ (batch_listed rs q rest))
 
 -- the batch of one of some ranges has one of their rows
@@ -58,17 +58,17 @@ row_listed : (rs : List RowRange) (q : BatchName) → AreMaximal rs → list_any
 row_listed [] q m h = absurd (false≢true h)
 row_listed (r ∷ rs) q m h =
     one_of (eq_by_cmp name_cmp q r.0.batch) (list_any (is_of_batch q) rs) h ((row : RowName) × ((list_any (eq_by_cmp row_name_cmp row) (rows_listed (r ∷ rs)) ≡ true) × (q ≡ row.batch)))
-    (λ tied. (
-      r.0,
-      list_any-append (eq_by_cmp row_name_cmp r.0) (rows_between r.0 r.1) (rows_listed rs)
-          ∙ ap (λ (b : Bool). b || list_any (eq_by_cmp row_name_cmp r.0) (rows_listed rs)) (let some = m.0.not_empty in first_named r.0.batch r.0.ordinal _ (omega arith)),
-      same_name q r.0.batch tied,
-    ))
-    (λ rest. let found = row_listed rs q m.2 rest in (
-      found.0,
-      list_any-append (eq_by_cmp row_name_cmp found.0) (rows_between r.0 r.1) (rows_listed rs) ∙ or_right (list_any (eq_by_cmp row_name_cmp found.0) (rows_between r.0 r.1)) _ found.1.0,
-      found.1.1,
-    ))
+    (λ tied.
+    let some = m.0.not_empty in
+    let first : list_any (eq_by_cmp row_name_cmp r.0) (rows_between r.0 r.1) ≡ true = first_named r.0.batch r.0.ordinal (r.1 + 1 - r.0.ordinal) (omega arith) in
+    let listed : list_any (eq_by_cmp row_name_cmp r.0) (rows_listed (r ∷ rs)) ≡ true =
+    list_any-append (eq_by_cmp row_name_cmp r.0) (rows_between r.0 r.1) (rows_listed rs) ∙ ap (λ (b : Bool). b || list_any (eq_by_cmp row_name_cmp r.0) (rows_listed rs)) first in
+    (r.0, (listed, same_name q r.0.batch tied)))
+    (λ rest.
+    let found = row_listed rs q m.2 rest in
+    let listed : list_any (eq_by_cmp row_name_cmp found.0) (rows_listed (r ∷ rs)) ≡ true =
+    list_any-append (eq_by_cmp row_name_cmp found.0) (rows_between r.0 r.1) (rows_listed rs) ∙ or_right (list_any (eq_by_cmp row_name_cmp found.0) (rows_between r.0 r.1)) _ found.1.0 in
+    (found.0, (listed, found.1.1)))
 
 module _ (ranges : List RowRange) (deleted : set.FinSet row_name_cmp) (maximal : AreMaximal ranges) (is : rows_in ranges ≡ deleted) where
   -- a row of the ranges is a deleted one

@@ -54,7 +54,7 @@ module _ (text : List ℕ) (table : Table) where
   answer_refused s (Ok query) e is = answer_named (resolved table query) (given query s) (answer_of table query s) e is
   answer_refused s (Err f) e is = ap Err (err_one f e is)
 
-  refused : (s : State) (e : Refusal) → query_part text table s ≡ Err e ↔ query_answer text table s ≡ Err e
+  refused : (s : State) (e : Refusal) → (query_part text table s ≡ Err e) ↔ (query_answer text table s ≡ Err e)
   unfolding query_part query_answer
   refused s e = (part_refused s (query_of text) e, answer_refused s (query_of text) e)
 

@@ -17,7 +17,7 @@ ComesOf text table (Two a b) p = (first second : CodePart) × ComesOf text table
 -- A state's part is refused exactly as the query is, and alone it finishes to the query's answer. A part that came of any tree of
 -- states is the part of the states joined, and finishes to the query's answer over them.
 pub record PartCommandLaws : Type 0 where
-  pub refused : (text : List ℕ) (table : Table) (s : State) (e : Refusal) → query_part text table s ≡ Err e ↔ query_answer text table s ≡ Err e
+  pub refused : (text : List ℕ) (table : Table) (s : State) (e : Refusal) → (query_part text table s ≡ Err e) ↔ (query_answer text table s ≡ Err e)
   pub answered : (text : List ℕ) (table : Table) (s : State) (p : PartMeaning) → query_part text table s ≡ Ok p → finished p ≡ query_answer text table s
   pub joins : (text : List ℕ) (table : Table) (shards : Shards) (p : CodePart) → ComesOf text table shards p → query_part text table (joined shards) ≡ Ok (meaning_of p)
   pub answers : (text : List ℕ) (table : Table) (shards : Shards) (p : CodePart) → ComesOf text table shards p → finished (meaning_of p) ≡ query_answer text table (joined shards)

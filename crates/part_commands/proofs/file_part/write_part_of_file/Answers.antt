@@ -6,7 +6,7 @@ use Rattle.replica_store.specs.Segments.{StoreForm}
 use Rattle.replica_files.proofs.CommandSteps.{reading_counts}
 use Rattle.part_commands.specs.FileParts.{WritesPart}
 use Rattle.part_commands.specs.StorePart.{query_part}
-use Rattle.part_commands.proofs.FileSteps.{file_refused, file_written, reading_parts, answering_parts, answering_counts}
+use Rattle.part_commands.proofs.FileSteps.{file_refused, file_written, reading_parts, answering_parts, answering_counts, kept_both}
 use Rattle.part_commands.proofs.file_part.write_part_of_file.Goals as goal
 
 pub returns-in_err-file-clause-told : goal.returns-in_err-file-clause-told
@@ -37,3 +37,6 @@ returns-clause-refused g c = answering_parts c.write_part_of_store.result c.writ
 pub returns-clause-fault : goal.returns-clause-fault
 returns-clause-fault g c =
     answering_counts (GaveMore (g.R.Read.remaining c.args.reader.now.0) (g.R.Read.remaining c.read.new.reader.0)) c.write_part_of_store.result c.args.reader.now.1 c.read.new.reader.1 c.args.writer.now.1 c.write_part_of_store.new.writer.1 c.in_ok-file.ensures.kept c.write_part_of_store.ensures.refused c.write_part_of_store.ensures.fault
+
+pub returns-clause-kept : goal.returns-clause-kept
+returns-clause-kept g c = kept_both c.write_part_of_store.result c.args.reader.now.1 c.read.new.reader.1 c.args.writer.now.1 c.write_part_of_store.new.writer.1 c.in_ok-file.ensures.kept c.write_part_of_store.ensures.kept

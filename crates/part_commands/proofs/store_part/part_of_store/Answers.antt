@@ -30,3 +30,42 @@ pub returns-in_err-query-clause-refused : goal.returns-in_err-query-clause-refus
 returns-in_err-query-clause-refused c =
     let p = err_from_is_err_and c.from_residual.result c.from_residual.ensures.1 in
     rw (p.1, p.2) (found_listed c.args.sql.now c.in_err-query.field-0.0 c.in_err-query.ensures.first)
+
+pub returns-in_err-resolve-clause-read : goal.returns-in_err-resolve-clause-read
+unfolding query_part
+returns-in_err-resolve-clause-read c =
+    let p = err_from_is_err_and c.from_residual-in_err-resolve.result c.from_residual-in_err-resolve.ensures.1 in
+    let table = c.args.store.now.replica.schema in
+    let state = c.args.store.now.replica.state in
+    let query : QueryShape = c.in_ok-query.query in
+    let given : Result PartMeaning Refusal = Ok (meaning_with table c.args.sql.now (part_of table query state) state) in
+    let after : Result QueryShape Refusal → Result PartMeaning Refusal = λ x. x >>= λ q. resolved table q >>= λ done. Ok (meaning_with table c.args.sql.now (part_of table q state) state) in
+    rw (p.1, p.2) (inl (
+    ap after c.in_ok-query.ensures.reads
+    ∙ ap (λ (t : Table). resolved t query >>= λ done. given) (sym c.schema.ensures)
+    ∙ ap (λ (r : Result (Unit {0}) Refusal). r >>= λ done. given) (sym c.in_err-resolve.ensures.resolved)))
+
+pub returns-in_err-resolve-clause-refused : goal.returns-in_err-resolve-clause-refused
+returns-in_err-resolve-clause-refused c =
+    let p = err_from_is_err_and c.from_residual-in_err-resolve.result c.from_residual-in_err-resolve.ensures.1 in
+    rw (p.1, p.2) (subst IsRefusedAsQuery (sym c.in_err-resolve.ensures.resolved) (resolved_listed c.schema.result.now c.in_ok-query.query))
+
+pub returns-clause-read : goal.returns-clause-read
+unfolding query_part
+returns-clause-read c =
+    let table = c.args.store.now.replica.schema in
+    let state = c.args.store.now.replica.state in
+    let query : QueryShape = c.in_ok-query.query in
+    let text = c.args.sql.now in
+    let given : Result PartMeaning Refusal = Ok (meaning_with table text (part_of table query state) state) in
+    let after : Result QueryShape Refusal → Result PartMeaning Refusal = λ x. x >>= λ q. resolved table q >>= λ done. Ok (meaning_with table text (part_of table q state) state) in
+    let groups : part_in c.in_ok-groups.groups ≡ part_of table query state = c.in_ok-groups.ensures.value ∙ ap (λ (v : ViewForm). part_of v.table query v.state) c.new.ensures in
+    let read : query_part text table state ≡ Ok (meaning_with table text (part_in c.in_ok-groups.groups) state) =
+    ap after c.in_ok-query.ensures.reads
+    ∙ ap (λ (t : Table). resolved t query >>= λ done. given) (sym c.schema.ensures)
+    ∙ ap (λ (r : Result (Unit {0}) Refusal). r >>= λ done. given) (sym c.in_ok-resolve.ensures.resolved)
+    ∙ ap (λ (part : Part). Ok (meaning_with table text part state)) (sym groups) in
+    made c.part_with.result (meaning_with table text (part_in c.in_ok-groups.groups) state) (query_part text table state) read c.part_with.ensures.made c.part_with.ensures.refused
+
+pub returns-clause-refused : goal.returns-clause-refused
+returns-clause-refused c = memory_listed c.part_with.result c.part_with.ensures.refused

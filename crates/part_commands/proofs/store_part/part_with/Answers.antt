@@ -1,0 +1,18 @@
+-- The names are those of the store's batches and of its stray deletions.
+use Rattle.std.proofs.Common.{◌≡◌, ap, ◌∙◌}
+use Rattle.std.specs.String.{string_bytes}
+use Rattle.answer_parts.specs.Counted.{held_of, strays_of}
+use Rattle.answer_parts.specs.Groups.{part_in}
+use Rattle.part_commands.proofs.StoreParts.{held_named, strays_named}
+use Rattle.part_commands.proofs.store_part.part_with.Goals as goal
+
+pub returns-clause-made : goal.returns-clause-made
+returns-clause-made c =
+    let r = c.args.store.now.replica in
+    let held : c.in_ok-held.held ≡ held_of r.state = c.in_ok-held.ensures ∙ c.names.ensures.value ∙ held_named r c.in_ok-summary.summary c.in_ok-summary.ensures in
+    let strays : c.in_ok-strays.strays ≡ strays_of r.state = strays_named r.state c.tombs.result.now c.in_ok-held.held c.in_ok-strays.strays c.in_ok-strays.ensures c.tombs.ensures held in
+    λ i. record {
+      schema = (c.new.ensures.schema ∙ c.in_ok-schema.ensures ∙ c.schema.ensures) i;
+      text = (ap string_bytes c.new.ensures.text ∙ c.in_ok-text.ensures.ok) i;
+      counted = record { part = ap part_in c.new.ensures.groups i; held = (c.new.ensures.held ∙ held) i; strays = (c.new.ensures.strays ∙ strays) i };
+    }
