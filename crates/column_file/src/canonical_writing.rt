@@ -1,6 +1,7 @@
 //! Writing the canonical file of a table's rows and deletions: each vector in its canonical form, and maximal ranges.
 ghost use Rattle.std.specs.Prelude.{◌≡◌, ◌≤◌, ◌+◌, ◌++◌, List, length, map, IfOk, OnOk};
 ghost use Rattle.std.specs.List.{All};
+ghost use Rattle.table_model.specs.Table.{IsTable};
 ghost use Rattle.segment_core.specs.Format.{Format, Writes, all};
 ghost use Rattle.segment_core.specs.Segment.{canonical_again};
 ghost use Rattle.replica_store.specs.Segments.{IsStored};
@@ -117,6 +118,7 @@ fn write_canonical<W: Write>(
     ensures bytes { Writes result (W.contents writer.old.0) (W.contents writer.new.0) writer.old.1 writer.new.1
         (container.spell (schema.now, (map (canonical_as_read schema.now) (first.now ++ second.now), map deleted_of deleted.now))) }
     ensures numbered { OnOk result (AreNumbered (first.now ++ second.now)) }
+    ensures proper { IsTable schema.now }
 {
     write_head(writer, &CONTAINER, schema)?;
     write_canonical_batches(writer, schema, first, first_made, second, second_made)?;
@@ -140,16 +142,14 @@ pub fn export<W: Write>(
     // What was written opens to the store's schema and state.
     ensures opens { OnOk result (OpensTo (canonical_file store.now.replica.schema store.now.replica.state) store.now.replica.schema store.now.replica.state) }
 {
-    // `batches` ensures that there are at most 1,048,576, within the limits, and `column_list` that the schema is a table's.
+    // `batches` ensures that there are at most 1,048,576, within the limits.
     let _count = store.batches();
-    let schema = store.schema();
-    let _columns = schema.column_list();
     let (first, second) = store.parts();
     let first_made = canonical_copies(alloc, first)?;
     let second_made = canonical_copies(alloc, second)?;
     write_canonical(
         writer,
-        schema,
+        store.schema(),
         first,
         first_made.as_slice(),
         second,

@@ -2,7 +2,7 @@
 //! deleted rows.
 ghost use Rattle.std.specs.Prelude.{◌≡◌, ◌≤◌, List, length, map, OnOk};
 ghost use Rattle.std.specs.List.{All};
-ghost use Rattle.table_model.specs.Table.{Table};
+ghost use Rattle.table_model.specs.Table.{Table, IsTable};
 ghost use Rattle.segment_core.specs.Format.{Format, Writes, all};
 ghost use Rattle.segment_core.specs.Segment.{batch_of, widths_in, widths_of};
 ghost use Rattle.segment_core.specs.SegmentBytes.{HasBytesIn};
@@ -115,6 +115,7 @@ pub(crate) fn write_container<W: Write>(
     ensures again { OnOk result (All (HasBatchBytes schema.now) entries.now) }
     ensures bytes { Writes result (W.contents writer.old.0) (W.contents writer.new.0) writer.old.1 writer.new.1
         (container.spell (schema.now, (map entry_of entries.now, map deleted_of deleted.now))) }
+    ensures proper { IsTable schema.now }
 {
     write_head(writer, &CONTAINER, schema)?;
     write_batches(writer, schema, entries)?;

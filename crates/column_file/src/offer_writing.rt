@@ -18,8 +18,10 @@ pub fn write_offer<W: Write>(offer: &Offer, writer: &mut Counted<W>) -> Result<(
     // What was written is read as the same offer, codings included.
     ensures again { OnOk result (offer_read (offer_bytes offer.now) ≡ Ok offer.now) }
 {
-    // `column_list` ensures that the schema is a table's.
-    let schema = offer.schema();
-    let _columns = schema.column_list();
-    write_container(writer, schema, offer.entries(), offer.tombs().ranges())
+    write_container(
+        writer,
+        offer.schema(),
+        offer.entries(),
+        offer.tombs().ranges(),
+    )
 }

@@ -72,8 +72,6 @@ fn canonical_in(alloc: Global, bytes: &[u8]) -> Result<Offer, Refusal>
     if maximal && canonical {
         return Ok(Offer::from_parts(schema, batches, tombs));
     }
-    // `column_list` ensures that it is a table's schema.
-    let _columns = schema.column_list();
     let mut writer = Counted::new(Comparison::new(bytes));
     let outcome = write_container(&mut writer, &schema, batches.as_slice(), tombs.ranges());
     writer.into_inner().verdict(outcome)?;

@@ -1,6 +1,7 @@
 //! Writing a summary to bytes: its own four bytes, the version, a schema, and names in ascending order.
-ghost use Rattle.std.specs.Prelude.{◌≡◌, ◌≤◌, List, length, OnOk, Ok};
+ghost use Rattle.std.specs.Prelude.{◌≡◌, ◌≤◌, IsTrue, List, length, OnOk, Ok};
 ghost use Rattle.std.specs.FinSet as set;
+ghost use Rattle.table_model.specs.Table.{IsTable};
 ghost use Rattle.table_model.specs.declared.names.BatchName.{BatchName};
 ghost use Rattle.catalogue_join.specs.Run.{names_of};
 ghost use Rattle.segment_core.specs.Format.{Format, Writes, all, spell_all};
@@ -8,7 +9,7 @@ ghost use Rattle.table_model.specs.Name.{name_cmp};
 ghost use Rattle.replica_store.specs.Replica.{batch_limit};
 ghost use Rattle.column_file.specs.Ordered.{in_order};
 ghost use Rattle.column_file.specs.SummaryBytes.{head, batch_name, names, summary_bytes, summary_read};
-ghost use Rattle.column_file.specs.Files.{HasSummaryBytes};
+ghost use Rattle.column_file.specs.Files.{HasSummaryBytes, IsNumbered};
 
 use crate::schema_writing::write_schema;
 use crate::summary_reading::SUMMARY;
@@ -25,10 +26,12 @@ pub(crate) fn write_head<W: Write>(
     magic: &[u8],
     schema: &Schema,
 ) -> Result<(), Refusal>
-    ensures { Writes result (W.contents writer.old.0) (W.contents writer.new.0) writer.old.1 writer.new.1 ((head magic.now).spell schema.now) }
+    ensures bytes { Writes result (W.contents writer.old.0) (W.contents writer.new.0) writer.old.1 writer.new.1 ((head magic.now).spell schema.now) }
+    ensures proper { IsTable schema.now }
 {
+    let version = version_of(schema);
     write_whole(writer, magic)?;
-    write_number(writer, version_of(schema), 2)?;
+    write_number(writer, version, 2)?;
     write_schema(writer, schema)
 }
 
@@ -59,8 +62,9 @@ fn write_run<W: Write>(writer: &mut Counted<W>, run: Run) -> Result<(), Refusal>
 
 /// Writes the names of a set in ascending order.
 fn write_name_list<W: Write>(writer: &mut Counted<W>, held: &Held) -> Result<(), Refusal>
-    ensures { Writes result (W.contents writer.old.0) (W.contents writer.new.0) writer.old.1 writer.new.1
+    ensures bytes { Writes result (W.contents writer.old.0) (W.contents writer.new.0) writer.old.1 writer.new.1
         ((all (length (in_order name_cmp held.now)) batch_name).spell (in_order name_cmp held.now)) }
+    ensures numbered { (name : BatchName) → IsTrue (set.contains held.now name) → IsNumbered name }
 {
     for run in held.runs() {
         write_run(writer, *run)?;
@@ -71,7 +75,8 @@ fn write_name_list<W: Write>(writer: &mut Counted<W>, held: &Held) -> Result<(),
 /// Writes how many names a set has, at most 1,048,576, and these in ascending order.
 fn write_names<W: Write>(writer: &mut Counted<W>, held: &Held) -> Result<(), Refusal>
     requires { set.len held.now ≤ batch_limit }
-    ensures { Writes result (W.contents writer.old.0) (W.contents writer.new.0) writer.old.1 writer.new.1 (names.spell (in_order name_cmp held.now)) }
+    ensures bytes { Writes result (W.contents writer.old.0) (W.contents writer.new.0) writer.old.1 writer.new.1 (names.spell (in_order name_cmp held.now)) }
+    ensures numbered { OnOk result ((name : BatchName) → IsTrue (set.contains held.now name) → IsNumbered name) }
 {
     write_number(writer, held.len() as u64, 4)?;
     write_name_list(writer, held)
@@ -85,11 +90,6 @@ pub fn write_summary<W: Write>(summary: &Summary, writer: &mut Counted<W>) -> Re
     // What was written is read as the same summary.
     ensures again { OnOk result (summary_read (summary_bytes summary.now) ≡ Ok summary.now) }
 {
-    // `column_list` ensures that the schema is a table's, and `runs` that the names are numbered.
-    let schema = summary.schema();
-    let _columns = schema.column_list();
-    let names = summary.names();
-    let _runs = names.runs();
-    write_head(writer, &SUMMARY, schema)?;
-    write_names(writer, names)
+    write_head(writer, &SUMMARY, summary.schema())?;
+    write_names(writer, summary.names())
 }

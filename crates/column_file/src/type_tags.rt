@@ -1,5 +1,6 @@
 //! The numbers that represent column types in files, a value's number of bytes, and the version of a schema.
 ghost use Rattle.std.specs.Prelude.{◌≡◌, cond, Some, None};
+ghost use Rattle.table_model.specs.Table.{IsTable};
 ghost use Rattle.column_file.specs.SchemaBytes.{tag_of, is_type_tag, type_tagged, has_tiny, version_of};
 
 use table_model::{ColType, Schema};
@@ -31,7 +32,8 @@ pub(crate) fn tagged(version: u64, tag: u64) -> Option<ColType>
 
 /// Whether a schema has a column of 8 bits.
 fn has_tiny(schema: &Schema) -> bool
-    ensures { result ≡ has_tiny schema.now }
+    ensures value { result ≡ has_tiny schema.now }
+    ensures proper { IsTable schema.now }
 {
     schema
         .column_list()
@@ -41,7 +43,8 @@ fn has_tiny(schema: &Schema) -> bool
 
 /// The version of a schema: 2 exactly if it has a column of 8 bits, otherwise 1.
 pub(crate) fn version_of(schema: &Schema) -> u64
-    ensures { result ≡ version_of schema.now }
+    ensures value { result ≡ version_of schema.now }
+    ensures proper { IsTable schema.now }
 {
     if has_tiny(schema) { 2 } else { 1 }
 }

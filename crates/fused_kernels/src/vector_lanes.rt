@@ -113,13 +113,12 @@ fn run_piece(form: &Runs, piece: usize, runs: &mut [u64; 16]) -> Simd<i64, 16>
 
 /// A piece of coded values, and what is carried to the next.
 fn coded_piece(coded: &Coded, piece: usize, sums: &mut [u64; 16]) -> Simd<i64, 16>
+    requires form { IsCodedForm coded.now }
     requires piece { piece < 64 }
     requires before { AreCarried coded.now piece sums.old }
     ensures values { result ≡ sixteen_of (λ i. value_in coded.now (64 * i + place_of (piece_width coded.now) piece)) }
     ensures carried { AreCarried coded.now (piece + 1) sums.new }
 {
-    // `lane_width` ensures that the form keeps its rule.
-    let _ = coded.lane_width();
     match coded {
         Coded::For(form) => form.get().piece(piece),
         Coded::Delta(form) => delta_piece(form.get(), piece, sums),

@@ -1,18 +1,19 @@
 -- The maximal runs of a set of names are the one list of runs that don't touch and have these names.
-use Rattle.std.proofs.Common.{◌≡◌, ℕ, zero, suc, ◌+◌, ◌-◌, ◌*◌, ◌≤◌, true, false, ◌&&◌, eqb, List, [], ◌∷◌, ◌++◌, refl, sym, ap, subst, ◌∙◌, arith}
+use Rattle.std.proofs.Common.{◌≡◌, ℕ, zero, suc, ◌+◌, ◌-◌, ◌*◌, ◌≤◌, Bool, true, false, cond, ◌&&◌, eqb, List, [], ◌∷◌, ◌++◌, refl, sym, ap, subst, ◌∙◌, arith}
+use Rattle.std.proofs.lemmas.Bool.{and_parts, eqb-true}
 use Rattle.std.proofs.lemmas.Bool.Decides.{nat_tests}
 use Rattle.std.specs.FinSet as set
 use Rattle.table_model.specs.Name.{name_cmp}
 use Rattle.table_model.specs.declared.names.BatchName.{BatchName}
 use Rattle.table_model.specs.declared.names.Origin.{Origin}
 use Rattle.catalogue_join.specs.Held.{IsListOf}
-use Rattle.catalogue_join.specs.Run.{name_at, name_place, names_from, names_listed, run_shape}
+use Rattle.catalogue_join.specs.Run.{name_at, name_place, names_from, names_in, names_listed, run_shape}
 use Rattle.catalogue_join.specs.Span.{Rises}
 use Rattle.catalogue_join.specs.declared.run.Run.{Run}
 use Rattle.catalogue_join.proofs.SortedLists.{only_list}
 use Rattle.column_file.specs.Ordered.{in_order}
 use Rattle.column_file.proofs.OrderedLists.{listed_names}
-use Rattle.part_file.specs.PartBytes.{with_name, gathered, runs_of}
+use Rattle.part_file.specs.PartBytes.{is_just_before, with_name, gathered, runs_of}
 
 -- a run of an origin
 abbrev run_at : Origin → ℕ → ℕ → Run
@@ -67,3 +68,68 @@ gathered_listed (r ∷ rs) n rises =
 pub runs_are : (held : set.FinSet name_cmp) (rs : List Run) → IsListOf (names_listed rs) held → Rises run_shape 0 rs → runs_of held ≡ rs
 unfolding runs_of
 runs_are held rs listed rises = ap gathered (only_list held (in_order name_cmp held) (names_listed rs) (listed_names held) listed) ∙ gathered_listed rs 0 rises
+
+-- ---- the set of the names of a set's runs is the set
+
+-- no run is empty
+abbrev AreRuns : List Run → Type 0
+AreRuns [] = Unit {0}
+AreRuns (r ∷ rs) = (r.first.number.0 ≤ r.last.0) × AreRuns rs
+
+-- a name is the one before a run's first
+record IsBefore (q : BatchName) (r : Run) : Type 0 where
+  pub origin : q.origin.0 ≡ r.first.origin.0
+  pub number : q.number.0 + 1 ≡ r.first.number.0
+
+before : (q : BatchName) (r : Run) → is_just_before q r.first ≡ true → IsBefore q r
+before q r e =
+    let v = and_parts (eqb q.origin.0 r.first.origin.0) (eqb (q.number.0 + 1) r.first.number.0) e in
+    record { origin = eqb-true _ _ v.0; number = eqb-true _ _ v.1 }
+
+abbrev longer_run : BatchName → Run → List Run → List Run
+longer_run q r rs = record { first = q; last = r.last } ∷ rs
+
+abbrev own_run : BatchName → List Run → List Run
+own_run q rs = record { first = q; last = q.number } ∷ rs
+
+with_runs : (q : BatchName) (rs : List Run) → AreRuns rs → AreRuns (with_name q rs)
+with_runs q [] runs = (omega arith, tt)
+with_runs q (r ∷ rs) runs = go (is_just_before q r.first) refl
+  where
+    go : (b : Bool) → is_just_before q r.first ≡ b → AreRuns (cond b (longer_run q r rs) (own_run q (r ∷ rs)))
+    go true e = (let h = (before q r e).number in let k = runs.0 in omega (arith, h, k), runs.1)
+    go false e = (omega arith, runs)
+
+own_names : (q : BatchName) (rs : List Run) → names_listed (own_run q rs) ≡ q ∷ names_listed rs
+own_names q rs =
+    let one : q.number.0 + 1 - q.number.0 ≡ 1 = omega arith in
+    ap (λ (n : ℕ). names_from q.origin q.number.0 n ++ names_listed rs) one
+
+longer_names : (q : BatchName) (r : Run) (rs : List Run) → r.first.number.0 ≤ r.last.0 → IsBefore q r → names_listed (longer_run q r rs) ≡ q ∷ names_listed (r ∷ rs)
+longer_names q r rs within h =
+    let next = h.number in
+    let count : r.last.0 + 1 - q.number.0 ≡ suc (r.last.0 + 1 - r.first.number.0) = omega (arith, next, within) in
+    ap (λ (n : ℕ). names_from q.origin q.number.0 n ++ names_listed rs) count
+    ∙ ap (λ (n : ℕ). q ∷ (names_from q.origin n (r.last.0 + 1 - r.first.number.0) ++ names_listed rs)) next
+    ∙ ap (λ (o : ℕ). q ∷ (names_from (record { 0 = o }) r.first.number.0 (r.last.0 + 1 - r.first.number.0) ++ names_listed rs)) h.origin
+
+with_names : (q : BatchName) (rs : List Run) → AreRuns rs → names_listed (with_name q rs) ≡ q ∷ names_listed rs
+with_names q [] runs = own_names q []
+with_names q (r ∷ rs) runs = go (is_just_before q r.first) refl
+  where
+    go : (b : Bool) → is_just_before q r.first ≡ b → names_listed (cond b (longer_run q r rs) (own_run q (r ∷ rs))) ≡ q ∷ names_listed (r ∷ rs)
+    go true e = longer_names q r rs runs.0 (before q r e)
+    go false e = own_names q (r ∷ rs)
+
+are_runs : (qs : List BatchName) → AreRuns (gathered qs)
+are_runs [] = tt
+are_runs (q ∷ qs) = with_runs q (gathered qs) (are_runs qs)
+
+names_gathered : (qs : List BatchName) → names_listed (gathered qs) ≡ qs
+names_gathered [] = refl
+names_gathered (q ∷ qs) = with_names q (gathered qs) (are_runs qs) ∙ ap (λ (ns : List BatchName). q ∷ ns) (names_gathered qs)
+
+pub names_are : (held : set.FinSet name_cmp) → names_in (runs_of held) ≡ held
+unfolding runs_of names_in
+names_are held =
+    ap (λ (ns : List BatchName). set.from_list {R = name_cmp} ns) (names_gathered (in_order name_cmp held)) ∙ (listed_names held).same

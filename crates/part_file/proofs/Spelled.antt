@@ -88,7 +88,7 @@ one_word z e = ap (λ (b : Bool). cond (not b) 2 1) e
 pub short_spelled : (z : ℤ) → FitsSigned w64 z → cell.spell (Some z) ≡ (number 1).spell 1 ++ (signed 64).spell z
 short_spelled z fits = some_spelled z ∙ ap (λ (n : ℕ). (number 1).spell n ++ (cell_value n).spell (Some z)) (one_word z (fits_in_bits 64 z is_64 fits))
 
-long : (z : ℤ) → (FitsSigned w64 z → ⊥) → is_in_bits 64 z ≡ false
+pub long : (z : ℤ) → (FitsSigned w64 z → ⊥) → is_in_bits 64 z ≡ false
 long z not = go (is_in_bits 64 z) refl
   where
     go : (b : Bool) → is_in_bits 64 z ≡ b → is_in_bits 64 z ≡ false

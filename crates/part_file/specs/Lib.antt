@@ -1,1 +1,2 @@
 pub mod PartBytes
+pub mod PartReading

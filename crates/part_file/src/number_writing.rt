@@ -39,7 +39,7 @@ pub fn push_wide(bytes: &mut Vec<u8>, value: i128) -> Result<(), AllocError>
 }
 
 /// A number as one of 64 bits, or `None` if it takes more.
-fn narrow(value: i128) -> Option<i64>
+pub(crate) fn narrow(value: i128) -> Option<i64>
     ensures value { IfSome result (λ narrow. narrow ≡ value) }
     ensures answers { FitsSigned w64 value → IsSome result }
 {

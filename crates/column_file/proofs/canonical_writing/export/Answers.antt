@@ -26,8 +26,8 @@ returns-clause-written g c =
     let entries : List Held = c.parts.result.0.now ++ c.parts.result.1.now in
     let ranges = ranges_are c.ranges-2.result.now state.deleted c.ranges-2.ensures.maximal (c.ranges-2.ensures.rows ∙ c.tombs.ensures) in
     let text = canonical_spelled table state c.args.store.now.segments entries c.ranges-2.result.now c.parts.ensures.rows c.parts.ensures.value ranges in
-    let same : container.spell (c.schema-schema.result.now, (map (canonical_as_read c.schema-schema.result.now) entries, map deleted_of c.ranges-2.result.now)) ≡ canonical_file table state =
-    ap (λ (t : Table). container.spell (t, (map (canonical_as_read t) entries, map deleted_of c.ranges-2.result.now))) c.schema-schema.ensures ∙ text in
+    let same : container.spell (c.schema.result.now, (map (canonical_as_read c.schema.result.now) entries, map deleted_of c.ranges-2.result.now)) ≡ canonical_file table state =
+    ap (λ (t : Table). container.spell (t, (map (canonical_as_read t) entries, map deleted_of c.ranges-2.result.now))) c.schema.ensures ∙ text in
     let P : List ℕ → Type 0 = λ bytes. Writes c.write_canonical.result (g.W.Write.contents c.args.writer.now.0) (g.W.Write.contents c.write_canonical.new.writer.0) c.args.writer.now.1 c.write_canonical.new.writer.1 bytes in
     exports_from c.write_canonical.result (g.W.Write.contents c.args.writer.now.0) (g.W.Write.contents c.write_canonical.new.writer.0) c.args.writer.now.1 c.write_canonical.new.writer.1 (canonical_file table state) (subst P same c.write_canonical.ensures.bytes)
 
@@ -36,7 +36,7 @@ returns-clause-file g c =
     let table = c.args.store.now.replica.schema in
     let state = c.args.store.now.replica.state in
     let entries : List Held = c.parts.result.0.now ++ c.parts.result.1.now in
-    let proper : IsTable table = subst (λ (t : Table). IsTable t) c.schema-schema.ensures c.column_list-columns.ensures.proper in
+    let proper : IsTable table = subst (λ (t : Table). IsTable t) c.schema.ensures c.write_canonical.ensures.proper in
     let rows = c.ranges-2.ensures.rows ∙ c.tombs.ensures in
     let few : length c.ranges-2.result.now < 18446744073709551616 = c.ranges-2.type_inv.0 in
     on_ok c.write_canonical.result

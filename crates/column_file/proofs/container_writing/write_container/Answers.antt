@@ -9,14 +9,14 @@ use Rattle.column_file.proofs.container_writing.write_container.Goals as goal
 pub returns-in_err-write_head-clause-bytes : goal.returns-in_err-write_head-clause-bytes
 returns-in_err-write_head-clause-bytes g c =
     let p = err_from_is_err_and c.from_residual.result c.from_residual.ensures.1 in
-    let e = c.in_err-write_head.ensures in
+    let e = c.in_err-write_head.ensures.bytes in
     rw (container_spelled c.args.schema.now (map entry_of c.args.entries.now) (map deleted_of c.args.deleted.now))
     (writes_front c.from_residual.result c.in_err-write_head.field-0.0 (g.W.Write.contents c.args.writer.now.0) (g.W.Write.contents c.write_head.new.writer.0) c.args.writer.now.1 c.write_head.new.writer.1 ((head (codes "FLCF")).spell c.args.schema.now) (((batches c.args.schema.now).spell (map entry_of c.args.entries.now)) ++ (ranges.spell (map deleted_of c.args.deleted.now))) (rw (← p.2) p.1) e)
 
 pub returns-in_err-write_batches-clause-bytes : goal.returns-in_err-write_batches-clause-bytes
 returns-in_err-write_batches-clause-bytes g c =
     let p = err_from_is_err_and c.from_residual-in_err-write_batches.result c.from_residual-in_err-write_batches.ensures.1 in
-    let h0 = c.in_ok-write_head.ensures in
+    let h0 = c.in_ok-write_head.ensures.bytes in
     let e = c.in_err-write_batches.ensures.bytes in
     rw (container_spelled c.args.schema.now (map entry_of c.args.entries.now) (map deleted_of c.args.deleted.now))
     (writes_both c.from_residual-in_err-write_batches.result (g.W.Write.contents c.args.writer.now.0) (g.W.Write.contents c.write_head.new.writer.0) (g.W.Write.contents c.write_batches.new.writer.0) c.args.writer.now.1 c.write_head.new.writer.1 c.write_batches.new.writer.1 ((head (codes "FLCF")).spell c.args.schema.now) (((batches c.args.schema.now).spell (map entry_of c.args.entries.now)) ++ (ranges.spell (map deleted_of c.args.deleted.now))) h0.0 h0.1
@@ -24,7 +24,7 @@ returns-in_err-write_batches-clause-bytes g c =
 
 pub returns-clause-bytes : goal.returns-clause-bytes
 returns-clause-bytes g c =
-    let h0 = c.in_ok-write_head.ensures in
+    let h0 = c.in_ok-write_head.ensures.bytes in
     let h1 = c.in_ok-write_batches.ensures.bytes in
     let l = c.write_ranges.ensures in
     rw (container_spelled c.args.schema.now (map entry_of c.args.entries.now) (map deleted_of c.args.deleted.now))

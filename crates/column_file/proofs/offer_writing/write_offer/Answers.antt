@@ -17,22 +17,22 @@ write_container-requires-clause-limit g c = c.entries.ensures.offered.limit
 pub write_container-requires-clause-stored : goal.write_container-requires-clause-stored
 write_container-requires-clause-stored g c =
     let P : Table → Type 0 = λ t. All (IsStored t) c.entries.result.now in
-    subst P (sym c.schema-schema.ensures) c.entries.ensures.offered.stored
+    subst P (sym c.schema.ensures) c.entries.ensures.offered.stored
 
 pub returns-clause-written : goal.returns-clause-written
 unfolding file_of
 returns-clause-written g c =
     let ranges = ranges_are c.ranges-2.result.now c.args.offer.now.state.deleted c.ranges-2.ensures.maximal (c.ranges-2.ensures.rows ∙ c.tombs.ensures) in
-    let text : container.spell (c.schema-schema.result.now, (map entry_of c.entries.result.now, map deleted_of c.ranges-2.result.now)) ≡ offer_bytes c.args.offer.now =
-    λ i. container.spell (c.schema-schema.ensures i, (map entry_of (c.entries.ensures.value i), map deleted_of (sym ranges i))) in
+    let text : container.spell (c.schema.result.now, (map entry_of c.entries.result.now, map deleted_of c.ranges-2.result.now)) ≡ offer_bytes c.args.offer.now =
+    λ i. container.spell (c.schema.ensures i, (map entry_of (c.entries.ensures.value i), map deleted_of (sym ranges i))) in
     let P : List ℕ → Type 0 = λ bytes. Writes c.write_container.result (g.W.Write.contents c.args.writer.now.0) (g.W.Write.contents c.write_container.new.writer.0) c.args.writer.now.1 c.write_container.new.writer.1 bytes in
     subst P text c.write_container.ensures.bytes
 
 pub returns-clause-bytes : goal.returns-clause-bytes
 returns-clause-bytes g c =
     let o = c.args.offer.now in
-    let table = c.schema-schema.result.now in
-    let proper : IsTable o.schema = subst (λ (t : Table). IsTable t) c.schema-schema.ensures c.column_list-columns.ensures.proper in
+    let table = c.schema.result.now in
+    let proper : IsTable o.schema = subst (λ (t : Table). IsTable t) c.schema.ensures c.write_container.ensures.proper in
     let offered = subst (λ (es : List Held). AreOffered o.schema es) c.entries.ensures.value c.entries.ensures.offered in
     let few : length c.ranges-2.result.now < 18446744073709551616 = c.ranges-2.type_inv.0 in
     let rows = c.ranges-2.ensures.rows ∙ c.tombs.ensures in
@@ -41,7 +41,7 @@ returns-clause-bytes g c =
       schema = proper;
       offered = offered;
       rows = c.entries.ensures.rows;
-      batches = subst (λ (t : Table). All (HasBatchBytes t) (finite.entries o.segments)) c.schema-schema.ensures (subst (λ (es : List Held). All (HasBatchBytes table) es) c.entries.ensures.value again);
+      batches = subst (λ (t : Table). All (HasBatchBytes t) (finite.entries o.segments)) c.schema.ensures (subst (λ (es : List Held). All (HasBatchBytes table) es) c.entries.ensures.value again);
       ranges = c.ranges-2.result.now;
       maximal = c.ranges-2.ensures.maximal;
       deleted = rows;

@@ -13,6 +13,7 @@ use Rattle.column_file.specs.Ordered.{in_order}
 use Rattle.column_file.specs.SummaryBytes.{batch_name}
 use Rattle.column_file.proofs.OrderedLists.{listed_names}
 use Rattle.column_file.proofs.RunWriting.{name_bytes, run_done, run_fault}
+use Rattle.column_file.proofs.SummaryAgain.{runs_are_numbered}
 use Rattle.column_file.proofs.summary_writing.write_name_list.Goals as goal
 
 pub loop-run-init : goal.loop-run-init
@@ -21,8 +22,8 @@ loop-run-init g c = record {
   kept = refl;
 }
 
-pub returns-in_err-write_run : goal.returns-in_err-write_run
-returns-in_err-write_run g c =
+pub returns-in_err-write_run-clause-bytes : goal.returns-in_err-write_run-clause-bytes
+returns-in_err-write_run-clause-bytes g c =
     let p = err_from_is_err_and c.from_residual.result c.from_residual.ensures.1 in
     let runs = c.runs-run-items.result.now in
     let i = c.loop-run.run-index in
@@ -44,10 +45,16 @@ loop-run-preserved g c =
       kept = h.1 ∙ c.loop-run.invariant.kept;
     }
 
-pub returns : goal.returns
-returns g c =
+pub returns-clause-bytes : goal.returns-clause-bytes
+returns-clause-bytes g c =
     let runs = c.runs-run-items.result.now in
     let held = c.args.held.now in
     let all = ap names_listed (take_all c.loop-run.run-index runs c.loop-run-test.false) ∙ only_list held (names_listed runs) (in_order name_cmp held) c.runs-run-items.ensures.names (listed_names held) in
     let P : List BatchName → Type 0 = λ xs. Appends (g.W.Write.contents c.args.writer.now.0) (g.W.Write.contents c.loop-run.writer.0) (name_bytes [] xs) in
     (subst P all c.loop-run.invariant.written, c.loop-run.invariant.kept)
+
+pub returns-in_err-write_run-clause-numbered : goal.returns-in_err-write_run-clause-numbered
+returns-in_err-write_run-clause-numbered g c = runs_are_numbered c.args.held.now c.runs-run-items.result.now c.runs-run-items.ensures.maximal c.runs-run-items.ensures.names
+
+pub returns-clause-numbered : goal.returns-clause-numbered
+returns-clause-numbered g c = runs_are_numbered c.args.held.now c.runs-run-items.result.now c.runs-run-items.ensures.maximal c.runs-run-items.ensures.names

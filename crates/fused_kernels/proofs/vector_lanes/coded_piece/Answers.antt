@@ -23,7 +23,7 @@ by_coding coded k q lanes result form h is bits made =
 pub returns-clause-values : goal.returns-clause-values
 returns-clause-values c =
     let q = c.args.piece in
-    let form = c.lane_width.ensures.form in
+    let form = c.requires.form in
     elim c.match-coded.branch [
       | in-For w ↦ by_coding c.args.coded.now (For w.in-For.form) q w.piece.result c.match-coded.result form c.requires.piece w.in-For.is w.result-is (w.piece.ensures ∙ ap (λ (x : FrameForm). sixteen_of (λ i. frame_value x (64 * i + place_of x.lane_width q))) w.get.ensures)
       | in-Delta w ↦ by_coding c.args.coded.now (Delta w.in-Delta.form) q w.delta_piece.result c.match-coded.result form c.requires.piece w.in-Delta.is w.result-is (w.delta_piece.ensures.values ∙ ap (λ (x : DeltaForm). sixteen_of (λ i. delta_value x (64 * i + place_of x.lane_width q))) w.get-in-Delta.ensures)

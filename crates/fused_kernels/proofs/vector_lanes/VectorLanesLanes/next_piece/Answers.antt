@@ -2,12 +2,15 @@
 use Rattle.std.proofs.Common.{◌+◌, ◌*◌, ◌<◌, sym, ap, ◌∙◌, subst}
 use Rattle.transpose_order.specs.Place.{place_of}
 use Rattle.bit_interleave.specs.Packing.{sixteen_of}
-use Rattle.segment_core.specs.Coded.{value_in}
+use Rattle.segment_core.specs.Coded.{value_in, IsCodedForm}
 use Rattle.segment_core.specs.declared.coded.Coded.{Coded}
 use Rattle.fused_kernels.specs.Seen.{LanesSeen, next_of}
 use Rattle.fused_kernels.specs.VectorSeen.{piece_width}
 use Rattle.fused_kernels.proofs.VectorLemmas.{piece_read, next_of_vector}
 use Rattle.fused_kernels.proofs.vector_lanes.VectorLanesLanes.next_piece.Goals as goal
+
+pub coded_piece-requires-clause-form : goal.coded_piece-requires-clause-form
+coded_piece-requires-clause-form c = subst IsCodedForm (sym c.coded.ensures) c.self.invariant.form.form
 
 pub returns-clause-piece : goal.returns-clause-piece
 returns-clause-piece c =

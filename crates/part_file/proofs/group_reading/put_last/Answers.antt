@@ -1,0 +1,12 @@
+use Rattle.std.proofs.Common.{◌∙◌, ap, List, map}
+use Rattle.std.specs.Global.{Vec}
+use Rattle.table_model.specs.State.{Cells}
+use Rattle.answer_parts.specs.declared.kept.Kept.{Kept}
+use Rattle.part_file.specs.PartBytes.{entry_of}
+use Rattle.part_file.proofs.GroupLists.{put_last}
+use Rattle.part_file.proofs.group_reading.put_last.Goals as goal
+
+pub returns : goal.returns
+returns c =
+    ap (λ (es : List (Cells × Vec Kept)). map entry_of es) c.in_ok-insert.ensures.entries
+    ∙ put_last c.args.groups.now.entries c.args.key c.args.measures c.len-_count.ensures.ordered c.requires
