@@ -1,4 +1,5 @@
 pub mod StrayNames
 pub mod StoreParts
 pub mod FileSteps
+pub mod PartTurns
 pub mod Trees

@@ -1,3 +1,4 @@
 pub mod StorePart
 pub mod FileParts
+pub mod PartTurns
 pub mod PartCommandLaws

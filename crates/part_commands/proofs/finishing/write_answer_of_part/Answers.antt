@@ -1,0 +1,43 @@
+-- The answer is written once the part was read and finished; before that nothing is.
+use Rattle.std.proofs.Common.{List, ℕ, inl, inr, refl, subst}
+use Rattle.std.specs.Io.KnownBytes.{Appends}
+use Rattle.std.proofs.lemmas.Result.{err_from_is_err_and}
+use Rattle.table_model.specs.Faults.{AppendsFront, GaveMore}
+use Rattle.part_commands.proofs.PartTurns.{part_counts, unfinished, unfinished_counts, written_counts}
+use Rattle.part_commands.proofs.finishing.write_answer_of_part.Goals as goal
+
+pub returns-in_err-part-clause-told : goal.returns-in_err-part-clause-told
+returns-in_err-part-clause-told g c =
+    let p = err_from_is_err_and c.from_residual.result c.from_residual.ensures.1 in
+    rw (p.1, p.2) (inl (c.in_err-part.ensures.read, refl))
+
+pub returns-in_err-part-clause-fault : goal.returns-in_err-part-clause-fault
+returns-in_err-part-clause-fault g c =
+    let p = err_from_is_err_and c.from_residual.result c.from_residual.ensures.1 in
+    rw (p.1, p.2) (part_counts (GaveMore (g.R.Read.remaining c.args.reader.now.0) (g.R.Read.remaining c.read_part.new.reader.0)) c.in_err-part.field-0.0 c.args.reader.now.1 c.read_part.new.reader.1 c.args.writer.now.1 c.in_err-part.ensures.refused c.in_err-part.ensures.fault)
+
+pub returns-in_err-text-clause-told : goal.returns-in_err-text-clause-told
+returns-in_err-text-clause-told g c =
+    let p = err_from_is_err_and c.from_residual-in_err-text.result c.from_residual-in_err-text.ensures.1 in
+    rw (p.1, p.2) (unfinished c.args.format c.in_ok-part.part c.in_err-text.field-0.0 (g.R.Read.remaining c.args.reader.now.0) (g.W.Write.contents c.args.writer.now.0) c.in_ok-part.ensures.read c.in_err-text.ensures.refused)
+
+pub returns-in_err-text-clause-fault : goal.returns-in_err-text-clause-fault
+returns-in_err-text-clause-fault g c =
+    let p = err_from_is_err_and c.from_residual-in_err-text.result c.from_residual-in_err-text.ensures.1 in
+    rw (p.1, p.2) (unfinished_counts (GaveMore (g.R.Read.remaining c.args.reader.now.0) (g.R.Read.remaining c.read_part.new.reader.0)) c.in_err-text.field-0.0 c.args.reader.now.1 c.read_part.new.reader.1 c.args.writer.now.1 c.in_ok-part.ensures.kept c.in_err-text.ensures.refused)
+
+pub returns-in_err-write_whole-clause-told : goal.returns-in_err-write_whole-clause-told
+returns-in_err-write_whole-clause-told g c =
+    let p = err_from_is_err_and c.from_residual-in_err-write_whole.result c.from_residual-in_err-write_whole.ensures.1 in
+    let front = subst (λ (bytes : List ℕ). AppendsFront (g.W.Write.contents c.args.writer.now.0) (g.W.Write.contents c.write_whole.new.self.0) bytes) c.as_slice.ensures.value c.in_err-write_whole.ensures.front in
+    rw (p.1, p.2) (inr (c.in_err-write_whole.ensures.fault.0, (c.in_ok-part.part, c.in_ok-text.text.items, c.in_ok-part.ensures.read, c.in_ok-text.ensures.text, front)))
+
+pub returns-in_err-write_whole-clause-fault : goal.returns-in_err-write_whole-clause-fault
+returns-in_err-write_whole-clause-fault g c =
+    let p = err_from_is_err_and c.from_residual-in_err-write_whole.result c.from_residual-in_err-write_whole.ensures.1 in
+    rw (p.1, p.2) (written_counts (GaveMore (g.R.Read.remaining c.args.reader.now.0) (g.R.Read.remaining c.read_part.new.reader.0)) c.in_err-write_whole.field-0.0 c.args.reader.now.1 c.read_part.new.reader.1 c.args.writer.now.1 c.write_whole.new.self.1 c.in_ok-part.ensures.kept c.in_err-write_whole.ensures.fault.0 c.in_err-write_whole.ensures.fault.1)
+
+pub returns-clause-told : goal.returns-clause-told
+returns-clause-told g c =
+    let whole = subst (λ (bytes : List ℕ). Appends (g.W.Write.contents c.args.writer.now.0) (g.W.Write.contents c.write_whole.new.self.0) bytes) c.as_slice.ensures.value c.in_ok-write_whole.ensures.ok in
+    (c.in_ok-part.part, c.in_ok-text.text.items, c.in_ok-part.ensures.read, c.in_ok-text.ensures.text, whole)

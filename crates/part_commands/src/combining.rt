@@ -1,0 +1,37 @@
+//! Combining a part with those before it.
+ghost use Rattle.std.specs.Prelude.{◌≡◌, OnOk, IfOk, IfErr};
+ghost use Rattle.std.specs.Io.KnownBytes.{IsAtEnd};
+ghost use Rattle.table_model.specs.Faults.{IsWithin, GaveMore};
+ghost use Rattle.part_commands.specs.PartTurns.{CombinesNext, CountsErrors, RefusesNext};
+
+use crate::part_error::PartError;
+use answer_parts::Part;
+use part_file::read_part;
+use std::alloc::Global;
+use std::io::Read;
+use table_model::Counted;
+
+/// Reads a part and combines it with those before it, if there are any.
+///
+/// What is refused is, in this order, what [`read_part`] refuses, and what [`Part::combined`] refuses.
+pub fn combine_next<R: Read>(
+    alloc: Global,
+    before: Option<Part>,
+    reader: &mut Counted<R>,
+) -> Result<Part, PartError>
+    ensures combined { IfOk result (λ both. CombinesNext before (R.remaining reader.old.0) both) }
+    ensures refused { IfErr result (λ e. RefusesNext e before (R.remaining reader.old.0)) }
+    ensures end { OnOk result (IsAtEnd (R.remaining reader.new.0)) }
+    ensures within { OnOk result (IsWithin (R.remaining reader.old.0)) }
+    ensures kept { OnOk result (reader.new.1 ≡ reader.old.1) }
+    ensures fault { IfErr result (λ e. CountsErrors (GaveMore (R.remaining reader.old.0) (R.remaining reader.new.0)) e reader.old.1 reader.new.1) }
+{
+    let next = read_part(alloc, reader)?;
+    match before {
+        None => Ok(next),
+        Some(before) => {
+            let both = before.combined(alloc, next)?;
+            Ok(both)
+        }
+    }
+}
