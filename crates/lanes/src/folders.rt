@@ -183,14 +183,14 @@ pub fn part_of<'r, R: Files + AllocGlobal, O: Opening + Drop>(
 }
 
 /// The parts of these paths, whose last components are their names.
-pub fn parts_of<'r, R: Files + AllocGlobal, O: Opening + Copy + Drop>(
+pub fn parts_of<'r, R: Files + AllocGlobal, O: Opening + Drop>(
     rt: &'r R,
     paths: &[String],
     opening: O,
 ) -> Result<Vec<Part<PartFile<'r, R, O>>>, AllocError> {
     let mut parts = Vec::with_capacity(rt.alloc(), paths.len())?;
     for path in paths {
-        parts.push(part_of(rt, last_of(path.as_str()), path.as_str(), opening)?)?;
+        parts.push(part_of(rt, last_of(path.as_str()), path.as_str(), opening.again())?)?;
     }
     Ok(parts)
 }
@@ -226,7 +226,7 @@ pub fn open_folder<H: Opens, R: Eprint + Files<File = File> + Clock + AllocGloba
 }
 
 /// What the parts of these paths hold, of which there is at least one; what is told when each is opened.
-fn open_paths<H: Opens, R: Files + AllocGlobal, O: Opening + Copy + Drop>(
+fn open_paths<H: Opens, R: Files + AllocGlobal, O: Opening + Drop>(
     rt: &R,
     paths: &[String],
     opening: O,

@@ -4,17 +4,24 @@ use std::fs::{self, Files};
 use std::io::{self, ErrorKind, Read};
 
 /// What is told that a part is opened.
-pub trait Opening {
+pub trait Opening: Sized {
     /// A part is opened now.
     fn begin(&self);
+
+    /// The same, for another part.
+    fn again(&self) -> Self;
 }
 
 /// Nothing: nobody waits to hear of it.
-#[derive(Clone, Copy, Drop)]
+#[derive(Drop)]
 pub struct Untold;
 
 impl Opening for Untold {
     fn begin(&self) {}
+
+    fn again(&self) -> Untold {
+        Untold
+    }
 }
 
 /// A part's file, which is opened at the first read and closed at its end, and why a read failed.

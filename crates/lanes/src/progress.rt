@@ -190,7 +190,7 @@ impl<'p, 'n, R: Clock + Eprint> PartCount<'p, 'n, R> {
 }
 
 /// What counts the parts that are opened, and says how many they are.
-#[derive(Clone, Copy, Drop)]
+#[derive(Drop)]
 pub struct ToldOpening<'c, 'p, 'n, R> {
     count: &'c PartCount<'p, 'n, R>,
 }
@@ -209,6 +209,10 @@ impl<'c, 'p, 'n, R: Clock + Eprint> Opening for ToldOpening<'c, 'p, 'n, R> {
         self.count
             .progress
             .tell_part(self.count.folder, number, self.count.parts);
+    }
+
+    fn again(&self) -> ToldOpening<'c, 'p, 'n, R> {
+        ToldOpening::new(self.count)
     }
 }
 
