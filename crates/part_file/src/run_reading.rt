@@ -76,8 +76,8 @@ fn read_run_list(
     let mut found = Vec::new(alloc);
     let mut rest = bytes;
     for _ in 0..count {
-        let (run, after) = read_run(total, rest, found.as_slice())?;
-        found.push(run)?;
+        let (one, after) = read_run(total, rest, found.as_slice())?;
+        found.push(one)?;
         rest = after;
     }
     Ok((found, rest))
