@@ -259,8 +259,18 @@ fn a_line_is_refused_with_how_many_fields_it_has(rt: HostRuntime) -> Result<(), 
 #[test]
 fn a_line_is_compared_with_a_list_of_words(rt: HostRuntime) -> Result<(), Fail> {
     let cases: [(&[u8], bool, usize, &str); 5] = [
-        (b"1,2", false, 3, "the line has 2 fields, and --columns has 3 words"),
-        (b"1,2", false, 1, "the line has 2 fields, and --columns has 1 word"),
+        (
+            b"1,2",
+            false,
+            3,
+            "the line has 2 fields, and --columns has 3 words",
+        ),
+        (
+            b"1,2",
+            false,
+            1,
+            "the line has 2 fields, and --columns has 1 word",
+        ),
         (
             b"1,2",
             true,

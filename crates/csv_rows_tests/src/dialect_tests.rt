@@ -85,7 +85,10 @@ fn a_word_names_a_new_column_or_is_a_hyphen(rt: HostRuntime) -> Result<(), Fail>
     let schema = three(alloc)?;
     for (words, at) in WORDS {
         let found = Order::of_words(alloc, schema.column_list(), words.as_bytes());
-        assert!(rt; found.err() == Some(WordError::NoNewColumn(at)), "of {words}");
+        assert!(rt;
+            found.err() == Some(WordError::NoNewColumn(at)),
+            "of {words}"
+        );
     }
     Ok(())
 }
