@@ -1,15 +1,13 @@
 -- A part that was read, as its form.
 use Rattle.std.proofs.Common.{◌≡◌, List, ℕ, Result, Ok, Err, inl, inr, refl, ap, ◌∙◌}
-use Rattle.std.specs.FinSet as set
-use Rattle.std.specs.String.{string_bytes}
-use Rattle.table_model.specs.Name.{name_cmp}
 use Rattle.table_model.specs.Reading.{Reads, ◌>>=◌}
-use Rattle.table_model.specs.Table.{Table}
 use Rattle.table_model.specs.declared.refusal.Refusal.{Refusal}
 use Rattle.segment_core.specs.Format.{Format, read_whole}
 use Rattle.answer_parts.specs.declared.part.Part.{Part}
-use Rattle.part_file.specs.PartBytes.{Body, Entry, body_of, part}
-use Rattle.part_file.specs.PartReading.{PartForm, form_of, part_listed, part_read}
+use Rattle.part_file.specs.PartBytes.{body_of, part, part_bytes}
+use Rattle.part_file.specs.PartReading.{PartForm, PartsAreReadAgain, form_of, part_listed, part_read}
+use Rattle.column_file.proofs.FileLaws.{whole_again}
+use Rattle.part_file.proofs.PartLaws.{part_is_lawful}
 use Rattle.part_file.proofs.RunLists.{names_are}
 
 -- a part's form is that of its schema and of what comes after it
@@ -32,3 +30,6 @@ pub reads_form : (result : Result Part Refusal) (bytes : List ℕ) → Reads (λ
 reads_form (Ok p) bytes read = is_read p bytes read
 reads_form (Err e) bytes (inl fault) = inl (rw fault refl)
 reads_form (Err e) bytes (inr memory) = inr memory
+
+pub parts_are_read_again : PartsAreReadAgain
+parts_are_read_again p valid = is_read p (part_bytes p) (whole_again part part_is_lawful (p.schema, body_of p) valid)

@@ -14,6 +14,6 @@ mod part_writing;
 mod run_reading;
 mod run_writing;
 
-pub use laws::parts_and_bytes_come_back;
+pub use laws::{parts_and_bytes_come_back, parts_are_read_again};
 pub use part_reading::read_part;
 pub use part_writing::write_part;
