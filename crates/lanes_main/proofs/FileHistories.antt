@@ -14,4 +14,4 @@ pub files_are_exports : FilesAreExports
 files_are_exports bytes table ops count steps replies new replica h run here same =
     let taken = taken_of (taken_by table (new_taken count) steps replies) replica in
     let exports = histories.exports table count count steps steps replies replies new new replica replica run run here here (λ op. ((λ among. among), (λ among. among))) in
-    exports.2.0 ∙ ap File (exports.1 ∙ sym (h.file ∙ ap (canonical_file table) (state_of-same ops taken h.agree same)))
+    exports.2 ∙ ap File (exports.1 ∙ sym (h.file ∙ ap (canonical_file table) (state_of-same ops taken h.agree same)))
