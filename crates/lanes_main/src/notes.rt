@@ -94,14 +94,21 @@ fn words_of(
     } else {
         None
     };
-    let knowledge = match (&asked, schema) {
-        (Some(asked), _) => Knowledge::Text(Text {
+    // What is known is made anew here, since it lives no longer than what the line asks.
+    let known = match schema {
+        Some(schema) => Some(schema),
+        None => None,
+    };
+    let knowledge = match &asked {
+        Some(asked) => Knowledge::Text(Text {
             text: asked.text.as_str(),
             is_condition: asked.is_condition,
-            schema,
+            schema: known,
         }),
-        (None, Some(schema)) => Knowledge::Rows(schema),
-        (None, None) => Knowledge::Nothing,
+        None => match known {
+            Some(schema) => Knowledge::Rows(schema),
+            None => Knowledge::Nothing,
+        },
     };
     let sentence = Sentence {
         knowledge,
