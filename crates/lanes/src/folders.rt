@@ -212,7 +212,7 @@ pub fn open_folder<H: Opens, R: Eprint + Files<File = File> + Clock + AllocGloba
     let mut is_careful = false;
     for _ in 0..LOOKS {
         let parts = Parts::listed(rt, folder, is_careful)?;
-        let count = PartCount::new(progress, folder, parts.count());
+        let count = PartCount::new(&*progress, &*folder, parts.count());
         let outcome = open_paths(rt, parts.paths(), ToldOpening::new(&count));
         progress.clear();
         match outcome {

@@ -201,9 +201,9 @@ pub fn opened<R: Eprint + Files<File = File> + Clock + AllocGlobal + Clone + Dro
 }
 
 /// The same of a source, which may be standard input.
-pub fn opened_from<R: Eprint + Input + Files<File = File> + Clock + AllocGlobal + Clone + Drop>(
-    rt: &R,
-    progress: &Progress<'_, R>,
+pub fn opened_from<'r, R: Eprint + Input + Files<File = File> + Clock + AllocGlobal + Clone + Drop>(
+    rt: &'r R,
+    progress: &'r Progress<'r, R>,
     source: Source<'_>,
 ) -> Result<OpenFile, Failure> {
     if let Source::File(name) = source {

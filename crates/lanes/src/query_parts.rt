@@ -14,15 +14,18 @@ use std::alloc::AllocError;
 use std::fs::{File, Files};
 use std::io;
 use std::rt::Clock;
-use table_model::{Counted, Refusal};
+use table_model::{Counted, Refusal, Schema};
 
 /// What is said of a part whose text is not a query.
 const NO_QUERY: &str = "this was not written by lanes part: its text is not a query";
 
 /// Writes what a file or a folder gives to the answer of a query, as a part. The file is judged before the query is read.
-pub fn part<R: Print + Eprint + Input + Files<File = File> + Clock + AllocGlobal + Clone + Drop>(
-    rt: &R,
-    progress: &Progress<'_, R>,
+pub fn part<
+    'r,
+    R: Print + Eprint + Input + Files<File = File> + Clock + AllocGlobal + Clone + Drop,
+>(
+    rt: &'r R,
+    progress: &'r Progress<'r, R>,
     source: Source<'_>,
     sql: &str,
     is_terminal: bool,
@@ -34,20 +37,31 @@ pub fn part<R: Print + Eprint + Input + Files<File = File> + Clock + AllocGlobal
     match part_of_store(rt.alloc(), held.store(), sql) {
         Ok(part) => write_out(rt, &part),
         Err(refusal) => {
-            let text = Text {
-                text: sql,
-                is_condition: false,
-                schema: Some(held.schema()),
-            };
-            Err(Failure::of_text(rt.alloc(), refusal, "", text))
+            let schema = held.schema();
+            Err(not_asked(rt, refusal, sql, schema))
         }
     }
 }
 
-/// Writes the part of all files that some parts are of, of which there is at least one.
-pub fn combine<R: Print + Eprint + Input + Files + Clock + AllocGlobal>(
+/// Why a table is not asked a query.
+fn not_asked<'a, R: AllocGlobal>(
     rt: &R,
-    progress: &Progress<'_, R>,
+    refusal: Refusal,
+    sql: &'a str,
+    schema: &'a Schema,
+) -> Failure {
+    let text = Text {
+        text: sql,
+        is_condition: false,
+        schema: Some(schema),
+    };
+    Failure::of_text(rt.alloc(), refusal, "", text)
+}
+
+/// Writes the part of all files that some parts are of, of which there is at least one.
+pub fn combine<'r, R: Print + Eprint + Input + Files + Clock + AllocGlobal>(
+    rt: &'r R,
+    progress: &'r Progress<'r, R>,
     sources: &[Source<'_>],
     is_terminal: bool,
 ) -> Result<(), Failure> {
@@ -61,9 +75,9 @@ pub fn combine<R: Print + Eprint + Input + Files + Clock + AllocGlobal>(
 }
 
 /// Some parts, read and combined in their order. None if there are none.
-fn combined<R: Eprint + Input + Files + Clock + AllocGlobal>(
-    rt: &R,
-    progress: &Progress<'_, R>,
+fn combined<'r, R: Eprint + Input + Files + Clock + AllocGlobal>(
+    rt: &'r R,
+    progress: &'r Progress<'r, R>,
     sources: &[Source<'_>],
 ) -> Result<Option<Part>, Failure> {
     let mut before = None;
@@ -77,9 +91,9 @@ fn combined<R: Eprint + Input + Files + Clock + AllocGlobal>(
 }
 
 /// Writes the answer of the query that a part is of.
-pub fn finish<R: Print + Eprint + Input + Files + Clock + AllocGlobal>(
-    rt: &R,
-    progress: &Progress<'_, R>,
+pub fn finish<'r, R: Print + Eprint + Input + Files + Clock + AllocGlobal>(
+    rt: &'r R,
+    progress: &'r Progress<'r, R>,
     source: Source<'_>,
     format: Format,
 ) -> Result<(), Failure> {
