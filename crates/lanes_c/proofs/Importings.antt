@@ -69,6 +69,9 @@ imports_of (Err (faults.LineTooLong line)) load first words file text has_headin
 imports_of (Err (faults.OfQuery refusal query)) load first words file text has_heading loads h = absurd h
 imports_of (Err faults.NotOpen) load first words file text has_heading loads h = absurd h
 imports_of (Err (faults.InNames _)) load first words file text has_heading loads h = absurd h
+imports_of (Err (faults.NotApart _)) load first words file text has_heading loads h = absurd h
+imports_of (Err faults.QueryDiffers) load first words file text has_heading loads h = absurd h
+imports_of (Err faults.TooMany) load first words file text has_heading loads h = absurd h
 
 -- the same, over readers that had the file and the text
 pub text_fault : (e : CsvError) (csv : Reading) (schema : Table) (file input text given : List ℕ) (has_heading : Bool) → input ≡ file → given ≡ text → schema_in input ≡ Ok schema → csv ≡ at_start schema has_heading

@@ -1,9 +1,18 @@
 -- Why a part is not finished is told to C.
-use Rattle.std.specs.Prelude.{ℕ, List}
-use Rattle.std.proofs.Common.{ap, Bor, Err}
+use Rattle.std.specs.Prelude.{ℕ, List, Ok}
+use Rattle.std.specs.Global.{Vec}
+use Rattle.std.proofs.Common.{ap, sym, subst, ◌∙◌, Bor, Err}
 use Rattle.std.proofs.lemmas.Result.{err_from_is_err_and}
-use Rattle.lanes_c.proofs.PartGivings.{not_finished}
+use Rattle.lanes_c.proofs.PartGivings.{finished_given, not_finished}
+use Rattle.lanes_c.specs.Parts.{Finishes}
 use Rattle.lanes_c.proofs.parts.finished.Goals as goal
+
+pub returns : goal.returns
+returns c =
+    let R : List ℕ → Type 0 = λ t. Finishes (Ok t) c.args.format c.args.part.now in
+    subst R (sym (ap (λ (v : Vec ℕ). v.items) c.into_inner.ensures))
+    (finished_given c.args.format c.in_ok-write_answer_of_part.field-0 c.args.part.now _ _ _ (ap (λ (w : Bor (List ℕ) × ℕ). w.0.now) c.new-2.ensures)
+    (ap (λ (w : Vec ℕ × ℕ). w.0.items) c.new-writer.ensures ∙ c.new.ensures.items) c.in_ok-write_answer_of_part.ensures.told)
 
 pub returns-in_err-write_answer_of_part : goal.returns-in_err-write_answer_of_part
 returns-in_err-write_answer_of_part c =
