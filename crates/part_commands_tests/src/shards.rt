@@ -49,7 +49,7 @@ fn cell(dice: &mut Dice, limit: u32) -> Option<i128> {
 fn some_rows(alloc: Global, dice: &mut Dice) -> Result<Rows, Refusal> {
     let mut rows = Rows::new(alloc);
     for _ in 0..1 + dice.below(5) {
-        let wide = cell(dice, 4_000_000_000).map(|value| value * 2_000_000_000);
+        let wide = cell(dice, 4_000_000_000).map(|value| value.wrapping_mul(2_000_000_000));
         rows.push_row(&[cell(dice, 3), cell(dice, 40), wide])?;
     }
     Ok(rows)
