@@ -97,7 +97,7 @@ static const char SQL[] = "SELECT A,COUNT(*),SUM(B),AVG(B),MIN(B),COUNT(DISTINCT
 
 /* The parts of two files give what a query gives over both merged, in each order and format, and in rooms of each size. */
 static void try_answers(bytes one, bytes other, bytes first, bytes second) {
-    static const char *const WANTED[] = {"A,COUNT(*)", "A,COUNT(*)", "{\"A\":", "A  COUNT(*)", "A,COUNT(*)"};
+    static const char *const WANTED[] = {"A,COUNT(*)", "A,COUNT(*)", "{\"A\":", "   A  COUNT(*)", "A,COUNT(*)"};
     bytes both, whole, answer;
     TAKE(both, lanes_combine(first.at, first.length, second.at, second.length, out, room, &length, &place));
     TAKE(whole, lanes_merge(one.at, one.length, other.at, other.length, out, room, &length, &place));
