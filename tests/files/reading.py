@@ -166,8 +166,6 @@ def each_command_that_reads_slowly_says_so(room):
         (("inspect", "pipe"), held),
         (("summary", "pipe"), held),
         (("merge", "out", "t", "pipe"), held),
-        (("delete", "pipe", "A = 99"), held),
-        (("forget", "pipe"), held),
         (("offer", "t", "pipe"), summary),
         (("run", "pipe"), b"table 1 T A INTEGER\n" * 2),
     ):
