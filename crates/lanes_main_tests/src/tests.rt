@@ -211,7 +211,7 @@ const NOTED: [(&str, &str); 16] = [
     ),
     (
         "table 1 T A SMALLINT\nquery 1 SELECT * FROM T\nquery 1 SELECT COUNT(*) FROM U\ndelete where 1 B = 1\nquery 1 SELECT SUM(A) FROM T WHERE A < 1234567890123456789012345678901\n",
-        "line 2: refused Syntax 7: a query lists grouping columns and set functions: lanes dump writes the rows\nline 3: refused NoSuchTable: there is no table \"U\": the table here is T\nline 4: refused NoSuchColumn 0: there is no column \"B\": the table has A\nline 5: refused NumberTooLarge 35: the number has more than 30 digits\n",
+        "line 2: refused Syntax 7: a query lists grouping columns and set functions: lanes dump writes the rows\nline 3: refused NoSuchTable: there is no table \"U\": the table here is T\nline 4: refused NoSuchColumn 0: there is no column \"B\": the table has A\nline 5: refused NumberTooLarge 31: the number has more than 30 digits\n",
     ),
     (
         "table 1 T A SMALLINT,\n",
