@@ -125,7 +125,7 @@ FAULTS = (
     (b"", ["--columns", "A,-"], "BadCsv 1 0", "visits.csv, line 1: the header is missing: did the command before it fail?"),
     (b"x,40000\n", ["--no-header", "--columns", "-,A"], "BadCsv 1 2", 'visits.csv, line 1, column A: "40000" is outside the type SMALLINT'),
     (b"x,y\n1,2\n", ["--columns", "B,C"], "NoSuchColumn 2", '--columns, byte 2: there is no column "C": the table has A, B'),
-    (b"x,y\n1,2\n", ["--columns", "B,-,,A"], "NoSuchColumn 4", '--columns, byte 4: there is no column "": the table has A, B'),
+    (b"x,y\n1,2\n", ["--columns", "B,-,,A"], "NoSuchColumn 4", '--columns, byte 4: there is no column ",": the table has A, B'),
     (b"A,C\n", [], "BadCsv 1 2", 'visits.csv, line 1, field 2: "C" is not a column of the table, which has A, B'),
     (b"A,a\n", [], "BadCsv 1 2", 'visits.csv, line 1, field 2: "a" is there for the second time'),
     (b"1,2\n+5,2\n", ["--no-header"], "BadCsv 2 1", None),
