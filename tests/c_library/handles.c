@@ -1,29 +1,10 @@
 /* Handles of files that stay open, and several queries of one opening: closed handles, a file opened over another, a refused one, bytes
  * that go, second handles, eight threads that share and close meanwhile, and rooms that are too small. */
-#include "bytes.h"
+#include "told.h"
 
 #include <pthread.h>
 
-enum { ROOM = 4096, THREADS = 8, ROUNDS = 50, ENDS = 8, FILLER = 0xA5 };
-
-static int passed = 0, failed = 0;
-
-static void expect(bool holds, const char *what) {
-    if (holds) {
-        passed++;
-    } else {
-        failed++;
-        printf("failed: %s\n", what);
-    }
-}
-
-/* What a call told, and the room as it is then. */
-typedef struct told {
-    uint8_t number;
-    size_t length;
-    lanes_place place;
-    uint8_t out[ROOM];
-} told;
+enum { THREADS = 8, ROUNDS = 50, ENDS = 8 };
 
 static const char SUM[] = "SELECT SUM(HITS) FROM COUNTS";
 static const char GROUPS[] = "SELECT SITE,COUNT(*) FROM COUNTS GROUP BY SITE";
@@ -260,6 +241,5 @@ int main(void) {
     try_threads(file);
     free(file.at);
     free(other.at);
-    printf("handles: %d passed, %d failed\n", passed, failed);
-    return failed == 0 ? 0 : 1;
+    return told_all("handles");
 }

@@ -1,21 +1,10 @@
 /* Callers that give what no caller should: no bytes, no room, bytes that are no file, texts that are none; and eight threads at once. What
  * a call may not touch is compared byte for byte. */
-#include "bytes.h"
+#include "told.h"
 
 #include <pthread.h>
 
-enum { ROOM = 4096, THREADS = 8, ROUNDS = 20, FILLER = 0xA5 };
-
-static int passed = 0, failed = 0;
-
-static void expect(bool holds, const char *what) {
-    if (holds) {
-        passed++;
-    } else {
-        failed++;
-        printf("failed: %s\n", what);
-    }
-}
+enum { THREADS = 8, ROUNDS = 20 };
 
 /* The calls that are given a file and one more input, and those that are given a file alone, in one shape. */
 typedef uint8_t call_on_two(const uint8_t *, size_t, const uint8_t *, size_t, uint8_t *, size_t, size_t *, lanes_place *);
@@ -92,14 +81,6 @@ static uint8_t gives_columns(const uint8_t *file, size_t file_length, const uint
 static call_on_two *const CALLS[] = {checks, dumps, summarizes, creates, imports, lanes_query, lanes_delete, lanes_offer, lanes_apply, lanes_merge, answers_all, forgets, tells_schema, gives_columns};
 static const char *const NAMES[] = {"check", "dump", "summary", "create", "import", "query", "delete", "offer", "apply", "merge", "queries", "forget", "schema", "columns"};
 enum { COUNT = sizeof CALLS / sizeof *CALLS };
-
-/* What was told of one call, and the room as it is then. */
-typedef struct told {
-    uint8_t number;
-    size_t length;
-    lanes_place place;
-    uint8_t out[ROOM];
-} told;
 
 /* Calls with so much of a room of ROOM bytes, all of them FILLER. The inputs are copies in blocks of their own, so that valgrind sees a read
  * past them, and they are compared afterwards. */
@@ -352,6 +333,5 @@ int main(void) {
     try_sentences();
     try_threads(&good);
     free_inputs(&good);
-    printf("hostile: %d passed, %d failed\n", passed, failed);
-    return failed == 0 ? 0 : 1;
+    return told_all("hostile");
 }

@@ -1,27 +1,6 @@
 /* Parts of answers: combined in either order they are the same and give the answer over the merged file; hostile parts, a closed handle and
  * rooms of each size are met as lanes.h has it. */
-#include "bytes.h"
-
-enum { ROOM = 4096, FILLER = 0xA5 };
-
-static int passed = 0, failed = 0;
-
-static void expect(bool holds, const char *what) {
-    if (holds) {
-        passed++;
-    } else {
-        failed++;
-        printf("failed: %s\n", what);
-    }
-}
-
-/* What was told of one call, and the room as it is then. */
-typedef struct told {
-    uint8_t number;
-    size_t length;
-    lanes_place place;
-    uint8_t out[ROOM];
-} told;
+#include "told.h"
 
 static told cleared(void) {
     told seen;
@@ -214,6 +193,5 @@ int main(void) {
     free(other.at);
     free(first.at);
     free(second.at);
-    printf("parts: %d passed, %d failed\n", passed, failed);
-    return failed == 0 ? 0 : 1;
+    return told_all("parts");
 }
