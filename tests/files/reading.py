@@ -114,6 +114,18 @@ def what_brings_nothing_leaves_the_file_alone(room):
     room.only("o", "old", "t", "u")
 
 
+def shown_on(screen):
+    """What was shown on a terminal that no process writes to any more."""
+    shown = b""
+    with os.fdopen(screen, "rb", buffering=0) as reader:
+        try:
+            while part := reader.read(65_536):
+                shown += part
+        except OSError:
+            pass
+    return shown.replace(b"\r\n", b"\n")
+
+
 def at_a_terminal(room, *words, pieces, pause):
     """What a command shows on a terminal that is its standard error, and its status, if `pipe` gives it these pieces with a pause after each."""
     if not os.path.exists(room.path("pipe")):
@@ -129,14 +141,7 @@ def at_a_terminal(room, *words, pieces, pause):
                 break
             time.sleep(pause)
     running.communicate(timeout=120)
-    shown = b""
-    with os.fdopen(screen, "rb", buffering=0) as reader:
-        try:
-            while part := reader.read(65_536):
-                shown += part
-        except OSError:
-            pass
-    return shown.replace(b"\r\n", b"\n"), running.returncode
+    return shown_on(screen), running.returncode
 
 
 CLEAR = b"\r\x1b[K"
@@ -172,6 +177,21 @@ def each_command_that_reads_slowly_says_so(room):
         half = len(given) // 2
         shown, status = at_a_terminal(room, *words, pieces=[given[:half], given[half:-1], given[-1:]], pause=1.2)
         assert status == 0 and b"reading pipe: " in shown and shown.endswith(CLEAR), f"{words} ended with {status} and showed {shown!r}"
+
+
+def a_file_that_is_read_slowly_under_its_lock_says_so(room):
+    room.make()
+    if shutil.which("strace") is None:
+        raise Lacking("strace is not installed")
+    slowly = ["strace", "-f", "-o", "trace", "-P", room.path("t"), "-e", "inject=read,pread64,readv:delay_exit=1200000"]
+    for words in (["delete", "t", "A = 99"], ["forget", "t"]):
+        screen, terminal = pty.openpty()
+        done = subprocess.run([*slowly, room.program, *words], cwd=room.folder, stdin=subprocess.DEVNULL, stdout=subprocess.PIPE, stderr=terminal, timeout=120)
+        os.close(terminal)
+        shown = shown_on(screen)
+        if b"strace: " in shown:
+            raise Lacking(f"strace can't trace: {shown[-200:]!r}")
+        assert done.returncode == 0 and b"reading t: " in shown and shown.endswith(CLEAR), f"{words} ended with {done.returncode} and showed {shown!r}"
 
 
 def the_line_is_cleared_before_a_refusal(room):
@@ -224,6 +244,7 @@ TESTS = [
     what_brings_nothing_leaves_the_file_alone,
     a_slow_reading_says_at_a_terminal_how_far_it_is_and_clears_the_line,
     each_command_that_reads_slowly_says_so,
+    a_file_that_is_read_slowly_under_its_lock_says_so,
     the_line_is_cleared_before_a_refusal,
     the_size_of_a_file_is_said,
     a_folder_that_opens_slowly_says_which_part_is_read,
