@@ -259,8 +259,9 @@ enum { LANES_TEXT = 0, LANES_CSV = 1, LANES_JSON = 2, LANES_TABLE = 3 };
  * LANES_TEXT.
  *
  * Gives: the answer's text; with LANES_TEXT that which lanes_query gives of one file that has all rows of the part's files.
- * Refused, in this order: the part's first fault; a fault of a query's text, which the part of lanes_part does not have; LANES_TOO_MANY
- * when a mean takes more than 128 bits, or DISTINCT more than 2^36 values. */
+ * Refused: the part's first fault; then a fault of a query's text, or LANES_QUERY_DIFFERS when the groups are not those of the query,
+ * which the parts of lanes_part and lanes_combine do not have; or LANES_TOO_MANY when a mean takes more than 128 bits, or DISTINCT more
+ * than 2^36 values. */
 uint8_t lanes_finish(const uint8_t *part, size_t part_length, uint8_t format, uint8_t *out, size_t room, size_t *length,
                      lanes_place *place);
 

@@ -94,7 +94,7 @@ def finish(part: Part) -> Answer:
     """The answer of the query that a part is of, over all its tables.
 
     Raises:
-        Refused: a fault of the part, or `TooMany`.
+        Refused: a fault of the part, `QueryDiffers` if its groups are not those of its query, or `TooMany`.
     """
     return Answer.from_text(calls.given(calls.FINISH, _ROOM, _bytes_of(part), 0).decode())
 

@@ -82,7 +82,7 @@ PART_CASES = [
     Case("a part is refused whose file deletes rows that another has", ["combine", "a", "b"], 1, err=b"refused NotApart 2.1\nb" + APART % b"2.1", files={"a": DELETING, "b": SECOND}),
     Case("so it is the other way round", ["combine", "b", "-"], 1, err=b"refused NotApart 2.1\nstandard input" + APART % b"2.1", input=DELETING, files={"b": SECOND}),
     Case("a part of another query is refused", ["combine", "a", "b"], 1, err=b"refused QueryDiffers\nb: this is of the query SELECT COUNT(*),SUM( A) FROM T, and a of SELECT COUNT(*),SUM(A) FROM T\n", files={"a": FIRST, "b": OTHER_QUESTION}),
-    Case("so it is if it can't be read again", ["combine", "a", "-"], 1, err=b"refused QueryDiffers\nstandard input: the parts are of different queries: make all parts with the same text\n", input=OTHER_QUESTION, files={"a": FIRST}),
+    Case("so it is if it can't be read again", ["combine", "a", "-"], 1, err=b"refused QueryDiffers\nstandard input: the parts are of different queries, or the groups of a part are not those of its query: make all parts with the same text\n", input=OTHER_QUESTION, files={"a": FIRST}),
     Case("a part of another table is refused", ["combine", "a", "b", "c"], 1, err=b"refused SchemaDiffers\nc: this is of the table U (A SMALLINT), and a of T (A SMALLINT)\n", files={"a": FIRST, "b": counted(1, 7, (3, 1, 1)), "c": OF_U}),
     Case("so it is from standard input", ["combine", "a", "-"], 1, err=b"refused SchemaDiffers\nstandard input: the tables differ in their names, columns or types\n", input=OF_U, files={"a": FIRST}),
     Case("a file is no part", ["combine", "a", "t"], 1, err=b"refused BadMagic\nt: the first four bytes are not those of this format\n", files={"a": FIRST, "t": ONE_ROW}),

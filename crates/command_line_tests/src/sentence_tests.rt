@@ -220,7 +220,7 @@ fn a_sentence_names_its_input_and_what_is_known_beside(rt: HostRuntime) -> Resul
             CommandRefusal::QueryDiffers,
             "b.part",
             Knowledge::Nothing,
-            "b.part: the parts are of different queries: make all parts with the same text",
+            "b.part: the parts are of different queries, or the groups of a part are not those of its query: make all parts with the same text",
         ),
         (
             CommandRefusal::TooMany,

@@ -135,7 +135,8 @@ pub extern "C" fn lanes_combine(
 /// Gives the answer of the query that a part is of, in the format of a number: 0 as a text, as `lanes_query` gives it, 1 as
 /// comma-separated values, 2 as JSON, 3 as a table. Another number is taken for 0.
 ///
-/// Refused are the part's first fault, `TooMany`, and what a query's text is refused as if that of the part is none.
+/// Refused are the part's first fault; what a query's text is refused as, if that of the part is no query of its table; `QueryDiffers`
+/// if the part's groups are not those of its query; and `TooMany`.
 #[unsafe(no_mangle)]
 pub extern "C" fn lanes_finish(
     alloc: Global,

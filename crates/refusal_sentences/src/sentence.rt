@@ -196,7 +196,7 @@ impl<'a> Sentence<'a> {
                 "batch {name} is in both parts, or one file deletes rows of it that the other has: merge these files, and make one part of what comes"
             ),
             CommandRefusal::QueryDiffers => f.write_str(
-                "the parts are of different queries: make all parts with the same text",
+                "the parts are of different queries, or the groups of a part are not those of its query: make all parts with the same text",
             ),
             CommandRefusal::TooMany => f.write_str(
                 "a count has more than 64 bits, a sum or a mean more than 128, or DISTINCT more than 2^36 values: ask fewer files at once",
