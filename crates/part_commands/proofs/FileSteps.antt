@@ -10,6 +10,7 @@ use Rattle.answer_parts.specs.declared.part.Part.{Part}
 use Rattle.column_file.specs.Files.{Exports}
 use Rattle.column_file.specs.Input.{Judges, is_refusal_of_reading}
 use Rattle.part_file.specs.PartBytes.{part_bytes}
+use Rattle.part_file.specs.PartReading.{has_bytes}
 use Rattle.replica_files.specs.Asking.{is_refusal_of_answering}
 use Rattle.replica_files.specs.Commands.{held_in}
 use Rattle.replica_files.proofs.CommandSteps.{exported_put}
@@ -32,9 +33,9 @@ unwritten p e before now given is (inr failed) = inr (failed.0, (p, is, failed.1
 
 -- its bytes are written
 pub part_written : (p : Part) (result : Result (Unit {0}) Refusal) (before now : Option (List ℕ)) (w w' : ℕ) (given : Result PartMeaning Refusal) → given ≡ Ok (meaning_of p)
-    → Exports result before now w w' (part_bytes p) → WritesPart result before now given
-part_written p (Ok done) before now w w' given is h = (p, is, h.0)
-part_written p (Err e) before now w w' given is h = unwritten p e before now given is (exported_put e before now w w' (part_bytes p) h)
+    → Exports result before now w w' (part_bytes p) → OnOk result (IsTrue (has_bytes p)) → WritesPart result before now given
+part_written p (Ok done) before now w w' given is h has = (p, is, h.0, has)
+part_written p (Err e) before now w w' given is h has = unwritten p e before now given is (exported_put e before now w w' (part_bytes p) h)
 
 listed : (e : Refusal) (before now : Option (List ℕ)) (bytes : List ℕ) → ((e ≡ Memory) × (now ≡ before)) ⊎ ((e ≡ WriteFault) × AppendsFront before now bytes) → IsTrue (is_refusal_of_answering e)
 listed e before now bytes (inl lacks) = ap is_refusal_of_answering lacks.0

@@ -20,6 +20,7 @@ use Rattle.answer_parts.proofs.Names.{counted}
 use Rattle.answer_parts.proofs.Whole.{alone}
 use Rattle.store_view.specs.Asked.{answer_where, query_answer, unless_refused}
 use Rattle.part_commands.specs.PartCommandLaws.{ComesOf, PartCommandLaws}
+use Rattle.part_commands.proofs.PartsAgain.{read_again}
 use Rattle.part_commands.specs.StorePart.{PartMeaning, finished, meaning_of, meaning_with, query_part}
 
 ok_one : {X : Type 0} (x y : X) → ◌≡◌ {A = Result X Refusal} (Ok x) (Ok y) → x ≡ y
@@ -131,4 +132,5 @@ part_command_laws = record {
   answered = answered;
   joins = joins;
   answers = λ text table shards p comes. answered text table (joined shards) (meaning_of p) (joins text table shards p comes);
+  read_again = read_again;
 }

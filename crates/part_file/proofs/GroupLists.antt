@@ -1,14 +1,12 @@
 -- Groups in ascending order of their keys, one put after the others.
-use Rattle.std.proofs.Common.{◌≡◌, ℕ, ◌+◌, ◌-◌, ◌<◌, Bool, true, false, ◌||◌, eqb, get_or, List, [], ◌∷◌, ◌++◌, length, map, Option, Some, None, refl, sym, ap, subst, ◌∙◌, arith}
+use Rattle.std.proofs.Common.{◌≡◌, ℕ, ◌+◌, ◌-◌, Bool, true, ◌||◌, get_or, List, [], ◌∷◌, ◌++◌, length, map, Some, refl, sym, ap, subst, ◌∙◌, arith}
 use Rattle.std.specs.BTreeMap.{insert_entry}
-use Rattle.std.specs.Cmp.{IsTotalOrder}
 use Rattle.std.specs.Global.{Vec}
 use Rattle.std.specs.List.{AllByRecursion, slice_get}
 use Rattle.std.specs.List.Sorted.{IsStrictlySortedBy}
 use Rattle.std.specs.Map.{keys_of}
-use Rattle.std.specs.Ordering.{is_lt, match_ordering, ordering_reverse}
-use Rattle.std.specs.declared.cmp.Ordering.{Ordering}
-use Rattle.std.specs.declared.cmp.Ordering.TheVariants.{Less, Equal, Greater}
+use Rattle.std.specs.Ordering.{is_lt, ordering_reverse}
+use Rattle.std.specs.declared.cmp.Ordering.TheVariants.{Less, Greater}
 use Rattle.std.proofs.lemmas.List.{length-append, map-append}
 use Rattle.table_model.specs.Group.{key_cmp}
 use Rattle.table_model.specs.State.{Cells}
@@ -39,7 +37,7 @@ group_after_last front y g =
     ∙ ap (λ (x : Entry). is_lt (key_cmp x.0 g.0)) (last_is front y g)
 
 -- a group of a part in the code
-abbrev Pair : Type 0
+abbrev pub Pair : Type 0
 Pair = Cells × Vec Kept
 
 listed_last : (front : List Pair) (e : Pair) → map entry_of (front ++ e ∷ []) ≡ map entry_of front ++ entry_of e ∷ []

@@ -5,3 +5,5 @@ pub mod PartsRead
 pub mod Rising
 pub mod RunLists
 pub mod Spelled
+pub mod Written
+pub mod WrittenParts

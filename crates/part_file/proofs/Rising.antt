@@ -1,5 +1,5 @@
 -- What is valid rises: runs of names, and distinct values.
-use Rattle.std.proofs.Common.{◌≡◌, ℕ, ◌+◌, ◌-◌, ◌*◌, ◌<◌, ◌≤◌, Bool, true, false, ◌&&◌, ◌||◌, eqb, leb, ltb, get_or, List, [], ◌∷◌, ◌++◌, length, ℤ, refl, sym, ap, ◌∙◌, arith}
+use Rattle.std.proofs.Common.{◌≡◌, ℕ, ◌+◌, ◌-◌, ◌*◌, ◌<◌, ◌≤◌, Bool, true, false, ◌&&◌, ◌||◌, eqb, ltb, get_or, List, [], ◌∷◌, ◌++◌, length, ℤ, refl, sym, ap, ◌∙◌, arith}
 use Rattle.std.specs.List.{AllByRecursion}
 use Rattle.std.specs.List.Sorted.{IsStrictlySortedBy}
 use Rattle.std.specs.Ordering.{int_cmp, is_lt}
@@ -10,12 +10,11 @@ use Rattle.std.proofs.lemmas.Bool.{and_parts, leb-true}
 use Rattle.std.proofs.lemmas.Bool.Decides.{nat_tests}
 use Rattle.std.proofs.lemmas.List.{length-append}
 use Rattle.std.proofs.Math.Seq.{get_or-append_seam}
-use Rattle.table_model.specs.Name.{is_proper_name}
-use Rattle.catalogue_join.specs.Run.{is_named_run, name_place, run_shape}
-use Rattle.catalogue_join.specs.RunShape.{HasBounds, bounds_of, named_from}
+use Rattle.catalogue_join.specs.Run.{name_place, run_shape}
+use Rattle.catalogue_join.specs.RunShape.{HasBounds, named_from}
 use Rattle.catalogue_join.specs.Span.{Rises}
 use Rattle.catalogue_join.specs.declared.run.Run.{Run}
-use Rattle.segment_core.specs.Format.{Format, all, number, signed, valid_all}
+use Rattle.segment_core.specs.Format.{all, number, signed, valid_all}
 use Rattle.segment_core.proofs.NumberLaws.{number_valid}
 use Rattle.part_file.specs.PartBytes.{begins_after, counted, ends_before, is_greater, is_named, is_run, run, run_parts, runs, value, values}
 

@@ -60,18 +60,18 @@ runs_spelled rs = counted_flat run rs run_anywhere
 
 -- ---- numbers
 
-fits_wide : (z : ℤ) → FitsSigned w128 z → is_in_bits 128 z ≡ true
+pub fits_wide : (z : ℤ) → FitsSigned w128 z → is_in_bits 128 z ≡ true
 fits_wide (pos n) fits = lt-ltb _ _ fits.sfits
 fits_wide (negsuc n) fits = lt-ltb _ _ fits.sfits
 
-wide_below : (z : ℤ) → FitsSigned w128 z → cast_unsigned w128 z < 256 ^ 16
+pub wide_below : (z : ℤ) → FitsSigned w128 z → cast_unsigned w128 z < 256 ^ 16
 wide_below z fits = (Fits-of_z fits).fits
 
 pub wide_spelled : (z : ℤ) → FitsSigned w128 z → wide.spell z ≡ little_bytes 16 (cast_unsigned w128 z)
 unfolding wide
 wide_spelled z fits = rw (fits_wide z fits) (number_spelled 16 (cast_unsigned w128 z) (wide_below z fits))
 
-is_64 : IsLaneWidth 64
+pub is_64 : IsLaneWidth 64
 is_64 = inr (inr (inr refl))
 
 pub null_spelled : cell.spell None ≡ (number 1).spell 0
@@ -82,7 +82,7 @@ some_spelled : (z : ℤ) → cell.spell (Some z) ≡ (number 1).spell (cell_word
 unfolding cell
 some_spelled z = refl
 
-one_word : (z : ℤ) → is_in_bits 64 z ≡ true → cell_words (Some z) ≡ 1
+pub one_word : (z : ℤ) → is_in_bits 64 z ≡ true → cell_words (Some z) ≡ 1
 one_word z e = ap (λ (b : Bool). cond (not b) 2 1) e
 
 pub short_spelled : (z : ℤ) → FitsSigned w64 z → cell.spell (Some z) ≡ (number 1).spell 1 ++ (signed 64).spell z

@@ -1,6 +1,6 @@
 //! The groups of a part put at the end of bytes.
-ghost use Rattle.std.specs.Prelude.{◌≡◌, ◌++◌, [], map, OnOk};
-ghost use Rattle.std.specs.List.{flat_map};
+ghost use Rattle.std.specs.Prelude.{◌≡◌, ◌++◌, [], map, IsTrue, OnOk};
+ghost use Rattle.std.specs.List.{flat_map, list_all};
 ghost use Rattle.segment_core.specs.Format.{Format};
 ghost use Rattle.part_file.specs.PartBytes.{entry_of, group, groups};
 
@@ -13,7 +13,8 @@ use std::collections::BTreeMap;
 
 /// Puts a group: its keys, and what is kept for each measure.
 fn push_group(bytes: &mut Vec<u8>, key: &Key, measures: &[Kept]) -> Result<(), AllocError>
-    ensures { OnOk result (bytes.new.items ≡ bytes.old.items ++ (group []).spell (key.now, measures.now)) }
+    ensures put { OnOk result (bytes.new.items ≡ bytes.old.items ++ (group []).spell (key.now, measures.now)) }
+    ensures valid { OnOk result (IsTrue ((group []).valid (key.now, measures.now))) }
 {
     push_key(bytes, key.cells())?;
     push_measures(bytes, measures)?;
@@ -22,7 +23,8 @@ fn push_group(bytes: &mut Vec<u8>, key: &Key, measures: &[Kept]) -> Result<(), A
 
 /// Puts groups in ascending order of their keys.
 fn push_group_list(bytes: &mut Vec<u8>, all: &BTreeMap<Key, Vec<Kept>>) -> Result<(), AllocError>
-    ensures { OnOk result (bytes.new.items ≡ bytes.old.items ++ flat_map (group []).spell (map entry_of all.now.entries)) }
+    ensures put { OnOk result (bytes.new.items ≡ bytes.old.items ++ flat_map (group []).spell (map entry_of all.now.entries)) }
+    ensures valid { OnOk result (IsTrue (list_all (group []).valid (map entry_of all.now.entries))) }
 {
     for (key, measures) in all.iter() {
         push_group(bytes, key, measures.as_slice())?;
@@ -32,7 +34,8 @@ fn push_group_list(bytes: &mut Vec<u8>, all: &BTreeMap<Key, Vec<Kept>>) -> Resul
 
 /// Puts groups in ascending order of their keys: how many there are, and these.
 pub fn push_groups(bytes: &mut Vec<u8>, all: &BTreeMap<Key, Vec<Kept>>) -> Result<(), AllocError>
-    ensures { OnOk result (bytes.new.items ≡ bytes.old.items ++ groups.spell (map entry_of all.now.entries)) }
+    ensures put { OnOk result (bytes.new.items ≡ bytes.old.items ++ groups.spell (map entry_of all.now.entries)) }
+    ensures valid { OnOk result (IsTrue (groups.valid (map entry_of all.now.entries))) }
 {
     push_number(bytes, all.len() as u64, 8)?;
     push_group_list(bytes, all)?;

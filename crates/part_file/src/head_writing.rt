@@ -1,5 +1,6 @@
 //! Writing what a part begins with: its own four bytes, the version, and a schema.
-ghost use Rattle.std.specs.Prelude.{◌≡◌, cond};
+ghost use Rattle.std.specs.Prelude.{◌≡◌, cond, IsTrue, OnOk};
+ghost use Rattle.table_model.specs.Table.{IsTable};
 ghost use Rattle.segment_core.specs.Format.{Format, Writes};
 ghost use Rattle.column_file.specs.SchemaBytes.{has_tiny, version_of};
 ghost use Rattle.column_file.specs.SummaryBytes.{head};
@@ -11,7 +12,8 @@ use table_model::{Counted, Refusal, Schema};
 
 /// Whether a schema has a column of 8 bits.
 fn has_tiny(schema: &Schema) -> bool
-    ensures { result ≡ has_tiny schema.now }
+    ensures value { result ≡ has_tiny schema.now }
+    ensures proper { IsTable schema.now }
 {
     schema
         .column_list()
@@ -21,7 +23,8 @@ fn has_tiny(schema: &Schema) -> bool
 
 /// The version of a schema: 2 exactly if it has a column of 8 bits, otherwise 1.
 fn version_of(schema: &Schema) -> u64
-    ensures { result ≡ version_of schema.now }
+    ensures value { result ≡ version_of schema.now }
+    ensures proper { IsTable schema.now }
 {
     if has_tiny(schema) { 2 } else { 1 }
 }
@@ -32,7 +35,8 @@ pub fn write_head<W: Write>(
     magic: &[u8],
     schema: &Schema,
 ) -> Result<(), Refusal>
-    ensures { Writes result (W.contents writer.old.0) (W.contents writer.new.0) writer.old.1 writer.new.1 ((head magic.now).spell schema.now) }
+    ensures written { Writes result (W.contents writer.old.0) (W.contents writer.new.0) writer.old.1 writer.new.1 ((head magic.now).spell schema.now) }
+    ensures valid { OnOk result (IsTrue ((head magic.now).valid schema.now)) }
 {
     write_whole(writer, magic)?;
     write_number(writer, version_of(schema), 2)?;

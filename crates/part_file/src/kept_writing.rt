@@ -1,6 +1,8 @@
 //! What a part keeps of a group, put at the end of bytes.
-ghost use Rattle.std.specs.Prelude.{◌≡◌, ◌++◌, OnOk};
-ghost use Rattle.std.specs.List.{flat_map};
+ghost use Rattle.std.specs.Prelude.{◌≡◌, ◌++◌, IsTrue, OnOk};
+ghost use Rattle.std.specs.List.{flat_map, list_all};
+ghost use Rattle.std.specs.List.Sorted.{IsStrictlySortedBy};
+ghost use Rattle.std.specs.Ordering.{int_cmp};
 ghost use Rattle.segment_core.specs.Format.{Format, signed};
 ghost use Rattle.answer_parts.specs.Refusing.{kept_kind};
 ghost use Rattle.part_file.specs.PartBytes.{cell, counted, kept, kept_as, key, sum_parts, values};
@@ -11,7 +13,8 @@ use std::alloc::AllocError;
 
 /// Puts values.
 fn push_value_list(bytes: &mut Vec<u8>, all: &[i64]) -> Result<(), AllocError>
-    ensures { OnOk result (bytes.new.items ≡ bytes.old.items ++ flat_map (signed 64).spell all.now) }
+    ensures put { OnOk result (bytes.new.items ≡ bytes.old.items ++ flat_map (signed 64).spell all.now) }
+    ensures valid { OnOk result (IsTrue (list_all (signed 64).valid all.now)) }
 {
     for one in all {
         push_narrow(bytes, *one)?;
@@ -21,7 +24,9 @@ fn push_value_list(bytes: &mut Vec<u8>, all: &[i64]) -> Result<(), AllocError>
 
 /// Puts distinct values in ascending order: how many there are, and these.
 fn push_values(bytes: &mut Vec<u8>, all: &[i64]) -> Result<(), AllocError>
-    ensures { OnOk result (bytes.new.items ≡ bytes.old.items ++ values.spell all.now) }
+    requires { IsStrictlySortedBy int_cmp all.now }
+    ensures put { OnOk result (bytes.new.items ≡ bytes.old.items ++ values.spell all.now) }
+    ensures valid { OnOk result (IsTrue (values.valid all.now)) }
 {
     push_number(bytes, all.len() as u64, 8)?;
     push_value_list(bytes, all)?;
@@ -30,7 +35,8 @@ fn push_values(bytes: &mut Vec<u8>, all: &[i64]) -> Result<(), AllocError>
 
 /// Puts a count and a sum.
 fn push_sums(bytes: &mut Vec<u8>, sums: Sums) -> Result<(), AllocError>
-    ensures { OnOk result (bytes.new.items ≡ bytes.old.items ++ sum_parts.spell (sums.count, sums.sum)) }
+    ensures put { OnOk result (bytes.new.items ≡ bytes.old.items ++ sum_parts.spell (sums.count, sums.sum)) }
+    ensures valid { OnOk result (IsTrue (sum_parts.valid (sums.count, sums.sum))) }
 {
     push_number(bytes, sums.count, 8)?;
     push_wide(bytes, sums.sum)?;
@@ -52,7 +58,8 @@ fn kind(kept: &Kept) -> u64
 
 /// Puts what is kept, without its kind.
 fn push_content(bytes: &mut Vec<u8>, measure: &Kept) -> Result<(), AllocError>
-    ensures { OnOk result (bytes.new.items ≡ bytes.old.items ++ (kept_as (kept_kind measure.now)).spell measure.now) }
+    ensures put { OnOk result (bytes.new.items ≡ bytes.old.items ++ (kept_as (kept_kind measure.now)).spell measure.now) }
+    ensures valid { OnOk result (IsTrue ((kept_as (kept_kind measure.now)).valid measure.now)) }
 {
     match measure {
         Kept::Count(count) => push_number(bytes, *count, 8),
@@ -65,7 +72,8 @@ fn push_content(bytes: &mut Vec<u8>, measure: &Kept) -> Result<(), AllocError>
 
 /// Puts what is kept for a measure: its kind, and what is kept.
 fn push_kept(bytes: &mut Vec<u8>, measure: &Kept) -> Result<(), AllocError>
-    ensures { OnOk result (bytes.new.items ≡ bytes.old.items ++ kept.spell measure.now) }
+    ensures put { OnOk result (bytes.new.items ≡ bytes.old.items ++ kept.spell measure.now) }
+    ensures valid { OnOk result (IsTrue (kept.valid measure.now)) }
 {
     push_number(bytes, kind(measure), 1)?;
     push_content(bytes, measure)?;
@@ -74,7 +82,8 @@ fn push_kept(bytes: &mut Vec<u8>, measure: &Kept) -> Result<(), AllocError>
 
 /// Puts what is kept for some measures.
 fn push_measure_list(bytes: &mut Vec<u8>, measures: &[Kept]) -> Result<(), AllocError>
-    ensures { OnOk result (bytes.new.items ≡ bytes.old.items ++ flat_map kept.spell measures.now) }
+    ensures put { OnOk result (bytes.new.items ≡ bytes.old.items ++ flat_map kept.spell measures.now) }
+    ensures valid { OnOk result (IsTrue (list_all kept.valid measures.now)) }
 {
     for measure in measures {
         push_kept(bytes, measure)?;
@@ -84,7 +93,8 @@ fn push_measure_list(bytes: &mut Vec<u8>, measures: &[Kept]) -> Result<(), Alloc
 
 /// Puts what is kept for each measure: how many measures there are, and these.
 pub fn push_measures(bytes: &mut Vec<u8>, measures: &[Kept]) -> Result<(), AllocError>
-    ensures { OnOk result (bytes.new.items ≡ bytes.old.items ++ (counted (λ _. kept)).spell measures.now) }
+    ensures put { OnOk result (bytes.new.items ≡ bytes.old.items ++ (counted (λ _. kept)).spell measures.now) }
+    ensures valid { OnOk result (IsTrue ((counted (λ _. kept)).valid measures.now)) }
 {
     push_number(bytes, measures.len() as u64, 8)?;
     push_measure_list(bytes, measures)?;
@@ -93,7 +103,8 @@ pub fn push_measures(bytes: &mut Vec<u8>, measures: &[Kept]) -> Result<(), Alloc
 
 /// Puts cells.
 fn push_cell_list(bytes: &mut Vec<u8>, cells: &[Option<i128>]) -> Result<(), AllocError>
-    ensures { OnOk result (bytes.new.items ≡ bytes.old.items ++ flat_map cell.spell cells.now) }
+    ensures put { OnOk result (bytes.new.items ≡ bytes.old.items ++ flat_map cell.spell cells.now) }
+    ensures valid { OnOk result (IsTrue (list_all cell.valid cells.now)) }
 {
     for one in cells {
         push_cell(bytes, *one)?;
@@ -103,7 +114,8 @@ fn push_cell_list(bytes: &mut Vec<u8>, cells: &[Option<i128>]) -> Result<(), All
 
 /// Puts a group's keys: how many cells there are, and these.
 pub fn push_key(bytes: &mut Vec<u8>, cells: &[Option<i128>]) -> Result<(), AllocError>
-    ensures { OnOk result (bytes.new.items ≡ bytes.old.items ++ key.spell cells.now) }
+    ensures put { OnOk result (bytes.new.items ≡ bytes.old.items ++ key.spell cells.now) }
+    ensures valid { OnOk result (IsTrue (key.valid cells.now)) }
 {
     push_number(bytes, cells.len() as u64, 8)?;
     push_cell_list(bytes, cells)?;

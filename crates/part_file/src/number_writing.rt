@@ -1,5 +1,5 @@
 //! Numbers put at the end of bytes.
-ghost use Rattle.std.specs.Prelude.{◌≡◌, ◌^◌, ◌<◌, ◌≤◌, ◌++◌, Some, FitsSigned, IfSome, IsSome, OnOk};
+ghost use Rattle.std.specs.Prelude.{◌≡◌, ◌^◌, ◌<◌, ◌≤◌, ◌++◌, Some, FitsSigned, IfSome, IsSome, IsTrue, OnOk};
 ghost use Rattle.std.specs.Int.{w64};
 ghost use Rattle.segment_core.specs.Format.{Format, number, signed};
 ghost use Rattle.part_file.specs.PartBytes.{cell, extreme, wide};
@@ -12,7 +12,8 @@ pub fn push_number(bytes: &mut Vec<u8>, value: u64, size: usize) -> Result<(), A
     requires low { 1 ≤ size }
     requires high { size ≤ 8 }
     requires fits { value < 256 ^ size }
-    ensures { OnOk result (bytes.new.items ≡ bytes.old.items ++ (number size).spell value) }
+    ensures put { OnOk result (bytes.new.items ≡ bytes.old.items ++ (number size).spell value) }
+    ensures valid { IsTrue ((number size).valid value) }
 {
     let mut room = [0; 8];
     LittleEndian::write_uint(&mut room, value, size);
@@ -21,7 +22,8 @@ pub fn push_number(bytes: &mut Vec<u8>, value: u64, size: usize) -> Result<(), A
 
 /// Puts a signed number in 8 bytes.
 pub fn push_narrow(bytes: &mut Vec<u8>, value: i64) -> Result<(), AllocError>
-    ensures { OnOk result (bytes.new.items ≡ bytes.old.items ++ (signed 64).spell value) }
+    ensures put { OnOk result (bytes.new.items ≡ bytes.old.items ++ (signed 64).spell value) }
+    ensures valid { IsTrue ((signed 64).valid value) }
 {
     let mut room = [0; 8];
     LittleEndian::write_i64(&mut room, value);
@@ -31,7 +33,8 @@ pub fn push_narrow(bytes: &mut Vec<u8>, value: i64) -> Result<(), AllocError>
 /// Puts a signed number in 16 bytes.
 #[tactic(auto, using(crate::proofs::Spelled::wide_spelled))]
 pub fn push_wide(bytes: &mut Vec<u8>, value: i128) -> Result<(), AllocError>
-    ensures { OnOk result (bytes.new.items ≡ bytes.old.items ++ wide.spell value) }
+    ensures put { OnOk result (bytes.new.items ≡ bytes.old.items ++ wide.spell value) }
+    ensures valid { IsTrue (wide.valid value) }
 {
     let mut room = [0; 16];
     LittleEndian::write_i128(&mut room, value);
@@ -79,7 +82,8 @@ fn push_value(bytes: &mut Vec<u8>, value: i128) -> Result<(), AllocError>
 
 /// Puts a key's cell: how many times 8 bytes it takes, and its number.
 pub fn push_cell(bytes: &mut Vec<u8>, number: Option<i128>) -> Result<(), AllocError>
-    ensures { OnOk result (bytes.new.items ≡ bytes.old.items ++ cell.spell number) }
+    ensures put { OnOk result (bytes.new.items ≡ bytes.old.items ++ cell.spell number) }
+    ensures valid { IsTrue (cell.valid number) }
 {
     match number {
         None => push_number(bytes, 0, 1),
@@ -89,7 +93,8 @@ pub fn push_cell(bytes: &mut Vec<u8>, number: Option<i128>) -> Result<(), AllocE
 
 /// Puts whether there is a value, and the value.
 pub fn push_extreme(bytes: &mut Vec<u8>, most: Option<i64>) -> Result<(), AllocError>
-    ensures { OnOk result (bytes.new.items ≡ bytes.old.items ++ extreme.spell most) }
+    ensures put { OnOk result (bytes.new.items ≡ bytes.old.items ++ extreme.spell most) }
+    ensures valid { IsTrue (extreme.valid most) }
 {
     match most {
         None => push_number(bytes, 0, 1),

@@ -1,6 +1,8 @@
 //! Sets of batches' names put at the end of bytes, as runs of numbers.
-ghost use Rattle.std.specs.Prelude.{◌≡◌, ◌++◌, [], OnOk};
+ghost use Rattle.std.specs.Prelude.{◌≡◌, ◌++◌, [], IsTrue, OnOk};
 ghost use Rattle.std.specs.List.{flat_map};
+ghost use Rattle.catalogue_join.specs.Run.{run_shape};
+ghost use Rattle.catalogue_join.specs.Span.{Rises};
 ghost use Rattle.segment_core.specs.Format.{Format};
 ghost use Rattle.part_file.specs.PartBytes.{run, runs, runs_of};
 
@@ -30,7 +32,9 @@ fn push_run_list(bytes: &mut Vec<u8>, all: &[Run]) -> Result<(), AllocError>
 
 /// Puts runs: how many there are, and these.
 fn push_runs(bytes: &mut Vec<u8>, all: &[Run]) -> Result<(), AllocError>
-    ensures { OnOk result (bytes.new.items ≡ bytes.old.items ++ runs.spell all.now) }
+    requires { Rises run_shape 0 all.now }
+    ensures put { OnOk result (bytes.new.items ≡ bytes.old.items ++ runs.spell all.now) }
+    ensures valid { OnOk result (IsTrue (runs.valid all.now)) }
 {
     push_number(bytes, all.len() as u64, 8)?;
     push_run_list(bytes, all)?;
@@ -39,7 +43,8 @@ fn push_runs(bytes: &mut Vec<u8>, all: &[Run]) -> Result<(), AllocError>
 
 /// Puts the maximal runs of a set of names in ascending order.
 pub fn push_names(bytes: &mut Vec<u8>, names: &Held) -> Result<(), AllocError>
-    ensures { OnOk result (bytes.new.items ≡ bytes.old.items ++ runs.spell (runs_of names.now)) }
+    ensures put { OnOk result (bytes.new.items ≡ bytes.old.items ++ runs.spell (runs_of names.now)) }
+    ensures valid { OnOk result (IsTrue (runs.valid (runs_of names.now))) }
 {
     push_runs(bytes, names.runs())
 }

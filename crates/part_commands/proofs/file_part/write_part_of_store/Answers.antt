@@ -25,13 +25,13 @@ returns-in_err-part-clause-fault g c =
 pub returns-clause-told : goal.returns-clause-told
 returns-clause-told g c =
     let r = c.args.store.now.replica in
-    part_written c.in_ok-part.part c.write_part.result (g.W.Write.contents c.args.writer.now.0) (g.W.Write.contents c.write_part.new.writer.0) c.args.writer.now.1 c.write_part.new.writer.1 (query_part c.args.sql.now r.schema r.state) c.in_ok-part.ensures.read c.write_part.ensures
+    part_written c.in_ok-part.part c.write_part.result (g.W.Write.contents c.args.writer.now.0) (g.W.Write.contents c.write_part.new.writer.0) c.args.writer.now.1 c.write_part.new.writer.1 (query_part c.args.sql.now r.schema r.state) c.in_ok-part.ensures.read c.write_part.ensures.written c.write_part.ensures.valid
 
 pub returns-clause-refused : goal.returns-clause-refused
-returns-clause-refused g c = writing_listed c.write_part.result (g.W.Write.contents c.args.writer.now.0) (g.W.Write.contents c.write_part.new.writer.0) c.args.writer.now.1 c.write_part.new.writer.1 (part_bytes c.in_ok-part.part) c.write_part.ensures
+returns-clause-refused g c = writing_listed c.write_part.result (g.W.Write.contents c.args.writer.now.0) (g.W.Write.contents c.write_part.new.writer.0) c.args.writer.now.1 c.write_part.new.writer.1 (part_bytes c.in_ok-part.part) c.write_part.ensures.written
 
 pub returns-clause-kept : goal.returns-clause-kept
-returns-clause-kept g c = writing_kept c.write_part.result (g.W.Write.contents c.args.writer.now.0) (g.W.Write.contents c.write_part.new.writer.0) c.args.writer.now.1 c.write_part.new.writer.1 (part_bytes c.in_ok-part.part) c.write_part.ensures
+returns-clause-kept g c = writing_kept c.write_part.result (g.W.Write.contents c.args.writer.now.0) (g.W.Write.contents c.write_part.new.writer.0) c.args.writer.now.1 c.write_part.new.writer.1 (part_bytes c.in_ok-part.part) c.write_part.ensures.written
 
 pub returns-clause-fault : goal.returns-clause-fault
-returns-clause-fault g c = export_counts c.write_part.result (g.W.Write.contents c.args.writer.now.0) (g.W.Write.contents c.write_part.new.writer.0) c.args.writer.now.1 c.write_part.new.writer.1 (part_bytes c.in_ok-part.part) c.write_part.ensures
+returns-clause-fault g c = export_counts c.write_part.result (g.W.Write.contents c.args.writer.now.0) (g.W.Write.contents c.write_part.new.writer.0) c.args.writer.now.1 c.write_part.new.writer.1 (part_bytes c.in_ok-part.part) c.write_part.ensures.written

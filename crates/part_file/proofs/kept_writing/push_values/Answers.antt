@@ -3,9 +3,13 @@ use Rattle.std.specs.List.{flat_map}
 use Rattle.segment_core.specs.Format.{number, signed}
 use Rattle.part_file.specs.PartBytes.{values}
 use Rattle.part_file.proofs.Spelled.{both_put, values_spelled}
+use Rattle.part_file.proofs.Written.{values_valid}
 use Rattle.part_file.proofs.kept_writing.push_values.Goals as goal
 
-pub returns : goal.returns
-returns c =
+pub returns-clause-put : goal.returns-clause-put
+returns-clause-put c =
     both_put c.args.bytes.now.items c.push_number.new.bytes.items c.push_value_list.new.bytes.items ((number 8).spell (length c.args.all.now)) (flat_map (signed 64).spell c.args.all.now) (values.spell c.args.all.now)
-    c.in_ok-push_number.ensures c.in_ok-push_value_list.ensures (values_spelled c.args.all.now)
+    c.in_ok-push_number.ensures.put c.in_ok-push_value_list.ensures.put (values_spelled c.args.all.now)
+
+pub returns-clause-valid : goal.returns-clause-valid
+returns-clause-valid c = values_valid c.args.all.now c.in_ok-push_number.ensures.valid c.requires c.in_ok-push_value_list.ensures.valid

@@ -10,4 +10,4 @@ pub returns : goal.returns
 returns c =
     let fits : FitsSigned w128 c.args.value = search rules in
     both_put c.args.bytes.now.items c.push_number.new.bytes.items c.push_wide.new.bytes.items ((number 1).spell 2) (wide.spell c.args.value) ((number 1).spell 2 ++ wide.spell c.args.value)
-    c.in_ok-push_number.ensures (rw (to_z-of_z w128 c.args.value fits) at c.in_ok-push_wide.ensures) refl
+    c.in_ok-push_number.ensures.put (rw (to_z-of_z w128 c.args.value fits) at c.in_ok-push_wide.ensures.put) refl

@@ -9,4 +9,4 @@ pub returns : goal.returns
 returns c =
     let fits : FitsSigned w64 c.args.value = search rules in
     both_put c.args.bytes.now.items c.push_number.new.bytes.items c.push_narrow.new.bytes.items ((number 1).spell 1) ((signed 64).spell c.args.value) ((number 1).spell 1 ++ (signed 64).spell c.args.value)
-    c.in_ok-push_number.ensures (rw (to_z-of_z w64 c.args.value fits) at c.in_ok-push_narrow.ensures) refl
+    c.in_ok-push_number.ensures.put (rw (to_z-of_z w64 c.args.value fits) at c.in_ok-push_narrow.ensures.put) refl

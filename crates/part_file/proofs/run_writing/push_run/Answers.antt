@@ -8,4 +8,4 @@ pub returns : goal.returns
 returns c =
     let r = c.args.one in
     three_put c.args.bytes.now.items c.push_number.new.bytes.items c.push_number-2.new.bytes.items c.push_number-3.new.bytes.items ((number 4).spell r.first.origin.0) ((number 4).spell r.first.number.0) ((number 4).spell r.last.0) ((run []).spell r)
-    c.in_ok-push_number.ensures c.in_ok-push_number-2.ensures c.in_ok-push_number-3.ensures (run_spelled r)
+    c.in_ok-push_number.ensures.put c.in_ok-push_number-2.ensures.put c.in_ok-push_number-3.ensures.put (run_spelled r)

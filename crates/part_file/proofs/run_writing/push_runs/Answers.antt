@@ -3,9 +3,13 @@ use Rattle.std.specs.List.{flat_map}
 use Rattle.segment_core.specs.Format.{number}
 use Rattle.part_file.specs.PartBytes.{run, runs}
 use Rattle.part_file.proofs.Spelled.{both_put, runs_spelled}
+use Rattle.part_file.proofs.Written.{runs_valid}
 use Rattle.part_file.proofs.run_writing.push_runs.Goals as goal
 
-pub returns : goal.returns
-returns c =
+pub returns-clause-put : goal.returns-clause-put
+returns-clause-put c =
     both_put c.args.bytes.now.items c.push_number.new.bytes.items c.push_run_list.new.bytes.items ((number 8).spell (length c.args.all.now)) (flat_map (run []).spell c.args.all.now) (runs.spell c.args.all.now)
-    c.in_ok-push_number.ensures c.in_ok-push_run_list.ensures (runs_spelled c.args.all.now)
+    c.in_ok-push_number.ensures.put c.in_ok-push_run_list.ensures (runs_spelled c.args.all.now)
+
+pub returns-clause-valid : goal.returns-clause-valid
+returns-clause-valid c = runs_valid c.args.all.now c.in_ok-push_number.ensures.valid c.requires
