@@ -1,8 +1,7 @@
 -- The shape of the groups that a query asks for, and why a part is not finished.
-use Rattle.std.specs.Prelude.{◌≡◌, ◌≤◌, ◌*◌, ◌^◌, ℕ, List, [], length, map as each, Some, None, Ok, Err}
+use Rattle.std.specs.Prelude.{◌≡◌, ◌≤◌, ◌*◌, ◌^◌, ℕ, List, [], length, slice_get, map as each, Some, None, Ok, Err}
 use Rattle.std.specs.BTreeMap.{get}
 use Rattle.std.specs.Global.{Vec}
-use Rattle.std.specs.List.{slice_get}
 use Rattle.std.specs.String.{string_bytes}
 use Rattle.table_model.specs.Group.{key_cmp, IsWithin}
 use Rattle.table_model.specs.Query.{QueryShape}
