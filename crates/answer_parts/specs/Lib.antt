@@ -9,3 +9,4 @@ pub mod Between
 pub mod Refusing
 pub mod Shape
 pub mod Combining
+pub mod Kinds
