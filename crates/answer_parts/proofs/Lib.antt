@@ -9,6 +9,9 @@ pub mod Whole
 pub mod Names
 pub mod Evaluated
 pub mod TakenParts
+pub mod KeptKinds
+pub mod GroupShapes
+pub mod BothShapes
 pub mod ShownGroups
 pub mod SharedNames
 pub mod RisingSets

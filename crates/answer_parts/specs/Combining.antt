@@ -5,6 +5,7 @@ use Rattle.answer_parts.specs.Between.{IsLeastBetween}
 use Rattle.answer_parts.specs.Counted.{Counted, may_be_combined, combined_with}
 use Rattle.answer_parts.specs.Groups.{part_in}
 use Rattle.answer_parts.specs.Refusing.{KeepAlike, GroupsFit}
+use Rattle.answer_parts.specs.Shape.{IsShaped}
 use Rattle.answer_parts.specs.declared.fault.PartFault.{PartFault}
 use Rattle.answer_parts.specs.declared.fault.PartFault.TheVariants.{Memory, SchemaDiffers, QueryDiffers, NotApart, TooMany, Query}
 use Rattle.answer_parts.specs.declared.part.Part.{Part as CodePart}
@@ -22,7 +23,7 @@ IsRefused (NotApart name) p q = IsLeastBetween (counted_in p) (counted_in q) nam
 IsRefused TooMany p q = GroupsFit p.groups q.groups → ⊥
 IsRefused (Query refusal) p q = ⊥
 
--- two parts are of the same table and query and are apart, and this is their combination
+-- two parts are of the same table and query and are apart, and this is their combination, which has the shape that their query asks for if they have it
 pub record AreCombined (p q both : CodePart) : Type 0 where
   pub schemas : p.schema ≡ q.schema
   pub texts : string_bytes p.text ≡ string_bytes q.text
@@ -30,3 +31,4 @@ pub record AreCombined (p q both : CodePart) : Type 0 where
   pub schema : both.schema ≡ p.schema
   pub text : both.text ≡ p.text
   pub counted : counted_in both ≡ combined_with (counted_in p) (counted_in q)
+  pub shape : IsShaped p → IsShaped q → IsShaped both

@@ -7,4 +7,6 @@ pub mod Kept
 pub mod Groups
 pub mod Between
 pub mod Refusing
+pub mod Shape
 pub mod Combining
+pub mod Kinds

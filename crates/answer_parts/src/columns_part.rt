@@ -5,6 +5,7 @@ ghost use Rattle.query_eval.specs.Kept.{live_vectors};
 ghost use Rattle.query_eval.specs.QueryMentions.{query_mentions};
 ghost use Rattle.answer_parts.specs.Groups.{part_in};
 ghost use Rattle.answer_parts.specs.Part.{part_of};
+ghost use Rattle.answer_parts.specs.Shape.{HaveShape};
 
 use crate::kept::Kept;
 use crate::measures::measured;
@@ -25,6 +26,7 @@ pub fn part_groups<C: Columns>(
     query: &Query,
 ) -> Result<BTreeMap<Key, Vec<Kept>>, AllocError>
     ensures value { IfOk result (λ groups. part_in groups ≡ part_of (C.seen columns.old).table query.now (C.seen columns.old).state) }
+    ensures shape { IfOk result (HaveShape (C.seen columns.old).table query.now) }
     ensures same { IsSame (C.seen columns.old) (C.seen columns.new) }
     ensures passes { IfOk result (λ groups. (C.seen columns.new).passes ≤ (C.seen columns.old).passes + query_mentions query.now * live_vectors (C.seen columns.old).state) }
 {

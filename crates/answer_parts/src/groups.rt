@@ -1,13 +1,17 @@
 //! The groups of a part, and those of two parts together.
-ghost use Rattle.std.specs.Prelude.{◌≡◌, cond, false, Some, OnOk, IfOk, IfErr};
+ghost use Rattle.std.specs.Prelude.{◌≡◌, ℕ, List, cond, false, map, Some, OnOk, IfOk, IfErr};
 ghost use Rattle.std.specs.BTreeMap.{get};
 ghost use Rattle.std.specs.Ordering.{eq_by_cmp};
 ghost use Rattle.table_model.specs.Group.{key_cmp};
+ghost use Rattle.table_model.specs.Query.{QueryShape};
 ghost use Rattle.table_model.specs.State.{Cells};
+ghost use Rattle.table_model.specs.Table.{Table};
 ghost use Rattle.answer_parts.specs.Kept.{tallies_in};
 ghost use Rattle.answer_parts.specs.Groups.{part_in, tallies_at};
+ghost use Rattle.answer_parts.specs.Kinds.{AllKeep};
 ghost use Rattle.answer_parts.specs.Part.{combine, either};
-ghost use Rattle.answer_parts.specs.Refusing.{RefusesGroups, RefusesTaking};
+ghost use Rattle.answer_parts.specs.Refusing.{RefusesGroups, RefusesTaking, kept_kind};
+ghost use Rattle.answer_parts.specs.Shape.{HaveShape};
 
 use crate::fault::PartFault;
 use crate::kept::{Kept, group_of_both};
@@ -23,6 +27,7 @@ pub fn put_group(
 ) -> Result<(), AllocError>
     ensures put { OnOk result ((k : Cells) → tallies_at groups.new k ≡ cond (eq_by_cmp key_cmp key k) (Some (tallies_in kept.items)) (tallies_at groups.old k)) }
     ensures others { OnOk result ((k : Cells) → eq_by_cmp key_cmp key k ≡ false → get key_cmp groups.new k ≡ get key_cmp groups.old k) }
+    ensures kinds { OnOk result ((kinds : List ℕ) → AllKeep kinds groups.old → map kept_kind kept.items ≡ kinds → AllKeep kinds groups.new) }
 {
     groups.insert(key, kept)?;
     Ok(())
@@ -37,6 +42,7 @@ pub fn take_group(
 ) -> Result<(), PartFault>
     ensures taken { OnOk result ((k : Cells) → tallies_at groups.new k ≡ cond (eq_by_cmp key_cmp key k) (either (tallies_at groups.old key) (Some (tallies_in kept.items))) (tallies_at groups.old k)) }
     ensures others { OnOk result ((k : Cells) → eq_by_cmp key_cmp key k ≡ false → get key_cmp groups.new k ≡ get key_cmp groups.old k) }
+    ensures kinds { OnOk result ((kinds : List ℕ) → AllKeep kinds groups.old → map kept_kind kept.items ≡ kinds → AllKeep kinds groups.new) }
     ensures refused { IfErr result (λ e. RefusesTaking e groups.old key kept.items) }
 {
     match groups.remove(&key) {
@@ -55,6 +61,7 @@ pub fn groups_of_both(
     other: BTreeMap<Key, Vec<Kept>>,
 ) -> Result<BTreeMap<Key, Vec<Kept>>, PartFault>
     ensures both { IfOk result (λ both. (k : Cells) → tallies_at both k ≡ either (tallies_at one k) (tallies_at other k)) }
+    ensures kinds { IfOk result (λ both. (kinds : List ℕ) → AllKeep kinds one → AllKeep kinds other → AllKeep kinds both) }
     ensures refused { IfErr result (λ e. RefusesGroups e one other) }
 {
     let mut all = one;
@@ -76,6 +83,7 @@ pub fn combined_groups(
     other: BTreeMap<Key, Vec<Kept>>,
 ) -> Result<BTreeMap<Key, Vec<Kept>>, PartFault>
     ensures both { IfOk result (λ both. part_in both ≡ combine (part_in one) (part_in other)) }
+    ensures shape { IfOk result (λ both. (table : Table) (query : QueryShape) → HaveShape table query one → HaveShape table query other → HaveShape table query both) }
     ensures refused { IfErr result (λ e. RefusesGroups e one other) }
 {
     let both = groups_of_both(alloc, one, other)?;

@@ -1,5 +1,5 @@
 //! What a set function keeps of some values, and of two lists of values together.
-ghost use Rattle.std.specs.Prelude.{◌≡◌, ◌+◌, ◌<◌, ◌^◌, ◌+ℤ◌, ◌++◌, ◌∷◌, [], FitsSigned, OnOk, IfOk, IfErr};
+ghost use Rattle.std.specs.Prelude.{◌≡◌, ◌+◌, ◌<◌, ◌^◌, ◌+ℤ◌, ◌++◌, ◌∷◌, [], map, FitsSigned, OnOk, IfOk, IfErr};
 ghost use Rattle.std.specs.Int.{w128};
 ghost use Rattle.answer_parts.specs.Refusing.{RefusesGroup, RefusesKept, kept_kind};
 ghost use Rattle.answer_parts.specs.Kept.{tally_in, tallies_in};
@@ -151,6 +151,7 @@ fn greater(a: Option<i64>, b: Option<i64>) -> Option<i64>
 /// What a set function keeps of two lists of values, from what it keeps of each.
 pub fn kept_of_both(alloc: Global, one: &Kept, other: &Kept) -> Result<Kept, PartFault>
     ensures both { IfOk result (λ both. tally_in both ≡ plus (tally_in one.now) (tally_in other.now)) }
+    ensures kind { IfOk result (λ both. kept_kind both ≡ kept_kind one.now) }
     ensures refused { IfErr result (λ e. RefusesKept e one.now other.now) }
 {
     if one.kind() != other.kind() {
@@ -186,6 +187,7 @@ fn push_kept(all: &mut Vec<Kept>, kept: Kept) -> Result<(), AllocError>
 /// What a group's set functions keep of two lists of rows, from what they keep of each.
 pub fn group_of_both(alloc: Global, one: &[Kept], other: &[Kept]) -> Result<Vec<Kept>, PartFault>
     ensures both { IfOk result (λ both. tallies_in both.items ≡ pluses (tallies_in one.now) (tallies_in other.now)) }
+    ensures kinds { IfOk result (λ both. map kept_kind both.items ≡ map kept_kind one.now) }
     ensures refused { IfErr result (λ e. RefusesGroup e one.now other.now) }
 {
     if one.len() != other.len() {

@@ -12,8 +12,10 @@ ghost use Rattle.query_eval.specs.Taken.{AreTaken};
 ghost use Rattle.query_eval.specs.declared.tallies.tally.Tally.{Tally as Running};
 ghost use Rattle.answer_parts.specs.Evaluated.{told, told_at, told_places, AreWithin};
 ghost use Rattle.answer_parts.specs.Kept.{tally_in, tallies_in};
+ghost use Rattle.answer_parts.specs.Kinds.{AllKeep, AreOfKinds, FitPlan, kinds_at, running_kind};
 ghost use Rattle.answer_parts.specs.Groups.{part_in, tallies_at};
 ghost use Rattle.answer_parts.specs.Part.{part_over};
+ghost use Rattle.answer_parts.specs.Refusing.{kept_kind};
 
 use crate::groups::put_group;
 use crate::kept::{Kept, Sums};
@@ -25,7 +27,8 @@ use table_model::Extreme;
 
 /// What the evaluator keeps of a set function, as a part has it.
 fn kept_of_tally(alloc: Global, tally: &Tally) -> Result<Kept, AllocError>
-    ensures { IfOk result (λ kept. tally_in kept ≡ told tally.now) }
+    ensures value { IfOk result (λ kept. tally_in kept ≡ told tally.now) }
+    ensures kind { IfOk result (λ kept. kept_kind kept ≡ running_kind tally.now) }
 {
     match tally {
         Tally::Count(count) => Ok(Kept::Count(*count)),
@@ -41,7 +44,8 @@ fn kept_of_tally(alloc: Global, tally: &Tally) -> Result<Kept, AllocError>
 
 /// What the evaluator keeps of some set functions.
 fn kept_of_tallies(alloc: Global, tallies: &[Tally]) -> Result<Vec<Kept>, AllocError>
-    ensures { IfOk result (λ all. tallies_in all.items ≡ map told tallies.now) }
+    ensures value { IfOk result (λ all. tallies_in all.items ≡ map told tallies.now) }
+    ensures kinds { IfOk result (λ all. map kept_kind all.items ≡ map running_kind tallies.now) }
 {
     let mut all = Vec::new(alloc);
     for tally in tallies {
@@ -57,7 +61,8 @@ fn push_at(
     column: &[Tally],
     place: usize,
 ) -> Result<(), AllocError>
-    ensures { OnOk result ((t : Running) → place < length column.now → tallies_in all.new.items ≡ tallies_in all.old.items ++ told (slice_index_or column.now place t) ∷ []) }
+    ensures value { OnOk result ((t : Running) → place < length column.now → tallies_in all.new.items ≡ tallies_in all.old.items ++ told (slice_index_or column.now place t) ∷ []) }
+    ensures kind { OnOk result ((t : Running) → place < length column.now → map kept_kind all.new.items ≡ map kept_kind all.old.items ++ running_kind (slice_index_or column.now place t) ∷ []) }
 {
     if let Some(tally) = column.get(place) {
         all.push(kept_of_tally(alloc, tally)?)?;
@@ -67,7 +72,8 @@ fn push_at(
 
 /// What the evaluator keeps of the group at a place.
 fn kept_at(alloc: Global, tallies: &[Vec<Tally>], place: usize) -> Result<Vec<Kept>, AllocError>
-    ensures { IfOk result (λ all. (t : Running) → ((i : ℕ) (c : Items Running) → i < length tallies.now → place < length (slice_index_or tallies.now i c).items) → tallies_in all.items ≡ told_at tallies.now t place) }
+    ensures value { IfOk result (λ all. (t : Running) → ((i : ℕ) (c : Items Running) → i < length tallies.now → place < length (slice_index_or tallies.now i c).items) → tallies_in all.items ≡ told_at tallies.now t place) }
+    ensures kinds { IfOk result (λ all. (t : Running) → ((i : ℕ) (c : Items Running) → i < length tallies.now → place < length (slice_index_or tallies.now i c).items) → map kept_kind all.items ≡ kinds_at tallies.now t place) }
 {
     let mut all = Vec::new(alloc);
     for column in tallies {
@@ -82,7 +88,8 @@ fn groups_at(
     index: &mut BTreeMap<Key, usize>,
     tallies: &[Vec<Tally>],
 ) -> Result<BTreeMap<Key, Vec<Kept>>, AllocError>
-    ensures { IfOk result (λ made. (t : Running) → AreWithin index.old tallies.now → (k : Cells) → tallies_at made k ≡ told_places tallies.now t (get key_cmp index.old k)) }
+    ensures value { IfOk result (λ made. (t : Running) → AreWithin index.old tallies.now → (k : Cells) → tallies_at made k ≡ told_places tallies.now t (get key_cmp index.old k)) }
+    ensures kinds { IfOk result (λ made. (kinds : List ℕ) → AreWithin index.old tallies.now → AreOfKinds kinds index.old tallies.now → AllKeep kinds made) }
 {
     let mut made = BTreeMap::new(alloc);
     for _ in 0..index.len() {
@@ -99,7 +106,8 @@ fn groups_at(
 
 /// The groups with what is kept of a query with GROUP BY.
 fn of_groups(alloc: Global, groups: Groups) -> Result<BTreeMap<Key, Vec<Kept>>, AllocError>
-    ensures { IfOk result (λ made. (t : Running) → AreWithin groups.places.index groups.tallies.items → (k : Cells) → tallies_at made k ≡ told_places groups.tallies.items t (get key_cmp groups.places.index k)) }
+    ensures value { IfOk result (λ made. (t : Running) → AreWithin groups.places.index groups.tallies.items → (k : Cells) → tallies_at made k ≡ told_places groups.tallies.items t (get key_cmp groups.places.index k)) }
+    ensures kinds { IfOk result (λ made. (kinds : List ℕ) → AreWithin groups.places.index groups.tallies.items → AreOfKinds kinds groups.places.index groups.tallies.items → AllKeep kinds made) }
 {
     let mut index = groups.places.into_index();
     let made = groups_at(alloc, &mut index, groups.tallies.as_slice())?;
@@ -108,7 +116,8 @@ fn of_groups(alloc: Global, groups: Groups) -> Result<BTreeMap<Key, Vec<Kept>>, 
 
 /// The one group of a query without GROUP BY.
 fn of_whole(alloc: Global, tallies: &[Tally]) -> Result<BTreeMap<Key, Vec<Kept>>, AllocError>
-    ensures { IfOk result (λ made. (k : Cells) → tallies_at made k ≡ cond (eq_by_cmp key_cmp [] k) (Some (map told tallies.now)) None) }
+    ensures value { IfOk result (λ made. (k : Cells) → tallies_at made k ≡ cond (eq_by_cmp key_cmp [] k) (Some (map told tallies.now)) None) }
+    ensures kinds { IfOk result (AllKeep (map running_kind tallies.now)) }
 {
     let mut made = BTreeMap::new(alloc);
     let kept = kept_of_tallies(alloc, tallies)?;
@@ -118,7 +127,8 @@ fn of_whole(alloc: Global, tallies: &[Tally]) -> Result<BTreeMap<Key, Vec<Kept>>
 
 /// What was taken in of some rows, as a part of them.
 pub fn groups_taken(alloc: Global, taken: Taken) -> Result<BTreeMap<Key, Vec<Kept>>, AllocError>
-    ensures { IfOk result (λ made. (table : Table) (plan : PlanShape) (rows : List Cells) → AreFew table rows → AreTaken plan rows taken → part_in made ≡ part_over plan rows) }
+    ensures value { IfOk result (λ made. (table : Table) (plan : PlanShape) (rows : List Cells) → AreFew table rows → AreTaken plan rows taken → part_in made ≡ part_over plan rows) }
+    ensures shape { IfOk result (λ made. (plan : PlanShape) (rows : List Cells) → AreTaken plan rows taken → FitPlan plan made) }
 {
     match taken {
         Taken::Whole(tallies) => {

@@ -1,15 +1,19 @@
 -- A store's part is made once its query is read.
 use Rattle.std.specs.Prelude.{◌≡◌, Bool, Result, Ok, Err, IsTrue, IfOk, IfErr}
-use Rattle.std.proofs.Common.{inr, refl, sym, ap, ◌∙◌}
+use Rattle.std.proofs.Common.{inr, refl, sym, ap, subst, ◌∙◌}
 use Rattle.table_model.specs.Reading.{Reads}
 use Rattle.table_model.specs.declared.refusal.Refusal.{Refusal}
 use Rattle.table_model.specs.declared.refusal.Refusal.TheVariants.{Memory}
 use Rattle.std.specs.FinSet as set
 use Rattle.table_model.specs.Name.{row_name_cmp}
+use Rattle.table_model.specs.Query.{QueryShape}
 use Rattle.table_model.specs.State.{State}
+use Rattle.table_model.specs.Table.{Table}
 use Rattle.replica_store.specs.Exchange.{SummaryForm, summary_of}
 use Rattle.replica_store.specs.Replica.{Replica, names_of}
 use Rattle.answer_parts.specs.Counted.{Names, held_of, strays_of}
+use Rattle.answer_parts.specs.Refusing.{KeptGroups}
+use Rattle.answer_parts.specs.Shape.{HaveShape}
 use Rattle.answer_parts.specs.declared.part.Part.{Part}
 use Rattle.store_view.specs.Asked.{is_refusal_of_query}
 use Rattle.part_commands.specs.StorePart.{PartMeaning, batches_deleted, meaning_of}
@@ -35,3 +39,11 @@ made (Err e) form read is same lacks = inr lacks
 pub memory_listed : {X : Type 0} (result : Result X Refusal) → IfErr result (λ e. e ≡ Memory) → IfErr result (λ e. IsTrue (is_refusal_of_query e))
 memory_listed (Ok x) lacks = tt
 memory_listed (Err e) lacks = ap is_refusal_of_query lacks
+
+-- the same table and groups have the same shape
+pub shaped_as : (table other : Table) (groups others : KeptGroups) (query : QueryShape) → table ≡ other → groups ≡ others → HaveShape table query groups → HaveShape other query others
+shaped_as table other groups others query e f h = subst (λ (t : Table). HaveShape t query others) e (subst (λ (m : KeptGroups). HaveShape table query m) f h)
+
+-- a text is one query
+pub one_query : (read : Result QueryShape Refusal) (q query : QueryShape) → read ≡ Ok q → read ≡ Ok query → q ≡ query
+one_query read q query is also = ok_one q query (sym is ∙ also)

@@ -1,6 +1,6 @@
 -- Parts of a tree of states, combined.
-use Rattle.std.specs.Prelude.{◌≡◌, ◌↔◌, ℕ, true, List, Result, Ok, Err}
-use Rattle.std.proofs.Common.{refl, sym, ap, ◌∙◌}
+use Rattle.std.specs.Prelude.{◌≡◌, ◌↔◌, ◌⊎◌, ℕ, true, List, Result, Ok, Err}
+use Rattle.std.proofs.Common.{inl, inr, refl, sym, ap, ◌∙◌}
 use Rattle.std.specs.String.{string_bytes}
 use Rattle.table_model.specs.Answer.{AnswerParts}
 use Rattle.table_model.specs.Meaning.{answer_of}
@@ -15,6 +15,9 @@ use Rattle.answer_parts.specs.Combining.{AreCombined, counted_in}
 use Rattle.answer_parts.specs.Counted.{Counted, combined_with, counted_of, may_be_combined}
 use Rattle.answer_parts.specs.Part.{part_of, finish}
 use Rattle.answer_parts.specs.PartLaws.{Shards, One, Two, joined}
+use Rattle.answer_parts.specs.Shape.{IsShaped, RefusesFinishing}
+use Rattle.answer_parts.specs.declared.fault.PartFault.{PartFault}
+use Rattle.answer_parts.specs.declared.fault.PartFault.TheVariants.{Memory, SchemaDiffers, QueryDiffers, NotApart, TooMany, Query}
 use Rattle.answer_parts.specs.declared.part.Part.{Part}
 use Rattle.answer_parts.proofs.Names.{counted}
 use Rattle.answer_parts.proofs.Whole.{alone}
@@ -96,7 +99,7 @@ module _ (text : List ℕ) (table : Table) where
   asked s p is = asked_from s (query_of text) p refl is
 
   first_asked : (shards : Shards) (p : Part) → ComesOf text table shards p → (query : QueryShape) × IsAsked query
-  first_asked (One s) p comes = asked s (meaning_of p) comes
+  first_asked (One s) p comes = asked s (meaning_of p) comes.0
   first_asked (Two a b) p comes = first_asked a comes.0 comes.2
 
   module _ (query : QueryShape) (is : IsAsked query) where
@@ -117,7 +120,7 @@ module _ (text : List ℕ) (table : Table) where
         λ i. record { schema = schema i; text = words i; counted = made i }
 
     comes_as : (shards : Shards) (p : Part) → ComesOf text table shards p → meaning_of p ≡ given query (joined shards)
-    comes_as (One s) p comes = ok_one (meaning_of p) (given query s) (sym comes ∙ given_is s)
+    comes_as (One s) p comes = ok_one (meaning_of p) (given query s) (sym comes.0 ∙ given_is s)
     comes_as (Two a b) p comes =
         both (joined a) (joined b) comes.0 comes.1 p (comes_as a comes.0 comes.2) (comes_as b comes.1 comes.3) comes.4
 
@@ -126,6 +129,31 @@ module _ (text : List ℕ) (table : Table) where
       let found = first_asked shards p comes in
       given_is found.0 found.1 (joined shards) ∙ ap Ok (sym (comes_as found.0 found.1 shards p comes))
 
+  -- ---- finished
+
+  shaped : (shards : Shards) (p : Part) → ComesOf text table shards p → IsShaped p
+  shaped (One s) p comes = comes.1
+  shaped (Two a b) p comes = comes.4.shape (shaped a comes.0 comes.2) (shaped b comes.1 comes.3)
+
+  never_refused : (e : Refusal) → ◌≡◌ {A = Result (Unit {0}) Refusal} (Ok tt) (Err e) → ⊥
+  never_refused e is = cc
+
+  is_named : (query : QueryShape) (s : State) (p : Part) → IsAsked query → meaning_of p ≡ given query s → (query_of (string_bytes p.text) >>= λ q. resolved p.schema q) ≡ Ok tt
+  is_named query s p is comes =
+      let words : string_bytes p.text ≡ text = ap (λ (f : PartMeaning). f.text) comes in
+      let schema : p.schema ≡ table = ap (λ (f : PartMeaning). f.schema) comes in
+      (λ i. query_of (words i) >>= λ q. resolved (schema i) q) ∙ ap (λ (x : Result QueryShape Refusal). x >>= λ q. resolved table q) is.read ∙ is.named
+
+  finishes : (shards : Shards) (p : Part) (fault : PartFault) → ComesOf text table shards p → RefusesFinishing fault p → (fault ≡ Memory) ⊎ (fault ≡ TooMany)
+  finishes shards p Memory comes why = inl refl
+  finishes shards p TooMany comes why = inr refl
+  finishes shards p QueryDiffers comes why = absurd (why (shaped shards p comes))
+  finishes shards p (Query refusal) comes why =
+      let found = first_asked shards p comes in
+      absurd (never_refused refusal (sym (is_named found.0 (joined shards) p found.1 (comes_as found.0 found.1 shards p comes)) ∙ why))
+  finishes shards p SchemaDiffers comes why = absurd why
+  finishes shards p (NotApart name) comes why = absurd why
+
 pub part_command_laws : PartCommandLaws
 part_command_laws = record {
   refused = refused;
@@ -133,4 +161,6 @@ part_command_laws = record {
   joins = joins;
   answers = λ text table shards p comes. answered text table (joined shards) (meaning_of p) (joins text table shards p comes);
   read_again = read_again;
+  shaped = shaped;
+  finishes = finishes;
 }

@@ -1,8 +1,11 @@
 //! What a store gives to the answer of a query.
-ghost use Rattle.std.specs.Prelude.{◌≡◌, IsTrue, IfOk, IfErr};
+ghost use Rattle.std.specs.Prelude.{◌≡◌, IsTrue, Ok, IfOk, IfErr};
+ghost use Rattle.table_model.specs.Query.{QueryShape};
 ghost use Rattle.table_model.specs.Reading.{Reads};
 ghost use Rattle.table_model.specs.declared.refusal.Refusal.TheVariants.{Memory};
+ghost use Rattle.query_parser.specs.Descent.{query_of};
 ghost use Rattle.answer_parts.specs.Groups.{part_in};
+ghost use Rattle.answer_parts.specs.Shape.{HaveShape, IsShaped};
 ghost use Rattle.store_view.specs.Asked.{is_refusal_of_query};
 ghost use Rattle.part_commands.specs.StorePart.{meaning_of, meaning_with, query_part};
 
@@ -25,6 +28,7 @@ fn part_with(
     groups: BTreeMap<Key, Vec<Kept>>,
 ) -> Result<Part, Refusal>
     ensures made { IfOk result (λ part. meaning_of part ≡ meaning_with store.now.replica.schema sql.now (part_in groups) store.now.replica.state) }
+    ensures shape { ((query : QueryShape) → query_of sql.now ≡ Ok query → HaveShape store.now.replica.schema query groups) → IfOk result IsShaped }
     ensures refused { IfErr result (λ e. e ≡ Memory) }
 {
     let summary = store.summary(alloc)?;
@@ -42,6 +46,7 @@ fn part_with(
 /// place of any of them.
 pub fn part_of_store(alloc: Global, store: &Store, sql: &str) -> Result<Part, Refusal>
     ensures read { Reads meaning_of result (query_part sql.now store.now.replica.schema store.now.replica.state) }
+    ensures shape { IfOk result IsShaped }
     ensures refused { IfErr result (λ e. IsTrue (is_refusal_of_query e)) }
 {
     let query = parse(alloc, sql)?;

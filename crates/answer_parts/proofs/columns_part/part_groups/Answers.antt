@@ -12,6 +12,7 @@ use Rattle.query_eval.proofs.AnswerLemmas.{passes-answer}
 use Rattle.answer_parts.specs.Measures.{measured}
 use Rattle.answer_parts.specs.Part.{part_of, part_over}
 use Rattle.answer_parts.proofs.FewerMentions.{fewer_passes}
+use Rattle.answer_parts.proofs.GroupShapes.{asked_shape}
 use Rattle.answer_parts.proofs.columns_part.part_groups.Goals as goal
 
 pub returns-clause-value : goal.returns-clause-value
@@ -24,8 +25,16 @@ returns-clause-value g c =
     let plan : c.in_ok-plan.plan ≡ measured (plan_of table.columns query) = c.in_ok-plan.ensures ∙ ap measured asked in
     let same : c.query.inside.filter ≡ query.filter = cc (ap (λ (q : QueryShape). q.filter) c.query.view_is) in
     let rows : List Cells = rows_kept table c.query.inside.filter (rows_alive s) in
-    let made = c.in_ok-groups.ensures table c.in_ok-plan.plan rows c.in_ok-taken.ensures.few c.in_ok-taken.ensures.taken in
+    let made = c.in_ok-groups.ensures.value table c.in_ok-plan.plan rows c.in_ok-taken.ensures.few c.in_ok-taken.ensures.taken in
     made ∙ (λ i. part_over (plan i) (rows_kept table (same i) (rows_alive s)))
+
+pub returns-clause-shape : goal.returns-clause-shape
+returns-clause-shape g c =
+    let table = (g.C.Columns.seen c.args.columns.now).table in
+    let query = c.args.query.now in
+    let asked : c.in_ok-asked.asked ≡ plan_of table.columns query = c.in_ok-asked.ensures ∙ ap (λ (t : Table). plan_of t.columns query) c.schema.ensures in
+    let plan : c.in_ok-plan.plan ≡ measured (plan_of table.columns query) = c.in_ok-plan.ensures ∙ ap measured asked in
+    asked_shape table query c.in_ok-plan.plan _ plan (c.in_ok-groups.ensures.shape c.in_ok-plan.plan _ c.in_ok-taken.ensures.taken)
 
 pub returns-clause-passes : goal.returns-clause-passes
 returns-clause-passes g c =

@@ -1,5 +1,5 @@
 -- One group moves from the rest to all.
-use Rattle.std.proofs.Common.{◌<◌, length, Bool, sym, ap, ◌∙◌, arith}
+use Rattle.std.proofs.Common.{◌<◌, length, Bool, sym, ap, subst, ◌∙◌, arith}
 use Rattle.std.specs.BTreeMap.{get}
 use Rattle.std.specs.Option.{is_some}
 use Rattle.std.specs.Ordering.{eq_by_cmp}
@@ -8,7 +8,9 @@ use Rattle.table_model.specs.Group.{key_cmp}
 use Rattle.table_model.specs.State.{Cells}
 use Rattle.answer_parts.specs.Groups.{tallies_at, tallies_of_some}
 use Rattle.answer_parts.specs.Kept.{tallies_in}
+use Rattle.answer_parts.specs.Kinds.{AllKeep}
 use Rattle.answer_parts.specs.Part.{either}
+use Rattle.answer_parts.specs.Refusing.{KeptGroups}
 use Rattle.answer_parts.proofs.Combined.{one_key}
 use Rattle.std.proofs.lemmas.Result.{err_from_is_err_and}
 use Rattle.answer_parts.proofs.Refusing.{refuses_all}
@@ -39,6 +41,9 @@ loop-count-preserved c =
             mine = λ k v e.
                 let apart = left_apart (eq_by_cmp key_cmp key k) _ _ v (w.in-Some.ensures.updates.0 k) e in
                 ap (λ m. get key_cmp m k) w.all-is ∙ w.in_ok-take_group-in-Some.ensures.others k apart ∙ c.loop-count.invariant.mine k v (left_there (eq_by_cmp key_cmp key k) _ _ v (w.in-Some.ensures.updates.0 k) e);
+            kinds = λ kinds one other.
+                let here = other key w.in-Some.kept (c.loop-count.invariant.others key w.in-Some.kept w.in-Some.ensures.value) in
+                subst (λ (m : KeptGroups). AllKeep kinds m) (sym w.all-is) (w.in_ok-take_group-in-Some.ensures.kinds kinds (c.loop-count.invariant.kinds kinds one other) here);
           }
     ]
 

@@ -1,10 +1,11 @@
 -- The rest is of the other part, and what is at its keys is as it was.
-use Rattle.std.proofs.Common.{◌≡◌, ◌+◌, Some, length}
+use Rattle.std.proofs.Common.{◌≡◌, ◌+◌, ℕ, List, Some, length}
 use Rattle.std.specs.BTreeMap.{get}
 use Rattle.std.specs.Global.{Vec}
 use Rattle.table_model.specs.Group.{key_cmp}
 use Rattle.table_model.specs.State.{Cells}
 use Rattle.answer_parts.specs.Groups.{tallies_at}
+use Rattle.answer_parts.specs.Kinds.{AllKeep}
 use Rattle.answer_parts.specs.Part.{either}
 use Rattle.answer_parts.specs.declared.kept.Kept.{Kept}
 use Rattle.answer_parts.proofs.groups.groups_of_both.Given as goal
@@ -15,4 +16,5 @@ invariant-loop-count l = record {
   same : (k : Cells) → either (tallies_at l.all k) (tallies_at l.rest k) ≡ either (tallies_at l.fn.one k) (tallies_at l.fn.other k);
   others : (k : Cells) (v : Vec Kept) → get key_cmp l.rest k ≡ Some v → get key_cmp l.fn.other k ≡ Some v;
   mine : (k : Cells) (v : Vec Kept) → get key_cmp l.rest k ≡ Some v → get key_cmp l.all k ≡ get key_cmp l.fn.one k;
+  kinds : (kinds : List ℕ) → AllKeep kinds l.fn.one → AllKeep kinds l.fn.other → AllKeep kinds l.all;
 }

@@ -1,11 +1,11 @@
 -- One set function more of both.
-use Rattle.std.proofs.Common.{◌≡◌, ◌<◌, length, slice_index_or, subst, ◌∙◌, arith}
+use Rattle.std.proofs.Common.{◌≡◌, ◌<◌, length, slice_index_or, subst, ap, ◌∙◌, arith}
 use Rattle.std.proofs.lemmas.Result.{err_from_is_err_and}
 use Rattle.answer_parts.specs.Kept.{tally_in}
 use Rattle.answer_parts.specs.Part.{plus}
-use Rattle.answer_parts.specs.Refusing.{RefusesKept}
+use Rattle.answer_parts.specs.Refusing.{RefusesKept, kept_kind}
 use Rattle.answer_parts.specs.declared.kept.Kept.{Kept}
-use Rattle.answer_parts.proofs.GroupMore.{group_more}
+use Rattle.answer_parts.proofs.GroupMore.{group_more, kinds_more}
 use Rattle.answer_parts.proofs.Refusing.{longer_differs, refuses_at}
 use Rattle.answer_parts.proofs.kept.group_of_both.Goals as goal
 
@@ -15,8 +15,11 @@ loop-i-preserved c =
     let within : c.loop-i.i < length c.args.one.now = omega (arith, c.loop-i-test.true) in
     let one = c.index-one-i.is in
     let other = c.index-other-i.is in
-    group_more c.args.one.now c.args.other.now c.loop-i.both.items c.push_kept.new.all.items c.loop-i.i c.index-one-i.result c.index-other-i.result c.in_ok-kept.kept
-    within (omega (arith, within, same)) c.loop-i.invariant (c.in_ok-kept.ensures.both ∙ (λ j. plus (tally_in (one j)) (tally_in (other j)))) c.in_ok-push_kept.ensures
+    record {
+      both = group_more c.args.one.now c.args.other.now c.loop-i.both.items c.push_kept.new.all.items c.loop-i.i c.index-one-i.result c.index-other-i.result c.in_ok-kept.kept
+          within (omega (arith, within, same)) c.loop-i.invariant.both (c.in_ok-kept.ensures.both ∙ (λ j. plus (tally_in (one j)) (tally_in (other j)))) c.in_ok-push_kept.ensures;
+      kinds = kinds_more c.args.one.now c.loop-i.both.items c.push_kept.new.all.items c.loop-i.i c.index-one-i.result c.in_ok-kept.kept within c.loop-i.invariant.kinds (c.in_ok-kept.ensures.kind ∙ ap kept_kind one) c.in_ok-push_kept.ensures;
+    }
 
 pub returns-in_err-kept-clause-refused : goal.returns-in_err-kept-clause-refused
 returns-in_err-kept-clause-refused c =

@@ -7,18 +7,35 @@ use Rattle.query_eval.specs.declared.answers.taken_rows.Taken.{Taken}
 use Rattle.query_eval.specs.declared.tallies.tally.Tally.{Tally as Running}
 use Rattle.query_eval.specs.declared.tallies.tally.Tally.TheVariants as running
 use Rattle.answer_parts.specs.Evaluated.{told}
+use Rattle.answer_parts.specs.Kinds.{AllKeep, plan_kinds, running_kind}
 use Rattle.answer_parts.specs.Part.{Tallies}
+use Rattle.answer_parts.proofs.GroupShapes.{whole_shape, groups_shape, groups_of_kinds}
 use Rattle.answer_parts.proofs.TakenParts.{whole_told, groups_told, within_told}
 use Rattle.answer_parts.proofs.told.groups_taken.Goals as goal
 
-pub returns-in_ok-made-in-Whole : goal.returns-in_ok-made-in-Whole
-returns-in_ok-made-in-Whole c = λ table plan rows few taken.
+pub returns-in_ok-made-in-Whole-clause-value : goal.returns-in_ok-made-in-Whole-clause-value
+returns-in_ok-made-in-Whole-clause-value c = λ table plan rows few taken.
     let h = subst (λ (t : Taken). AreTaken plan rows t) c.in-Whole.is taken in
     whole_told table plan rows _ c.in-Whole.tallies.items h.0 few h.1
-    (λ k. c.in_ok-made-in-Whole.ensures k ∙ ap (λ (ts : List Running). cond (eq_by_cmp key_cmp [] k) (Some (map told ts)) None) c.as_slice.ensures.value)
+    (λ k. c.in_ok-made-in-Whole.ensures.value k ∙ ap (λ (ts : List Running). cond (eq_by_cmp key_cmp [] k) (Some (map told ts)) None) c.as_slice.ensures.value)
 
-pub returns-in_ok-made-in-Grouped : goal.returns-in_ok-made-in-Grouped
-returns-in_ok-made-in-Grouped c = λ table plan rows few taken.
+pub returns-in_ok-made-in-Grouped-clause-value : goal.returns-in_ok-made-in-Grouped-clause-value
+returns-in_ok-made-in-Grouped-clause-value c = λ table plan rows few taken.
     let h = subst (λ (t : Taken). AreTaken plan rows t) c.in-Grouped.is taken in
     let t : Running = running.Count 0 in
-    groups_told table plan rows _ c.in-Grouped.groups t h.0 few h.1.1 (c.in_ok-made-in-Grouped.ensures t (within_told plan rows c.in-Grouped.groups h.1.1))
+    groups_told table plan rows _ c.in-Grouped.groups t h.0 few h.1.1 (c.in_ok-made-in-Grouped.ensures.value t (within_told plan rows c.in-Grouped.groups h.1.1))
+
+pub returns-in_ok-made-in-Whole-clause-shape : goal.returns-in_ok-made-in-Whole-clause-shape
+returns-in_ok-made-in-Whole-clause-shape c = λ plan rows taken.
+    let h = subst (λ (t : Taken). AreTaken plan rows t) c.in-Whole.is taken in
+    whole_shape plan rows _ c.in-Whole.tallies.items h.0 h.1
+    (λ k. c.in_ok-made-in-Whole.ensures.value k ∙ ap (λ (ts : List Running). cond (eq_by_cmp key_cmp [] k) (Some (map told ts)) None) c.as_slice.ensures.value)
+    (subst (λ (ts : List Running). AllKeep (map running_kind ts) c.in_ok-made-in-Whole.made) c.as_slice.ensures.value c.in_ok-made-in-Whole.ensures.kinds)
+
+pub returns-in_ok-made-in-Grouped-clause-shape : goal.returns-in_ok-made-in-Grouped-clause-shape
+returns-in_ok-made-in-Grouped-clause-shape c = λ plan rows taken.
+    let h = subst (λ (t : Taken). AreTaken plan rows t) c.in-Grouped.is taken in
+    let t : Running = running.Count 0 in
+    let within = within_told plan rows c.in-Grouped.groups h.1.1 in
+    groups_shape plan rows _ c.in-Grouped.groups t h.0 h.1.1 (c.in_ok-made-in-Grouped.ensures.value t within)
+    (c.in_ok-made-in-Grouped.ensures.kinds (plan_kinds plan) within (groups_of_kinds plan rows c.in-Grouped.groups h.1.1))

@@ -3,7 +3,12 @@ use Rattle.std.specs.Global.{Vec}
 use Rattle.query_eval.specs.declared.tallies.tally.Tally.{Tally as Running}
 use Rattle.answer_parts.specs.Evaluated.{told_at}
 use Rattle.answer_parts.specs.Kept.{tallies_in}
+use Rattle.answer_parts.specs.Kinds.{kinds_at}
+use Rattle.answer_parts.specs.Refusing.{kept_kind}
 use Rattle.answer_parts.proofs.told.kept_at.Given as goal
 
 abbrev pub invariant-loop-column : goal.invariant-loop-column
-invariant-loop-column l = (t : Running) → ((i : ℕ) (c : Vec Running) → i < length l.tallies → l.place < length (get_or l.tallies i c).items) → tallies_in l.all.items ≡ told_at (take l.column-index l.tallies) t l.place
+invariant-loop-column l = record {
+  value : (t : Running) → ((i : ℕ) (c : Vec Running) → i < length l.tallies → l.place < length (get_or l.tallies i c).items) → tallies_in l.all.items ≡ told_at (take l.column-index l.tallies) t l.place;
+  kinds : (t : Running) → ((i : ℕ) (c : Vec Running) → i < length l.tallies → l.place < length (get_or l.tallies i c).items) → map kept_kind l.all.items ≡ kinds_at (take l.column-index l.tallies) t l.place;
+}

@@ -8,10 +8,11 @@ use Rattle.table_model.specs.declared.refusal.Refusal.{Refusal}
 use Rattle.query_parser.specs.Resolve.{resolved}
 use Rattle.answer_parts.specs.Groups.{part_in}
 use Rattle.answer_parts.specs.Part.{Part, part_of}
+use Rattle.answer_parts.specs.Shape.{HaveShape}
 use Rattle.store_view.specs.View.{ViewForm}
 use Rattle.store_view.proofs.QueryRefusals.{IsRefusedAsQuery, found_listed, resolved_listed}
 use Rattle.part_commands.specs.StorePart.{PartMeaning, meaning_with, query_part}
-use Rattle.part_commands.proofs.StoreParts.{made, memory_listed}
+use Rattle.part_commands.proofs.StoreParts.{made, memory_listed, one_query}
 use Rattle.part_commands.proofs.store_part.part_of_store.Goals as goal
 
 pub returns-in_err-query-clause-read : goal.returns-in_err-query-clause-read
@@ -69,3 +70,10 @@ returns-clause-read c =
 
 pub returns-clause-refused : goal.returns-clause-refused
 returns-clause-refused c = memory_listed c.part_with.result c.part_with.ensures.refused
+
+pub returns-clause-shape : goal.returns-clause-shape
+returns-clause-shape c = c.part_with.ensures.shape (λ query asked.
+    let table = c.args.store.now.replica.schema in
+    let mine : QueryShape = c.in_ok-query.query in
+    let here : HaveShape table mine c.in_ok-groups.groups = subst (λ (v : ViewForm). HaveShape v.table mine c.in_ok-groups.groups) c.new.ensures c.in_ok-groups.ensures.shape in
+    subst (λ (q : QueryShape). HaveShape table q c.in_ok-groups.groups) (one_query _ mine query c.in_ok-query.ensures.reads asked) here)

@@ -1,9 +1,10 @@
 -- The names are those of the store's batches and of its stray deletions.
-use Rattle.std.proofs.Common.{◌≡◌, ap, ◌∙◌}
+use Rattle.std.proofs.Common.{◌≡◌, sym, ap, ◌∙◌}
 use Rattle.std.specs.String.{string_bytes}
+use Rattle.query_parser.specs.Descent.{query_of}
 use Rattle.answer_parts.specs.Counted.{held_of, strays_of}
 use Rattle.answer_parts.specs.Groups.{part_in}
-use Rattle.part_commands.proofs.StoreParts.{held_named, strays_named}
+use Rattle.part_commands.proofs.StoreParts.{held_named, shaped_as, strays_named}
 use Rattle.part_commands.proofs.store_part.part_with.Goals as goal
 
 pub returns-clause-made : goal.returns-clause-made
@@ -16,3 +17,10 @@ returns-clause-made c =
       text = (ap string_bytes c.new.ensures.text ∙ c.in_ok-text.ensures.ok) i;
       counted = record { part = ap part_in c.new.ensures.groups i; held = (c.new.ensures.held ∙ held) i; strays = (c.new.ensures.strays ∙ strays) i };
     }
+
+pub returns-clause-shape : goal.returns-clause-shape
+returns-clause-shape c = λ asks query asked.
+    let r = c.args.store.now.replica in
+    let words : string_bytes c.new.result.text ≡ c.args.sql.now = ap string_bytes c.new.ensures.text ∙ c.in_ok-text.ensures.ok in
+    let table : c.new.result.schema ≡ r.schema = c.new.ensures.schema ∙ c.in_ok-schema.ensures ∙ c.schema.ensures in
+    shaped_as _ _ _ _ query (sym table) (sym c.new.ensures.groups) (asks query (ap query_of (sym words) ∙ asked))

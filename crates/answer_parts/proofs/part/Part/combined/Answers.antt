@@ -1,5 +1,5 @@
 -- Two parts of one query that are apart.
-use Rattle.std.proofs.Common.{◌≡◌, true, false, List, ℕ, Option, refl, rules, sym, ap, subst, ◌∙◌}
+use Rattle.std.proofs.Common.{◌≡◌, true, false, List, ℕ, Option, Ok, refl, rules, sym, ap, subst, ◌∙◌}
 use Rattle.std.specs.String.{string_bytes}
 use Rattle.std.proofs.lemmas.Bool.{false≢true}
 use Rattle.std.proofs.lemmas.Result.{err_from_is_err_and}
@@ -7,8 +7,10 @@ use Rattle.table_model.specs.Identifier.{same_text}
 use Rattle.table_model.specs.Table.{Table, same_table}
 use Rattle.table_model.specs.declared.names.BatchName.{BatchName}
 use Rattle.table_model.proofs.SameTable.{one_table, itself_table, one_text, itself_text}
+use Rattle.query_parser.specs.Descent.{query_of}
 use Rattle.answer_parts.specs.Between.{IsFirstBetween}
 use Rattle.answer_parts.specs.Combining.{counted_in}
+use Rattle.answer_parts.specs.Shape.{HaveShape}
 use Rattle.answer_parts.proofs.FirstBetween.{none_combined}
 use Rattle.answer_parts.proofs.RefusedParts.{groups_refuse}
 use Rattle.answer_parts.proofs.part.Part.combined.Goals as goal
@@ -18,13 +20,19 @@ returns-clause-combined c =
     let same : c.same.result ≡ true = search rules in
     let also : c.same_text.result ≡ true = search rules in
     let texts : same_text (string_bytes c.args.self.text) (string_bytes c.args.other.text) ≡ true = (λ i. same_text (sym c.as_bytes.ensures.value i) (sym c.as_bytes-2.ensures.value i)) ∙ sym c.same_text.ensures ∙ also in
+    let schemas_one : c.args.self.schema ≡ c.args.other.schema = one_table c.args.self.schema c.args.other.schema (sym c.same.ensures ∙ same) in
+    let texts_one : string_bytes c.args.self.text ≡ string_bytes c.args.other.text = one_text (string_bytes c.args.self.text) (string_bytes c.args.other.text) texts in
     record {
-      schemas = one_table c.args.self.schema c.args.other.schema (sym c.same.ensures ∙ same);
-      texts = one_text (string_bytes c.args.self.text) (string_bytes c.args.other.text) texts;
+      schemas = schemas_one;
+      texts = texts_one;
       apart = none_combined (counted_in c.args.self) (counted_in c.args.other) (subst (λ (o : Option BatchName). IsFirstBetween (counted_in c.args.self) (counted_in c.args.other) o) c.in_default.is c.between.ensures);
       schema = refl;
       text = refl;
       counted = λ i. record { part = c.in_ok-groups.ensures.both i; held = c.in_ok-held.ensures i; strays = c.in_ok-strays.ensures i };
+      shape = λ ours theirs query asked.
+          let also : query_of (string_bytes c.args.other.text) ≡ Ok query = ap query_of (sym texts_one) ∙ asked in
+          let second = subst (λ (t : Table). HaveShape t query c.args.other.groups) (sym schemas_one) (theirs query also) in
+          c.in_ok-groups.ensures.shape c.args.self.schema query (ours query asked) second;
     }
 
 pub returns-in_err-groups-clause-refused : goal.returns-in_err-groups-clause-refused
