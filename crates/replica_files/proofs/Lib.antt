@@ -1,5 +1,7 @@
 pub mod AskedTexts
+pub mod BatchCounting
 pub mod CommandSteps
+pub mod CountedBatches
 pub mod CsvLoading
 pub mod StoppedLoads
 pub mod DrawnNames

@@ -1,5 +1,6 @@
 pub mod Asking
 pub mod Commands
+pub mod Counts
 pub mod CsvLoads
 pub mod DumpColumnLaws
 pub mod DumpRooms

@@ -1,53 +1,26 @@
 //! The list of a file's batches: their names, and how many rows they have and how many of them are live.
-ghost use Rattle.std.specs.Prelude.{◌≡◌, ◌⊎◌, ◌≢◌, IfErr, OnOk};
+ghost use Rattle.std.specs.Prelude.{◌≡◌, ◌⊎◌, ◌≢◌, Ok, IfOk, IfErr, OnOk};
 ghost use Rattle.table_model.specs.Faults.{CountsWrites};
 ghost use Rattle.table_model.specs.declared.refusal.Refusal.TheVariants.{Memory, WriteFault};
+ghost use Rattle.replica_files.specs.Asking.{WritesText};
+ghost use Rattle.replica_files.specs.Counts.{batch_line, batch_list, list_heading};
 
+use crate::batch_counts::{BatchCounts, counts_at};
 use crate::open_file::OpenFile;
 use answer_formats::ReportForm;
 use replica_store::Store;
 use std::alloc::{AllocError, Global};
 use std::io::Write;
-use table_model::{BatchName, Counted, Refusal, RowName};
+use table_model::{Counted, Refusal};
 
 /// The heading of the list as text.
 const HEADING: &str = "BATCH,ROWS,LIVE\n";
 
-/// How many of a batch's first rows a range of deletions has.
-fn rows_in_range(first: RowName, last: u16, rows: usize) -> u64 {
-    let end = usize::from(last).saturating_add(1).min(rows);
-    end.saturating_sub(usize::from(first.ordinal)) as u64
-}
-
-/// How many of a batch's rows are deleted, by the ranges from a place on, which ascend; and at which place those of later batches begin.
-fn dead_rows(
-    ranges: &[(RowName, u16)],
-    from: usize,
-    batch: BatchName,
-    rows: usize,
-) -> (u64, usize) {
-    let mut dead: u64 = 0;
-    let mut at = from;
-    for &(first, last) in ranges.iter().skip(from) {
-        if first.batch > batch {
-            break;
-        }
-        if first.batch == batch {
-            dead = dead.saturating_add(rows_in_range(first, last, rows));
-        }
-        at = at.saturating_add(1);
-    }
-    (dead, at)
-}
-
 /// The line of a batch.
-fn batch_line(
-    alloc: Global,
-    form: ReportForm,
-    name: BatchName,
-    rows: u64,
-    live: u64,
-) -> Result<String, AllocError> {
+fn batch_line(alloc: Global, form: ReportForm, counts: BatchCounts) -> Result<String, AllocError>
+    ensures { IfOk result (λ line. line.bytes.items ≡ batch_line form counts) }
+{
+    let BatchCounts { name, rows, live } = counts;
     match form {
         ReportForm::Text => format!(in alloc; "{name},{rows},{live}\n"),
         ReportForm::Json => format!(in alloc;
@@ -56,21 +29,24 @@ fn batch_line(
     }
 }
 
-/// The lines of all batches, in ascending order of name.
-fn list(alloc: Global, store: &Store, form: ReportForm) -> Result<Vec<u8>, AllocError> {
+/// The list before its first batch.
+fn empty_list(alloc: Global, form: ReportForm) -> Result<Vec<u8>, AllocError>
+    ensures { IfOk result (λ list. list.items ≡ list_heading form) }
+{
     let mut out = Vec::new(alloc);
     if form == ReportForm::Text {
         out.extend_from_slice(HEADING.as_bytes())?;
     }
-    let ranges = store.tombs().ranges();
-    let mut at = 0usize;
+    Ok(out)
+}
+
+/// The lines of all batches, in ascending order of name.
+fn list(alloc: Global, store: &Store, form: ReportForm) -> Result<Vec<u8>, AllocError>
+    ensures { IfOk result (λ list. list.items ≡ batch_list form store.now.replica.state) }
+{
+    let mut out = empty_list(alloc, form)?;
     for index in 0..store.batches() {
-        let (name, segment) = store.batch(index);
-        let rows = segment.rows();
-        let (dead, next) = dead_rows(ranges, at, name, rows);
-        at = next;
-        let live = (rows as u64).saturating_sub(dead);
-        let line = batch_line(alloc, form, name, rows as u64, live)?;
+        let line = batch_line(alloc, form, counts_at(store, index))?;
         out.extend_from_slice(line.as_bytes())?;
     }
     Ok(out)
@@ -86,6 +62,7 @@ pub fn list_batches<W: Write>(
     form: ReportForm,
     writer: &mut Counted<W>,
 ) -> Result<(), Refusal>
+    ensures text { WritesText result (W.contents writer.old.0) (W.contents writer.new.0) writer.old.1 writer.new.1 (Ok (batch_list form file.now.replica.state)) }
     ensures refused { IfErr result (λ e. (e ≡ Memory) ⊎ (e ≡ WriteFault)) }
     ensures unwritten { IfErr result (λ e. e ≢ WriteFault → W.contents writer.new.0 ≡ W.contents writer.old.0) }
     ensures kept { OnOk result (writer.new.1 ≡ writer.old.1) }

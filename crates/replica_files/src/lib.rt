@@ -3,6 +3,7 @@
 
 mod answers;
 mod applying;
+mod batch_counts;
 mod batch_list;
 mod columns_json;
 mod columns_text;
@@ -24,6 +25,7 @@ mod new_file;
 mod open_file;
 mod query_lines;
 mod report;
+mod store_counts;
 mod stored;
 
 pub use answers::{NotAnswered, answer, answer_all, answer_text};

@@ -1,14 +1,16 @@
 //! Telling what a file holds: its counts, and a line a column.
-ghost use Rattle.std.specs.Prelude.{◌≡◌, ◌≢◌, ◌<◌, length, IsTrue, IfErr, OnOk};
+ghost use Rattle.std.specs.Prelude.{◌≡◌, ◌≢◌, ◌<◌, length, IsTrue, IfOk, IfErr, OnOk};
 ghost use Rattle.table_model.specs.Faults.{CountsWrites};
 ghost use Rattle.table_model.specs.declared.refusal.Refusal.TheVariants.{WriteFault};
 ghost use Rattle.store_view.specs.Asked.{is_refusal_of_query};
 ghost use Rattle.replica_files.specs.Asking.{is_refusal_of_answering};
+ghost use Rattle.replica_files.specs.Counts.{BeginsWithCounts, WritesCounts, counts_text, file_part, rows_part, table_part};
 
 use crate::columns_json::push_objects;
 use crate::columns_text::{Line, aligned};
 use crate::open_file::OpenFile;
-use crate::stored::{file_bytes, parts_of, stored_rows};
+use crate::store_counts::{StoreCounts, store_counts};
+use crate::stored::{parts_of, stored_rows};
 use answer_formats::ReportForm;
 use replica_store::Store;
 use std::alloc::{AllocError, Global};
@@ -139,72 +141,82 @@ fn column_lines(alloc: Global, store: &Store) -> Result<Vec<Line>, Refusal>
     Ok(lines)
 }
 
-/// How many rows of a table are live.
-fn live_rows(alloc: Global, store: &Store) -> Result<i128, Refusal>
-    ensures refused { IfErr result (λ e. IsTrue (is_refusal_of_query e)) }
-{
-    let table = store.schema().table();
-    let sql = format!(in alloc; "SELECT COUNT(*) FROM {table}")?;
-    let answer = ask(alloc, store, sql.as_str())?;
-    match answer.rows().split_first() {
-        Some((row, _)) => Ok(count_in(row.fields())),
-        None => Ok(0),
+/// The lines of all columns in a form, and what ends the report.
+fn columns_text(alloc: Global, lines: &[Line], form: ReportForm) -> Result<Vec<u8>, AllocError> {
+    match form {
+        ReportForm::Text => aligned(alloc, &heading_line(alloc)?, lines),
+        ReportForm::Json => {
+            let mut out = Vec::new(alloc);
+            push_objects(&mut out, &KEYS, lines, TEXTS)?;
+            out.extend_from_slice(b"}\n")?;
+            Ok(out)
+        }
     }
 }
 
-/// The count that is the first field.
-fn count_in(fields: &[Field]) -> i128 {
-    match fields.get(0) {
-        Some(Field::Whole(value)) => *value,
-        _ => 0,
+/// What a report begins with: the table's name.
+fn table_part(alloc: Global, table: &str, form: ReportForm) -> Result<String, AllocError>
+    ensures { IfOk result (λ text. text.bytes.items ≡ table_part form table.now) }
+{
+    match form {
+        ReportForm::Text => format!(in alloc; "table {table}\n"),
+        ReportForm::Json => format!(in alloc; "{{\"table\":\"{table}\","),
     }
+}
+
+/// How many batches, rows and live rows a store has.
+fn rows_part(alloc: Global, counts: StoreCounts, form: ReportForm) -> Result<String, AllocError>
+    ensures { IfOk result (λ text. text.bytes.items ≡ rows_part form counts) }
+{
+    let batches = counts.batches;
+    let rows = counts.rows;
+    let live = counts.live;
+    match form {
+        ReportForm::Text => format!(in alloc; "batches {batches}\nrows {rows}\nlive {live}\n"),
+        ReportForm::Json => format!(in alloc;
+            "\"batches\":{batches},\"rows\":{rows},\"live\":{live},"
+        ),
+    }
+}
+
+/// How many ranges of deleted rows and bytes a store has, and what comes before the columns.
+fn file_part(alloc: Global, counts: StoreCounts, form: ReportForm) -> Result<String, AllocError>
+    ensures { IfOk result (λ text. text.bytes.items ≡ file_part form counts) }
+{
+    let ranges = counts.ranges;
+    let bytes = counts.bytes;
+    match form {
+        ReportForm::Text => format!(in alloc; "ranges {ranges}\nbytes {bytes}\n\n"),
+        ReportForm::Json => format!(in alloc; "\"ranges\":{ranges},\"bytes\":{bytes},\"columns\":"),
+    }
+}
+
+/// A report before its columns: the table's name and the store's counts.
+fn counts_text(
+    alloc: Global,
+    table: &str,
+    counts: StoreCounts,
+    form: ReportForm,
+) -> Result<Vec<u8>, AllocError>
+    ensures { IfOk result (λ text. text.items ≡ counts_text form table.now counts) }
+{
+    let mut out = table_part(alloc, table, form)?.into_bytes();
+    out.extend_from_slice(rows_part(alloc, counts, form)?.as_bytes())?;
+    out.extend_from_slice(file_part(alloc, counts, form)?.as_bytes())?;
+    Ok(out)
 }
 
 /// What is reported of a store.
 fn report(alloc: Global, store: &Store, form: ReportForm) -> Result<Vec<u8>, Refusal>
+    ensures counts { IfOk result (λ text. BeginsWithCounts form store.now.replica.schema.name store.now.replica.state text.items) }
     ensures refused { IfErr result (λ e. IsTrue (is_refusal_of_query e)) }
 {
-    let table = store.schema().table();
-    let batches = store.batches();
-    let rows = stored_rows(store);
-    let live = live_rows(alloc, store)?;
-    let ranges = store.tombs().ranges().len();
-    let bytes = file_bytes(alloc, store)?;
-    let counts = match form {
-        ReportForm::Text => format!(in alloc;
-            "table {table}\nbatches {batches}\nrows {rows}\nlive {live}\nranges {ranges}\nbytes {bytes}\n\n"
-        )?,
-        ReportForm::Json => format!(in alloc;
-            "{{\"table\":\"{table}\",\"batches\":{batches},\"rows\":{rows},\"live\":{live},\"ranges\":{ranges},\"bytes\":{bytes},\"columns\":"
-        )?,
-    };
-    let mut out = counts.into_bytes();
-    push_columns(
-        alloc,
-        &mut out,
-        column_lines(alloc, store)?.as_slice(),
-        form,
-    )?;
+    let counts = store_counts(alloc, store)?;
+    let mut out = counts_text(alloc, store.schema().table(), counts, form)?;
+    let lines = column_lines(alloc, store)?;
+    let columns = columns_text(alloc, lines.as_slice(), form)?;
+    out.extend_from_slice(columns.as_slice())?;
     Ok(out)
-}
-
-/// Puts what is reported of columns behind a text.
-fn push_columns(
-    alloc: Global,
-    out: &mut Vec<u8>,
-    lines: &[Line],
-    form: ReportForm,
-) -> Result<(), AllocError> {
-    match form {
-        ReportForm::Text => {
-            let columns = aligned(alloc, &heading_line(alloc)?, lines)?;
-            out.extend_from_slice(columns.as_slice())
-        }
-        ReportForm::Json => {
-            push_objects(out, &KEYS, lines, TEXTS)?;
-            out.extend_from_slice(b"}\n")
-        }
-    }
 }
 
 /// Writes what a file holds: the table's name; how many batches, stored rows, live rows, ranges of deleted rows and bytes; and a line
@@ -219,6 +231,7 @@ pub fn inspect<W: Write>(
     form: ReportForm,
     writer: &mut Counted<W>,
 ) -> Result<(), Refusal>
+    ensures counts { OnOk result (WritesCounts form file.now.replica.schema.name file.now.replica.state (W.contents writer.old.0) (W.contents writer.new.0)) }
     ensures refused { IfErr result (λ e. IsTrue (is_refusal_of_answering e)) }
     ensures unwritten { IfErr result (λ e. e ≢ WriteFault → W.contents writer.new.0 ≡ W.contents writer.old.0) }
     ensures kept { OnOk result (writer.new.1 ≡ writer.old.1) }
