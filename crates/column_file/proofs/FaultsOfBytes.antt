@@ -1,9 +1,9 @@
 -- What reading bytes is refused as is a fault of their format: what a summary may have is proved first, and a container may have it too.
-use Rattle.std.proofs.Common.{◌≡◌, ℕ, zero, suc, ◌-◌, ◌/◌, ◌*◌, ◌+◌, ◌&&◌, not, Bool, true, false, cond, ltb, leb, eqb, ℤ, List, [], ◌∷◌, ◌++◌, length, map, take, drop, codes, slice_index_or, Option, Some, Result, Ok, Err, IfErr, IsTrue, inl, inr, refl, subst}
+use Rattle.std.proofs.Common.{◌≡◌, ℕ, zero, suc, ◌-◌, ◌/◌, ◌*◌, ◌+◌, ◌&&◌, not, Bool, true, false, cond, ltb, leb, eqb, ℤ, List, [], ◌∷◌, ◌++◌, length, map, take, drop, codes, slice_index_or, Option, Some, Result, Ok, Err, inl, inr, refl, subst}
 use Rattle.transpose_order.specs.Mask.{has}
 use Rattle.bit_interleave.specs.PackedWords.{PackedWords}
 use Rattle.run_dictionary.specs.Runs.{run_of}
-use Rattle.table_model.specs.Faults.{CountsReads}
+use Rattle.table_model.specs.Faults.{GaveMore, CountsReads}
 use Rattle.table_model.specs.Name.{is_proper_name}
 use Rattle.table_model.specs.Table.{Table, ColumnShape, column_limit}
 use Rattle.table_model.specs.declared.schema.ColType.{ColType}
@@ -21,7 +21,7 @@ use Rattle.segment_core.specs.Segment.{vector_count, rows_in, widths_of}
 use Rattle.segment_core.specs.VectorBytes.{mask, words, is_null_mask, nulls, coding, is_width, is_count, header, frame, deltas, starts, runs, is_above, dictionary, are_codes_below, codes as packed_codes, dict, payload_of, payload, coded, vector}
 use Rattle.segment_core.specs.SegmentBytes.{column as segment_column, columns as segment_columns, batch_columns}
 use Rattle.replica_store.specs.Replica.{batch_limit}
-use Rattle.column_file.specs.Input.{is_fault_of_summary, is_fault_of_container, is_fault_of_file, unread_or}
+use Rattle.column_file.specs.Input.{is_fault_of_summary, is_fault_of_container, is_fault_of_file, unread_or, IsReadWhole, ReadsWhole}
 use Rattle.column_file.specs.SchemaBytes.{text, is_name, name, is_type_tag, column_type, is_new, column, column_count, schema}
 use Rattle.column_file.specs.SummaryBytes.{is_version, version, has_version, head, any_name, proper_name, is_after, batch_name, name_count, names, summary, summary_read}
 use Rattle.column_file.specs.Files.{offer_read}
@@ -385,12 +385,14 @@ listed F Memory h = refl
 listed F ReadFault h = refl
 listed F other h = h (λ is. cc)
 
--- a call that read its input whole counted no failure
-pub counts_none : (F : Refusal → Bool) {X Y : Type 0} (view : X → Y) (result : Result X Refusal) (meaning : Result Y Refusal) (many : Type 0) (before after : ℕ) → F ReadFault ≡ false → Reads view result meaning → Judged F meaning → after ≡ before → IfErr result (λ e. CountsReads many e before after)
-counts_none F view (Ok x) meaning many before after none reads judged same = tt
-counts_none F view (Err e) meaning many before after none reads judged same = counts F many e before after none (fault_of F view e meaning reads judged) same
-
--- and is refused as a call that reads such bytes may be
-pub refusal_listed : (F : Refusal → Bool) {X Y : Type 0} (view : X → Y) (result : Result X Refusal) (meaning : Result Y Refusal) → Reads view result meaning → Judged F meaning → IfErr result (λ e. IsTrue (unread_or F e))
-refusal_listed F view (Ok x) meaning reads judged = tt
-refusal_listed F view (Err e) meaning reads judged = listed F e (fault_of F view e meaning reads judged)
+-- a call that read its input whole and judged it counted no failure, and is refused as a call that reads such bytes may be
+pub reads_judged : {D X Y : Type 0} (remaining : D → Option (List ℕ)) (F : Refusal → Bool) (view : X → Y) (old new : D × ℕ) (result : Result X Refusal) (meaning : Result Y Refusal)
+    → F ReadFault ≡ false → IsReadWhole remaining old new → Reads view result meaning → Judged F meaning → ReadsWhole remaining (unread_or F) old new result
+reads_judged remaining F view old new (Ok x) meaning none whole reads judged = whole
+reads_judged remaining F view old new (Err e) meaning none whole reads judged =
+    let fault = fault_of F view e meaning reads judged in
+    record {
+      listed = listed F e fault;
+      whole = λ not_memory not_fault. (whole.within, whole.end);
+      counts = counts F (GaveMore (remaining old.0) (remaining new.0)) e old.1 new.1 none fault whole.kept;
+    }

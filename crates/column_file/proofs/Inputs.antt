@@ -1,11 +1,12 @@
 -- What was read so far of a reader that is read to its end.
-use Rattle.std.proofs.Common.{◌≡◌, ℕ, ◌+◌, ◌<◌, ◌≤◌, Bool, List, [], ◌++◌, length, take, Option, Some, None, Result, Ok, Err, IfErr, IsTrue, inl, inr, refl, sym, ap, subst, ◌∙◌, append_assoc, arith}
+use Rattle.std.proofs.Common.{◌≡◌, ℕ, ◌+◌, ◌<◌, ◌≤◌, Bool, List, [], ◌++◌, length, take, Option, Some, None, Result, Ok, Err, IsTrue, inl, inr, refl, sym, ap, subst, ◌∙◌, append_assoc, arith}
 use Rattle.std.specs.Io.KnownBytes.{Consumes, IsAtEnd}
 use Rattle.std.proofs.lemmas.List.{length-append, append-nil}
 use Rattle.table_model.specs.Faults.{IsWithin, GaveMore}
 use Rattle.table_model.specs.declared.refusal.Refusal.{Refusal}
+use Rattle.table_model.specs.declared.refusal.Refusal.TheVariants.{Memory, ReadFault}
 use Rattle.table_model.specs.Reading.{Reads}
-use Rattle.column_file.specs.Input.{Judges, IsUnread, ComesOfWhole, unread_or}
+use Rattle.column_file.specs.Input.{Judges, IsUnread, StopsReading, is_unread, unread_or}
 use Rattle.table_model.specs.declared.counted.TheConstants.{READ_LIMIT}
 
 -- nothing was read
@@ -59,20 +60,24 @@ judged {X = X} {Y = Y} view (Ok x) (Some a) new input meaning h end reads = ap m
 judged view (Err e) (Some a) new input meaning h end (inl same) = λ _ _. ap meaning (whole_input a new input h end) ∙ same
 judged view (Err e) (Some a) new input meaning h end (inr memory) = λ not_memory _. absurd (not_memory memory)
 
--- nothing is said of an input that wasn't read
-pub unread : {X Y : Type 0} (view : X → Y) (e : Refusal) (old : Option (List ℕ)) (meaning : List ℕ → Result Y Refusal) → IsUnread e → Judges {X = X} view (Err e) old meaning
+-- ---- an input that was not read
+
+-- a call that judges nothing of it is refused for want of memory or a failed read
+pub unread_is : (e : Refusal) → IsTrue (is_unread e) → IsUnread e
+unread_is Memory is = inl refl
+unread_is ReadFault is = inr refl
+unread_is other is = absurd cc
+
+-- then nothing is said of what it means
+pub unread : {X Y : Type 0} (view : X → Y) (e : Refusal) (old : Option (List ℕ)) (meaning : List ℕ → Result Y Refusal) → IsTrue (is_unread e) → Judges {X = X} view (Err e) old meaning
 unread view e None meaning is = tt
-unread view e (Some a) meaning is = λ not_memory not_fault. elim is [ inl memory ↦ absurd (not_memory memory) | inr fault ↦ absurd (not_fault fault) ]
+unread view e (Some a) meaning is = λ not_memory not_fault. elim (unread_is e is) [ inl memory ↦ absurd (not_memory memory) | inr fault ↦ absurd (not_fault fault) ]
 
-pub unread_listed : (F : Refusal → Bool) (e : Refusal) → IsUnread e → IsTrue (unread_or F e)
-unread_listed F e (inl memory) = ap (unread_or F) memory
-unread_listed F e (inr fault) = ap (unread_or F) fault
+unread_listed : (F : Refusal → Bool) (e : Refusal) → IsTrue (is_unread e) → IsTrue (unread_or F e)
+unread_listed F Memory is = refl
+unread_listed F ReadFault is = refl
+unread_listed F other is = absurd cc
 
--- nor of the reader then
-pub unread_whole : (e : Refusal) (before after : Option (List ℕ)) → IsUnread e → ComesOfWhole e before after
-unread_whole e before after is = λ not_memory not_fault. elim is [ inl memory ↦ absurd (not_memory memory) | inr fault ↦ absurd (not_fault fault) ]
-
--- and a call whose input was read comes of the whole of it, whatever it answers
-pub was_whole : {X : Type 0} (result : Result X Refusal) (before after : Option (List ℕ)) → IsWithin before → IsAtEnd after → IfErr result (λ e. ComesOfWhole e before after)
-was_whole (Ok x) before after within end = tt
-was_whole (Err e) before after within end = λ not_memory not_fault. (within, end)
+-- and a call that was to judge it is refused so too
+pub unread_stops : {D : Type 0} (remaining : D → Option (List ℕ)) (F : Refusal → Bool) (old new : D × ℕ) (e : Refusal) → StopsReading remaining is_unread old new e → StopsReading remaining (unread_or F) old new e
+unread_stops remaining F old new e stops = record { listed = unread_listed F e stops.listed; whole = stops.whole; counts = stops.counts }

@@ -1,7 +1,8 @@
--- A canonical file opens to canonical segments.
-use Rattle.std.proofs.Common.{◌≡◌, ℕ, suc, ◌==◌, Bool, true, false, cond, All, List, [], ◌∷◌, map, Result, Ok, Err, IfOk, sym, ap, refl, ◌∙◌, arith}
+-- A canonical file opens to canonical segments, or the call that opens it is refused.
+use Rattle.std.proofs.Common.{◌≡◌, ℕ, suc, ◌==◌, Bool, true, false, cond, All, List, [], ◌∷◌, map, Result, Ok, Err, IfOk, inl, inr, sym, ap, subst, refl, ◌∙◌, arith}
 use Rattle.std.specs.FinMap as finite
 use Rattle.table_model.specs.Outcome.{Gives}
+use Rattle.table_model.specs.Reading.{◌>>=◌, Reads}
 use Rattle.table_model.specs.State.{Batch}
 use Rattle.table_model.specs.Table.{Table}
 use Rattle.table_model.specs.declared.names.BatchName.{BatchName}
@@ -12,8 +13,11 @@ use Rattle.segment_core.specs.Segment.{widths_in, widths_of, canonical_forms}
 use Rattle.replica_store.specs.Replica.{Replica}
 use Rattle.replica_store.specs.Segments.{Entry as Held, StoreForm, IsStored, rows_in, rows_entries}
 use Rattle.replica_store.specs.Exchange.{OfferForm, AreOffered, offering, opened}
-use Rattle.column_file.specs.Files.{canonical_entry, AreCanonicalOf, IsCanonicalHeld}
+use Rattle.column_file.specs.Files.{canonical_entry, canonical_read, opened_from, AreCanonicalOf, IsCanonicalHeld}
+use Rattle.column_file.specs.Input.{is_fault_of_file}
+use Rattle.column_file.proofs.FaultsOfBytes.{Judged, then_judged}
 use Rattle.column_file.proofs.HasFiles.{entries_are}
+use Rattle.column_file.proofs.Openings.{canonical_read_judged}
 
 -- ---- batches that were read canonical
 
@@ -43,3 +47,23 @@ opened_segments own o (Err e) given same canonical = tt
 opened_segments own o (Ok s) given same canonical =
     let replica : offering own o ≡ s.replica = replica_is (own.0 == 0) (offering own o) s.replica given in
     ap finite.entries same ∙ canonical ∙ ap (λ (r : Replica). map (canonical_entry r.schema) (finite.entries r.state.batches)) replica
+
+-- ---- what a call that opens a file answers
+
+gives_reads : {X Y : Type 0} (view : X → Y) (r : Result X Refusal) (meaning : Result Y Refusal) → Gives view r meaning → Reads view r meaning
+gives_reads view (Ok x) meaning given = given
+gives_reads view (Err e) meaning (inl refused) = inl refused
+gives_reads view (Err e) meaning (inr lack) = inr lack.0
+
+pub opened_reads : (own : Origin) (bytes : List ℕ) (o : OfferForm) (r : Result StoreForm Refusal) → canonical_read bytes ≡ Ok o → Gives (λ (s : StoreForm). s.replica) r (opened own o) → Reads (λ (s : StoreForm). s.replica) r (opened_from own bytes)
+opened_reads own bytes o r is given =
+    let meaning : Result OfferForm Refusal → Result Replica Refusal = λ read. cond (own.0 == 0) (Err BadName) (read >>= λ (o : OfferForm). Ok (offering own o)) in
+    let P : Result Replica Refusal → Type 0 = λ m. Reads (λ (s : StoreForm). s.replica) r m in
+    subst P (sym (ap meaning is)) (gives_reads (λ (s : StoreForm). s.replica) r (opened own o) given)
+
+pub opened_from_judged : (own : Origin) (bytes : List ℕ) → Judged is_fault_of_file (opened_from own bytes)
+opened_from_judged own bytes = go (own.0 == 0)
+  where
+    go : (b : Bool) → Judged is_fault_of_file (cond b (Err BadName) (canonical_read bytes >>= λ (o : OfferForm). Ok (offering own o)))
+    go true = refl
+    go false = then_judged is_fault_of_file (canonical_read bytes) (λ (o : OfferForm). Ok (offering own o)) (canonical_read_judged bytes) (λ o. tt)

@@ -1,7 +1,7 @@
 -- What a call that reads its reader to the end says of the bytes that came and of the count of failures.
-use Rattle.std.specs.Prelude.{◌≡◌, ◌⊎◌, ℕ, Bool, true, false, List, Option, Some, None, Result, Ok, Err}
+use Rattle.std.specs.Prelude.{◌≡◌, ◌⊎◌, ℕ, Bool, true, false, List, Option, Some, None, Result, Ok, Err, IsTrue}
 use Rattle.std.specs.Io.KnownBytes.{IsAtEnd}
-use Rattle.table_model.specs.Faults.{IsWithin}
+use Rattle.table_model.specs.Faults.{IsWithin, GaveMore, CountsReads}
 use Rattle.table_model.specs.declared.refusal.Refusal.{Refusal}
 use Rattle.table_model.specs.declared.refusal.Refusal.TheVariants.{Memory, ReadFault, BadName, BadSchema, Truncated, BadMagic, BadVersion, BadOrder, BadCount, BadWidth, BadTag, BadMask, BadDictionary, BadCode, BadRange, TrailingBytes, NotCanonical}
 
@@ -54,6 +54,10 @@ unread_or is_fault Memory = true
 unread_or is_fault ReadFault = true
 unread_or is_fault other = is_fault other
 
+-- whether a refusal is out of memory or a failed read: a call that judges nothing of what it reads has no others
+abbrev pub is_unread : Refusal → Bool
+is_unread = unread_or (λ e. false)
+
 -- each refusal of a call that reads a summary
 abbrev pub is_refusal_of_summary : Refusal → Bool
 is_refusal_of_summary = unread_or is_fault_of_summary
@@ -65,3 +69,23 @@ is_refusal_of_offer = unread_or is_fault_of_container
 -- each refusal of a call that reads a canonical file
 abbrev pub is_refusal_of_reading : Refusal → Bool
 is_refusal_of_reading = unread_or is_fault_of_file
+
+-- ---- a call that reads to the end
+
+-- A reader was read to its end without a failure, and it had no more than a call reads.
+pub record IsReadWhole {D : Type 0} (remaining : D → Option (List ℕ)) (old new : D × ℕ) : Type 0 where
+  pub end : IsAtEnd (remaining new.0)
+  pub within : IsWithin (remaining old.0)
+  pub kept : new.1 ≡ old.1
+
+-- The call was refused: as one of the refusals that it has; unless memory ran out or a read failed, the reader was read to its end; and
+-- a failed read is counted.
+pub record StopsReading {D : Type 0} (remaining : D → Option (List ℕ)) (is_refusal : Refusal → Bool) (old new : D × ℕ) (e : Refusal) : Type 0 where
+  pub listed : IsTrue (is_refusal e)
+  pub whole : ComesOfWhole e (remaining old.0) (remaining new.0)
+  pub counts : CountsReads (GaveMore (remaining old.0) (remaining new.0)) e old.1 new.1
+
+-- how a call ends that reads its reader to the end: it was read whole, or the call was refused
+abbrev pub ReadsWhole : {D X : Type 0} → (D → Option (List ℕ)) → (Refusal → Bool) → D × ℕ → D × ℕ → Result X Refusal → Type 0
+ReadsWhole remaining is_refusal old new (Ok x) = IsReadWhole remaining old new
+ReadsWhole remaining is_refusal old new (Err e) = StopsReading remaining is_refusal old new e

@@ -1,8 +1,7 @@
 //! Reading a reader to its end.
-ghost use Rattle.std.specs.Prelude.{◌≡◌, ◌<◌, ◌≤◌, length, IfOk, IfErr, OnOk};
-ghost use Rattle.std.specs.Io.KnownBytes.{Consumes, IsAtEnd};
-ghost use Rattle.table_model.specs.Faults.{IsWithin, GaveMore, CountsReads};
-ghost use Rattle.column_file.specs.Input.{IsUnread};
+ghost use Rattle.std.specs.Prelude.{◌<◌, ◌≤◌, length, IfOk};
+ghost use Rattle.std.specs.Io.KnownBytes.{Consumes};
+ghost use Rattle.column_file.specs.Input.{ReadsWhole, is_unread};
 
 use std::alloc::Global;
 use std::io::Read;
@@ -24,11 +23,7 @@ fn read_through<R: Read>(
     requires some { 0 < length buffer.old }
     requires limit { length buffer.old ≤ 65536 }
     ensures bytes { IfOk result (λ input. Consumes (R.remaining reader.old.0) (R.remaining reader.new.0) input.items) }
-    ensures end { OnOk result (IsAtEnd (R.remaining reader.new.0)) }
-    ensures within { OnOk result (IsWithin (R.remaining reader.old.0)) }
-    ensures kept { OnOk result (reader.new.1 ≡ reader.old.1) }
-    ensures refused { IfErr result IsUnread }
-    ensures fault { IfErr result (λ e. CountsReads (GaveMore (R.remaining reader.old.0) (R.remaining reader.new.0)) e reader.old.1 reader.new.1) }
+    ensures reads { ReadsWhole R.remaining is_unread reader.old reader.new result }
 {
     let mut input = Vec::new(alloc);
     for _turn in 0..ROUNDS {
@@ -51,11 +46,7 @@ fn read_through<R: Read>(
 /// what came.
 pub fn read_input<R: Read>(alloc: Global, reader: &mut Counted<R>) -> Result<Vec<u8>, Refusal>
     ensures bytes { IfOk result (λ input. Consumes (R.remaining reader.old.0) (R.remaining reader.new.0) input.items) }
-    ensures end { OnOk result (IsAtEnd (R.remaining reader.new.0)) }
-    ensures within { OnOk result (IsWithin (R.remaining reader.old.0)) }
-    ensures kept { OnOk result (reader.new.1 ≡ reader.old.1) }
-    ensures refused { IfErr result IsUnread }
-    ensures fault { IfErr result (λ e. CountsReads (GaveMore (R.remaining reader.old.0) (R.remaining reader.new.0)) e reader.old.1 reader.new.1) }
+    ensures reads { ReadsWhole R.remaining is_unread reader.old reader.new result }
 {
     let mut buffer = vec![in alloc; 0u8; CHUNK]?;
     read_through(alloc, reader, buffer.as_mut_slice())

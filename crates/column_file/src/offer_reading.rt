@@ -1,13 +1,11 @@
 //! Reading an offer from bytes.
-ghost use Rattle.std.specs.Prelude.{◌≡◌, ◌≤◌, IsTrue, IfOk, IfErr, OnOk};
-ghost use Rattle.std.specs.Io.KnownBytes.{IsAtEnd};
+ghost use Rattle.std.specs.Prelude.{◌≡◌, ◌≤◌, IsTrue, IfOk};
 ghost use Rattle.std.specs.List.{All};
-ghost use Rattle.table_model.specs.Faults.{IsWithin, GaveMore, CountsReads};
 ghost use Rattle.table_model.specs.Name.{is_proper_name};
 ghost use Rattle.catalogue_join.specs.RowRange.{RowRange, rows_in};
 ghost use Rattle.table_model.specs.Reading.{Reads};
 ghost use Rattle.column_file.specs.Files.{IsRangeGiven, offer_read};
-ghost use Rattle.column_file.specs.Input.{Judges, ComesOfWhole, is_refusal_of_offer};
+ghost use Rattle.column_file.specs.Input.{Judges, ReadsWhole, is_refusal_of_offer};
 
 use crate::container_reading::read_container;
 use crate::input::read_input;
@@ -46,12 +44,7 @@ pub(crate) fn offer_in(alloc: Global, bytes: &[u8]) -> Result<Offer, Refusal>
 /// bytes that are there.
 pub fn read_offer<R: Read>(alloc: Global, reader: &mut Counted<R>) -> Result<Offer, Refusal>
     ensures read { Judges (λ x. x) result (R.remaining reader.old.0) offer_read }
-    ensures refused { IfErr result (λ e. IsTrue (is_refusal_of_offer e)) }
-    ensures end { OnOk result (IsAtEnd (R.remaining reader.new.0)) }
-    ensures within { OnOk result (IsWithin (R.remaining reader.old.0)) }
-    ensures kept { OnOk result (reader.new.1 ≡ reader.old.1) }
-    ensures whole { IfErr result (λ e. ComesOfWhole e (R.remaining reader.old.0) (R.remaining reader.new.0)) }
-    ensures fault { IfErr result (λ e. CountsReads (GaveMore (R.remaining reader.old.0) (R.remaining reader.new.0)) e reader.old.1 reader.new.1) }
+    ensures reads { ReadsWhole R.remaining is_refusal_of_offer reader.old reader.new result }
 {
     let input = read_input(alloc, reader)?;
     offer_in(alloc, input.as_slice())

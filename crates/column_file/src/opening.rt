@@ -1,8 +1,6 @@
 //! Opening and checking canonical files.
-ghost use Rattle.std.specs.Prelude.{◌≡◌, ◌≤◌, ◌==◌, ◌&&◌, length, map, Err, Ok, IsTrue, IfOk, IfErr, OnOk};
-ghost use Rattle.std.specs.Io.KnownBytes.{IsAtEnd};
+ghost use Rattle.std.specs.Prelude.{◌≡◌, ◌≤◌, ◌==◌, ◌&&◌, length, map, Err, Ok, IsTrue, IfOk};
 ghost use Rattle.std.specs.List.{All, list_all, zip};
-ghost use Rattle.table_model.specs.Faults.{IsWithin, GaveMore, CountsReads};
 ghost use Rattle.table_model.specs.Reading.{Reads};
 ghost use Rattle.replica_store.specs.Segments.{IsStored};
 ghost use Rattle.replica_store.specs.Replica.{batch_limit};
@@ -10,7 +8,7 @@ ghost use Rattle.column_file.specs.ContainerBytes.{entry_of, deleted_of, contain
 ghost use Rattle.column_file.specs.Differing.{matched};
 ghost use Rattle.column_file.specs.Files.{AreCanonicalOf, is_same_range, canonical_read, opened_from, checked_from};
 ghost use Rattle.column_file.specs.FirstVersion.{KeepsFirst, opened_from_1};
-ghost use Rattle.column_file.specs.Input.{Judges, ComesOfWhole, is_refusal_of_reading};
+ghost use Rattle.column_file.specs.Input.{Judges, ReadsWhole, is_refusal_of_reading};
 
 use crate::comparing::Comparison;
 use crate::container_reading::read_container;
@@ -90,12 +88,7 @@ pub fn open<R: Read>(alloc: Global, reader: &mut Counted<R>, own: Origin) -> Res
     ensures first { KeepsFirst (λ store. store.replica) result (R.remaining reader.old.0) (opened_from_1 own) }
     ensures segments { IfOk result (λ store. AreCanonicalOf store.replica.schema store.replica.state.batches store.segments) }
     ensures own { own.0 ≡ 0 → (result ≡ Err Refusal.BadName) × (reader.new ≡ reader.old) }
-    ensures refused { IfErr result (λ e. IsTrue (is_refusal_of_reading e)) }
-    ensures end { OnOk result (IsAtEnd (R.remaining reader.new.0)) }
-    ensures within { OnOk result (IsWithin (R.remaining reader.old.0)) }
-    ensures kept { OnOk result (reader.new.1 ≡ reader.old.1) }
-    ensures whole { 1 ≤ own.0 → IfErr result (λ e. ComesOfWhole e (R.remaining reader.old.0) (R.remaining reader.new.0)) }
-    ensures fault { IfErr result (λ e. CountsReads (GaveMore (R.remaining reader.old.0) (R.remaining reader.new.0)) e reader.old.1 reader.new.1) }
+    ensures reads { 1 ≤ own.0 → ReadsWhole R.remaining is_refusal_of_reading reader.old reader.new result }
 {
     if own.0 == 0 {
         // Before anything is read.
@@ -124,12 +117,7 @@ pub fn open_bytes(alloc: Global, bytes: &[u8], own: Origin) -> Result<Store, Ref
 /// How many batches and ranges a canonical file has, under the same refusals as [`open`] with a proper own origin.
 pub fn check<R: Read>(alloc: Global, reader: &mut Counted<R>) -> Result<Checked, Refusal>
     ensures read { Judges (λ checked. (checked.batches, checked.ranges)) result (R.remaining reader.old.0) checked_from }
-    ensures refused { IfErr result (λ e. IsTrue (is_refusal_of_reading e)) }
-    ensures end { OnOk result (IsAtEnd (R.remaining reader.new.0)) }
-    ensures within { OnOk result (IsWithin (R.remaining reader.old.0)) }
-    ensures kept { OnOk result (reader.new.1 ≡ reader.old.1) }
-    ensures whole { IfErr result (λ e. ComesOfWhole e (R.remaining reader.old.0) (R.remaining reader.new.0)) }
-    ensures fault { IfErr result (λ e. CountsReads (GaveMore (R.remaining reader.old.0) (R.remaining reader.new.0)) e reader.old.1 reader.new.1) }
+    ensures reads { ReadsWhole R.remaining is_refusal_of_reading reader.old reader.new result }
 {
     let input = read_input(alloc, reader)?;
     let offer = canonical_in(alloc, input.as_slice())?;

@@ -1,14 +1,12 @@
 //! Reading a summary from bytes: its own four bytes, the version, a schema, and names in strictly ascending order.
-ghost use Rattle.std.specs.Prelude.{◌≡◌, ◌-◌, ◌^◌, ◌<◌, ◌≤◌, length, codes, IsTrue, IfOk, IfErr, OnOk};
+ghost use Rattle.std.specs.Prelude.{◌≡◌, ◌-◌, ◌^◌, ◌<◌, ◌≤◌, length, codes, IsTrue, IfOk, IfErr};
 ghost use Rattle.std.specs.List.{All};
 ghost use Rattle.std.specs.FinSet as set;
-ghost use Rattle.std.specs.Io.KnownBytes.{IsAtEnd};
-ghost use Rattle.table_model.specs.Faults.{IsWithin, GaveMore, CountsReads};
 ghost use Rattle.table_model.specs.Name.{is_proper_name};
 ghost use Rattle.table_model.specs.Reading.{Reads};
 ghost use Rattle.segment_core.specs.Format.{Format, number, all, constant, read_whole};
 ghost use Rattle.column_file.specs.SummaryBytes.{version, head, proper_name, precedes, is_after, batch_name, name_count, names, summary, summary_read};
-ghost use Rattle.column_file.specs.Input.{Judges, ComesOfWhole, is_fault_of_summary, is_refusal_of_summary};
+ghost use Rattle.column_file.specs.Input.{Judges, ReadsWhole, is_fault_of_summary, is_refusal_of_summary};
 
 use crate::input::read_input;
 use crate::schema_reading::read_schema;
@@ -204,12 +202,7 @@ fn summary_in(alloc: Global, bytes: &[u8]) -> Result<Summary, Refusal>
 /// can come in place of any of them.
 pub fn read_summary<R: Read>(alloc: Global, reader: &mut Counted<R>) -> Result<Summary, Refusal>
     ensures read { Judges (λ x. x) result (R.remaining reader.old.0) summary_read }
-    ensures refused { IfErr result (λ e. IsTrue (is_refusal_of_summary e)) }
-    ensures end { OnOk result (IsAtEnd (R.remaining reader.new.0)) }
-    ensures within { OnOk result (IsWithin (R.remaining reader.old.0)) }
-    ensures kept { OnOk result (reader.new.1 ≡ reader.old.1) }
-    ensures whole { IfErr result (λ e. ComesOfWhole e (R.remaining reader.old.0) (R.remaining reader.new.0)) }
-    ensures fault { IfErr result (λ e. CountsReads (GaveMore (R.remaining reader.old.0) (R.remaining reader.new.0)) e reader.old.1 reader.new.1) }
+    ensures reads { ReadsWhole R.remaining is_refusal_of_summary reader.old reader.new result }
 {
     let input = read_input(alloc, reader)?;
     summary_in(alloc, input.as_slice())

@@ -20,19 +20,27 @@ returns-then-count-eq0-clause-bytes g c =
     consumes_no_more (g.R.Read.remaining c.args.reader.now.0) (g.R.Read.remaining c.loop-turn.reader.0) (g.R.Read.remaining c.read.new.self.0) c.loop-turn.input.items c.read.new.buffer c.in-Ok.count
     c.loop-turn.invariant.read c.in-Ok.ensures.bytes.0 c.if-count-eq0.true
 
-pub returns-then-count-eq0-clause-within : goal.returns-then-count-eq0-clause-within
-returns-then-count-eq0-clause-within g c =
-    let read = consumes_no_more (g.R.Read.remaining c.args.reader.now.0) (g.R.Read.remaining c.loop-turn.reader.0) (g.R.Read.remaining c.read.new.self.0) c.loop-turn.input.items c.read.new.buffer c.in-Ok.count
-    c.loop-turn.invariant.read c.in-Ok.ensures.bytes.0 c.if-count-eq0.true in
+pub returns-then-count-eq0-clause-reads : goal.returns-then-count-eq0-clause-reads
+returns-then-count-eq0-clause-reads g c =
+    let read = returns-then-count-eq0-clause-bytes g c in
     let room : 0 < length c.read.new.buffer = omega arith in
-    is_within (g.R.Read.remaining c.args.reader.now.0) (g.R.Read.remaining c.read.new.self.0) c.loop-turn.input.items read (c.in-Ok.ensures.bytes.1 c.if-count-eq0.true room) c.loop-turn.invariant.limit
+    let end = c.in-Ok.ensures.bytes.1 c.if-count-eq0.true room in
+    record {
+      end = end;
+      within = is_within (g.R.Read.remaining c.args.reader.now.0) (g.R.Read.remaining c.read.new.self.0) c.loop-turn.input.items read end c.loop-turn.invariant.limit;
+      kept = c.in-Ok.ensures.failures ∙ c.loop-turn.invariant.kept;
+    }
 
-pub returns-then-len-gt-READ_LIMIT-clause-fault : goal.returns-then-len-gt-READ_LIMIT-clause-fault
-returns-then-len-gt-READ_LIMIT-clause-fault g c =
+pub returns-then-len-gt-READ_LIMIT-clause-reads : goal.returns-then-len-gt-READ_LIMIT-clause-reads
+returns-then-len-gt-READ_LIMIT-clause-reads g c =
     let read = consumes_chunk (g.R.Read.remaining c.args.reader.now.0) (g.R.Read.remaining c.loop-turn.reader.0) (g.R.Read.remaining c.read.new.self.0) c.loop-turn.input.items c.read.new.buffer c.split_at.result.0.now c.extend_from_slice.new.self.items c.in-Ok.count
     c.loop-turn.invariant.read c.in-Ok.ensures.bytes.0 c.split_at.ensures.front c.in_ok-extend_from_slice.ensures.items in
     let past : READ_LIMIT < length c.extend_from_slice.new.self.items = omega arith in
-    inr (gave_more (g.R.Read.remaining c.args.reader.now.0) (g.R.Read.remaining c.read.new.self.0) c.extend_from_slice.new.self.items read past, c.in-Ok.ensures.failures ∙ c.loop-turn.invariant.kept)
+    record {
+      listed = refl;
+      whole = λ not_memory not_fault. absurd (not_fault refl);
+      counts = inr (gave_more (g.R.Read.remaining c.args.reader.now.0) (g.R.Read.remaining c.read.new.self.0) c.extend_from_slice.new.self.items read past, c.in-Ok.ensures.failures ∙ c.loop-turn.invariant.kept);
+    }
 
 pub loop-turn-preserved : goal.loop-turn-preserved
 loop-turn-preserved g c =

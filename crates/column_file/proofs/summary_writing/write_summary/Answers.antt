@@ -2,7 +2,7 @@ use Rattle.std.proofs.Common.{IsTrue, codes, subst}
 use Rattle.std.specs.FinSet as set
 use Rattle.table_model.specs.Table.{Table, IsTable}
 use Rattle.replica_store.specs.Exchange.{AreListable}
-use Rattle.column_file.specs.Files.{HasSummaryBytes, IsNumbered}
+use Rattle.column_file.specs.Files.{IsNumbered}
 use Rattle.column_file.proofs.HasFiles.{on_ok}
 use Rattle.column_file.proofs.SummaryAgain.{summaries_are_read_again}
 use Rattle.std.proofs.lemmas.Result.{err_from_is_err_and}
