@@ -27,3 +27,4 @@ pub mod GroupMore
 pub mod GroupsMore
 pub mod PartIn
 pub mod DivideFirst
+pub mod ToFinish

@@ -12,6 +12,7 @@ use Rattle.query_parser.specs.Descent.{query_of}
 use Rattle.query_parser.specs.Resolve.{resolved}
 use Rattle.query_eval.specs.Finished.{plan_of}
 use Rattle.query_eval.specs.TallyKinds.{aggregate_kind}
+use Rattle.query_eval.specs.declared.tallies.aggregate.Aggregate.{Aggregate}
 use Rattle.query_eval.specs.declared.tallies.tally.TallyKind.{TallyKind}
 use Rattle.query_eval.specs.declared.tallies.tally.TallyKind.TheVariants as kinds
 use Rattle.table_model.specs.declared.extreme.Extreme.TheVariants.{Least as ALeast, Greatest as AGreatest}
@@ -31,9 +32,21 @@ kind_number (kinds.Extreme ALeast) = 2
 kind_number (kinds.Extreme AGreatest) = 3
 kind_number kinds.Distinct = 4
 
+-- what a measure keeps, as a number
+abbrev pub measure_kind : Aggregate → ℕ
+measure_kind a = kind_number (aggregate_kind a)
+
 -- what a query's measures keep of each group, as numbers
 abbrev pub kinds_asked : Table → QueryShape → List ℕ
-kinds_asked table query = each (λ a. kind_number (aggregate_kind a)) (measures_of (plan_of table.columns query).aggregates)
+kinds_asked table query = each measure_kind (measures_of (plan_of table.columns query).aggregates)
+
+-- a group has a cell for each of some columns, and keeps what some measures keep
+abbrev pub IsOfShape : ℕ → List Aggregate → Cells → List Kept → Type 0
+IsOfShape columns measures key kept = (length key ≡ columns) × (each kept_kind kept ≡ each measure_kind measures)
+
+-- all groups have this shape
+abbrev pub AreOfShape : ℕ → List Aggregate → KeptGroups → Type 0
+AreOfShape columns measures m = (k : Cells) (kept : Vec Kept) → get key_cmp m k ≡ Some kept → IsOfShape columns measures k kept.items
 
 -- Groups have the shape that a query asks for: each has a cell for each column of GROUP BY, and keeps what the query's measures
 -- keep; without GROUP BY there is a group.
@@ -54,11 +67,34 @@ CanFinish (Least o) = Unit {0}
 CanFinish (Greatest o) = Unit {0}
 CanFinish (Distinct values) = length values ≤ 2 ^ 36
 
+-- what is kept of a group can be finished
+abbrev pub EachCanFinish : List Kept → Type 0
+EachCanFinish kept = (i : ℕ) (one : Kept) → slice_get kept i ≡ Some one → CanFinish one
+
 -- what is kept of each group can be finished
 abbrev pub AllCanFinish : KeptGroups → Type 0
-AllCanFinish m = (k : Cells) (kept : Vec Kept) (i : ℕ) (one : Kept) → get key_cmp m k ≡ Some kept → slice_get kept.items i ≡ Some one → CanFinish one
+AllCanFinish m = (k : Cells) (kept : Vec Kept) → get key_cmp m k ≡ Some kept → EachCanFinish kept.items
 
--- why a part is not finished: its text is no query of its table; its groups don't have the shape that the query asks for; a sum or a set of distinct values is too large
+-- why groups are not finished, where the first says that they have their shape and the second that what they keep can be finished
+abbrev pub RefusesShown : Type 0 → Type 0 → PartFault → Type 0
+RefusesShown Shaped Small Memory = Unit {0}
+RefusesShown Shaped Small QueryDiffers = Shaped → ⊥
+RefusesShown Shaped Small TooMany = Small → ⊥
+RefusesShown Shaped Small SchemaDiffers = ⊥
+RefusesShown Shaped Small (NotApart name) = ⊥
+RefusesShown Shaped Small (Query refusal) = ⊥
+
+-- why a text is no query of a table
+abbrev pub RefusesText : Table → List ℕ → PartFault → Type 0
+RefusesText table text Memory = Unit {0}
+RefusesText table text (Query refusal) = (query_of text >>= λ query. resolved table query) ≡ Err refusal
+RefusesText table text SchemaDiffers = ⊥
+RefusesText table text QueryDiffers = ⊥
+RefusesText table text (NotApart name) = ⊥
+RefusesText table text TooMany = ⊥
+
+-- Why a part is not finished: its text is no query of its table; its groups don't have the shape that the query asks for; a sum or a
+-- set of distinct values is too large.
 abbrev pub RefusesFinishing : PartFault → CodePart → Type 0
 RefusesFinishing Memory p = Unit {0}
 RefusesFinishing (Query refusal) p = (query_of (string_bytes p.text) >>= λ query. resolved p.schema query) ≡ Err refusal

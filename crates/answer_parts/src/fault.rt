@@ -12,13 +12,13 @@ pub enum PartFault {
     Memory,
     /// The parts are of tables with different schemas.
     SchemaDiffers,
-    /// The parts are of different queries.
+    /// The parts are of different queries, or a part has not the groups that its query asks for.
     QueryDiffers,
     /// A batch that both parts counted, or that one counted and the other deletes rows of; the least one.
     NotApart(BatchName),
-    /// A count leaves 64 bits, or a sum or a mean 128.
+    /// A count leaves 64 bits, or a sum or a mean 128; or there are too many distinct values.
     TooMany,
-    /// The part's text is no query.
+    /// The part's text is no query of its table.
     Query(Refusal),
 }
 

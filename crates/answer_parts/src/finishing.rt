@@ -1,5 +1,5 @@
 //! Finishing a part: the values of the set functions, and then HAVING and the select list.
-ghost use Rattle.std.specs.Prelude.{◌≡◌, ◌++◌, ◌∷◌, [], IfOk, OnOk, map};
+ghost use Rattle.std.specs.Prelude.{◌≡◌, ◌≢◌, ◌⊎◌, ◌++◌, ◌∷◌, [], Ok, IfOk, IfErr, OnOk, map};
 ghost use Rattle.std.specs.BTreeMap.{IsOrdered};
 ghost use Rattle.std.specs.FinMap as finite;
 ghost use Rattle.std.specs.List.{position, position_or_len};
@@ -9,19 +9,23 @@ ghost use Rattle.table_model.specs.Answer.{millionths, whole};
 ghost use Rattle.table_model.specs.Group.{key_cmp};
 ghost use Rattle.table_model.specs.Meaning.{fold_value};
 ghost use Rattle.query_eval.specs.Aggregate.{same_aggregate};
+ghost use Rattle.query_parser.specs.Descent.{query_of};
 ghost use Rattle.answer_parts.specs.Groups.{part_in, shown_entries};
 ghost use Rattle.answer_parts.specs.Kept.{tally_in, tallies_in};
 ghost use Rattle.answer_parts.specs.Measures.{measures_of};
 ghost use Rattle.answer_parts.specs.Part.{field_of, field_at, fields_from, finish, mean_kept, set_of, sum_kept};
+ghost use Rattle.answer_parts.specs.Shape.{AllCanFinish, AreOfShape, CanFinish, EachCanFinish, HaveShape, IsOfShape, RefusesShown, RefusesText};
 
 use crate::fault::PartFault;
 use crate::kept::Kept;
 use crate::means::mean_of;
 use crate::measures::{measure_of, measures_of};
+use crate::shape::is_of_shape;
 use query_eval::{Aggregate, FinishedGroup, Key, Plan, answer_of_groups, values_field};
+use query_parser::{parse, resolve};
 use std::alloc::Global;
 use std::collections::BTreeMap;
-use table_model::{Answer, Field, Fold, Query, Schema};
+use table_model::{Answer, Field, Fold, Query, Refusal, Schema};
 
 /// How many different values a set function under DISTINCT goes over at most.
 const MOST: usize = 1 << 36;
@@ -49,7 +53,8 @@ fn sum_field(kept: &Kept) -> Field
 
 /// AVG, in millionths and truncated toward zero: null of no values.
 fn mean_field(kept: &Kept) -> Result<Field, PartFault>
-    ensures { IfOk result (λ field. field ≡ mean_kept (tally_in kept.now)) }
+    ensures value { IfOk result (λ field. field ≡ mean_kept (tally_in kept.now)) }
+    ensures refused { IfErr result (λ e. (e ≡ PartFault.TooMany) × (CanFinish kept.now → ⊥)) }
 {
     let count = kept.count();
     if count == 0 {
@@ -63,7 +68,8 @@ fn mean_field(kept: &Kept) -> Result<Field, PartFault>
 
 /// A set function under DISTINCT.
 fn distinct_field(fold: Fold, kept: &Kept) -> Result<Field, PartFault>
-    ensures { IfOk result (λ field. field ≡ fold_value fold (finite.keys (tally_in kept.now).seen)) }
+    ensures value { IfOk result (λ field. field ≡ fold_value fold (finite.keys (tally_in kept.now).seen)) }
+    ensures refused { IfErr result (λ e. (e ≡ PartFault.TooMany) × (CanFinish kept.now → ⊥)) }
 {
     let values = kept.values();
     if values.len() > MOST {
@@ -74,7 +80,8 @@ fn distinct_field(fold: Fold, kept: &Kept) -> Result<Field, PartFault>
 
 /// A set function's value, from what is kept of its measure.
 fn field_of(aggregate: Aggregate, kept: &Kept) -> Result<Field, PartFault>
-    ensures { IfOk result (λ field. field ≡ field_of aggregate (tally_in kept.now)) }
+    ensures value { IfOk result (λ field. field ≡ field_of aggregate (tally_in kept.now)) }
+    ensures refused { IfErr result (λ e. (e ≡ PartFault.TooMany) × (CanFinish kept.now → ⊥)) }
 {
     match aggregate {
         Aggregate::Rows => Ok(Field::Whole(i128::from(kept.count()))),
@@ -116,7 +123,8 @@ fn measure_among(measures: &[Aggregate], measure: Aggregate) -> usize
 
 /// A set function's value, from what is kept of some measures.
 fn field_at(measures: &[Aggregate], kept: &[Kept], aggregate: Aggregate) -> Result<Field, PartFault>
-    ensures { IfOk result (λ field. field ≡ field_at measures.now (tallies_in kept.now) aggregate) }
+    ensures value { IfOk result (λ field. field ≡ field_at measures.now (tallies_in kept.now) aggregate) }
+    ensures refused { IfErr result (λ e. (e ≡ PartFault.TooMany) × (EachCanFinish kept.now → ⊥)) }
 {
     let field = match kept.get(measure_among(measures, measure_of(aggregate))) {
         None => field_of(aggregate, &Kept::Count(0))?,
@@ -132,7 +140,8 @@ fn fields_from(
     measures: &[Aggregate],
     kept: &[Kept],
 ) -> Result<Vec<Field>, PartFault>
-    ensures { IfOk result (λ fields. fields.items ≡ map (field_at measures.now (tallies_in kept.now)) aggregates.now) }
+    ensures value { IfOk result (λ fields. fields.items ≡ map (field_at measures.now (tallies_in kept.now)) aggregates.now) }
+    ensures refused { IfErr result (RefusesShown Unit (EachCanFinish kept.now)) }
 {
     let mut fields = Vec::new(alloc);
     for aggregate in aggregates {
@@ -141,23 +150,54 @@ fn fields_from(
     Ok(fields)
 }
 
+/// A group of a part when it is finished.
+fn finished_group(
+    alloc: Global,
+    columns: usize,
+    aggregates: &[Aggregate],
+    measures: &[Aggregate],
+    key: Key,
+    kept: &[Kept],
+) -> Result<FinishedGroup, PartFault>
+    ensures key { IfOk result (λ group. group.key ≡ key) }
+    ensures fields { IfOk result (λ group. group.fields ≡ map (field_at measures.now (tallies_in kept.now)) aggregates.now) }
+    ensures shaped { IfOk result (λ _. IsOfShape columns measures.now key kept.now) }
+    ensures refused { IfErr result (RefusesShown (IsOfShape columns measures.now key kept.now) (EachCanFinish kept.now)) }
+{
+    if !is_of_shape(&key, kept, columns, measures) {
+        return Err(PartFault::QueryDiffers);
+    }
+    let fields = fields_from(alloc, aggregates, measures, kept)?;
+    Ok(FinishedGroup::new(key, fields))
+}
+
 /// The groups of a part when they are finished, in ascending order of their keys.
 fn finished(
     alloc: Global,
+    columns: usize,
     aggregates: &[Aggregate],
     measures: &[Aggregate],
     groups: &mut BTreeMap<Key, Vec<Kept>>,
 ) -> Result<Vec<FinishedGroup>, PartFault>
     ensures ordered { IsOrdered key_cmp groups.old }
     ensures value { IfOk result (λ all. all.items ≡ shown_entries measures.now aggregates.now groups.old.entries) }
+    ensures shaped { IfOk result (λ _. AreOfShape columns measures.now groups.old) }
+    ensures refused { IfErr result (RefusesShown (AreOfShape columns measures.now groups.old) (AllCanFinish groups.old)) }
 {
     let mut all = Vec::new(alloc);
     for _ in 0..groups.len() {
         match groups.pop_first() {
             None => {}
             Some((key, kept)) => {
-                let fields = fields_from(alloc, aggregates, measures, kept.as_slice())?;
-                all.push(FinishedGroup::new(key, fields))?;
+                let group = finished_group(
+                    alloc,
+                    columns,
+                    aggregates,
+                    measures,
+                    key,
+                    kept.as_slice(),
+                )?;
+                all.push(group)?;
             }
         }
     }
@@ -165,18 +205,58 @@ fn finished(
 }
 
 /// The answer of the groups of a part to the query that the part is of.
+///
+/// The refusals are `QueryDiffers` if there is no group without GROUP BY, and then, group by group in the order of the keys,
+/// `QueryDiffers` if a group is not of the shape that the query asks for, and `TooMany` if what it keeps can't be finished. `Memory`
+/// can come in place of each but the first.
 pub fn finish_groups(
     alloc: Global,
     schema: &Schema,
     query: &Query,
     groups: BTreeMap<Key, Vec<Kept>>,
 ) -> Result<Answer, PartFault>
-    ensures { IfOk result (λ answer. answer ≡ finish schema.now query.now (part_in groups)) }
+    ensures answer { IfOk result (λ answer. answer ≡ finish schema.now query.now (part_in groups)) }
+    ensures shaped { IfOk result (λ _. HaveShape schema.now query.now groups) }
+    ensures refused { IfErr result (RefusesShown (HaveShape schema.now query.now groups) (AllCanFinish groups)) }
 {
+    let columns = query.grouping.len();
+    if columns == 0 && groups.is_empty() {
+        return Err(PartFault::QueryDiffers);
+    }
     let plan = Plan::of(alloc, schema, query)?;
     let measures = measures_of(alloc, plan.aggregates())?;
     let mut rest = groups;
-    let all = finished(alloc, plan.aggregates(), measures.as_slice(), &mut rest)?;
+    let all = finished(
+        alloc,
+        columns,
+        plan.aggregates(),
+        measures.as_slice(),
+        &mut rest,
+    )?;
     let answer = answer_of_groups(alloc, schema, query, &plan, all.as_slice())?;
     Ok(answer)
+}
+
+/// What a part's text is refused as.
+fn text_fault(refusal: Refusal) -> PartFault
+    ensures { (result ≡ PartFault.Memory) ⊎ ((result ≡ PartFault.Query refusal) × (refusal ≢ Refusal.Memory)) }
+{
+    match refusal {
+        Refusal::Memory => PartFault::Memory,
+        other => PartFault::Query(other),
+    }
+}
+
+/// The query that a part's text is, if its names are those of the table.
+pub fn text_query(alloc: Global, schema: &Schema, text: &str) -> Result<Query, PartFault>
+    ensures query { IfOk result (λ query. query_of text.now ≡ Ok query) }
+    ensures refused { IfErr result (RefusesText schema.now text.now) }
+{
+    match parse(alloc, text) {
+        Err(refusal) => Err(text_fault(refusal)),
+        Ok(query) => match resolve(&query, schema) {
+            Err(refusal) => Err(PartFault::Query(refusal)),
+            Ok(()) => Ok(query),
+        },
+    }
 }

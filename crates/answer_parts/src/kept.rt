@@ -36,7 +36,7 @@ pub enum Kept {
 
 impl Kept {
     /// Which of the five is kept, as a number from 0 on.
-    fn kind(&self) -> u8
+    pub fn kind(&self) -> u8
         ensures { result ≡ kept_kind self.now }
     {
         match self {

@@ -11,6 +11,7 @@ mod laws;
 mod means;
 mod measures;
 mod part;
+mod shape;
 mod told;
 mod values;
 

@@ -7,15 +7,15 @@ ghost use Rattle.answer_parts.specs.Between.{IsFirstBetween};
 ghost use Rattle.answer_parts.specs.Combining.{AreCombined, IsRefused, counted_in};
 ghost use Rattle.answer_parts.specs.Groups.{part_in};
 ghost use Rattle.answer_parts.specs.Part.{finish};
+ghost use Rattle.answer_parts.specs.Shape.{IsShaped, RefusesFinishing};
 
 use crate::apart::{first_shared, lesser_name};
 use crate::fault::PartFault;
-use crate::finishing::finish_groups;
+use crate::finishing::{finish_groups, text_query};
 use crate::groups::combined_groups;
 use crate::kept::Kept;
 use catalogue_join::Held;
 use query_eval::Key;
-use query_parser::parse;
 use std::alloc::Global;
 use std::collections::BTreeMap;
 use table_model::{Answer, BatchName, Schema, same_text};
@@ -135,10 +135,16 @@ impl Part {
 
     /// The answer of a part to its query: here AVG is divided, and then HAVING is applied.
     ///
-    /// The refusals are `Query` if the text is no query, `TooMany` if a mean leaves 128 bits, which it does not in a part of fewer
-    /// than 2^28 files, or if a set function under DISTINCT goes over more than 2^36 values, and `Memory`.
+    /// The refusals are, in this order: `Query` with what [`parse`](query_parser::parse) and then
+    /// [`resolve`](query_parser::resolve) say of the text; `QueryDiffers` if there is no group without GROUP BY; and then, group by
+    /// group in the order of their keys, `QueryDiffers` if a group's key has not one cell for each column of GROUP BY, or if other
+    /// things are kept of it than the query's set functions need, and `TooMany` if a mean leaves 128 bits, which takes a greater
+    /// sum than that of as many numbers of 64 bits, or if a set function under DISTINCT goes over more than 2^36 values. `Memory`
+    /// can come in place of each.
     pub fn finish(self, alloc: Global) -> Result<Answer, PartFault>
-        ensures { IfOk result (λ answer. (query : QueryShape) → query_of (string_bytes self.text) ≡ Ok query → answer ≡ finish self.schema query (part_in self.groups)) }
+        ensures answer { IfOk result (λ answer. (query : QueryShape) → query_of (string_bytes self.text) ≡ Ok query → answer ≡ finish self.schema query (part_in self.groups)) }
+        ensures shaped { IfOk result (λ _. IsShaped self) }
+        ensures refused { IfErr result (λ e. RefusesFinishing e self) }
     {
         let Part {
             schema,
@@ -146,12 +152,8 @@ impl Part {
             groups,
             ..
         } = self;
-        match parse(alloc, text.as_str()) {
-            Err(refusal) => Err(PartFault::Query(refusal)),
-            Ok(query) => {
-                let answer = finish_groups(alloc, &schema, &query, groups)?;
-                Ok(answer)
-            }
-        }
+        let query = text_query(alloc, &schema, text.as_str())?;
+        let answer = finish_groups(alloc, &schema, &query, groups)?;
+        Ok(answer)
     }
 }
