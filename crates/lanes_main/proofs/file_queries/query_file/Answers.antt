@@ -23,7 +23,7 @@ pub returns-in-Ok-clause-ends : goal.returns-in-Ok-clause-ends
 returns-in-Ok-clause-ends g c =
     record { read = record { end = c.in_ok-file.ensures.end; within = c.in_ok-file.ensures.within; kept = c.in_ok-file.ensures.kept }; kept = c.in-Ok.ensures.kept }
 
-pub returns-in-Err-clause-ends : goal.returns-in-Err-clause-ends
-returns-in-Err-clause-ends g c =
+pub returns-clause-ends : goal.returns-clause-ends
+returns-clause-ends g c =
     answering_ends g.R.Read.remaining c.args.reader.now c.read.new.reader c.args.writer.now c.answer_all.new.writer c.in-Err.stopped.refusal c.in-Err.ensures.refused
     (record { end = c.in_ok-file.ensures.end; within = c.in_ok-file.ensures.within; kept = c.in_ok-file.ensures.kept }) c.in-Err.ensures.fault
