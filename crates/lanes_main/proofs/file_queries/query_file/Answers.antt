@@ -1,5 +1,5 @@
 -- The queries are answered over the file once it was opened; before that nothing is written.
-use Rattle.std.proofs.Common.{ℕ, List, Bor, IsTrue, ap, map}
+use Rattle.std.proofs.Common.{ℕ, List, Bor, ap, map}
 use Rattle.std.proofs.lemmas.Result.{err_from_is_err_and}
 use Rattle.column_file.specs.Files.{opened_from}
 use Rattle.replica_store.specs.Replica.{Replica}
