@@ -1,8 +1,8 @@
 -- What is written for a file, step by step: the file is opened, and the line of its check or one answer after another is written.
-use Rattle.std.proofs.Common.{◌≡◌, inl, inr, ℕ, Bool, true, false, ◌||◌, IsTrue, List, length, Option, Some, None, Result, Ok, Err, OnOk, IfErr, refl, sym, ap, subst}
+use Rattle.std.proofs.Common.{◌≡◌, inl, inr, ℕ, Bool, true, false, ◌||◌, IsTrue, List, length, Option, Some, None, Result, Ok, Err, refl, sym, ap, subst}
 use Rattle.std.specs.FinMap as map
 use Rattle.std.specs.Io.KnownBytes.{Appends}
-use Rattle.table_model.specs.Faults.{AppendsFront, CountsBoth, CountsReads}
+use Rattle.table_model.specs.Faults.{AppendsFront, GaveMore, CountsBoth, CountsReads, CountsWrites}
 use Rattle.table_model.specs.Reading.{◌>>=◌}
 use Rattle.table_model.specs.declared.refusal.Refusal.{Refusal}
 use Rattle.table_model.specs.declared.refusal.Refusal.TheVariants.{Memory, ReadFault, WriteFault}
@@ -12,8 +12,10 @@ use Rattle.replica_store.specs.Exchange.{OfferForm, offering}
 use Rattle.replica_store.specs.Replica.{Replica}
 use Rattle.replica_files.specs.Asking.{Report, WritesText, Tells, refused, checked_text, counts_of, is_refusal_of_answering}
 use Rattle.replica_files.specs.Commands.{held_in}
+use Rattle.replica_files.specs.Refusals.{IsReadWhole}
 use Rattle.replica_files.proofs.AskedTexts.{front_none}
-use Rattle.lanes_main.specs.FileReport.{checked_report, check_report, is_refusal_of_checking, is_refusal_of_querying, Reports}
+use Rattle.replica_files.proofs.RefusedOnFile.{or_command}
+use Rattle.lanes_main.specs.FileReport.{checked_report, check_report, is_refusal_of_checking, is_refusal_of_querying, Reports, IsUnreported, EndsReport}
 use Rattle.lanes_main.proofs.Tellings.{appends_none}
 
 -- a file that is refused as it is read: nothing is written
@@ -28,11 +30,18 @@ reading_refused view other (Some bytes) known meaning report to h =
     let P : Report → Type 0 = λ r. Tells (Err other) known known r in
     subst P (sym is) (inl (refl, appends_none known))
 
--- the counts after that
-pub reading_counted : (many : Type 0) (e : Refusal) (r r' w : ℕ) → IsTrue (is_refusal_of_reading e) → CountsReads many e r r' → CountsBoth many e r r' w w
+reading_counted : (many : Type 0) (e : Refusal) (r r' w : ℕ) → IsTrue (is_refusal_of_reading e) → CountsReads many e r r' → CountsBoth many e r r' w w
 reading_counted many ReadFault r r' w listed h = (h, refl)
 reading_counted many WriteFault r r' w listed h = let wrong : false ≡ true = listed in absurd cc
 reading_counted many other r r' w listed h = (h, refl)
+
+-- and how the call ends then
+pub reading_ends : {D E : Type 0} (remaining : D → Option (List ℕ)) (is_refusal : Refusal → Bool) (reader reader' : D × ℕ) (writer : E × ℕ) (e : Refusal)
+    → IsTrue (is_refusal e) → IsTrue (is_refusal_of_reading e) → CountsReads (GaveMore (remaining reader.0) (remaining reader'.0)) e reader.1 reader'.1 → IsUnreported remaining is_refusal reader reader' writer writer e
+reading_ends remaining is_refusal reader reader' writer e listed read h = record {
+  listed = listed;
+  counts = reading_counted (GaveMore (remaining reader.0) (remaining reader'.0)) e reader.1 reader'.1 writer.1 read h;
+}
 
 -- a refusal of reading a file is one of its check
 pub reading_checks : (e : Refusal) → IsTrue (is_refusal_of_reading e) → IsTrue (is_refusal_of_checking e)
@@ -88,19 +97,23 @@ check_told view x (Some bytes) before now w w' result h wrote =
     let P : Result (ℕ × ℕ) Refusal → Type 0 = λ c. Tells result before now (checked_report c) in
     subst P (sym (checked_as bytes (view x) h)) (tells_text result before now w w' (checked_text (counts_of (view x))) wrote)
 
--- its refusals, and the counts then
-pub text_checks : (result : Result (Unit {0}) Refusal) (before now : Option (List ℕ)) (w w' : ℕ) (text : List ℕ) → WritesText result before now w w' (Ok text) → IfErr result (λ e. IsTrue (is_refusal_of_checking e))
-text_checks (Ok done) before now w w' text h = tt
-text_checks (Err Memory) before now w w' text h = refl
-text_checks (Err WriteFault) before now w w' text h = refl
-text_checks (Err other) before now w w' text h = absurd cc
+-- and how the call ends then
+pub text_ends : {D E : Type 0} (remaining : D → Option (List ℕ)) (reader reader' : D × ℕ) (writer writer' : E × ℕ) (result : Result (Unit {0}) Refusal) (before now : Option (List ℕ)) (text : List ℕ)
+    → IsReadWhole remaining reader reader' → WritesText result before now writer.1 writer'.1 (Ok text) → EndsReport remaining is_refusal_of_checking reader reader' writer writer' result
+text_ends remaining reader reader' writer writer' (Ok done) before now text whole h = record { read = whole; kept = h.3 }
+text_ends remaining reader reader' writer writer' (Err Memory) before now text whole h = record { listed = refl; counts = (whole.kept, h.1) }
+text_ends remaining reader reader' writer writer' (Err WriteFault) before now text whole h = record { listed = refl; counts = (whole.kept, h.3) }
+text_ends remaining reader reader' writer writer' (Err other) before now text whole h = absurd cc
 
-pub text_counts : (many : Type 0) (result : Result (Unit {0}) Refusal) (before now : Option (List ℕ)) (r r' w w' : ℕ) (text : List ℕ) → r' ≡ r → WritesText result before now w w' (Ok text) → IfErr result (λ e. CountsBoth many e r r' w w')
-text_counts many (Ok done) before now r r' w w' text same h = tt
-text_counts many (Err Memory) before now r r' w w' text same h = (same, h.1)
-text_counts many (Err WriteFault) before now r r' w w' text same h = (same, h.3)
-text_counts many (Err other) before now r r' w w' text same h = absurd cc
+-- ---- an answer that is refused
 
-pub text_kept : (result : Result (Unit {0}) Refusal) (before now : Option (List ℕ)) (r r' w w' : ℕ) (text : List ℕ) → r' ≡ r → WritesText result before now w w' (Ok text) → OnOk result ((r' ≡ r) × (w' ≡ w))
-text_kept (Ok done) before now r r' w w' text same h = (same, h.3)
-text_kept (Err e) before now r r' w w' text same h = tt
+answering_counted : (many : Type 0) (e : Refusal) (r r' w w' : ℕ) → IsTrue (is_refusal_of_answering e) → r' ≡ r → CountsWrites e w w' → CountsBoth many e r r' w w'
+answering_counted many ReadFault r r' w w' listed same h = let wrong : false ≡ true = listed in absurd cc
+answering_counted many other r r' w w' listed same h = (same, h)
+
+pub answering_ends : {D E : Type 0} (remaining : D → Option (List ℕ)) (reader reader' : D × ℕ) (writer writer' : E × ℕ) (e : Refusal)
+    → IsTrue (is_refusal_of_answering e) → IsReadWhole remaining reader reader' → CountsWrites e writer.1 writer'.1 → IsUnreported remaining is_refusal_of_querying reader reader' writer writer' e
+answering_ends remaining reader reader' writer writer' e listed whole h = record {
+  listed = or_command is_refusal_of_answering e listed;
+  counts = answering_counted (GaveMore (remaining reader.0) (remaining reader'.0)) e reader.1 reader'.1 writer.1 writer'.1 listed whole.kept h;
+}

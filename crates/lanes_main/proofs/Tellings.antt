@@ -3,6 +3,7 @@ use Rattle.std.specs.Prelude.{◌≡◌, ℕ, ◌+◌, ◌<◌, ◌≤◌, List,
 use Rattle.std.specs.Io.KnownBytes.{Appends, Consumes, IsAtEnd}
 use Rattle.std.proofs.Common.{refl, sym, ap, ◌∙◌, arith, append_assoc, subst, inl, inr}
 use Rattle.std.proofs.lemmas.List.{length-append, append-nil, append_cancel_right}
+use Rattle.table_model.specs.Counted.{one_more}
 use Rattle.table_model.specs.Faults.{AppendsFront, IsWithin, GaveMore, Failed}
 use Rattle.table_model.specs.declared.counted.TheConstants.{READ_LIMIT}
 use Rattle.table_model.proofs.Written.{appends_both}
@@ -14,7 +15,8 @@ use Rattle.script_lines.specs.Word.{pieces}
 use Rattle.cluster_history.specs.declared.reply.Reply.TheVariants.{Refused}
 use Rattle.table_model.specs.declared.refusal.Refusal.{Refusal}
 use Rattle.table_model.specs.declared.refusal.Refusal.TheVariants.{Memory, ReadFault, WriteFault, LineTooLong}
-use Rattle.lanes_main.specs.Told.{Sofar, ToldFront, ToldAll, GoesOn, EndsEarly, Reached}
+use Rattle.replica_files.specs.Refusals.{IsReadAndWritten}
+use Rattle.lanes_main.specs.Told.{Sofar, ToldFront, ToldAll, GoesOn, EndsEarly, Reached, IsStopped}
 use Rattle.lanes_main.proofs.Feeds.{script_start, long_from}
 use Rattle.lanes_main.proofs.WholeLines.{last_line, text_whole}
 
@@ -156,3 +158,28 @@ told_reached (Some xs) None before now cluster part total h = absurd h
 told_reached (Some xs) (Some ys) before now cluster part total h =
     let P : List ℕ → Type 0 = λ t. Appends before now t in
     (h.0, h.2, subst P (pinned h.0 h.1 cluster part (line_limit + 1) (omega arith) (h.5 (replicate (line_limit + 1) 120))) h.4)
+
+-- ---- how a script is stopped
+
+memory_stops : {D E : Type 0} (remaining : D → Option (List ℕ)) (contents : E → Option (List ℕ)) (reader reader' : D × ℕ) (writer writer' : E × ℕ)
+    → ToldFront (remaining reader.0) (contents writer.0) (contents writer'.0) → reader'.1 ≡ reader.1 → writer'.1 ≡ writer.1 → IsStopped remaining contents reader reader' writer writer' Memory
+memory_stops remaining contents reader reader' writer writer' front same_reads same_writes = record { front = front; reached = λ is. absurd cc; counts = (same_reads, same_writes) }
+
+-- memory runs out before anything is read
+pub stopped_unread : {D E : Type 0} (remaining : D → Option (List ℕ)) (contents : E → Option (List ℕ)) (reader : D × ℕ) (writer : E × ℕ) → IsStopped remaining contents reader reader writer writer Memory
+stopped_unread remaining contents reader writer =
+    memory_stops remaining contents reader reader writer writer (told_front (remaining reader.0) (remaining reader.0) (contents writer.0) (contents writer.0) None [] 0 (told_start (remaining reader.0) (contents writer.0))) refl refl
+
+-- memory runs out after all was read
+pub stopped_lacking : {D E : Type 0} (remaining : D → Option (List ℕ)) (contents : E → Option (List ℕ)) (reader reader' : D × ℕ) (writer writer' : E × ℕ) (e : Refusal) → e ≡ Memory
+    → ToldFront (remaining reader.0) (contents writer.0) (contents writer'.0) → IsReadAndWritten remaining reader reader' writer writer' → IsStopped remaining contents reader reader' writer writer' e
+stopped_lacking remaining contents reader reader' writer writer' e is front whole =
+    let P : Refusal → Type 0 = λ x. IsStopped remaining contents reader reader' writer writer' x in
+    subst P (sym is) (memory_stops remaining contents reader reader' writer writer' front whole.read.kept whole.kept)
+
+-- a write fails after all was read
+pub stopped_writing : {D E : Type 0} (remaining : D → Option (List ℕ)) (contents : E → Option (List ℕ)) (reader reader' : D × ℕ) (writer between writer' : E × ℕ) (e : Refusal) → (e ≡ WriteFault) × (writer'.1 ≡ one_more between.1)
+    → ToldFront (remaining reader.0) (contents writer.0) (contents writer'.0) → IsReadAndWritten remaining reader reader' writer between → IsStopped remaining contents reader reader' writer writer' e
+stopped_writing remaining contents reader reader' writer between writer' e fault front whole =
+    let P : Refusal → Type 0 = λ x. IsStopped remaining contents reader reader' writer writer' x in
+    subst P (sym fault.0) (record { front = front; reached = λ is. absurd cc; counts = (whole.read.kept, fault.1 ∙ ap one_more whole.kept) })

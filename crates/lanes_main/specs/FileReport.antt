@@ -1,5 +1,6 @@
 -- What is written for a file: the line of a check or the answers of queries, and the refusal that ends it, if one does.
-use Rattle.std.specs.Prelude.{◌≡◌, ℕ, Bool, true, ◌||◌, List, Option, Some, None, Result, Ok, Err}
+use Rattle.std.specs.Prelude.{◌≡◌, ℕ, Bool, true, ◌||◌, List, Option, Some, None, Result, Ok, Err, IsTrue}
+use Rattle.table_model.specs.Faults.{GaveMore, CountsBoth}
 use Rattle.table_model.specs.declared.refusal.Refusal.{Refusal}
 use Rattle.table_model.specs.declared.refusal.Refusal.TheVariants.{WriteFault}
 use Rattle.answer_formats.specs.declared.format.Format.TheVariants.{Text}
@@ -8,6 +9,7 @@ use Rattle.column_file.specs.Files.{checked_from, opened_from}
 use Rattle.column_file.specs.FirstVersion.{opened_from_1}
 use Rattle.column_file.specs.Input.{is_refusal_of_reading}
 use Rattle.replica_files.specs.Asking.{Report, refused, checked_text, answers_report, is_refusal_of_answering, Tells}
+use Rattle.replica_files.specs.Refusals.{IsReadAndWritten}
 
 -- the line of a check, or the refusal in its place
 abbrev pub checked_report : Result (ℕ × ℕ) Refusal → Report
@@ -48,3 +50,13 @@ is_refusal_of_querying e = is_refusal_of_reading e || is_refusal_of_answering e
 abbrev pub Reports : Result (Unit {0}) Refusal → Option (List ℕ) → Option (List ℕ) → Option (List ℕ) → (List ℕ → Report) → Type 0
 Reports result None before now report = Unit {0}
 Reports result (Some input) before now report = Tells result before now (report input)
+
+-- The call was refused as one of the refusals that it has, and each failed read and write is counted.
+pub record IsUnreported {D E : Type 0} (remaining : D → Option (List ℕ)) (is_refusal : Refusal → Bool) (reader reader' : D × ℕ) (writer writer' : E × ℕ) (e : Refusal) : Type 0 where
+  pub listed : IsTrue (is_refusal e)
+  pub counts : CountsBoth (GaveMore (remaining reader.0) (remaining reader'.0)) e reader.1 reader'.1 writer.1 writer'.1
+
+-- how a call ends that reads a file and writes a report of it: the file was read whole and no write failed, or the call was refused
+abbrev pub EndsReport : {D E X : Type 0} → (D → Option (List ℕ)) → (Refusal → Bool) → D × ℕ → D × ℕ → E × ℕ → E × ℕ → Result X Refusal → Type 0
+EndsReport remaining is_refusal reader reader' writer writer' (Ok x) = IsReadAndWritten remaining reader reader' writer writer'
+EndsReport remaining is_refusal reader reader' writer writer' (Err e) = IsUnreported remaining is_refusal reader reader' writer writer' e

@@ -1,8 +1,11 @@
 -- What a script has told its writer of what its reader gave, where readers and writers tell their bytes.
-use Rattle.std.specs.Prelude.{◌≡◌, ℕ, ◌+◌, List, ◌++◌, length, Option, Some, None}
+use Rattle.std.specs.Prelude.{◌≡◌, ℕ, ◌+◌, List, ◌++◌, length, Option, Some, None, Result, Ok, Err}
 use Rattle.std.specs.Io.KnownBytes.{Appends}
-use Rattle.table_model.specs.Faults.{AppendsFront}
+use Rattle.table_model.specs.Faults.{AppendsFront, GaveMore, Failed}
+use Rattle.table_model.specs.declared.refusal.Refusal.{Refusal}
+use Rattle.table_model.specs.declared.refusal.Refusal.TheVariants.{ReadFault}
 use Rattle.cluster_history.specs.Cluster.{ClusterParts}
+use Rattle.replica_files.specs.Refusals.{IsReadAndWritten}
 use Rattle.lanes_main.specs.Script.{lines_text, whole_lines, script_text, text_from}
 
 -- A part of the input with that number of bytes was read, and what was written is what the script's text begins with, whatever bytes
@@ -42,3 +45,22 @@ abbrev pub Reached : Option (List ℕ) → Option (List ℕ) → Option (List �
 Reached None rest before now = Unit {0}
 Reached (Some input) None before now = ⊥
 Reached (Some input) (Some rest) before now = (read : List ℕ) × (input ≡ read ++ rest) × Appends before now (lines_text None (whole_lines read))
+
+-- ---- how a script ends
+
+-- The script was told: its reader was read whole, no write failed, and the whole text was written.
+pub record IsTold {D E : Type 0} (remaining : D → Option (List ℕ)) (contents : E → Option (List ℕ)) (reader reader' : D × ℕ) (writer writer' : E × ℕ) : Type 0 where
+  pub text : ToldAll (remaining reader.0) (contents writer.0) (contents writer'.0)
+  pub whole : IsReadAndWritten remaining reader reader' writer writer'
+
+-- The script was stopped by memory or by a failed read or write: what was written is a front of its text; after a failed read it is the
+-- replies to the whole lines that were read; and each failed read and write is counted.
+pub record IsStopped {D E : Type 0} (remaining : D → Option (List ℕ)) (contents : E → Option (List ℕ)) (reader reader' : D × ℕ) (writer writer' : E × ℕ) (e : Refusal) : Type 0 where
+  pub front : ToldFront (remaining reader.0) (contents writer.0) (contents writer'.0)
+  pub reached : e ≡ ReadFault → Reached (remaining reader.0) (remaining reader'.0) (contents writer.0) (contents writer'.0)
+  pub counts : Failed (GaveMore (remaining reader.0) (remaining reader'.0)) e reader.1 reader'.1 writer.1 writer'.1
+
+-- how a script ends: it was told, or stopped
+abbrev pub EndsScript : {D E X : Type 0} → (D → Option (List ℕ)) → (E → Option (List ℕ)) → D × ℕ → D × ℕ → E × ℕ → E × ℕ → Result X Refusal → Type 0
+EndsScript remaining contents reader reader' writer writer' (Ok x) = IsTold remaining contents reader reader' writer writer'
+EndsScript remaining contents reader reader' writer writer' (Err e) = IsStopped remaining contents reader reader' writer writer' e

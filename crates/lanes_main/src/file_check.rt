@@ -1,9 +1,7 @@
 //! Checks of canonical files.
-ghost use Rattle.std.specs.Prelude.{◌≡◌, ◌≢◌, IsTrue, OnOk, IfErr};
-ghost use Rattle.std.specs.Io.KnownBytes.{IsAtEnd};
-ghost use Rattle.table_model.specs.Faults.{IsWithin, GaveMore, CountsBoth};
+ghost use Rattle.std.specs.Prelude.{◌≡◌, ◌≢◌, IfErr};
 ghost use Rattle.table_model.specs.declared.refusal.Refusal.TheVariants.{WriteFault};
-ghost use Rattle.lanes_main.specs.FileReport.{check_report, is_refusal_of_checking, Reports};
+ghost use Rattle.lanes_main.specs.FileReport.{check_report, is_refusal_of_checking, Reports, EndsReport};
 
 use replica_files::{OpenFile, check};
 use std::alloc::Global;
@@ -21,12 +19,8 @@ pub fn check_file<R: Read, W: Write>(
     writer: &mut Counted<W>,
 ) -> Result<(), Refusal>
     ensures told { Reports result (R.remaining reader.old.0) (W.contents writer.old.0) (W.contents writer.new.0) check_report }
-    ensures refused { IfErr result (λ e. IsTrue (is_refusal_of_checking e)) }
     ensures unwritten { IfErr result (λ e. e ≢ WriteFault → writer.new ≡ writer.old) }
-    ensures end { OnOk result (IsAtEnd (R.remaining reader.new.0)) }
-    ensures within { OnOk result (IsWithin (R.remaining reader.old.0)) }
-    ensures kept { OnOk result ((reader.new.1 ≡ reader.old.1) × (writer.new.1 ≡ writer.old.1)) }
-    ensures fault { IfErr result (λ e. CountsBoth (GaveMore (R.remaining reader.old.0) (R.remaining reader.new.0)) e reader.old.1 reader.new.1 writer.old.1 writer.new.1) }
+    ensures ends { EndsReport R.remaining is_refusal_of_checking reader.old reader.new writer.old writer.new result }
 {
     let file = OpenFile::read(alloc, reader)?;
     check(alloc, &file, writer)

@@ -1,9 +1,7 @@
 //! Queries over a file.
-ghost use Rattle.std.specs.Prelude.{◌≡◌, map, IsTrue, OnOk, IfErr, Err};
-ghost use Rattle.std.specs.Io.KnownBytes.{IsAtEnd};
-ghost use Rattle.table_model.specs.Faults.{IsWithin, GaveMore, CountsBoth};
+ghost use Rattle.std.specs.Prelude.{◌≡◌, map, Err};
 ghost use Rattle.table_model.specs.declared.refusal.Refusal.TheVariants.{ReadFault};
-ghost use Rattle.lanes_main.specs.FileReport.{queries_report, is_refusal_of_querying, Reports};
+ghost use Rattle.lanes_main.specs.FileReport.{queries_report, is_refusal_of_querying, Reports, EndsReport};
 
 use answer_formats::Format;
 use replica_files::{OpenFile, answer_all};
@@ -24,12 +22,8 @@ pub fn query_file<R: Read, W: Write>(
     writer: &mut Counted<W>,
 ) -> Result<(), Refusal>
     ensures told { Reports result (R.remaining reader.old.0) (W.contents writer.old.0) (W.contents writer.new.0) (queries_report (map (λ query. query.now) queries.now)) }
-    ensures refused { IfErr result (λ e. IsTrue (is_refusal_of_querying e)) }
     ensures unread { result ≡ Err ReadFault → writer.new ≡ writer.old }
-    ensures end { OnOk result (IsAtEnd (R.remaining reader.new.0)) }
-    ensures within { OnOk result (IsWithin (R.remaining reader.old.0)) }
-    ensures kept { OnOk result ((reader.new.1 ≡ reader.old.1) × (writer.new.1 ≡ writer.old.1)) }
-    ensures fault { IfErr result (λ e. CountsBoth (GaveMore (R.remaining reader.old.0) (R.remaining reader.new.0)) e reader.old.1 reader.new.1 writer.old.1 writer.new.1) }
+    ensures ends { EndsReport R.remaining is_refusal_of_querying reader.old reader.new writer.old writer.new result }
 {
     let file = OpenFile::read(alloc, reader)?;
     match answer_all(alloc, &file, queries, Format::Text, writer) {

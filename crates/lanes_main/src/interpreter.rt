@@ -1,9 +1,10 @@
 //! Scripts: lines are read, and each is answered.
-ghost use Rattle.std.specs.Prelude.{◌≡◌, ◌⊎◌, ◌<◌, ◌≤◌, [], length, Option, List, ℕ, MatchResult, IfOk, IfErr, OnOk, OnErr};
-ghost use Rattle.std.specs.Io.KnownBytes.{Appends, Consumes, IsAtEnd, Keeps};
-ghost use Rattle.table_model.specs.Faults.{AppendsFront, IsWithin, GaveMore, Failed};
+ghost use Rattle.std.specs.Prelude.{◌≡◌, ◌<◌, ◌≤◌, length, ℕ, IfOk, IfErr, OnOk, OnErr};
+ghost use Rattle.std.specs.Io.KnownBytes.{IsAtEnd};
+ghost use Rattle.table_model.specs.Faults.{Failed};
+ghost use Rattle.replica_files.specs.Refusals.{IsReadAndWritten};
 ghost use Rattle.lanes_main.specs.Script.{parts_in};
-ghost use Rattle.lanes_main.specs.Told.{Sofar, ToldFront, ToldAll, Reached, GoesOn, EndsEarly, StaysTold};
+ghost use Rattle.lanes_main.specs.Told.{Sofar, IsStopped, EndsScript, GoesOn, EndsEarly, StaysTold};
 
 use crate::session::Session;
 use std::alloc::Global;
@@ -57,14 +58,10 @@ fn rounds<R: Read, W: Write, N: Write>(
 ) -> Result<Session, Refusal>
     requires some { 0 < length buffer.old }
     requires limit { length buffer.old ≤ 65536 }
-    ensures end { OnOk result (IsAtEnd (R.remaining reader.new.0)) }
-    ensures within { OnOk result (IsWithin (R.remaining reader.old.0)) }
     ensures told { IfOk result (λ session. (total : ℕ) × Sofar (R.remaining reader.old.0) (R.remaining reader.new.0) (W.contents writer.old.0) (W.contents writer.new.0)
         (parts_in session.cluster) session.line total) }
-    ensures early { OnErr result (ToldFront (R.remaining reader.old.0) (W.contents writer.old.0) (W.contents writer.new.0)) }
-    ensures reached { IfErr result (λ e. e ≡ Refusal.ReadFault → Reached (R.remaining reader.old.0) (R.remaining reader.new.0) (W.contents writer.old.0) (W.contents writer.new.0)) }
-    ensures kept { OnOk result ((reader.new.1 ≡ reader.old.1) × (writer.new.1 ≡ writer.old.1)) }
-    ensures fault { IfErr result (λ e. Failed (GaveMore (R.remaining reader.old.0) (R.remaining reader.new.0)) e reader.old.1 reader.new.1 writer.old.1 writer.new.1) }
+    ensures whole { OnOk result (IsReadAndWritten R.remaining reader.old reader.new writer.old writer.new) }
+    ensures stopped { IfErr result (IsStopped R.remaining W.contents reader.old reader.new writer.old writer.new) }
 {
     let mut session = Session::new(alloc);
     let mut total: u64 = 0;
@@ -92,13 +89,7 @@ pub fn script<R: Read, W: Write>(
     reader: &mut Counted<R>,
     writer: &mut Counted<W>,
 ) -> Result<(), Refusal>
-    ensures text { MatchResult result (λ _. ToldAll (R.remaining reader.old.0) (W.contents writer.old.0) (W.contents writer.new.0))
-        (λ _. ToldFront (R.remaining reader.old.0) (W.contents writer.old.0) (W.contents writer.new.0)) }
-    ensures end { OnOk result (IsAtEnd (R.remaining reader.new.0)) }
-    ensures within { OnOk result (IsWithin (R.remaining reader.old.0)) }
-    ensures reached { IfErr result (λ e. e ≡ Refusal.ReadFault → Reached (R.remaining reader.old.0) (R.remaining reader.new.0) (W.contents writer.old.0) (W.contents writer.new.0)) }
-    ensures kept { OnOk result ((reader.new.1 ≡ reader.old.1) × (writer.new.1 ≡ writer.old.1)) }
-    ensures fault { IfErr result (λ e. Failed (GaveMore (R.remaining reader.old.0) (R.remaining reader.new.0)) e reader.old.1 reader.new.1 writer.old.1 writer.new.1) }
+    ensures { EndsScript R.remaining W.contents reader.old reader.new writer.old writer.new result }
 {
     script_with_notes(alloc, reader, writer, &mut io::sink())
 }
@@ -111,13 +102,7 @@ pub fn script_with_notes<R: Read, W: Write, N: Write>(
     writer: &mut Counted<W>,
     notes: &mut N,
 ) -> Result<(), Refusal>
-    ensures text { MatchResult result (λ _. ToldAll (R.remaining reader.old.0) (W.contents writer.old.0) (W.contents writer.new.0))
-        (λ _. ToldFront (R.remaining reader.old.0) (W.contents writer.old.0) (W.contents writer.new.0)) }
-    ensures end { OnOk result (IsAtEnd (R.remaining reader.new.0)) }
-    ensures within { OnOk result (IsWithin (R.remaining reader.old.0)) }
-    ensures reached { IfErr result (λ e. e ≡ Refusal.ReadFault → Reached (R.remaining reader.old.0) (R.remaining reader.new.0) (W.contents writer.old.0) (W.contents writer.new.0)) }
-    ensures kept { OnOk result ((reader.new.1 ≡ reader.old.1) × (writer.new.1 ≡ writer.old.1)) }
-    ensures fault { IfErr result (λ e. Failed (GaveMore (R.remaining reader.old.0) (R.remaining reader.new.0)) e reader.old.1 reader.new.1 writer.old.1 writer.new.1) }
+    ensures { EndsScript R.remaining W.contents reader.old reader.new writer.old writer.new result }
 {
     let mut buffer = vec![in alloc; 0u8; CHUNK]?;
     let mut session = rounds(alloc, reader, writer, notes, buffer.as_mut_slice())?;
