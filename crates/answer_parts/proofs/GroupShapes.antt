@@ -22,7 +22,7 @@ use Rattle.query_eval.specs.TallyKinds.{aggregate_kind}
 use Rattle.query_eval.specs.declared.tallies.groups.Groups.{Groups}
 use Rattle.query_eval.specs.declared.tallies.aggregate.Aggregate.{Aggregate}
 use Rattle.query_eval.specs.declared.tallies.tally.Tally.{Tally as Running}
-use Rattle.answer_parts.specs.Evaluated.{told, told_at, told_places, AreWithin}
+use Rattle.answer_parts.specs.Evaluated.{told, told_places, AreWithin}
 use Rattle.answer_parts.specs.Groups.{tallies_at, tallies_of_some}
 use Rattle.answer_parts.specs.Kinds.{AllKeep, AreOfKinds, FitPlan, kinds_at, plan_kinds, running_kind}
 use Rattle.answer_parts.specs.Measures.{measured}

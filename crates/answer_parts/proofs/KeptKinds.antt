@@ -1,6 +1,6 @@
 -- A group more, or less, and each still keeps what was asked for.
 use Rattle.std.specs.Prelude.{◌≡◌, ℕ, Bool, true, false, cond, List, [], map as each, Option, Some, None}
-use Rattle.std.proofs.Common.{refl, sym, ap, ◌∙◌}
+use Rattle.std.proofs.Common.{sym, ap, ◌∙◌}
 use Rattle.std.specs.BTreeMap.{get, is_at}
 use Rattle.std.specs.Global.{Vec}
 use Rattle.std.specs.Map.{lookup}

@@ -5,10 +5,9 @@ use Rattle.table_model.specs.Meaning.{rows_where}
 use Rattle.table_model.specs.Query.{QueryShape}
 use Rattle.table_model.specs.State.{Cells}
 use Rattle.table_model.specs.Table.{Table}
-use Rattle.query_eval.specs.Finished.{PlanShape, plan_of}
+use Rattle.query_eval.specs.Finished.{plan_of}
 use Rattle.query_eval.specs.Grouping.{plan_mentions}
 use Rattle.query_eval.specs.Kept.{rows_kept, rows_alive, where_mentions, live_vectors}
-use Rattle.query_eval.proofs.AnswerLemmas.{passes-answer}
 use Rattle.answer_parts.specs.Measures.{measured}
 use Rattle.answer_parts.specs.Part.{part_of, part_over}
 use Rattle.answer_parts.proofs.FewerMentions.{fewer_passes}

@@ -1,6 +1,6 @@
 -- One group more.
-use Rattle.std.proofs.Common.{◌≡◌, ◌<◌, ℕ, Bool, Some, None, List, [], length, sym, ap, subst, ◌∙◌, arith}
-use Rattle.std.specs.BTreeMap.{BTreeMap, get, is_at}
+use Rattle.std.proofs.Common.{◌≡◌, ◌<◌, Bool, Some, None, [], length, sym, ap, subst, ◌∙◌, arith}
+use Rattle.std.specs.BTreeMap.{get, is_at}
 use Rattle.std.specs.Map.{lookup}
 use Rattle.std.specs.Option.{is_some}
 use Rattle.std.specs.Ordering.{eq_by_cmp}

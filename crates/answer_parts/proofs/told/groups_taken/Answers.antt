@@ -1,5 +1,5 @@
 -- Of a query without GROUP BY and of one with it.
-use Rattle.std.proofs.Common.{◌≡◌, ◌∷◌, [], List, map, cond, Some, None, ap, subst, ◌∙◌}
+use Rattle.std.proofs.Common.{[], List, map, cond, Some, None, ap, subst, ◌∙◌}
 use Rattle.std.specs.Ordering.{eq_by_cmp}
 use Rattle.table_model.specs.Group.{key_cmp}
 use Rattle.query_eval.specs.Taken.{AreTaken}
@@ -8,7 +8,6 @@ use Rattle.query_eval.specs.declared.tallies.tally.Tally.{Tally as Running}
 use Rattle.query_eval.specs.declared.tallies.tally.Tally.TheVariants as running
 use Rattle.answer_parts.specs.Evaluated.{told}
 use Rattle.answer_parts.specs.Kinds.{AllKeep, plan_kinds, running_kind}
-use Rattle.answer_parts.specs.Part.{Tallies}
 use Rattle.answer_parts.proofs.GroupShapes.{whole_shape, groups_shape, groups_of_kinds}
 use Rattle.answer_parts.proofs.TakenParts.{whole_told, groups_told, within_told}
 use Rattle.answer_parts.proofs.told.groups_taken.Goals as goal

@@ -1,8 +1,5 @@
 -- The values of the set, in order.
-use Rattle.std.proofs.Common.{List, ℤ, HashSet, refl, ap, ◌∙◌}
-use Rattle.std.specs.List.{list_any}
-use Rattle.std.specs.Ordering.{int_eq}
-use Rattle.answer_parts.specs.Evaluated.{told}
+use Rattle.std.proofs.Common.{refl}
 use Rattle.answer_parts.proofs.Tallies.{tally_is, same_members}
 use Rattle.answer_parts.proofs.told.kept_of_tally.Goals as goal
 
