@@ -97,5 +97,5 @@ not_finished format (errors.Refused e) part input start now same (inl (read, is)
     let P : List ℕ → Type 0 = λ i. Judges {X = Part} form_of (Err e) (Some i) part_read in
     inl (errors.Refused e, refl, subst P same read)
 not_finished format (errors.Refused e) part input start now same (inr (is, front)) = inr (ap told is)
-not_finished format (errors.Fault f) part input start now same (p, read, is) =
-    inl (errors.Fault f, refl, (p, ap part_read (sym same) ∙ read))
+not_finished format (errors.Fault f) part input start now same (p, read, why, is) =
+    inl (errors.Fault f, refl, (p, ap part_read (sym same) ∙ read, why))

@@ -6,6 +6,7 @@ use Rattle.table_model.specs.declared.refusal.Refusal.{Refusal}
 use Rattle.table_model.specs.declared.refusal.Refusal.TheVariants.{Memory, Syntax}
 use Rattle.answer_formats.specs.declared.format.Format.{Format}
 use Rattle.answer_formats.specs.declared.format.Format.TheVariants as formats
+use Rattle.answer_parts.specs.Shape.{RefusesFinishing}
 use Rattle.answer_parts.specs.declared.part.Part.{Part}
 use Rattle.column_file.specs.Input.{IsUnread, Judges}
 use Rattle.part_commands.specs.PartTurns.{CombinesNext, IsAnswerText, RefusesNext}
@@ -58,10 +59,10 @@ Combines (Err fault) one other = IsWhyNotCombined fault one other ⊎ (fault ≡
 abbrev pub format_numbered : ℕ → Format
 format_numbered n = cond (n == 1) formats.Csv (cond (n == 2) formats.Json (cond (n == 3) formats.Table formats.Text))
 
--- a part isn't finished: its bytes are refused, or there is no answer of it, or memory runs out
+-- a part isn't finished: its bytes are refused, or there is a reason why it can't be, or memory runs out
 abbrev pub IsWhyNotFinished : PartError → List ℕ → Type 0
 IsWhyNotFinished (errors.Refused e) part = Judges {X = Part} form_of (Err e) (Some part) part_read
-IsWhyNotFinished (errors.Fault f) part = (p : Part) × (part_read part ≡ Ok (form_of p))
+IsWhyNotFinished (errors.Fault f) part = (p : Part) × (part_read part ≡ Ok (form_of p)) × RefusesFinishing f p
 
 -- lanes_finish: the text is that of the answer that the part is finished to
 abbrev pub Finishes : Given → Format → List ℕ → Type 0
