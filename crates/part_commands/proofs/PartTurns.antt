@@ -42,14 +42,14 @@ memory_judged e None lacks = tt
 memory_judged e (Some bytes) lacks = λ no _. absurd (no lacks)
 
 -- a part that isn't finished: nothing is written
-pub unfinished : (format : Format) (p : Part) (e : PartError) (input known : Option (List ℕ)) → Judges form_of (Ok p) input part_read → IsUnfinished e → WritesAnswer format (Err e) input known known
-unfinished format p (Fault fault) input known h lacks = (p, h, refl)
+pub unfinished : (format : Format) (p : Part) (e : PartError) (input known : Option (List ℕ)) → Judges form_of (Ok p) input part_read → IsUnfinished e p → WritesAnswer format (Err e) input known known
+unfinished format p (Fault fault) input known h why = (p, h, why, refl)
 unfinished format p (Refused e) input known h lacks = inl (memory_judged e input lacks, refl)
 
 -- and nothing is counted
-pub unfinished_counts : (many : Type 0) (e : PartError) (r r' w : ℕ) → r' ≡ r → IsUnfinished e → CountsBothErrors many e r r' w w
-unfinished_counts many (Fault fault) r r' w same lacks = (same, refl)
-unfinished_counts many (Refused e) r r' w same lacks = subst (λ (x : Refusal). CountsBoth many x r r' w w) (sym lacks) (same, refl)
+pub unfinished_counts : (many : Type 0) (e : PartError) (p : Part) (r r' w : ℕ) → r' ≡ r → IsUnfinished e p → CountsBothErrors many e r r' w w
+unfinished_counts many (Fault fault) p r r' w same why = (same, refl)
+unfinished_counts many (Refused e) p r r' w same lacks = subst (λ (x : Refusal). CountsBoth many x r r' w w) (sym lacks) (same, refl)
 
 -- the counts after a refusal of reading a part
 pub part_counts : (many : Type 0) (e : Refusal) (r r' w : ℕ) → IsTrue (is_refusal_of_part e) → CountsReads many e r r' → CountsBoth many e r r' w w

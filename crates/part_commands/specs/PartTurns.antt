@@ -8,6 +8,7 @@ use Rattle.table_model.specs.declared.refusal.Refusal.TheVariants.{Memory, Write
 use Rattle.answer_formats.specs.Formats.{formatted}
 use Rattle.answer_formats.specs.declared.format.Format.{Format}
 use Rattle.answer_parts.specs.Combining.{AreCombined, IsRefused}
+use Rattle.answer_parts.specs.Shape.{RefusesFinishing}
 use Rattle.answer_parts.specs.declared.fault.PartFault.{PartFault}
 use Rattle.answer_parts.specs.declared.part.Part.{Part}
 use Rattle.column_file.specs.Input.{Judges}
@@ -48,16 +49,16 @@ CountsErrors many (Fault fault) before after = after ≡ before
 abbrev pub IsAnswerText : Format → Part → List ℕ → Type 0
 IsAnswerText format p text = (answer : AnswerParts) → finished (meaning_of p) ≡ Ok answer → text ≡ formatted format answer
 
--- a part isn't finished: it can't be, or memory ran out
-abbrev pub IsUnfinished : PartError → Type 0
-IsUnfinished (Refused e) = e ≡ Memory
-IsUnfinished (Fault fault) = Unit {0}
+-- why a part isn't finished: it can't be, or memory ran out
+abbrev pub IsUnfinished : PartError → Part → Type 0
+IsUnfinished (Refused e) p = e ≡ Memory
+IsUnfinished (Fault fault) p = RefusesFinishing fault p
 
--- What was written is the answer that the part of a reader finishes to; or the part was refused, or its bytes were, or memory ran
--- out, and nothing was written; or a write failed after a front of the answer.
+-- What was written is the answer that the part of a reader finishes to; or the part can't be finished, or its bytes were refused, or
+-- memory ran out, and nothing was written; or a write failed after a front of the answer.
 abbrev pub WritesAnswer : Format → Result (Unit {0}) PartError → Option (List ℕ) → Option (List ℕ) → Option (List ℕ) → Type 0
 WritesAnswer format (Ok done) input before now = (p : Part) × (text : List ℕ) × Judges form_of (Ok p) input part_read × IsAnswerText format p text × Appends before now text
-WritesAnswer format (Err (Fault fault)) input before now = (p : Part) × Judges form_of (Ok p) input part_read × (now ≡ before)
+WritesAnswer format (Err (Fault fault)) input before now = (p : Part) × Judges form_of (Ok p) input part_read × RefusesFinishing fault p × (now ≡ before)
 WritesAnswer format (Err (Refused e)) input before now =
     (Judges {X = Part} form_of (Err e) input part_read × (now ≡ before))
     ⊎ ((e ≡ WriteFault) × ((p : Part) × (text : List ℕ) × Judges form_of (Ok p) input part_read × IsAnswerText format p text × AppendsFront before now text))

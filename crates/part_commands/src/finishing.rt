@@ -15,7 +15,7 @@ use table_model::Counted;
 /// The text of the answer that a part finishes to, in a format.
 fn answer_text(alloc: Global, part: Part, format: Format) -> Result<Vec<u8>, PartError>
     ensures text { IfOk result (λ text. IsAnswerText format part text.items) }
-    ensures refused { IfErr result IsUnfinished }
+    ensures refused { IfErr result (λ e. IsUnfinished e part) }
 {
     let answer = part.finish(alloc)?;
     let text = format_answer(alloc, &answer, format)?;

@@ -5,12 +5,12 @@ use Rattle.part_commands.proofs.PartTurns.{answer_is}
 use Rattle.part_commands.proofs.finishing.answer_text.Goals as goal
 
 pub returns-clause-text : goal.returns-clause-text
-returns-clause-text c = answer_is c.args.format c.args.part c.in_ok-answer.answer c.in_ok-text.text.items c.in_ok-answer.ensures c.in_ok-text.ensures
+returns-clause-text c = answer_is c.args.format c.args.part c.in_ok-answer.answer c.in_ok-text.text.items c.in_ok-answer.ensures.answer c.in_ok-text.ensures
 
 pub returns-in_err-answer-clause-refused : goal.returns-in_err-answer-clause-refused
 returns-in_err-answer-clause-refused c =
     let p = err_from_is_err_and c.from_residual.result c.from_residual.ensures.1 in
-    rw (p.1, p.2) tt
+    rw (p.1, p.2) c.in_err-answer.ensures.refused
 
 pub returns-in_err-text-clause-refused : goal.returns-in_err-text-clause-refused
 returns-in_err-text-clause-refused c =
