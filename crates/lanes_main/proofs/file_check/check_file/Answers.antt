@@ -17,12 +17,12 @@ returns-in_err-file-clause-told g c =
 pub returns-in_err-file-clause-refused : goal.returns-in_err-file-clause-refused
 returns-in_err-file-clause-refused g c =
     let p = err_from_is_err_and c.from_residual.result c.from_residual.ensures.1 in
-    rw (p.1, p.2) (reading_checks c.in_err-file.field-0.0 c.in_err-file.ensures.refused)
+    rw (p.1, p.2) (reading_checks c.in_err-file.field-0.0 c.in_err-file.ensures.reads.listed)
 
 pub returns-in_err-file-clause-fault : goal.returns-in_err-file-clause-fault
 returns-in_err-file-clause-fault g c =
     let p = err_from_is_err_and c.from_residual.result c.from_residual.ensures.1 in
-    rw (p.1, p.2) (reading_counted (GaveMore (g.R.Read.remaining c.args.reader.now.0) (g.R.Read.remaining c.read.new.reader.0)) c.in_err-file.field-0.0 c.args.reader.now.1 c.read.new.reader.1 c.args.writer.now.1 c.in_err-file.ensures.refused c.in_err-file.ensures.fault)
+    rw (p.1, p.2) (reading_counted (GaveMore (g.R.Read.remaining c.args.reader.now.0) (g.R.Read.remaining c.read.new.reader.0)) c.in_err-file.field-0.0 c.args.reader.now.1 c.read.new.reader.1 c.args.writer.now.1 c.in_err-file.ensures.reads.listed c.in_err-file.ensures.reads.counts)
 
 pub returns-clause-told : goal.returns-clause-told
 returns-clause-told g c =
@@ -35,8 +35,8 @@ returns-clause-refused g c =
 
 pub returns-clause-kept : goal.returns-clause-kept
 returns-clause-kept g c =
-    text_kept c.check.result (g.W.Write.contents c.args.writer.now.0) (g.W.Write.contents c.check.new.writer.0) c.args.reader.now.1 c.read.new.reader.1 c.args.writer.now.1 c.check.new.writer.1 (checked_text (counts_of c.in_ok-file.file.replica)) c.in_ok-file.ensures.kept c.check.ensures.text
+    text_kept c.check.result (g.W.Write.contents c.args.writer.now.0) (g.W.Write.contents c.check.new.writer.0) c.args.reader.now.1 c.read.new.reader.1 c.args.writer.now.1 c.check.new.writer.1 (checked_text (counts_of c.in_ok-file.file.replica)) c.in_ok-file.ensures.reads.kept c.check.ensures.text
 
 pub returns-clause-fault : goal.returns-clause-fault
 returns-clause-fault g c =
-    text_counts (GaveMore (g.R.Read.remaining c.args.reader.now.0) (g.R.Read.remaining c.read.new.reader.0)) c.check.result (g.W.Write.contents c.args.writer.now.0) (g.W.Write.contents c.check.new.writer.0) c.args.reader.now.1 c.read.new.reader.1 c.args.writer.now.1 c.check.new.writer.1 (checked_text (counts_of c.in_ok-file.file.replica)) c.in_ok-file.ensures.kept c.check.ensures.text
+    text_counts (GaveMore (g.R.Read.remaining c.args.reader.now.0) (g.R.Read.remaining c.read.new.reader.0)) c.check.result (g.W.Write.contents c.args.writer.now.0) (g.W.Write.contents c.check.new.writer.0) c.args.reader.now.1 c.read.new.reader.1 c.args.writer.now.1 c.check.new.writer.1 (checked_text (counts_of c.in_ok-file.file.replica)) c.in_ok-file.ensures.reads.kept c.check.ensures.text

@@ -18,9 +18,9 @@ returns-in_err-file-clause-told g c =
 pub returns-in_err-file-clause-refused : goal.returns-in_err-file-clause-refused
 returns-in_err-file-clause-refused g c =
     let p = err_from_is_err_and c.from_residual.result c.from_residual.ensures.1 in
-    rw (p.1, p.2) (reading_queries c.in_err-file.field-0.0 c.in_err-file.ensures.refused)
+    rw (p.1, p.2) (reading_queries c.in_err-file.field-0.0 c.in_err-file.ensures.reads.listed)
 
 pub returns-in_err-file-clause-fault : goal.returns-in_err-file-clause-fault
 returns-in_err-file-clause-fault g c =
     let p = err_from_is_err_and c.from_residual.result c.from_residual.ensures.1 in
-    rw (p.1, p.2) (reading_counted (GaveMore (g.R.Read.remaining c.args.reader.now.0) (g.R.Read.remaining c.read.new.reader.0)) c.in_err-file.field-0.0 c.args.reader.now.1 c.read.new.reader.1 c.args.writer.now.1 c.in_err-file.ensures.refused c.in_err-file.ensures.fault)
+    rw (p.1, p.2) (reading_counted (GaveMore (g.R.Read.remaining c.args.reader.now.0) (g.R.Read.remaining c.read.new.reader.0)) c.in_err-file.field-0.0 c.args.reader.now.1 c.read.new.reader.1 c.args.writer.now.1 c.in_err-file.ensures.reads.listed c.in_err-file.ensures.reads.counts)
