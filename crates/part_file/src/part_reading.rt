@@ -1,12 +1,10 @@
 //! Reading a part: what a format begins with, the query's text, the batches that were counted, the strays, and the groups.
-ghost use Rattle.std.specs.Prelude.{◌≡◌, codes, false, true, IsTrue, IfOk, IfErr, OnOk, MatchOption};
-ghost use Rattle.std.specs.Io.KnownBytes.{IsAtEnd};
+ghost use Rattle.std.specs.Prelude.{◌≡◌, codes, false, true, IfOk, MatchOption};
 ghost use Rattle.std.specs.Str.{is_utf8};
 ghost use Rattle.std.specs.String.{string_bytes};
-ghost use Rattle.table_model.specs.Faults.{IsWithin, GaveMore, CountsReads};
 ghost use Rattle.table_model.specs.Reading.{Reads};
 ghost use Rattle.segment_core.specs.Format.{Format, read_whole};
-ghost use Rattle.column_file.specs.Input.{Judges, ComesOfWhole};
+ghost use Rattle.column_file.specs.Input.{Judges, ReadsWhole};
 ghost use Rattle.part_file.specs.PartBytes.{body, body_of, part, text};
 ghost use Rattle.part_file.specs.PartReading.{form_of, is_refusal_of_part, part_read};
 
@@ -101,12 +99,7 @@ fn part_in(alloc: Global, bytes: &[u8]) -> Result<Part, Refusal>
 /// empty, `BadOrder`, `BadTag`, `BadWidth` or `TrailingBytes`. It grows as it reads, so `Memory` can come in place of any of them.
 pub fn read_part<R: Read>(alloc: Global, reader: &mut Counted<R>) -> Result<Part, Refusal>
     ensures read { Judges form_of result (R.remaining reader.old.0) part_read }
-    ensures refused { IfErr result (λ e. IsTrue (is_refusal_of_part e)) }
-    ensures end { OnOk result (IsAtEnd (R.remaining reader.new.0)) }
-    ensures within { OnOk result (IsWithin (R.remaining reader.old.0)) }
-    ensures kept { OnOk result (reader.new.1 ≡ reader.old.1) }
-    ensures whole { IfErr result (λ e. ComesOfWhole e (R.remaining reader.old.0) (R.remaining reader.new.0)) }
-    ensures fault { IfErr result (λ e. CountsReads (GaveMore (R.remaining reader.old.0) (R.remaining reader.new.0)) e reader.old.1 reader.new.1) }
+    ensures reads { ReadsWhole R.remaining is_refusal_of_part reader.old reader.new result }
 {
     let input = read_input(alloc, reader)?;
     part_in(alloc, input.as_slice())

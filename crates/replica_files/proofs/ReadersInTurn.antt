@@ -4,10 +4,10 @@ use Rattle.std.proofs.Common.{refl, sym, subst, inl, inr, arith, get_or, set}
 use Rattle.table_model.specs.Faults.{GaveMore, CountsWrites}
 use Rattle.table_model.specs.declared.refusal.Refusal.{Refusal}
 use Rattle.table_model.specs.declared.refusal.Refusal.TheVariants.{Memory, WriteFault}
-use Rattle.column_file.specs.Input.{is_refusal_of_reading}
+use Rattle.column_file.specs.Input.{IsReadWhole, StopsReading, is_refusal_of_reading}
 use Rattle.replica_store.specs.Replica.{Replica}
 use Rattle.replica_files.specs.Commands.{Puts}
-use Rattle.replica_files.specs.Refusals.{is_refusal_of_merge, reading_or, IsReadWhole, StopsReading, AreReadWhole, StopsAt, ReadInTurn, EndsUnmerged, EndsMerge}
+use Rattle.replica_files.specs.Refusals.{is_refusal_of_merge, reading_or, AreReadWhole, StopsAt, ReadInTurn, EndsUnmerged, EndsMerge}
 use Rattle.replica_files.proofs.CommandSteps.{reading_counts, command_counts, writing_is, writing_none}
 use Rattle.replica_files.proofs.RefusedOnFile.{or_reading, listed_on_file, writing_listed, listed_uncounted}
 

@@ -8,10 +8,10 @@ use Rattle.table_model.specs.declared.schema.ColType.{ColType}
 use Rattle.table_model.specs.declared.refusal.Refusal.{Refusal}
 use Rattle.table_model.specs.declared.refusal.Refusal.TheVariants.{Memory, ReadFault, WriteFault, BadSchema}
 use Rattle.column_file.specs.Files.{Exports}
-use Rattle.column_file.specs.Input.{Judges, is_refusal_of_reading}
+use Rattle.column_file.specs.Input.{Judges, IsReadWhole, StopsReading, is_refusal_of_reading}
 use Rattle.replica_store.specs.Replica.{Replica}
 use Rattle.replica_files.specs.Commands.{held_in, Made, Makes, Puts}
-use Rattle.replica_files.specs.Refusals.{is_refusal_of_create, reading_or, on_file, IsReadWhole, StopsReading, ComesOf, EndsRefused}
+use Rattle.replica_files.specs.Refusals.{is_refusal_of_create, reading_or, on_file, ComesOf, EndsRefused}
 use Rattle.replica_files.proofs.CommandSteps.{is_uncounted, reading_counts, command_counts, writing_counts, writing_is, writing_none, exported_put}
 
 -- ---- refusals that are listed

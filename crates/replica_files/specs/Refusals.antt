@@ -1,10 +1,9 @@
 -- Which refusals a call on files has, what each comes of, and how its readers and its writer are left.
 use Rattle.std.specs.Prelude.{◌≡◌, ◌≢◌, ◌⊎◌, ℕ, Bool, true, false, ◌||◌, List, [], ◌∷◌, Option, Result, Ok, Err, IsTrue}
-use Rattle.std.specs.Io.KnownBytes.{IsAtEnd}
-use Rattle.table_model.specs.Faults.{IsWithin, GaveMore, CountsReads, CountsWrites, CountsBoth, Failed}
+use Rattle.table_model.specs.Faults.{GaveMore, CountsReads, CountsWrites, CountsBoth, Failed}
 use Rattle.table_model.specs.declared.refusal.Refusal.{Refusal}
 use Rattle.table_model.specs.declared.refusal.Refusal.TheVariants.{Memory, Conflict, Full, SchemaDiffers, NumbersSpent, BadName, BadSchema, BadRange, WriteFault}
-use Rattle.column_file.specs.Input.{Judges, ComesOfWhole, is_refusal_of_reading}
+use Rattle.column_file.specs.Input.{Judges, ComesOfWhole, IsReadWhole, is_refusal_of_reading}
 use Rattle.replica_store.specs.Replica.{Replica}
 use Rattle.replica_files.specs.Commands.{Made, held_in}
 
@@ -51,26 +50,6 @@ reading_or is_refusal e = is_refusal_of_reading e || is_refusal e
 abbrev pub on_file : (Refusal → Bool) → Refusal → Bool
 on_file is_refusal WriteFault = true
 on_file is_refusal other = reading_or is_refusal other
-
--- ---- a call that reads to the end
-
--- A reader was read to its end without a failure, and it had no more than a call reads.
-pub record IsReadWhole {D : Type 0} (remaining : D → Option (List ℕ)) (old new : D × ℕ) : Type 0 where
-  pub end : IsAtEnd (remaining new.0)
-  pub within : IsWithin (remaining old.0)
-  pub kept : new.1 ≡ old.1
-
--- The call was refused: as one of the refusals that it has; unless memory ran out or a read failed, the reader was read to its end; and
--- a failed read is counted.
-pub record StopsReading {D : Type 0} (remaining : D → Option (List ℕ)) (is_refusal : Refusal → Bool) (old new : D × ℕ) (e : Refusal) : Type 0 where
-  pub listed : IsTrue (is_refusal e)
-  pub whole : ComesOfWhole e (remaining old.0) (remaining new.0)
-  pub counts : CountsReads (GaveMore (remaining old.0) (remaining new.0)) e old.1 new.1
-
--- how a call ends that reads its reader to the end: it was read whole, or the call was refused
-abbrev pub ReadsWhole : {D X : Type 0} → (D → Option (List ℕ)) → (Refusal → Bool) → D × ℕ → D × ℕ → Result X Refusal → Type 0
-ReadsWhole remaining is_refusal old new (Ok x) = IsReadWhole remaining old new
-ReadsWhole remaining is_refusal old new (Err e) = StopsReading remaining is_refusal old new e
 
 -- ---- a call that reads to the end, and writes
 

@@ -1,7 +1,8 @@
 //! Merging files into one.
 ghost use Rattle.std.specs.Prelude.{◌≡◌, ◌∷◌, map, List, ℕ, Some, IsTrue, IfErr, OnOk};
+ghost use Rattle.column_file.specs.Input.{IsReadWhole};
 ghost use Rattle.replica_files.specs.Commands.{Merging, MergesAll, Merges};
-ghost use Rattle.replica_files.specs.Refusals.{IsReadWhole, AreReadWhole, StopsAt, ReadInTurn, EndsMerge, reading_or, is_refusal_of_merge};
+ghost use Rattle.replica_files.specs.Refusals.{AreReadWhole, StopsAt, ReadInTurn, EndsMerge, reading_or, is_refusal_of_merge};
 
 use crate::file_writing::write_changed;
 use column_file::open;

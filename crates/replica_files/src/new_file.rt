@@ -1,9 +1,9 @@
 //! A new file, and the schema of a file that is there.
 ghost use Rattle.std.specs.Prelude.{◌≡◌, map, IsTrue, IfErr, OnOk};
 ghost use Rattle.table_model.specs.Faults.{CountsWrites};
-ghost use Rattle.column_file.specs.Input.{Judges, is_refusal_of_reading};
+ghost use Rattle.column_file.specs.Input.{Judges, ReadsWhole, is_refusal_of_reading};
 ghost use Rattle.replica_files.specs.Commands.{Creates, schema_in};
-ghost use Rattle.replica_files.specs.Refusals.{ReadsWhole, is_refusal_of_create};
+ghost use Rattle.replica_files.specs.Refusals.{is_refusal_of_create};
 
 use crate::open_file::OpenFile;
 use column_file::export;
@@ -34,7 +34,7 @@ pub fn create<W: Write>(
 /// The schema of the table that a canonical file holds, under the refusals of [`OpenFile::read`].
 pub fn file_schema<R: Read>(alloc: Global, reader: &mut Counted<R>) -> Result<Schema, Refusal>
     ensures read { Judges (λ schema. schema) result (R.remaining reader.old.0) schema_in }
-    ensures ends { ReadsWhole R.remaining is_refusal_of_reading reader.old reader.new result }
+    ensures reads { ReadsWhole R.remaining is_refusal_of_reading reader.old reader.new result }
 {
     let file = OpenFile::read(alloc, reader)?;
     Ok(file.schema().copy(alloc)?)

@@ -1,10 +1,8 @@
 //! A file that is open: what it holds, read and judged once.
-ghost use Rattle.std.specs.Prelude.{◌≡◌, IsTrue, IfOk, IfErr, OnOk};
-ghost use Rattle.std.specs.Io.KnownBytes.{IsAtEnd};
-ghost use Rattle.table_model.specs.Faults.{IsWithin, GaveMore, CountsReads};
+ghost use Rattle.std.specs.Prelude.{◌≡◌};
 ghost use Rattle.column_file.specs.FirstVersion.{opened_from_1, KeepsFirst};
 ghost use Rattle.column_file.specs.Files.{AreCanonicalOf};
-ghost use Rattle.column_file.specs.Input.{Judges, ComesOfWhole, is_refusal_of_reading};
+ghost use Rattle.column_file.specs.Input.{Judges, ReadsWhole, is_refusal_of_reading};
 ghost use Rattle.replica_files.specs.Commands.{held_in};
 
 use column_file::open;
@@ -45,12 +43,7 @@ impl OpenFile {
 
         // What version 1 opened is opened to the same replica.
         ensures first { KeepsFirst (λ file. file.replica) result (R.remaining reader.old.0) (opened_from_1 (record { 0 = 1 })) }
-        ensures refused { IfErr result (λ e. IsTrue (is_refusal_of_reading e)) }
-        ensures end { OnOk result (IsAtEnd (R.remaining reader.new.0)) }
-        ensures within { OnOk result (IsWithin (R.remaining reader.old.0)) }
-        ensures kept { OnOk result (reader.new.1 ≡ reader.old.1) }
-        ensures whole { IfErr result (λ e. ComesOfWhole e (R.remaining reader.old.0) (R.remaining reader.new.0)) }
-        ensures fault { IfErr result (λ e. CountsReads (GaveMore (R.remaining reader.old.0) (R.remaining reader.new.0)) e reader.old.1 reader.new.1) }
+        ensures reads { ReadsWhole R.remaining is_refusal_of_reading reader.old reader.new result }
     {
         let store = open(alloc, reader, Origin(1))?;
         Ok(OpenFile { store })

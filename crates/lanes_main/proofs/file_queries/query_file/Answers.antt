@@ -17,13 +17,13 @@ returns-in_err-file-clause-told g c =
 pub returns-in_err-file-clause-ends : goal.returns-in_err-file-clause-ends
 returns-in_err-file-clause-ends g c =
     let p = err_from_is_err_and c.from_residual.result c.from_residual.ensures.1 in
-    rw (p.1, p.2) (reading_ends g.R.Read.remaining is_refusal_of_querying c.args.reader.now c.read.new.reader c.args.writer.now c.in_err-file.field-0.0 (reading_queries c.in_err-file.field-0.0 c.in_err-file.ensures.refused) c.in_err-file.ensures.refused c.in_err-file.ensures.fault)
+    rw (p.1, p.2) (reading_ends g.R.Read.remaining is_refusal_of_querying c.args.reader.now c.read.new.reader c.args.writer.now c.in_err-file.field-0.0 (reading_queries c.in_err-file.field-0.0 c.in_err-file.ensures.reads.listed) c.in_err-file.ensures.reads.listed c.in_err-file.ensures.reads.counts)
 
 pub returns-in-Ok-clause-ends : goal.returns-in-Ok-clause-ends
 returns-in-Ok-clause-ends g c =
-    record { read = record { end = c.in_ok-file.ensures.end; within = c.in_ok-file.ensures.within; kept = c.in_ok-file.ensures.kept }; kept = c.in-Ok.ensures.kept }
+    record { read = c.in_ok-file.ensures.reads; kept = c.in-Ok.ensures.kept }
 
 pub returns-clause-ends : goal.returns-clause-ends
 returns-clause-ends g c =
     answering_ends g.R.Read.remaining c.args.reader.now c.read.new.reader c.args.writer.now c.answer_all.new.writer c.in-Err.stopped.refusal c.in-Err.ensures.refused
-    (record { end = c.in_ok-file.ensures.end; within = c.in_ok-file.ensures.within; kept = c.in_ok-file.ensures.kept }) c.in-Err.ensures.fault
+    c.in_ok-file.ensures.reads c.in-Err.ensures.fault

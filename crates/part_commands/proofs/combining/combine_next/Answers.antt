@@ -14,7 +14,7 @@ returns-in_err-next-clause-refused g c =
 pub returns-in_err-next-clause-fault : goal.returns-in_err-next-clause-fault
 returns-in_err-next-clause-fault g c =
     let p = err_from_is_err_and c.from_residual.result c.from_residual.ensures.1 in
-    rw (p.1, p.2) c.in_err-next.ensures.fault
+    rw (p.1, p.2) c.in_err-next.ensures.reads.counts
 
 pub returns-in-None-clause-combined : goal.returns-in-None-clause-combined
 returns-in-None-clause-combined g c =
@@ -34,4 +34,4 @@ returns-in_err-both-in-Some-clause-refused g c =
 pub returns-in_err-both-in-Some-clause-fault : goal.returns-in_err-both-in-Some-clause-fault
 returns-in_err-both-in-Some-clause-fault g c =
     let p = err_from_is_err_and c.from_residual-in_err-both-in-Some.result c.from_residual-in_err-both-in-Some.ensures.1 in
-    rw (p.1, p.2) c.in_ok-next.ensures.kept
+    rw (p.1, p.2) c.in_ok-next.ensures.reads.kept

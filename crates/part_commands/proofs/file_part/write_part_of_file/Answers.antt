@@ -17,12 +17,12 @@ returns-in_err-file-clause-told g c =
 pub returns-in_err-file-clause-refused : goal.returns-in_err-file-clause-refused
 returns-in_err-file-clause-refused g c =
     let p = err_from_is_err_and c.from_residual.result c.from_residual.ensures.1 in
-    rw (p.1, p.2) (reading_parts c.in_err-file.field-0.0 c.in_err-file.ensures.refused)
+    rw (p.1, p.2) (reading_parts c.in_err-file.field-0.0 c.in_err-file.ensures.reads.listed)
 
 pub returns-in_err-file-clause-fault : goal.returns-in_err-file-clause-fault
 returns-in_err-file-clause-fault g c =
     let p = err_from_is_err_and c.from_residual.result c.from_residual.ensures.1 in
-    rw (p.1, p.2) (reading_counts (GaveMore (g.R.Read.remaining c.args.reader.now.0) (g.R.Read.remaining c.read.new.reader.0)) c.in_err-file.field-0.0 c.args.reader.now.1 c.read.new.reader.1 c.args.writer.now.1 c.in_err-file.ensures.refused c.in_err-file.ensures.fault)
+    rw (p.1, p.2) (reading_counts (GaveMore (g.R.Read.remaining c.args.reader.now.0) (g.R.Read.remaining c.read.new.reader.0)) c.in_err-file.field-0.0 c.args.reader.now.1 c.read.new.reader.1 c.args.writer.now.1 c.in_err-file.ensures.reads.listed c.in_err-file.ensures.reads.counts)
 
 pub returns-clause-told : goal.returns-clause-told
 returns-clause-told g c =
@@ -36,7 +36,7 @@ returns-clause-refused g c = answering_parts c.write_part_of_store.result c.writ
 
 pub returns-clause-fault : goal.returns-clause-fault
 returns-clause-fault g c =
-    answering_counts (GaveMore (g.R.Read.remaining c.args.reader.now.0) (g.R.Read.remaining c.read.new.reader.0)) c.write_part_of_store.result c.args.reader.now.1 c.read.new.reader.1 c.args.writer.now.1 c.write_part_of_store.new.writer.1 c.in_ok-file.ensures.kept c.write_part_of_store.ensures.refused c.write_part_of_store.ensures.fault
+    answering_counts (GaveMore (g.R.Read.remaining c.args.reader.now.0) (g.R.Read.remaining c.read.new.reader.0)) c.write_part_of_store.result c.args.reader.now.1 c.read.new.reader.1 c.args.writer.now.1 c.write_part_of_store.new.writer.1 c.in_ok-file.ensures.reads.kept c.write_part_of_store.ensures.refused c.write_part_of_store.ensures.fault
 
 pub returns-clause-kept : goal.returns-clause-kept
-returns-clause-kept g c = kept_both c.write_part_of_store.result c.args.reader.now.1 c.read.new.reader.1 c.args.writer.now.1 c.write_part_of_store.new.writer.1 c.in_ok-file.ensures.kept c.write_part_of_store.ensures.kept
+returns-clause-kept g c = kept_both c.write_part_of_store.result c.args.reader.now.1 c.read.new.reader.1 c.args.writer.now.1 c.write_part_of_store.new.writer.1 c.in_ok-file.ensures.reads.kept c.write_part_of_store.ensures.kept

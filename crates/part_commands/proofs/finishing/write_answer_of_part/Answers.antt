@@ -14,7 +14,7 @@ returns-in_err-part-clause-told g c =
 pub returns-in_err-part-clause-fault : goal.returns-in_err-part-clause-fault
 returns-in_err-part-clause-fault g c =
     let p = err_from_is_err_and c.from_residual.result c.from_residual.ensures.1 in
-    rw (p.1, p.2) (part_counts (GaveMore (g.R.Read.remaining c.args.reader.now.0) (g.R.Read.remaining c.read_part.new.reader.0)) c.in_err-part.field-0.0 c.args.reader.now.1 c.read_part.new.reader.1 c.args.writer.now.1 c.in_err-part.ensures.refused c.in_err-part.ensures.fault)
+    rw (p.1, p.2) (part_counts (GaveMore (g.R.Read.remaining c.args.reader.now.0) (g.R.Read.remaining c.read_part.new.reader.0)) c.in_err-part.field-0.0 c.args.reader.now.1 c.read_part.new.reader.1 c.args.writer.now.1 c.in_err-part.ensures.reads.listed c.in_err-part.ensures.reads.counts)
 
 pub returns-in_err-text-clause-told : goal.returns-in_err-text-clause-told
 returns-in_err-text-clause-told g c =
@@ -24,7 +24,7 @@ returns-in_err-text-clause-told g c =
 pub returns-in_err-text-clause-fault : goal.returns-in_err-text-clause-fault
 returns-in_err-text-clause-fault g c =
     let p = err_from_is_err_and c.from_residual-in_err-text.result c.from_residual-in_err-text.ensures.1 in
-    rw (p.1, p.2) (unfinished_counts (GaveMore (g.R.Read.remaining c.args.reader.now.0) (g.R.Read.remaining c.read_part.new.reader.0)) c.in_err-text.field-0.0 c.in_ok-part.part c.args.reader.now.1 c.read_part.new.reader.1 c.args.writer.now.1 c.in_ok-part.ensures.kept c.in_err-text.ensures.refused)
+    rw (p.1, p.2) (unfinished_counts (GaveMore (g.R.Read.remaining c.args.reader.now.0) (g.R.Read.remaining c.read_part.new.reader.0)) c.in_err-text.field-0.0 c.in_ok-part.part c.args.reader.now.1 c.read_part.new.reader.1 c.args.writer.now.1 c.in_ok-part.ensures.reads.kept c.in_err-text.ensures.refused)
 
 pub returns-in_err-write_whole-clause-told : goal.returns-in_err-write_whole-clause-told
 returns-in_err-write_whole-clause-told g c =
@@ -35,7 +35,7 @@ returns-in_err-write_whole-clause-told g c =
 pub returns-in_err-write_whole-clause-fault : goal.returns-in_err-write_whole-clause-fault
 returns-in_err-write_whole-clause-fault g c =
     let p = err_from_is_err_and c.from_residual-in_err-write_whole.result c.from_residual-in_err-write_whole.ensures.1 in
-    rw (p.1, p.2) (written_counts (GaveMore (g.R.Read.remaining c.args.reader.now.0) (g.R.Read.remaining c.read_part.new.reader.0)) c.in_err-write_whole.field-0.0 c.args.reader.now.1 c.read_part.new.reader.1 c.args.writer.now.1 c.write_whole.new.self.1 c.in_ok-part.ensures.kept c.in_err-write_whole.ensures.fault.0 c.in_err-write_whole.ensures.fault.1)
+    rw (p.1, p.2) (written_counts (GaveMore (g.R.Read.remaining c.args.reader.now.0) (g.R.Read.remaining c.read_part.new.reader.0)) c.in_err-write_whole.field-0.0 c.args.reader.now.1 c.read_part.new.reader.1 c.args.writer.now.1 c.write_whole.new.self.1 c.in_ok-part.ensures.reads.kept c.in_err-write_whole.ensures.fault.0 c.in_err-write_whole.ensures.fault.1)
 
 pub returns-clause-told : goal.returns-clause-told
 returns-clause-told g c =

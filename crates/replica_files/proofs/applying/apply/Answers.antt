@@ -32,19 +32,19 @@ returns-clause-made g c =
 pub returns-in_err-store-clause-ends : goal.returns-in_err-store-clause-ends
 returns-in_err-store-clause-ends g c =
     let p = err_from_is_err_and c.from_residual.result c.from_residual.ensures.1 in
-    rw (p.1, p.2) (opening_ends g.R.Read.remaining g.W.Write.contents is_refusal_of_merge (applying c.args.offers.items) c.args.reader.now c.open.new.reader c.args.writer.now c.in_err-store.field-0.0 (record { listed = c.in_err-store.ensures.refused; whole = c.in_err-store.ensures.whole (omega arith); counts = c.in_err-store.ensures.fault }))
+    rw (p.1, p.2) (opening_ends g.R.Read.remaining g.W.Write.contents is_refusal_of_merge (applying c.args.offers.items) c.args.reader.now c.open.new.reader c.args.writer.now c.in_err-store.field-0.0 (c.in_err-store.ensures.reads (omega arith)))
 
 pub returns-in_err-done-clause-ends : goal.returns-in_err-done-clause-ends
 returns-in_err-done-clause-ends g c =
     let p = err_from_is_err_and c.from_residual-in_err-done.result c.from_residual-in_err-done.ensures.1 in
     rw (p.1, p.2) (command_ends g.R.Read.remaining g.W.Write.contents is_refusal_of_merge (applying c.args.offers.items) c.args.reader.now c.open.new.reader c.args.writer.now (λ (store : StoreForm). store.replica) c.in_ok-store.store (λ (d : Applied). (d.batches, d.ranges, d.new)) (λ (d : Applied). d.is_changed) c.apply_offers.new.store.replica c.in_err-done.field-0.0
-    refl refl c.in_ok-store.ensures.read (record { end = c.in_ok-store.ensures.end; within = c.in_ok-store.ensures.within; kept = c.in_ok-store.ensures.kept }) c.in_err-done.ensures.makes c.in_err-done.ensures.refused)
+    refl refl c.in_ok-store.ensures.read (c.in_ok-store.ensures.reads (omega arith)) c.in_err-done.ensures.makes c.in_err-done.ensures.refused)
 
 pub returns-in_err-write_changed-clause-ends : goal.returns-in_err-write_changed-clause-ends
 returns-in_err-write_changed-clause-ends g c =
     let p = err_from_is_err_and c.from_residual-in_err-write_changed.result c.from_residual-in_err-write_changed.ensures.1 in
     rw (p.1, p.2) (writing_ends g.R.Read.remaining g.W.Write.contents is_refusal_of_merge (applying c.args.offers.items) c.args.reader.now c.open.new.reader c.args.writer.now c.write_changed.new.writer _ c.apply_offers.new.store.replica c.in_err-write_changed.field-0.0
-    (record { end = c.in_ok-store.ensures.end; within = c.in_ok-store.ensures.within; kept = c.in_ok-store.ensures.kept }) c.in_err-write_changed.ensures.put c.in_err-write_changed.ensures.fault)
+    (c.in_ok-store.ensures.reads (omega arith)) c.in_err-write_changed.ensures.put c.in_err-write_changed.ensures.fault)
 
 pub returns-clause-ends : goal.returns-clause-ends
-returns-clause-ends g c = record { read = record { end = c.in_ok-store.ensures.end; within = c.in_ok-store.ensures.within; kept = c.in_ok-store.ensures.kept }; kept = c.in_ok-write_changed.ensures.kept }
+returns-clause-ends g c = record { read = c.in_ok-store.ensures.reads (omega arith); kept = c.in_ok-write_changed.ensures.kept }

@@ -9,13 +9,13 @@ use Rattle.replica_files.proofs.merging.merge.Goals as goal
 pub returns-in_err-store-clause-ends : goal.returns-in_err-store-clause-ends
 returns-in_err-store-clause-ends g c =
     let p = err_from_is_err_and c.from_residual.result c.from_residual.ensures.1 in
-    rw (p.1, p.2) (first_unread g.R.Read.remaining g.W.Write.contents c.args.first.now c.open.new.reader c.args.others.now c.args.writer.now c.in_err-store.field-0.0 (record { listed = c.in_err-store.ensures.refused; whole = c.in_err-store.ensures.whole (omega arith); counts = c.in_err-store.ensures.fault }))
+    rw (p.1, p.2) (first_unread g.R.Read.remaining g.W.Write.contents c.args.first.now c.open.new.reader c.args.others.now c.args.writer.now c.in_err-store.field-0.0 (c.in_err-store.ensures.reads (omega arith)))
 
 pub returns-in_err-merge_others-clause-ends : goal.returns-in_err-merge_others-clause-ends
 returns-in_err-merge_others-clause-ends g c =
     let p = err_from_is_err_and c.from_residual-in_err-merge_others.result c.from_residual-in_err-merge_others.ensures.1 in
     rw (p.1, p.2) (others_unmerged g.R.Read.remaining g.W.Write.contents c.args.first.now c.open.new.reader c.args.others.now c.merge_others.new.readers c.args.writer.now c.in_err-merge_others.field-0.0
-    (record { end = c.in_ok-store.ensures.end; within = c.in_ok-store.ensures.within; kept = c.in_ok-store.ensures.kept }) c.in_err-merge_others.ensures.listed c.in_err-merge_others.ensures.in_turn)
+    (c.in_ok-store.ensures.reads (omega arith)) c.in_err-merge_others.ensures.listed c.in_err-merge_others.ensures.in_turn)
 
 pub returns-clause-made : goal.returns-clause-made
 returns-clause-made g c = λ input inputs is known.
@@ -25,4 +25,4 @@ returns-clause-made g c = λ input inputs is known.
 pub returns-clause-ends : goal.returns-clause-ends
 returns-clause-ends g c =
     all_then_written g.R.Read.remaining g.W.Write.contents c.args.first.now c.open.new.reader c.args.others.now c.merge_others.new.readers c.args.writer.now c.write_changed.new.writer c.merge_others.new.store.replica c.write_changed.result
-    (record { end = c.in_ok-store.ensures.end; within = c.in_ok-store.ensures.within; kept = c.in_ok-store.ensures.kept }) c.in_ok-merge_others.ensures.read c.write_changed.ensures.put c.write_changed.ensures.kept c.write_changed.ensures.fault
+    (c.in_ok-store.ensures.reads (omega arith)) c.in_ok-merge_others.ensures.read c.write_changed.ensures.put c.write_changed.ensures.kept c.write_changed.ensures.fault
