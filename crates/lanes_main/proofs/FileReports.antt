@@ -7,7 +7,7 @@ use Rattle.table_model.specs.Reading.{◌>>=◌}
 use Rattle.table_model.specs.declared.refusal.Refusal.{Refusal}
 use Rattle.table_model.specs.declared.refusal.Refusal.TheVariants.{Memory, ReadFault, WriteFault}
 use Rattle.column_file.specs.Files.{canonical_read, checked_from, ranges_of}
-use Rattle.column_file.specs.Input.{Judges, is_refusal_of_reading, IsReadWhole}
+use Rattle.column_file.specs.Input.{Judges, IsReadWhole, StopsReading, is_refusal_of_reading}
 use Rattle.replica_store.specs.Exchange.{OfferForm, offering}
 use Rattle.replica_store.specs.Replica.{Replica}
 use Rattle.replica_files.specs.Asking.{Report, WritesText, Tells, refused, checked_text, counts_of, is_refusal_of_answering}
@@ -36,10 +36,10 @@ reading_counted many other r r' w listed h = (h, refl)
 
 -- and how the call ends then
 pub reading_ends : {D E : Type 0} (remaining : D → Option (List ℕ)) (is_refusal : Refusal → Bool) (reader reader' : D × ℕ) (writer : E × ℕ) (e : Refusal)
-    → IsTrue (is_refusal e) → IsTrue (is_refusal_of_reading e) → CountsReads (GaveMore (remaining reader.0) (remaining reader'.0)) e reader.1 reader'.1 → IsUnreported remaining is_refusal reader reader' writer writer e
-reading_ends remaining is_refusal reader reader' writer e listed read h = record {
+    → IsTrue (is_refusal e) → StopsReading remaining is_refusal_of_reading reader reader' e → IsUnreported remaining is_refusal reader reader' writer writer e
+reading_ends remaining is_refusal reader reader' writer e listed stops = record {
   listed = listed;
-  counts = reading_counted (GaveMore (remaining reader.0) (remaining reader'.0)) e reader.1 reader'.1 writer.1 read h;
+  counts = reading_counted (GaveMore (remaining reader.0) (remaining reader'.0)) e reader.1 reader'.1 writer.1 stops.listed stops.counts;
 }
 
 -- a refusal of reading a file is one of its check

@@ -17,7 +17,7 @@ returns-in_err-file-clause-told g c =
 pub returns-in_err-file-clause-ends : goal.returns-in_err-file-clause-ends
 returns-in_err-file-clause-ends g c =
     let p = err_from_is_err_and c.from_residual.result c.from_residual.ensures.1 in
-    rw (p.1, p.2) (reading_ends g.R.Read.remaining is_refusal_of_querying c.args.reader.now c.read.new.reader c.args.writer.now c.in_err-file.field-0.0 (reading_queries c.in_err-file.field-0.0 c.in_err-file.ensures.reads.listed) c.in_err-file.ensures.reads.listed c.in_err-file.ensures.reads.counts)
+    rw (p.1, p.2) (reading_ends g.R.Read.remaining is_refusal_of_querying c.args.reader.now c.read.new.reader c.args.writer.now c.in_err-file.field-0.0 (reading_queries c.in_err-file.field-0.0 c.in_err-file.ensures.reads.listed) c.in_err-file.ensures.reads)
 
 pub returns-in-Ok-clause-ends : goal.returns-in-Ok-clause-ends
 returns-in-Ok-clause-ends g c =
