@@ -1,24 +1,25 @@
 -- An import, step by step: the file's table, the rows of the text as batches of it, and the file with these.
-use Rattle.std.specs.Prelude.{◌≡◌, ℕ, Bool, List, Option, Some, Result, Ok, Err}
-use Rattle.std.proofs.Common.{refl, sym, ap, subst, ◌∙◌}
+use Rattle.std.specs.Prelude.{◌≡◌, ℕ, ◌+◌, ◌*◌, ◌≤◌, Bool, List, [], ◌∷◌, ◌++◌, length, Option, Some, Result, Ok, Err}
+use Rattle.std.proofs.Common.{refl, sym, ap, subst, ◌∙◌, inl, inr, arith}
+use Rattle.std.proofs.lemmas.List.{length-append}
+use Rattle.table_model.specs.Outcome.{Gives}
 use Rattle.table_model.specs.Reading.{◌>>=◌}
 use Rattle.table_model.specs.State.{Batch}
-use Rattle.table_model.specs.Table.{Table}
+use Rattle.table_model.specs.Table.{Table, row_limit}
 use Rattle.table_model.specs.declared.names.BatchName.{BatchName}
 use Rattle.table_model.specs.declared.refusal.Refusal.{Refusal}
-use Rattle.table_model.specs.declared.refusal.Refusal.TheVariants.{WriteFault}
-use Rattle.replica_store.specs.Replica.{Replica}
+use Rattle.table_model.specs.declared.refusal.Refusal.TheVariants.{Memory, ReadFault, WriteFault, Full}
+use Rattle.replica_store.specs.Replica.{Replica, batch_limit}
 use Rattle.csv_rows.specs.CsvText.{csv_rows}
 use Rattle.csv_rows.specs.Reading.{Reading, at_start, to_come}
 use Rattle.csv_rows.specs.declared.error.CsvError.{CsvError}
 use Rattle.csv_rows.specs.declared.error.CsvError.TheVariants as csv
 use Rattle.replica_files.specs.Commands.{held_in, schema_in}
-use Rattle.replica_files.specs.CsvLoads.{AreCut, LoadsRows, RefusesText, with_batches}
+use Rattle.replica_files.specs.CsvLoads.{AreCut, AreFull, LoadsRows, MayStop, RefusesText, StopsLoading, rows_of, with_batches}
 use Rattle.replica_files.specs.Loads.{LoadForm, empty_load}
 use Rattle.lanes_c.specs.Faults.{told, told_of_csv}
-use Rattle.lanes_c.specs.Importing.{Loads, IsFaultOfText, ImportsLoad, Imports}
+use Rattle.lanes_c.specs.Importing.{HasTooMany, Loads, IsWhyNotLoaded, ImportsLoad, Imports}
 use Rattle.lanes_c.specs.Rooms.{Given}
-use Rattle.lanes_c.specs.declared.fault.Fault.TheVariants as faults
 
 -- the table of a file is that of what it holds
 schema_held : (file : List ℕ) (schema : Table) → schema_in file ≡ Ok schema → (r : Replica) × (held_in file ≡ Ok r) × (r.schema ≡ schema)
@@ -28,24 +29,71 @@ schema_held file schema made = go (held_in file) refl made
     go (Ok r) is named = let same : r.schema ≡ schema = cc in (r, is, same)
     go (Err e) is named = absurd cc
 
--- no refusal but those of the text has a meaning here
-told_text : (e : Refusal) (file text : List ℕ) (has_heading : Bool) → IsFaultOfText file text has_heading (told e)
-told_text WriteFault file text has_heading = tt
-told_text other file text has_heading = tt
+-- ---- rows that aren't loaded
 
-csv_told : (e : CsvError) (csv : Reading) (schema : Table) (file text : List ℕ) (has_heading : Bool) → schema_in file ≡ Ok schema → csv ≡ at_start schema has_heading
-    → RefusesText csv e (Some text) → IsFaultOfText file text has_heading (told_of_csv e)
-csv_told (csv.Refused refusal) reading schema file text has_heading named start why = told_text refusal file text has_heading
-csv_told (csv.BadCsv line column) reading schema file text has_heading named start why =
+unheld : (x : Result Replica Refusal) (e : Refusal) → (x >>= λ (r : Replica). let named : Result Table Refusal = Ok r.schema in named) ≡ Err e → x ≡ Err e
+unheld (Ok r) e is = cc
+unheld (Err f) e is = cc
+
+-- a file that is refused as it is read
+pub file_refused : (e : Refusal) (file input text : List ℕ) (has_heading : Bool) → input ≡ file → ((e ≡ Memory → ⊥) → (e ≡ ReadFault → ⊥) → schema_in input ≡ Err e) → IsWhyNotLoaded file text has_heading (told e)
+file_refused Memory file input text has_heading same h = inl (inl refl)
+file_refused ReadFault file input text has_heading same h = inl (inr refl)
+file_refused WriteFault file input text has_heading same h = inl (inl refl)
+file_refused other file input text has_heading same h = inr (inl (ap held_in (sym same) ∙ unheld (held_in input) other (h (λ is. cc) (λ is. cc))))
+
+-- a load for which there is no memory
+pub load_lacks : (schema : Table) (e : Refusal) (file text : List ℕ) (has_heading : Bool) → Gives {X = LoadForm} (λ (load : LoadForm). load) (Err e) (Ok (empty_load schema)) → IsWhyNotLoaded file text has_heading (told e)
+load_lacks schema e file text has_heading (inl is) = absurd cc
+load_lacks schema e file text has_heading (inr lack) =
+    let P : Refusal → Type 0 = λ x. IsWhyNotLoaded file text has_heading (told x) in subst P (sym lack.0) (inl (inl refl))
+
+-- how many rows full batches have
+full_rows : (batches : List Batch) → AreFull batches → length (rows_of batches) ≡ length batches * row_limit
+full_rows [] h = refl
+full_rows (rows ∷ batches) h =
+    let more : length (rows_of batches) ≡ length batches * row_limit = full_rows batches h.1 in
+    length-append rows (rows_of batches) ∙ omega (arith, h.0, more)
+
+-- where a load was stopped that is full, a text without a fault has too many rows
+too_many : (reading : Reading) (old new : LoadForm) (text : List ℕ) (schema : Table) (has_heading : Bool) → reading ≡ at_start schema has_heading → old ≡ empty_load schema
+    → (stops : StopsLoading reading (Some text) old new (csv.Refused Full)) → batch_limit ≤ length new.batches → HasTooMany schema has_heading text
+too_many reading old new text schema has_heading start empty stops many rows come =
+    let P : Reading → Type 0 = λ x. to_come x text ≡ Ok rows in
+    let left = stops.first text rows refl (subst P (sym start) come) in
+    let batches : new.batches ≡ stops.full = ap (λ (l : LoadForm). l.batches) stops.loaded ∙ ap (λ (l : LoadForm). l.batches ++ stops.full) empty in
+    let some : 1 ≤ length left.0 = left.2 refl in
+    let count : length rows ≡ length (rows_of stops.full) + length left.0 = ap length left.1 ∙ length-append (rows_of stops.full) left.0 in
+    omega (arith, ap length batches, many, some, count, full_rows stops.full stops.are_full)
+
+-- what stops the rows of a text for a file's table
+stop_told : (e : Refusal) (reading : Reading) (schema : Table) (old new : LoadForm) (file text : List ℕ) (has_heading : Bool) → schema_in file ≡ Ok schema → reading ≡ at_start schema has_heading → old ≡ empty_load schema
+    → StopsLoading reading (Some text) old new (csv.Refused e) → MayStop new (csv.Refused e) → IsWhyNotLoaded file text has_heading (told e)
+stop_told Memory reading schema old new file text has_heading named start empty stops may = inl (inl refl)
+stop_told ReadFault reading schema old new file text has_heading named start empty stops may = inl (inr refl)
+stop_told Full reading schema old new file text has_heading named start empty stops may =
+    let held = schema_held file schema named in
+    let P : Table → Type 0 = λ t. HasTooMany t has_heading text in
+    inr (inr (refl, held.0, held.1, subst P (sym held.2) (too_many reading old new text schema has_heading start empty stops may)))
+stop_told other reading schema old new file text has_heading named start empty stops may = absurd may
+
+csv_told : (e : CsvError) (csv : Reading) (schema : Table) (old new : LoadForm) (file text : List ℕ) (has_heading : Bool) → schema_in file ≡ Ok schema → csv ≡ at_start schema has_heading → old ≡ empty_load schema
+    → RefusesText csv e (Some text) → StopsLoading csv (Some text) old new e → IsWhyNotLoaded file text has_heading (told_of_csv e)
+csv_told (csv.Refused refusal) reading schema old new file text has_heading named start empty why stops =
+    let same : old.schema ≡ reading.table = ap (λ (l : LoadForm). l.schema) empty ∙ sym (ap (λ (x : Reading). x.table) start) in
+    stop_told refusal reading schema old new file text has_heading named start empty stops (stops.may_stop same)
+csv_told (csv.BadCsv line column) reading schema old new file text has_heading named start empty why stops =
     let held = schema_held file schema named in
     let P : Reading → Type 0 = λ x. RefusesText x (csv.BadCsv line column) (Some text) in
     let Q : Table → Type 0 = λ t. csv_rows t has_heading text ≡ Err (csv.BadCsv line column) in
     (held.0, held.1, subst Q (sym held.2) (subst P start why))
-csv_told (csv.LineTooLong line) reading schema file text has_heading named start why =
+csv_told (csv.LineTooLong line) reading schema old new file text has_heading named start empty why stops =
     let held = schema_held file schema named in
     let P : Reading → Type 0 = λ x. RefusesText x (csv.LineTooLong line) (Some text) in
     let Q : Table → Type 0 = λ t. csv_rows t has_heading text ≡ Err (csv.LineTooLong line) in
     (held.0, held.1, subst Q (sym held.2) (subst P start why))
+
+-- ---- rows that are loaded
 
 -- the rows that came are batches of the file's table
 loads_of : (csv : Reading) (schema : Table) (old load : LoadForm) (file text : List ℕ) (has_heading : Bool) → schema_in file ≡ Ok schema → csv ≡ at_start schema has_heading
@@ -63,22 +111,16 @@ loads_of csv schema old load file text has_heading named start empty (rows, batc
 pub imports_of : (given : Given) (load : LoadForm) (first : Option BatchName) (words file text : List ℕ) (has_heading : Bool) → Loads file text has_heading load → ImportsLoad given load first words file
     → Imports given text has_heading first words file
 imports_of (Ok bytes) load first words file text has_heading loads h = (load, loads, h)
-imports_of (Err (faults.Refused e)) load first words file text has_heading loads h = tt
-imports_of (Err (faults.BadCsv line column)) load first words file text has_heading loads h = absurd h
-imports_of (Err (faults.LineTooLong line)) load first words file text has_heading loads h = absurd h
-imports_of (Err (faults.OfQuery refusal query)) load first words file text has_heading loads h = absurd h
-imports_of (Err faults.NotOpen) load first words file text has_heading loads h = absurd h
-imports_of (Err (faults.InNames _)) load first words file text has_heading loads h = absurd h
-imports_of (Err (faults.NotApart _)) load first words file text has_heading loads h = absurd h
-imports_of (Err faults.QueryDiffers) load first words file text has_heading loads h = absurd h
-imports_of (Err faults.TooMany) load first words file text has_heading loads h = absurd h
+imports_of (Err fault) load first words file text has_heading loads h = inr (load, loads, h)
 
 -- the same, over readers that had the file and the text
-pub text_fault : (e : CsvError) (csv : Reading) (schema : Table) (file input text given : List ℕ) (has_heading : Bool) → input ≡ file → given ≡ text → schema_in input ≡ Ok schema → csv ≡ at_start schema has_heading
-    → RefusesText csv e (Some given) → IsFaultOfText file text has_heading (told_of_csv e)
-text_fault e csv schema file input text given has_heading same is named start why =
+pub text_refused : (e : CsvError) (csv : Reading) (schema : Table) (old new : LoadForm) (file input text given : List ℕ) (has_heading : Bool) → input ≡ file → given ≡ text → schema_in input ≡ Ok schema
+    → csv ≡ at_start schema has_heading → ◌≡◌ {A = Result LoadForm Refusal} (Ok (empty_load schema)) (Ok old) → RefusesText csv e (Some given) → StopsLoading csv (Some given) old new e → IsWhyNotLoaded file text has_heading (told_of_csv e)
+text_refused e csv schema old new file input text given has_heading same is named start empty why stops =
     let P : List ℕ → Type 0 = λ t. RefusesText csv e (Some t) in
-    csv_told e csv schema file text has_heading (ap schema_in (sym same) ∙ named) start (subst P is why)
+    let Q : List ℕ → Type 0 = λ t. StopsLoading csv (Some t) old new e in
+    let made : old ≡ empty_load schema = cc in
+    csv_told e csv schema old new file text has_heading (ap schema_in (sym same) ∙ named) start made (subst P is why) (subst Q is stops)
 
 pub rows_loaded : (csv : Reading) (schema : Table) (old load : LoadForm) (file input text given : List ℕ) (has_heading : Bool) → input ≡ file → given ≡ text → schema_in input ≡ Ok schema
     → csv ≡ at_start schema has_heading → ◌≡◌ {A = Result LoadForm Refusal} (Ok (empty_load schema)) (Ok old) → LoadsRows csv (Some given) old load → Loads file text has_heading load

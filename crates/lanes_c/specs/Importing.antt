@@ -1,9 +1,12 @@
 -- What an import for C gives.
-use Rattle.std.specs.Prelude.{◌≡◌, ℕ, Bool, cond, ◌&&◌, ◌==◌, List, Option, Some, None, Ok, Err}
+use Rattle.std.specs.Prelude.{◌≡◌, ◌⊎◌, ℕ, ◌*◌, ◌<◌, Bool, cond, ◌&&◌, ◌==◌, List, length, Option, Some, None, Ok, Err}
 use Rattle.table_model.specs.State.{Batch}
+use Rattle.table_model.specs.Table.{Table, row_limit}
 use Rattle.table_model.specs.Reading.{◌>>=◌}
 use Rattle.table_model.specs.declared.names.BatchName.{BatchName}
-use Rattle.replica_store.specs.Replica.{Replica}
+use Rattle.table_model.specs.declared.refusal.Refusal.TheVariants.{Full}
+use Rattle.column_file.specs.Input.{IsUnread}
+use Rattle.replica_store.specs.Replica.{Replica, batch_limit}
 use Rattle.csv_rows.specs.CsvText.{csv_rows}
 use Rattle.csv_rows.specs.declared.error.CsvError.TheVariants as csv
 use Rattle.replica_files.specs.Commands.{held_in, file_made}
@@ -19,12 +22,17 @@ abbrev pub Loads : List ℕ → List ℕ → Bool → LoadForm → Type 0
 Loads file text has_heading load =
     (r : Replica) × (rows : Batch) × (held_in file ≡ Ok r) × (csv_rows r.schema has_heading text ≡ Ok rows) × (load.schema ≡ r.schema) × AreCut rows load.batches
 
--- A fault of the text is its first one. Nothing is said here of other refusals.
-abbrev pub IsFaultOfText : List ℕ → List ℕ → Bool → Fault → Type 0
-IsFaultOfText file text has_heading (faults.Refused e) = Unit {0}
-IsFaultOfText file text has_heading (faults.BadCsv line column) = (r : Replica) × (held_in file ≡ Ok r) × (csv_rows r.schema has_heading text ≡ Err (csv.BadCsv line column))
-IsFaultOfText file text has_heading (faults.LineTooLong line) = (r : Replica) × (held_in file ≡ Ok r) × (csv_rows r.schema has_heading text ≡ Err (csv.LineTooLong line))
-IsFaultOfText file text has_heading other = ⊥
+-- a text has more rows than the batches of a replica may have, if it has no fault
+abbrev pub HasTooMany : Table → Bool → List ℕ → Type 0
+HasTooMany table has_heading text = (rows : Batch) → csv_rows table has_heading text ≡ Ok rows → batch_limit * row_limit < length rows
+
+-- Why the rows of a text weren't loaded: the file's first fault, the text's first fault, or Full, which means too many rows; out of
+-- memory and ReadFault may come in the place of anything.
+abbrev pub IsWhyNotLoaded : List ℕ → List ℕ → Bool → Fault → Type 0
+IsWhyNotLoaded file text has_heading (faults.Refused e) = IsUnread e ⊎ ((held_in file ≡ Err e) ⊎ ((e ≡ Full) × ((r : Replica) × (held_in file ≡ Ok r) × HasTooMany r.schema has_heading text)))
+IsWhyNotLoaded file text has_heading (faults.BadCsv line column) = (r : Replica) × (held_in file ≡ Ok r) × (csv_rows r.schema has_heading text ≡ Err (csv.BadCsv line column))
+IsWhyNotLoaded file text has_heading (faults.LineTooLong line) = (r : Replica) × (held_in file ≡ Ok r) × (csv_rows r.schema has_heading text ≡ Err (csv.LineTooLong line))
+IsWhyNotLoaded file text has_heading other = ⊥
 
 -- the name of these numbers; none where both are 0
 abbrev pub name_given : ℕ → ℕ → Option BatchName
@@ -34,7 +42,9 @@ name_given origin number = cond (origin == 0 && number == 0) None (Some (record 
 abbrev pub ImportsLoad : Given → LoadForm → Option BatchName → List ℕ → List ℕ → Type 0
 ImportsLoad given load first words file = Yields given (file_made (held_in file >>= importing load first words))
 
--- lanes_import: the canonical file of what a file holds and the rows of a text, or the first fault of the text
+-- lanes_import: the canonical file of what a file holds and the rows of a text; or why these weren't loaded; or what their import is
+-- refused as
 abbrev pub Imports : Given → List ℕ → Bool → Option BatchName → List ℕ → List ℕ → Type 0
 Imports (Ok bytes) text has_heading first words file = (load : LoadForm) × Loads file text has_heading load × ImportsLoad (Ok bytes) load first words file
-Imports (Err fault) text has_heading first words file = IsFaultOfText file text has_heading fault
+Imports (Err fault) text has_heading first words file =
+    IsWhyNotLoaded file text has_heading fault ⊎ ((load : LoadForm) × Loads file text has_heading load × ImportsLoad (Err fault) load first words file)

@@ -1,7 +1,7 @@
 //! The calls that make a file, and that make a file's successor: an empty table, an import, a delete, a forget.
 ghost use Rattle.std.specs.Prelude.{◌≡◌, ◌++◌, codes, IfOk, IfErr};
 ghost use Rattle.lanes_c.specs.Calls.{Yields, Asks, create_of, delete_of, empty_file_of, forget_of, line_of};
-ghost use Rattle.lanes_c.specs.Importing.{Loads, IsFaultOfText, ImportsLoad, Imports, name_given};
+ghost use Rattle.lanes_c.specs.Importing.{Loads, IsWhyNotLoaded, ImportsLoad, Imports, name_given};
 ghost use Rattle.lanes_c.specs.Rooms.{Tells, given_by};
 
 use crate::fault::{Fault, Place};
@@ -73,7 +73,7 @@ fn forgotten(alloc: Global, file: &[u8]) -> Result<Vec<u8>, Fault>
 /// The rows of a text as batches of the table that a file holds.
 fn loaded(alloc: Global, file: &[u8], csv: &[u8], has_heading: bool) -> Result<Load, Fault>
     ensures load { IfOk result (λ load. Loads file.now csv.now has_heading load) }
-    ensures fault { IfErr result (λ fault. IsFaultOfText file.now csv.now has_heading fault) }
+    ensures fault { IfErr result (IsWhyNotLoaded file.now csv.now has_heading) }
 {
     let schema = file_schema(alloc, &mut Counted::new(file))?;
     let mut load = Load::new(alloc, &schema)?;
@@ -187,8 +187,8 @@ fn imported_text(
 /// `origin.number`; where both are 0, it is drawn of the words, which should be random. It gives the canonical file with them, which is
 /// the file itself where nothing is new.
 ///
-/// Refused are, in this order, the file's first fault, the text's (`BadCsv`, `LineTooLong`), `BadName`, `NumbersSpent`, `Conflict`
-/// with the least name that is held with other rows, and `Full`.
+/// Refused are, in this order, the file's first fault, the text's (`BadCsv`, `LineTooLong`, and `Full` if its rows are more than
+/// 1,048,576 batches), `BadName`, `NumbersSpent`, `Conflict` with the least name that is held with other rows, and `Full`.
 #[unsafe(no_mangle)]
 pub extern "C" fn lanes_import(
     alloc: Global,
