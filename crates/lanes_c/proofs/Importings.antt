@@ -74,7 +74,7 @@ stop_told ReadFault reading schema old new file text has_heading named start emp
 stop_told Full reading schema old new file text has_heading named start empty stops may =
     let held = schema_held file schema named in
     let P : Table → Type 0 = λ t. HasTooMany t has_heading text in
-    inr (inr (refl, held.0, held.1, subst P (sym held.2) (too_many reading old new text schema has_heading start empty stops may)))
+    inr (inr (refl, (held.0, held.1, subst P (sym held.2) (too_many reading old new text schema has_heading start empty stops may))))
 stop_told other reading schema old new file text has_heading named start empty stops may = absurd may
 
 csv_told : (e : CsvError) (csv : Reading) (schema : Table) (old new : LoadForm) (file text : List ℕ) (has_heading : Bool) → schema_in file ≡ Ok schema → csv ≡ at_start schema has_heading → old ≡ empty_load schema
