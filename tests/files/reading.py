@@ -183,7 +183,7 @@ def a_file_that_is_read_slowly_under_its_lock_says_so(room):
     room.make()
     if shutil.which("strace") is None:
         raise Lacking("strace is not installed")
-    slowly = ["strace", "-f", "-o", "trace", "-P", room.path("t"), "-e", "inject=read,pread64,readv:delay_exit=1200000"]
+    slowly = ["strace", "-f", "-o", "trace", "-P", room.path("t"), "-e", "inject=read,pread64,readv:delay_exit=2300000"]
     for words in (["delete", "t", "A = 99"], ["forget", "t"]):
         screen, terminal = pty.openpty()
         done = subprocess.run([*slowly, room.program, *words], cwd=room.folder, stdin=subprocess.DEVNULL, stdout=subprocess.PIPE, stderr=terminal, timeout=120)
