@@ -1,17 +1,20 @@
 #!/usr/bin/env python3
-"""Times queries over many files by their parts, four processes at a time, compared with the same query over the one file that they merge
-into, and prints a table.
+"""Times queries over many files by their parts, compared with the same query over the one file that they merge into, and prints a table:
+by the program, with a process for each file and four at a time, and by the module of Python, with four processes that stay.
 
     python3 bench/parts.py [--program PROGRAM] [--files N] [--rows N] [--processes N]     64 files of 1,000,000 rows and four processes,
                                                                                           if nothing else is given
 
 Times are by the clock: the least of three runs, each with the opening of all files. Every file has the same rows, under names of its own.
 """
-import argparse, os, pathlib, random, subprocess, tempfile, time
+import argparse, multiprocessing, os, pathlib, random, subprocess, sys, tempfile, time
 
 from folders import COLUMNS, QUERIES, write_rows
 
 TOP = pathlib.Path(__file__).resolve().parent.parent
+sys.path.insert(0, os.fspath(TOP / "python"))
+import lanes
+
 MORE = ["SELECT PAGE,AVG(HITS),COUNT(DISTINCT SITE) FROM T GROUP BY PAGE HAVING COUNT(*) > 10"]
 
 #: Parts of all files, made side by side, and the answer of what they are combined into.
@@ -32,6 +35,23 @@ def least(words, runs=3, **how):
     """The least seconds of some runs, and what each of them prints."""
     found = [seconds(words, **how) for _ in range(runs)]
     assert len({printed for _, printed in found}) == 1, f"{words} prints the same"
+    return min(passed for passed, _ in found), found[0][1]
+
+
+def part_of(asked):
+    """The part of some files to a query, as one process makes it."""
+    files, query = asked
+    return lanes.combine(lanes.Table.open(path).part(query) for path in files)
+
+
+def least_of_pool(pool, processes, files, query, runs=3):
+    """The least seconds of some runs by processes that stay, each with its share of the files, and the answer's rows."""
+    found = []
+    for _ in range(runs):
+        start = time.perf_counter()
+        parts = pool.map(part_of, [(files[at::processes], query) for at in range(processes)], chunksize=1)
+        answer = lanes.finish(lanes.combine(parts))
+        found.append((time.perf_counter() - start, [tuple(row) for row in answer]))
     return min(passed for passed, _ in found), found[0][1]
 
 
@@ -62,13 +82,17 @@ def main():
         one.chmod(0o755)
         make_files(program, files, given.files, given.rows)
         seconds([program, "merge", whole, *sorted(files.glob("*.lanes"))])
-        print(f"| Query, over {given.files} files of {given.rows:,} rows | {given.processes} processes and parts | their file of {whole.stat().st_size / 1e6:.0f} MB | ratio |\n|---|---:|---:|---:|")
-        for query in QUERIES + MORE:
-            words = ["bash", "-c", SCRIPT, "bash", one, files, query, str(given.processes)]
-            apart, answer = least(words, env={**os.environ, "PATH": f"{room}{os.pathsep}{os.environ['PATH']}"})
-            merged, wanted = least([program, "query", whole, query])
-            assert answer == wanted, f"{query}: {answer} and {wanted}"
-            print(f"| {query} | {apart:.2f} s | {merged:.2f} s | {apart / merged:.2f} |", flush=True)
+        print(f"| Query, over {given.files} files of {given.rows:,} rows | their file of {whole.stat().st_size / 1e6:.0f} MB | a process for each file | ratio | {given.processes} that stay | ratio |\n|---|---:|---:|---:|---:|---:|")
+        paths = sorted(files.glob("*.lanes"))
+        with multiprocessing.Pool(given.processes) as pool:
+            for query in QUERIES + MORE:
+                words = ["bash", "-c", SCRIPT, "bash", one, files, query, str(given.processes)]
+                apart, answer = least(words, env={**os.environ, "PATH": f"{room}{os.pathsep}{os.environ['PATH']}"})
+                merged, wanted = least([program, "query", whole, query])
+                assert answer == wanted, f"{query}: {answer} and {wanted}"
+                stayed, rows = least_of_pool(pool, given.processes, paths, query)
+                assert len(rows) == len(wanted.splitlines()) - 1, f"{query}: {len(rows)} rows"
+                print(f"| {query} | {merged:.2f} s | {apart:.2f} s | {apart / merged:.2f} | {stayed:.2f} s | {stayed / merged:.2f} |", flush=True)
 
 
 if __name__ == "__main__":
