@@ -3,7 +3,7 @@ use answer_parts::{Kept, Part, PartFault, Sums, Values};
 use catalogue_join::Held;
 use query_eval::Key;
 use std::alloc::{AllocError, Global};
-use std::collections::BTreeMap;
+use std::collections::{BTreeMap, HashSet};
 use std::test::Fail;
 use table_model::{ColType, Refusal, Schema};
 use test_support::{agree, agree_at};
@@ -28,13 +28,16 @@ const WHOLE: &str = "SELECT COUNT(*) FROM T";
 const GROUPED: &str = "SELECT K, AVG(A) FROM T GROUP BY K";
 
 /// Something of a kind.
-fn kept(alloc: Global, kind: Kind) -> Kept {
+fn kept(alloc: Global, kind: Kind) -> Result<Kept, AllocError> {
     match kind {
-        Kind::Count => Kept::Count(1),
-        Kind::Sum => Kept::Sum(Sums { count: 1, sum: 5 }),
-        Kind::Least => Kept::Least(Some(5)),
-        Kind::Greatest => Kept::Greatest(Some(5)),
-        Kind::Distinct => Kept::Distinct(Values::from_rising(Vec::new(alloc))),
+        Kind::Count => Ok(Kept::Count(1)),
+        Kind::Sum => Ok(Kept::Sum(Sums { count: 1, sum: 5 })),
+        Kind::Least => Ok(Kept::Least(Some(5))),
+        Kind::Greatest => Ok(Kept::Greatest(Some(5))),
+        Kind::Distinct => {
+            let none = HashSet::new(alloc);
+            Ok(Kept::Distinct(Values::of_set(alloc, &none)?))
+        }
     }
 }
 
@@ -53,7 +56,7 @@ fn one_group(alloc: Global, cells: &[Option<i128>], all: Vec<Kept>) -> Result<Gr
 fn all_kept(alloc: Global, kinds: &[Kind]) -> Result<Vec<Kept>, AllocError> {
     let mut all = Vec::new(alloc);
     for &kind in kinds {
-        all.push(kept(alloc, kind))?;
+        all.push(kept(alloc, kind)?)?;
     }
     Ok(all)
 }
