@@ -102,6 +102,14 @@ impl Values {
         }
     }
 
+    /// The law that the values are in the range of their lane width.
+    pub fn are_in_range(&self)
+        ensures width { IsLaneWidth self.now.lane_width }
+        ensures fit { AreInRange self.now.lane_width self.now.values }
+    {
+        self.lane_width();
+    }
+
     /// How many values there are.
     pub fn len(&self) -> usize
         ensures { result ≡ length self.now.values }

@@ -185,6 +185,15 @@ impl Words {
         }
     }
 
+    /// The law that the words fit their lanes.
+    pub fn fit_lanes(&self)
+        ensures width { IsLaneWidth self.now.lane_width }
+        ensures fit { FitLanes self.now }
+    {
+        self.lane_width();
+        self.len();
+    }
+
     /// Whether there is no word, as at width 0.
     pub fn is_empty(&self) -> bool
         ensures { IsTrue result ↔ (length self.now.numbers ≡ 0) }

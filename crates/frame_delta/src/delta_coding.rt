@@ -196,9 +196,9 @@ impl Delta {
         requires base_count { length bases.values ≡ 1024 / words.lane_width }
         ensures { result ≡ record { lane_width = words.lane_width; width = width; least = least; bases = bases.values; words = words } }
     {
-        // `lane_width` ensures that the bases are in range and `len` that the words fit their lanes, which a form's rule names; the
-        // width is known from the words.
-        let _ = (width, bases.lane_width(), words.lane_width(), words.len());
+        bases.are_in_range();
+        words.fit_lanes();
+        prove!(words.packed_width() == width);
         Delta {
             least,
             bases,

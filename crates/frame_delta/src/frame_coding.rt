@@ -126,8 +126,8 @@ impl For {
         requires reference { FitsSigned (integer_width lane_width) reference }
         ensures { result ≡ record { lane_width = lane_width; width = width; reference = reference; words = words } }
     {
-        // `len` ensures that the words fit their lanes, which a form's rule names.
-        let _ = (lane_width, words.len());
+        words.fit_lanes();
+        prove!(words.lane_width() == lane_width);
         For {
             width,
             reference,

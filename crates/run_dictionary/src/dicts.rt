@@ -120,9 +120,9 @@ impl Dict {
         requires codes { AreCodesBelow width codes (length values.values) }
         ensures { result ≡ record { lane_width = values.lane_width; width = width; values = values.values; codes = codes } }
     {
-        // What the words' numbers and the values are below is in the contracts of their calls; the width is known from the words.
-        let _ = (width, codes.len());
-        let _ = values.lane_width();
+        codes.fit_lanes();
+        values.are_in_range();
+        prove!(codes.packed_width() == width);
         Dict { values, codes }
     }
 

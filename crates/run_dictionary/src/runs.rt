@@ -95,9 +95,8 @@ impl Runs {
         requires count { length values.values ≡ run_of starts 1023 + 1 }
         ensures { result ≡ record { lane_width = values.lane_width; starts = starts; values = values.values } }
     {
-        // That a mask has 1024 rows, and that values are in the range of their lane width, is in the contracts of their calls.
-        let _ = starts.words();
-        let _ = values.lane_width();
+        starts.is_of_1024_rows();
+        values.are_in_range();
         Runs { starts, values }
     }
 

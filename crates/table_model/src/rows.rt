@@ -96,8 +96,7 @@ impl Rows {
         requires column { (n : ℕ) → n < length self.now → column < length (slice_index_or self.now n []) }
         ensures { cells.new ≡ take (length cells.old) (drop first (map (λ row. slice_index_or row column None) self.now)) }
     {
-        // `len` ensures that ordinals fit.
-        let _rows = self.len();
+        prove!(cells.len() <= self.len() - first);
         for n in 0..cells.len() {
             cells[n] = self.cell(first + n, column);
         }

@@ -203,6 +203,13 @@ impl Mask {
         let first = row_at(lane_width, lane, 0);
         (self.words[first / 64] >> (first % 64)) & (u64::MAX >> (64 - lane_width))
     }
+
+    /// The law that a mask is of 1024 rows.
+    pub fn is_of_1024_rows(&self)
+        ensures { length self.now ≡ 1024 }
+    {
+        let _ = &self.words;
+    }
 }
 
 /// The law that a mask and its bytes give each other back.
