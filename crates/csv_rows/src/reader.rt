@@ -186,6 +186,7 @@ impl CsvReader {
         ensures dialect { self.new.dialect ≡ self.old.dialect }
         ensures fault { IfErr result (λ e. Refuses self.old e (R.remaining reader.old.0)) }
         ensures reads { ReadsOnward R.remaining Counts self.old.given self.new.given reader.old reader.new result }
+        ensures within { OnOk result (self.new.given ≤ read_limit) }
     {
         let Some(order) = &self.order else {
             return Ok(Rows::new(alloc));
@@ -243,6 +244,7 @@ fn read_line<R: Read>(
     ensures fault { IfErr result (λ e. RefusesLines dialect.now columns.now order.now lines.old e (R.remaining reader.old.0)) }
     ensures bound { OnOk result (lines.new.number ≤ read_limit) }
     ensures reads { ReadsOnward R.remaining Counts lines.old.given lines.new.given reader.old reader.new result }
+    ensures within { OnOk result (lines.new.given ≤ read_limit) }
 {
     match lines.advance(reader)? {
         Found::Line => {
@@ -282,6 +284,7 @@ fn read_rows<R: Read>(
     ensures bound { OnOk result (lines.new.number ≤ read_limit) }
     ensures fault { IfErr result (λ e. RefusesLines dialect.now columns.now order.now lines.old e (R.remaining reader.old.0)) }
     ensures reads { ReadsOnward R.remaining Counts lines.old.given lines.new.given reader.old reader.new result }
+    ensures within { OnOk result (lines.new.given ≤ read_limit) }
 {
     let mut rows = Rows::new(alloc);
     let mut cells = Vec::new(alloc);
