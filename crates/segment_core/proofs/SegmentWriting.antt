@@ -5,7 +5,7 @@ use Rattle.std.proofs.lemmas.Option.{slice_get-get_or}
 use Rattle.std.proofs.Math.ListN.{get_or-map}
 use Rattle.segment_core.specs.Coded.{lane_width_of}
 use Rattle.segment_core.specs.CodedVector.{VectorForm}
-use Rattle.segment_core.specs.Segment.{IsColumn, rows_in, width_in, widths_in}
+use Rattle.segment_core.specs.Segment.{IsColumn, IsSegment, rows_in, width_in, widths_in}
 use Rattle.segment_core.specs.VectorBytes.{vector}
 use Rattle.segment_core.specs.SegmentBytes.{column}
 
@@ -22,6 +22,10 @@ spelled_in_column rows i vectors v h below is =
     let width : lane_width_of v.coded ≡ width_in vectors = same_width rows i vectors v h found below in
     ap (λ (t : ℕ). (vector t v.rows).spell v) width ∙ ap (λ (n : ℕ). (vector (width_in vectors) n).spell v) (h.cover i v found ∙ ap (rows_in rows) (sym place))
     ∙ ap (vector (width_in vectors) (rows_in rows (length (take i vectors)))).spell is
+
+-- a column of a segment is one of its number of rows
+pub column_in : (rows i : ℕ) (forms : List (List VectorForm)) (vectors : List VectorForm) → IsSegment rows forms → i < length forms → vectors ≡ get_or forms i vectors → IsColumn rows vectors
+column_in rows i forms vectors h below is = h.columns i vectors (slice_get-get_or forms i vectors below ∙ ap Some (sym is))
 
 -- a column is spelled as all of them have it
 pub spelled_in_columns : (rows i : ℕ) (forms : List (List VectorForm)) (vectors : List VectorForm) → i < length forms → vectors ≡ get_or forms i vectors

@@ -89,6 +89,13 @@ impl Coded {
         }
     }
 
+    /// The law that the form keeps its rule.
+    pub fn keeps_its_rule(&self)
+        ensures { IsCodedForm self.now }
+    {
+        self.lane_width();
+    }
+
     /// Writes the 1024 values in row order, each in the range of the lane width.
     pub fn decode(&self, values: &mut [i64; 1024])
         ensures values { values.new ≡ values_of self.now }

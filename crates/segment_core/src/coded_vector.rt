@@ -63,7 +63,7 @@ impl CodedVector {
         ensures value { result ≡ record { rows = rows; nulls = nulls; coded = coded } }
         ensures form { IsVector result }
     {
-        let _lane_width = coded.lane_width();
+        coded.keeps_its_rule();
         let cover = Cover::new(rows, nulls);
         CodedVector { cover, coded }
     }
@@ -74,6 +74,13 @@ impl CodedVector {
         ensures form { IsVector self.now }
     {
         self.cover.rows() as usize
+    }
+
+    /// The law that the vector keeps its rule.
+    pub fn keeps_its_rule(&self)
+        ensures { IsVector self.now }
+    {
+        self.rows();
     }
 
     /// The rows that are null, if there is one.

@@ -1,7 +1,6 @@
 //! Writing segments to bytes: for each column, each of its vectors.
-ghost use Rattle.std.specs.Prelude.{◌≡◌, ◌≤◌, length};
-ghost use Rattle.std.specs.List.{All};
-ghost use Rattle.segment_core.specs.Segment.{IsColumn, width_in, widths_in};
+ghost use Rattle.std.specs.Prelude.{ℕ};
+ghost use Rattle.segment_core.specs.Segment.{IsColumn, IsSegment, width_in, widths_in};
 ghost use Rattle.segment_core.specs.Format.{Format, Writes};
 ghost use Rattle.segment_core.specs.SegmentBytes.{column, columns, segment_bytes};
 
@@ -12,37 +11,28 @@ use crate::vectors::Vectors;
 use std::io::Write;
 use table_model::{Counted, Refusal};
 
-/// Writes the vectors of a column of a number of rows.
+/// Writes the vectors of a column, as one of as many rows as they cover.
 #[tactic(auto, unfolding(crate::specs::SegmentBytes::column))]
-fn write_column<W: Write>(
-    writer: &mut Counted<W>,
-    vectors: &[CodedVector],
-    rows: usize,
-) -> Result<(), Refusal>
-    requires { IsColumn rows vectors.now }
-    ensures { Writes result (W.contents writer.old.0) (W.contents writer.new.0) writer.old.1 writer.new.1
+fn write_column<W: Write>(writer: &mut Counted<W>, vectors: &[CodedVector]) -> Result<(), Refusal>
+    ensures { (rows : ℕ) → IsColumn rows vectors.now
+        → Writes result (W.contents writer.old.0) (W.contents writer.new.0) writer.old.1 writer.new.1
         ((column (width_in vectors.now) rows).spell vectors.now) }
 {
-    let _ = rows;
     for vector in vectors {
         write_vector(writer, vector)?;
     }
     Ok(())
 }
 
-/// Writes the columns of a number of rows.
+/// Writes the columns of a segment, as one of as many rows as their vectors cover.
 #[tactic(auto, unfolding(crate::specs::SegmentBytes::columns))]
-fn write_columns<W: Write>(
-    writer: &mut Counted<W>,
-    forms: &[Vectors],
-    rows: usize,
-) -> Result<(), Refusal>
-    requires { All (λ vectors. IsColumn rows vectors) forms.now }
-    ensures { Writes result (W.contents writer.old.0) (W.contents writer.new.0) writer.old.1 writer.new.1
+fn write_columns<W: Write>(writer: &mut Counted<W>, forms: &[Vectors]) -> Result<(), Refusal>
+    ensures { (rows : ℕ) → IsSegment rows forms.now
+        → Writes result (W.contents writer.old.0) (W.contents writer.new.0) writer.old.1 writer.new.1
         ((columns (widths_in forms.now) rows).spell forms.now) }
 {
     for vectors in forms {
-        write_column(writer, vectors.as_slice(), rows)?;
+        write_column(writer, vectors.as_slice())?;
     }
     Ok(())
 }
@@ -54,6 +44,7 @@ impl Segment {
     pub fn write_bytes<W: Write>(&self, writer: &mut Counted<W>) -> Result<(), Refusal>
         ensures { Writes result (W.contents writer.old.0) (W.contents writer.new.0) writer.old.1 writer.new.1 (segment_bytes self.now) }
     {
-        write_columns(writer, self.column_list(), self.rows())
+        self.is_of_its_vectors();
+        write_columns(writer, self.column_list())
     }
 }

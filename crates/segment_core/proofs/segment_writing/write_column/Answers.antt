@@ -12,27 +12,28 @@ use Rattle.segment_core.proofs.segment_writing.write_column.Goals as goal
 
 pub loop-vector-init : goal.loop-vector-init
 loop-vector-init g c = record {
-  written = rw (spell_all-nil {A = VectorForm} (λ front. vector (width_in c.args.vectors.now) (rows_in c.args.rows (length front))) []) (appends_none (g.W.Write.contents c.args.writer.now.0));
+  written = λ rows is. rw (spell_all-nil {A = VectorForm} (λ front. vector (width_in c.args.vectors.now) (rows_in rows (length front))) []) (appends_none (g.W.Write.contents c.args.writer.now.0));
   kept = refl;
 }
 
 pub returns-in_err-write_vector : goal.returns-in_err-write_vector
 unfolding column
-returns-in_err-write_vector g c =
+returns-in_err-write_vector g c = λ rows is.
     let p = err_from_is_err_and c.from_residual.result c.from_residual.ensures.1 in
-    let same = spelled_in_column c.args.rows c.loop-vector.vector-index c.args.vectors.now c.vector-item.result c.requires c.loop-vector-test.true c.vector-item.is in
+    let same = spelled_in_column rows c.loop-vector.vector-index c.args.vectors.now c.vector-item.result is c.loop-vector-test.true c.vector-item.is in
     let P : List ℕ → Type 0 = λ bytes. Writes (Err c.in_err-write_vector.field-0.0) (g.W.Write.contents c.loop-vector.writer.0) (g.W.Write.contents c.write_vector.new.writer.0) c.loop-vector.writer.1 c.write_vector.new.writer.1 bytes in
-    item_fault {A = VectorForm} (λ front. vector (width_in c.args.vectors.now) (rows_in c.args.rows (length front))) c.args.vectors.now c.loop-vector.vector-index c.vector-item.result c.from_residual.result c.in_err-write_vector.field-0.0
+    item_fault {A = VectorForm} (λ front. vector (width_in c.args.vectors.now) (rows_in rows (length front))) c.args.vectors.now c.loop-vector.vector-index c.vector-item.result c.from_residual.result c.in_err-write_vector.field-0.0
     (g.W.Write.contents c.args.writer.now.0) (g.W.Write.contents c.loop-vector.writer.0) (g.W.Write.contents c.write_vector.new.writer.0) c.args.writer.now.1 c.loop-vector.writer.1 c.write_vector.new.writer.1
-    c.loop-vector-test.true (rw (← p.2) p.1) c.loop-vector.invariant.written c.loop-vector.invariant.kept (subst P same c.in_err-write_vector.ensures)
+    c.loop-vector-test.true (rw (← p.2) p.1) (c.loop-vector.invariant.written rows is) c.loop-vector.invariant.kept (subst P same c.in_err-write_vector.ensures)
 
 pub loop-vector-preserved : goal.loop-vector-preserved
 loop-vector-preserved g c =
-    let same = spelled_in_column c.args.rows c.loop-vector.vector-index c.args.vectors.now c.vector-item.result c.requires c.loop-vector-test.true c.vector-item.is in
     let h = c.in_ok-write_vector.ensures in
     let P : List ℕ → Type 0 = λ bytes. Appends (g.W.Write.contents c.loop-vector.writer.0) (g.W.Write.contents c.write_vector.new.writer.0) bytes in
     record {
-      written = item_done {A = VectorForm} (λ front. vector (width_in c.args.vectors.now) (rows_in c.args.rows (length front))) c.args.vectors.now c.loop-vector.vector-index c.vector-item.result (g.W.Write.contents c.args.writer.now.0) (g.W.Write.contents c.loop-vector.writer.0) (g.W.Write.contents c.write_vector.new.writer.0)
-          c.loop-vector-test.true c.loop-vector.invariant.written (subst P same h.0);
+      written = λ rows is.
+          let same = spelled_in_column rows c.loop-vector.vector-index c.args.vectors.now c.vector-item.result is c.loop-vector-test.true c.vector-item.is in
+          item_done {A = VectorForm} (λ front. vector (width_in c.args.vectors.now) (rows_in rows (length front))) c.args.vectors.now c.loop-vector.vector-index c.vector-item.result (g.W.Write.contents c.args.writer.now.0) (g.W.Write.contents c.loop-vector.writer.0) (g.W.Write.contents c.write_vector.new.writer.0)
+          c.loop-vector-test.true (c.loop-vector.invariant.written rows is) (subst P same h.0);
       kept = h.1 ∙ c.loop-vector.invariant.kept;
     }
