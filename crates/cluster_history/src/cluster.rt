@@ -105,8 +105,7 @@ impl Cluster {
         ensures { ActsOn self.old (Step.Append replica rows.now) result self.new }
     {
         let place = self.place(replica)?;
-        // `parts` ensures that the batches are the rows of the segments, so that a new name is new to both.
-        let _parts = self.stores[place].parts();
+        self.stores[place].shows_its_segments();
         let name = self.stores[place].append(alloc, rows)?;
         Ok(Reply::Named(name))
     }
@@ -122,8 +121,7 @@ impl Cluster {
         ensures { ActsOn self.old (Step.Insert replica name rows.now) result self.new }
     {
         let place = self.place(replica)?;
-        // `parts` ensures that the batches are the rows of the segments, so that a new name is new to both.
-        let _parts = self.stores[place].parts();
+        self.stores[place].shows_its_segments();
         let inserted = self.stores[place].insert(alloc, name, rows)?;
         Ok(Reply::Put(inserted))
     }

@@ -39,7 +39,7 @@ unfolding insert_step
 returns c =
     let below = within c.args.self.now.parts c.self.inside.schema c.self.inside.stores.items (messages_in c.self.inside.messages.items) c.in_ok-place.place (parts_same c.self.view_is) c.in_ok-place.ensures.bound in
     let one : c.index.result.now ≡ c.index_mut.result.now = one_store c.self.inside.stores.items c.in_ok-place.place c.index.result.now c.index_mut.result.now below c.index.ensures c.index_mut.ensures.value in
-    let own : c.index_mut.result.now.replica.state.batches ≡ rows_in c.index_mut.result.now.segments = subst (λ (s : StoreForm). s.replica.state.batches ≡ rows_in s.segments) one c.parts-parts.ensures.rows in (
+    let own : c.index_mut.result.now.replica.state.batches ≡ rows_in c.index_mut.result.now.segments = subst (λ (s : StoreForm). s.replica.state.batches ≡ rows_in s.segments) one c.shows_its_segments.ensures in (
       call_done Put c.args.self.now.parts c.self.inside.schema c.self.inside.stores.items (messages_in c.self.inside.messages.items) c.args.replica c.in_ok-place.place (λ r. inserted r c.args.name c.args.rows.now) c.index_mut.result.now c.insert.new.self c.in_ok-inserted.inserted
           (parts_same c.self.view_is) c.in_ok-place.ensures.place c.in_ok-place.ensures.bound c.index_mut.ensures.value c.in_ok-inserted.ensures.acts,
       insert_at c.self.inside.schema c.self.inside.stores.items c.self.inside.messages.items c.args.replica c.in_ok-place.place c.index_mut.result.now c.insert.new.self c.args.name c.args.rows.now c.in_ok-inserted.inserted c.args.self.now
