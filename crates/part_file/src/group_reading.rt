@@ -52,8 +52,6 @@ fn put_last(
     requires { is_after (map entry_of groups.old.entries) (key, []) ≡ true }
     ensures { OnOk result (map entry_of groups.new.entries ≡ map entry_of groups.old.entries ++ (key, measures.items) ∷ []) }
 {
-    // The number of groups shows that they ascend.
-    let _count = groups.len();
     groups.insert(key, measures)?;
     Ok(())
 }

@@ -9,4 +9,4 @@ use Rattle.part_file.proofs.group_reading.put_last.Goals as goal
 pub returns : goal.returns
 returns c =
     ap (λ (es : List (Cells × Vec Kept)). map entry_of es) c.in_ok-insert.ensures.entries
-    ∙ put_last c.args.groups.now.entries c.args.key c.args.measures c.len-count.ensures.ordered c.requires
+    ∙ put_last c.args.groups.now.entries c.args.key c.args.measures c.in_ok-insert.ensures.was_ordered c.requires
