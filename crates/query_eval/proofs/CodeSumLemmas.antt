@@ -5,7 +5,7 @@ use Rattle.table_model.specs.Group.{IsWithin}
 use Rattle.table_model.specs.Values.{total}
 use Rattle.table_model.proofs.Appended.{total-append}
 use Rattle.transpose_order.specs.Mask.{has, rows_of}
-use Rattle.transpose_order.specs.MaskWords.{has-rows_of, rows_of-like}
+use Rattle.transpose_order.specs.MaskWords.{has-rows_of, length-rows_of, rows_of-like}
 use Rattle.query_eval.specs.CodeSums.{rows_coded}
 use Rattle.query_eval.specs.Packed.{ArePackable, ArePacked, IsPackable, packed_sum}
 use Rattle.query_eval.specs.Slices.{values_at, values_below}
@@ -89,5 +89,5 @@ coded_slice kept nulls rows own codes code e h =
 
 pub few_values : (rows : List Bool) (codes : List ℕ) (code : ℕ) (values : List ℤ) → length (values_at (rows_coded rows codes code) values) ≤ 1024
 few_values rows codes code values =
-    let p : ℕ → Bool = λ n. has rows n && (get_or codes n 0 == code) in
-    omega (arith, length-values_at (rows_coded rows codes code) values p refl, count-small (rows_coded rows codes code) p refl)
+    let l : length (rows_coded rows codes code) ≡ 1024 = length-rows_of (λ n. has rows n && (get_or codes n 0 == code)) in
+    omega (arith, length-values_at (rows_coded rows codes code) values l, count-small (rows_coded rows codes code) l)

@@ -7,7 +7,7 @@ use Rattle.table_model.specs.Group.{cell, values_in}
 use Rattle.table_model.specs.State.{Cells}
 use Rattle.table_model.specs.Values.{present}
 use Rattle.transpose_order.specs.Mask.{rows_of, has}
-use Rattle.transpose_order.specs.MaskWords.{has-rows_of, length-rows_of, rows_of-like}
+use Rattle.transpose_order.specs.MaskWords.{rows_of-like, rows_of-same}
 use Rattle.query_eval.specs.Kept.{rows_at}
 use Rattle.query_eval.specs.Vector.{Vector, row_at, looked_at}
 
@@ -38,18 +38,18 @@ unfolding rows_of
 length-present f = counted f (range_with_len 0 1024)
 
 -- as many as a mask has rows
-pub length-masked : {X : Type 0} (mask : List Bool) (p : ℕ → Bool) (row : ℕ → X) → mask ≡ rows_of p → length (present (rows_of (λ n. cond (has mask n) (Some (row n)) None))) ≡ count_by (λ y. y) mask
-length-masked {X = X} mask p row e =
+pub length-masked : {X : Type 0} (mask : List Bool) (row : ℕ → X) → length mask ≡ 1024 → length (present (rows_of (λ n. cond (has mask n) (Some (row n)) None))) ≡ count_by (λ y. y) mask
+length-masked {X = X} mask row l =
     length-present (λ n. cond (has mask n) (Some (row n)) None)
-    ∙ ap (count_by (λ y. y)) (rows_of-like (λ n. is_some (cond (has mask n) (Some (row n)) None)) p (λ n l. one (has mask n) (row n) ∙ ap (λ m. has m n) e ∙ has-rows_of p n l) ∙ sym e)
+    ∙ ap (count_by (λ y. y)) (rows_of-like (λ n. is_some (cond (has mask n) (Some (row n)) None)) (has mask) (λ n _. one (has mask n) (row n)) ∙ sym (rows_of-same (has mask) mask false l (λ n _. refl)))
   where
     one : (b : Bool) (x : X) → is_some (cond b (Some x) None) ≡ b
     one true x = refl
     one false x = refl
 
-pub length-rows_at : (v : Vector) (mask : List Bool) (p : ℕ → Bool) → mask ≡ rows_of p → length (rows_at v mask) ≡ count_by (λ y. y) mask
+pub length-rows_at : (v : Vector) (mask : List Bool) → length mask ≡ 1024 → length (rows_at v mask) ≡ count_by (λ y. y) mask
 unfolding rows_at
-length-rows_at v mask p e = length-masked mask p (row_at v) e
+length-rows_at v mask l = length-masked mask (row_at v) l
 
-pub count-small : (mask : List Bool) (p : ℕ → Bool) → mask ≡ rows_of p → count_by (λ y. y) mask ≤ 1024
-count-small mask p e = omega (arith, ap length e, length-rows_of p, count_by-le-length (λ (y : Bool). y) mask)
+pub count-small : (mask : List Bool) → length mask ≡ 1024 → count_by (λ y. y) mask ≤ 1024
+count-small mask l = omega (arith, l, count_by-le-length (λ (y : Bool). y) mask)

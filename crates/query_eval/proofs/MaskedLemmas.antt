@@ -62,8 +62,8 @@ values_some k rows values on l = λ e.
     ))
 
 -- as many values as rows
-pub length-values_at : (rows : List Bool) (values : List ℤ) (p : ℕ → Bool) → rows ≡ rows_of p → length (values_at rows values) ≡ count_by (λ y. y) rows
-length-values_at rows values p e = length-masked rows p (λ n. get_or values n (pos 0)) e
+pub length-values_at : (rows : List Bool) (values : List ℤ) → length rows ≡ 1024 → length (values_at rows values) ≡ count_by (λ y. y) rows
+length-values_at rows values l = length-masked rows (λ n. get_or values n (pos 0)) l
 
 -- ---- words bit by bit
 bit_below : (b : Bool) → cond b 1 0 < 2

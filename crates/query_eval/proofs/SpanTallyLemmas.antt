@@ -4,7 +4,7 @@ use Rattle.std.proofs.lemmas.Bool.Decides.{nat_tests}
 use Rattle.std.proofs.lemmas.List.{get_or-drop, get_or-map, get_or-take, length-map, length-take, take_all}
 use Rattle.table_model.specs.State.{Cells}
 use Rattle.transpose_order.specs.Mask.{count_below, has, rows_of}
-use Rattle.transpose_order.specs.MaskWords.{has-rows_of, rows_of-like}
+use Rattle.transpose_order.specs.MaskWords.{has-rows_of, length-rows_of, rows_of-like}
 use Rattle.transpose_order.proofs.MaskLemmas.{count_below-add, count_below-le, count_below-same, count_below-suc, count_below-zero, count_by-rows_of}
 use Rattle.query_eval.specs.Grouping.{AreCells, AreNulls, IsHeld, aggregate_values}
 use Rattle.query_eval.specs.Kept.{rows_at}
@@ -98,7 +98,7 @@ module _ (rows : List Bool) (first end : ℕ) (within : end ≤ 1024) where
 
   pub few_between : first ≤ end → (values : List ℤ) → length (values_at (rows_between rows first end) values) ≤ 1024
   few_between order values =
-      omega (arith, length-values_at (rows_between rows first end) values (λ n. has rows n && in_span first end n) refl, count_between order, count_below-le (has rows) end)
+      omega (arith, length-values_at (rows_between rows first end) values (length-rows_of (λ n. has rows n && in_span first end n)), count_between order, count_below-le (has rows) end)
 
   -- a span without a row has no value
   pub none_between : first ≤ end → (values : List ℤ) → ((n : ℕ) → first ≤ n → n < end → has rows n ≡ false) → values_at (rows_between rows first end) values ≡ []

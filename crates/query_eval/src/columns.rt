@@ -1,5 +1,6 @@
 //! What the evaluator of queries sees of a store.
 ghost use Rattle.std.specs.Prelude.{◌≡◌};
+ghost use Rattle.query_eval.specs.Vector.{IsWithin};
 
 use table_model::{BatchName, Op, Schema};
 use transpose_order::Mask;
@@ -172,4 +173,11 @@ pub trait Columns {
     /// How many passes over vectors were made, or the greatest number if there were more.
     fn passes(&self) -> u128
         ensures { result ≡ (seen self.now).passes };
+}
+
+/// The law that a state is within its limits.
+pub(crate) fn state_is_within_limits<C: Columns>(columns: &C)
+    ensures { IsWithin (C.seen columns.now).table (C.seen columns.now).state }
+{
+    columns.batches();
 }

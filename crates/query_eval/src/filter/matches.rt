@@ -4,7 +4,7 @@ ghost use Rattle.table_model.specs.Meaning.{names_where};
 ghost use Rattle.query_eval.specs.Read.{IsSame};
 ghost use Rattle.query_eval.specs.Kept.{live_vectors_in, live_vectors, batch_rows, names_kept, names_at};
 ghost use Rattle.query_eval.specs.Mentions.{condition_mentions};
-ghost use Rattle.query_eval.specs.Vector.{batch_at, batch_count};
+ghost use Rattle.query_eval.specs.Vector.{IsWithin, batch_at, batch_count};
 
 use crate::columns::{Columns, VectorId};
 use crate::filter::kept_rows::true_mask;
@@ -40,13 +40,12 @@ fn match_batch<C: Columns>(
     batch: usize,
     names: &mut Vec<RowName>,
 ) -> Result<(), AllocError>
-    requires { batch < batch_count (C.seen columns.old).state }
+    requires there { batch < batch_count (C.seen columns.old).state }
+    requires limits { IsWithin (C.seen columns.old).table (C.seen columns.old).state }
     ensures names { OnOk result (names.new.items ≡ names.old.items ++ names_kept (C.seen columns.old).table (Some condition.now) (batch_rows (C.seen columns.old).state batch)) }
     ensures same { IsSame (C.seen columns.old) (C.seen columns.new) }
     ensures passes { OnOk result ((C.seen columns.new).passes ≤ (C.seen columns.old).passes + condition_mentions condition.now * live_vectors_in (C.seen columns.old).state batch) }
 {
-    // `batches` ensures that the batch is within the limits.
-    let _batches = columns.batches();
     let name = columns.name(batch);
     for vector in 0..columns.vectors(batch) {
         let rows = true_mask(columns, VectorId { batch, vector }, condition);

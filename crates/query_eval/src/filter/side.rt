@@ -9,7 +9,7 @@ ghost use Rattle.query_eval.specs.Side.{side_at, side_mentions, HasColumn, Stand
 ghost use Rattle.query_eval.specs.Vector.{IsThere, vector_of};
 ghost use Rattle.query_eval.specs.Where.{IsPair, operand_seen};
 
-use crate::columns::{Columns, VectorId};
+use crate::columns::{Columns, VectorId, state_is_within_limits};
 use crate::filter::column_places::place_of;
 use crate::filter::pair::Pair;
 use table_model::{Op, Operand, Truth};
@@ -28,8 +28,7 @@ pub fn side_of<C: Columns>(columns: &C, operand: &Operand) -> Side
     ensures column { HasColumn (C.seen columns.now).table result }
     ensures mentions { side_mentions result ≤ operand_mentions operand.now }
 {
-    // `batches` ensures that the table and the state are within their limits.
-    let _batches = columns.batches();
+    state_is_within_limits(columns);
     match operand {
         Operand::Column(column) => match place_of(columns.schema(), column) {
             None => Side::Fixed(None),

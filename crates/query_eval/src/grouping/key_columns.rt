@@ -6,7 +6,7 @@ ghost use Rattle.query_eval.specs.Keys.{AreKeys, column_key, key_cell};
 ghost use Rattle.query_eval.specs.Read.{IsRead, IsSame};
 ghost use Rattle.query_eval.specs.Vector.{IsThere, cell_at, vector_of};
 
-use crate::columns::{Columns, VectorId};
+use crate::columns::{Columns, VectorId, state_is_within_limits};
 use crate::filter::{changed_rows, equal_rows};
 use std::alloc::AllocError;
 use transpose_order::Mask;
@@ -33,8 +33,7 @@ impl KeyColumn {
         ensures value { (n : ℕ) → n < 1024 → key_cell self.new n ≡ cell_at (vector_of (C.seen columns.old).state id) place n }
         ensures read { IsRead (C.seen columns.old) (C.seen columns.new) 1 }
     {
-        // `batches` ensures that the table and the state are within their limits.
-        let _batches = columns.batches();
+        state_is_within_limits(columns);
         if place < columns.schema().column_list().len() {
             self.nulls = columns.nulls(id, place);
             columns.decode_into(id, place, &mut self.values);

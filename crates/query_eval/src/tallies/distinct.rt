@@ -57,7 +57,5 @@ pub(crate) fn set_values(alloc: Global, set: &HashSet<i64>) -> Result<Vec<i64>, 
     ensures values { IfOk result (λ values. values.items ≡ set.now.keys) }
     ensures apart { IsDistinct int_eq set.now.keys }
 {
-    // The set's length shows that its values are distinct.
-    let _count = set.len();
     set.iter().copied().collect(alloc)
 }

@@ -20,8 +20,7 @@ pub fn count_at(rows: &Mask) -> usize
     ensures value { (values : List ℤ) → result ≡ length (values_at rows.now values) }
     ensures few { result ≤ 1024 }
 {
-    // Its words show that a mask has 1024 places.
-    let _words = rows.words();
+    rows.is_of_1024_rows();
     rows.count()
 }
 

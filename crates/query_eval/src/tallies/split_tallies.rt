@@ -11,7 +11,7 @@ ghost use Rattle.query_eval.specs.declared.tallies.aggregate.Aggregate.{Aggregat
 ghost use Rattle.query_eval.specs.declared.tallies.tally.Tally.{Tally as ATally};
 ghost use Rattle.query_eval.specs.declared.tallies.tally.TallyKind.TheVariants as kinds;
 
-use crate::columns::Columns;
+use crate::columns::{Columns, state_is_within_limits};
 use crate::filter::KeptVector;
 use crate::grouping::Split;
 use crate::tallies::aggregate::Aggregate;
@@ -176,8 +176,7 @@ fn add_values<C: Columns>(
     ensures held { OnOk result (TakeColumn kind column (vector_of (C.seen columns.old).state kept.now.id) split.now tallies.old.items tallies.new.items) }
     ensures read { IsRead (C.seen columns.old) (C.seen columns.new) 1 }
 {
-    // `batches` ensures that the table and the state are within their limits.
-    let _batches = columns.batches();
+    state_is_within_limits(columns);
     if columns.schema().column_list().len() <= column {
         return Ok(());
     }

@@ -77,8 +77,7 @@ fn value_or_zero(value: i64, comes: bool) -> i64
 fn insert(seen: &mut HashSet<i64>, value: i64) -> Result<(), AllocError>
     ensures { OnOk result ((z : ℤ) → list_any (int_eq z) seen.new.keys ≡ cond (int_eq value z) true (list_any (int_eq z) seen.old.keys)) }
 {
-    // Whether the value is new doesn't matter.
-    let _added = seen.insert(value)?;
+    seen.insert(value)?;
     Ok(())
 }
 

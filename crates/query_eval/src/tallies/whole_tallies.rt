@@ -11,7 +11,7 @@ ghost use Rattle.query_eval.specs.Taken.{AreTallied, TallyMore};
 ghost use Rattle.query_eval.specs.Tally.{IsTally, kind_of};
 ghost use Rattle.query_eval.specs.Vector.{IsThere, looked_at, vector_of};
 
-use crate::columns::Columns;
+use crate::columns::{Columns, state_is_within_limits};
 use crate::filter::KeptVector;
 use crate::grouping::Key;
 use crate::tallies::aggregate::Aggregate;
@@ -84,9 +84,8 @@ fn take_aggregate<C: Columns>(
     ensures held { OnOk result ((rows : List Cells) → IsHeld rows aggregate tally.old → IsHeld (rows ++ rows_at (vector_of (C.seen columns.old).state kept.now.id) kept.now.rows) aggregate tally.new) }
     ensures read { IsRead (C.seen columns.old) (C.seen columns.new) (aggregate_mentions aggregate) }
 {
-    // `batches` ensures that the table and the state are within their limits, and a mask's words that it has 1024 places.
-    let _batches = columns.batches();
-    let _words = kept.rows.words();
+    state_is_within_limits(columns);
+    kept.rows.is_of_1024_rows();
     match aggregate {
         Aggregate::Rows => tally.count_more(kept.rows.count()),
         Aggregate::Folded { place, .. } => {

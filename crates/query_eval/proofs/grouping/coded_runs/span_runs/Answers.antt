@@ -1,8 +1,7 @@
 -- A run that has a row of the mask is one span more, and else the rows that are left stay the same.
-use Rattle.std.proofs.Common.{rules, ◌+◌, ◌<◌, ◌≤◌, ◌∷◌, [], suc, ℤ, Bool, List, Some, get_or, length, pos, FitsSigned, w64, sym, ap, subst, ◌∙◌, arith}
+use Rattle.std.proofs.Common.{rules, ◌+◌, ◌<◌, ◌≤◌, ◌∷◌, [], suc, ℤ, Bool, List, Some, get_or, pos, FitsSigned, w64, sym, ap, subst, ◌∙◌, arith}
 use Rattle.std.proofs.lemmas.Int.{to_z-of_z}
 use Rattle.transpose_order.specs.Mask.{has}
-use Rattle.transpose_order.specs.MaskWords.{length-rows_of}
 use Rattle.transpose_order.proofs.MaskLemmas.{count_below-le, count_below-zero}
 use Rattle.query_eval.specs.Places.{IsIndex, IsTakenIn}
 use Rattle.query_eval.specs.Slices.{AreSliced, slices_of_spans}
@@ -20,7 +19,7 @@ loop-run-init c = record {
   none = c.next_true-row.ensures.none;
   run = λ l. count_below-zero (λ i. has c.args.starts.now (suc i));
   index = λ h. h;
-  spanned = λ by v shown h. spanned_none by v c.args.mask.now c.args.places.now.index c.clear.new.self.items (ap length c.words-words.ensures ∙ length-rows_of _) c.clear.ensures.items;
+  spanned = λ by v shown h. spanned_none by v c.args.mask.now c.args.places.now.index c.clear.new.self.items c.is_of_1024_rows.ensures c.clear.ensures.items;
 }
 
 pub loop-run-preserved : goal.loop-run-preserved

@@ -1,6 +1,5 @@
 -- One run more.
-use Rattle.std.proofs.Common.{◌<◌, ◌∙◌, Bool, List, map, length, ap, sym, subst, arith}
-use Rattle.transpose_order.specs.MaskWords.{length-rows_of}
+use Rattle.std.proofs.Common.{◌<◌, ◌∙◌, Bool, List, map, sym, subst, arith}
 use Rattle.query_eval.specs.Keys.{key_cell}
 use Rattle.query_eval.specs.Slices.{AreSliced, slices_of_spans}
 use Rattle.query_eval.proofs.SliceLemmas.{run_same}
@@ -11,7 +10,7 @@ pub loop-init : goal.loop-init
 loop-init c = record {
   within = omega arith;
   index = λ h. h;
-  spanned = λ by v shown h. spanned_none by v c.args.mask.now c.args.places.now.index c.clear.new.self.items (ap length c.words-words.ensures ∙ length-rows_of _) c.clear.ensures.items;
+  spanned = λ by v shown h. spanned_none by v c.args.mask.now c.args.places.now.index c.clear.new.self.items c.is_of_1024_rows.ensures c.clear.ensures.items;
 }
 
 pub returns-then-first-eq1024-clause-spanned : goal.returns-then-first-eq1024-clause-spanned

@@ -17,7 +17,7 @@ returns-then-column_list-column-clause-held g c = λ fold distinct is i t taken 
     let all : length c.column_list.result.now ≡ length table.columns = ap (λ (cs : List ColumnShape). length cs) c.column_list.ensures.list ∙ ap (λ (x : Table). length x.columns) c.schema.ensures in
     let past : length table.columns ≤ c.args.column = omega (arith, all, c.if-column_list-column.true) in
     shared_without (vector_at state batch vector) (Folded fold distinct c.args.column) (get_or c.args.tallies.now.items i t)
-    (λ n q. missing_cell table state c.batches-batches.ensures.limits batch vector n c.args.column c.requires.there past) c.args.split.now i taken h
+    (λ n q. missing_cell table state c.state_is_within_limits.ensures batch vector n c.args.column c.requires.there past) c.args.split.now i taken h
 
 pub returns-in-Count-clause-held : goal.returns-in-Count-clause-held
 returns-in-Count-clause-held g c = λ fold distinct is.

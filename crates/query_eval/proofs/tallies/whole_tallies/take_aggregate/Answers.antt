@@ -1,7 +1,6 @@
 -- The rows are counted, or the column's values taken in.
 use Rattle.std.proofs.Common.{◌≡◌, ◌≤◌, length, List, sym, ap, subst, ◌∙◌, arith, ◌++◌}
 use Rattle.table_model.specs.Table.{Table, ColumnShape}
-use Rattle.transpose_order.specs.Mask.{truth_at}
 use Rattle.query_eval.specs.Grouping.{IsHeld}
 use Rattle.query_eval.specs.Kept.{rows_at}
 use Rattle.query_eval.specs.Vector.{vector_at}
@@ -17,7 +16,7 @@ returns-in-Rows-clause-held g c = λ rows h.
     let mask = c.args.kept.now.rows in
     let t = c.args.tally.now in
     let u = c.count_more.new.self in
-    let many = c.count.ensures ∙ sym (length-rows_at v mask (truth_at c.words-words.result.now) c.words-words.ensures) in
+    let many = c.count.ensures ∙ sym (length-rows_at v mask c.is_of_1024_rows.ensures) in
     subst (λ (a : Aggregate). IsHeld (rows ++ rows_at v mask) a u) (sym c.in-Rows.is)
     (held_rows v mask rows t u c.count.result many (λ values more kind is b. c.count_more.ensures.values values more kind is b) c.count_more.ensures.kind (subst (λ (a : Aggregate). IsHeld rows a t) c.in-Rows.is h))
 
@@ -40,4 +39,4 @@ returns-else-place-column_list-clause-held g c = λ rows h.
     let all : length c.column_list.result.now ≡ length table.columns = ap (λ (cs : List ColumnShape). length cs) c.column_list.ensures.list ∙ ap (λ (x : Table). length x.columns) c.schema.ensures in
     let past : length table.columns ≤ c.in-Folded.place = omega (arith, all, c.if-place-column_list.false) in
     subst (λ (a : Aggregate). IsHeld (rows ++ rows_at (vector_at state batch vector) c.args.kept.now.rows) a t) (sym c.in-Folded.is)
-    (held_missing (vector_at state batch vector) c.args.kept.now.rows _ _ c.in-Folded.place rows t (λ n q. missing_cell table state c.batches-batches.ensures.limits batch vector n c.in-Folded.place c.requires past) (subst (λ (a : Aggregate). IsHeld rows a t) c.in-Folded.is h))
+    (held_missing (vector_at state batch vector) c.args.kept.now.rows _ _ c.in-Folded.place rows t (λ n q. missing_cell table state c.state_is_within_limits.ensures batch vector n c.in-Folded.place c.requires past) (subst (λ (a : Aggregate). IsHeld rows a t) c.in-Folded.is h))

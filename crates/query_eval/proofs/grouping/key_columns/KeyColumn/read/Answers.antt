@@ -21,4 +21,4 @@ returns-else-place-column_list-clause-value g c = λ n h.
     let past : length table.columns ≤ c.args.place = omega (arith, all, c.if-place-column_list.false) in
     ap (λ m. cond (has m n) None (Some (get_or values n (pos 0)))) c.all-self.ensures
     ∙ ap (λ b. cond b None (Some (get_or values n (pos 0)))) (has-rows_of (λ _. true) n h)
-    ∙ sym (missing_cell table (g.C.Columns.seen c.args.columns.now).state c.batches-batches.ensures.limits c.args.id.batch c.args.id.vector n c.args.place c.requires past)
+    ∙ sym (missing_cell table (g.C.Columns.seen c.args.columns.now).state c.state_is_within_limits.ensures c.args.id.batch c.args.id.vector n c.args.place c.requires past)
