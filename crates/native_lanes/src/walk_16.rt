@@ -290,14 +290,21 @@ impl<'a> Walk16<'a> {
         marks
     }
 
+    /// The law that the lanes have 16 bits.
+    #[inline(always)]
+    fn has_lanes_of_16(&self)
+        ensures { self.now.lane_width ≡ 16 }
+    {
+        let _ = &self.width;
+    }
+
     /// The rows whose number is neither below `first` nor above `last`. If these are none or all of the numbers, no word is read.
     #[inline(always)]
     fn rows_between(&self, first: u16, last: u16) -> Mask
         ensures rows { result ≡ rows_of (λ n. nat_le first (number_of_row self.now n) && nat_le (number_of_row self.now n) last) }
         ensures below { (n : ℕ) → number_of_row self.now n ≤ 2 ^ 16 - 1 }
     {
-        // A walk whose field is read keeps its invariant.
-        let _width = self.width;
+        self.has_lanes_of_16();
         if last < first {
             return Mask::none();
         }
