@@ -445,7 +445,7 @@ fn put_new(
     entries.reserve(1)?;
     held.insert(name)?;
     let at = place(entries.as_slice(), name);
-    let _ = entries.insert(at, (name, segment));
+    entries.insert(at, (name, segment))?;
     Ok(())
 }
 

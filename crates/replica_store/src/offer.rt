@@ -113,8 +113,7 @@ impl Offer {
         ensures valid { HasBytesIn self.now.schema result.1.now }
     {
         let (name, segment) = &self.entries()[index];
-        // `rows` ensures that a segment has bytes at its own lane widths.
-        let _rows = segment.rows();
+        segment.is_of_its_vectors();
         (*name, segment)
     }
 

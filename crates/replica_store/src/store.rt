@@ -117,6 +117,14 @@ impl Store {
         self.batches.len()
     }
 
+    /// The law that a store is within its limits.
+    pub fn is_within_limits(&self)
+        ensures limit { map.len self.now.replica.state.batches ≤ batch_limit }
+        ensures within { IsWithinLimits self.now.replica.schema self.now.replica.state.batches }
+    {
+        self.batches();
+    }
+
     /// The batch at this place, in ascending order of name and from 0.
     pub fn batch(&self, index: usize) -> (BatchName, &Segment)
         requires { index < map.len self.now.replica.state.batches }
@@ -128,8 +136,7 @@ impl Store {
         ensures valid { HasBytesIn self.now.replica.schema result.1.now }
     {
         let (name, segment) = self.batches.at(index);
-        // `rows` ensures that a segment has bytes at its own lane widths.
-        let _rows = segment.rows();
+        segment.is_of_its_vectors();
         (name, segment)
     }
 
@@ -142,6 +149,13 @@ impl Store {
         ensures second { All (IsStored self.now.replica.schema) result.1.now }
     {
         self.batches.parts()
+    }
+
+    /// The law that a store's batches are the rows of its segments.
+    pub fn shows_its_segments(&self)
+        ensures { self.now.replica.state.batches ≡ rows_in self.now.segments }
+    {
+        self.parts();
     }
 
     /// The deleted rows, held here or not.

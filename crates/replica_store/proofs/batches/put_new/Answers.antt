@@ -1,5 +1,5 @@
 -- The entry goes in at its place.
-use Rattle.std.proofs.Common.{arith, ap, ◌∙◌, ◌≡◌, ℕ, List, Bool, true, cond}
+use Rattle.std.proofs.Common.{arith, refl, ap, ◌∙◌, ◌≡◌, ℕ, List, Bool, true, cond}
 use Rattle.std.specs.List.{insert}
 use Rattle.table_model.specs.Name.{name_cmp}
 use Rattle.segment_core.specs.Segment.{SegmentForm}
@@ -19,5 +19,12 @@ goes_in es seen old new i q v done is ok same looked at =
 
 pub returns-clause-entries : goal.returns-clause-entries
 returns-clause-entries c =
-    goes_in c.args.entries.now.items c.as_slice.result.now c.reserve.new.self.items c.insert-2.new.self.items c.place-at.result c.args.name c.args.segment _ c.insert-2.ensures.items
-    (c.insert-2.ensures.succeeds (omega (arith, c.in_ok-reserve.ensures.ok))) c.in_ok-reserve.ensures.items c.as_slice.ensures.value c.place-at.ensures
+    goes_in c.args.entries.now.items c.as_slice.result.now c.reserve.new.self.items c.insert-2.new.self.items c.place-at.result c.args.name c.args.segment true c.in_ok-insert-2.ensures.items
+    refl c.in_ok-reserve.ensures.items c.as_slice.ensures.value c.place-at.ensures
+
+-- where there is room the entry always goes in
+pub returns-in_err-insert-2-clause-same_entries : goal.returns-in_err-insert-2-clause-same_entries
+returns-in_err-insert-2-clause-same_entries c = absurd (omega (arith, c.in_ok-reserve.ensures.ok, c.in_err-insert-2.ensures.full))
+
+pub returns-in_err-insert-2-clause-same_names : goal.returns-in_err-insert-2-clause-same_names
+returns-in_err-insert-2-clause-same_names c = absurd (omega (arith, c.in_ok-reserve.ensures.ok, c.in_err-insert-2.ensures.full))
