@@ -300,7 +300,7 @@ size_t lanes_refusal(uint8_t number, uint8_t *out, size_t room);
  * has more than 256 bytes. */
 size_t lanes_sentence(uint8_t number, const lanes_place *place, uint8_t *out, size_t room);
 
-/* Gives the library's version, as "0.5.0", without a byte 0 at its end, and answers how many bytes it has. It is written where it
+/* Gives the library's version, as "0.5.1", without a byte 0 at its end, and answers how many bytes it has. It is written where it
  * fits. */
 size_t lanes_version(uint8_t *out, size_t room);
 

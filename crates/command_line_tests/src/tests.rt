@@ -50,7 +50,7 @@ const TEXTS: [(&[&str], &str); 16] = [
     (&["lanes", "pack", "--help"], PACK_HELP),
     (&["lanes", "part", "--help"], PART_HELP),
     (&["lanes", "combine", "--help"], COMBINE_HELP),
-    (&["lanes", "--version"], "lanes 0.5.0\n"),
+    (&["lanes", "--version"], "lanes 0.5.1\n"),
     (
         &["lanes"],
         "error: 'lanes' requires a subcommand but one was not provided\n  [subcommands: create, import, query, part, combine, finish, delete, delete-rows, forget, dump, inspect, summary, offer, apply, check, merge, pack, run, help]\n\nUsage: lanes <COMMAND>\n\nFor more information, try '--help'.\n",
