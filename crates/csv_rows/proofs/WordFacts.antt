@@ -1,5 +1,5 @@
 -- Words are read one by one.
-use Rattle.std.specs.Prelude.{◌≡◌, ℕ, suc, List, [], ◌∷◌, ◌++◌, Option, Some, None, Result, Ok, Err}
+use Rattle.std.specs.Prelude.{◌≡◌, ℕ, suc, List, [], ◌∷◌, ◌++◌, Option, Some, None, Err}
 use Rattle.std.proofs.Common.{ap, ◌∙◌}
 use Rattle.table_model.specs.Table.{ColumnShape}
 use Rattle.csv_rows.specs.CsvText.{◌>>=◌}

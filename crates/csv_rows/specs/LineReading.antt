@@ -1,9 +1,6 @@
 -- The lines of a text as they are read, piece by piece.
-use Rattle.std.specs.Prelude.{◌≡◌, ◌⊎◌, ℕ, suc, ◌+◌, ◌<◌, ◌≤◌, List, [], ◌∷◌, ◌++◌, drop, length, Option}
+use Rattle.std.specs.Prelude.{◌≡◌, ℕ, suc, ◌+◌, ◌<◌, ◌≤◌, List, [], ◌∷◌, ◌++◌, drop, length, Option}
 use Rattle.std.specs.Io.KnownBytes.{IsAtEnd, Consumes}
-use Rattle.table_model.specs.Counted.{one_more}
-use Rattle.table_model.specs.declared.refusal.Refusal.{Refusal}
-use Rattle.table_model.specs.declared.refusal.Refusal.TheVariants.{Memory, ReadFault}
 use Rattle.csv_rows.specs.Line.{line_limit, pieces, lines_between, lines_of}
 use Rattle.csv_rows.specs.LinesForm.{LinesForm}
 use Rattle.csv_rows.specs.Reading.{AsKnown}
@@ -48,12 +45,6 @@ Ends found.TooLong old new = (line_limit < length old.line) × (new.number ≡ o
 -- a number of bytes came behind those that weren't taken yet
 abbrev pub Grows : ℕ → List ℕ → List ℕ → Option (List ℕ) → Option (List ℕ) → Type 0
 Grows count pending pending' before after = (chunk : List ℕ) × (length chunk ≡ count) × (pending' ≡ pending ++ chunk) × Consumes before after chunk
-
--- how often the reader below had failed before and after a read that was refused
-abbrev pub ReadCounts : Type 0 → Refusal → ℕ → ℕ → Type 0
-ReadCounts many ReadFault before after = (after ≡ one_more before) ⊎ (many × (after ≡ before))
-ReadCounts many Memory before after = after ≡ before
-ReadCounts many other before after = ⊥
 
 -- what the next line is
 abbrev pub Finds : Found → LinesForm → LinesForm → Option (List ℕ) → Option (List ℕ) → Type 0

@@ -1,8 +1,10 @@
 -- What a reader of comma-separated values has read, and what is still to come of the text, where the bytes are known.
-use Rattle.std.specs.Prelude.{◌≡◌, ◌⊎◌, ℕ, suc, ◌+◌, Bool, List, [], ◌++◌, length, Option, Some, None, Result, Ok, Err}
+use Rattle.std.specs.Prelude.{◌≡◌, ◌⊎◌, ℕ, suc, ◌+◌, ◌≤◌, ◌<◌, Bool, List, [], ◌++◌, length, Option, Some, None, Result, Ok, Err, OnOk, IfErr}
 use Rattle.table_model.specs.Counted.{one_more}
+use Rattle.table_model.specs.Faults.{read_limit}
 use Rattle.table_model.specs.State.{Batch}
 use Rattle.table_model.specs.Table.{Table}
+use Rattle.table_model.specs.declared.refusal.Refusal.{Refusal}
 use Rattle.table_model.specs.declared.refusal.Refusal.TheVariants.{Memory, ReadFault}
 use Rattle.csv_rows.specs.DialectForm.{DialectForm, usual}
 use Rattle.csv_rows.specs.Line.{lines_of}
@@ -62,10 +64,22 @@ Refuses old fault before = AsKnown (λ bytes rest. to_come old bytes ≡ Err fau
 abbrev pub Came : ℕ → ℕ → Option (List ℕ) → Option (List ℕ) → Type 0
 Came given given' before after = AsKnown (λ bytes rest. given' + length rest ≡ given + length bytes) before after
 
--- how often the reader below had failed before and after an error: once more with ReadFault, unless many is what made that; of the refusals
--- only that one and Memory come
+-- how often the reader below had failed before and after a read that was refused: once more with ReadFault, unless many is what made
+-- that; of the refusals only that one and Memory come
+abbrev pub ReadCounts : Type 0 → Refusal → ℕ → ℕ → Type 0
+ReadCounts many ReadFault before after = (after ≡ one_more before) ⊎ (many × (after ≡ before))
+ReadCounts many Memory before after = after ≡ before
+ReadCounts many other before after = ⊥
+
+-- the same of an error; a fault of the text is no failure of the reader
 abbrev pub Counts : Type 0 → CsvError → ℕ → ℕ → Type 0
-Counts many (Refused ReadFault) before after = (after ≡ one_more before) ⊎ (many × (after ≡ before))
-Counts many (Refused Memory) before after = after ≡ before
-Counts many (Refused other) before after = ⊥
+Counts many (Refused refusal) before after = ReadCounts many refusal before after
 Counts many fault before after = after ≡ before
+
+-- A call read on: as many bytes came as are counted, and not more than are read at most unless more had come before; and how often the
+-- reader below had failed is as it was, or after an error what counted says.
+pub record ReadsOnward {D X E : Type 0} (remaining : D → Option (List ℕ)) (counted : Type 0 → E → ℕ → ℕ → Type 0) (given given' : ℕ) (old new : D × ℕ) (result : Result X E) : Type 0 where
+  pub came : Came given given' (remaining old.0) (remaining new.0)
+  pub within : OnOk result (given ≤ read_limit → given' ≤ read_limit)
+  pub kept : OnOk result (new.1 ≡ old.1)
+  pub counts : IfErr result (λ e. counted (read_limit < given') e old.1 new.1)

@@ -1,5 +1,5 @@
 -- What the fields of a text are, as a list of words says it.
-use Rattle.std.specs.Prelude.{◌≡◌, ◌⊎◌, ℕ, suc, Bool, false, ◌==◌, cond, List, [], ◌∷◌, ◌++◌, Option, Some, None, option_and_then, position, Result, Ok, Err}
+use Rattle.std.specs.Prelude.{◌≡◌, ℕ, suc, Bool, false, ◌==◌, cond, List, [], ◌∷◌, ◌++◌, Option, Some, None, option_and_then, position, Result, Ok, Err}
 use Rattle.std.specs.List.{list_any}
 use Rattle.table_model.specs.Identifier.{same_text}
 use Rattle.table_model.specs.Table.{ColumnShape, has_name}

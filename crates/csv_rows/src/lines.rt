@@ -4,9 +4,9 @@ ghost use Rattle.std.specs.Io.KnownBytes.{IsAtEnd, Consumes, Keeps};
 ghost use Rattle.table_model.specs.Counted.{one_more};
 ghost use Rattle.table_model.specs.Faults.{read_limit};
 ghost use Rattle.csv_rows.specs.Line.{without_return, unmarked, line_limit};
-ghost use Rattle.csv_rows.specs.LineReading.{Takes, Ends, Took, Grows, Finds, ReadCounts, FirstTooLong, lines_after};
+ghost use Rattle.csv_rows.specs.LineReading.{Takes, Ends, Took, Grows, Finds, FirstTooLong, lines_after};
 ghost use Rattle.csv_rows.specs.LinesForm.{no_lines};
-ghost use Rattle.csv_rows.specs.Reading.{AsKnown, Came};
+ghost use Rattle.csv_rows.specs.Reading.{AsKnown, ReadCounts, ReadsOnward};
 
 use crate::bytes::{after_mark, before_last};
 use std::alloc::{AllocError, Global};
@@ -173,10 +173,7 @@ impl Lines {
         ensures text { OnOk result (AsKnown (λ bytes rest. unmarked (self.old.pending ++ bytes) ≡ self.new.pending ++ rest) (R.remaining reader.old.0) (R.remaining reader.new.0)) }
         ensures refused { OnErr result ((self.new.at ≡ 0) × (length self.new.pending < 3)) }
         ensures number { self.new.number ≡ self.old.number }
-        ensures came { Came self.old.given self.new.given (R.remaining reader.old.0) (R.remaining reader.new.0) }
-        ensures within { OnOk result (self.old.given ≤ read_limit → self.new.given ≤ read_limit) }
-        ensures kept { OnOk result (reader.new.1 ≡ reader.old.1) }
-        ensures counts { IfErr result (λ e. ReadCounts (read_limit < self.new.given) e reader.old.1 reader.new.1) }
+        ensures reads { ReadsOnward R.remaining ReadCounts self.old.given self.new.given reader.old reader.new result }
     {
         self.read_head(reader)?;
         self.drop_mark();
@@ -192,10 +189,7 @@ impl Lines {
         ensures at { self.new.at ≡ 0 }
         ensures refused { OnErr result (length self.new.pending < 3) }
         ensures number { self.new.number ≡ self.old.number }
-        ensures came { Came self.old.given self.new.given (R.remaining reader.old.0) (R.remaining reader.new.0) }
-        ensures within { OnOk result (self.old.given ≤ read_limit → self.new.given ≤ read_limit) }
-        ensures kept { OnOk result (reader.new.1 ≡ reader.old.1) }
-        ensures counts { IfErr result (λ e. ReadCounts (read_limit < self.new.given) e reader.old.1 reader.new.1) }
+        ensures reads { ReadsOnward R.remaining ReadCounts self.old.given self.new.given reader.old reader.new result }
     {
         for _turn in 0..MARK {
             let count = self.refill(reader)?;
@@ -270,11 +264,9 @@ impl Lines {
         ensures refused { OnErr result (self.new.pending ≡ self.old.pending) }
         ensures same { (self.new.at ≡ self.old.at) × (self.new.line ≡ self.old.line) × (self.new.number ≡ self.old.number) }
         ensures spare { OnOk result (self.new.spare ≡ self.old.spare) }
-        ensures came { Came self.old.given self.new.given (R.remaining reader.old.0) (R.remaining reader.new.0) }
+        ensures reads { ReadsOnward R.remaining ReadCounts self.old.given self.new.given reader.old reader.new result }
         ensures given { IfOk result (λ count. (self.new.given ≡ self.old.given + count) × (self.new.given ≤ read_limit)) }
         ensures fewer { self.new.number ≤ self.new.given }
-        ensures kept { OnOk result (reader.new.1 ≡ reader.old.1) }
-        ensures counts { IfErr result (λ e. ReadCounts (read_limit < self.new.given) e reader.old.1 reader.new.1) }
     {
         if self.given > READ_LIMIT {
             return Err(Refusal::ReadFault);
@@ -309,11 +301,8 @@ impl Lines {
     pub fn advance<R: Read>(&mut self, reader: &mut Counted<R>) -> Result<Found, Refusal>
         ensures found { IfOk result (λ found. Finds found self.old self.new (R.remaining reader.old.0) (R.remaining reader.new.0)) }
         ensures number { OnErr result (self.new.number ≡ self.old.number) }
-        ensures came { Came self.old.given self.new.given (R.remaining reader.old.0) (R.remaining reader.new.0) }
-        ensures within { OnOk result (self.old.given ≤ read_limit → self.new.given ≤ read_limit) }
+        ensures reads { ReadsOnward R.remaining ReadCounts self.old.given self.new.given reader.old reader.new result }
         ensures fewer { self.new.number ≤ self.new.given }
-        ensures kept { OnOk result (reader.new.1 ≡ reader.old.1) }
-        ensures counts { IfErr result (λ e. ReadCounts (read_limit < self.new.given) e reader.old.1 reader.new.1) }
     {
         self.start_line();
         for _turn in 0..TURNS {

@@ -3,7 +3,7 @@ ghost use Rattle.std.specs.Prelude.{◌≡◌, ◌<◌, ◌≤◌, ◌+◌, ◌+
 ghost use Rattle.std.specs.Io.KnownBytes.{IsAtEnd};
 ghost use Rattle.table_model.specs.Faults.{read_limit};
 ghost use Rattle.table_model.specs.Table.{AreRows, row_limit};
-ghost use Rattle.csv_rows.specs.Reading.{at_start, at_start_in, to_come, AsKnown, Gave, NothingToCome, Refuses, Came, Counts};
+ghost use Rattle.csv_rows.specs.Reading.{at_start, at_start_in, to_come, AsKnown, Gave, NothingToCome, Refuses, Came, Counts, ReadsOnward};
 ghost use Rattle.csv_rows.specs.CsvText.{header_rows, rows_from};
 ghost use Rattle.csv_rows.specs.Line.{lines_of};
 ghost use Rattle.csv_rows.specs.RowReading.{ReadsOn, RefusesLines, RefusesHeader, NoLines};
@@ -153,10 +153,7 @@ impl CsvReader {
         ensures table { self.new.table ≡ self.old.table }
         ensures dialect { self.new.dialect ≡ self.old.dialect }
         ensures fault { IfErr result (λ e. Refuses self.old e (R.remaining reader.old.0)) }
-        ensures came { Came self.old.given self.new.given (R.remaining reader.old.0) (R.remaining reader.new.0) }
-        ensures within { OnOk result (self.old.given ≤ read_limit → self.new.given ≤ read_limit) }
-        ensures kept { OnOk result (reader.new.1 ≡ reader.old.1) }
-        ensures counts { IfErr result (λ e. Counts (read_limit < self.new.given) e reader.old.1 reader.new.1) }
+        ensures reads { ReadsOnward R.remaining Counts self.old.given self.new.given reader.old reader.new result }
     {
         let plain = self.dialect.plain_order(alloc, self.schema.column_list())?;
         self.lines.skip_mark(reader)?;
@@ -188,10 +185,8 @@ impl CsvReader {
         ensures table { self.new.table ≡ self.old.table }
         ensures dialect { self.new.dialect ≡ self.old.dialect }
         ensures fault { IfErr result (λ e. Refuses self.old e (R.remaining reader.old.0)) }
-        ensures came { Came self.old.given self.new.given (R.remaining reader.old.0) (R.remaining reader.new.0) }
+        ensures reads { ReadsOnward R.remaining Counts self.old.given self.new.given reader.old reader.new result }
         ensures within { OnOk result (self.new.given ≤ read_limit) }
-        ensures kept { OnOk result (reader.new.1 ≡ reader.old.1) }
-        ensures counts { IfErr result (λ e. Counts (read_limit < self.new.given) e reader.old.1 reader.new.1) }
     {
         let Some(order) = &self.order else {
             return Ok(Rows::new(alloc));
@@ -220,10 +215,7 @@ fn read_order<R: Read>(
     ensures number { IfOk result (λ _. lines.new.number ≡ suc lines.old.number) }
     ensures further { lines.old.number ≤ lines.new.number }
     ensures fault { IfErr result (λ e. RefusesHeader dialect.now columns.now lines.old e (R.remaining reader.old.0)) }
-    ensures came { Came lines.old.given lines.new.given (R.remaining reader.old.0) (R.remaining reader.new.0) }
-    ensures within { OnOk result (lines.old.given ≤ read_limit → lines.new.given ≤ read_limit) }
-    ensures kept { OnOk result (reader.new.1 ≡ reader.old.1) }
-    ensures counts { IfErr result (λ e. Counts (read_limit < lines.new.given) e reader.old.1 reader.new.1) }
+    ensures reads { ReadsOnward R.remaining Counts lines.old.given lines.new.given reader.old reader.new result }
 {
     match lines.advance(reader)? {
         Found::Line => order_of_header(alloc, dialect, columns, lines.line()),
@@ -251,10 +243,8 @@ fn read_line<R: Read>(
     ensures end { IfOk result (λ found. IsFalse found → (rows.new ≡ rows.old) × (lines.new.number ≡ lines.old.number) × NoLines dialect.now columns.now order.now lines.new (R.remaining reader.old.0) (R.remaining reader.new.0)) }
     ensures fault { IfErr result (λ e. RefusesLines dialect.now columns.now order.now lines.old e (R.remaining reader.old.0)) }
     ensures bound { OnOk result (lines.new.number ≤ read_limit) }
-    ensures came { Came lines.old.given lines.new.given (R.remaining reader.old.0) (R.remaining reader.new.0) }
+    ensures reads { ReadsOnward R.remaining Counts lines.old.given lines.new.given reader.old reader.new result }
     ensures within { OnOk result (lines.new.given ≤ read_limit) }
-    ensures kept { OnOk result (reader.new.1 ≡ reader.old.1) }
-    ensures counts { IfErr result (λ e. Counts (read_limit < lines.new.given) e reader.old.1 reader.new.1) }
 {
     match lines.advance(reader)? {
         Found::Line => {
@@ -293,10 +283,8 @@ fn read_rows<R: Read>(
     ensures further { IfOk result (λ rows. lines.old.number + length rows ≤ lines.new.number) }
     ensures bound { OnOk result (lines.new.number ≤ read_limit) }
     ensures fault { IfErr result (λ e. RefusesLines dialect.now columns.now order.now lines.old e (R.remaining reader.old.0)) }
-    ensures came { Came lines.old.given lines.new.given (R.remaining reader.old.0) (R.remaining reader.new.0) }
+    ensures reads { ReadsOnward R.remaining Counts lines.old.given lines.new.given reader.old reader.new result }
     ensures within { OnOk result (lines.new.given ≤ read_limit) }
-    ensures kept { OnOk result (reader.new.1 ≡ reader.old.1) }
-    ensures counts { IfErr result (λ e. Counts (read_limit < lines.new.given) e reader.old.1 reader.new.1) }
 {
     let mut rows = Rows::new(alloc);
     let mut cells = Vec::new(alloc);

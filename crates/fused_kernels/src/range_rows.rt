@@ -55,8 +55,7 @@ pub(crate) fn found_between(coded: &Coded, low: i128, high: i128) -> Option<Mask
     ensures dict { (form : DictForm) → coded.now ≡ InDict form → IsSome result }
     ensures form { IsCodedForm coded.now }
 {
-    // `lane_width` ensures that the form keeps its rule.
-    let _ = coded.lane_width();
+    coded.keeps_its_rule();
     if i128::from(i64::MAX) < low || high < i128::from(i64::MIN) {
         return Some(Mask::none());
     }

@@ -44,8 +44,7 @@ impl<'a> VectorLanes<'a> {
         ensures lanes { result ≡ vector_seen vector.now 0 }
         ensures pass { meter.new ≡ raised 1 meter.old }
     {
-        // `rows` ensures that the vector keeps its rule.
-        let _ = vector.rows();
+        vector.keeps_its_rule();
         meter.add_pass();
         VectorLanes {
             vector,

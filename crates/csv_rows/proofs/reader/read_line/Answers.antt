@@ -1,4 +1,4 @@
-use Rattle.std.proofs.Common.{◌+◌, arith, subst}
+use Rattle.std.proofs.Common.{◌+◌, arith, rules, subst}
 use Rattle.std.proofs.lemmas.Result.{err_from_is_err_and}
 use Rattle.csv_rows.specs.declared.lines.Found.{Found}
 use Rattle.csv_rows.specs.LineReading.{Finds}
@@ -6,11 +6,16 @@ use Rattle.csv_rows.proofs.RowFacts.{behind_fits, counts_line}
 use Rattle.csv_rows.proofs.Steps.{line_too_long}
 use Rattle.csv_rows.proofs.reader.read_line.Goals as goal
 
-pub returns-in_err-push_row-in-Line-clause-counts : goal.returns-in_err-push_row-in-Line-clause-counts
-returns-in_err-push_row-in-Line-clause-counts g c =
-    let p = err_from_is_err_and c.from_residual-in_err-push_row-in-Line.result c.from_residual-in_err-push_row-in-Line.ensures.1 in
-    rw (p.1, p.2) (counts_line _ c.args.dialect.now c.args.columns.now c.args.order.now c.number.result c.line.result.now c.in_err-push_row-in-Line.field-0.0 c.args.reader.now.1 c.advance.new.reader.1
-    c.in_err-push_row-in-Line.ensures.rows c.in_ok-advance.ensures.kept)
+pub returns-in_err-push_row-in-Line-clause-reads : goal.returns-in_err-push_row-in-Line-clause-reads
+returns-in_err-push_row-in-Line-clause-reads g c = record {
+  came = c.in_ok-advance.ensures.reads.came;
+  within = search rules;
+  kept = search rules;
+  counts =
+      let p = err_from_is_err_and c.from_residual-in_err-push_row-in-Line.result c.from_residual-in_err-push_row-in-Line.ensures.1 in
+      rw (p.1, p.2) (counts_line _ c.args.dialect.now c.args.columns.now c.args.order.now c.number.result c.line.result.now c.in_err-push_row-in-Line.field-0.0 c.args.reader.now.1 c.advance.new.reader.1
+      c.in_err-push_row-in-Line.ensures.rows c.in_ok-advance.ensures.reads.kept);
+}
 
 pub returns-in_ok-push_row-in-Line-clause-fits : goal.returns-in_ok-push_row-in-Line-clause-fits
 returns-in_ok-push_row-in-Line-clause-fits g c = λ h.

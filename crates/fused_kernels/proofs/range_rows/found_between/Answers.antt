@@ -18,7 +18,7 @@ returns-then-from-low-clause-rows c =
       | then-from-low-via-else-from-low+then-high-from w ↦ λ value fits. let before : int_lt c.args.high (negsuc (2 ^ 63 - 1)) ≡ true = grind (arith, ints, to_z-of_z, w.if-high-from.true, w.from-else-from-low.ensures) in before_least c.args.low c.args.high value before fits
     ] in
     c.none.ensures
-    ∙ rows_of-like (λ _. false) (λ n. between c.args.low c.args.high (value_in c.args.coded.now n)) (λ n h. sym (outside (value_in c.args.coded.now n) (value_in_fits c.args.coded.now n c.lane_width.ensures.form h)))
+    ∙ rows_of-like (λ _. false) (λ n. between c.args.low c.args.high (value_in c.args.coded.now n)) (λ n h. sym (outside (value_in c.args.coded.now n) (value_in_fits c.args.coded.now n c.keeps_its_rule.ensures h)))
 
 pub returns-clause-rows : goal.returns-clause-rows
 returns-clause-rows c =
@@ -30,6 +30,6 @@ returns-clause-rows c =
     c.in_ok-found.ensures.rows
     ∙ rows_of-like (λ n. between first last (value n)) (λ n. between c.args.low c.args.high (value n))
     (λ n h.
-    let fits = value_in_fits c.args.coded.now n c.lane_width.ensures.form h in
+    let fits = value_in_fits c.args.coded.now n c.keeps_its_rule.ensures h in
     ap (λ b. b && int_le (value n) last) (ap (λ x. int_le x (value n)) (to_z-of_z w64 c.first_from.result first_fits) ∙ c.first_from.ensures (value n) fits ∙ ap (λ x. int_le x (value n)) (to_z-of_z w128 c.args.low c.ranges.low))
     ∙ ap (λ b. int_le c.args.low (value n) && b) (ap (λ x. int_le (value n) x) (to_z-of_z w64 c.last_up_to.result last_fits) ∙ c.last_up_to.ensures (value n) fits ∙ ap (λ x. int_le (value n) x) (to_z-of_z w128 c.args.high c.ranges.high)))
