@@ -1,7 +1,7 @@
 //! Writing the canonical file of a table's rows and deletions: each vector in its canonical form, and maximal ranges.
 ghost use Rattle.std.specs.Prelude.{◌≡◌, ◌≤◌, ◌+◌, ◌++◌, List, length, map, IfOk, OnOk};
 ghost use Rattle.std.specs.List.{All};
-ghost use Rattle.table_model.specs.Table.{IsTable};
+ghost use Rattle.table_model.specs.Table.{Table, IsTable};
 ghost use Rattle.segment_core.specs.Format.{Format, Writes, all};
 ghost use Rattle.segment_core.specs.Segment.{canonical_again};
 ghost use Rattle.replica_store.specs.Segments.{IsStored};
@@ -54,20 +54,17 @@ fn chosen<'a>(held: &'a Segment, made: &'a Option<Segment>) -> &'a Segment
     }
 }
 
-/// Writes the canonical batches of a table.
+/// Writes batches in their canonical forms, whichever table they are of.
 fn write_canonical_list<W: Write>(
     writer: &mut Counted<W>,
-    schema: &Schema,
     entries: &[(BatchName, Segment)],
     made: &[Option<Segment>],
 ) -> Result<(), Refusal>
-    requires stored { All (IsStored schema.now) entries.now }
-    requires made { AreChosen entries.now made.now }
-    ensures bytes { Writes result (W.contents writer.old.0) (W.contents writer.new.0) writer.old.1 writer.new.1
-        ((all (length entries.now) (batch schema.now)).spell (map (canonical_as_read schema.now) entries.now)) }
+    requires { AreChosen entries.now made.now }
+    ensures bytes { (table : Table) → All (IsStored table) entries.now
+        → Writes result (W.contents writer.old.0) (W.contents writer.new.0) writer.old.1 writer.new.1 ((all (length entries.now) (batch table)).spell (map (canonical_as_read table) entries.now)) }
     ensures numbered { OnOk result (AreNumbered entries.now) }
 {
-    let _ = schema;
     for index in 0..entries.len() {
         let (name, held) = &entries[index];
         let segment = chosen(held, &made[index]);
@@ -76,28 +73,25 @@ fn write_canonical_list<W: Write>(
     Ok(())
 }
 
-/// Writes how many batches of a table there are, at most 1,048,576, and these in their canonical forms. They come in two parts, each with
-/// the copies that were made of its segments.
+/// Writes how many batches there are, at most 1,048,576, and these in their canonical forms, whichever table they are of. They come in two
+/// parts, each with the copies that were made of its segments.
 fn write_canonical_batches<W: Write>(
     writer: &mut Counted<W>,
-    schema: &Schema,
     first: &[(BatchName, Segment)],
     first_made: &[Option<Segment>],
     second: &[(BatchName, Segment)],
     second_made: &[Option<Segment>],
 ) -> Result<(), Refusal>
     requires limit { length first.now + length second.now ≤ batch_limit }
-    requires first { All (IsStored schema.now) first.now }
     requires first_made { AreChosen first.now first_made.now }
-    requires second { All (IsStored schema.now) second.now }
     requires second_made { AreChosen second.now second_made.now }
-    ensures bytes { Writes result (W.contents writer.old.0) (W.contents writer.new.0) writer.old.1 writer.new.1
-        ((batches schema.now).spell (map (canonical_as_read schema.now) (first.now ++ second.now))) }
+    ensures bytes { (table : Table) → All (IsStored table) first.now → All (IsStored table) second.now
+        → Writes result (W.contents writer.old.0) (W.contents writer.new.0) writer.old.1 writer.new.1 ((batches table).spell (map (canonical_as_read table) (first.now ++ second.now))) }
     ensures numbered { OnOk result (AreNumbered (first.now ++ second.now)) }
 {
     write_number(writer, (first.len() + second.len()) as u64, 4)?;
-    write_canonical_list(writer, schema, first, first_made)?;
-    write_canonical_list(writer, schema, second, second_made)
+    write_canonical_list(writer, first, first_made)?;
+    write_canonical_list(writer, second, second_made)
 }
 
 /// Writes a container of a table's batches, at most 1,048,576 in two parts, in their canonical forms, and ranges of deleted rows.
@@ -121,7 +115,7 @@ fn write_canonical<W: Write>(
     ensures proper { IsTable schema.now }
 {
     write_head(writer, &CONTAINER, schema)?;
-    write_canonical_batches(writer, schema, first, first_made, second, second_made)?;
+    write_canonical_batches(writer, first, first_made, second, second_made)?;
     write_ranges(writer, deleted)
 }
 
@@ -142,8 +136,7 @@ pub fn export<W: Write>(
     // What was written opens to the store's schema and state.
     ensures opens { OnOk result (OpensTo (canonical_file store.now.replica.schema store.now.replica.state) store.now.replica.schema store.now.replica.state) }
 {
-    // `batches` ensures that there are at most 1,048,576, within the limits.
-    let _count = store.batches();
+    store.is_within_limits();
     let (first, second) = store.parts();
     let first_made = canonical_copies(alloc, first)?;
     let second_made = canonical_copies(alloc, second)?;

@@ -76,8 +76,7 @@ fn read_segment<'a>(
 {
     let at = bytes.len().saturating_sub(rest.len());
     let (segment, next) = Segment::read_bytes(alloc, schema, rows, bytes, at)?;
-    // `rows` ensures that the vectors are those of this many rows.
-    let _rows = segment.rows();
+    segment.is_of_its_vectors();
     let (_, after) = bytes.split_at(next.min(bytes.len()));
     Ok((segment, after))
 }

@@ -35,18 +35,15 @@ pub(crate) fn write_batch<W: Write>(
     segment.write_bytes(writer)
 }
 
-/// Writes batches of a table.
+/// Writes batches, whichever table they are of.
 fn write_batch_list<W: Write>(
     writer: &mut Counted<W>,
-    schema: &Schema,
     entries: &[(BatchName, Segment)],
 ) -> Result<(), Refusal>
-    requires { All (IsStored schema.now) entries.now }
-    ensures again { OnOk result (All (HasBatchBytes schema.now) entries.now) }
-    ensures bytes { Writes result (W.contents writer.old.0) (W.contents writer.new.0) writer.old.1 writer.new.1
-        ((all (length entries.now) (batch schema.now)).spell (map entry_of entries.now)) }
+    ensures again { OnOk result ((table : Table) → All (IsStored table) entries.now → All (HasBatchBytes table) entries.now) }
+    ensures bytes { (table : Table) → All (IsStored table) entries.now
+        → Writes result (W.contents writer.old.0) (W.contents writer.new.0) writer.old.1 writer.new.1 ((all (length entries.now) (batch table)).spell (map entry_of entries.now)) }
 {
-    let _ = schema;
     for index in 0..entries.len() {
         let (name, segment) = &entries[index];
         write_batch(writer, *name, segment)?;
@@ -54,19 +51,18 @@ fn write_batch_list<W: Write>(
     Ok(())
 }
 
-/// Writes how many batches of a table there are, at most 1,048,576, and these.
+/// Writes how many batches there are, at most 1,048,576, and these, whichever table they are of.
 fn write_batches<W: Write>(
     writer: &mut Counted<W>,
-    schema: &Schema,
     entries: &[(BatchName, Segment)],
 ) -> Result<(), Refusal>
-    requires limit { length entries.now ≤ batch_limit }
-    requires stored { All (IsStored schema.now) entries.now }
-    ensures again { OnOk result (All (HasBatchBytes schema.now) entries.now) }
-    ensures bytes { Writes result (W.contents writer.old.0) (W.contents writer.new.0) writer.old.1 writer.new.1 ((batches schema.now).spell (map entry_of entries.now)) }
+    requires { length entries.now ≤ batch_limit }
+    ensures again { OnOk result ((table : Table) → All (IsStored table) entries.now → All (HasBatchBytes table) entries.now) }
+    ensures bytes { (table : Table) → All (IsStored table) entries.now
+        → Writes result (W.contents writer.old.0) (W.contents writer.new.0) writer.old.1 writer.new.1 ((batches table).spell (map entry_of entries.now)) }
 {
     write_number(writer, entries.len() as u64, 4)?;
-    write_batch_list(writer, schema, entries)
+    write_batch_list(writer, entries)
 }
 
 /// Writes a range of deleted rows.
@@ -118,6 +114,6 @@ pub(crate) fn write_container<W: Write>(
     ensures proper { IsTable schema.now }
 {
     write_head(writer, &CONTAINER, schema)?;
-    write_batches(writer, schema, entries)?;
+    write_batches(writer, entries)?;
     write_ranges(writer, deleted)
 }

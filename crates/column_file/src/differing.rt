@@ -62,8 +62,7 @@ fn put_first_other(alloc: Global, segment: &mut Segment) -> Result<(), Refusal>
     let Some((column, vector)) = first_other(segment) else {
         return Ok(());
     };
-    // `rows` ensures that the columns are those of a segment.
-    let _rows = segment.rows();
+    segment.is_of_its_vectors();
     let coding = canonical_coding(alloc, segment.vector(column, vector))?;
     segment.recode(alloc, column as u32, vector as u32, coding)
 }

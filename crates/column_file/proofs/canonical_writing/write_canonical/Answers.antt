@@ -18,7 +18,7 @@ pub returns-in_err-write_canonical_batches-clause-bytes : goal.returns-in_err-wr
 returns-in_err-write_canonical_batches-clause-bytes g c =
     let p = err_from_is_err_and c.from_residual-in_err-write_canonical_batches.result c.from_residual-in_err-write_canonical_batches.ensures.1 in
     let h0 = c.in_ok-write_head.ensures.bytes in
-    let e = c.in_err-write_canonical_batches.ensures.bytes in
+    let e = c.in_err-write_canonical_batches.ensures.bytes c.args.schema.now c.requires.first c.requires.second in
     rw (container_spelled c.args.schema.now (map (canonical_as_read c.args.schema.now) (c.args.first.now ++ c.args.second.now)) (map deleted_of c.args.deleted.now))
     (writes_both c.from_residual-in_err-write_canonical_batches.result (g.W.Write.contents c.args.writer.now.0) (g.W.Write.contents c.write_head.new.writer.0) (g.W.Write.contents c.write_canonical_batches.new.writer.0) c.args.writer.now.1 c.write_head.new.writer.1 c.write_canonical_batches.new.writer.1 ((head (codes "FLCF")).spell c.args.schema.now) (((batches c.args.schema.now).spell (map (canonical_as_read c.args.schema.now) (c.args.first.now ++ c.args.second.now))) ++ (ranges.spell (map deleted_of c.args.deleted.now))) h0.0 h0.1
     (writes_front c.from_residual-in_err-write_canonical_batches.result c.in_err-write_canonical_batches.field-0.0 (g.W.Write.contents c.write_head.new.writer.0) (g.W.Write.contents c.write_canonical_batches.new.writer.0) c.write_head.new.writer.1 c.write_canonical_batches.new.writer.1 ((batches c.args.schema.now).spell (map (canonical_as_read c.args.schema.now) (c.args.first.now ++ c.args.second.now))) (ranges.spell (map deleted_of c.args.deleted.now)) (rw (← p.2) p.1) e))
@@ -26,7 +26,7 @@ returns-in_err-write_canonical_batches-clause-bytes g c =
 pub returns-clause-bytes : goal.returns-clause-bytes
 returns-clause-bytes g c =
     let h0 = c.in_ok-write_head.ensures.bytes in
-    let h1 = c.in_ok-write_canonical_batches.ensures.bytes in
+    let h1 = c.in_ok-write_canonical_batches.ensures.bytes c.args.schema.now c.requires.first c.requires.second in
     let l = c.write_ranges.ensures in
     rw (container_spelled c.args.schema.now (map (canonical_as_read c.args.schema.now) (c.args.first.now ++ c.args.second.now)) (map deleted_of c.args.deleted.now))
     (writes_both c.write_ranges.result (g.W.Write.contents c.args.writer.now.0) (g.W.Write.contents c.write_head.new.writer.0) (g.W.Write.contents c.write_ranges.new.writer.0) c.args.writer.now.1 c.write_head.new.writer.1 c.write_ranges.new.writer.1 ((head (codes "FLCF")).spell c.args.schema.now) (((batches c.args.schema.now).spell (map (canonical_as_read c.args.schema.now) (c.args.first.now ++ c.args.second.now))) ++ (ranges.spell (map deleted_of c.args.deleted.now))) h0.0 h0.1
