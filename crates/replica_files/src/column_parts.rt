@@ -1,7 +1,6 @@
 //! How a store's columns lie in vectors: how many have each coding, and how many bytes they take.
 ghost use Rattle.std.specs.Prelude.{◌≡◌, ◌<◌, length, [], ◌∷◌, slice_index_or};
 ghost use Rattle.std.specs.FinMap as map;
-ghost use Rattle.segment_core.specs.CodedVector.{VectorForm};
 ghost use Rattle.replica_files.specs.ColumnFigures.{AreFew, IsAtMost, column_vectors, in_coding, joined, mask_bytes, parts_in};
 
 use replica_store::Store;

@@ -1,5 +1,5 @@
 //! Telling what a file holds: its counts, and a line a column.
-ghost use Rattle.std.specs.Prelude.{◌≡◌, ◌≢◌, ◌⊎◌, ◌++◌, ◌<◌, Some, length, slice_get, IsTrue, IfOk, IfErr, OnOk};
+ghost use Rattle.std.specs.Prelude.{◌≡◌, ◌≢◌, ◌⊎◌, ◌<◌, Some, length, slice_get, IsTrue, IfOk, IfErr, OnOk};
 ghost use Rattle.table_model.specs.Faults.{CountsWrites};
 ghost use Rattle.table_model.specs.State.{named_rows};
 ghost use Rattle.table_model.specs.Table.{ColumnShape};

@@ -1,8 +1,7 @@
 //! How many rows a store has, and how long its file is.
-ghost use Rattle.std.specs.Prelude.{◌≡◌, ◌<◌, length, IfErr};
+ghost use Rattle.std.specs.Prelude.{◌≡◌, IfErr};
 ghost use Rattle.table_model.specs.declared.refusal.Refusal.TheVariants.{Memory};
 ghost use Rattle.replica_store.specs.Replica.{entries_of};
-ghost use Rattle.replica_store.specs.Segments.{IsStored};
 ghost use Rattle.replica_files.specs.Forgetting.{batches_of};
 ghost use Rattle.replica_files.specs.Loads.{row_count};
 
