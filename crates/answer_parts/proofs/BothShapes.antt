@@ -1,18 +1,17 @@
 -- Groups of both parts have the shape that both have.
-use Rattle.std.specs.Prelude.{◌≡◌, [], Option, Some, None}
+use Rattle.std.specs.Prelude.{◌≡◌, [], map as each, Option, Some, None}
 use Rattle.std.proofs.Common.{refl, sym, ap, ◌∙◌}
 use Rattle.std.specs.BTreeMap.{get}
 use Rattle.std.specs.Global.{Vec}
 use Rattle.table_model.specs.Group.{key_cmp}
-use Rattle.table_model.specs.Query.{QueryShape}
 use Rattle.table_model.specs.State.{Cells}
-use Rattle.table_model.specs.Table.{Table}
+use Rattle.query_eval.specs.Finished.{PlanShape}
 use Rattle.answer_parts.specs.Groups.{tallies_at, tallies_of_some}
 use Rattle.answer_parts.specs.Kinds.{AllKeep}
 use Rattle.answer_parts.specs.Kept.{tallies_in}
 use Rattle.answer_parts.specs.Part.{Tallies, either, pluses}
 use Rattle.answer_parts.specs.Refusing.{KeptGroups}
-use Rattle.answer_parts.specs.Shape.{HaveShape, kinds_asked}
+use Rattle.answer_parts.specs.Shape.{FitPlan, measure_kind}
 use Rattle.answer_parts.specs.declared.kept.Kept.{Kept}
 
 gone : (ts : Tallies) → None ≡ Some ts → ⊥
@@ -30,10 +29,12 @@ none_first both None other is at = refl
 none_first both (Some v) None is at = absurd (gone (tallies_in v.items) (sym (ap tallies_of_some at) ∙ is))
 none_first both (Some v) (Some u) is at = absurd (gone (pluses (tallies_in v.items) (tallies_in u.items)) (sym (ap tallies_of_some at) ∙ is))
 
-pub both_shape : (table : Table) (query : QueryShape) (both one other : KeptGroups) → HaveShape table query one → HaveShape table query other
-    → ((k : Cells) → tallies_at both k ≡ either (tallies_at one k) (tallies_at other k)) → AllKeep (kinds_asked table query) both → HaveShape table query both
-both_shape table query both one other first second is keep = record {
-  keys = λ k kept at. by_either _ (get key_cmp both k) (get key_cmp one k) (get key_cmp other k) kept (is k) at (first.keys k) (second.keys k);
-  kinds = keep;
+pub both_shape : (plan : PlanShape) (both one other : KeptGroups) → FitPlan plan one → FitPlan plan other
+    → ((k : Cells) → tallies_at both k ≡ either (tallies_at one k) (tallies_at other k)) → AllKeep (each measure_kind plan.aggregates) both → FitPlan plan both
+both_shape plan both one other first second is keep = record {
+  groups = λ k kept at. (
+    by_either _ (get key_cmp both k) (get key_cmp one k) (get key_cmp other k) kept (is k) at (λ v there. (first.groups k v there).0) (λ v there. (second.groups k v there).0),
+    keep k kept at,
+  );
   whole = λ none gone. first.whole none (none_first (get key_cmp both []) (get key_cmp one []) (get key_cmp other []) (is []) gone);
 }

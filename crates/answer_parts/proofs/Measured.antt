@@ -5,7 +5,6 @@ use Rattle.std.specs.List.{list_any, position_or_len}
 use Rattle.std.proofs.lemmas.Bool.{false≢true, or_right}
 use Rattle.std.proofs.lemmas.List.Folds.{list_any-append}
 use Rattle.table_model.specs.State.{Cells}
-use Rattle.table_model.specs.declared.answer.Field.{Field}
 use Rattle.table_model.specs.declared.query.Fold.TheVariants.{Count, Sum, Avg, Min, Max}
 use Rattle.query_eval.specs.Aggregate.{aggregate_value, same_aggregate}
 use Rattle.query_eval.specs.declared.tallies.aggregate.Aggregate.{Aggregate}

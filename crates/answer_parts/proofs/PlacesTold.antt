@@ -1,5 +1,5 @@
 -- One group more moves from the index to the groups that are made.
-use Rattle.std.proofs.Common.{◌≡◌, ℕ, Bool, true, false, cond, List, Option, Some, None, refl, sym, ap, ◌∙◌}
+use Rattle.std.proofs.Common.{◌≡◌, ℕ, Bool, true, false, cond, List, Option, Some, None, refl, sym, ◌∙◌}
 use Rattle.std.specs.Global.{Vec}
 use Rattle.query_eval.specs.declared.tallies.tally.Tally.{Tally as Running}
 use Rattle.answer_parts.specs.Part.{Tallies}

@@ -1,16 +1,29 @@
 -- Why what two parts keep of a group is not added.
-use Rattle.std.proofs.Common.{◌≡◌, ℕ, zero, suc, ◌<◌, List, [], ◌∷◌, map, length, get_or, Some, subst, refl, sym, ap, ◌∙◌, arith}
+use Rattle.std.proofs.Common.{◌≡◌, ℕ, zero, suc, ◌<◌, List, [], ◌∷◌, map, length, get_or, Some, subst, sym, ap, ◌∙◌, arith}
 use Rattle.std.proofs.lemmas.List.{length-map}
 use Rattle.std.specs.BTreeMap.{get}
 use Rattle.std.specs.Global.{Vec}
 use Rattle.table_model.specs.Group.{key_cmp}
 use Rattle.table_model.specs.State.{Cells}
-use Rattle.answer_parts.specs.Refusing.{AllFit, AreAlike, Fits, KeptGroups, RefusesGroup, RefusesGroups, RefusesKept, RefusesTaking, kept_kind}
+use Rattle.table_model.specs.declared.refusal.Refusal.{Refusal}
+use Rattle.answer_parts.specs.Refusing.{AllFit, AreAlike, Fits, GroupsFit, KeepAlike, KeptGroups, RefusesBy, RefusesGroup, RefusesGroups, RefusesKept, RefusesTaking, RefusesUnless, kept_kind}
 use Rattle.answer_parts.specs.Kept.{tally_in, tallies_in}
 use Rattle.answer_parts.specs.Part.{plus, pluses}
 use Rattle.answer_parts.specs.declared.fault.PartFault.{PartFault}
 use Rattle.answer_parts.specs.declared.fault.PartFault.TheVariants.{Memory, SchemaDiffers, QueryDiffers, NotApart, TooMany, Query}
 use Rattle.answer_parts.specs.declared.kept.Kept.{Kept}
+
+-- what refuses a part of a thing refuses the thing
+pub refuses_by : (M N : Refusal → Type 0) (A B C D : Type 0) (e : PartFault) → ((refusal : Refusal) → M refusal → N refusal) → (C → A) → (D → B) → RefusesBy M A B e → RefusesBy N C D e
+refuses_by M N A B C D Memory r f g why = tt
+refuses_by M N A B C D (Query refusal) r f g why = r refusal why
+refuses_by M N A B C D QueryDiffers r f g why = λ c. why (f c)
+refuses_by M N A B C D TooMany r f g why = λ d. why (g d)
+refuses_by M N A B C D SchemaDiffers r f g why = why
+refuses_by M N A B C D (NotApart name) r f g why = why
+
+pub refuses_more : (A B C D : Type 0) (e : PartFault) → (C → A) → (D → B) → RefusesUnless A B e → RefusesUnless C D e
+refuses_more A B C D e f g why = refuses_by (λ refusal. ⊥) (λ refusal. ⊥) A B C D e (λ refusal no. no) f g why
 
 -- if all of both fit, each does
 fits_at : (xs ys : List Kept) (i : ℕ) (d e : Kept) → i < length xs → i < length ys → AllFit (pluses (tallies_in xs) (tallies_in ys)) → Fits (plus (tally_in (get_or xs i d)) (tally_in (get_or ys i e)))
@@ -37,27 +50,19 @@ longer_differs xs ys h alike = h (sym (length-map xs kept_kind) ∙ ap length al
 
 -- what refuses one of two groups refuses them
 pub refuses_at : (e : PartFault) (xs ys : List Kept) (i : ℕ) (a b : Kept) → i < length xs → i < length ys → RefusesKept e (get_or xs i a) (get_or ys i b) → RefusesGroup e xs ys
-refuses_at Memory xs ys i a b h k why = tt
-refuses_at QueryDiffers xs ys i a b h k why = λ alike. why (alike_at xs ys i a b h k alike)
-refuses_at TooMany xs ys i a b h k why = λ all. why (fits_at xs ys i a b h k all)
-refuses_at SchemaDiffers xs ys i a b h k why = why
-refuses_at (NotApart name) xs ys i a b h k why = why
-refuses_at (Query refusal) xs ys i a b h k why = why
+refuses_at e xs ys i a b h k why =
+    let x : Kept = get_or xs i a in
+    let y : Kept = get_or ys i b in
+    refuses_more (kept_kind x ≡ kept_kind y) (Fits (plus (tally_in x) (tally_in y))) (AreAlike xs ys) (AllFit (pluses (tallies_in xs) (tallies_in ys))) e (alike_at xs ys i a b h k) (fits_at xs ys i a b h k) why
 
 -- what refuses a group's tallies refuses to take it
 pub refuses_taking : (e : PartFault) (m : KeptGroups) (key : Cells) (mine kept : List Kept) (v : Vec Kept) → get key_cmp m key ≡ Some v → v.items ≡ mine → RefusesGroup e mine kept → RefusesTaking e m key kept
-refuses_taking Memory m key mine kept v at is why = tt
-refuses_taking QueryDiffers m key mine kept v at is why = λ all. why (subst (λ (l : List Kept). AreAlike l kept) is (all v at))
-refuses_taking TooMany m key mine kept v at is why = λ all. why (subst (λ (l : List Kept). AllFit (pluses (tallies_in l) (tallies_in kept))) is (all v at))
-refuses_taking SchemaDiffers m key mine kept v at is why = why
-refuses_taking (NotApart name) m key mine kept v at is why = why
-refuses_taking (Query refusal) m key mine kept v at is why = why
+refuses_taking e m key mine kept v at is why =
+    refuses_more (AreAlike mine kept) (AllFit (pluses (tallies_in mine) (tallies_in kept))) ((w : Vec Kept) → get key_cmp m key ≡ Some w → AreAlike w.items kept) ((w : Vec Kept) → get key_cmp m key ≡ Some w → AllFit (pluses (tallies_in w.items) (tallies_in kept))) e
+    (λ all. subst (λ (l : List Kept). AreAlike l kept) is (all v at)) (λ all. subst (λ (l : List Kept). AllFit (pluses (tallies_in l) (tallies_in kept))) is (all v at)) why
 
 -- and with the groups as they were, the groups
 pub refuses_all : (e : PartFault) (all one other : KeptGroups) (key : Cells) (kept : Vec Kept) → get key_cmp all key ≡ get key_cmp one key → get key_cmp other key ≡ Some kept → RefusesTaking e all key kept.items → RefusesGroups e one other
-refuses_all Memory all one other key kept same at why = tt
-refuses_all QueryDiffers all one other key kept same at why = λ h. why (λ mine is. h key mine kept (sym same ∙ is) at)
-refuses_all TooMany all one other key kept same at why = λ h. why (λ mine is. h key mine kept (sym same ∙ is) at)
-refuses_all SchemaDiffers all one other key kept same at why = why
-refuses_all (NotApart name) all one other key kept same at why = why
-refuses_all (Query refusal) all one other key kept same at why = why
+refuses_all e all one other key kept same at why =
+    refuses_more ((w : Vec Kept) → get key_cmp all key ≡ Some w → AreAlike w.items kept.items) ((w : Vec Kept) → get key_cmp all key ≡ Some w → AllFit (pluses (tallies_in w.items) (tallies_in kept.items))) (KeepAlike one other) (GroupsFit one other) e
+    (λ h mine is. h key mine kept (sym same ∙ is) at) (λ h mine is. h key mine kept (sym same ∙ is) at) why

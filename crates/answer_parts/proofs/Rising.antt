@@ -1,6 +1,6 @@
 -- Lists of values that rise: one more at the end, and two one after another.
 use Rattle.std.proofs.Common.{◌≡◌, ℕ, zero, suc, ◌+◌, ◌<◌, ◌≤◌, ◌<ℤ◌, ◌&&◌, ltb, append-nil, subst, false, true, List, [], ◌∷◌, ◌++◌, length, get_or, drop, ℤ, pos, refl, sym, ap, ◌∙◌, arith}
-use Rattle.std.specs.Cmp.{IsTotalOrder, int_cmp_is}
+use Rattle.std.specs.Cmp.{int_cmp_is}
 use Rattle.std.specs.List.{AllByRecursion, IsDistinct}
 use Rattle.std.specs.List.Sorted.{IsStrictlySortedBy, IsSorted}
 use Rattle.std.specs.Ordering.{int_cmp, int_eq, is_eq, is_lt, ordering_reverse}

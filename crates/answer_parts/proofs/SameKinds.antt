@@ -1,16 +1,14 @@
 -- What two parts keep of the same kind, added.
-use Rattle.std.proofs.Common.{◌≡◌, ℕ, ◌+◌, ◌<◌, ◌^◌, List, Option, None, ℤ, pos, ◌+ℤ◌, FitsSigned, refl, sym, ap, ◌∙◌, arith}
-use Rattle.std.specs.FinMap as map
+use Rattle.std.proofs.Common.{◌≡◌, ℕ, ◌+◌, ◌<◌, ◌^◌, List, Option, None, ℤ, pos, ◌+ℤ◌, FitsSigned, refl, ap, ◌∙◌, arith}
 use Rattle.std.specs.Int.{w128}
 use Rattle.table_model.specs.Values.{lesser, greater}
 use Rattle.answer_parts.specs.Kept.{HasValuesOf, tally_in}
-use Rattle.answer_parts.specs.Part.{Seen, Tally, plus, set_of}
+use Rattle.answer_parts.specs.Part.{Seen, plus, set_of}
 use Rattle.answer_parts.specs.Refusing.{Fits, kept_kind}
 use Rattle.answer_parts.specs.declared.kept.Kept.{Kept}
 use Rattle.answer_parts.specs.declared.kept.Kept.TheVariants.{Count, Sum, Least, Greatest, Distinct}
 use Rattle.answer_parts.specs.declared.kept.Sums.{Sums}
 use Rattle.answer_parts.proofs.ByKind.{count_both, lowest_both, highest_both, seen_both}
-use Rattle.answer_parts.proofs.Tallies.{tally_is, union-empty, set_of-both}
 
 -- a count and another count
 pub count_is : (m n : ℕ) (other : Kept) → kept_kind other ≡ 0 → n ≡ m + (tally_in other).count → tally_in (Count n) ≡ plus (tally_in (Count m)) (tally_in other)

@@ -3,10 +3,9 @@ use Rattle.std.proofs.Common.{◌≡◌, ℕ, zero, suc, ◌+◌, ◌≤◌, len
 use Rattle.std.specs.FinSet as set
 use Rattle.std.specs.List.{filter, list_any, AllByRecursion}
 use Rattle.std.specs.List.Sorted.{IsStrictlySortedBy}
-use Rattle.std.specs.Ordering.{eq_by_cmp, is_eq, ordering_reverse}
+use Rattle.std.specs.Ordering.{eq_by_cmp, is_eq}
 use Rattle.std.specs.Cmp.{Equal-is, tied_itself}
-use Rattle.std.specs.declared.cmp.Ordering.{Ordering}
-use Rattle.std.specs.declared.cmp.Ordering.TheVariants.{Less, Equal, Greater}
+use Rattle.std.specs.declared.cmp.Ordering.TheVariants.{Less}
 use Rattle.std.proofs.lemmas.Bool.{false≢true, or_right}
 use Rattle.std.proofs.lemmas.List.Elements.{filter-append}
 use Rattle.table_model.specs.Name.{name_cmp}
@@ -16,7 +15,7 @@ use Rattle.table_model.proofs.NameOrder.{names_total, exact_names}
 use Rattle.catalogue_join.specs.Held.{IsListOf}
 use Rattle.catalogue_join.specs.Run.{name_at, names_from, names_of, names_listed}
 use Rattle.catalogue_join.specs.declared.run.Run.{Run}
-use Rattle.answer_parts.specs.Between.{first_of, IsFirstShared, IsLeastShared, ShareNone}
+use Rattle.answer_parts.specs.Between.{first_of, IsFirstShared}
 use Rattle.answer_parts.specs.Counted.{Names}
 
 -- ---- the first of a filtered list

@@ -20,9 +20,8 @@ use Rattle.table_model.specs.Table.{Table}
 use Rattle.query_eval.specs.Finished.{GroupFields, PlanShape, groups_kept, plan_of, seen_items}
 use Rattle.query_eval.specs.declared.tallies.aggregate.Aggregate.{Aggregate}
 use Rattle.answer_parts.specs.Groups.{part_in, shown_entry, shown_entries}
-use Rattle.answer_parts.specs.Kept.{tallies_in}
 use Rattle.answer_parts.specs.Measures.{measures_of}
-use Rattle.answer_parts.specs.Part.{Tallies, finish, shown}
+use Rattle.answer_parts.specs.Part.{finish, shown}
 use Rattle.answer_parts.specs.declared.kept.Kept.{Kept}
 use Rattle.answer_parts.proofs.Combined.{same_parts}
 use Rattle.answer_parts.proofs.PartIn.{as_tallies}

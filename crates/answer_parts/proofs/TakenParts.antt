@@ -1,14 +1,13 @@
 -- What was taken in, put at its keys, is the part of the rows.
-use Rattle.std.specs.Prelude.{◌≡◌, ℕ, ◌≤◌, ◌<◌, Bool, true, false, cond, List, [], ◌∷◌, map as each, length, is_some, Option, Some, None}
+use Rattle.std.specs.Prelude.{◌≡◌, ℕ, ◌≤◌, true, false, cond, List, [], ◌∷◌, map as each, length, is_some, Option, Some, None}
 use Rattle.std.proofs.Common.{refl, sym, ap, subst, ◌∙◌, arith}
 use Rattle.std.specs.BTreeMap.{BTreeMap, get}
 use Rattle.std.specs.Global.{Vec}
-use Rattle.std.specs.List.{list_any}
 use Rattle.std.specs.Ordering.{eq_by_cmp, is_eq, ordering_reverse}
 use Rattle.std.specs.declared.cmp.Ordering.{Ordering}
 use Rattle.std.specs.declared.cmp.Ordering.TheVariants.{Less, Equal, Greater}
 use Rattle.table_model.specs.Group.{key_cmp, key_of, rows_with}
-use Rattle.table_model.specs.State.{Cells, same_cells}
+use Rattle.table_model.specs.State.{Cells}
 use Rattle.table_model.specs.Table.{Table}
 use Rattle.table_model.proofs.Keys.{key_total}
 use Rattle.query_eval.specs.Finished.{PlanShape}
@@ -19,7 +18,7 @@ use Rattle.query_eval.specs.declared.tallies.groups.Groups.{Groups}
 use Rattle.query_eval.specs.declared.tallies.aggregate.Aggregate.{Aggregate}
 use Rattle.query_eval.specs.declared.tallies.tally.Tally.{Tally as Running}
 use Rattle.query_eval.proofs.OrderLemmas.{few_with}
-use Rattle.answer_parts.specs.Part.{Tallies, part_over, tallies_of}
+use Rattle.answer_parts.specs.Part.{part_over, tallies_of}
 use Rattle.answer_parts.specs.Evaluated.{told, told_at, told_places, AreWithin}
 use Rattle.answer_parts.specs.Groups.{part_in, tallies_at}
 use Rattle.answer_parts.specs.declared.kept.Kept.{Kept}

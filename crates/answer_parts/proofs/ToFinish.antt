@@ -9,9 +9,10 @@ use Rattle.std.specs.Map.{lookup}
 use Rattle.std.specs.Ordering.{eq_by_cmp, int_cmp}
 use Rattle.std.specs.String.{string_bytes}
 use Rattle.std.proofs.lemmas.Int.{ints}
-use Rattle.std.proofs.lemmas.List.{nil_from_length}
+use Rattle.std.proofs.lemmas.List.{length-map, nil_from_length}
 use Rattle.std.proofs.lemmas.Map.Entries.{btree_map_get_place}
 use Rattle.table_model.specs.Group.{IsWithin, key_cmp}
+use Rattle.table_model.specs.Meaning.{grouping_of, place_of}
 use Rattle.table_model.specs.Query.{QueryShape}
 use Rattle.table_model.specs.Reading.{◌>>=◌}
 use Rattle.table_model.specs.State.{Cells}
@@ -30,14 +31,15 @@ use Rattle.query_eval.specs.declared.tallies.aggregate.Aggregate.{Aggregate}
 use Rattle.answer_parts.specs.Kept.{tally_in}
 use Rattle.answer_parts.specs.Measures.{measures_of}
 use Rattle.answer_parts.specs.Part.{Seen, set_of}
-use Rattle.answer_parts.specs.Refusing.{KeptGroups}
-use Rattle.answer_parts.specs.Shape.{AreOfShape, IsOfShape, measure_kind, CanFinish, HaveShape, IsShaped, AllCanFinish, RefusesFinishing, RefusesShown, RefusesText}
+use Rattle.answer_parts.specs.Refusing.{KeptGroups, RefusesUnless}
+use Rattle.answer_parts.specs.Shape.{AreOfShape, IsOfShape, measure_kind, CanFinish, HaveShape, IsShaped, AllCanFinish, IsNoQueryOf, RefusesFinishing, RefusesText}
 use Rattle.answer_parts.specs.declared.fault.PartFault.{PartFault}
-use Rattle.answer_parts.specs.declared.fault.PartFault.TheVariants.{Memory, SchemaDiffers, QueryDiffers, NotApart, TooMany, Query}
+use Rattle.answer_parts.specs.declared.fault.PartFault.TheVariants.{Memory, TooMany, Query}
 use Rattle.answer_parts.specs.declared.kept.Kept.{Kept}
 use Rattle.answer_parts.specs.declared.kept.Kept.TheVariants.{Count, Sum, Least, Greatest, Distinct}
 use Rattle.answer_parts.specs.declared.part.Part.{Part as CodePart}
 use Rattle.answer_parts.proofs.Combined.{one_key}
+use Rattle.answer_parts.proofs.Refusing.{refuses_by}
 use Rattle.answer_parts.proofs.RisingSets.{fold-rising}
 use Rattle.answer_parts.proofs.Tallies.{fold-set_of, set_of-none}
 
@@ -77,17 +79,8 @@ few_values (Greatest o) xs up seen can = no_values xs up seen
 few_values (Distinct values) xs up seen can = omega (arith, few-rising xs values up seen, can)
 
 -- ---- groups
--- what refuses a part of a thing refuses the thing
-pub refuses_more : (A B C D : Type 0) (e : PartFault) → (C → A) → (D → B) → RefusesShown A B e → RefusesShown C D e
-refuses_more A B C D Memory f g why = tt
-refuses_more A B C D QueryDiffers f g why = λ c. why (f c)
-refuses_more A B C D TooMany f g why = λ d. why (g d)
-refuses_more A B C D SchemaDiffers f g why = why
-refuses_more A B C D (NotApart name) f g why = why
-refuses_more A B C D (Query refusal) f g why = why
-
-pub only_too_many : (A B C : Type 0) (e : PartFault) → (e ≡ TooMany) × (A → ⊥) → (C → A) → RefusesShown B C e
-only_too_many A B C e why f = subst (λ (x : PartFault). RefusesShown B C x) (sym why.0) (λ c. why.1 (f c))
+pub only_too_many : (A B C : Type 0) (e : PartFault) → (e ≡ TooMany) × (A → ⊥) → (C → A) → RefusesUnless B C e
+only_too_many A B C e why f = subst (λ (x : PartFault). RefusesUnless B C x) (sym why.0) (λ c. why.1 (f c))
 
 first_there : (es : List (Cells × Vec Kept)) → (length es ≡ 0 → ⊥) → (e : Cells × Vec Kept) × (slice_get es 0 ≡ Some e)
 first_there [] some = absurd (some refl)
@@ -129,23 +122,25 @@ taken_more columns measures key kept old now k v is at shaped (inr there) =
 
 -- no group, where the query has one of no keys
 pub no_group : (table : Table) (query : QueryShape) (m : KeptGroups) → length query.grouping ≡ 0 → length m.entries ≡ 0 → HaveShape table query m → ⊥
-no_group table query m none empty have = have.whole (nil_from_length query.grouping none) (nothing_at m [] (nil_from_length m.entries empty))
+no_group table query m none empty have = have.whole (ap (map (λ column. place_of table.columns column.name)) (nil_from_length query.grouping none)) (nothing_at m [] (nil_from_length m.entries empty))
 
 -- the columns and measures of a query
 module _ (table : Table) (query : QueryShape) (plan : PlanShape) (asked measures : List Aggregate) (columns : ℕ) (m : KeptGroups) (planned : plan ≡ plan_of table.columns query) (all : asked ≡ plan.aggregates) (measured : measures ≡ measures_of asked) (grouped : columns ≡ length query.grouping) where
   measures_are : measures ≡ measures_of (plan_of table.columns query).aggregates
   measures_are = measured ∙ ap measures_of (all ∙ ap (λ (p : PlanShape). p.aggregates) planned)
 
+  placed : length (grouping_of table.columns query) ≡ length query.grouping
+  placed = length-map query.grouping (λ column. place_of table.columns column.name)
+
   -- the groups that a query asks for are of its shape
   pub as_shaped : HaveShape table query m → AreOfShape columns measures m
-  as_shaped have k kept at = (have.keys k kept at ∙ sym grouped, have.kinds k kept at ∙ sym (ap (map measure_kind) measures_are))
+  as_shaped have k kept at = ((have.groups k kept at).0 ∙ placed ∙ sym grouped, (have.groups k kept at).1 ∙ sym (ap (map measure_kind) measures_are))
 
   -- and groups of its shape are those that it asks for
   pub have_shape : IsOrdered key_cmp m → (columns ≡ 0 → length m.entries ≡ 0 → ⊥) → AreOfShape columns measures m → HaveShape table query m
   have_shape up some shaped = record {
-    keys = λ k kept at. (shaped k kept at).0 ∙ grouped;
-    kinds = λ k kept at. (shaped k kept at).1 ∙ ap (map measure_kind) measures_are;
-    whole = λ none. let zero_columns : columns ≡ 0 = grouped ∙ ap length none in
+    groups = λ k kept at. ((shaped k kept at).0 ∙ grouped ∙ sym placed, (shaped k kept at).1 ∙ ap (map measure_kind) measures_are);
+    whole = λ none. let zero_columns : columns ≡ 0 = grouped ∙ sym placed ∙ ap length none in
         whole_there measures m up (some zero_columns) (subst (λ (n : ℕ). AreOfShape n measures m) zero_columns shaped);
   }
 
@@ -159,20 +154,13 @@ pub names_refuse : (e : Refusal) (table : Table) (text : List ℕ) (query : Quer
 names_refuse e table text query read is = ap (λ (q : Result QueryShape Refusal). q >>= λ query. resolved table query) read ∙ is
 
 pub text_refuses_part : (e : PartFault) (p : CodePart) → RefusesText p.schema (string_bytes p.text) e → RefusesFinishing e p
-text_refuses_part Memory p why = tt
-text_refuses_part (Query refusal) p why = why
-text_refuses_part SchemaDiffers p why = why
-text_refuses_part QueryDiffers p why = absurd why
-text_refuses_part (NotApart name) p why = why
-text_refuses_part TooMany p why = absurd why
+text_refuses_part e p why =
+    let no : Refusal → Type 0 = IsNoQueryOf p.schema (string_bytes p.text) in
+    refuses_by no no (Unit {0}) (Unit {0}) (IsShaped p) (AllCanFinish p.groups) e (λ refusal is. is) (λ shaped. tt) (λ small. tt) why
 
-pub groups_refuse_part : (e : PartFault) (p : CodePart) (query : QueryShape) → query_of (string_bytes p.text) ≡ Ok query → RefusesShown (HaveShape p.schema query p.groups) (AllCanFinish p.groups) e → RefusesFinishing e p
-groups_refuse_part Memory p query is why = tt
-groups_refuse_part (Query refusal) p query is why = absurd why
-groups_refuse_part SchemaDiffers p query is why = why
-groups_refuse_part QueryDiffers p query is why = λ shaped. why (shaped query is)
-groups_refuse_part (NotApart name) p query is why = why
-groups_refuse_part TooMany p query is why = why
+pub groups_refuse_part : (e : PartFault) (p : CodePart) (query : QueryShape) → query_of (string_bytes p.text) ≡ Ok query → RefusesUnless (HaveShape p.schema query p.groups) (AllCanFinish p.groups) e → RefusesFinishing e p
+groups_refuse_part e p query is why =
+    refuses_by (λ refusal. ⊥) (IsNoQueryOf p.schema (string_bytes p.text)) (HaveShape p.schema query p.groups) (AllCanFinish p.groups) (IsShaped p) (AllCanFinish p.groups) e (λ refusal no. absurd no) (λ shaped. shaped query is) (λ small. small) why
 
 one_query : (q r : QueryShape) → ◌≡◌ {A = Result QueryShape Refusal} (Ok q) (Ok r) → q ≡ r
 one_query q r e = cc

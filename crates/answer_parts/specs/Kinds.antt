@@ -1,12 +1,10 @@
 -- What kinds of set functions groups keep.
-use Rattle.std.specs.Prelude.{◌≡◌, ℕ, List, [], length, slice_index_or, map as each, Some, None}
+use Rattle.std.specs.Prelude.{◌≡◌, ℕ, List, slice_index_or, map as each, Some}
 use Rattle.std.specs.BTreeMap.{BTreeMap, get}
 use Rattle.std.specs.Global.{Vec}
 use Rattle.table_model.specs.Group.{key_cmp}
 use Rattle.table_model.specs.State.{Cells}
-use Rattle.query_eval.specs.Finished.{PlanShape}
 use Rattle.query_eval.specs.Tally.{kind_of}
-use Rattle.query_eval.specs.TallyKinds.{aggregate_kind}
 use Rattle.query_eval.specs.declared.tallies.tally.Tally.{Tally as Running}
 use Rattle.answer_parts.specs.Refusing.{KeptGroups, kept_kind}
 use Rattle.answer_parts.specs.Shape.{kind_number}
@@ -27,13 +25,3 @@ AreOfKinds kinds index columns = (key : Cells) (place : ℕ) (t : Running) → g
 -- these kinds are kept of each group
 abbrev pub AllKeep : List ℕ → KeptGroups → Type 0
 AllKeep kinds m = (k : Cells) (kept : Vec Kept) → get key_cmp m k ≡ Some kept → each kept_kind kept.items ≡ kinds
-
--- the kinds of a plan's set functions
-abbrev pub plan_kinds : PlanShape → List ℕ
-plan_kinds plan = each (λ a. kind_number (aggregate_kind a)) plan.aggregates
-
--- groups are of a plan: each has a cell for each grouping column, and keeps what the plan's set functions keep; without grouping columns there is a group
-pub record FitPlan (plan : PlanShape) (m : KeptGroups) : Type 0 where
-  pub keys : (k : Cells) (kept : Vec Kept) → get key_cmp m k ≡ Some kept → length k ≡ length plan.grouping
-  pub kinds : AllKeep (plan_kinds plan) m
-  pub whole : plan.grouping ≡ [] → get key_cmp m [] ≡ None → ⊥

@@ -1,5 +1,5 @@
 -- What is kept once for all set functions that need the same of a column: the measures of a query.
-use Rattle.std.specs.Prelude.{Bool, true, false, cond, List, [], ◌∷◌, ◌++◌, map as each, fold}
+use Rattle.std.specs.Prelude.{true, false, cond, List, [], ◌∷◌, ◌++◌, map as each, fold}
 use Rattle.std.specs.List.{list_any}
 use Rattle.table_model.specs.declared.query.Fold.TheVariants.{Count, Sum, Avg, Min, Max}
 use Rattle.query_eval.specs.Aggregate.{same_aggregate}

@@ -5,6 +5,7 @@ use Rattle.std.specs.BTreeMap.{BTreeMap, get}
 use Rattle.std.specs.Global.{Vec}
 use Rattle.table_model.specs.Group.{key_cmp}
 use Rattle.table_model.specs.State.{Cells}
+use Rattle.table_model.specs.declared.refusal.Refusal.{Refusal}
 use Rattle.answer_parts.specs.Part.{Tally, Tallies, plus, pluses}
 use Rattle.answer_parts.specs.Kept.{tally_in, tallies_in}
 use Rattle.answer_parts.specs.declared.fault.PartFault.{PartFault}
@@ -20,6 +21,20 @@ kept_kind (Least o) = 2
 kept_kind (Greatest o) = 3
 kept_kind (Distinct values) = 4
 
+-- Why parts are not combined or finished: memory ran out; or a text is no query, and the first tells what it is refused as; or things
+-- differ that the second says are alike; or something is too large, of which the third says that it is small.
+abbrev pub RefusesBy : (Refusal → Type 0) → Type 0 → Type 0 → PartFault → Type 0
+RefusesBy IsNoQuery Alike Small Memory = Unit {0}
+RefusesBy IsNoQuery Alike Small (Query refusal) = IsNoQuery refusal
+RefusesBy IsNoQuery Alike Small QueryDiffers = Alike → ⊥
+RefusesBy IsNoQuery Alike Small TooMany = Small → ⊥
+RefusesBy IsNoQuery Alike Small SchemaDiffers = ⊥
+RefusesBy IsNoQuery Alike Small (NotApart name) = ⊥
+
+-- the same where there is no text
+abbrev pub RefusesUnless : Type 0 → Type 0 → PartFault → Type 0
+RefusesUnless Alike Small fault = RefusesBy (λ refusal. ⊥) Alike Small fault
+
 -- a count of 64 bits, and a sum of 128
 abbrev pub Fits : Tally → Type 0
 Fits t = (t.count < 2 ^ 64) × FitsSigned w128 t.sum
@@ -31,12 +46,7 @@ AllFit (t ∷ ts) = Fits t × AllFit ts
 
 -- why what two parts keep for a measure is not added
 abbrev pub RefusesKept : PartFault → Kept → Kept → Type 0
-RefusesKept Memory a b = Unit {0}
-RefusesKept QueryDiffers a b = kept_kind a ≡ kept_kind b → ⊥
-RefusesKept TooMany a b = Fits (plus (tally_in a) (tally_in b)) → ⊥
-RefusesKept SchemaDiffers a b = ⊥
-RefusesKept (NotApart name) a b = ⊥
-RefusesKept (Query refusal) a b = ⊥
+RefusesKept fault a b = RefusesUnless (kept_kind a ≡ kept_kind b) (Fits (plus (tally_in a) (tally_in b))) fault
 
 -- the same is kept in both
 abbrev pub AreAlike : List Kept → List Kept → Type 0
@@ -44,12 +54,7 @@ AreAlike xs ys = each kept_kind xs ≡ each kept_kind ys
 
 -- why what two parts keep of a group is not added
 abbrev pub RefusesGroup : PartFault → List Kept → List Kept → Type 0
-RefusesGroup Memory xs ys = Unit {0}
-RefusesGroup QueryDiffers xs ys = AreAlike xs ys → ⊥
-RefusesGroup TooMany xs ys = AllFit (pluses (tallies_in xs) (tallies_in ys)) → ⊥
-RefusesGroup SchemaDiffers xs ys = ⊥
-RefusesGroup (NotApart name) xs ys = ⊥
-RefusesGroup (Query refusal) xs ys = ⊥
+RefusesGroup fault xs ys = RefusesUnless (AreAlike xs ys) (AllFit (pluses (tallies_in xs) (tallies_in ys))) fault
 
 -- the groups of the code: what is kept of each, by its keys
 abbrev pub KeptGroups : Type 0
@@ -65,18 +70,8 @@ GroupsFit m n = (k : Cells) (xs ys : Vec Kept) → get key_cmp m k ≡ Some xs �
 
 -- why a group is not taken into others
 abbrev pub RefusesTaking : PartFault → KeptGroups → Cells → List Kept → Type 0
-RefusesTaking Memory m key kept = Unit {0}
-RefusesTaking QueryDiffers m key kept = ((mine : Vec Kept) → get key_cmp m key ≡ Some mine → AreAlike mine.items kept) → ⊥
-RefusesTaking TooMany m key kept = ((mine : Vec Kept) → get key_cmp m key ≡ Some mine → AllFit (pluses (tallies_in mine.items) (tallies_in kept))) → ⊥
-RefusesTaking SchemaDiffers m key kept = ⊥
-RefusesTaking (NotApart name) m key kept = ⊥
-RefusesTaking (Query refusal) m key kept = ⊥
+RefusesTaking fault m key kept = RefusesUnless ((mine : Vec Kept) → get key_cmp m key ≡ Some mine → AreAlike mine.items kept) ((mine : Vec Kept) → get key_cmp m key ≡ Some mine → AllFit (pluses (tallies_in mine.items) (tallies_in kept))) fault
 
 -- why the groups of two parts are not combined
 abbrev pub RefusesGroups : PartFault → KeptGroups → KeptGroups → Type 0
-RefusesGroups Memory m n = Unit {0}
-RefusesGroups QueryDiffers m n = KeepAlike m n → ⊥
-RefusesGroups TooMany m n = GroupsFit m n → ⊥
-RefusesGroups SchemaDiffers m n = ⊥
-RefusesGroups (NotApart name) m n = ⊥
-RefusesGroups (Query refusal) m n = ⊥
+RefusesGroups fault m n = RefusesUnless (KeepAlike m n) (GroupsFit m n) fault

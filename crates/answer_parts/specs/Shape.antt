@@ -8,18 +8,18 @@ use Rattle.table_model.specs.Query.{QueryShape}
 use Rattle.table_model.specs.Reading.{◌>>=◌}
 use Rattle.table_model.specs.State.{Cells}
 use Rattle.table_model.specs.Table.{Table}
+use Rattle.table_model.specs.declared.refusal.Refusal.{Refusal}
 use Rattle.query_parser.specs.Descent.{query_of}
 use Rattle.query_parser.specs.Resolve.{resolved}
-use Rattle.query_eval.specs.Finished.{plan_of}
+use Rattle.query_eval.specs.Finished.{PlanShape, plan_of}
 use Rattle.query_eval.specs.TallyKinds.{aggregate_kind}
 use Rattle.query_eval.specs.declared.tallies.aggregate.Aggregate.{Aggregate}
 use Rattle.query_eval.specs.declared.tallies.tally.TallyKind.{TallyKind}
 use Rattle.query_eval.specs.declared.tallies.tally.TallyKind.TheVariants as kinds
 use Rattle.table_model.specs.declared.extreme.Extreme.TheVariants.{Least as ALeast, Greatest as AGreatest}
-use Rattle.answer_parts.specs.Measures.{measures_of}
-use Rattle.answer_parts.specs.Refusing.{KeptGroups, kept_kind}
+use Rattle.answer_parts.specs.Measures.{measured}
+use Rattle.answer_parts.specs.Refusing.{KeptGroups, RefusesBy, kept_kind}
 use Rattle.answer_parts.specs.declared.fault.PartFault.{PartFault}
-use Rattle.answer_parts.specs.declared.fault.PartFault.TheVariants.{Memory, SchemaDiffers, QueryDiffers, NotApart, TooMany, Query}
 use Rattle.answer_parts.specs.declared.kept.Kept.{Kept}
 use Rattle.answer_parts.specs.declared.kept.Kept.TheVariants.{Count, Sum, Least, Greatest, Distinct}
 use Rattle.answer_parts.specs.declared.part.Part.{Part as CodePart}
@@ -36,10 +36,6 @@ kind_number kinds.Distinct = 4
 abbrev pub measure_kind : Aggregate → ℕ
 measure_kind a = kind_number (aggregate_kind a)
 
--- what a query's measures keep of each group, as numbers
-abbrev pub kinds_asked : Table → QueryShape → List ℕ
-kinds_asked table query = each measure_kind (measures_of (plan_of table.columns query).aggregates)
-
 -- a group has a cell for each of some columns, and keeps what some measures keep
 abbrev pub IsOfShape : ℕ → List Aggregate → Cells → List Kept → Type 0
 IsOfShape columns measures key kept = (length key ≡ columns) × (each kept_kind kept ≡ each measure_kind measures)
@@ -48,12 +44,15 @@ IsOfShape columns measures key kept = (length key ≡ columns) × (each kept_kin
 abbrev pub AreOfShape : ℕ → List Aggregate → KeptGroups → Type 0
 AreOfShape columns measures m = (k : Cells) (kept : Vec Kept) → get key_cmp m k ≡ Some kept → IsOfShape columns measures k kept.items
 
--- Groups have the shape that a query asks for: each has a cell for each column of GROUP BY, and keeps what the query's measures
--- keep; without GROUP BY there is a group.
-pub record HaveShape (table : Table) (query : QueryShape) (m : KeptGroups) : Type 0 where
-  pub keys : (k : Cells) (kept : Vec Kept) → get key_cmp m k ≡ Some kept → length k ≡ length query.grouping
-  pub kinds : (k : Cells) (kept : Vec Kept) → get key_cmp m k ≡ Some kept → each kept_kind kept.items ≡ kinds_asked table query
-  pub whole : query.grouping ≡ [] → get key_cmp m [] ≡ None → ⊥
+-- Groups fit a plan: each has a cell for each grouping column, and keeps what the plan's set functions keep; without grouping columns
+-- there is a group.
+pub record FitPlan (plan : PlanShape) (m : KeptGroups) : Type 0 where
+  pub groups : AreOfShape (length plan.grouping) plan.aggregates m
+  pub whole : plan.grouping ≡ [] → get key_cmp m [] ≡ None → ⊥
+
+-- groups have the shape that a query asks for: they fit the plan of the query's columns of GROUP BY and its measures
+abbrev pub HaveShape : Table → QueryShape → KeptGroups → Type 0
+HaveShape table query m = FitPlan (measured (plan_of table.columns query)) m
 
 -- the groups of a part have the shape that its query asks for
 abbrev pub IsShaped : CodePart → Type 0
@@ -75,30 +74,15 @@ EachCanFinish kept = (i : ℕ) (one : Kept) → slice_get kept i ≡ Some one �
 abbrev pub AllCanFinish : KeptGroups → Type 0
 AllCanFinish m = (k : Cells) (kept : Vec Kept) → get key_cmp m k ≡ Some kept → EachCanFinish kept.items
 
--- why groups are not finished, where the first says that they have their shape and the second that what they keep can be finished
-abbrev pub RefusesShown : Type 0 → Type 0 → PartFault → Type 0
-RefusesShown Shaped Small Memory = Unit {0}
-RefusesShown Shaped Small QueryDiffers = Shaped → ⊥
-RefusesShown Shaped Small TooMany = Small → ⊥
-RefusesShown Shaped Small SchemaDiffers = ⊥
-RefusesShown Shaped Small (NotApart name) = ⊥
-RefusesShown Shaped Small (Query refusal) = ⊥
+-- a text is no query of a table, and this is what it is refused as
+abbrev pub IsNoQueryOf : Table → List ℕ → Refusal → Type 0
+IsNoQueryOf table text refusal = (query_of text >>= λ query. resolved table query) ≡ Err refusal
 
 -- why a text is no query of a table
 abbrev pub RefusesText : Table → List ℕ → PartFault → Type 0
-RefusesText table text Memory = Unit {0}
-RefusesText table text (Query refusal) = (query_of text >>= λ query. resolved table query) ≡ Err refusal
-RefusesText table text SchemaDiffers = ⊥
-RefusesText table text QueryDiffers = ⊥
-RefusesText table text (NotApart name) = ⊥
-RefusesText table text TooMany = ⊥
+RefusesText table text fault = RefusesBy (IsNoQueryOf table text) (Unit {0}) (Unit {0}) fault
 
 -- Why a part is not finished: its text is no query of its table; its groups don't have the shape that the query asks for; a sum or a
 -- set of distinct values is too large.
 abbrev pub RefusesFinishing : PartFault → CodePart → Type 0
-RefusesFinishing Memory p = Unit {0}
-RefusesFinishing (Query refusal) p = (query_of (string_bytes p.text) >>= λ query. resolved p.schema query) ≡ Err refusal
-RefusesFinishing QueryDiffers p = IsShaped p → ⊥
-RefusesFinishing TooMany p = AllCanFinish p.groups → ⊥
-RefusesFinishing SchemaDiffers p = ⊥
-RefusesFinishing (NotApart name) p = ⊥
+RefusesFinishing fault p = RefusesBy (IsNoQueryOf p.schema (string_bytes p.text)) (IsShaped p) (AllCanFinish p.groups) fault

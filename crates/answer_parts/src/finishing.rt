@@ -14,7 +14,8 @@ ghost use Rattle.answer_parts.specs.Groups.{part_in, shown_entries};
 ghost use Rattle.answer_parts.specs.Kept.{tally_in, tallies_in};
 ghost use Rattle.answer_parts.specs.Measures.{measures_of};
 ghost use Rattle.answer_parts.specs.Part.{field_of, field_at, fields_from, finish, mean_kept, set_of, sum_kept};
-ghost use Rattle.answer_parts.specs.Shape.{AllCanFinish, AreOfShape, CanFinish, EachCanFinish, HaveShape, IsOfShape, RefusesShown, RefusesText};
+ghost use Rattle.answer_parts.specs.Refusing.{RefusesUnless};
+ghost use Rattle.answer_parts.specs.Shape.{AllCanFinish, AreOfShape, CanFinish, EachCanFinish, HaveShape, IsOfShape, RefusesText};
 
 use crate::fault::PartFault;
 use crate::kept::Kept;
@@ -141,7 +142,7 @@ fn fields_from(
     kept: &[Kept],
 ) -> Result<Vec<Field>, PartFault>
     ensures value { IfOk result (λ fields. fields.items ≡ map (field_at measures.now (tallies_in kept.now)) aggregates.now) }
-    ensures refused { IfErr result (RefusesShown Unit (EachCanFinish kept.now)) }
+    ensures refused { IfErr result (RefusesUnless Unit (EachCanFinish kept.now)) }
 {
     let mut fields = Vec::new(alloc);
     for aggregate in aggregates {
@@ -162,7 +163,7 @@ fn finished_group(
     ensures key { IfOk result (λ group. group.key ≡ key) }
     ensures fields { IfOk result (λ group. group.fields ≡ map (field_at measures.now (tallies_in kept.now)) aggregates.now) }
     ensures shaped { IfOk result (λ _. IsOfShape columns measures.now key kept.now) }
-    ensures refused { IfErr result (RefusesShown (IsOfShape columns measures.now key kept.now) (EachCanFinish kept.now)) }
+    ensures refused { IfErr result (RefusesUnless (IsOfShape columns measures.now key kept.now) (EachCanFinish kept.now)) }
 {
     if !is_of_shape(&key, kept, columns, measures) {
         return Err(PartFault::QueryDiffers);
@@ -182,7 +183,7 @@ fn finished(
     ensures ordered { IsOrdered key_cmp groups.old }
     ensures value { IfOk result (λ all. all.items ≡ shown_entries measures.now aggregates.now groups.old.entries) }
     ensures shaped { IfOk result (λ _. AreOfShape columns measures.now groups.old) }
-    ensures refused { IfErr result (RefusesShown (AreOfShape columns measures.now groups.old) (AllCanFinish groups.old)) }
+    ensures refused { IfErr result (RefusesUnless (AreOfShape columns measures.now groups.old) (AllCanFinish groups.old)) }
 {
     let mut all = Vec::new(alloc);
     for _ in 0..groups.len() {
@@ -217,7 +218,7 @@ pub fn finish_groups(
 ) -> Result<Answer, PartFault>
     ensures answer { IfOk result (λ answer. answer ≡ finish schema.now query.now (part_in groups)) }
     ensures shaped { IfOk result (λ _. HaveShape schema.now query.now groups) }
-    ensures refused { IfErr result (RefusesShown (HaveShape schema.now query.now groups) (AllCanFinish groups)) }
+    ensures refused { IfErr result (RefusesUnless (HaveShape schema.now query.now groups) (AllCanFinish groups)) }
 {
     let columns = query.grouping.len();
     if columns == 0 && groups.is_empty() {

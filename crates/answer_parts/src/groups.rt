@@ -3,15 +3,14 @@ ghost use Rattle.std.specs.Prelude.{◌≡◌, ℕ, List, cond, false, map, Some
 ghost use Rattle.std.specs.BTreeMap.{get};
 ghost use Rattle.std.specs.Ordering.{eq_by_cmp};
 ghost use Rattle.table_model.specs.Group.{key_cmp};
-ghost use Rattle.table_model.specs.Query.{QueryShape};
 ghost use Rattle.table_model.specs.State.{Cells};
-ghost use Rattle.table_model.specs.Table.{Table};
+ghost use Rattle.query_eval.specs.Finished.{PlanShape};
 ghost use Rattle.answer_parts.specs.Kept.{tallies_in};
 ghost use Rattle.answer_parts.specs.Groups.{part_in, tallies_at};
 ghost use Rattle.answer_parts.specs.Kinds.{AllKeep};
 ghost use Rattle.answer_parts.specs.Part.{combine, either};
 ghost use Rattle.answer_parts.specs.Refusing.{RefusesGroups, RefusesTaking, kept_kind};
-ghost use Rattle.answer_parts.specs.Shape.{HaveShape};
+ghost use Rattle.answer_parts.specs.Shape.{FitPlan};
 
 use crate::fault::PartFault;
 use crate::kept::{Kept, group_of_both};
@@ -83,7 +82,7 @@ pub fn combined_groups(
     other: BTreeMap<Key, Vec<Kept>>,
 ) -> Result<BTreeMap<Key, Vec<Kept>>, PartFault>
     ensures both { IfOk result (λ both. part_in both ≡ combine (part_in one) (part_in other)) }
-    ensures shape { IfOk result (λ both. (table : Table) (query : QueryShape) → HaveShape table query one → HaveShape table query other → HaveShape table query both) }
+    ensures shape { IfOk result (λ both. (plan : PlanShape) → FitPlan plan one → FitPlan plan other → FitPlan plan both) }
     ensures refused { IfErr result (λ e. RefusesGroups e one other) }
 {
     let both = groups_of_both(alloc, one, other)?;

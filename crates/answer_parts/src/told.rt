@@ -12,10 +12,11 @@ ghost use Rattle.query_eval.specs.Taken.{AreTaken};
 ghost use Rattle.query_eval.specs.declared.tallies.tally.Tally.{Tally as Running};
 ghost use Rattle.answer_parts.specs.Evaluated.{told, told_at, told_places, AreWithin};
 ghost use Rattle.answer_parts.specs.Kept.{tally_in, tallies_in};
-ghost use Rattle.answer_parts.specs.Kinds.{AllKeep, AreOfKinds, FitPlan, kinds_at, running_kind};
+ghost use Rattle.answer_parts.specs.Kinds.{AllKeep, AreOfKinds, kinds_at, running_kind};
 ghost use Rattle.answer_parts.specs.Groups.{part_in, tallies_at};
 ghost use Rattle.answer_parts.specs.Part.{part_over};
 ghost use Rattle.answer_parts.specs.Refusing.{kept_kind};
+ghost use Rattle.answer_parts.specs.Shape.{FitPlan};
 
 use crate::groups::put_group;
 use crate::kept::{Kept, Sums};

@@ -12,8 +12,6 @@ use Rattle.table_model.specs.Meaning.{at_row, is_kept}
 use Rattle.table_model.specs.State.{State, Cells, named_rows, live_rows}
 use Rattle.table_model.specs.Table.{Table}
 use Rattle.table_model.specs.declared.names.RowName.{RowName}
-use Rattle.transpose_order.specs.Mask.{has}
-use Rattle.transpose_order.proofs.MaskByteLemmas.{rows_of-has}
 use Rattle.query_eval.specs.Vector.{IsWithin, IsThere, cell_at, vector_of}
 use Rattle.query_eval.specs.declared.filter.kept_rows.KeptVector.{KeptVector}
 use Rattle.query_eval.specs.declared.columns.VectorId.{VectorId}
@@ -29,7 +27,7 @@ cells-kept s column kept = sym (picked-map (λ (row : RowName × Cells). cell ro
 -- as many as the mask has
 pub length-kept : (s : State) (kept : KeptVector) → length kept.rows ≡ 1024 → length (kept_in s kept) ≡ count_by (λ row. row) kept.rows
 unfolding kept_in
-length-kept s kept long = length-masked kept.rows (has kept.rows) (named_at s kept.id) (rows_of-has kept.rows long)
+length-kept s kept long = length-masked kept.rows (named_at s kept.id) long
 
 -- one vector more
 pub rows-push : (s : State) (vectors : List KeptVector) (kept : KeptVector) → rows_in s (vectors ++ kept ∷ []) ≡ rows_in s vectors ++ kept_in s kept

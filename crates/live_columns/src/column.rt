@@ -103,8 +103,8 @@ pub fn write_columns<C: Columns>(
 {
     let rows = chosen.count;
     let stride = stride_of(rows);
-    // Their lengths show that no place is past 64 bits.
-    let _rooms = (values.len(), valid.len());
+    prove!(values.len() >= places.len() * rows);
+    prove!(valid.len() >= places.len() * stride);
     for index in 0..places.len() {
         let first = index * rows;
         let byte = index * stride;

@@ -58,11 +58,9 @@ fn vector_in(store: &Store, id: VectorId, column: usize) -> &CodedVector
     ensures { HasCells result.now (vector_of store.now.replica.state id) column }
 {
     let (_, segment) = store.batch(id.batch);
-    // These say which rows and columns the segment has, and how many rows the vector covers.
-    let _rows = segment.rows();
-    let _columns = segment.columns();
+    segment.is_of_its_vectors();
     let found = segment.vector(column, id.vector);
-    let _covered = found.rows();
+    found.keeps_its_rule();
     found
 }
 

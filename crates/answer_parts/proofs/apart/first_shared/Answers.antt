@@ -1,9 +1,9 @@
 -- Run by run.
-use Rattle.std.proofs.Common.{◌≡◌, ◌+◌, ◌∷◌, [], List, Some, None, drop, get_or, sym, ap, ◌∙◌}
+use Rattle.std.proofs.Common.{◌+◌, List, Some, None, drop, get_or, sym, ap, ◌∙◌}
 use Rattle.std.specs.FinSet as set
 use Rattle.std.specs.List.{filter}
 use Rattle.std.proofs.lemmas.List.{drop_more}
-use Rattle.catalogue_join.specs.Run.{names_of, names_listed}
+use Rattle.catalogue_join.specs.Run.{names_listed}
 use Rattle.catalogue_join.specs.declared.run.Run.{Run}
 use Rattle.catalogue_join.proofs.NameLists.{no_run}
 use Rattle.answer_parts.specs.Between.{first_of}

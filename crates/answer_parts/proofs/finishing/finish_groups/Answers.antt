@@ -4,7 +4,8 @@ use Rattle.std.proofs.lemmas.Result.{err_from_is_err_and}
 use Rattle.table_model.specs.Query.{QueryShape}
 use Rattle.answer_parts.specs.Shape.{AllCanFinish, AreOfShape, HaveShape}
 use Rattle.answer_parts.proofs.ShownGroups.{finish_is}
-use Rattle.answer_parts.proofs.ToFinish.{as_shaped, have_shape, refuses_more}
+use Rattle.answer_parts.proofs.Refusing.{refuses_more}
+use Rattle.answer_parts.proofs.ToFinish.{as_shaped, have_shape}
 use Rattle.answer_parts.proofs.finishing.finish_groups.Goals as goal
 use Rattle.answer_parts.proofs.finishing.finish_groups.Goals.{else-columns-eq0-via-then-columns-eq0+else-is_empty, else-columns-eq0-via-else-columns-eq0}
 

@@ -13,8 +13,9 @@ use Rattle.answer_parts.specs.Part.{field_at}
 use Rattle.answer_parts.specs.Shape.{AllCanFinish, AreOfShape, EachCanFinish, IsOfShape}
 use Rattle.answer_parts.specs.declared.kept.Kept.{Kept}
 use Rattle.answer_parts.proofs.GroupsMore.{left_there}
+use Rattle.answer_parts.proofs.Refusing.{refuses_more}
 use Rattle.answer_parts.proofs.ShownGroups.{shown_more, empty}
-use Rattle.answer_parts.proofs.ToFinish.{nothing_there, refuses_more, taken_more}
+use Rattle.answer_parts.proofs.ToFinish.{nothing_there, taken_more}
 use Rattle.answer_parts.proofs.finishing.finished.Goals as goal
 use Rattle.answer_parts.proofs.finishing.finished.Goals.{in-None, in-Some+in_ok-group-in-Some+in_ok-push-in-Some}
 

@@ -1,5 +1,6 @@
+use Rattle.std.proofs.Common.{map}
 use Rattle.std.proofs.lemmas.Result.{err_from_is_err_and}
-use Rattle.answer_parts.specs.Shape.{kinds_asked}
+use Rattle.answer_parts.specs.Shape.{measure_kind}
 use Rattle.answer_parts.proofs.BothShapes.{both_shape}
 use Rattle.answer_parts.proofs.PartIn.{combined_is}
 use Rattle.answer_parts.proofs.groups.combined_groups.Goals as goal
@@ -8,7 +9,7 @@ pub returns-clause-both : goal.returns-clause-both
 returns-clause-both c = combined_is _ _ _ c.in_ok-both.ensures.both
 
 pub returns-clause-shape : goal.returns-clause-shape
-returns-clause-shape c = λ table query one other. both_shape table query _ _ _ one other c.in_ok-both.ensures.both (c.in_ok-both.ensures.kinds (kinds_asked table query) one.kinds other.kinds)
+returns-clause-shape c = λ plan one other. both_shape plan _ _ _ one other c.in_ok-both.ensures.both (c.in_ok-both.ensures.kinds (map measure_kind plan.aggregates) (λ k kept at. (one.groups k kept at).1) (λ k kept at. (other.groups k kept at).1))
 
 pub returns-in_err-both-clause-refused : goal.returns-in_err-both-clause-refused
 returns-in_err-both-clause-refused c =

@@ -1,5 +1,5 @@
 -- Kind by kind.
-use Rattle.std.proofs.Common.{◌≡◌, ◌+◌, ◌+ℤ◌, refl, sym, ap, subst, ◌∙◌, arith, FitsSigned, rules, ℤ}
+use Rattle.std.proofs.Common.{◌≡◌, ◌+◌, ◌+ℤ◌, sym, ap, subst, ◌∙◌, arith, FitsSigned, rules, ℤ}
 use Rattle.std.specs.Int.{w128}
 use Rattle.std.proofs.lemmas.Int.{to_z-of_z}
 use Rattle.std.proofs.lemmas.Result.{err_from_is_err_and}

@@ -1,5 +1,5 @@
 -- Division first.
-use Rattle.std.proofs.Common.{◌≡◌, ◌+ℤ◌, ◌*ℤ◌, ℤ, pos, int_div, int_rem, FitsSigned, rules, refl, sym, ap, subst, ◌∙◌, arith}
+use Rattle.std.proofs.Common.{◌+ℤ◌, ◌*ℤ◌, ℤ, pos, int_div, int_rem, FitsSigned, rules, refl, sym, ap, subst, ◌∙◌, arith}
 use Rattle.std.specs.Int.{w128}
 use Rattle.std.proofs.lemmas.Int.{to_z-of_z}
 use Rattle.answer_parts.proofs.DivideFirst.{mean_first, product_fits, mean_fits}

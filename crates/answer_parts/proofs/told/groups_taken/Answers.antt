@@ -7,7 +7,8 @@ use Rattle.query_eval.specs.declared.answers.taken_rows.Taken.{Taken}
 use Rattle.query_eval.specs.declared.tallies.tally.Tally.{Tally as Running}
 use Rattle.query_eval.specs.declared.tallies.tally.Tally.TheVariants as running
 use Rattle.answer_parts.specs.Evaluated.{told}
-use Rattle.answer_parts.specs.Kinds.{AllKeep, plan_kinds, running_kind}
+use Rattle.answer_parts.specs.Kinds.{AllKeep, running_kind}
+use Rattle.answer_parts.specs.Shape.{measure_kind}
 use Rattle.answer_parts.proofs.GroupShapes.{whole_shape, groups_shape, groups_of_kinds}
 use Rattle.answer_parts.proofs.TakenParts.{whole_told, groups_told, within_told}
 use Rattle.answer_parts.proofs.told.groups_taken.Goals as goal
@@ -37,4 +38,4 @@ returns-in_ok-made-in-Grouped-clause-shape c = λ plan rows taken.
     let t : Running = running.Count 0 in
     let within = within_told plan rows c.in-Grouped.groups h.1.1 in
     groups_shape plan rows _ c.in-Grouped.groups t h.0 h.1.1 (c.in_ok-made-in-Grouped.ensures.value t within)
-    (c.in_ok-made-in-Grouped.ensures.kinds (plan_kinds plan) within (groups_of_kinds plan rows c.in-Grouped.groups h.1.1))
+    (c.in_ok-made-in-Grouped.ensures.kinds (map measure_kind plan.aggregates) within (groups_of_kinds plan rows c.in-Grouped.groups h.1.1))

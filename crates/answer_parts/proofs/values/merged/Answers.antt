@@ -1,5 +1,5 @@
 -- The rests of both lists are those behind the fronts.
-use Rattle.std.proofs.Common.{◌≡◌, ◌++◌, ◌-◌, ◌<◌, ◌+◌, ◌&&◌, ◌<ℤ◌, ltb, true, false, FitsSigned, w64, ℕ, zero, suc, List, [], ◌∷◌, ℤ, pos, get_or, length, take, drop, refl, sym, ap, subst, ◌∙◌, arith, length-drop, rules}
+use Rattle.std.proofs.Common.{◌≡◌, ◌++◌, ◌-◌, ◌<◌, ◌+◌, ◌&&◌, ltb, false, FitsSigned, w64, ℕ, zero, suc, List, [], ◌∷◌, ℤ, pos, get_or, length, take, drop, refl, sym, ap, subst, ◌∙◌, arith, length-drop, rules}
 use Rattle.std.specs.List.{list_any}
 use Rattle.std.specs.List.Sorted.{IsStrictlySortedBy}
 use Rattle.std.specs.Ordering.{int_cmp, int_eq}

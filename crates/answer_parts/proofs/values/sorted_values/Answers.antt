@@ -1,5 +1,5 @@
 -- In order they are the same values, and each is there once.
-use Rattle.std.proofs.Common.{◌≡◌, Bool, ℤ, List, ap, subst, ◌∙◌, sym}
+use Rattle.std.proofs.Common.{ℤ, List, ap, subst, ◌∙◌, sym}
 use Rattle.std.specs.List.{IsDistinct, list_any}
 use Rattle.std.specs.Ordering.{int_eq}
 use Rattle.std.proofs.lemmas.List.Sorted.{list_any-IsPermutation}

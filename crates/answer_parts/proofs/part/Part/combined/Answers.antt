@@ -8,8 +8,10 @@ use Rattle.table_model.specs.Table.{Table, same_table}
 use Rattle.table_model.specs.declared.names.BatchName.{BatchName}
 use Rattle.table_model.proofs.SameTable.{one_table, itself_table, one_text, itself_text}
 use Rattle.query_parser.specs.Descent.{query_of}
+use Rattle.query_eval.specs.Finished.{plan_of}
 use Rattle.answer_parts.specs.Between.{IsFirstBetween}
 use Rattle.answer_parts.specs.Combining.{counted_in}
+use Rattle.answer_parts.specs.Measures.{measured}
 use Rattle.answer_parts.specs.Shape.{HaveShape}
 use Rattle.answer_parts.proofs.FirstBetween.{none_combined}
 use Rattle.answer_parts.proofs.RefusedParts.{groups_refuse}
@@ -32,7 +34,7 @@ returns-clause-combined c =
       shape = λ ours theirs query asked.
           let also : query_of (string_bytes c.args.other.text) ≡ Ok query = ap query_of (sym texts_one) ∙ asked in
           let second = subst (λ (t : Table). HaveShape t query c.args.other.groups) (sym schemas_one) (theirs query also) in
-          c.in_ok-groups.ensures.shape c.args.self.schema query (ours query asked) second;
+          c.in_ok-groups.ensures.shape (measured (plan_of c.args.self.schema.columns query)) (ours query asked) second;
     }
 
 pub returns-in_err-groups-clause-refused : goal.returns-in_err-groups-clause-refused
