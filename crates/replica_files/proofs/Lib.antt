@@ -20,3 +20,8 @@ pub mod DumpChoices
 pub mod LinesTold
 pub mod RefusedOnFile
 pub mod ReadersInTurn
+pub mod LinesInColumns
+pub mod FiguresAsked
+pub mod VectorParts
+pub mod ColumnLines
+pub mod ReportTexts

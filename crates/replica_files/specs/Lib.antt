@@ -1,4 +1,6 @@
 pub mod Asking
+pub mod ColumnFigures
+pub mod ColumnTexts
 pub mod Commands
 pub mod Counts
 pub mod CsvLoads
@@ -12,3 +14,4 @@ pub mod Loads
 pub mod DumpLaws
 pub mod QueryLines
 pub mod Refusals
+pub mod Reports

@@ -2,6 +2,7 @@
 ghost use Rattle.std.specs.Prelude.{◌≡◌, ◌<◌, ◌≤◌, ◌+◌, length, map};
 ghost use Rattle.std.specs.List.{All, flat_map};
 ghost use Rattle.query_eval.specs.Read.{IsSame};
+ghost use Rattle.query_eval.specs.Vector.{IsWithin};
 ghost use Rattle.live_columns.specs.Chosen.{AreThere, picked, rows_in};
 ghost use Rattle.replica_files.specs.DumpRooms.{room_cells};
 ghost use Rattle.replica_files.specs.Dumps.{WritesLines, dumped_rows, dumping, dumping_where, heading_at, in_columns, row_text};
@@ -104,8 +105,7 @@ impl RowWriter {
             (flat_map (row_text self.old.has_names) (map (in_columns places.now) (rows_in (C.seen columns.old).state vectors.now))) }
         ensures names { self.new.has_names ≡ self.old.has_names }
     {
-        // It ensures that each batch is within the limits.
-        let _batches = columns.batches();
+        state_is_within_limits(columns);
         for kept in vectors {
             read_rooms(columns, kept.id, places, rooms);
             let batch = columns.name(kept.id.batch);
@@ -146,6 +146,13 @@ impl RowWriter {
     }
 }
 
+/// The law that a state is within its limits.
+fn state_is_within_limits<C: Columns>(columns: &C)
+    ensures { IsWithin (C.seen columns.now).table (C.seen columns.now).state }
+{
+    columns.batches();
+}
+
 /// Writes the live rows of a file at which a condition is true, in the columns at places, as comma-separated values below a heading, in
 /// order of row name. With `has_names` the columns `BATCH` and `ORDINAL` come first.
 ///
@@ -182,8 +189,7 @@ pub fn dump<W: Write>(
 ) -> Result<(), Refusal>
     ensures text { WritesLines result (W.contents writer.old.0) (W.contents writer.new.0) writer.old.1 writer.new.1 (dumping has_names file.now.replica) }
 {
-    // It ensures that each batch is within the limits.
-    let _batches = file.store().batches();
+    file.store().is_within_limits();
     // Without names and a condition nothing but memory can be missing.
     let Ok(choice) = choose(alloc, file.schema(), b"", b',', "") else {
         return Err(Refusal::Memory);

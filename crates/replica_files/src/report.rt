@@ -1,21 +1,24 @@
 //! Telling what a file holds: its counts, and a line a column.
-ghost use Rattle.std.specs.Prelude.{◌≡◌, ◌≢◌, ◌<◌, length, IsTrue, IfOk, IfErr, OnOk};
+ghost use Rattle.std.specs.Prelude.{◌≡◌, ◌≢◌, ◌⊎◌, ◌<◌, Some, length, slice_get, IsTrue, IfOk, IfErr, OnOk};
 ghost use Rattle.table_model.specs.Faults.{CountsWrites};
-ghost use Rattle.table_model.specs.declared.refusal.Refusal.TheVariants.{WriteFault};
-ghost use Rattle.store_view.specs.Asked.{is_refusal_of_query};
+ghost use Rattle.table_model.specs.State.{named_rows};
+ghost use Rattle.table_model.specs.Table.{ColumnShape};
+ghost use Rattle.table_model.specs.declared.refusal.Refusal.TheVariants.{Memory, WriteFault};
 ghost use Rattle.replica_files.specs.Asking.{is_refusal_of_answering};
-ghost use Rattle.replica_files.specs.Counts.{BeginsWithCounts, WritesCounts, counts_text, file_part, rows_part, table_part};
+ghost use Rattle.replica_files.specs.ColumnFigures.{bits_text, column_line, column_lines, figure_text, figure_texts};
+ghost use Rattle.replica_files.specs.Counts.{WritesCounts, counts_text, file_part, rows_part, table_part};
+ghost use Rattle.replica_files.specs.Reports.{Reports, WritesReport, columns_text};
 
+use crate::column_parts::{ColumnParts, parts_of};
 use crate::columns_json::push_objects;
 use crate::columns_text::{Line, aligned};
+use crate::live_figures::LiveFigures;
 use crate::open_file::OpenFile;
 use crate::store_counts::{StoreCounts, store_counts};
-use crate::stored::{parts_of, stored_rows};
 use answer_formats::ReportForm;
 use replica_store::Store;
 use std::alloc::{AllocError, Global};
 use std::io::Write;
-use store_view::ask;
 use table_model::{Column, Counted, Field, Refusal};
 
 /// The headings of the lines of columns.
@@ -30,124 +33,105 @@ const KEYS: [&str; 11] = [
 
 const TEXTS: usize = 2;
 
-/// The figures of a column's live rows.
-#[derive(Drop)]
-struct LiveFigures {
-    fields: Vec<Field>,
-}
-
-impl LiveFigures {
-    /// What a query says of the column: how many live rows there are, how many of them aren't null there, the least and the greatest
-    /// value.
-    fn of(alloc: Global, store: &Store, column: &Column) -> Result<LiveFigures, Refusal>
-        ensures refused { IfErr result (λ e. IsTrue (is_refusal_of_query e)) }
-    {
-        let name = column.name();
-        let table = store.schema().table();
-        let sql = format!(in alloc;
-            "SELECT COUNT(*),COUNT({name}),MIN({name}),MAX({name}) FROM {table}"
-        )?;
-        let answer = ask(alloc, store, sql.as_str())?;
-        let mut fields = Vec::new(alloc);
-        if let Some((row, _)) = answer.rows().split_first() {
-            fields.extend_from_slice(row.fields())?;
-        }
-        Ok(LiveFigures { fields })
-    }
-
-    /// A count, from the left and from 0.
-    fn count(&self, index: usize) -> i128 {
-        match self.fields.get(index) {
-            Some(Field::Whole(value)) => *value,
-            _ => 0,
-        }
-    }
-
-    /// A value as it is written, and `-` where there is none.
-    fn value(&self, alloc: Global, index: usize) -> Result<String, AllocError> {
-        match self.fields.get(index) {
-            Some(Field::Whole(value)) => format!(in alloc; "{value}"),
-            _ => String::from_str(alloc, "-"),
-        }
+/// A value as it is written, and `-` where there is none.
+fn figure_text(alloc: Global, field: Field) -> Result<String, AllocError>
+    ensures { IfOk result (λ text. text.bytes.items ≡ figure_text field) }
+{
+    match field {
+        Field::Whole(value) => format!(in alloc; "{value}"),
+        Field::Null | Field::Millionths(_) => String::from_str(alloc, "-"),
     }
 }
 
 /// How many bits a stored value takes, with two decimals: the bytes of a column's vectors by the rows that are stored.
-fn bits_text(alloc: Global, bytes: u64, rows: u64) -> Result<String, AllocError> {
+fn bits_text(alloc: Global, bytes: u64, rows: u64) -> Result<String, AllocError>
+    ensures { IfOk result (λ text. text.bytes.items ≡ bits_text bytes rows) }
+{
     if rows == 0 {
         return String::from_str(alloc, "-");
     }
     let hundredths = u128::from(bytes) * 800 / u128::from(rows);
     let whole = hundredths / 100;
     let part = hundredths % 100;
-    format!(in alloc; "{whole}.{part:02}")
+    let tenths = part / 10;
+    let last = part % 10;
+    format!(in alloc; "{whole}.{tenths}{last}")
 }
 
-/// Puts the name, the type and the live figures of a column behind cells.
-fn push_live(
+/// The line of a column's figures.
+fn figure_line(
     alloc: Global,
-    cells: &mut Vec<String>,
-    store: &Store,
     column: &Column,
-) -> Result<(), Refusal>
-    ensures refused { IfErr result (λ e. IsTrue (is_refusal_of_query e)) }
+    live: LiveFigures,
+    parts: ColumnParts,
+    rows: u64,
+) -> Result<Line, AllocError>
+    ensures { IfOk result (λ line. line ≡ figure_texts column.now live parts rows) }
 {
-    let figures = LiveFigures::of(alloc, store, column)?;
     let column_type = column.column_type();
-    let values = figures.count(1);
-    let nulls = figures.count(0).saturating_sub(values);
-    cells.push(String::from_str(alloc, column.name())?)?;
-    cells.push(format!(in alloc; "{column_type}")?)?;
-    cells.push(format!(in alloc; "{nulls}")?)?;
-    cells.push(format!(in alloc; "{values}")?)?;
-    cells.push(figures.value(alloc, 2)?)?;
-    cells.push(figures.value(alloc, 3)?)?;
-    Ok(())
+    let LiveFigures {
+        nulls,
+        values,
+        least,
+        greatest,
+    } = live;
+    let ColumnParts {
+        frames,
+        deltas,
+        runs,
+        dictionaries,
+        bytes,
+    } = parts;
+    let cells = vec![in alloc;
+        String::from_str(alloc, column.name())?,
+        format!(in alloc; "{column_type}")?,
+        format!(in alloc; "{nulls}")?,
+        format!(in alloc; "{values}")?,
+        figure_text(alloc, least)?,
+        figure_text(alloc, greatest)?,
+        format!(in alloc; "{frames}")?,
+        format!(in alloc; "{deltas}")?,
+        format!(in alloc; "{runs}")?,
+        format!(in alloc; "{dictionaries}")?,
+        bits_text(alloc, bytes, rows)?,
+    ]?;
+    Ok(Line::from_cells(cells))
 }
 
-/// The line of a column.
-fn column_line(alloc: Global, store: &Store, index: usize) -> Result<Line, Refusal>
-    requires { index < length store.now.replica.schema.columns }
-    ensures refused { IfErr result (λ e. IsTrue (is_refusal_of_query e)) }
+/// The line of a column of a store that has a number of rows.
+fn column_line(alloc: Global, store: &Store, rows: u64, place: usize) -> Result<Line, AllocError>
+    requires rows { rows ≡ length (named_rows store.now.replica.state) }
+    requires place { place < length store.now.replica.schema.columns }
+    ensures { IfOk result (λ line. (column : ColumnShape) → slice_get store.now.replica.schema.columns place ≡ Some column → line ≡ column_line store.now place column) }
 {
-    let mut cells = Vec::with_capacity(alloc, HEADINGS.len())?;
-    push_live(alloc, &mut cells, store, store.schema().column(index))?;
-    let parts = parts_of(store, index);
-    for count in [parts.frames, parts.deltas, parts.runs, parts.dictionaries] {
-        cells.push(format!(in alloc; "{count}")?)?;
-    }
-    cells.push(bits_text(alloc, parts.bytes, stored_rows(store))?)?;
-    Ok(Line::from_cells(cells))
+    let live = LiveFigures::of(alloc, store, place)?;
+    let parts = parts_of(store, place);
+    let line = figure_line(alloc, store.schema().column(place), live, parts, rows)?;
+    Ok(line)
 }
 
-/// The line of the headings.
-fn heading_line(alloc: Global) -> Result<Line, AllocError> {
-    let mut cells = Vec::with_capacity(alloc, HEADINGS.len())?;
-    for heading in HEADINGS {
-        cells.push(String::from_str(alloc, heading)?)?;
-    }
-    Ok(Line::from_cells(cells))
-}
-
-/// The lines of all columns, in the schema's order.
-fn column_lines(alloc: Global, store: &Store) -> Result<Vec<Line>, Refusal>
-    ensures refused { IfErr result (λ e. IsTrue (is_refusal_of_query e)) }
+/// The lines of all columns of a store that has a number of rows, in the schema's order.
+fn column_lines(alloc: Global, store: &Store, rows: u64) -> Result<Vec<Line>, AllocError>
+    requires { rows ≡ length (named_rows store.now.replica.state) }
+    ensures { IfOk result (λ lines. lines.items ≡ column_lines store.now 0 store.now.replica.schema.columns) }
 {
     let columns = store.schema().columns();
     let mut lines = Vec::with_capacity(alloc, columns)?;
-    for index in 0..columns {
-        lines.push(column_line(alloc, store, index)?)?;
+    for place in 0..columns {
+        lines.push(column_line(alloc, store, rows, place)?)?;
     }
     Ok(lines)
 }
 
 /// The lines of all columns in a form, and what ends the report.
-fn columns_text(alloc: Global, lines: &[Line], form: ReportForm) -> Result<Vec<u8>, AllocError> {
+fn columns_text(alloc: Global, lines: &[Line], form: ReportForm) -> Result<Vec<u8>, AllocError>
+    ensures { IfOk result (λ text. text.items ≡ columns_text form lines.now) }
+{
     match form {
-        ReportForm::Text => aligned(alloc, &heading_line(alloc)?, lines),
+        ReportForm::Text => aligned(alloc, &HEADINGS, lines),
         ReportForm::Json => {
             let mut out = Vec::new(alloc);
-            push_objects(&mut out, &KEYS, lines, TEXTS)?;
+            push_objects(&mut out, &Line::of_texts(alloc, &KEYS)?, lines, TEXTS)?;
             out.extend_from_slice(b"}\n")?;
             Ok(out)
         }
@@ -208,12 +192,12 @@ fn counts_text(
 
 /// What is reported of a store.
 fn report(alloc: Global, store: &Store, form: ReportForm) -> Result<Vec<u8>, Refusal>
-    ensures counts { IfOk result (λ text. BeginsWithCounts form store.now.replica.schema.name store.now.replica.state text.items) }
-    ensures refused { IfErr result (λ e. IsTrue (is_refusal_of_query e)) }
+    ensures text { IfOk result (λ text. Reports form store.now text.items) }
+    ensures refused { IfErr result (λ e. e ≡ Memory) }
 {
     let counts = store_counts(alloc, store)?;
     let mut out = counts_text(alloc, store.schema().table(), counts, form)?;
-    let lines = column_lines(alloc, store)?;
+    let lines = column_lines(alloc, store, counts.rows)?;
     let columns = columns_text(alloc, lines.as_slice(), form)?;
     out.extend_from_slice(columns.as_slice())?;
     Ok(out)
@@ -231,8 +215,10 @@ pub fn inspect<W: Write>(
     form: ReportForm,
     writer: &mut Counted<W>,
 ) -> Result<(), Refusal>
+    ensures text { OnOk result (WritesReport form file.now (W.contents writer.old.0) (W.contents writer.new.0)) }
     ensures counts { OnOk result (WritesCounts form file.now.replica.schema.name file.now.replica.state (W.contents writer.old.0) (W.contents writer.new.0)) }
     ensures refused { IfErr result (λ e. IsTrue (is_refusal_of_answering e)) }
+    ensures only { IfErr result (λ e. (e ≡ Memory) ⊎ (e ≡ WriteFault)) }
     ensures unwritten { IfErr result (λ e. e ≢ WriteFault → W.contents writer.new.0 ≡ W.contents writer.old.0) }
     ensures kept { OnOk result (writer.new.1 ≡ writer.old.1) }
     ensures fault { IfErr result (λ e. CountsWrites e writer.old.1 writer.new.1) }

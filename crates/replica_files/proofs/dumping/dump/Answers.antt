@@ -12,6 +12,6 @@ pub returns : goal.returns
 returns g c =
     let r : Replica = c.args.file.now.replica in
     let choice : ChoiceForm = record { condition = c.in-Ok.choice.condition; places = c.in-Ok.choice.places.items } in
-    let fits : AllFit r.schema (finite.entries r.state.batches) = subst (λ (s : StoreForm). AllFit s.replica.schema (finite.entries s.replica.state.batches)) c.store.ensures.value c.batches-batches.ensures.within.fits in
+    let fits : AllFit r.schema (finite.entries r.state.batches) = subst (λ (s : StoreForm). AllFit s.replica.schema (finite.entries s.replica.state.batches)) c.store.ensures.value c.is_within_limits.ensures.within.fits in
     let P : List ℕ → Type 0 = λ t. WritesLines c.dump_where.result (g.W.Write.contents c.args.writer.now.0) (g.W.Write.contents c.dump_where.new.writer.0) c.args.writer.now.1 c.dump_where.new.writer.1 t in
     record { text = subst P (dump_chosen c.args.has_names r c.schema.result.now choice c.schema.ensures fits c.in-Ok.ensures.read) c.dump_where.ensures.text }
