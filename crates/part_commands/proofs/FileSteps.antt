@@ -8,11 +8,12 @@ use Rattle.table_model.specs.declared.refusal.Refusal.{Refusal}
 use Rattle.table_model.specs.declared.refusal.Refusal.TheVariants.{Memory, ReadFault, WriteFault}
 use Rattle.answer_parts.specs.declared.part.Part.{Part}
 use Rattle.column_file.specs.Files.{Exports}
-use Rattle.column_file.specs.Input.{Judges, is_refusal_of_reading}
+use Rattle.column_file.specs.Input.{IsReadWhole, Judges, is_refusal_of_reading}
 use Rattle.part_file.specs.PartBytes.{part_bytes}
 use Rattle.part_file.specs.PartReading.{has_bytes}
 use Rattle.replica_files.specs.Asking.{is_refusal_of_answering}
 use Rattle.replica_files.specs.Commands.{held_in}
+use Rattle.replica_files.specs.Refusals.{IsReadAndWritten}
 use Rattle.replica_files.proofs.CommandSteps.{exported_put}
 use Rattle.replica_store.specs.Replica.{Replica}
 use Rattle.store_view.specs.Asked.{is_refusal_of_query}
@@ -91,6 +92,7 @@ pub answering_counts : (many : Type 0) (result : Result (Unit {0}) Refusal) (r r
 answering_counts many (Ok done) r r' w w' same h c = tt
 answering_counts many (Err e) r r' w w' same h c = counts many e r r' w w' same h c
 
-pub kept_both : (result : Result (Unit {0}) Refusal) (r r' w w' : ℕ) → r' ≡ r → OnOk result (w' ≡ w) → OnOk result ((r' ≡ r) × (w' ≡ w))
-kept_both (Ok done) r r' w w' same h = (same, h)
-kept_both (Err e) r r' w w' same h = tt
+pub read_and_written : {D E : Type 0} (remaining : D → Option (List ℕ)) (result : Result (Unit {0}) Refusal) (reader reader' : D × ℕ) (writer writer' : E × ℕ) → IsReadWhole remaining reader reader' → OnOk result (writer'.1 ≡ writer.1)
+    → OnOk result (IsReadAndWritten remaining reader reader' writer writer')
+read_and_written remaining (Ok done) reader reader' writer writer' whole kept = record { read = whole; kept = kept }
+read_and_written remaining (Err e) reader reader' writer writer' whole kept = tt

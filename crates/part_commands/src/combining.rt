@@ -1,7 +1,7 @@
 //! Combining a part with those before it.
-ghost use Rattle.std.specs.Prelude.{◌≡◌, OnOk, IfOk, IfErr};
-ghost use Rattle.std.specs.Io.KnownBytes.{IsAtEnd};
-ghost use Rattle.table_model.specs.Faults.{IsWithin, GaveMore};
+ghost use Rattle.std.specs.Prelude.{OnOk, IfOk, IfErr};
+ghost use Rattle.table_model.specs.Faults.{GaveMore};
+ghost use Rattle.column_file.specs.Input.{IsReadWhole};
 ghost use Rattle.part_commands.specs.PartTurns.{CombinesNext, CountsErrors, RefusesNext};
 
 use crate::part_error::PartError;
@@ -21,9 +21,7 @@ pub fn combine_next<R: Read>(
 ) -> Result<Part, PartError>
     ensures combined { IfOk result (λ both. CombinesNext before (R.remaining reader.old.0) both) }
     ensures refused { IfErr result (λ e. RefusesNext e before (R.remaining reader.old.0)) }
-    ensures end { OnOk result (IsAtEnd (R.remaining reader.new.0)) }
-    ensures within { OnOk result (IsWithin (R.remaining reader.old.0)) }
-    ensures kept { OnOk result (reader.new.1 ≡ reader.old.1) }
+    ensures whole { OnOk result (IsReadWhole R.remaining reader.old reader.new) }
     ensures fault { IfErr result (λ e. CountsErrors (GaveMore (R.remaining reader.old.0) (R.remaining reader.new.0)) e reader.old.1 reader.new.1) }
 {
     let next = read_part(alloc, reader)?;

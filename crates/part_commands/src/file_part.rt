@@ -1,8 +1,8 @@
 //! The part of a file: what it gives to the answer of a query, written as bytes.
 ghost use Rattle.std.specs.Prelude.{◌≡◌, IsTrue, OnOk, IfErr};
-ghost use Rattle.std.specs.Io.KnownBytes.{IsAtEnd};
-ghost use Rattle.table_model.specs.Faults.{IsWithin, GaveMore, CountsBoth, CountsWrites};
+ghost use Rattle.table_model.specs.Faults.{GaveMore, CountsBoth, CountsWrites};
 ghost use Rattle.replica_files.specs.Asking.{is_refusal_of_answering};
+ghost use Rattle.replica_files.specs.Refusals.{IsReadAndWritten};
 ghost use Rattle.part_commands.specs.FileParts.{WritesFilePart, WritesPart, is_refusal_of_parting};
 ghost use Rattle.part_commands.specs.StorePart.{query_part};
 
@@ -45,9 +45,7 @@ pub fn write_part_of_file<R: Read, W: Write>(
 ) -> Result<(), Refusal>
     ensures told { WritesFilePart result (R.remaining reader.old.0) (W.contents writer.old.0) (W.contents writer.new.0) sql.now }
     ensures refused { IfErr result (λ e. IsTrue (is_refusal_of_parting e)) }
-    ensures end { OnOk result (IsAtEnd (R.remaining reader.new.0)) }
-    ensures within { OnOk result (IsWithin (R.remaining reader.old.0)) }
-    ensures kept { OnOk result ((reader.new.1 ≡ reader.old.1) × (writer.new.1 ≡ writer.old.1)) }
+    ensures whole { OnOk result (IsReadAndWritten R.remaining reader.old reader.new writer.old writer.new) }
     ensures fault { IfErr result (λ e. CountsBoth (GaveMore (R.remaining reader.old.0) (R.remaining reader.new.0)) e reader.old.1 reader.new.1 writer.old.1 writer.new.1) }
 {
     let file = OpenFile::read(alloc, reader)?;

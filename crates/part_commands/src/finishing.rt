@@ -1,7 +1,7 @@
 //! The answer that a part finishes to, written as a text.
-ghost use Rattle.std.specs.Prelude.{◌≡◌, OnOk, IfOk, IfErr};
-ghost use Rattle.std.specs.Io.KnownBytes.{IsAtEnd};
-ghost use Rattle.table_model.specs.Faults.{IsWithin, GaveMore};
+ghost use Rattle.std.specs.Prelude.{OnOk, IfOk, IfErr};
+ghost use Rattle.table_model.specs.Faults.{GaveMore};
+ghost use Rattle.replica_files.specs.Refusals.{IsReadAndWritten};
 ghost use Rattle.part_commands.specs.PartTurns.{CountsBothErrors, IsAnswerText, IsUnfinished, WritesAnswer};
 
 use crate::part_error::PartError;
@@ -33,9 +33,7 @@ pub fn write_answer_of_part<R: Read, W: Write>(
     writer: &mut Counted<W>,
 ) -> Result<(), PartError>
     ensures told { WritesAnswer format result (R.remaining reader.old.0) (W.contents writer.old.0) (W.contents writer.new.0) }
-    ensures end { OnOk result (IsAtEnd (R.remaining reader.new.0)) }
-    ensures within { OnOk result (IsWithin (R.remaining reader.old.0)) }
-    ensures kept { OnOk result ((reader.new.1 ≡ reader.old.1) × (writer.new.1 ≡ writer.old.1)) }
+    ensures whole { OnOk result (IsReadAndWritten R.remaining reader.old reader.new writer.old writer.new) }
     ensures fault { IfErr result (λ e. CountsBothErrors (GaveMore (R.remaining reader.old.0) (R.remaining reader.new.0)) e reader.old.1 reader.new.1 writer.old.1 writer.new.1) }
 {
     let part = read_part(alloc, reader)?;

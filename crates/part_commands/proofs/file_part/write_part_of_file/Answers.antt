@@ -1,12 +1,12 @@
 -- A file that is refused writes nothing; otherwise the part of what it holds is written.
-use Rattle.std.proofs.Common.{◌≡◌, List, ℕ, Option, ap, subst}
+use Rattle.std.proofs.Common.{subst}
 use Rattle.std.proofs.lemmas.Result.{err_from_is_err_and}
 use Rattle.table_model.specs.Faults.{GaveMore}
 use Rattle.replica_store.specs.Segments.{StoreForm}
 use Rattle.replica_files.proofs.CommandSteps.{reading_counts}
 use Rattle.part_commands.specs.FileParts.{WritesPart}
 use Rattle.part_commands.specs.StorePart.{query_part}
-use Rattle.part_commands.proofs.FileSteps.{file_refused, file_written, reading_parts, answering_parts, answering_counts, kept_both}
+use Rattle.part_commands.proofs.FileSteps.{file_refused, file_written, reading_parts, answering_parts, answering_counts, read_and_written}
 use Rattle.part_commands.proofs.file_part.write_part_of_file.Goals as goal
 
 pub returns-in_err-file-clause-told : goal.returns-in_err-file-clause-told
@@ -38,5 +38,5 @@ pub returns-clause-fault : goal.returns-clause-fault
 returns-clause-fault g c =
     answering_counts (GaveMore (g.R.Read.remaining c.args.reader.now.0) (g.R.Read.remaining c.read.new.reader.0)) c.write_part_of_store.result c.args.reader.now.1 c.read.new.reader.1 c.args.writer.now.1 c.write_part_of_store.new.writer.1 c.in_ok-file.ensures.reads.kept c.write_part_of_store.ensures.refused c.write_part_of_store.ensures.fault
 
-pub returns-clause-kept : goal.returns-clause-kept
-returns-clause-kept g c = kept_both c.write_part_of_store.result c.args.reader.now.1 c.read.new.reader.1 c.args.writer.now.1 c.write_part_of_store.new.writer.1 c.in_ok-file.ensures.reads.kept c.write_part_of_store.ensures.kept
+pub returns-clause-whole : goal.returns-clause-whole
+returns-clause-whole g c = read_and_written g.R.Read.remaining c.write_part_of_store.result c.args.reader.now c.read.new.reader c.args.writer.now c.write_part_of_store.new.writer c.in_ok-file.ensures.reads c.write_part_of_store.ensures.kept
