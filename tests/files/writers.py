@@ -153,9 +153,14 @@ def a_killed_forget_leaves_the_file_whole(room):
     for number in range(2, 10):
         room.ok("delete-rows", "t", f"2.{number}", "0", "65535", prints=b"ok\n")
     held = room.get("t")
-    started = time.monotonic()
-    room.ok("forget", "t", prints=f"ok batches=8 rows={8 * 65_536}\n".encode())
-    whole = time.monotonic() - started
+    times = []
+    for _ in range(3):
+        room.put("t", held)
+        started = time.monotonic()
+        room.ok("forget", "t", prints=f"ok batches=8 rows={8 * 65_536}\n".encode())
+        times.append(time.monotonic() - started)
+    # On a machine with other work the first run can be much slower than those that are killed.
+    whole = min(times)
     replaced = room.get("t")
     assert len(replaced) < len(held)
     pick, killed = random.Random(3), 0
