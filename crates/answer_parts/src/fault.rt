@@ -3,16 +3,18 @@ ghost use Rattle.std.specs.Prelude.{◌≡◌};
 ghost use Rattle.answer_parts.specs.declared.fault.PartFault.TheVariants.{Memory};
 
 use std::alloc::{AllocError, AllocFailed};
+use std::error::Error;
+use std::fmt;
 use table_model::{BatchName, Refusal};
 
 /// Why parts can't be combined, or a part can't be finished. Nothing changes then.
 #[derive(Clone, Copy, Debug, PartialEq, Eq)]
 pub enum PartFault {
-    /// Memory that was asked for was not to be had.
+    /// Out of memory.
     Memory,
     /// The parts are of tables with different schemas.
     SchemaDiffers,
-    /// The parts are of different queries, or a part has not the groups that its query asks for.
+    /// The parts are of different queries, or a part does not have the groups that its query asks for.
     QueryDiffers,
     /// A batch that both parts counted, or that one counted and the other deletes rows of; the least one.
     NotApart(BatchName),
@@ -37,3 +39,19 @@ impl<T: Drop> From<AllocFailed<T>> for PartFault {
         PartFault::Memory
     }
 }
+
+/// The fault's name and its batch, as `NotApart 3.7`, or the refusal of the part's text.
+impl fmt::Display for PartFault {
+    fn fmt<W: fmt::Write>(&self, f: &mut fmt::Formatter<W>) -> fmt::Result {
+        match self {
+            PartFault::Memory => f.write_str("Memory"),
+            PartFault::SchemaDiffers => f.write_str("SchemaDiffers"),
+            PartFault::QueryDiffers => f.write_str("QueryDiffers"),
+            PartFault::NotApart(name) => write!(f, "NotApart {name}"),
+            PartFault::TooMany => f.write_str("TooMany"),
+            PartFault::Query(refusal) => write!(f, "{refusal}"),
+        }
+    }
+}
+
+impl Error for PartFault {}

@@ -8,6 +8,8 @@ ghost use Rattle.csv_rows.specs.Wording.{ReadsWords, is_of, place_of, unused, wo
 
 use crate::bytes::first_field;
 use std::alloc::{AllocError, AllocFailed, Global};
+use std::error::Error;
+use std::fmt;
 use std::marker::Model;
 use table_model::{Column, same_text, same_word};
 
@@ -91,6 +93,19 @@ pub enum WordError {
     /// Out of memory.
     Memory,
 }
+
+impl fmt::Display for WordError {
+    fn fmt<W: fmt::Write>(&self, f: &mut fmt::Formatter<W>) -> fmt::Result {
+        match self {
+            WordError::NoNewColumn(word) => {
+                write!(f, "word {word} names no column, or one for the second time")
+            }
+            WordError::Memory => f.write_str("out of memory"),
+        }
+    }
+}
+
+impl Error for WordError {}
 
 /// The place of the column of this name, in any case.
 fn place_of(columns: &[Column], name: &[u8]) -> Option<usize>

@@ -6,10 +6,11 @@ ghost use Rattle.file_replacing.specs.Locking.{OnlyLocks};
 ghost use Rattle.file_replacing.specs.Failed.{HasFailed};
 
 use crate::{Folder, Place};
+use std::error::Error;
 use std::io::{self, ErrorKind};
 use std::rt::Clock;
-use std::thread;
 use std::time::{Duration, Instant};
+use std::{fmt, thread};
 
 /// How often a lock is tried at most; with a sleep after each try that makes ten seconds, and sleeps may take longer.
 const TRIES: u32 = 1005;
@@ -31,6 +32,18 @@ pub enum HoldError {
     /// What has its name is no lock that can be taken: no regular file, or one that may not be opened or removed.
     InTheWay,
 }
+
+impl fmt::Display for HoldError {
+    fn fmt<W: fmt::Write>(&self, f: &mut fmt::Formatter<W>) -> fmt::Result {
+        match self {
+            HoldError::Busy => f.write_str("another process has had the lock for ten seconds"),
+            HoldError::Unmade => f.write_str("the lock's file can't be made"),
+            HoldError::InTheWay => f.write_str("what has the lock's name can't be taken as a lock"),
+        }
+    }
+}
+
+impl Error for HoldError {}
 
 /// Has the lock of a file, which need not be there. The lock is an empty file that this process made, with the mode of the one that is
 /// held.

@@ -1,5 +1,8 @@
 //! What came of replacing a file.
 
+use std::error::Error;
+use std::fmt;
+
 /// How a file was replaced.
 #[derive(Clone, Copy, Debug, PartialEq, Eq, Drop)]
 pub enum Replaced {
@@ -17,3 +20,14 @@ pub enum ReplaceError {
     /// It is as it was or replaced; a crash may leave either.
     Unsure,
 }
+
+impl fmt::Display for ReplaceError {
+    fn fmt<W: fmt::Write>(&self, f: &mut fmt::Formatter<W>) -> fmt::Result {
+        match self {
+            ReplaceError::Unchanged => f.write_str("the file is unchanged"),
+            ReplaceError::Unsure => f.write_str("the file is unchanged or replaced"),
+        }
+    }
+}
+
+impl Error for ReplaceError {}

@@ -4,6 +4,8 @@ ghost use Rattle.folder_parts.specs.declared.fault.PartFault.TheVariants.{Refuse
 ghost use Rattle.table_model.specs.declared.refusal.Refusal.TheVariants.{Memory};
 
 use std::alloc::AllocError;
+use std::error::Error;
+use std::fmt;
 use table_model::Refusal;
 
 /// Why a part isn't taken.
@@ -31,6 +33,18 @@ impl From<AllocError> for PartFault {
     }
 }
 
+/// The fault's name, `Damaged`, or the refusal.
+impl fmt::Display for PartFault {
+    fn fmt<W: fmt::Write>(&self, f: &mut fmt::Formatter<W>) -> fmt::Result {
+        match self {
+            PartFault::Damaged => f.write_str("Damaged"),
+            PartFault::Refused(refusal) => write!(f, "{refusal}"),
+        }
+    }
+}
+
+impl Error for PartFault {}
+
 /// Why some parts aren't opened.
 #[derive(Clone, Copy, Debug, PartialEq, Eq)]
 pub struct PartRefusal {
@@ -48,3 +62,13 @@ impl PartFault {
         PartRefusal { part, fault: self }
     }
 }
+
+/// The part's place, from 0, and its fault.
+impl fmt::Display for PartRefusal {
+    fn fmt<W: fmt::Write>(&self, f: &mut fmt::Formatter<W>) -> fmt::Result {
+        let PartRefusal { part, fault } = self;
+        write!(f, "part {part}: {fault}")
+    }
+}
+
+impl Error for PartRefusal {}

@@ -9,6 +9,8 @@ ghost use Rattle.live_columns.specs.Choices.{Chooses, choice_of, condition_in, r
 use crate::names::places_named;
 use query_parser::{parse_condition, resolve_condition};
 use std::alloc::{AllocError, Global};
+use std::error::Error;
+use std::fmt;
 use table_model::{Condition, Refusal, Schema};
 
 /// What is asked for: a condition, or all rows; and columns by their places, from the left and from 0.
@@ -42,6 +44,17 @@ impl From<AllocError> for Unchosen {
         Unchosen::Refused(Refusal::Memory)
     }
 }
+
+impl fmt::Display for Unchosen {
+    fn fmt<W: fmt::Write>(&self, f: &mut fmt::Formatter<W>) -> fmt::Result {
+        match self {
+            Unchosen::Refused(refusal) => write!(f, "{refusal}"),
+            Unchosen::NoSuchName(at) => write!(f, "no column has the name at byte {at}"),
+        }
+    }
+}
+
+impl Error for Unchosen {}
 
 /// The condition that a text is; none if it is empty.
 fn condition_in(alloc: Global, text: &str) -> Result<Option<Condition>, Refusal>

@@ -55,12 +55,7 @@ impl fmt::Display for PartError {
     fn fmt<W: fmt::Write>(&self, f: &mut fmt::Formatter<W>) -> fmt::Result {
         match self {
             PartError::Refused(refusal) => write!(f, "{refusal}"),
-            PartError::Fault(PartFault::Memory) => write!(f, "Memory"),
-            PartError::Fault(PartFault::SchemaDiffers) => write!(f, "SchemaDiffers"),
-            PartError::Fault(PartFault::QueryDiffers) => write!(f, "QueryDiffers"),
-            PartError::Fault(PartFault::NotApart(name)) => write!(f, "NotApart {name}"),
-            PartError::Fault(PartFault::TooMany) => write!(f, "TooMany"),
-            PartError::Fault(PartFault::Query(refusal)) => write!(f, "{refusal}"),
+            PartError::Fault(fault) => write!(f, "{fault}"),
         }
     }
 }

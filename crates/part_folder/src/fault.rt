@@ -1,6 +1,8 @@
 //! Why something was not done with a folder.
 
 use std::alloc::AllocError;
+use std::error::Error;
+use std::fmt;
 use std::io::{self, ErrorKind};
 
 /// Why something was not done with a folder, which is as it was unless its caller says otherwise.
@@ -25,3 +27,15 @@ impl From<AllocError> for FolderFault {
         FolderFault::System(ErrorKind::OutOfMemory)
     }
 }
+
+impl fmt::Display for FolderFault {
+    fn fmt<W: fmt::Write>(&self, f: &mut fmt::Formatter<W>) -> fmt::Result {
+        match self {
+            FolderFault::Busy => f.write_str("others have had the folder's lock for ten seconds"),
+            FolderFault::NoLock => f.write_str("the file system has no locks of folders"),
+            FolderFault::System(kind) => write!(f, "the system refuses: {kind}"),
+        }
+    }
+}
+
+impl Error for FolderFault {}

@@ -2,6 +2,8 @@
 
 use crate::names::{path_in, random_digits};
 use std::alloc::AllocError;
+use std::error::Error;
+use std::fmt;
 use std::fs::{self, File, Files, OpenOptions};
 use std::io::{self, ErrorKind, Write};
 use std::random::RandomSource;
@@ -26,6 +28,17 @@ impl From<AllocError> for MakeFault {
         MakeFault::System(ErrorKind::OutOfMemory)
     }
 }
+
+impl fmt::Display for MakeFault {
+    fn fmt<W: fmt::Write>(&self, f: &mut fmt::Formatter<W>) -> fmt::Result {
+        match self {
+            MakeFault::Exists => f.write_str("something has the folder's name"),
+            MakeFault::System(kind) => write!(f, "the system refuses: {kind}"),
+        }
+    }
+}
+
+impl Error for MakeFault {}
 
 /// Makes a folder that has one file, of this name and with these bytes: all at once, on the disk, or not at all. It is made next to its
 /// place as `.NAME.lanes-new-` and 16 digits, which a crash may leave. Slashes at the end of the folder's name say nothing. Answers

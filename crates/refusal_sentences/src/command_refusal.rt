@@ -3,6 +3,7 @@ ghost use Rattle.std.specs.Prelude.{◌≡◌};
 ghost use Rattle.refusal_sentences.specs.declared.command_refusal.CommandRefusal.TheVariants.{Named};
 
 use std::alloc::AllocError;
+use std::error::Error;
 use std::fmt;
 use table_model::{BatchName, Refusal};
 
@@ -65,3 +66,5 @@ impl fmt::Display for CommandRefusal {
         }
     }
 }
+
+impl Error for CommandRefusal {}

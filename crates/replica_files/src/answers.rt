@@ -8,6 +8,8 @@ ghost use Rattle.replica_files.specs.Asking.{WritesText, Tells, answered_in, ans
 use crate::open_file::OpenFile;
 use answer_formats::{Format, format_answer};
 use std::alloc::Global;
+use std::error::Error;
+use std::fmt;
 use std::io::Write;
 use store_view::ask;
 use table_model::{Counted, Refusal};
@@ -20,6 +22,16 @@ pub struct NotAnswered {
     /// What the query is refused as.
     pub refusal: Refusal,
 }
+
+/// How many queries were answered, and the refusal of the next one.
+impl fmt::Display for NotAnswered {
+    fn fmt<W: fmt::Write>(&self, f: &mut fmt::Formatter<W>) -> fmt::Result {
+        let NotAnswered { answered, refusal } = self;
+        write!(f, "after {answered} queries: {refusal}")
+    }
+}
+
+impl Error for NotAnswered {}
 
 /// The text of a query's answer over a file, in a format.
 ///
