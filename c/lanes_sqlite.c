@@ -1,19 +1,21 @@
-/* A loadable extension of SQLite: the rows of a file of lanes, or the answer of a query over it, as a table.
+/* A loadable extension of SQLite: the rows of a file or a folder of lanes, or the answer of a query over it, as a table.
  *
  *     .load ./lanes_sqlite
  *     CREATE VIRTUAL TABLE temp.visits  USING lanes('visits.lanes');
  *     CREATE VIRTUAL TABLE temp.by_site USING lanes('visits.lanes', 'SELECT SITE,SUM(HITS) AS HITS FROM VISITS GROUP BY SITE');
  *     SELECT name, hits FROM by_site JOIN sites ON sites.id = by_site.site ORDER BY hits DESC;
  *
- * Tables are read only. The file is opened when a statement opens a first cursor, and not again before the last one is closed. So all scans
- * of a statement see one state of it, and name a row by the same rowid: its place among the live rows. Of rows, columns that a
- * statement doesn't use aren't read, and comparisons of a column with an integer go down as a condition; SQLite judges them once more.
+ * Tables are read only. A statement opens the file at its first scan of the table, and closes it with its last cursor. So all its scans
+ * see one state, whatever other statements do meanwhile, and name a row by the same rowid: its place among the live rows. Of
+ * rows, columns that a statement doesn't use aren't read. Comparisons of a column with an
+ * integer go down as a condition, and those of the rowid as the rows that are given; SQLite judges them once more.
  *
  * c/build makes it, with the library inside. */
 #include <sqlite3ext.h>
 SQLITE_EXTENSION_INIT1
 
 #include "lanes.h"
+#include "lanes_folder.h"
 
 #include <fcntl.h>
 #include <stdlib.h>
@@ -25,16 +27,31 @@ SQLITE_EXTENSION_INIT1
 /* How many columns a table has at most. */
 #define COLUMNS 32
 
+/* The library gives the columns of all batches at once: they are taken as one. */
+static size_t lanes_batches(lanes_table *table) { return table->opened != NULL; }
+
+static uint8_t lanes_columns_between(lanes_table *table, size_t first, size_t count, const uint8_t *names, size_t names_length, const uint8_t *condition, size_t condition_length, int64_t *values, size_t values_room, uint8_t *valid, size_t valid_room, uint64_t *nulls, size_t nulls_room, size_t *rows, lanes_place *place) {
+    size_t no_room = 0;
+    uint8_t number = lanes_columns(table, names, names_length, condition, condition_length, values, first || !count ? no_room : values_room, valid, valid_room, nulls, nulls_room, rows, place);
+    if (first || !count) *rows = 0;
+    return number;
+}
+
+/* How many rows a step is to have, and how many it has at most, unless one batch has more. */
+#define ENOUGH 65536
+#define MANY 262144
+
 /* The comparisons that go down, by the digit that stands for one in a plan, and by what number the rows are likely to be divided. */
+enum { EQUAL, OTHER, LESS, LESS_OR_EQUAL, GREATER, GREATER_OR_EQUAL, COMPARISONS };
 static const struct {
     int op;
     const char *text;
     double part;
-} comparisons[] = {
-    {SQLITE_INDEX_CONSTRAINT_EQ, "=", 100}, {SQLITE_INDEX_CONSTRAINT_NE, "<>", 1.1}, {SQLITE_INDEX_CONSTRAINT_LT, "<", 3},
-    {SQLITE_INDEX_CONSTRAINT_LE, "<=", 3},  {SQLITE_INDEX_CONSTRAINT_GT, ">", 3},    {SQLITE_INDEX_CONSTRAINT_GE, ">=", 3},
+} comparisons[COMPARISONS] = {
+    [EQUAL] = {SQLITE_INDEX_CONSTRAINT_EQ, "=", 100},        [OTHER] = {SQLITE_INDEX_CONSTRAINT_NE, "<>", 1.1},
+    [LESS] = {SQLITE_INDEX_CONSTRAINT_LT, "<", 3},           [LESS_OR_EQUAL] = {SQLITE_INDEX_CONSTRAINT_LE, "<=", 3},
+    [GREATER] = {SQLITE_INDEX_CONSTRAINT_GT, ">", 3},        [GREATER_OR_EQUAL] = {SQLITE_INDEX_CONSTRAINT_GE, ">=", 3},
 };
-#define COMPARISONS ((int)(sizeof comparisons / sizeof *comparisons))
 
 /* One comparison of a column with a number. */
 typedef struct {
@@ -43,16 +60,33 @@ typedef struct {
     sqlite3_int64 number;
 } test;
 
-/* Columns that were read: those whose bits are set in `used`, at the rows at which a condition is true. Cursors share it. */
+/* Columns of some batches that were read: those whose bits are set in `used`, at the rows at which a condition is true. Cursors share it. */
 typedef struct {
     int users;
     unsigned used;
     char *condition;
+    size_t first, batches;
     size_t rows, stride;
     int64_t *values;
     uint8_t *valid;
     int at[COLUMNS]; /* which of the columns that were read a column is */
 } block;
+
+/* What a statement sees. It is opened at the statement's first scan, and closed with its last cursor. */
+typedef struct state {
+    struct state *next;
+    sqlite3_value **statement; /* SQLite gives all scans of a statement the same array of arguments, and no other statement has it */
+    int users;
+    int file; /* is open so that no other file gets its number; -1 of a folder */
+    struct stat found;
+    lanes_table table;
+    size_t batches;
+    block *kept;        /* what was read last */
+    size_t *live;       /* how many live rows come before each batch and after the last one, once that was asked for */
+    char *answer;       /* the text of the answer, once it was asked for */
+    const char **lines; /* where its lines begin, from the first after the headings, and where it ends */
+    size_t count;       /* how many such lines there are */
+} state;
 
 typedef struct {
     sqlite3_vtab base;
@@ -60,23 +94,25 @@ typedef struct {
     int columns;
     char *names[COLUMNS];
     sqlite3_int64 live;
-    /* what the open cursors see */
-    int cursors;
-    lanes_table table;
-    block *kept;  /* what was read last */
-    char *answer; /* the text of the answer, once it was asked for */
+    state *states;
 } vtab;
 
 typedef struct {
     sqlite3_vtab_cursor base;
-    size_t at;
+    state *seen;
+    size_t at; /* a row of the block, or a line of the answer */
     /* rows */
     block *rows;
+    int is_read; /* whether the scan has read a block */
+    unsigned used;
+    char *condition;
+    size_t next, end;        /* the batches that are still to be read */
+    size_t step;             /* how many of them at once */
+    sqlite3_int64 low, high; /* which rows are asked for, or lines */
     int count;
     test *tests;
-    size_t *places; /* of a block with a condition: which of the live rows its rows are, once that was asked for */
+    size_t *places; /* of a block with a condition: which of its batches' live rows its rows are, once that was asked for */
     /* an answer */
-    const char *line;
     const char **fields; /* where the fields of the line begin, and where it ends */
 } cursor;
 
@@ -87,30 +123,14 @@ static int fault(vtab *v, int code, char *message) {
     return message ? code : SQLITE_NOMEM;
 }
 
-static int refuse(vtab *v, uint8_t number, const lanes_place *place) {
+static int refuse(vtab *v, const char *path, uint8_t number, const lanes_place *place) {
     uint8_t name[32], sentence[256];
     if (number == LANES_MEMORY) return SQLITE_NOMEM;
     int names = (int)lanes_refusal(number, name, sizeof name), letters = (int)lanes_sentence(number, place, sentence, sizeof sentence);
-    return fault(v, SQLITE_ERROR, sqlite3_mprintf("lanes: %s: %.*s: %.*s", v->path, names, name, letters, sentence));
+    return fault(v, SQLITE_ERROR, sqlite3_mprintf("lanes: %s: %.*s: %.*s", path, names, name, letters, sentence));
 }
 
-/* Opens the file as it is. */
-static int open_file(vtab *v) {
-    struct stat found;
-    lanes_place place;
-    int file = open(v->path, O_RDONLY | O_CLOEXEC);
-    if (file < 0 || fstat(file, &found) || !S_ISREG(found.st_mode)) {
-        if (file >= 0) close(file);
-        return fault(v, SQLITE_CANTOPEN, sqlite3_mprintf("lanes: %s can't be read", v->path));
-    }
-    size_t length = (size_t)found.st_size;
-    void *bytes = length ? mmap(NULL, length, PROT_READ, MAP_PRIVATE, file, 0) : "";
-    close(file);
-    if (bytes == MAP_FAILED) return fault(v, SQLITE_CANTOPEN, sqlite3_mprintf("lanes: %s can't be read", v->path));
-    uint8_t number = lanes_open(bytes, length, &v->table, &place);
-    if (length) munmap(bytes, length);
-    return number ? refuse(v, number, &place) : SQLITE_OK;
-}
+static int unreadable(vtab *v, const char *path) { return fault(v, SQLITE_CANTOPEN, sqlite3_mprintf("lanes: %s can't be read", path)); }
 
 /* Blocks. */
 
@@ -130,8 +150,8 @@ static char *names_of(const vtab *v, unsigned used) {
     return sqlite3_str_finish(text);
 }
 
-/* Reads columns into a block that has its condition. */
-static int fill_block(vtab *v, block *b) {
+/* Reads columns into a block that has its condition and its batches; of fewer batches, if they have many rows. */
+static int fill_block(vtab *v, state *s, block *b) {
     lanes_place place;
     uint64_t nulls[COLUMNS];
     int64_t no_value;
@@ -143,44 +163,49 @@ static int fill_block(vtab *v, block *b) {
         if (b->used >> c & 1) b->at[c] = (int)columns++;
     char *names = columns ? names_of(v, b->used) : sqlite3_mprintf("%s", v->names[0]);
     if (!names) return SQLITE_NOMEM;
-    uint8_t number = lanes_columns(&v->table, (const uint8_t *)names, strlen(names), condition, length, &no_value, 0, &no_bits, 0, nulls, 0, &b->rows, &place);
+    const uint8_t *list = (const uint8_t *)names;
+    uint8_t number;
+    for (;; b->batches /= 2) {
+        number = lanes_columns_between(&s->table, b->first, b->batches, list, strlen(names), condition, length, &no_value, 0, &no_bits, 0, nulls, 0, &b->rows, &place);
+        if (number || b->rows <= MANY || b->batches < 2) break;
+    }
     if (!number && columns && b->rows) {
         b->stride = 64 * ((b->rows + 511) / 512);
         b->values = malloc(b->rows * columns * sizeof *b->values);
         b->valid = malloc(b->stride * columns);
         if (b->values && b->valid)
-            number = lanes_columns(&v->table, (const uint8_t *)names, strlen(names), condition, length, b->values, b->rows * columns, b->valid, b->stride * columns, nulls, columns, &b->rows, &place);
+            number = lanes_columns_between(&s->table, b->first, b->batches, list, strlen(names), condition, length, b->values, b->rows * columns, b->valid, b->stride * columns, nulls, columns, &b->rows, &place);
         else
             number = LANES_MEMORY;
     }
     sqlite3_free(names);
-    return number ? refuse(v, number, &place) : SQLITE_OK;
+    return number ? refuse(v, v->path, number, &place) : SQLITE_OK;
 }
 
-/* The columns that are used, at the rows at which a condition is true: what was read last, or what is read now. The condition is taken. */
-static int read_block(vtab *v, unsigned used, char *condition, block **found) {
-    if (!condition) return SQLITE_NOMEM;
-    if (v->kept && (v->kept->used & used) == used && !strcmp(v->kept->condition, condition)) {
-        sqlite3_free(condition);
-    } else {
+/* Whether a block has what is wanted. It may have fewer batches. */
+static int has(const block *b, unsigned used, const char *condition, size_t first, size_t batches) {
+    return b && (b->used & used) == used && b->first == first && b->batches <= batches && !strcmp(b->condition, condition);
+}
+
+/* The columns that are used, of batches, at the rows at which a condition is true: what a cursor has, what was read last, or what is
+ * read now. The block takes the place of the cursor's. */
+static int read_block(vtab *v, state *s, unsigned used, const char *condition, size_t first, size_t batches, block **held) {
+    if (has(*held, used, condition, first, batches)) return SQLITE_OK;
+    if (!has(s->kept, used, condition, first, batches)) {
         block *b = calloc(1, sizeof *b);
-        if (!b) {
-            sqlite3_free(condition);
-            return SQLITE_NOMEM;
-        }
-        b->users = 1;
-        b->used = used;
-        b->condition = condition;
-        int code = fill_block(v, b);
+        if (!b) return SQLITE_NOMEM;
+        *b = (block){.users = 1, .used = used, .condition = sqlite3_mprintf("%s", condition), .first = first, .batches = batches};
+        int code = b->condition ? fill_block(v, s, b) : SQLITE_NOMEM;
         if (code) {
             leave_block(b);
             return code;
         }
-        leave_block(v->kept);
-        v->kept = b;
+        leave_block(s->kept);
+        s->kept = b;
     }
-    v->kept->users++;
-    *found = v->kept;
+    s->kept->users++;
+    leave_block(*held);
+    *held = s->kept;
     return SQLITE_OK;
 }
 
@@ -191,35 +216,189 @@ static int64_t value(const block *b, int column, size_t row) { return b->values[
 
 /* Answers. */
 
+/* Finds the lines of the answer behind its headings. */
+static int find_lines(state *s) {
+    const char *first = strchr(s->answer, '\n') + 1;
+    size_t count = 0;
+    for (const char *at = first; (at = strchr(at, '\n')); at++) count++;
+    s->lines = malloc((count + 1) * sizeof *s->lines);
+    if (!s->lines) return SQLITE_NOMEM;
+    for (s->count = 0; s->count < count; s->count++, first = strchr(first, '\n') + 1) s->lines[s->count] = first;
+    s->lines[count] = first;
+    return SQLITE_OK;
+}
+
 /* Asks for the answer, if it isn't there. */
-static int ask(vtab *v) {
-    size_t room = 65536, length;
+static int ask(vtab *v, state *s) {
+    size_t room = 1 << 20, length;
     lanes_place place;
-    while (!v->answer) {
-        char *text = sqlite3_malloc64(room + 1);
+    while (!s->answer) {
+        char *text = malloc(room + 1);
         if (!text) return SQLITE_NOMEM;
-        uint8_t number = lanes_ask(&v->table, (const uint8_t *)v->sql, strlen(v->sql), (uint8_t *)text, room, &length, &place);
+        uint8_t number = lanes_ask(&s->table, (const uint8_t *)v->sql, strlen(v->sql), (uint8_t *)text, room, &length, &place);
         if (!number && length <= room) {
             text[length] = 0;
-            v->answer = text;
-            return SQLITE_OK;
+            s->answer = text;
+            return find_lines(s);
         }
-        sqlite3_free(text);
-        if (number) return refuse(v, number, &place);
+        free(text);
+        if (number) return refuse(v, v->path, number, &place);
         room = length;
     }
     return SQLITE_OK;
 }
 
-/* Goes to a line of the answer: where it begins, or the end of the text. */
-static void go_to_line(cursor *c, const char *line) {
+/* Finds the fields of the cursor's line. */
+static void find_fields(cursor *c) {
     int columns = ((vtab *)c->base.pVtab)->columns, field = 0;
-    c->line = *line ? line : NULL;
-    if (!c->line) return;
+    if (c->at >= c->seen->count) return;
+    const char *line = c->seen->lines[c->at];
     c->fields[0] = line;
     for (; *line != '\n'; line++)
         if (*line == ',' && field + 1 < columns) c->fields[++field] = line + 1;
     c->fields[columns] = line + 1;
+}
+
+/* States. */
+
+static void close_state(state *s) {
+    leave_block(s->kept);
+    free(s->live);
+    free(s->answer);
+    free(s->lines);
+    lanes_close(&s->table);
+    if (s->file >= 0) close(s->file);
+}
+
+static int open_bytes(vtab *v, const void *bytes, size_t length, state *s) {
+    lanes_place place;
+    uint8_t number = lanes_open(bytes, length, &s->table, &place);
+    return number ? refuse(v, v->path, number, &place) : SQLITE_OK;
+}
+
+/* Says why a folder isn't read. */
+static int refuse_folder(vtab *v, const lanes_folder_fault *why) {
+    switch (why->why) {
+    case LANES_FOLDER_REFUSED: return refuse(v, why->path, why->number, &why->place);
+    case LANES_FOLDER_EMPTY: return fault(v, SQLITE_CANTOPEN, sqlite3_mprintf("lanes: %s has no part, so it is no replica", why->path));
+    case LANES_FOLDER_BUSY: return fault(v, SQLITE_BUSY, sqlite3_mprintf("lanes: %s: Busy: others have the folder, or parts come and go", why->path));
+    case LANES_FOLDER_MEMORY: return SQLITE_NOMEM;
+    default: return unreadable(v, why->path);
+    }
+}
+
+/* Opens what the parts of a folder hold together. */
+static int open_folder(vtab *v, state *s) {
+    lanes_folder_fault why;
+    size_t length;
+    uint8_t *bytes = lanes_folder_read(v->path, &length, &why);
+    if (!bytes) return refuse_folder(v, &why);
+    int code = open_bytes(v, bytes, length, s);
+    free(bytes);
+    return code;
+}
+
+/* Whether two files are one, which was not written to meanwhile. */
+static int is_same_file(const struct stat *a, const struct stat *b) {
+    return a->st_dev == b->st_dev && a->st_ino == b->st_ino && a->st_size == b->st_size && a->st_mtim.tv_sec == b->st_mtim.tv_sec && a->st_mtim.tv_nsec == b->st_mtim.tv_nsec && a->st_ctim.tv_sec == b->st_ctim.tv_sec && a->st_ctim.tv_nsec == b->st_ctim.tv_nsec;
+}
+
+/* Opens the file as it is. What another statement has open of it is shared. */
+static int open_file(vtab *v, state *s) {
+    for (state *other = v->states; other; other = other->next)
+        if (other->file >= 0 && is_same_file(&other->found, &s->found)) return lanes_share(&other->table, &s->table) ? SQLITE_NOMEM : SQLITE_OK;
+    size_t length = (size_t)s->found.st_size;
+    void *bytes = length ? mmap(NULL, length, PROT_READ, MAP_PRIVATE, s->file, 0) : "";
+    if (bytes == MAP_FAILED) return unreadable(v, v->path);
+    int code = open_bytes(v, bytes, length, s);
+    if (length) munmap(bytes, length);
+    return code;
+}
+
+/* Opens a state that is zero: what the file, or the folder, holds now. */
+static int open_state(vtab *v, state *s) {
+    s->file = open(v->path, O_RDONLY | O_CLOEXEC);
+    if (s->file < 0 || fstat(s->file, &s->found)) return unreadable(v, v->path);
+    int code = SQLITE_OK;
+    if (S_ISDIR(s->found.st_mode)) {
+        close(s->file);
+        s->file = -1;
+        code = open_folder(v, s);
+    } else {
+        code = S_ISREG(s->found.st_mode) ? open_file(v, s) : unreadable(v, v->path);
+    }
+    s->batches = lanes_batches(&s->table);
+    return code;
+}
+
+/* Whether the file has the columns that were declared, as another one in its place may not. */
+static int has_columns(vtab *v, state *s) {
+    block none = {.users = 1, .used = v->columns < COLUMNS ? (1u << v->columns) - 1 : ~0u, .condition = ""};
+    return v->sql ? SQLITE_OK : fill_block(v, s, &none);
+}
+
+/* Gives a cursor what its statement sees. */
+static int see(vtab *v, cursor *c, sqlite3_value **statement) {
+    if (c->seen) return SQLITE_OK;
+    for (state *s = v->states; s && !c->seen; s = s->next)
+        if (s->statement == statement) c->seen = s;
+    if (!c->seen) {
+        state *s = calloc(1, sizeof *s);
+        if (!s) return SQLITE_NOMEM;
+        int code = open_state(v, s);
+        if (!code) code = has_columns(v, s);
+        if (code) {
+            close_state(s);
+            free(s);
+            return code;
+        }
+        s->statement = statement;
+        s->next = v->states;
+        c->seen = v->states = s;
+    }
+    c->seen->users++;
+    return SQLITE_OK;
+}
+
+/* Takes that from a cursor. */
+static void look_away(vtab *v, cursor *c) {
+    if (!c->seen || --c->seen->users) return;
+    state **at = &v->states;
+    while (*at != c->seen) at = &(*at)->next;
+    *at = c->seen->next;
+    close_state(c->seen);
+    free(c->seen);
+}
+
+/* Finds how many live rows come before each batch, if that isn't known. */
+static int count_live(vtab *v, state *s) {
+    if (s->live) return SQLITE_OK;
+    block one = {.users = 1, .condition = ""};
+    size_t *live = malloc((s->batches + 1) * sizeof *live);
+    if (!live) return SQLITE_NOMEM;
+    live[0] = 0;
+    for (one.first = 0; one.first < s->batches; one.first++) {
+        one.batches = 1;
+        int code = fill_block(v, s, &one);
+        if (code) {
+            free(live);
+            return code;
+        }
+        live[one.first + 1] = live[one.first] + one.rows;
+    }
+    s->live = live;
+    return SQLITE_OK;
+}
+
+/* The batch that has this live row. */
+static size_t batch_of(const state *s, size_t row) {
+    size_t low = 0, high = s->batches;
+    while (high - low > 1) {
+        size_t middle = low + (high - low) / 2;
+        if (s->live[middle] <= row) low = middle;
+        else high = middle;
+    }
+    return low;
 }
 
 /* Tables. */
@@ -242,18 +421,8 @@ static char *unquoted(const char *word) {
     return text;
 }
 
-/* Forgets what open cursors see. */
-static void close_file(vtab *v) {
-    leave_block(v->kept);
-    v->kept = NULL;
-    sqlite3_free(v->answer);
-    v->answer = NULL;
-    lanes_close(&v->table);
-}
-
 static int disconnect(sqlite3_vtab *base) {
     vtab *v = (vtab *)base;
-    close_file(v);
     for (int c = 0; c < COLUMNS; c++) sqlite3_free(v->names[c]);
     sqlite3_free(v->path);
     sqlite3_free(v->sql);
@@ -262,28 +431,29 @@ static int disconnect(sqlite3_vtab *base) {
 }
 
 /* Declares the columns of an answer by its headings. */
-static int declare_answer(vtab *v, sqlite3_str *text) {
-    int code = ask(v);
+static int declare_answer(vtab *v, state *s, sqlite3_str *text) {
+    int code = ask(v, s);
     if (code) return code;
-    const char *at = v->answer;
+    const char *at = s->answer;
     do {
         size_t length = strcspn(at, ",\n");
         sqlite3_str_appendf(text, "%s\"%.*w\" NUMERIC", v->columns++ ? "," : "", (int)length, at);
         at += length;
     } while (*at++ == ',');
+    v->live = (sqlite3_int64)s->count;
     return SQLITE_OK;
 }
 
 /* The words of the file's schema: the table's name, and of each column its name and its type. */
-static int declare_rows(vtab *v, sqlite3_str *text) {
+static int declare_rows(vtab *v, state *s, sqlite3_str *text) {
     char schema[4096], *at = schema;
     size_t length, rows;
     int64_t no_value;
     uint8_t no_bits;
     uint64_t no_count;
     lanes_place place;
-    uint8_t number = lanes_schema(&v->table, (uint8_t *)schema, sizeof schema - 1, &length, &place);
-    if (number) return refuse(v, number, &place);
+    uint8_t number = lanes_schema(&s->table, (uint8_t *)schema, sizeof schema - 1, &length, &place);
+    if (number) return refuse(v, v->path, number, &place);
     schema[length] = 0;
     while ((at = strchr(at, ' '))) {
         char *kind = strchr(++at, ' ');
@@ -293,17 +463,18 @@ static int declare_rows(vtab *v, sqlite3_str *text) {
         sqlite3_str_appendf(text, "%s\"%w\" INTEGER", v->columns > 1 ? "," : "", name);
         at = kind + 1;
     }
-    number = lanes_columns(&v->table, (const uint8_t *)"", 0, (const uint8_t *)"", 0, &no_value, 0, &no_bits, 0, &no_count, 0, &rows, &place);
+    number = lanes_columns(&s->table, (const uint8_t *)"", 0, (const uint8_t *)"", 0, &no_value, 0, &no_bits, 0, &no_count, 0, &rows, &place);
     v->live = (sqlite3_int64)rows;
-    return number ? refuse(v, number, &place) : SQLITE_OK;
+    return number ? refuse(v, v->path, number, &place) : SQLITE_OK;
 }
 
 static int declare(sqlite3 *db, vtab *v) {
+    state now = {.file = -1};
     sqlite3_str *text = sqlite3_str_new(db);
     sqlite3_str_appendall(text, "CREATE TABLE x(");
-    int code = open_file(v);
-    if (!code) code = v->sql ? declare_answer(v, text) : declare_rows(v, text);
-    close_file(v);
+    int code = open_state(v, &now);
+    if (!code) code = v->sql ? declare_answer(v, &now, text) : declare_rows(v, &now, text);
+    close_state(&now);
     sqlite3_str_appendall(text, ")");
     char *declaration = sqlite3_str_finish(text);
     if (!code) code = declaration ? sqlite3_declare_vtab(db, declaration) : SQLITE_NOMEM;
@@ -338,67 +509,63 @@ static int create(sqlite3 *db, void *with, int count, const char *const *words, 
 }
 
 /* Plans. idxNum has the columns that are used, a bit each, and idxStr of each comparison that goes down a letter for its column, from '@',
- * and a digit. */
+ * and a digit. The rowid's letter is the one before. */
+#define ROWID (-1)
+
 static int best_index(sqlite3_vtab *base, sqlite3_index_info *info) {
     vtab *v = (vtab *)base;
-    double rows = v->sql ? 1000 : (double)v->live;
+    double rows = (double)v->live, read = (double)v->live;
     int taken = 0;
     sqlite3_str *plan = sqlite3_str_new(NULL);
-    for (int k = 0; !v->sql && k < info->nConstraint; k++) {
-        if (!info->aConstraint[k].usable || info->aConstraint[k].iColumn < 0) continue;
+    for (int k = 0; k < info->nConstraint; k++) {
+        int column = info->aConstraint[k].iColumn;
+        if (!info->aConstraint[k].usable || (v->sql && column != ROWID)) continue;
         for (int i = 0; i < COMPARISONS; i++) {
             if (info->aConstraint[k].op != comparisons[i].op) continue;
             info->aConstraintUsage[k].argvIndex = ++taken;
+            sqlite3_str_appendf(plan, "%c%c", '@' + column, '0' + i);
             rows /= comparisons[i].part;
-            sqlite3_str_appendf(plan, "%c%c", '@' + info->aConstraint[k].iColumn, '0' + i);
+            if (column != ROWID) continue;
+            read /= comparisons[i].part;
+            if (i != EQUAL) continue;
+            rows = 1;
+            read = 100;
+            info->idxFlags = SQLITE_INDEX_SCAN_UNIQUE;
         }
     }
     info->idxNum = (int)(unsigned)info->colUsed;
     info->idxStr = sqlite3_str_finish(plan);
     info->needToFreeIdxStr = 1;
     info->estimatedRows = rows < 1 ? 1 : (sqlite3_int64)rows;
-    info->estimatedCost = (v->sql ? 1000 : (double)v->live) + 10 * rows;
+    info->estimatedCost = read + 10 * rows;
     return SQLITE_OK;
 }
 
 /* Cursors. */
 
-static void empty(cursor *c) {
-    leave_block(c->rows);
-    free(c->places);
-    free(c->tests);
-    c->rows = NULL;
-    c->places = NULL;
-    c->tests = NULL;
-    c->line = NULL;
-    c->at = 0;
-    c->count = 0;
-}
-
 static int open_cursor(sqlite3_vtab *base, sqlite3_vtab_cursor **out) {
     vtab *v = (vtab *)base;
     cursor *c = calloc(1, sizeof *c);
     const char **fields = calloc((size_t)v->columns + 1, sizeof *fields);
-    int code = c && fields ? SQLITE_OK : SQLITE_NOMEM;
-    if (!code && !v->cursors) code = open_file(v);
-    if (code) {
+    if (!c || !fields) {
         free(c);
         free(fields);
-        return code;
+        return SQLITE_NOMEM;
     }
     c->fields = fields;
-    v->cursors++;
     *out = &c->base;
     return SQLITE_OK;
 }
 
 static int close_cursor(sqlite3_vtab_cursor *base) {
     cursor *c = (cursor *)base;
-    vtab *v = (vtab *)base->pVtab;
-    empty(c);
+    leave_block(c->rows);
+    look_away((vtab *)base->pVtab, c);
+    free(c->places);
+    free(c->tests);
+    sqlite3_free(c->condition);
     free(c->fields);
     free(c);
-    if (!--v->cursors) close_file(v);
     return SQLITE_OK;
 }
 
@@ -414,33 +581,106 @@ static char *condition_of(const vtab *v, const cursor *c) {
     return sqlite3_str_finish(text);
 }
 
+/* Narrows a range of rows by a comparison of the rowid. */
+static void narrow(cursor *c, int comparison, sqlite3_int64 number) {
+    sqlite3_int64 low = 0, high = INT64_MAX;
+    if (comparison == EQUAL || comparison == GREATER_OR_EQUAL) low = number;
+    if (comparison == GREATER) low = number == INT64_MAX ? number : number + 1;
+    if (comparison == EQUAL || comparison == LESS_OR_EQUAL) high = number;
+    if (comparison == LESS) high = number <= 0 ? -1 : number - 1;
+    if (low > c->low) c->low = low;
+    if (high < c->high) c->high = high;
+}
+
+/* Takes the comparisons of a plan. An argument that is no integer is left to SQLite. */
+static int take_tests(cursor *c, const char *plan, int count, sqlite3_value **arguments) {
+    test *tests = realloc(c->tests, ((size_t)count + 1) * sizeof *tests);
+    if (!tests) return SQLITE_NOMEM;
+    c->tests = tests;
+    c->count = 0;
+    c->low = 0;
+    c->high = INT64_MAX;
+    for (int k = 0; k < count; k++) {
+        int column = plan[2 * k] - '@', comparison = plan[2 * k + 1] - '0';
+        if (sqlite3_value_type(arguments[k]) != SQLITE_INTEGER) continue;
+        sqlite3_int64 number = sqlite3_value_int64(arguments[k]);
+        if (column == ROWID) narrow(c, comparison, number);
+        else c->tests[c->count++] = (test){column, comparison, number};
+    }
+    if (c->low == c->high) c->count = 0; /* one row is looked at, and scans of others find the same block */
+    return SQLITE_OK;
+}
+
+/* Reads on until there is a row, or no batch is left. */
+static int read_on(cursor *c) {
+    vtab *v = (vtab *)c->base.pVtab;
+    while (c->at >= (c->is_read ? c->rows->rows : 0) && c->next < c->end) {
+        size_t most = c->end - c->next < c->step ? c->end - c->next : c->step;
+        int code = read_block(v, c->seen, c->used, c->condition, c->next, most, &c->rows);
+        if (code) return code;
+        c->is_read = 1;
+        c->at = 0;
+        c->next += c->rows->batches;
+        if (c->rows->rows < ENOUGH) c->step *= 2;
+        free(c->places);
+        c->places = NULL;
+    }
+    return SQLITE_OK;
+}
+
+/* Begins a scan of rows. */
+static int scan(cursor *c) {
+    vtab *v = (vtab *)c->base.pVtab;
+    state *s = c->seen;
+    c->is_read = 0;
+    c->at = 0;
+    c->next = 0;
+    c->end = c->low > c->high ? 0 : s->batches;
+    c->step = v->live <= ENOUGH ? s->batches + 1 : 1;
+    sqlite3_free(c->condition);
+    c->condition = condition_of(v, c);
+    if (!c->condition) return SQLITE_NOMEM;
+    if (c->low <= 0 && c->high == INT64_MAX) return read_on(c);
+    int code = count_live(v, s);
+    if (code) return code;
+    size_t rows = s->live[s->batches];
+    if (c->low > c->high || (size_t)c->low >= rows) c->end = 0;
+    if (!c->end) return SQLITE_OK;
+    c->next = batch_of(s, (size_t)c->low);
+    c->end = batch_of(s, (size_t)c->high < rows ? (size_t)c->high : rows - 1) + 1;
+    c->step = 1;
+    code = read_on(c);
+    if (!code && !c->count) c->at = (size_t)c->low - s->live[c->rows->first];
+    return code;
+}
+
 static int filter(sqlite3_vtab_cursor *base, int used, const char *plan, int count, sqlite3_value **arguments) {
     cursor *c = (cursor *)base;
     vtab *v = (vtab *)base->pVtab;
-    empty(c);
-    if (v->sql) {
-        int code = ask(v);
-        if (!code) go_to_line(c, strchr(v->answer, '\n') + 1);
-        return code;
-    }
-    c->tests = calloc((size_t)count + 1, sizeof *c->tests);
-    if (!c->tests) return SQLITE_NOMEM;
-    for (int k = 0; k < count; k++) /* an argument that is no integer is left to SQLite */
-        if (sqlite3_value_type(arguments[k]) == SQLITE_INTEGER)
-            c->tests[c->count++] = (test){plan[2 * k] - '@', plan[2 * k + 1] - '0', sqlite3_value_int64(arguments[k])};
-    return read_block(v, (unsigned)used, condition_of(v, c), &c->rows);
+    int code = see(v, c, arguments);
+    if (!code) code = take_tests(c, plan, count, arguments);
+    if (code) return code;
+    c->used = (unsigned)used;
+    if (!v->sql) return scan(c);
+    code = ask(v, c->seen);
+    c->at = c->low > c->high || (size_t)c->low > c->seen->count ? c->seen->count : (size_t)c->low;
+    if (!code) find_fields(c);
+    return code;
 }
 
 static int next(sqlite3_vtab_cursor *base) {
     cursor *c = (cursor *)base;
     c->at++;
-    if (((vtab *)base->pVtab)->sql) go_to_line(c, c->fields[((vtab *)base->pVtab)->columns]);
+    if (!((vtab *)base->pVtab)->sql) return read_on(c);
+    find_fields(c);
     return SQLITE_OK;
 }
 
 static int is_at_end(sqlite3_vtab_cursor *base) {
     cursor *c = (cursor *)base;
-    return ((vtab *)base->pVtab)->sql ? !c->line : c->at >= c->rows->rows;
+    if (((vtab *)base->pVtab)->sql) return c->at >= c->seen->count || (sqlite3_int64)c->at > c->high;
+    if (!c->is_read || c->at >= c->rows->rows) return 1;
+    return !c->count && c->high < INT64_MAX && (sqlite3_int64)(c->seen->live[c->rows->first] + c->at) > c->high;
 }
 
 /* Gives a field of an answer: a whole number, as text if it has more than 64 bits; a mean as a float; or a null. */
@@ -484,31 +724,35 @@ static int is_kept(const cursor *c, const block *b, size_t row) {
     return 1;
 }
 
-/* Finds which of the live rows a cursor's rows are: those at which its comparisons are true, in order. */
+/* Finds which of its batches' live rows a cursor's rows are: those at which its comparisons are true, in order. */
 static int find_places(cursor *c) {
     vtab *v = (vtab *)c->base.pVtab;
     unsigned used = 0;
-    block *all;
+    size_t found = 0, before = 0;
+    block *all = NULL;
+    int code = SQLITE_OK;
     for (int k = 0; k < c->count; k++) used |= 1u << c->tests[k].column;
-    int code = read_block(v, used, sqlite3_mprintf(""), &all);
-    if (code) return code;
-    size_t found = 0;
-    c->places = malloc((c->rows->rows + 1) * sizeof *c->places);
-    for (size_t row = 0; c->places && row < all->rows && found < c->rows->rows; row++)
-        if (is_kept(c, all, row)) c->places[found++] = row;
+    size_t *places = malloc((c->rows->rows + 1) * sizeof *places);
+    if (!places) return SQLITE_NOMEM;
+    for (size_t batch = c->rows->first, end = batch + c->rows->batches; batch < end && !code; before += code ? 0 : all->rows, batch += code ? 0 : all->batches) {
+        code = read_block(v, c->seen, used, "", batch, end - batch, &all);
+        for (size_t row = 0; !code && row < all->rows && found < c->rows->rows; row++)
+            if (is_kept(c, all, row)) places[found++] = before + row;
+    }
     leave_block(all);
-    if (!c->places) return SQLITE_NOMEM;
+    c->places = places;
+    if (code) return code;
     return found == c->rows->rows ? SQLITE_OK : fault(v, SQLITE_INTERNAL, sqlite3_mprintf("lanes: a condition and its comparisons differ"));
 }
 
 static int rowid(sqlite3_vtab_cursor *base, sqlite3_int64 *id) {
     cursor *c = (cursor *)base;
-    if (((vtab *)base->pVtab)->sql || !c->count) {
-        *id = (sqlite3_int64)c->at;
-        return SQLITE_OK;
-    }
-    int code = c->places ? SQLITE_OK : find_places(c);
-    if (!code) *id = (sqlite3_int64)c->places[c->at];
+    vtab *v = (vtab *)base->pVtab;
+    *id = (sqlite3_int64)c->at;
+    if (v->sql) return SQLITE_OK;
+    int code = count_live(v, c->seen);
+    if (!code && c->count && !c->places) code = find_places(c);
+    if (!code) *id = (sqlite3_int64)(c->seen->live[c->rows->first] + (c->count ? c->places[c->at] : c->at));
     return code;
 }
 

@@ -3,9 +3,10 @@
 reader has to believe. And it compares what the page quotes with the code.
 
 The statements are those of the page's table `| Clause | Law | Stated in |`. From the files of its last column the script follows
-imports, file by file: of definitions, and of the types that declared types are made of, with their views. It writes the list in
-docs/THEOREM.md anew; with --check it only says by its status whether the page is fresh. It fails in either case if a file of the
-table isn't there, if a law of the table is defined in none of the row's files, or if a quoted statement is not the code's.
+imports, file by file: of definitions, and of the types that declared types are made of, with their views. The rows of the headline are
+those whose clause begins in bold, and so are the names of the files that they rest on. It writes the list in docs/THEOREM.md anew; with
+--check it only says by its status whether the page is fresh. It fails in either case if a file of the table isn't there, if a law of the
+table is defined in none of the row's files, or if a quoted statement is not the code's.
 """
 import pathlib, re, sys
 
@@ -44,8 +45,8 @@ def definition(name, files):
 
 
 def stated(page):
-    """The files of the page's statements. The script ends here if one isn't there, or a law isn't in them."""
-    found = []
+    """The files of the page's statements, and those of the headline. The script ends here if one isn't there, or a law isn't in them."""
+    found, headline = [], []
     for row in rows(page, STATED):
         len(row) == 3 or sys.exit(f"docs/THEOREM.md: the row of `{row[0]}` does not have three cells")
         clause, laws, places = row
@@ -58,7 +59,8 @@ def stated(page):
             if law.endswith("()") and not any(re.search(rf"pub fn {law[:-2]}\b", source.read_text()) for source in CRATES.glob("*/src/**/*.rt")):
                 sys.exit(f"docs/THEOREM.md: there is no function {law}")
         found += files
-    return found
+        headline += files if clause.startswith("**") else []
+    return found, headline or sys.exit("docs/THEOREM.md: no clause of the table is one of the headline")
 
 
 def compare(page, files):
@@ -136,23 +138,25 @@ def lines_of(file):
     return sum(1 for line in map(str.strip, text.splitlines()) if line and not line.startswith(("use ", "ghost use ", "--", "//", "#[")))
 
 
-def listed(files):
-    """The part of the page that lists files, by crate."""
+def listed(files, headline):
+    """The part of the page that lists files, by crate, those of the headline in bold."""
     order = [line.split(":")[0].split()[0] for line in (TOP / "crates.txt").read_text().splitlines() if re.match("[a-z]", line)]
     by_crate = {crate: sorted(it for it in files if it.relative_to(CRATES).parts[0] == crate) for crate in order}
     names = {file: f"`{'/'.join(file.relative_to(CRATES).parts[2:])}`" for file in files}
+    names |= {file: f"**{names[file]}**" for file in headline}
     table = [f"| `{crate}` | {', '.join(names[it] for it in found)} | {sum(map(lines_of, found))} |" for crate, found in by_crate.items() if found]
     head = f"{len(files)} files, {sum(map(lines_of, files))} lines of definitions, without imports and comments. Of files that end in `.rt`, the types that they declare are counted, and how contracts see them."
+    head += f" {len(headline)} files with {sum(map(lines_of, headline))} lines, in bold, are those of the sentence at the top."
     return "\n".join([BEGIN, head, "", "| Crate | Files | Lines |", "|---|---|---:|", *table, END])
 
 
 def main():
     path = TOP / "docs" / "THEOREM.md"
     page = path.read_text()
-    files = stated(page)
+    files, headline = stated(page)
     compare(page, files)
     before, rest = page.split(BEGIN)
-    fresh = before + listed(believed(files)) + rest.split(END)[1]
+    fresh = before + listed(believed(files), believed(headline)) + rest.split(END)[1]
     if "--check" in sys.argv:
         sys.exit(0 if fresh == page else "docs/THEOREM.md is stale: run docs/believed.py")
     path.write_text(fresh)

@@ -1,6 +1,7 @@
 #!/usr/bin/env python3
 """Checks what pages refer to: that each link to another file leads to one, that docs/GLOSSARY.md names for each word a file that defines
-it, and that the examples in the READMEs of crates are those that their tests run. It prints what is wrong, and the status is then 1."""
+it, that the map of docs/ARCHITECTURE.md has a row for each crate, below those of all crates that use it, and that the examples in the
+READMEs of crates are those that their tests run. It prints what is wrong, and the status is then 1."""
 import pathlib, re, sys
 
 TOP = pathlib.Path(__file__).resolve().parent.parent
@@ -31,6 +32,33 @@ def lost_words():
                     yield f"docs/GLOSSARY.md: {word} is not defined in {cells[2]}"
 
 
+def crates():
+    """The crates of crates.txt, each with the crates of this repository that it uses."""
+    lines = [line.split(":") for line in (TOP / "crates.txt").read_text().splitlines() if re.match("[a-z]", line)]
+    names = [before.split()[0] for before, _ in lines]
+    return {name: [used for used in after.split() if used in names] for name, (_, after) in zip(names, lines)}
+
+
+def unmapped_crates():
+    """The crates that have no row, or two, in the map of docs/ARCHITECTURE.md, rows of no crate, and crates that use one of a row above their own.
+
+    The crates of tests have one row together; each may use the crate that it tests.
+    """
+    page = (TOP / "docs" / "ARCHITECTURE.md").read_text().split("| Part | Crate | What it is |")[1].split("\n\n")[0]
+    rows = re.findall(r"^\|[^|]*\| `(\w+)` \|", page, re.M)
+    used = {("NAME_tests" if name.endswith("_tests") else name): uses for name, uses in crates().items()}
+    for name in used:
+        if rows.count(name) != 1:
+            yield f"docs/ARCHITECTURE.md: {name} has {rows.count(name)} rows in the map"
+    for name in sorted(set(rows) - set(used)):
+        yield f"docs/ARCHITECTURE.md: there is no crate {name}"
+    for name, uses in crates().items():
+        row = "NAME_tests" if name.endswith("_tests") else name
+        for other in uses:
+            if name != f"{other}_tests" and row in rows and other in rows and rows.index(other) < rows.index(row):
+                yield f"docs/ARCHITECTURE.md: {name} uses {other}, whose row is above"
+
+
 def untested_examples():
     """The READMEs of crates with an example that the crate's tests don't have, and tests of an example that isn't in the README."""
     for crate in sorted((TOP / "crates").iterdir()):
@@ -42,7 +70,7 @@ def untested_examples():
 
 
 def main():
-    wrong = [*dead_links(), *lost_words(), *untested_examples()]
+    wrong = [*dead_links(), *lost_words(), *unmapped_crates(), *untested_examples()]
     print("".join(f"{line}\n" for line in wrong), end="")
     sys.exit(1 if wrong else 0)
 

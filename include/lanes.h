@@ -30,6 +30,9 @@
 #include <stddef.h>
 #include <stdint.h>
 
+/* The version that this header is of. lanes_version answers that of the library that is loaded. */
+#define LANES_VERSION "0.6.0"
+
 #ifdef __cplusplus
 extern "C" {
 #endif
@@ -214,7 +217,13 @@ typedef struct lanes_table {
     void *opened;
 } lanes_table;
 
-#define LANES_CLOSED {NULL}
+/* A closed handle: `lanes_table table = LANES_CLOSED;` or, later, `table = LANES_CLOSED;`, which closes nothing. A handle that is static
+ * and has no initializer is closed. */
+#ifdef __cplusplus
+#define LANES_CLOSED (lanes_table{})
+#else
+#define LANES_CLOSED ((lanes_table){NULL})
+#endif
 
 /* Opens a file. The file is checked once, and the handle keeps what it holds. The bytes of the file may be changed or freed then.
  *
@@ -234,18 +243,23 @@ uint8_t lanes_share(lanes_table *table, lanes_table *other);
 uint8_t lanes_ask(lanes_table *table, const uint8_t *sql, size_t sql_length, uint8_t *out, size_t room, size_t *length,
                   lanes_place *place);
 
-/* Gives what a file gives to the answer of a query over several files: a part, in bytes. The parts of files that share no batch are
- * combined by lanes_combine, in any order, and lanes_finish gives the answer: that of the query over all these files merged.
+/* Gives what a file gives to the answer of a query over several files: a partial answer, in bytes. Those of files that share no batch
+ * are combined by lanes_combine, in any order, and lanes_finish gives the answer: that of the query over all these files merged.
  *
- * Gives: the part of the file that the handle is of. The program `lanes` writes and reads the same bytes; docs/FORMATS.md has them.
+ * Gives: the partial answer of the file that the handle is of. The program `lanes` writes and reads the same bytes; docs/FORMATS.md has
+ * them.
  * Refused: LANES_NOT_OPEN when the handle is closed; else what lanes_ask refuses of the query. */
+uint8_t lanes_partial(lanes_table *table, const uint8_t *sql, size_t sql_length, uint8_t *out, size_t room, size_t *length,
+                      lanes_place *place);
+
+/* lanes_partial, by its name up to 0.5. It goes with the next release. */
 uint8_t lanes_part(lanes_table *table, const uint8_t *sql, size_t sql_length, uint8_t *out, size_t room, size_t *length,
                    lanes_place *place);
 
-/* Combines two parts. Whichever comes first, the bytes are the same.
+/* Combines two partial answers. Whichever comes first, the bytes are the same.
  *
- * Gives: the part of the files of both.
- * Refused, in this order: the first fault of the one part, LANES_BAD_SCHEMA, LANES_BAD_NAME, LANES_SYNTAX and LANES_TRUNCATED to
+ * Gives: the partial answer of the files of both.
+ * Refused, in this order: the first fault of the one partial answer, LANES_BAD_SCHEMA, LANES_BAD_NAME, LANES_SYNTAX and LANES_TRUNCATED to
  * LANES_TRAILING_BYTES; that of the other; LANES_SCHEMA_DIFFERS; LANES_QUERY_DIFFERS when their queries' texts differ; LANES_NOT_APART
  * with the least batch that both have, or of which one has rows and the file of the other deletes some; LANES_TOO_MANY when a count
  * takes more than 64 bits or a sum more than 128. */
@@ -255,14 +269,14 @@ uint8_t lanes_combine(const uint8_t *one, size_t one_length, const uint8_t *othe
 /* The forms of an answer. */
 enum { LANES_TEXT = 0, LANES_CSV = 1, LANES_JSON = 2, LANES_TABLE = 3 };
 
-/* Answers the query that a part is of. The format is LANES_TEXT, LANES_CSV, LANES_JSON or LANES_TABLE; another number is taken for
- * LANES_TEXT.
+/* Answers the query that a partial answer is of. The format is LANES_TEXT, LANES_CSV, LANES_JSON or LANES_TABLE; another number is taken
+ * for LANES_TEXT.
  *
- * Gives: the answer's text; with LANES_TEXT that which lanes_query gives of one file that has all rows of the part's files.
- * Refused: the part's first fault; then a fault of a query's text, or LANES_QUERY_DIFFERS when the groups are not those of the query,
- * which the parts of lanes_part and lanes_combine do not have; or LANES_TOO_MANY when a mean takes more than 128 bits, or DISTINCT more
- * than 2^36 values. */
-uint8_t lanes_finish(const uint8_t *part, size_t part_length, uint8_t format, uint8_t *out, size_t room, size_t *length,
+ * Gives: the answer's text; with LANES_TEXT that which lanes_query gives of one file that has all rows of the partial answer's files.
+ * Refused: the partial answer's first fault; then a fault of a query's text, or LANES_QUERY_DIFFERS when the groups are not those of
+ * the query, which the partial answers of lanes_partial and lanes_combine do not have; or LANES_TOO_MANY when a mean takes more than 128
+ * bits, or DISTINCT more than 2^36 values. */
+uint8_t lanes_finish(const uint8_t *partial, size_t partial_length, uint8_t format, uint8_t *out, size_t room, size_t *length,
                      lanes_place *place);
 
 /* Gives the cells of columns at the live rows at which a condition is true, in order of row name: the rows of lanes_dump.
@@ -300,7 +314,7 @@ size_t lanes_refusal(uint8_t number, uint8_t *out, size_t room);
  * has more than 256 bytes. */
 size_t lanes_sentence(uint8_t number, const lanes_place *place, uint8_t *out, size_t room);
 
-/* Gives the library's version, as "0.5.1", without a byte 0 at its end, and answers how many bytes it has. It is written where it
+/* Gives the library's version, as "0.6.0", without a byte 0 at its end, and answers how many bytes it has. It is written where it
  * fits. */
 size_t lanes_version(uint8_t *out, size_t room);
 

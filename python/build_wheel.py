@@ -88,7 +88,7 @@ def natives() -> dict[str, bytes]:
 def sources() -> dict[str, bytes]:
     """The module, by its path."""
     names = [*(HERE / "lanes").glob("*.py"), HERE / "lanes" / "py.typed"]
-    return {f"lanes/{name.name}": name.read_bytes() for name in sorted(names)}
+    return {"lanes/VERSION": f"{VERSION}\n".encode(), **{f"lanes/{name.name}": name.read_bytes() for name in sorted(names)}}
 
 
 def write(folder: str, files: dict[str, bytes]) -> str:

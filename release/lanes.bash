@@ -3,7 +3,7 @@ _lanes() {
     local word=${COMP_WORDS[COMP_CWORD]} before=${COMP_WORDS[COMP_CWORD - 1]} options=
     COMPREPLY=()
     if [ "$COMP_CWORD" = 1 ]; then
-        mapfile -t COMPREPLY < <(compgen -W 'create import query part combine finish delete delete-rows forget dump inspect summary offer apply check merge pack run help --help --version' -- "$word")
+        mapfile -t COMPREPLY < <(compgen -W 'create import query partial combine finish delete delete-rows forget dump inspect summary offer apply check merge pack run help --help --version' -- "$word")
         return
     fi
     case $before in
@@ -18,7 +18,7 @@ _lanes() {
         create) options='--quiet --help' ;;
         import) options='--batch --no-header --separator --null --columns --quiet --help' ;;
         query) options='--format --help' ;;
-        part) options='--help' ;;
+        partial) options='--help' ;;
         combine) options='--help' ;;
         finish) options='--format --help' ;;
         delete) options='--quiet --help' ;;

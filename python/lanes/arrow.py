@@ -4,9 +4,10 @@ from __future__ import annotations
 
 import ctypes
 import functools
-from typing import TYPE_CHECKING, Any, Iterable, Optional
+from typing import TYPE_CHECKING, Any, Dict
 
-from .columns import Selection
+from . import arrow_reading, calls
+from .columns import BITS, Selection
 from .library import load_shim
 
 if TYPE_CHECKING:
@@ -14,6 +15,10 @@ if TYPE_CHECKING:
 
 #: How many bytes `struct ArrowArrayStream` has.
 _STREAM = 5 * ctypes.sizeof(ctypes.c_void_p)
+
+
+#: The type of a column, by how many bytes a number has.
+_BY_SIZE = {bits // 8: kind for kind, bits in BITS.items()}
 
 
 class _Block(ctypes.Structure):
@@ -48,28 +53,63 @@ def _shim() -> Any:
     return shim
 
 
-def stream_of(table: Table, columns: Optional[Iterable[str]] = None, where: str = "") -> Any:
-    """The columns as a capsule `arrow_array_stream`. It owns its memory, and is released with the capsule if nobody takes it.
+@functools.lru_cache(maxsize=None)
+def has_shim() -> bool:
+    """Whether the shim is there, or can be built."""
+    try:
+        _shim()
+    except ImportError:
+        return False
+    return True
+
+
+def stream_of(table: Table, requested_schema: object = None) -> Any:
+    """The live rows as a capsule `arrow_array_stream`. It owns its memory, and is released with the capsule if nobody takes it.
 
     Raises:
-        MemoryError: there is no memory for the columns.
-        ImportError: the shim isn't there and can't be built.
+        OutOfMemory: there is no memory for the columns.
+        ValueError: another schema is asked for than one of these columns as wider integers.
     """
     shim = _shim()
-    selection = Selection(table, columns, where)
-    names = list(selection.kinds)
-    words = [table.name, *(word for pair in selection.kinds.items() for word in pair)]
+    kinds = table.columns if requested_schema is None else _requested(table, requested_schema)
+    selection = Selection(table, kinds, "")
+    names = list(kinds)
+    words = [table.name, *(word for pair in kinds.items() for word in pair)]
     schema = " ".join(words).encode()
     block = shim.lanes_arrow_room(selection.rows, len(names))
     stream = _LIBC.malloc(_STREAM)
     try:
         if not block or not stream:
-            raise MemoryError("there is no memory for the columns")
+            raise calls.refused(calls.MEMORY, sentence="there is no memory for the columns")
         selection.read(names, block.contents.values, block.contents.valid, block.contents.nulls)
         if shim.lanes_arrow_stream(block, schema, len(schema), stream):
-            raise MemoryError("there is no memory for the stream")
+            raise calls.refused(calls.MEMORY, sentence="there is no memory for the stream")
     except BaseException:
         shim.lanes_arrow_free(block)
         _LIBC.free(stream)
         raise
     return _NEW(stream, b"arrow_array_stream", ctypes.cast(shim.lanes_arrow_capsule_gone, ctypes.c_void_p))
+
+
+def _requested(table: Table, capsule: object) -> Dict[str, str]:
+    """The columns that a schema asks for, in its order: of each its name, and the type that it is to have.
+
+    Raises:
+        ValueError: a column isn't there, comes twice, may not be null, or is of a type into which not every number fits.
+    """
+    schema, found = arrow_reading.Schema.from_address(arrow_reading.address_in(capsule, b"arrow_schema")), {}
+    kinds = table.columns
+    try:
+        columns = arrow_reading.children_of(schema)
+    except TypeError as fault:
+        raise ValueError(f"requested_schema: {fault}") from None
+    for column in columns:
+        name, size = arrow_reading.name_of(column), arrow_reading.SIZES.get((column.format or b"").decode(errors="replace"), 0)
+        if name not in kinds or name in found:
+            raise ValueError(f"requested_schema: the columns {', '.join(kinds)} are there, each once, and {name!r} is asked for")
+        if column.dictionary or 8 * size < BITS[kinds[name]]:
+            raise ValueError(f"requested_schema: column {name} is {kinds[name]}, which goes into wider integers only, and not into this")
+        if not column.flags & arrow_reading.NULLABLE:
+            raise ValueError(f"requested_schema: column {name} may be null")
+        found[name] = _BY_SIZE[size]
+    return found

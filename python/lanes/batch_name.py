@@ -5,6 +5,8 @@ from __future__ import annotations
 import re
 from typing import NamedTuple, Tuple, Union
 
+from . import arguments
+
 #: The greatest origin, and the greatest number.
 GREATEST = (1 << 32) - 1
 
@@ -28,13 +30,13 @@ def name_of(given: GivenName) -> BatchName:
 
     Raises:
         ValueError: it is no name.
+        TypeError: it is neither a text nor two whole numbers.
     """
-    pair: Tuple[int, ...]
     if isinstance(given, str):
         found = re.fullmatch(r"([0-9]{1,10})\.([0-9]{1,10})", given)
-        pair = tuple(map(int, found.groups())) if found else ()
+        pair = [int(part) for part in found.groups()] if found else []
     else:
-        pair = tuple(given)
-    if len(pair) != 2 or not all(0 <= part <= GREATEST for part in pair) or pair == (0, 0):
-        raise ValueError(f"{given!r} is not a batch's name: it is an origin and a number from 1 to 4,294,967,295, as (1, 17) or '1.17'")
+        pair = [arguments.number_of("batch", part) for part in arguments.several("batch", "a text or two numbers", given)]
+    if len(pair) != 2 or not all(0 <= part <= GREATEST for part in pair) or pair == [0, 0]:
+        raise ValueError(f"batch: {given!r} is not a batch's name: it is an origin and a number from 1 to 4,294,967,295, as (1, 17) or '1.17'")
     return BatchName(*pair)

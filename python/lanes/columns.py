@@ -2,9 +2,9 @@
 
 from __future__ import annotations
 
-from typing import TYPE_CHECKING, Any, Iterable, NamedTuple, Optional, Sequence
+from typing import TYPE_CHECKING, Any, Iterable, Iterator, Mapping, NamedTuple, Optional, Sequence
 
-from . import calls
+from . import arguments, calls, conditions
 
 if TYPE_CHECKING:
     from .table import Table
@@ -25,13 +25,12 @@ class Selection:
     """Columns of the live rows at which a condition is true, in order of row name."""
 
     def __init__(self, table: Table, columns: Optional[Iterable[str]], where: str) -> None:
-        if isinstance(columns, str):
-            raise TypeError("columns are several names, as ['SITE']")
         kinds = table.columns
-        names = list(kinds) if columns is None else [name.upper() if name.isascii() else name for name in columns]
-        self._opened, self._condition = table._asked(), where.encode()
-        #: How many rows there are.
-        self.rows = self._opened.columns(" ".join(names).encode(), self._condition, *calls.NO_ROOM)
+        names = list(kinds) if columns is None else _names_of(columns, kinds)
+        self._opened, self._condition = table._asked(), arguments.text_of("where", where)
+        with conditions.judged("where", self._condition, kinds):
+            #: How many rows there are.
+            self.rows = self._opened.columns(" ".join(names).encode(), self._condition, *calls.NO_ROOM)
         #: The columns: of each its name and its type.
         self.kinds = {name: kinds[name] for name in names}
         #: How many bytes of bits a column has.
@@ -43,23 +42,81 @@ class Selection:
         self._opened.columns(" ".join(names).encode(), self._condition, (values, self.rows * count), (valid, self.stride * count), (nulls, count))
 
     def groups(self) -> list[list[str]]:
-        """The columns that are read at once: all of them if a condition has to be judged, and else one at a time, which takes less memory."""
-        return [list(self.kinds)] if self._condition else [[name] for name in self.kinds]
+        """The columns that are read at once, the narrow ones first: one at a time; or, if a condition has to be judged each time, as many as
+        there is memory for: half of what all of them take at the end may come on top of that."""
+        names = sorted(self.kinds, key=lambda name: BITS[self.kinds[name]])
+        if not self._condition:
+            return [[name] for name in names]
+        most, done = 1.5 * sum(self._width(name) for name in names), 0
+        groups: list[list[str]] = []
+        for name in names:
+            if not groups or done + 8.125 * (len(groups[-1]) + 1) + self._width(name) > most:
+                done += sum(self._width(other) for other in groups[-1]) if groups else 0
+                groups.append([])
+            groups[-1].append(name)
+        return groups
+
+    def _width(self, name: str) -> int:
+        """How many bytes a cell of a column has as an array, with its null."""
+        return BITS[self.kinds[name]] // 8 + 1
+
+
+def _names_of(columns: Iterable[str], kinds: Mapping[str, str]) -> list[str]:
+    """The columns that were named, as the table has them.
+
+    Raises:
+        TypeError: they are one text, or no texts.
+        Refused: `NoSuchColumn`.
+    """
+    found: list[str] = []
+    for word in arguments.several("columns", "several names, as ['SITE'],", columns):
+        if not isinstance(word, str):
+            raise arguments.wrong("columns", "the name of a column", word)
+        name = word.upper() if word.isascii() else word
+        if name not in kinds:
+            raise conditions.no_column("columns", word, len(" ".join([*found, ""])), kinds)
+        found.append(name)
+    return found
 
 
 def arrays(table: Table, columns: Optional[Iterable[str]], where: str) -> dict[str, ColumnData]:
     """The columns as arrays."""
-    import numpy as np
-
     selection = Selection(table, columns, where)
-    rows, stride, found = selection.rows, selection.stride, {}
-    for names in filter(None, selection.groups()):
-        values, valid, nulls = np.empty(rows * len(names), np.int64), np.empty(stride * len(names), np.uint8), np.empty(len(names), np.uint64)
-        selection.read(names, values.ctypes.data, valid.ctypes.data, nulls.ctypes.data)
-        for at, name in enumerate(names):
-            own = values[at * rows : (at + 1) * rows].astype(f"i{BITS[selection.kinds[name]] // 8}", copy=len(names) > 1)
-            found[name] = ColumnData(own, _nulls(valid[at * stride : (at + 1) * stride], rows) if nulls[at] else None)
-    return found
+    reader = _Reader(selection)
+    found: dict[str, ColumnData] = {}
+    for names in selection.groups():
+        found.update(reader.read(names))
+    return {name: found[name] for name in selection.kinds}
+
+
+class _Reader:
+    """Reads columns, group by group. The memory for what is read of one is used for the next: the system makes new pages slowly."""
+
+    def __init__(self, selection: Selection) -> None:
+        import numpy as np
+
+        self._selection = selection
+        self._values, self._valid = np.empty(0, np.int64), np.empty(0, np.uint8)
+
+    def read(self, names: Sequence[str]) -> Iterator[tuple[str, ColumnData]]:
+        """The data of some columns."""
+        import numpy as np
+
+        rows, stride, count = self._selection.rows, self._selection.stride, len(names)
+        if len(self._values) != rows * count:
+            self._values = np.empty(0, np.int64)
+            self._values, self._valid = np.empty(rows * count, np.int64), np.empty(stride * count, np.uint8)
+        nulls = np.empty(count, np.uint64)
+        self._selection.read(names, self._values.ctypes.data, self._valid.ctypes.data, nulls.ctypes.data)
+        for at in reversed(range(count)):
+            width = BITS[self._selection.kinds[names[at]]] // 8
+            if width == 8 and at == 0:
+                own, self._values = self._values, np.empty(0, np.int64)  # it is the column itself
+            else:
+                own = self._values[at * rows :].astype(f"i{width}")
+            if count > 1 and at:
+                self._values.resize(at * rows, refcheck=False)  # the memory of this column goes back
+            yield names[at], ColumnData(own, _nulls(self._valid[at * stride : (at + 1) * stride], rows) if nulls[at] else None)
 
 
 def frame(table: Table, columns: Optional[Iterable[str]], where: str) -> Any:
@@ -67,8 +124,6 @@ def frame(table: Table, columns: Optional[Iterable[str]], where: str) -> Any:
     import numpy as np
     import pandas as pd
 
-    if columns is not None and not isinstance(columns, str):
-        columns = list(columns)
     made = {}
     for name, data in arrays(table, columns, where).items():
         nulls = np.zeros(len(data.values), bool) if data.nulls is None else data.nulls

@@ -4,22 +4,18 @@ from __future__ import annotations
 
 import errno
 import fcntl
+import html
 import os
 import struct
-from typing import IO, Any, Iterable, Mapping, Optional, Tuple, Union
+from typing import Any, Callable, Iterable, Mapping, NamedTuple, Optional, Tuple, TypeVar, Union
 
-from . import calls, part_folder
+from . import arguments, calls, part_folder
 from .answer import Answer
-from .holdings import Holdings
 from .batch_name import GivenName
-from .refused import Refused
-from .table import Table
-
-#: How often a folder is read anew, if a part is gone when it is to be read.
-_LOOKS = 100
-
-#: How many bytes at the front of a part have its schema and its number of batches.
-_HEAD = 4096
+from .errors import Busy, Refused
+from .holdings import Holdings
+from .table import Csv, Schema, Table
+from .waiting import Wait
 
 #: How many batches a folder may have.
 _MOST = 1_048_576
@@ -27,14 +23,26 @@ _MOST = 1_048_576
 #: How many times the bytes of a part that is packed go into those of the parts before it.
 _TIMES = 7
 
+#: What a look at a folder's parts finds.
+_Found = TypeVar("_Found")
+
 #: The numbers of refusals that are made here.
 _FULL, _SCHEMA_DIFFERS = 3, 8
+
+
+class _Heads(NamedTuple):
+    """What the heads of a folder's parts say: the empty table of their columns, and how many batches they have together. A batch that is in
+    two parts counts twice."""
+
+    empty: Table
+    batches: int
 
 
 class Folder:
     """A folder of parts. Each call reads what is there then; several processes, and the program `lanes`, may use it at once.
 
-    For many questions of one state ask a table: `table = folder.read()`.
+    For many questions of one state ask a table: `table = folder.read()`. `len` is the number of live rows. Two are equal if they are of the
+    same folder, by whichever path.
 
     Raises:
         NotADirectoryError, FileNotFoundError: there is no such folder.
@@ -42,8 +50,13 @@ class Folder:
 
     def __init__(self, path: Union[str, os.PathLike[str]]) -> None:
         #: The folder's path.
-        self.path: str = os.fspath(path)
-        os.close(os.open(self.path, os.O_RDONLY | os.O_DIRECTORY | os.O_CLOEXEC))
+        self.path = arguments.path_of("path", path)
+        opened = os.open(self.path, os.O_RDONLY | os.O_DIRECTORY | os.O_CLOEXEC)
+        try:
+            found = os.fstat(opened)
+        finally:
+            os.close(opened)
+        self._identity = found.st_dev, found.st_ino
 
     @classmethod
     def create(cls, path: Union[str, os.PathLike[str]], name: str, columns: Union[Mapping[str, str], Iterable[Tuple[str, str]]]) -> Folder:
@@ -62,7 +75,7 @@ class Folder:
         Raises:
             FileExistsError: something has this name.
         """
-        part_folder.make(os.fspath(path), table.to_bytes())
+        part_folder.make(arguments.path_of("path", path), arguments.is_of("table", Table, table).to_bytes())
         return cls(path)
 
     def read(self) -> Table:
@@ -73,7 +86,7 @@ class Folder:
             Damaged: a part has other bytes than its name says.
             Refused: a part's first fault, or `SchemaDiffers`, `Conflict` or `Full` of parts that don't go together. The sentence names
                 the part.
-            TimeoutError: others have had the folder for ten seconds, or parts come and go.
+            Busy: others have had the folder for ten seconds, or parts come and go.
         """
         return self._joined()[0]
 
@@ -81,9 +94,13 @@ class Folder:
         """The answer of a query, as of `Table.query`."""
         return self.read().query(sql)
 
+    def partial(self, sql: str) -> bytes:
+        """What the folder gives to the answer of a query over several tables, as of `Table.partial`."""
+        return self.read().partial(sql)
+
     def part(self, sql: str) -> bytes:
-        """What the folder gives to the answer of a query over several tables, as of `Table.part`."""
-        return self.read().part(sql)
+        """`partial`, by its name up to 0.5. It goes with the next release."""
+        return self.partial(sql)
 
     def queries(self, sqls: Iterable[str]) -> list[Answer]:
         """The answers of several queries over one state."""
@@ -97,21 +114,26 @@ class Folder:
         """What another replica does not have, by its summary."""
         return self.read().offer(summary)
 
-    def import_csv(self, csv: Union[str, bytes, bytearray, memoryview, IO[str], IO[bytes]], *, heading: bool = True, batch: Optional[GivenName] = None) -> int:
-        """Adds rows, as `Table.import_csv` does; how many batches are new. Without `batch` no row of the folder is read.
+    def import_csv(self, csv: Csv, *, heading: bool = True, batch: Optional[GivenName] = None) -> int:
+        """Adds rows, as `Table.import_csv` does; how many batches are new. Without `batch` no row of the folder is read. A load that is sent
+        again under its name adds no rows, and is on the disk afterwards.
 
         Raises:
             Refused: a fault of the text or of the name; `Conflict`; `Full`.
         """
-        return self._add(self._empty().import_csv(csv, heading=heading, batch=batch), batch is not None)
+        return self._add(lambda empty: empty.import_csv(csv, heading=heading, batch=batch), batch is not None)
 
     def import_columns(self, columns: Mapping[str, Any], *, batch: Optional[GivenName] = None) -> int:
         """Adds rows of arrays, as `Table.import_columns` does; how many batches are new."""
-        return self._add(self._empty().import_columns(columns, batch=batch), batch is not None)
+        return self._add(lambda empty: empty.import_columns(columns, batch=batch), batch is not None)
 
     def import_frame(self, frame: Any, *, batch: Optional[GivenName] = None) -> int:
         """Adds the rows of a frame of pandas, as `Table.import_frame` does; how many batches are new."""
-        return self._add(self._empty().import_frame(frame, batch=batch), batch is not None)
+        return self._add(lambda empty: empty.import_frame(frame, batch=batch), batch is not None)
+
+    def import_arrow(self, data: Any, *, batch: Optional[GivenName] = None) -> int:
+        """Adds the rows of Arrow's stream, as `Table.import_arrow` does; how many batches are new."""
+        return self._add(lambda empty: empty.import_arrow(data, batch=batch), batch is not None)
 
     def delete(self, condition: str) -> int:
         """Deletes the rows at which a condition is true; how many there were. Rows that come meanwhile aren't deleted.
@@ -119,7 +141,7 @@ class Folder:
         Raises:
             Refused: a fault of the condition.
         """
-        held = self.read()
+        held, names = self._joined()
         before, after = Holdings.of(held), Holdings.of(held.delete(condition))
         ranges, rows = [], 0
         for name in sorted(after.batches, key=lambda name: struct.unpack("<II", name)):
@@ -129,24 +151,34 @@ class Folder:
         if ranges:
             empty = _empty_of(held)
             self._put(empty.apply(empty._front() + bytes(4) + len(ranges).to_bytes(8, "little") + b"".join(ranges)))
+        elif not self._settle(names):
+            return self.delete(condition)
         return rows
 
     def delete_rows(self, batch: GivenName, first: int, last: Optional[int] = None) -> None:
-        """Deletes rows by their names, as `Table.delete_rows` does, whether the folder has them or not. No row is read."""
-        self._put(self._empty().delete_rows(batch, first, last))
+        """Deletes rows by their names, as `Table.delete_rows` does, whether the folder has them or not. Of the parts the heads are read, and
+        the smallest part whole.
+
+        Raises:
+            Refused: `BadName`, `BadRange`; a part's first fault, or `SchemaDiffers` of a part.
+            Damaged: a part has other bytes than its name says.
+        """
+        self._put(self._heads().empty.delete_rows(batch, first, last))
 
     def apply(self, *offers: Union[bytes, bytearray, memoryview]) -> int:
-        """Adds what offers bring, all or nothing; how many batches are new.
+        """Adds what offers bring, all or nothing; how many batches are new. What was there already is on the disk afterwards, too.
 
         Raises:
             Refused: a fault of an offer, `SchemaDiffers`, `Conflict` or `Full`.
         """
-        held = self.read()
+        held, names = self._joined()
         after, own = held, _empty_of(held)
         for offer in offers:
             after, own = after.apply(offer), own.apply(offer)
         if after != held:
-            self._put(_lacked(own, held))
+            self._put_beside(_lacked(own, held), names)
+        elif own != _empty_of(held) and not self._settle(names):
+            return self.apply(*offers)
         return after.check()[0] - held.check()[0]
 
     def pack(self, *, everything: bool = False) -> Tuple[int, int]:
@@ -154,7 +186,8 @@ class Folder:
         removes temporaries that a killed process left.
 
         Raises:
-            TimeoutError: others have had the folder for ten seconds. The joined part is there, and nothing is removed.
+            Busy: others have had the folder for ten seconds. The joined part is there, and nothing is removed.
+            OSError: the joined part, or the folder, can't be written or synced, and nothing is removed; or a part can't be removed.
         """
         part_folder.sweep(self.path)
         removed = 0
@@ -171,20 +204,63 @@ class Folder:
         """The names of the parts, in ascending order."""
         return part_folder.listed(self.path)
 
+    @property
+    def name(self) -> str:
+        """The table's name, in upper case."""
+        return self._heads().empty.name
+
+    @property
+    def columns(self) -> dict[str, str]:
+        """The columns in order: of each its name and its type, in upper case."""
+        return self._heads().empty.columns
+
+    def __len__(self) -> int:
+        return len(self.read())
+
+    def __bool__(self) -> bool:
+        return True
+
+    def __eq__(self, other: object) -> bool:
+        if not isinstance(other, Folder):
+            return NotImplemented
+        return self._identity == other._identity
+
+    def __hash__(self) -> int:
+        return hash(self._identity)
+
+    def __reduce__(self) -> tuple[object, ...]:
+        return type(self), (self.path,)
+
+    def _repr_html_(self) -> str:
+        """The folder for a notebook: its path, how many parts it has, and its table."""
+        table, names = self._joined()
+        return f"<p><b>{html.escape(self.path)}</b>: {len(names):,} parts</p>{table._repr_html_()}"
+
     def __repr__(self) -> str:
         return f"<lanes.Folder {self.path}>"
 
     def _joined(self) -> Tuple[Table, list[str]]:
         """What all parts hold, and their names."""
-        for _ in range(_LOOKS):
+        return self._looked(self._join)
+
+    def _looked(self, look: Callable[[list[str]], _Found]) -> Tuple[_Found, list[str]]:
+        """What a look at all parts finds, and their names. If a part is gone meanwhile, a pack was here, and they are looked at anew.
+
+        Raises:
+            FileNotFoundError: there is no part, or one is a link that leads nowhere.
+            Busy: parts have come and gone for ten seconds.
+        """
+        wait = Wait("parts of this folder come and go", self.path)
+        while True:
             names = part_folder.listed(self.path)
             if not names:
                 raise FileNotFoundError(errno.ENOENT, "this folder has no part", self.path)
             try:
-                return self._join(names), names
-            except FileNotFoundError:
-                continue  # a pack was here
-        raise TimeoutError(errno.ETIMEDOUT, "parts of this folder come and go", self.path)
+                return look(names), names
+            except FileNotFoundError as gone:
+                if part_folder.leads_nowhere(gone.filename):
+                    raise
+            wait.again()
 
     def _join(self, names: list[str]) -> Table:
         """The join of parts.
@@ -218,70 +294,88 @@ class Folder:
         first, second, *_ = (*refusal.place, 0, 0)
         return Refused(refusal.number, refusal.name, (first, second), f"{os.path.join(self.path, name)}: {refusal.sentence}")
 
-    def _empty(self) -> Table:
-        """The empty table of the folder's columns, by its smallest part."""
-        for _ in range(_LOOKS):
-            sized = self._sized()
-            if not sized:
-                raise FileNotFoundError(errno.ENOENT, "this folder has no part", self.path)
-            try:
-                return _empty_of(self._join([sized[0][1]]))
-            except FileNotFoundError:
-                continue
-        raise TimeoutError(errno.ETIMEDOUT, "parts of this folder come and go", self.path)
+    def _heads(self) -> _Heads:
+        """What the heads of the parts say. The smallest part is read whole.
 
-    def _add(self, load: Table, is_named: bool) -> int:
-        """Puts a load's batches into the folder; how many are new."""
-        batches = load.check()[0]
-        if not batches:
-            return 0
+        Raises:
+            FileNotFoundError: there is no part.
+            Refused, Damaged: of a part whose head is at fault or of another table, and of the smallest part.
+        """
+        return self._looked(self._heads_of)[0]
+
+    def _heads_of(self, names: list[str]) -> _Heads:
+        """What the heads of these parts say.
+
+        Raises:
+            FileNotFoundError: one is gone.
+        """
+        front, batches, sizes = b"", 0, []
+        for name in names:
+            head, size = part_folder.front_of(self.path, name)
+            front = front or _front_in(head)
+            if not front or not head.startswith(front):
+                self._join([names[0], name])
+                raise self._of_part(calls.refused(_SCHEMA_DIFFERS), name)
+            batches += int.from_bytes(head[len(front) : len(front) + 4], "little")
+            sizes.append((size, name))
+        return _Heads(_empty_of(self._join([min(sizes)[1]])), batches)
+
+    def _add(self, load_of: Callable[[Table], Table], is_named: bool) -> int:
+        """Puts the batches of a load into the folder, which is made of the empty table; how many are new."""
         if is_named:
-            return self._add_named(load)
-        self._check_room(load, batches)
-        self._put(load)
+            return self._add_named(load_of)
+        heads = self._heads()
+        load = load_of(heads.empty)
+        batches = load.check()[0]
+        if heads.batches + batches > _MOST:
+            raise calls.refused(_FULL)
+        if batches:
+            self._put(load)
         return batches
 
-    def _add_named(self, load: Table) -> int:
+    def _add_named(self, load_of: Callable[[Table], Table]) -> int:
         """The same of a load under a given name: the batches that the folder does not have, if no other such load came meanwhile."""
         held, names = self._joined()
+        load = load_of(_empty_of(held))
         new = held.merge(load).check()[0] - held.check()[0]
-        if not new:
-            return 0
-        part = _lacked(load, held)
-        temporary = part_folder.Temporary(self.path, part.to_bytes())
+        if new:
+            self._put_beside(_lacked(load, held), names)
+        elif load.check()[0]:
+            self._put(load)  # it may be that what was put before is not on the disk
+        return new
+
+    def _put_beside(self, part: Table, names: list[str]) -> None:
+        """Puts a part that goes with the parts of these names, if it goes with those that came since, too. These are looked at under the
+        exclusive lock of the folder: of two parts that are put at once, and have other rows under one name, one is refused. If the file
+        system has no such lock it goes without, and readers find the two.
+
+        Raises:
+            Refused: `Conflict`.
+        """
+        data = part.to_bytes()
+        name = part_folder.part_name(data)
+        temporary = part_folder.Temporary(self.path, data)
         try:
             with part_folder.locked(self.path, fcntl.LOCK_EX):
                 since = [name for name in part_folder.names_in(self.path) if name not in names]
                 if since:
                     part.merge(self._join(since))
-                name = part_folder.part_name(part.to_bytes())
-                if not temporary.place(name) and not part_folder.is_there(self.path, name):
-                    raise OSError(errno.EBUSY, "the part comes and goes", self.path)
+                if not temporary.place(name) and not part_folder.keep(self.path, name):
+                    raise Busy("the part comes and goes", self.path)
         except BaseException:
             temporary.discard()
             raise
         finally:
             temporary.close()
-        return new
 
-    def _check_room(self, load: Table, batches: int) -> None:
-        """Refuses a load for which there is no room by the heads of all parts.
-
-        Raises:
-            Refused: `Full`, or `SchemaDiffers` of a part.
-        """
-        front = load._front()
-        for name in part_folder.listed(self.path):
-            try:
-                with open(os.path.join(self.path, name), "rb") as file:
-                    head = file.read(_HEAD)
-            except FileNotFoundError:
-                continue
-            if not head.startswith(front):
-                raise self._of_part(calls.refused(_SCHEMA_DIFFERS), name)
-            batches += int.from_bytes(head[len(front) : len(front) + 4], "little")
-        if batches > _MOST:
-            raise calls.refused(_FULL)
+    def _settle(self, names: list[str]) -> bool:
+        """Has the parts of these names on the disk, of which a call answers that they hold already what it was to add. False if a pack was
+        here meanwhile."""
+        try:
+            part_folder.settle(self.path, names)
+        except FileNotFoundError:
+            return False
+        return True
 
     def _put(self, part: Table) -> None:
         part_folder.put(self.path, part.to_bytes())
@@ -309,16 +403,23 @@ class Folder:
             except FileNotFoundError as gone:
                 names.remove(os.path.basename(gone.filename))
                 continue
-            pack = part_folder.put(self.path, joined.to_bytes())
+            pack = part_folder.put(self.path, joined.to_bytes(), is_strict=True)
             removed = [name for name in names if name != pack]
-            part_folder.remove_all(self.path, removed)
-            return len(removed)
+            return len(removed) if part_folder.remove_joined(self.path, removed, pack) else 0
         return 0
 
 
 def _empty_of(table: Table) -> Table:
     """The empty table of the same columns."""
     return Table.create(table.name, table.columns)
+
+
+def _front_in(head: bytes) -> bytes:
+    """The front of a file that begins with these bytes, up to its count of batches; nothing if there is none."""
+    try:
+        return Schema.of(head).front
+    except (IndexError, ValueError):
+        return b""
 
 
 def _lacked(own: Table, held: Table) -> Table:

@@ -28,6 +28,15 @@ _LEVELS = [
 ]
 
 
+def package_version() -> str:
+    """The version of this package: in a wheel the one that it was built as, and in a clone the one that CHANGELOG.md begins with."""
+    written = pathlib.Path(__file__).resolve().parent / "VERSION"
+    if written.is_file():
+        return written.read_text().strip()
+    with open(_TOP / "CHANGELOG.md", encoding="utf-8") as page:
+        return next(line[3:].strip() for line in page if line.startswith("## "))
+
+
 def _level() -> str | None:
     """The greatest level of processors that this one has, or None."""
     if sys.platform != "linux" or platform.machine() != "x86_64":

@@ -3,9 +3,9 @@
 from __future__ import annotations
 
 import secrets
-from typing import TYPE_CHECKING, Any, List, Mapping, Optional
+from typing import TYPE_CHECKING, Any, List, Mapping, Optional, TypeVar
 
-from . import calls
+from . import arguments, calls
 from .holdings import Holdings
 from .batch_name import GREATEST, BatchName
 from .columns import BITS, ColumnData
@@ -13,8 +13,14 @@ from .columns import BITS, ColumnData
 if TYPE_CHECKING:
     from .table import Table
 
+#: The class of a table.
+_Table = TypeVar("_Table", bound="Table")
+
 #: How many rows a vector and a batch have.
 _VECTOR, _BATCH = 1024, 65_536
+
+#: How many rows are made canonical at once.
+_AT_ONCE = 4 * _BATCH
 
 #: How often a name is drawn that nobody has.
 _DRAWS = 16
@@ -26,62 +32,133 @@ _OUT_OF_TYPE, _NUMBERS_SPENT = 7, 9
 _REVERSED = {8: [0, 4, 2, 6, 1, 5, 3, 7], 16: [0, 2, 1, 3], 32: [0, 1], 64: [0]}
 
 
-def offer_of(table: Table, columns: Mapping[str, Any], batch: Optional[BatchName]) -> Optional[bytes]:
-    """The offer of rows to a table, or None if there are none.
+def with_rows(table: _Table, columns: Mapping[str, Any], batch: Optional[BatchName]) -> _Table:
+    """The table with the rows of arrays. They go in as offers of some batches each, which are made canonical one by one; so there is never
+    much in memory beside the arrays.
 
     Raises:
-        Refused: `OutOfType` with the first such row and its column, `NumbersSpent`.
+        Refused: `OutOfType` with the first such row and its column, `NumbersSpent`, and what `apply` refuses.
         ValueError: the columns aren't those of the table, or are of several lengths.
         TypeError: values are no whole numbers.
     """
-    given = {name.upper(): column_of(name, data) for name, data in columns.items()}
-    if len(given) != len(columns) or set(given) != set(table.columns):
-        raise ValueError(f"the columns {', '.join(table.columns)} are wanted, each once, and these are {', '.join(columns) or 'none'}")
-    data = [given[name] for name in table.columns]
-    lengths = {len(column.values) for column in data}
+    data = _given(table, columns)
+    lengths = {len(column) for column in data}
     if len(lengths) != 1:
-        raise ValueError(f"the columns have {' and '.join(map(str, sorted(lengths)))} rows")
+        raise ValueError(f"columns: they have {' and '.join(map(str, sorted(lengths)))} rows")
     rows = lengths.pop()
     if not rows:
-        return None
-    bits = [BITS[kind] for kind in table.columns.values()]
-    _judge(data, bits)
+        return table
     batches = -(-rows // _BATCH)
     name = _drawn(table, batches) if batch is None else batch
     if name.number + batches - 1 > GREATEST:
         raise calls.refused(_NUMBERS_SPENT)
-    return _container(table._front(), rows, [_vectors(column, width) for column, width in zip(data, bits)], name)
+    bits, front = [BITS[kind] for kind in table.columns.values()], table._front()
+    if rows <= _AT_ONCE:
+        return table.apply(_offer(front, _batches(data, bits, 0, rows, name), batches))
+    empty, offer = type(table).create(table.name, table.columns), calls.Growing()
+    offer.add(front + batches.to_bytes(4, "little"))
+    for first in range(0, rows, _AT_ONCE):
+        count = min(_AT_ONCE, rows - first)
+        own = BatchName(name.origin, name.number + first // _BATCH)
+        some = empty.apply(_offer(front, _batches(data, bits, first, count, own), -(-count // _BATCH)))
+        offer.add(some._view()[len(front) + 4 : -8])
+    offer.add(bytes(8))
+    # Canonical batches in order of name, without deletions, are a canonical file.
+    return table._made(offer.whole()) if table == empty else table._applied(offer.whole())
 
 
-def column_of(name: str, data: Any) -> ColumnData:
-    """Values that were given, as arrays: a ColumnData, an array or a masked array of whole numbers, a series of pandas, or a list with None
-    for a null.
+def _given(table: Table, columns: Mapping[str, Any]) -> List[Column]:
+    """The columns that were given, in the table's order."""
+    if not isinstance(columns, Mapping):
+        raise arguments.wrong("columns", "a dict of columns", columns)
+    for word in columns:
+        if not isinstance(word, str):
+            raise TypeError(f"columns: {word!r} is no name of a column: the columns {', '.join(table.columns)} are wanted")
+    given = {name.upper(): Column(name, data) for name, data in columns.items()}
+    if len(given) != len(columns) or set(given) != set(table.columns):
+        raise ValueError(f"columns: the columns {', '.join(table.columns)} are wanted, each once, and these are {', '.join(columns) or 'none'}")
+    return [given[name] for name in table.columns]
+
+
+def columns_of(frame: Any) -> dict[str, Any]:
+    """The columns of a frame of pandas.
+
+    Raises:
+        TypeError: it is no frame, or a column's name is no text.
+        ValueError: a name is there twice.
+    """
+    if not hasattr(frame, "columns") or not hasattr(frame, "iloc"):
+        raise arguments.wrong("frame", "a frame of pandas", frame)
+    found: dict[str, Any] = {}
+    for at, name in enumerate(frame.columns):
+        if not isinstance(name, str):
+            raise TypeError(f"frame: {name!r} is no name of a column")
+        if name in found:
+            raise ValueError(f"frame: the column {name!r} is there twice")
+        found[name] = frame.iloc[:, at]
+    return found
+
+
+class Column:
+    """Values that were given: a ColumnData, an array or a masked array of whole numbers, a series of pandas, or a list with None for a null.
+    What is an array already isn't copied.
 
     Raises:
         TypeError: they are no whole numbers.
+        ValueError: they are no list of numbers, or not as many nulls.
     """
+
+    def __init__(self, name: str, data: Any) -> None:
+        import numpy as np
+
+        masked: Any = np.ma
+        self._series: Any = None
+        self._values: Any = data
+        self._nulls: Any = None
+        if isinstance(data, ColumnData):
+            self._values, self._nulls = np.asarray(data.values), None if data.nulls is None else np.asarray(data.nulls, bool)
+        elif isinstance(data, masked.MaskedArray):
+            self._values, self._nulls = np.asarray(data.data), masked.getmaskarray(data)
+        elif hasattr(data, "isna") and hasattr(data.dtype, "na_value") and data.dtype.kind in "iu":  # pandas, with nulls of its own
+            self._series = data
+            return
+        else:
+            self._values, self._nulls = _listed(name, data)
+        if self._values.ndim != 1 or self._nulls is not None and self._nulls.shape != self._values.shape:
+            raise ValueError(f"column {name}: a list of numbers is wanted, and as many nulls")
+        kind = self._values.dtype
+        if kind.kind not in "iu":
+            raise TypeError(f"column {name}: whole numbers are wanted, and this is {kind}; floats are not rounded, and pandas has Int64 for numbers with nulls")
+
+    def __len__(self) -> int:
+        return len(self._values)
+
+    def piece(self, first: int, last: int) -> ColumnData:
+        """The data of some rows: 0 at a null."""
+        import numpy as np
+
+        if self._series is not None:
+            some = self._series[first:last] if not hasattr(self._series, "iloc") else self._series.iloc[first:last]
+            values: Any = some.to_numpy(dtype=f"{some.dtype.kind}{getattr(some.dtype, 'itemsize', 8)}", na_value=0)
+            nulls: Any = np.asarray(some.isna(), bool)
+        else:
+            values, nulls = self._values[first:last], None if self._nulls is None else self._nulls[first:last]
+        if nulls is None or not nulls.any():
+            return ColumnData(values, None)
+        return ColumnData(np.where(nulls, np.zeros((), values.dtype), values), nulls)
+
+
+def _listed(name: str, data: Any) -> Any:
+    """The numbers of an array or a list, and which of them are null."""
     import numpy as np
 
-    masked: Any = np.ma
-    nulls: Any = None
-    if isinstance(data, ColumnData):
-        values, nulls = np.asarray(data.values), None if data.nulls is None else np.asarray(data.nulls, bool)
-    elif isinstance(data, masked.MaskedArray):
-        values, nulls = np.asarray(data.filled(0)), masked.getmaskarray(data)
-    elif hasattr(data, "isna") and hasattr(data.dtype, "na_value") and data.dtype.kind in "iu":  # pandas, with nulls of its own
-        nulls = np.asarray(data.isna(), bool)
-        values = np.asarray(data.to_numpy(dtype=f"{data.dtype.kind}8", na_value=0))
-    else:
+    try:
         values = np.asarray(data)
-        if values.dtype.kind == "O" or not values.size:
-            values, nulls = _objects(values.tolist(), name)
-    if values.ndim != 1 or nulls is not None and nulls.shape != values.shape:
-        raise ValueError(f"column {name}: a list of numbers is wanted, and as many nulls")
-    if values.dtype.kind not in "iu":
-        raise TypeError(f"column {name}: whole numbers are wanted, and this is {values.dtype}; floats are not rounded, and pandas has Int64 for numbers with nulls")
-    if nulls is None or not nulls.any():
-        return ColumnData(values, None)
-    return ColumnData(np.where(nulls, np.zeros((), values.dtype), values), nulls)
+    except ValueError as fault:  # a list of lists
+        raise ValueError(f"column {name}: a list of numbers is wanted: {fault}") from None
+    if values.ndim != 1 or values.size and values.dtype.kind != "O":
+        return values, None
+    return _objects(values.tolist(), name)
 
 
 def _objects(values: List[Any], name: str) -> Any:
@@ -105,16 +182,18 @@ def _is_null(value: Any) -> bool:
     return value is None or type(value).__name__ == "NAType"
 
 
-def _judge(data: List[ColumnData], bits: List[int]) -> None:
-    """Refuses the first row that has a number outside its column's type."""
+def _judge(data: List[ColumnData], bits: List[int], first: int) -> None:
+    """Refuses the first row that has a number outside its column's type. The rows are those from one on."""
     import numpy as np
 
     found = []
     for at, (column, width) in enumerate(zip(data, bits)):
-        lowest, greatest = -(1 << width - 1), (1 << width - 1) - 1
+        lowest, greatest, kind = -(1 << width - 1), (1 << width - 1) - 1, column.values.dtype
+        if kind.kind == "i" and 8 * kind.itemsize <= width:
+            continue
         if int(column.values.min()) < lowest or int(column.values.max()) > greatest:
-            low = column.values < lowest if column.values.dtype.kind == "i" else False
-            found.append((int(np.argmax(low | (column.values > greatest))), at))
+            low = column.values < lowest if kind.kind == "i" else False
+            found.append((first + int(np.argmax(low | (column.values > greatest))), at))
     if found:
         raise calls.refused(_OUT_OF_TYPE, *min(found))
 
@@ -139,45 +218,56 @@ def _name_bytes(name: BatchName, at: int) -> bytes:
     return name.origin.to_bytes(4, "little") + (name.number + at).to_bytes(4, "little")
 
 
+def _batches(columns: List[Column], bits: List[int], first: int, rows: int, name: BatchName) -> List[Any]:
+    """Batches of some rows, of 65,536 rows each and a shorter last one, as an offer has them, in pieces."""
+    data = [column.piece(first, first + rows) for column in columns]
+    _judge(data, bits, first)
+    vectors = [_vectors(column, width) for column, width in zip(data, bits)]
+    parts: List[Any] = []
+    for at, begin in enumerate(range(0, rows, _BATCH)):
+        count = min(_BATCH, rows - begin)
+        parts += [_name_bytes(name, at), (count - 1).to_bytes(2, "little")]
+        some = slice(begin // _VECTOR, -(-(begin + count) // _VECTOR))
+        for plain, masks in vectors:
+            parts += _with_masks(plain[some], None if masks is None else masks[some])
+    return parts
+
+
 def _vectors(column: ColumnData, width: int) -> Any:
     """A column's vectors, as rows of bytes without their null masks, and the masks, or None: FOR with the reference 0 and the full width."""
     import numpy as np
 
-    rows = len(column.values)
-    padded = -(-rows // _VECTOR) * _VECTOR
-    flat = np.zeros(padded, f"<i{width // 8}")
-    flat[:rows] = column.values
-    # Row 64 j + width q + r is in the word r of lane 16 rev(q) + j.
-    cube = flat.reshape(-1, 16, 64 // width, width)[:, :, _REVERSED[width], :]
-    words = np.ascontiguousarray(cube.transpose(0, 3, 2, 1)).view(np.uint8).reshape(padded // _VECTOR, -1)
-    vectors = np.empty((padded // _VECTOR, 5 + width // 8 + words.shape[1]), np.uint8)
-    vectors[:, : 5 + width // 8] = 0
+    rows, size, kind = len(column.values), width // 8, np.dtype(f"<i{width // 8}")
+    count = -(-rows // _VECTOR)
+    flat = column.values if column.values.dtype == kind and rows == count * _VECTOR else np.zeros(count * _VECTOR, kind)
+    if flat is not column.values:
+        flat[:rows] = column.values
+    front = 5 + size
+    vectors = np.empty((count, front + _VECTOR * size), np.uint8)
+    vectors[:, :front] = 0
     vectors[:, 2] = width
-    vectors[:, 5 + width // 8 :] = words
+    # Row 64 j + width q + r is in the word r of lane 16 rev(q) + j.
+    cube = flat.reshape(count, 16, 64 // width, width)
+    words: Any = np.ndarray((count, width, 64 // width, 16), kind, vectors.data, front, (front + _VECTOR * size, 128, 2 * width, size))
+    for lane, part in enumerate(_REVERSED[width]):
+        words[:, :, lane, :] = cube[:, :, part, :].transpose(0, 2, 1)
     if column.nulls is None:
         return vectors, None
-    nulls = np.zeros(padded, bool)
+    nulls = np.zeros(count * _VECTOR, bool)
     nulls[:rows] = column.nulls
     return vectors, np.packbits(nulls.reshape(-1, _VECTOR), axis=1, bitorder="little")
 
 
-def _container(front: bytes, rows: int, columns: List[Any], name: BatchName) -> bytes:
-    """The offer: batches of 65,536 rows and a shorter last one, and no deletions."""
-    parts = [front, (-(-rows // _BATCH)).to_bytes(4, "little")]
-    for at, first in enumerate(range(0, rows, _BATCH)):
-        count = min(_BATCH, rows - first)
-        parts += [_name_bytes(name, at), (count - 1).to_bytes(2, "little")]
-        begin, end = first // _VECTOR, -(-(first + count) // _VECTOR)
-        for vectors, masks in columns:
-            parts += _with_masks(vectors[begin:end], None if masks is None else masks[begin:end])
-    return b"".join([*parts, bytes(8)])
+def _offer(front: bytes, batches: List[Any], count: int) -> bytes:
+    """The offer of these batches, and of no deletions."""
+    return b"".join([front, count.to_bytes(4, "little"), *batches, bytes(8)])
 
 
-def _with_masks(vectors: Any, masks: Any) -> List[bytes]:
-    """The bytes of vectors in a row: of each a flag, the mask if there is a null, and the rest."""
+def _with_masks(vectors: Any, masks: Any) -> List[Any]:
+    """Vectors in a row, in pieces: of each a flag, the mask if there is a null, and the rest."""
     if masks is None or not masks.any():
-        return [vectors.tobytes()]
-    parts = []
-    for vector, mask in zip(vectors, masks):
-        parts += [b"\1", mask.tobytes(), vector[1:].tobytes()] if mask.any() else [vector.tobytes()]
+        return [vectors]
+    parts: List[Any] = []
+    for vector, mask, is_some in zip(vectors, masks, masks.any(axis=1)):
+        parts += [b"\1", mask, vector[1:]] if is_some else [vector]
     return parts

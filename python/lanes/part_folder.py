@@ -11,25 +11,23 @@ import os
 import re
 import secrets
 import stat
-import time
 import warnings
 from typing import Iterable, Iterator, Optional
+
+from .errors import Busy, Damaged
+from .waiting import Wait
 
 _PART = re.compile(r"[0-9a-f]{32}\.lanes")
 _TEMPORARY = re.compile(r"\.part-[0-9a-f]{16}")
 
-#: How many seconds a lock is waited for, and how many one sleep takes at most.
-_LONGEST_WAIT, _LONGEST_SLEEP = 10.0, 0.01
+#: How many bytes at the front of a part have its schema and its number of batches.
+_FRONT = 4096
+
+#: How many parts are synced at once.
+_SYNCS = 16
 
 #: How often a part is put, if the one that was there before is gone when it is compared, and a temporary is made.
 _TRIES = 100
-
-
-class Damaged(OSError):
-    """A part has other bytes than its name says: copy it again, or remove it."""
-
-    def __init__(self, path: str) -> None:
-        super().__init__(errno.EIO, "its bytes are not those of its name: copy it again, or remove it", path)
 
 
 def part_name(data: bytes) -> str:
@@ -48,7 +46,7 @@ def locked(folder: str, kind: int) -> Iterator[bool]:
     system has no such lock.
 
     Raises:
-        TimeoutError: others have had it for ten seconds.
+        Busy: others have had it for ten seconds.
     """
     opened = os.open(folder, os.O_RDONLY | os.O_DIRECTORY | os.O_CLOEXEC)
     try:
@@ -59,18 +57,15 @@ def locked(folder: str, kind: int) -> Iterator[bool]:
 
 def _wait(folder: str, opened: int, kind: int) -> bool:
     """Waits for the lock of a folder that is open; whether there is one."""
-    begun, pause = time.monotonic(), 0.001
+    wait = Wait("others have had the folder for ten seconds", folder)
     while True:
         try:
             fcntl.flock(opened, kind | fcntl.LOCK_NB)
             return True
         except BlockingIOError:
-            if time.monotonic() - begun >= _LONGEST_WAIT:
-                raise TimeoutError(errno.ETIMEDOUT, "others have had the folder for ten seconds", folder) from None
+            wait.again()
         except OSError:
             return False
-        time.sleep(pause)
-        pause = min(pause + 0.001, _LONGEST_SLEEP)
 
 
 def listed(folder: str) -> list[str]:
@@ -80,8 +75,24 @@ def listed(folder: str) -> list[str]:
 
 
 def names_in(folder: str) -> list[str]:
-    """The same, by who has a lock already."""
-    return sorted(filter(is_part_name, {*os.listdir(folder), *os.listdir(folder)}))
+    """The same, by who has a lock already. A folder that has a part's name is no part."""
+    return sorted({*_names_once(folder), *_names_once(folder)})
+
+
+def _names_once(folder: str) -> list[str]:
+    """The names of parts in one listing."""
+    with os.scandir(folder) as entries:
+        return [entry.name for entry in entries if is_part_name(entry.name) and not entry.is_dir()]
+
+
+def front_of(folder: str, name: str) -> tuple[bytes, int]:
+    """The first bytes of a part, among which are its schema and its number of batches, and how many bytes it has.
+
+    Raises:
+        FileNotFoundError: it is gone.
+    """
+    with open(os.path.join(folder, name), "rb", buffering=0) as file:
+        return file.read(_FRONT) or b"", os.fstat(file.fileno()).st_size
 
 
 def read_part(folder: str, name: str) -> bytes:
@@ -135,10 +146,14 @@ class Temporary:
             if _is_named(file, path):
                 return file, path
             os.close(file)
-        raise OSError(errno.EBUSY, "no temporary can be made", self._folder)
+        raise Busy("no temporary can be made", self._folder)
 
-    def place(self, name: str) -> bool:
-        """Gives the file its name, and syncs the folder; False if another file has the name, which it keeps. The temporary name goes."""
+    def place(self, name: str, *, is_strict: bool = False) -> bool:
+        """Gives the file its name, and syncs the folder; False if another file has the name, which it keeps. The temporary name goes.
+
+        Raises:
+            OSError: the file can't be given its name; or, if the call is strict, the folder can't be synced, and the file has its name.
+        """
         path = os.path.join(self._folder, name)
         try:
             os.link(self._path, path)
@@ -152,7 +167,7 @@ class Temporary:
             os.rename(self._path, path)
         else:
             self.discard()
-        _sync(self._opened, path)
+        _sync(self._opened, path, is_strict)
         return True
 
     def discard(self) -> None:
@@ -168,40 +183,65 @@ class Temporary:
         self._file = self._opened = -1
 
 
-def put(folder: str, data: bytes) -> str:
+def put(folder: str, data: bytes, *, is_strict: bool = False) -> str:
     """Puts bytes into a folder as a part, unless it has it; its name.
 
     Raises:
         Damaged: the part of this name has other bytes.
+        OSError: the part can't be written; or, if the call is strict, it is there and can't be synced, or its folder can't.
     """
     name = part_name(data)
     for _ in range(_TRIES):
         temporary = Temporary(folder, data)
         try:
-            if temporary.place(name) or is_there(folder, name):
+            if temporary.place(name, is_strict=is_strict) or keep(folder, name, is_strict=is_strict):
                 return name
         except BaseException:
             temporary.discard()
             raise
         finally:
             temporary.close()
-    raise OSError(errno.EBUSY, "the part comes and goes", os.path.join(folder, name))
+    raise Busy("the part comes and goes", os.path.join(folder, name))
 
 
-def is_there(folder: str, name: str) -> bool:
-    """Whether a part is there, whole, and is on the disk then."""
+def keep(folder: str, name: str, *, is_strict: bool = False) -> bool:
+    """Whether a part is there. It is read, compared with its name, and synced, all by one descriptor, and then its folder is synced.
+
+    Raises:
+        Damaged: it has other bytes than its name says.
+        OSError: it can't be read; or, if the call is strict, it or its folder can't be synced.
+    """
+    path = os.path.join(folder, name)
     try:
-        read_part(folder, name)
+        file = open(path, "rb", buffering=0)
     except FileNotFoundError:
         return False
-    path = os.path.join(folder, name)
-    for what in path, folder:
-        opened = os.open(what, os.O_RDONLY | os.O_CLOEXEC)
-        try:
-            _sync(opened, path)
-        finally:
-            os.close(opened)
+    with file:
+        if part_name(file.readall()) != name:
+            raise Damaged(path)
+        _sync(file.fileno(), path, is_strict)
+    _sync_folder(folder, path, is_strict)
     return True
+
+
+def settle(folder: str, names: Iterable[str]) -> None:
+    """Syncs parts that are there, some at once, and then their folder. A warning tells of what can't be synced.
+
+    Raises:
+        FileNotFoundError: one is gone.
+    """
+    from concurrent.futures import ThreadPoolExecutor
+
+    with ThreadPoolExecutor(_SYNCS) as pool:
+        for _ in pool.map(_settle_one, [os.path.join(folder, name) for name in names]):
+            pass
+    _sync_folder(folder, folder)
+
+
+def _settle_one(path: str) -> None:
+    """Syncs a part that is there."""
+    with open(path, "rb", buffering=0) as file:
+        _sync(file.fileno(), path)
 
 
 def make(folder: str, data: bytes) -> None:
@@ -232,24 +272,25 @@ def make(folder: str, data: bytes) -> None:
         os.close(outer)
 
 
-def remove_all(folder: str, names: Iterable[str]) -> None:
-    """Removes parts under the exclusive lock of the folder. One that is gone is no matter.
+def remove_joined(folder: str, names: Iterable[str], pack: str) -> bool:
+    """Removes parts of which a pack is the join, under the exclusive lock of the folder, once the pack is seen to be there and on the disk.
+    A part that is gone is no matter. If the pack is gone, it was packed itself: nothing is removed, and the answer is False.
 
     Raises:
-        TimeoutError: others have had the folder for ten seconds.
-        OSError: the file system has no such lock. Nothing is removed then.
+        Busy: others have had the folder for ten seconds. Nothing is removed then.
+        Damaged: the pack has other bytes than its name says. Nothing is removed then.
+        OSError: the pack can't be read or synced, or the file system has no such lock, and nothing is removed; or a part can't be removed.
     """
     with locked(folder, fcntl.LOCK_EX) as is_locked:
         if not is_locked:
             raise OSError(errno.ENOLCK, "the folder can't be locked, so no part is removed", folder)
+        if not keep(folder, pack, is_strict=True):
+            return False
         for name in names:
             with contextlib.suppress(FileNotFoundError):
                 os.unlink(os.path.join(folder, name))
-        opened = os.open(folder, os.O_RDONLY | os.O_DIRECTORY | os.O_CLOEXEC)
-        try:
-            os.fsync(opened)
-        finally:
-            os.close(opened)
+        _sync_folder(folder, folder, True)
+    return True
 
 
 def sweep(folder: str) -> None:
@@ -275,12 +316,24 @@ def _sweep_one(path: str) -> None:
 
 
 def size(folder: str, name: str) -> Optional[int]:
-    """How many bytes a part has; None if it is gone, or is no regular file."""
+    """How many bytes a part has; None if it is gone, or is no regular file.
+
+    Raises:
+        FileNotFoundError: it is a link that leads nowhere.
+    """
+    path = os.path.join(folder, name)
     try:
-        found = os.stat(os.path.join(folder, name))
-    except OSError:
+        found = os.stat(path)
+    except FileNotFoundError:
+        if leads_nowhere(path):
+            raise
         return None
     return found.st_size if stat.S_ISREG(found.st_mode) else None
+
+
+def leads_nowhere(path: str) -> bool:
+    """Whether there is a link of this path, and no file behind it."""
+    return os.path.islink(path) and not os.path.exists(path)
 
 
 def _is_named(file: int, path: str) -> bool:
@@ -291,9 +344,20 @@ def _is_named(file: int, path: str) -> bool:
         return False
 
 
-def _sync(opened: int, path: str) -> None:
-    """Syncs an open folder or file. If that fails, a warning says so."""
+def _sync_folder(folder: str, path: str, is_strict: bool = False) -> None:
+    """Syncs a folder, in which a file of this path is."""
+    opened = os.open(folder, os.O_RDONLY | os.O_DIRECTORY | os.O_CLOEXEC)
+    try:
+        _sync(opened, path, is_strict)
+    finally:
+        os.close(opened)
+
+
+def _sync(opened: int, path: str, is_strict: bool = False) -> None:
+    """Syncs an open folder or file. If that fails, the call raises if it is strict, and else a warning says so."""
     try:
         os.fsync(opened)
-    except OSError:
-        warnings.warn(f"{path}: this is there, but its folder could not be synced: a loss of power may take it away", RuntimeWarning, stacklevel=3)
+    except OSError as fault:
+        if is_strict:
+            raise OSError(fault.errno, f"this could not be synced: {fault.strerror}", path) from None
+        warnings.warn(f"{path}: this is there, but it could not be synced: a loss of power may take it away", RuntimeWarning, stacklevel=3)

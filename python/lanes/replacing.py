@@ -9,15 +9,10 @@ import errno
 import fcntl
 import os
 import stat
-import time
 import warnings
 from typing import Optional, Union
 
-#: How many seconds a lock is waited for.
-_LONGEST_WAIT = 10.0
-
-#: How many seconds one sleep takes at most.
-_LONGEST_SLEEP = 0.01
+from .waiting import Wait
 
 
 def replace(path: Union[str, os.PathLike[str]], data: Union[bytes, memoryview]) -> None:
@@ -27,7 +22,7 @@ def replace(path: Union[str, os.PathLike[str]], data: Union[bytes, memoryview]) 
     If the folder can't be synced afterwards, the file is replaced, and a `RuntimeWarning` says so.
 
     Raises:
-        TimeoutError: another process has had the file for ten seconds. It is as it was.
+        Busy: another process has had the file for ten seconds. It is as it was.
         OSError: the file can't be written. It is as it was.
     """
     if _is_written_in_place(path):
@@ -45,7 +40,7 @@ class Held:
     """A file that nobody else replaces meanwhile: `with Held(path) as held`. At the end its lock is gone, whether it was replaced or not.
 
     Raises:
-        TimeoutError: another process has had the file for ten seconds.
+        Busy: another process has had the file for ten seconds.
         OSError: the lock can't be had, or what is there is no regular file.
     """
 
@@ -75,13 +70,25 @@ class Held:
             os.fsync(self._file)
             os.rename(self._lock, self.target)
             self._is_put = True
-            try:
-                os.fsync(folder)
-            except OSError:
-                message = f"{self.target}: this was replaced, but its folder could not be synced: a loss of power may bring the old file back"
-                warnings.warn(message, RuntimeWarning, stacklevel=4)
+            self._sync(folder, "this was replaced, but its folder could not be synced")
         finally:
             os.close(folder)
+
+    def settle(self) -> None:
+        """Has the file that is there on the disk: syncs it, and its folder."""
+        for path in self.target, self._folder:
+            opened = os.open(path, os.O_RDONLY | os.O_CLOEXEC)
+            try:
+                self._sync(opened, "this is there, but it could not be synced")
+            finally:
+                os.close(opened)
+
+    def _sync(self, opened: int, words: str) -> None:
+        """Syncs an open file or folder. If that fails, a warning says so."""
+        try:
+            os.fsync(opened)
+        except OSError:
+            warnings.warn(f"{self.target}: {words}: a loss of power may bring the old file back", RuntimeWarning, stacklevel=4)
 
     def release(self) -> None:
         """Takes the lock away, unless it has become the file."""
@@ -109,15 +116,12 @@ def _is_written_in_place(path: Union[str, os.PathLike[str]]) -> bool:
 
 def _held(target: str, lock: str) -> int:
     """The lock of a file, once it is had, as a descriptor."""
-    begun, pause = time.monotonic(), 0.001
+    wait = Wait("another process has had the file for ten seconds", target)
     while True:
         file = _tried(lock)
         if file is not None:
             return file
-        if time.monotonic() - begun >= _LONGEST_WAIT:
-            raise TimeoutError(errno.ETIMEDOUT, "another process has had the file for ten seconds", target)
-        time.sleep(pause)
-        pause = min(pause + 0.001, _LONGEST_SLEEP)
+        wait.again()
 
 
 def _tried(lock: str) -> Optional[int]:

@@ -3,14 +3,15 @@
 from __future__ import annotations
 
 import ctypes
+import functools
 import os
 import re
 import secrets
 import stat
 import zlib
-from typing import IO, TYPE_CHECKING, Any, Iterable, Mapping, NamedTuple, Optional, Tuple, Union
+from typing import IO, TYPE_CHECKING, Any, Iterable, Mapping, NamedTuple, Optional, Tuple, Type, TypeVar, Union
 
-from . import calls, replacing
+from . import arguments, calls, conditions, replacing
 from .answer import Answer, Value
 from .batch_name import BatchName, GivenName, name_of
 
@@ -35,8 +36,20 @@ _FRONT = 4096
 #: The types of columns, of 1, 2, 4 and 8 bytes.
 TYPES = ("TINYINT", "SMALLINT", "INTEGER", "BIGINT")
 
+#: How many bytes a field of a dump has at most, with its comma, by its type; and both fields of a row's name.
+_DIGITS, _NAMED = {"TINYINT": 5, "SMALLINT": 7, "INTEGER": 12, "BIGINT": 21}, 30
+
 #: What is taken for bytes.
 _Bytes = Union[bytes, bytearray, memoryview]
+
+#: What is taken for comma-separated values: the text itself, a file that is open for reading, or a path object.
+Csv = Union[str, _Bytes, IO[str], IO[bytes], "os.PathLike[str]"]
+
+#: How the path of a file of comma-separated values ends.
+_ENDINGS = (".csv", ".tsv", ".txt", ".gz")
+
+#: A table's own class.
+_Self = TypeVar("_Self", bound="Table")
 
 
 class Schema(NamedTuple):
@@ -64,22 +77,38 @@ def _word(file: bytes, at: int) -> tuple[str, int]:
     return file[at + 1 : end].decode(), end
 
 
+class _Stream:
+    """`Table.__arrow_c_stream__`, which there is if the shim for Arrow is there or can be built."""
+
+    def __get__(self, table: Optional[Table], _: object = None) -> Any:
+        from .arrow import has_shim, stream_of
+
+        if not has_shim():
+            raise AttributeError("__arrow_c_stream__: there is no shim for Arrow, since lanes was installed without a C compiler")
+        return self if table is None else functools.partial(stream_of, table)
+
+
 class Table:
-    """What a replica of a table holds. It never changes, and any number of threads may use it at once.
+    """What a replica of a table holds. It never changes, and any number of threads may use it at once. Of a subclass all calls give that
+    subclass; it is made of a file alone.
+
+    At the end of a `with` block a table is closed: its file is let go, and each call is a ValueError then.
 
     Queries are asked of one opening: the file is judged once, when the table is opened, or at the first query of a table that a call
     made. Tables are equal if they hold the same, and then their bytes are the same. `len` is the number of live rows.
     """
 
-    __slots__ = ("_file", "_opened", "_read_schema")
+    __slots__ = ("_held", "_opened", "_read_schema", "__weakref__")
 
     def __init__(self, file: calls.Input) -> None:
-        self._file = file
+        if not isinstance(file, (bytes, calls.Mapped)):
+            raise TypeError(f"file: a table is made by Table.create, Table.open or Table.from_bytes, and not of what is of type {type(file).__name__}")
+        self._held: Optional[calls.Input] = file
         self._opened: Optional[calls.Opened] = None
         self._read_schema: Optional[Schema] = None
 
     @classmethod
-    def create(cls, name: str, columns: Union[Mapping[str, str], Iterable[Tuple[str, str]]]) -> Table:
+    def create(cls: Type[_Self], name: str, columns: Union[Mapping[str, str], Iterable[Tuple[str, str]]]) -> _Self:
         """An empty table.
 
         Args:
@@ -90,21 +119,20 @@ class Table:
             Refused: `BadSchema`.
             TypeError: `columns` is neither a dict nor pairs of texts.
         """
-        pairs = list(columns.items() if isinstance(columns, Mapping) else columns)
-        words = [name]
-        for pair in pairs:
-            if isinstance(pair, str) or len(pair) != 2 or not all(isinstance(word, str) for word in pair):
-                raise TypeError(f"{pair!r} is not a column's name and its type: columns are a dict, or pairs, as [('SITE', 'SMALLINT')]")
-            kind = pair[1].encode().upper().decode()  # of ASCII letters alone
+        words = [arguments.text_of("name", name).decode()]
+        for pair in columns.items() if isinstance(columns, Mapping) else arguments.several("columns", "a dict or pairs", columns):
+            if not isinstance(pair, (tuple, list)) or len(pair) != 2 or not all(isinstance(word, str) for word in pair):
+                raise TypeError(f"columns: {pair!r} is not a column's name and its type: columns are a dict, or pairs, as [('SITE', 'SMALLINT')]")
+            kind = arguments.text_of("columns", pair[1]).upper().decode()  # of ASCII letters alone
             if kind not in TYPES:
                 raise calls.refused(_BAD_SCHEMA, sentence=f"the type {pair[1]!r} of column {pair[0]} is unknown: a type is TINYINT, SMALLINT, INTEGER or BIGINT")
             words += [pair[0], kind]
         if any(" " in word for word in words):
             raise calls.refused(_BAD_SCHEMA)
-        return cls(calls.given(calls.CREATE, _ROOM, " ".join(words).encode()))
+        return cls(calls.given(calls.CREATE, _ROOM, arguments.text_of("columns", " ".join(words))))
 
     @classmethod
-    def open(cls, path: Union[str, os.PathLike[str]]) -> Table:
+    def open(cls: Type[_Self], path: Union[str, os.PathLike[str]]) -> _Self:
         """The table of a file. The file isn't copied: the system maps it. A pipe is read to its end; a folder of
         parts is opened by `lanes.Folder`.
 
@@ -115,23 +143,23 @@ class Table:
             OSError: the file can't be opened.
             Refused: the file's first fault.
         """
-        with open(path, "rb", buffering=0) as file:
+        with open(arguments.path_of("path", path), "rb", buffering=0) as file:
             found = os.fstat(file.fileno())
             if stat.S_ISREG(found.st_mode):
-                table = cls(calls.Mapped(file.fileno(), found.st_size) if found.st_size else b"")
+                table = cls(calls.Mapped.of_file(file.fileno(), found.st_size) if found.st_size else b"")
             else:
                 table = cls(file.read())
         table._asked()
         return table
 
     @classmethod
-    def from_bytes(cls, file: _Bytes) -> Table:
+    def from_bytes(cls: Type[_Self], file: _Bytes) -> _Self:
         """The table of a file's bytes.
 
         Raises:
             Refused: the file's first fault.
         """
-        table = cls(_bytes_of(file))
+        table = cls(arguments.bytes_of("file", file))
         table._asked()
         return table
 
@@ -146,10 +174,10 @@ class Table:
         What another process did to the file since it was opened is replaced, too: `lanes.update` reads, changes and writes under one lock.
 
         Raises:
-            TimeoutError: another process has had the file for ten seconds. It is as it was.
+            Busy: another process has had the file for ten seconds. It is as it was.
             OSError: the file can't be written. It is as it was.
         """
-        replacing.replace(path, self._view())
+        replacing.replace(arguments.path_of("path", path), self._view())
 
     @property
     def name(self) -> str:
@@ -192,15 +220,19 @@ class Table:
         Raises:
             Refused: a fault of the query with its byte, as `Syntax`, or of the file.
         """
-        return Answer.from_text(self._asked().ask(_ROOM, sql.encode()).decode())
+        return Answer.from_text(self._asked().ask(arguments.text_of("sql", sql)).decode(), sql)
 
-    def part(self, sql: str) -> bytes:
+    def partial(self, sql: str) -> bytes:
         """What this table gives to the answer of a query over several tables, for `lanes.combine` and `lanes.finish`.
 
         Raises:
             Refused: what `query` refuses.
         """
-        return self._asked().part(_ROOM, sql.encode())
+        return self._asked().partial(self._length() + _ROOM, arguments.text_of("sql", sql))
+
+    def part(self, sql: str) -> bytes:
+        """`partial`, by its name up to 0.5. It goes with the next release."""
+        return self.partial(sql)
 
     def queries(self, sqls: Iterable[str]) -> list[Answer]:
         """The answers of several queries, in order.
@@ -209,33 +241,33 @@ class Table:
             Refused: the fault of the first query that has one.
             TypeError: `sqls` is one text, and not several.
         """
-        if isinstance(sqls, str):
-            raise TypeError("queries takes several texts; query takes one")
-        return [self.query(sql) for sql in sqls]
+        return [self.query(sql) for sql in arguments.several("sqls", "several texts", sqls)]
 
     def dump(self, names: bool = False) -> str:
         """The live rows as comma-separated values below a heading; with names the columns BATCH and ORDINAL come first."""
-        return calls.given(calls.DUMP, 4 * self._length() + _ROOM, self._file, names).decode()
+        widths = [_DIGITS[kind] for kind in self.columns.values()]
+        room = _ROOM + (sum(widths) + names * _NAMED) * self._asked().rows()
+        return calls.given(calls.DUMP, room, self._file, names).decode()
 
-    def import_csv(self, csv: Union[str, _Bytes, IO[str], IO[bytes]], *, heading: bool = True, batch: Optional[GivenName] = None) -> Table:
+    def import_csv(self: _Self, csv: Csv, *, heading: bool = True, batch: Optional[GivenName] = None) -> _Self:
         """The table with more rows: those of comma-separated values. A field is a whole number, or empty for a null.
 
         Args:
-            csv: the text itself, or a file that is open for reading.
+            csv: the text itself, a file that is open for reading, or a path object, as pathlib.Path("monday.csv").
             heading: whether the first line names all columns, in any order. Else fields are in the table's order.
             batch: the first batch's name, as `"1.17"` or `(1, 17)`. The same rows under the same name change nothing, so a load may be
                 sent twice. Without it a name is drawn at random that nobody else has.
 
         Raises:
             Refused: the first fault of the text with its line, `Conflict` if the name has other rows, and others.
-            ValueError: `batch` is no name.
+            ValueError: `batch` is no name; or `csv` is a text without a line's end that ends as a path does, or is the path of a file.
             TypeError: `csv` is neither a text nor bytes nor a file.
         """
         text = _text_of(csv)
         origin, number = name_of(batch) if batch is not None else (0, 0)
         words = (ctypes.c_uint64 * _WORDS)(*(secrets.randbits(64) for _ in range(_WORDS)))
         room = self._length() + len(text) + _ROOM
-        return Table(calls.given(calls.IMPORT, room, self._file, text, heading, origin, number, ctypes.addressof(words), _WORDS))
+        return self._made(calls.made(calls.IMPORT, room, self._file, text, heading, origin, number, ctypes.addressof(words), _WORDS))
 
     def to_numpy(self, columns: Optional[Iterable[str]] = None, where: str = "") -> dict[str, ColumnData]:
         """The live rows, in order of row name, as arrays of numpy: of each column its values, of the column's own type, and which rows are null.
@@ -257,14 +289,35 @@ class Table:
 
         return frame(self, columns, where)
 
-    def __arrow_c_stream__(self, requested_schema: object = None) -> object:
-        """The live rows for whatever takes Arrow, as pyarrow.table, polars.DataFrame and duckdb: int8, int16, int32 and int64, each of which
-        may be null. Another schema isn't made of them."""
-        from .arrow import stream_of
+    if TYPE_CHECKING:
 
-        return stream_of(self)
+        def __arrow_c_stream__(self, requested_schema: object = None) -> object:
+            """The live rows for whatever takes Arrow, as pyarrow.table, polars.DataFrame and duckdb: int8, int16, int32 and int64, each of
+            which may be null. A schema that is asked for may have some of the columns, in any order, as wider integers. The call is there
+            if the module was installed with a C compiler.
 
-    def import_columns(self, columns: Mapping[str, Any], *, batch: Optional[GivenName] = None) -> Table:
+            Raises:
+                ValueError: another schema is asked for.
+            """
+
+    else:
+        __arrow_c_stream__ = _Stream()
+
+    def import_arrow(self: _Self, data: Any, *, batch: Optional[GivenName] = None) -> _Self:
+        """The table with the rows of whatever gives Arrow's stream, as a table of pyarrow, a frame of polars or another table. Its columns
+        are the table's, in any order: int8, int16, int32 or int64, which may have nulls.
+
+        Raises:
+            Refused: as of `import_columns`.
+            ValueError: the columns aren't those of the table.
+            TypeError: it gives no stream, or a column has another type.
+            OSError: the stream fails.
+        """
+        from .arrow_reading import columns_of
+
+        return self.import_columns(columns_of(data), batch=batch)
+
+    def import_columns(self: _Self, columns: Mapping[str, Any], *, batch: Optional[GivenName] = None) -> _Self:
         """The table with more rows: of each column its values. The file is that of an import of the same rows as comma-separated values.
 
         Args:
@@ -277,25 +330,28 @@ class Table:
             ValueError: the columns aren't those of the table, or have several lengths, or `batch` is no name.
             TypeError: values are no whole numbers. Floats aren't rounded.
         """
-        from .offers import offer_of
+        from .offers import with_rows
 
-        offer = offer_of(self, columns, name_of(batch) if batch is not None else None)
-        return self if offer is None else self.apply(offer)
+        return with_rows(self, columns, name_of(batch) if batch is not None else None)
 
-    def import_frame(self, frame: Any, *, batch: Optional[GivenName] = None) -> Table:
+    def import_frame(self: _Self, frame: Any, *, batch: Optional[GivenName] = None) -> _Self:
         """The table with the rows of a frame of pandas, whose columns are the table's, in any order. A column of floats is refused, also one
         that pandas made of whole numbers with nulls: `frame.convert_dtypes()` makes Int64 of it."""
-        return self.import_columns({name: frame[name] for name in frame.columns}, batch=batch)
+        from .offers import columns_of
 
-    def delete(self, condition: str) -> Table:
+        return self.import_columns(columns_of(frame), batch=batch)
+
+    def delete(self: _Self, condition: str) -> _Self:
         """The table without the rows at which a condition is true: what stands after WHERE in a query.
 
         Raises:
             Refused: a fault of the condition with its byte, or of the file.
         """
-        return Table(calls.given(calls.DELETE, 2 * self._length() + _ROOM, self._file, condition.encode()))
+        text = arguments.text_of("condition", condition)
+        with conditions.judged("condition", text, self.columns):
+            return self._made(calls.made(calls.DELETE, 2 * self._length() + _ROOM, self._file, text))
 
-    def delete_rows(self, batch: GivenName, first: int, last: Optional[int] = None) -> Table:
+    def delete_rows(self: _Self, batch: GivenName, first: int, last: Optional[int] = None) -> _Self:
         """The table without the rows of a batch from one ordinal to another, both included; without `last` one row. Ordinals are from 0
         to 65,535, as `dump(names=True)` has them. Rows that the table doesn't have yet are deleted when they come.
 
@@ -303,34 +359,35 @@ class Table:
             Refused: `BadRange` if `last` is before `first`; `BadName`.
             ValueError: `batch` is no name, or a number is no ordinal.
         """
-        name, end = name_of(batch), first if last is None else last
-        if not (0 <= first <= 0xFFFF and 0 <= end <= 0xFFFF):
-            raise ValueError("an ordinal is from 0 to 65,535")
-        if end < first:
+        name, begin = name_of(batch), _ordinal("first", first)
+        end = begin if last is None else _ordinal("last", last)
+        if end < begin:
             raise calls.refused(_BAD_RANGE)
-        parts = [name.origin.to_bytes(4, "little"), name.number.to_bytes(4, "little"), first.to_bytes(2, "little"), end.to_bytes(2, "little")]
+        parts = [name.origin.to_bytes(4, "little"), name.number.to_bytes(4, "little"), begin.to_bytes(2, "little"), end.to_bytes(2, "little")]
         return self.apply(self._front() + bytes(4) + (1).to_bytes(8, "little") + b"".join(parts))
 
-    def forget(self) -> Table:
+    def forget(self: _Self) -> _Self:
         """The table without the batches of which every row is deleted. Their deletions stay, so that these rows never come back, and no
         answer changes. A name that was dropped stays used up; docs/COMMANDS.md, "Forgetting", says when to forget.
 
         Raises:
             Refused: a fault of the file.
         """
-        return Table(calls.given(calls.FORGET, self._length() + _ROOM, self._file))
+        return self._made(calls.made(calls.FORGET, self._length() + _ROOM, self._file))
 
-    def merge(self, *others: Table) -> Table:
+    def merge(self: _Self, *others: Table) -> _Self:
         """The table that has what all of them hold, in whichever order they come.
 
         Raises:
             Refused: `SchemaDiffers`; `Conflict` with a batch that has two lists of rows; or a fault of a file.
         """
-        level = [self, *others]
+        if not others:
+            return self
+        level = [self._file, *(arguments.is_of("others", Table, other)._file for other in others)]
         while len(level) > 1:  # in pairs, so that a row is copied as often as the tree is high, and not once for each table
             pairs = [_joined(one, other) for one, other in zip(level[0::2], level[1::2])]
-            level = pairs + level[2 * len(pairs) :]
-        return level[0]
+            level = [*pairs, *level[2 * len(pairs) :]]
+        return self._made(level[0])
 
     def summary(self) -> bytes:
         """What the table holds, in few bytes, for another replica's `offer`."""
@@ -342,16 +399,46 @@ class Table:
         Raises:
             Refused: a fault of the summary or of the file, or `SchemaDiffers`.
         """
-        return calls.given(calls.OFFER, self._length() + _ROOM, self._file, _bytes_of(summary))
+        return calls.given(calls.OFFER, self._length() + _ROOM, self._file, arguments.bytes_of("summary", summary))
 
-    def apply(self, offer: _Bytes) -> Table:
+    def apply(self: _Self, offer: _Bytes) -> _Self:
         """The table with what an offer brings. A file's bytes are an offer too.
 
         Raises:
             Refused: a fault of the offer or of the file, `SchemaDiffers`, `Conflict` or `Full`.
         """
-        offered = _bytes_of(offer)
-        return Table(calls.given(calls.APPLY, self._length() + len(offered) + _ROOM, self._file, offered))
+        offered = arguments.bytes_of("offer", offer)
+        return self._applied(offered)
+
+    def close(self) -> None:
+        """Lets the file go. A question that another thread asks meanwhile is answered."""
+        self._held = self._opened = None
+
+    def __enter__(self: _Self) -> _Self:
+        return self
+
+    def __exit__(self, *_: object) -> None:
+        self.close()
+
+    @property
+    def _file(self) -> calls.Input:
+        """The file.
+
+        Raises:
+            ValueError: the table is closed.
+        """
+        held = self._held
+        if held is None:
+            raise ValueError("this table is closed")
+        return held
+
+    def _made(self: _Self, file: calls.Input) -> _Self:
+        """A table of the same class."""
+        return type(self)(file)
+
+    def _applied(self: _Self, offer: calls.Input) -> _Self:
+        """The table with what an offer brings."""
+        return self._made(calls.made(calls.APPLY, self._length() + calls.length_of(offer) + _ROOM, self._file, offer))
 
     def _asked(self) -> calls.Opened:
         """What queries are asked of. Two threads that ask first at the same time may both open it; one opening stays."""
@@ -372,7 +459,7 @@ class Table:
         return self._schema().front
 
     def _length(self) -> int:
-        return len(self._file) if isinstance(self._file, bytes) else self._file.length
+        return calls.length_of(self._file)
 
     def _view(self) -> memoryview:
         """The file's bytes, without a copy."""
@@ -385,7 +472,7 @@ class Table:
         return True
 
     def __reduce__(self) -> tuple[object, ...]:
-        return Table.from_bytes, (self.to_bytes(),)
+        return type(self).from_bytes, (self.to_bytes(),)
 
     def __eq__(self, other: object) -> bool:
         if not isinstance(other, Table):
@@ -404,12 +491,26 @@ class Table:
         return f"<p><b>{self.name}</b>: {len(self):,} rows, {self._length():,} bytes</p><table><tr><th>COLUMN</th><th>TYPE</th></tr>{rows}</table>"
 
     def __repr__(self) -> str:
-        return f"<lanes.Table {self.name} of {self._length()} bytes>"
+        kind = f"{'lanes.' * (type(self) is Table)}{type(self).__name__}"
+        return f"<{kind} {self.name} of {self._length()} bytes>" if self._held is not None else f"<{kind}, closed>"
 
 
-def _joined(one: Table, other: Table) -> Table:
-    """The table of what two hold."""
-    return Table(calls.given(calls.MERGE, one._length() + other._length() + _ROOM, one._file, other._file))
+def _joined(one: calls.Input, other: calls.Input) -> calls.Input:
+    """The file of what two hold."""
+    return calls.made(calls.MERGE, calls.length_of(one) + calls.length_of(other) + _ROOM, one, other)
+
+
+def _ordinal(name: str, given: object) -> int:
+    """The ordinal of a row in its batch.
+
+    Raises:
+        ValueError: no row has it.
+        TypeError: it is no whole number.
+    """
+    ordinal = arguments.number_of(name, given)
+    if not 0 <= ordinal <= 0xFFFF:
+        raise ValueError(f"{name}: an ordinal is from 0 to 65,535, and this is {ordinal}")
+    return ordinal
 
 
 def _whole(value: Value) -> int:
@@ -417,21 +518,30 @@ def _whole(value: Value) -> int:
     return value
 
 
-def _bytes_of(given: object) -> bytes:
-    """Bytes that were given; a number is none."""
-    if isinstance(given, bytes):
-        return given
-    if isinstance(given, (bytearray, memoryview)):
-        return bytes(given)
-    raise TypeError(f"bytes are wanted here, and this is of type {type(given).__name__}")
-
-
 def _text_of(csv: object) -> bytes:
-    """The bytes of comma-separated values that were given, or that a file has."""
+    """The bytes of comma-separated values that were given, or that a file has.
+
+    Raises:
+        ValueError: it is a text that seems to be a path.
+    """
+    if isinstance(csv, os.PathLike):
+        with open(csv, "rb") as file:
+            return file.read()
     read = getattr(csv, "read", None)
     found = read() if callable(read) else csv
+    if found is csv and isinstance(csv, (str, bytes)):
+        _judge_text(csv)
     if isinstance(found, str):
-        return found.encode()
+        return arguments.text_of("csv", found)
     if isinstance(found, (bytes, bytearray, memoryview)):
         return bytes(found)
-    raise TypeError(f"a text of comma-separated values, or a file of one, is wanted here, and this is of type {type(csv).__name__}")
+    raise arguments.wrong("csv", "a text of comma-separated values, or a file of one,", csv)
+
+
+def _judge_text(csv: Union[str, bytes]) -> None:
+    """Refuses a text without a line's end that seems to be a path."""
+    if "\n" in csv if isinstance(csv, str) else b"\n" in csv:
+        return
+    path = csv if isinstance(csv, str) else os.fsdecode(csv)
+    if path.lower().endswith(_ENDINGS) or os.path.isfile(path):
+        raise ValueError(f"csv: {path!r} is taken as the text of comma-separated values itself; to import a file, give a path object: pathlib.Path({path!r})")

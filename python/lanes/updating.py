@@ -6,7 +6,7 @@ import contextlib
 import os
 from typing import Iterator, Union
 
-from . import replacing
+from . import arguments, replacing
 from .table import Table
 
 
@@ -25,9 +25,7 @@ class Change:
 
     @table.setter
     def table(self, table: Table) -> None:
-        if not isinstance(table, Table):
-            raise TypeError(f"a Table is wanted here, and this is of type {type(table).__name__}")
-        self._table = table
+        self._table = arguments.is_of("table", Table, table)
 
 
 @contextlib.contextmanager
@@ -38,15 +36,17 @@ def update(path: Union[str, os.PathLike[str]]) -> Iterator[Change]:
         with lanes.update("visits.lanes") as change:
             change.table = change.table.import_csv(csv).delete("SITE = 2")
 
-    If the block raises, or the table is the same, the file is left as it was. Inside the block don't `save` to the same file and don't
+    If the block raises, or the table is the same, the file is left as it was. A file that has the table already is synced, with its folder:
+    it may be that another process wrote it and was killed before it was on the disk. Inside the block don't `save` to the same file and don't
     run a command that changes it: they would wait for the lock.
 
     Raises:
-        TimeoutError: another process has had the file for ten seconds.
+        Busy: another process has had the file for ten seconds.
         FileNotFoundError: there is no such file.
         OSError: the file can't be written. It is as it was.
         Refused: the file's first fault.
     """
+    path = arguments.path_of("path", path)
     os.stat(path)
     with replacing.Held(path) as held:
         before = Table.open(held.target)
@@ -54,3 +54,5 @@ def update(path: Union[str, os.PathLike[str]]) -> Iterator[Change]:
         yield change
         if change.table != before:
             held.put(change.table._view())
+        else:
+            held.settle()

@@ -3,20 +3,25 @@ folders. LANES_PROGRAM may name the program."""
 
 from __future__ import annotations
 
+import contextlib
 import fcntl
 import hashlib
 import os
 import pathlib
+import pickle
 import random
+import re
 import shutil
 import subprocess
+import sys
 import tempfile
 import threading
 import unittest
 import unittest.mock
+from typing import Callable, Iterator
 
 import lanes
-from lanes import Damaged, Folder, Refused, Table, part_folder
+from lanes import Busy, Damaged, Folder, Refused, Table, part_folder, waiting
 
 #: The program: the script runs the one that was built here or the released one.
 PROGRAM = os.environ.get("LANES_PROGRAM", os.fspath(pathlib.Path(__file__).resolve().parent.parent.parent / "lanes"))
@@ -86,6 +91,29 @@ class Calls(InFolder):
         self.assertEqual(self.folder.read(), whole)
         self.assertEqual(other.apply(self.folder.offer(other.summary())), whole)
 
+    def test_deletions_alone_are_pulled(self) -> None:
+        self.folder.import_csv("1,1\n" * 10, heading=False, batch="1.1")
+        for first, last, rows in (3, 3, 9), (3, 4, 8), (5, 5, 7), (9, 9, 6), (0, 9, 0):
+            self.assertEqual(self.folder.apply(self.empty.delete_rows("1.1", first, last).to_bytes()), 0)
+            self.assertEqual(len(self.folder.read()), rows)
+
+    def test_deletes_that_overlap_have_the_rows_of_a_table(self) -> None:
+        pick = random.Random(5)
+        for _ in range(12):
+            with tempfile.TemporaryDirectory(dir=self.room) as room:
+                folder, table = Folder.of(os.path.join(room, "f"), self.empty), self.empty
+                for number in 1, 255, 256, 257, 65_536:
+                    csv = "".join(f"{row},{pick.randint(0, 5)}\n" for row in range(pick.choice([1, 10, 40])))
+                    folder.import_csv(csv, heading=False, batch=(1, number))
+                    table = table.import_csv(csv, heading=False, batch=(1, number))
+                for _ in range(6):
+                    low = pick.randint(0, 40)
+                    condition = pick.choice([f"B = {pick.randint(0, 5)}", f"A BETWEEN {low} AND {low + pick.randint(0, 15)}", f"A = {low} OR A = {low + 3}", "A >= 0"])
+                    before = len(table)
+                    table = table.delete(condition)
+                    self.assertEqual(folder.delete(condition), before - len(table), condition)
+                    self.assertEqual(folder.read(), table, condition)
+
     def test_what_is_wrong_is_refused_and_adds_nothing(self) -> None:
         self.folder.import_csv("1,1\n", heading=False, batch="1.1")
         before = self.folder.parts()
@@ -141,15 +169,312 @@ class Calls(InFolder):
         for other in [name.upper(), "." + name, name + ".tmp", f"x{name}", name[1:], name[:-6], "caf\u00e9.lanes", name.replace(".lanes", "\n.lanes"), name + "\n"]:
             pathlib.Path(self.path, other).write_bytes(part)
         os.mkdir(os.path.join(self.path, "more"))
+        os.mkdir(os.path.join(self.path, "0" * 32 + ".lanes"))
         with open(os.fsencode(self.path) + b"/\xff.lanes", "wb"):
             pass
         self.assertEqual(len(self.folder.read()), 0)
-        self.assertEqual(self.folder.pack(everything=True), (1, 0))
+        self.assertEqual(self.folder.import_csv("A,B\n"), 0)
+        self.folder.delete_rows("9.9", 9)
+        self.assertEqual(self.folder.pack(everything=True), (1, 1))
         os.symlink(os.path.join(self.path, "." + name), os.path.join(self.path, name))
         self.assertEqual(len(self.folder.read()), 1)
 
 
+class Syncs:
+    """`os.fsync`, which fails at one of its calls, and what was synced."""
+
+    def __init__(self, fails_at: int = 0) -> None:
+        self.fails_at = fails_at
+        self.paths: list[str] = []
+
+    def __call__(self, opened: int) -> None:
+        self.paths.append(os.path.basename(os.readlink(f"/proc/self/fd/{opened}")))
+        if len(self.paths) == self.fails_at:
+            raise OSError(5, "Input/output error")
+
+    def of(self, act: Callable[[], object]) -> list[str]:
+        """What a call syncs, in order."""
+        with unittest.mock.patch.object(os, "fsync", self):
+            act()
+        return self.paths
+
+
+class Habits(InFolder):
+    def test_a_folder_has_a_name_columns_and_rows(self) -> None:
+        self.assertEqual((self.folder.name, self.folder.columns, len(self.folder), bool(self.folder)), ("T", {"A": "INTEGER", "B": "BIGINT"}, 0, True))
+        self.folder.import_csv("1,1\n2,\n", heading=False)
+        self.assertEqual((len(self.folder), list(self.folder.columns)), (2, ["A", "B"]))
+        self.assertEqual(self.folder._repr_html_(), f"<p><b>{self.path}</b>: 2 parts</p>{self.folder.read()._repr_html_()}")
+        shown = Folder.create(os.path.join(self.room, "a<b>&c"), "T", {"A": "INTEGER"})._repr_html_()
+        self.assertIn("a&lt;b&gt;&amp;c</b>: 1 parts", shown)
+
+    def test_folders_are_equal_that_are_the_same_folder(self) -> None:
+        link = os.path.join(self.room, "link")
+        os.symlink("site", link)
+        for path in self.path, self.path + "/", link, os.fsencode(self.path), pathlib.Path(self.path):
+            self.assertEqual(Folder(path), self.folder)
+            self.assertEqual(hash(Folder(path)), hash(self.folder))
+            self.assertEqual(len(Folder(path)), 0)
+        other = Folder.of(os.path.join(self.room, "other"), self.empty)
+        self.assertNotEqual(other, self.folder)
+        self.assertNotEqual(self.folder, self.path)
+        self.assertEqual(pickle.loads(pickle.dumps(self.folder)), self.folder)
+        self.assertEqual(len({self.folder, Folder(link), other}), 2)
+
+
+class Looks(InFolder):
+    def test_a_part_that_one_listing_misses_is_in_the_other(self) -> None:
+        self.folder.import_csv("1,1\n", heading=False, batch="1.1")
+        scandir, part = os.scandir, self.folder.parts()[0]
+        for missed in 1, 2:
+            calls: list[object] = []
+
+            @contextlib.contextmanager
+            def listing(path: str) -> Iterator[object]:
+                calls.append(path)
+                with scandir(path) as entries:
+                    yield [entry for entry in entries if len(calls) != missed or entry.name != part]
+
+            with unittest.mock.patch.object(part_folder.os, "scandir", listing):
+                self.assertEqual(len(self.folder.parts()), 2)
+
+    def test_a_pack_in_the_middle_of_a_reading_is_passed_over(self) -> None:
+        for number, (call, act, answer) in enumerate(
+            [
+                ("read_part", lambda: len(self.folder.read()), 2),
+                ("read_part", lambda: self.folder.import_csv("1,1\n", heading=False, batch="1.1"), 0),
+                ("front_of", lambda: self.folder.import_csv("1,1\n", heading=False), 1),
+                ("front_of", lambda: self.folder.delete_rows("9.9", 9), None),
+            ]
+        ):
+            self.folder.import_csv("1,1\n", heading=False, batch="1.1")
+            self.folder.import_csv("2,2\n", heading=False, batch="1.2")
+            read, packed = getattr(part_folder, call), []
+
+            def late(folder: str, name: str) -> object:
+                if not packed:
+                    packed.append(name)
+                    self.assertEqual(Folder(folder).pack(everything=True)[0], 1)
+                return read(folder, name)
+
+            with self.subTest(number=number), unittest.mock.patch.object(part_folder, call, late):
+                self.assertEqual(act(), answer)
+            self.assertTrue(packed)
+
+    def test_a_short_write_goes_on(self) -> None:
+        write = os.write
+        with unittest.mock.patch.object(part_folder.os, "write", lambda file, data: write(file, bytes(data[:7]))):
+            self.folder.import_csv("1,1\n2,2\n", heading=False, batch="1.1")
+        self.only_parts(2)
+        self.assertEqual(len(self.folder.read()), 2)
+
+
+class Heads(InFolder):
+    """What a load without a name, and a delete of rows by their names, find in the heads of the parts."""
+
+    def test_a_part_of_another_table_is_refused_whichever_is_the_smallest(self) -> None:
+        for columns in {"A": "INTEGER"}, {"A": "INTEGER", "B": "BIGINT", "C": "BIGINT"}, {"A": "INTEGER", "B": "INTEGER"}:
+            other = part_folder.put(self.path, Table.create("T", columns).to_bytes())
+            before = self.folder.parts()
+            for act in lambda: self.folder.delete_rows("1.1", 0), lambda: self.folder.import_csv("1\n", heading=False), lambda: self.folder.import_csv("", heading=False):
+                with self.subTest(columns=columns), self.assertRaises(Refused) as caught:
+                    act()
+                self.assertEqual(caught.exception.name, "SchemaDiffers")
+                self.assertIn(os.path.join(self.path, before[1]), caught.exception.sentence)
+                self.assertEqual(self.folder.parts(), before)
+            os.unlink(os.path.join(self.path, other))
+        self.folder.delete_rows("1.1", 0)
+        self.only_parts(2)
+
+    def test_a_head_at_fault_is_damaged(self) -> None:
+        self.folder.import_csv("1,1\n" * 100, heading=False)
+        count = len(self.empty.to_bytes()) - 12
+        for name in self.folder.parts():
+            path = pathlib.Path(self.path, name)
+            data = path.read_bytes()
+            for at in range(count):
+                path.write_bytes(data[:at] + bytes([data[at] ^ 1]) + data[at + 1 :])
+                with self.subTest(name=name, at=at), self.assertRaises(Damaged) as caught:
+                    self.folder.delete_rows("1.1", 0)
+                self.assertEqual(caught.exception.filename, os.fspath(path))
+            for length in 0, 7, count, count + 3:
+                path.write_bytes(data[:length])
+                with self.subTest(name=name, length=length), self.assertRaises(Damaged):
+                    self.folder.import_csv("1,1\n", heading=False)
+            path.write_bytes(data)
+        self.folder.delete_rows("1.1", 0)
+        self.only_parts(3)
+
+    def test_a_fault_behind_the_head_of_the_smallest_part_is_damaged(self) -> None:
+        self.folder.import_csv("1,1\n" * 100, heading=False)
+        (_, name), _ = self.folder._sized()
+        path = pathlib.Path(self.path, name)
+        data = path.read_bytes()
+        path.write_bytes(data[:-1] + b"\1")
+        for act in lambda: self.folder.delete_rows("1.1", 0), lambda: self.folder.import_csv("1,1\n", heading=False):
+            with self.assertRaises(Damaged) as caught:
+                act()
+            self.assertEqual(caught.exception.part, name)
+        path.write_bytes(data)
+        self.only_parts(2)
+
+    def test_a_full_folder_takes_no_load(self) -> None:
+        front, one = len(self.empty.to_bytes()) - 12, self.empty.import_csv("7,7\n", heading=False, batch="1.1").to_bytes()
+        batch = one[front + 12 : -8]
+        for origin, count in (3, 600_000), (4, 448_574):
+            batches = b"".join(origin.to_bytes(4, "little") + number.to_bytes(4, "little") + batch for number in range(1, count + 1))
+            part_folder.put(self.path, one[:front] + count.to_bytes(4, "little") + batches + bytes(8))
+        with self.assertRaises(Refused) as caught:
+            self.folder.import_csv("1,1\n" * (2 * 65_536 + 1), heading=False)
+        self.assertEqual(caught.exception.name, "Full")
+        self.assertEqual(self.folder.import_csv("1,1\n" * (65_536 + 1), heading=False), 2)
+        self.assertEqual(self.folder.import_csv("", heading=False), 0)
+        before = self.folder.parts()
+        with self.assertRaises(Refused) as caught:
+            self.folder.import_csv("1,1\n", heading=False)
+        self.assertEqual((caught.exception.name, self.folder.parts()), ("Full", before))
+
+    def test_a_load_without_rows_puts_no_part(self) -> None:
+        folder = Folder.of(os.path.join(self.room, "full"), self.empty.import_csv("1,1\n", heading=False))
+        for batch in None, "1.1":
+            self.assertEqual(folder.import_csv("A,B\n", batch=batch), 0)
+            self.assertEqual(len(folder.parts()), 1)
+
+
+class OnTheDisk(InFolder):
+    def test_each_change_is_on_the_disk_before_it_is_answered(self) -> None:
+        csv, named = "1,1\n", {"heading": False, "batch": "1.1"}
+        offer = self.empty.import_csv("2,2\n", heading=False, batch="2.1").delete_rows("1.1", 0).to_bytes()
+        for words, act in {
+            "a load": lambda: self.folder.import_csv(csv, heading=False),
+            "a named load": lambda: self.folder.import_csv(csv, **named),  # type: ignore[arg-type]
+            "an offer": lambda: self.folder.apply(offer),
+            "a delete": lambda: self.folder.delete("A = 1"),
+            "a delete of rows": lambda: self.folder.delete_rows("1.7", 0),
+        }.items():
+            before = {*self.folder.parts()}
+            with self.subTest(words):
+                synced = Syncs().of(act)
+                (new,) = {*self.folder.parts()} - before
+                self.assertTrue(synced[0].startswith(".part-") and synced[1:] == ["site"] and new.endswith(".lanes"), synced)
+        self.assertEqual(Syncs().of(lambda: Folder.of(os.path.join(self.room, "new"), self.empty))[-1], os.path.basename(self.room))
+
+    def test_what_changes_nothing_is_on_the_disk_before_it_is_answered(self) -> None:
+        load = self.empty.import_csv("1,1\n", heading=False, batch="1.1")
+        self.folder.import_csv("1,1\n", heading=False, batch="1.1")
+        self.folder.delete_rows("1.1", 0)
+        parts, part = self.folder.parts(), part_folder.part_name(load.to_bytes())
+        for words, act, wanted in [
+            ("a load that comes again", lambda: self.folder.import_csv("1,1\n", heading=False, batch="1.1"), [part, "site"]),
+            ("an offer of what is there", lambda: self.folder.apply(load.to_bytes()), [*parts, "site"]),
+            ("an offer of a deletion that is there", lambda: self.folder.apply(self.empty.delete_rows("1.1", 0).to_bytes()), [*parts, "site"]),
+            ("a delete of rows that are deleted", lambda: self.folder.delete("A = 1"), [*parts, "site"]),
+            ("a delete by names that comes again", lambda: self.folder.delete_rows("1.1", 0), [part_folder.part_name(self.empty.delete_rows("1.1", 0).to_bytes()), "site"]),
+        ]:
+            with self.subTest(words):
+                *synced, last = [path for path in Syncs().of(act) if not path.startswith(".part-")]
+                self.assertEqual((sorted(synced), last), (wanted[:-1], "site"))
+                self.assertEqual(self.folder.parts(), parts)
+                with self.assertWarns(RuntimeWarning):
+                    Syncs(fails_at=len(wanted)).of(act)
+
+    def test_an_offer_of_nothing_stands_on_nothing(self) -> None:
+        for offers in [self.empty.to_bytes()], [self.folder.offer(self.folder.summary())], []:
+            self.assertEqual(Syncs().of(lambda: self.folder.apply(*offers)), [])
+
+    @unittest.skipUnless(shutil.which("strace"), "strace is not installed")
+    def test_the_calls_of_a_pack_are_in_their_order(self) -> None:
+        for number in 1, 2:
+            self.folder.import_csv(f"{number},1\n", heading=False, batch=(1, number))
+        joined, trace = part_folder.part_name(self.folder.read().to_bytes()), os.path.join(self.room, "trace")
+        code = f"import lanes; lanes.Folder({self.path!r}).pack(everything=True)"
+        environment = {**os.environ, "PYTHONPATH": os.fspath(pathlib.Path(lanes.__file__).parent.parent)}
+        words = ["strace", "-f", "-y", "-o", trace, "-e", "trace=openat,flock,write,fsync,link,linkat,rename,unlink,unlinkat", sys.executable, "-B", "-c", code]
+        done = subprocess.run(words, capture_output=True, timeout=60, env=environment)
+        if done.returncode != 0:
+            self.skipTest(f"strace can't trace: {done.stderr[-200:]!r}")
+        text, place = pathlib.Path(trace).read_text(errors="replace"), 0
+        folder = re.escape(self.path)
+        for step in [
+            r"write\(\d+<[^>]*\.part-",
+            r"fsync\(\d+<[^>]*\.part-",
+            rf"link.*\.part-.*{joined}",
+            rf"fsync\(\d+<{folder}>\) += 0",
+            rf"flock\(\d+<{folder}>, LOCK_EX",
+            rf"fsync\(\d+<[^>]*{joined}>\) += 0",
+            rf"fsync\(\d+<{folder}>\) += 0",
+            r"unlink.*\.lanes",
+            r"unlink.*\.lanes",
+            rf"fsync\(\d+<{folder}>\) += 0",
+        ]:
+            found = re.compile(step).search(text, place)
+            assert found, f"{step} is not in its place in\n{text[-3000:]}"
+            place = found.end()
+        self.assertEqual(len(re.findall(r"unlink[^\n]*\.lanes", text)), 3)
+        self.assertEqual(self.folder.parts(), [joined])
+
+    def test_a_load_that_comes_again_is_put_again_once_it_was_packed(self) -> None:
+        self.folder.import_csv("1,1\n", heading=False, batch="1.1")
+        self.folder.import_csv("2,2\n", heading=False, batch="1.2")
+        self.folder.pack(everything=True)
+        self.assertEqual(self.folder.import_csv("1,1\n", heading=False, batch="1.1"), 0)
+        self.only_parts(2)
+        self.assertEqual(len(self.folder.read()), 2)
+
+    def test_a_pack_meanwhile_has_parts_looked_at_again(self) -> None:
+        load = self.empty.import_csv("1,1\n", heading=False, batch="1.1")
+        self.folder.apply(load.to_bytes())
+        settle = part_folder.settle
+
+        def late(folder: str, names: list[str]) -> None:
+            self.folder.pack(everything=True)
+            settle(folder, names)
+
+        for act in lambda: self.folder.apply(load.to_bytes()), lambda: self.folder.delete("A = 9"):
+            with unittest.mock.patch.object(part_folder, "settle", late):
+                self.assertEqual(act(), 0)
+            self.folder.delete_rows("9.9", 1)
+
+
 class Packs(InFolder):
+    def test_a_pack_that_is_not_on_the_disk_removes_nothing(self) -> None:
+        for number in range(1, 4):
+            self.folder.import_csv(f"{number},1\n", heading=False, batch=(1, number))
+        before, joined = self.folder.parts(), part_folder.part_name(self.folder.read().to_bytes())
+        for fails_at in range(1, 5):
+            syncs = Syncs(fails_at)
+            with self.subTest(fails_at=fails_at), self.assertRaises(OSError):
+                syncs.of(lambda: self.folder.pack(everything=True))
+            self.assertEqual([name for name in self.folder.parts() if name != joined], before)
+            with contextlib.suppress(FileNotFoundError):
+                os.unlink(os.path.join(self.path, joined))
+        syncs = Syncs()
+        self.assertEqual(syncs.of(lambda: self.folder.pack(everything=True))[1:], ["site", joined, "site", "site"])
+        self.assertEqual((self.folder.parts(), len(self.folder.read())), ([joined], 3))
+
+    def test_a_pack_is_looked_at_before_parts_are_removed(self) -> None:
+        for number in range(1, 4):
+            self.folder.import_csv(f"{number},1\n", heading=False, batch=(1, number))
+        before, joined = self.folder.parts(), part_folder.part_name(self.folder.read().to_bytes())
+        put = part_folder.put
+
+        def spoiled(folder: str, data: bytes, **more: bool) -> str:
+            name = put(folder, data, **more)
+            pathlib.Path(folder, name).write_bytes(data[:-1])
+            return name
+
+        def lost(folder: str, data: bytes, **more: bool) -> str:
+            name = put(folder, data, **more)
+            os.unlink(os.path.join(folder, name))
+            return name
+
+        with unittest.mock.patch.object(part_folder, "put", spoiled), self.assertRaises(Damaged):
+            self.folder.pack(everything=True)
+        os.unlink(os.path.join(self.path, joined))
+        with unittest.mock.patch.object(part_folder, "put", lost):
+            self.assertEqual(self.folder.pack(everything=True), (len(before), 0))
+        self.assertEqual(self.folder.parts(), before)
+
     def test_small_parts_are_joined_and_large_ones_stay(self) -> None:
         pick, table = random.Random(1), self.empty
         for number in range(1, 41):
@@ -183,14 +508,21 @@ class Packs(InFolder):
 
     def test_a_folder_that_another_has_is_waited_for(self) -> None:
         self.folder.import_csv("1,1\n", heading=False)
-        with part_folder.locked(self.path, fcntl.LOCK_SH), unittest.mock.patch.object(part_folder, "_LONGEST_WAIT", 0.1):
-            with self.assertRaises(TimeoutError):
-                self.folder.pack(everything=True)
-            self.assertEqual(len(self.folder.read()), 1)
-        with part_folder.locked(self.path, fcntl.LOCK_EX), unittest.mock.patch.object(part_folder, "_LONGEST_WAIT", 0.1):
-            with self.assertRaises(TimeoutError):
+        with part_folder.locked(self.path, fcntl.LOCK_SH), unittest.mock.patch.object(waiting, "LONGEST", 0.1):
+            before = self.folder.parts()
+            for act in (
+                lambda: self.folder.pack(everything=True),
+                lambda: self.folder.import_csv("2,2\n", heading=False, batch="1.1"),
+                lambda: self.folder.apply(self.empty.import_csv("2,2\n", heading=False, batch="1.1").to_bytes()),
+            ):
+                with self.assertRaises(Busy):
+                    act()
+            joined = part_folder.part_name(self.folder.read().to_bytes())  # it is one of those before
+            self.assertEqual((len(self.folder.read()), self.folder.parts()), (1, sorted({*before, joined})))
+        with part_folder.locked(self.path, fcntl.LOCK_EX), unittest.mock.patch.object(waiting, "LONGEST", 0.1):
+            with self.assertRaises(Busy):
                 self.folder.read()
-            with self.assertRaises(TimeoutError):
+            with self.assertRaises(Busy):
                 self.folder.import_csv("2,2\n", heading=False, batch="1.1")
         self.assertEqual(self.folder.pack(everything=True)[0], 1)
         self.only_parts(1)
@@ -280,6 +612,48 @@ class AtOnce(InFolder):
             for name in self.folder.parts():
                 if pathlib.Path(self.path, name).read_bytes() != self.empty.to_bytes():
                     os.unlink(os.path.join(self.path, name))
+
+    def test_of_two_pulls_of_one_name_the_second_is_a_conflict(self) -> None:
+        offers = [self.empty.import_csv(f"{value},1\n", heading=False, batch="7.7").to_bytes() for value in range(4)]
+        for _ in range(10):
+            outcomes: list[str] = []
+            gate = threading.Barrier(4)
+
+            def pull(offer: bytes) -> None:
+                folder = Folder(self.path)
+                gate.wait()
+                try:
+                    outcomes.append(f"{folder.apply(offer)} taken")
+                except Refused as refusal:
+                    outcomes.append(refusal.name)
+
+            threads = [threading.Thread(target=pull, args=(offer,)) for offer in offers]
+            for thread in threads:
+                thread.start()
+            for thread in threads:
+                thread.join(60)
+            self.assertEqual(sorted(outcomes), ["1 taken"] + ["Conflict"] * 3)
+            self.assertEqual(len(self.folder.read()), 1)
+            for name in self.folder.parts():
+                if pathlib.Path(self.path, name).read_bytes() != self.empty.to_bytes():
+                    os.unlink(os.path.join(self.path, name))
+
+    def test_what_came_since_a_pull_looked_is_looked_at_again(self) -> None:
+        one, other = (self.empty.import_csv(f"{value},1\n", heading=False, batch="7.7") for value in (1, 2))
+        joined = Folder._joined
+
+        def late(folder: Folder) -> object:
+            found = joined(folder)
+            part_folder.put(self.path, one.to_bytes())
+            return found
+
+        for act in lambda: self.folder.apply(other.to_bytes()), lambda: self.folder.import_csv("2,1\n", heading=False, batch="7.7"):
+            with unittest.mock.patch.object(Folder, "_joined", late), self.assertRaises(Refused) as caught:
+                act()
+            self.assertEqual((caught.exception.name, caught.exception.place), ("Conflict", (7, 7)))
+            self.assertEqual(self.folder.query("SELECT A FROM T GROUP BY A"), [(1,)])
+            self.only_parts(2)
+            os.unlink(os.path.join(self.path, part_folder.part_name(one.to_bytes())))
 
 
 class BesideTheProgram(InFolder):

@@ -2,10 +2,16 @@
 
 from __future__ import annotations
 
+import contextlib
+import copy
 import doctest
+import gzip
+import hashlib
+import mmap
 import os
 import pathlib
 import pickle
+import random
 import subprocess
 import sys
 import tempfile
@@ -15,7 +21,7 @@ import unittest.mock
 from decimal import Decimal
 
 import lanes
-from lanes import BatchName, Refused, Table
+from lanes import BatchName, Refused, Table, calls, library
 from lanes.calls import Opened, _Place, _refused
 
 TOP = pathlib.Path(__file__).resolve().parent.parent.parent
@@ -63,16 +69,60 @@ class Queries(unittest.TestCase):
         answer = counts().query("SELECT SITE FROM COUNTS GROUP BY SITE")
         self.assertEqual((answer.headings, list(answer)), (["SITE"], []))
 
-    def test_an_answer_may_be_longer_than_the_first_room(self) -> None:
+    def test_what_a_call_gives_is_made_once_whatever_its_size(self) -> None:
         rows = "".join(f"{n}\n" for n in range(20_000))
         table = Table.create("T", {"A": "INTEGER"}).import_csv(rows, heading=False, batch=(1, 1))
-        answer = table.query("SELECT A,COUNT(*) FROM T GROUP BY A")
-        self.assertEqual(answer, [(n, 1) for n in range(20_000)])
+        sql = "SELECT A,COUNT(*),COUNT(DISTINCT A) FROM T GROUP BY A"
+        wanted = [(n, 1, 1) for n in range(20_000)]
+        for name, act, answer in [
+            ("_ASK", lambda: table.query(sql), wanted),
+            ("_PARTIAL", lambda: lanes.finish(table.partial(sql)), wanted),
+            ("FINISH", lambda: lanes.finish(table.partial(sql)), wanted),
+            ("DUMP", table.dump, "A\n" + rows),
+            ("DUMP", lambda: table.dump(names=True), "BATCH,ORDINAL,A\n" + "".join(f"1.1,{n},{n}\n" for n in range(20_000))),
+        ]:
+            made = unittest.mock.Mock(wraps=getattr(calls, name))
+            with self.subTest(name), unittest.mock.patch.object(calls, name, made):
+                self.assertEqual(act(), answer)
+                self.assertEqual(made.call_count, 1)
+
+    def test_an_answer_comes_though_memory_is_limited(self) -> None:
+        table = Table.create("T", {"A": "INTEGER"}).import_csv("".join(f"{n}\n" for n in range(20_000)), heading=False, batch=(1, 1))
+        taken = mmap.mmap
+
+        def limited(file: int, size: int, **more: int) -> mmap.mmap:
+            if size > most:
+                raise OSError(12, "no memory")
+            return taken(file, size, **more)
+
+        for most in 1_000_000, 500_000, 100_000:
+            with unittest.mock.patch.object(calls.mmap, "mmap", limited):
+                if most > 200_000:
+                    self.assertEqual(len(table.query("SELECT A,COUNT(*) FROM T GROUP BY A")), 20_000)
+                    continue
+                with self.assertRaises(lanes.OutOfMemory):
+                    table.query("SELECT A,COUNT(*) FROM T GROUP BY A")
 
     def test_an_answer_is_pickled(self) -> None:
         answer = counts(FIRST).query("SELECT SITE,AVG(HITS) FROM COUNTS GROUP BY SITE")
-        other = pickle.loads(pickle.dumps(answer))
-        self.assertEqual((other.headings, list(other)), (answer.headings, list(answer)))
+        for other in pickle.loads(pickle.dumps(answer)), copy.copy(answer):
+            self.assertEqual((other.headings, list(other), other.__dict__), (answer.headings, list(answer), answer.__dict__))
+
+    def test_answers_are_equal_that_have_the_same_headings_and_rows(self) -> None:
+        table = counts(FIRST)
+        sites = table.query("SELECT SITE FROM COUNTS GROUP BY SITE")
+        self.assertEqual(sites, table.query("select site from counts group by site"))
+        for other in table.query("SELECT SITE AS HITS FROM COUNTS GROUP BY SITE"), table.query("SELECT SITE FROM COUNTS WHERE SITE = 1 GROUP BY SITE"), [(1,)], 5:
+            self.assertTrue(sites != other)
+            self.assertFalse(sites == other)
+        self.assertTrue(sites == [(1,), (2,)])
+        self.assertFalse(sites != [(1,), (2,)])
+        with self.assertRaises(TypeError):
+            hash(sites)
+
+    def test_of_equal_headings_the_last_column_is_given(self) -> None:
+        answer = counts(FIRST).query("SELECT SUM(HITS) AS A,COUNT(*) AS A FROM COUNTS")
+        self.assertEqual((answer.headings, answer.columns()), (["A", "A"], {"A": [3]}))
 
     def test_a_fault_of_a_query_has_a_name_a_place_and_a_sentence(self) -> None:
         with self.assertRaises(Refused) as caught:
@@ -112,11 +162,20 @@ class Queries(unittest.TestCase):
         self.assertEqual([list(answer) for answer in made.queries(["SELECT SUM(HITS) FROM COUNTS"] * 20)], [[(60,)]] * 20)
         self.assertEqual(openings.count, 2)
 
+    def test_each_question_closes_its_own_handle(self) -> None:
+        table = counts(FIRST)
+        table.query("SELECT SUM(HITS) FROM COUNTS")
+        for sql in "SELECT SUM(HITS) FROM COUNTS", "SELECT":
+            with unittest.mock.patch.object(calls, "_SHARE", wraps=calls._SHARE) as share, unittest.mock.patch.object(calls, "_CLOSE", wraps=calls._CLOSE) as close:
+                with contextlib.suppress(Refused):
+                    table.query(sql)
+            self.assertEqual((share.call_count, close.call_count), (1, 1))
+
     def test_a_closed_handle_is_told_by_name(self) -> None:
         opened = Opened(counts(FIRST).to_bytes())
         opened.__del__()
         with self.assertRaises(Refused) as caught:
-            opened.ask(16, b"SELECT SUM(HITS) FROM COUNTS")
+            opened.ask(b"SELECT SUM(HITS) FROM COUNTS")
         self.assertEqual((caught.exception.number, caught.exception.name, caught.exception.place), (39, "NotOpen", ()))
 
 
@@ -233,6 +292,17 @@ class Files(unittest.TestCase):
         self.assertEqual(opened.merge(counts(SECOND)), counts(FIRST, SECOND))
         self.assertEqual(os.listdir(self.folder.name), ["counts.lanes"])
 
+    def test_a_large_file_is_opened_whole(self) -> None:
+        pick = random.Random(2)
+        values = [pick.randrange(-(1 << 63), 1 << 63) for _ in range(30_000)]
+        table = Table.create("T", {"A": "BIGINT"}).import_csv("".join(f"{value}\n" for value in values), heading=False, batch="1.1")
+        with tempfile.TemporaryDirectory() as folder:
+            path = os.path.join(folder, "t.lanes")
+            table.save(path)
+            self.assertGreater(os.path.getsize(path), 3 * 65_536)
+            opened = Table.open(path)
+            self.assertEqual((opened, opened.query("SELECT SUM(A) FROM T")), (table, [(sum(values),)]))
+
     def test_a_table_stays_as_it_was_when_its_file_is_replaced(self) -> None:
         counts(FIRST).save(self.path)
         opened = Table.open(self.path)
@@ -334,10 +404,35 @@ def whole_sentence(name: str, shown: str, sentence: str) -> str:
     return places.get(shown.strip("`").partition(" ")[2], "") + sentence
 
 
+class Library(unittest.TestCase):
+    def test_a_library_that_is_not_the_released_one_is_refused(self) -> None:
+        with tempfile.TemporaryDirectory() as room:
+            release = pathlib.Path(room, "release")
+            release.mkdir()
+            (release / "x.so.gz").write_bytes(gzip.compress(b"machine code"))
+            with unittest.mock.patch.object(library, "_RELEASE", release), unittest.mock.patch.dict(os.environ, {"HOME": room, "XDG_CACHE_HOME": room}):
+                with self.assertRaisesRegex(ImportError, "is not what"):
+                    library._unpack("x.so", "0" * 64)
+                kept = library._unpack("x.so", hashlib.sha256(b"machine code").hexdigest())
+                self.assertEqual(kept.read_bytes(), b"machine code")
+
+    def test_a_level_of_processors_needs_all_its_flags(self) -> None:
+        second, third = (flags for _, flags in library._LEVELS)
+        for flags, level in [(second | third, "x86-64-v3"), (second, "x86-64-v2"), (second | {"avx"}, "x86-64-v2"), (second - {"cx16"}, None), (third, None)]:
+            text = f"processor : 0\nflags\t\t: fpu {' '.join(sorted(flags))}\n"
+            with unittest.mock.patch.object(pathlib.Path, "read_text", return_value=text):
+                self.assertEqual(library._level(), level)
+
+
 class Module(unittest.TestCase):
     def test_its_version_is_the_programs(self) -> None:
         source = (TOP / "crates" / "command_line" / "src" / "commands.rt").read_text()
         self.assertIn(f'const VERSION: &str = "{lanes.version()}";', source)
+
+    def test_its_own_version_is_that_of_the_page_of_changes(self) -> None:
+        page = (TOP / "CHANGELOG.md").read_text()
+        self.assertTrue(page.partition("\n## ")[2].startswith(f"{lanes.__version__}\n"))
+        self.assertIn("__version__", lanes.__all__)
 
     def test_its_examples_are_as_they_are_shown(self) -> None:
         found = doctest.testmod(lanes)
@@ -352,6 +447,8 @@ class Module(unittest.TestCase):
                 refused = _refused(int(cells[0]), _Place(70_000, 3))
                 self.assertEqual(refused.name, cells[1].strip("`").split()[0])
                 self.assertEqual(refused.sentence, whole_sentence(refused.name, cells[1], cells[2]))
+                places = len(cells[1].strip("`").replace(".", " ").split()) - 1
+                self.assertEqual(len(refused.place), places or refused.name == "LineTooLong", cells[1])
                 told.append(int(cells[0]))
         self.assertEqual(told, [*range(1, 38), *range(39, 43)])
         self.assertEqual(_refused(38, _Place(70_000, 3)).sentence, "line 70000, field 3: the field is not a whole number")

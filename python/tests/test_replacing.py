@@ -3,7 +3,6 @@
 from __future__ import annotations
 
 import fcntl
-import importlib.util
 import os
 import pathlib
 import re
@@ -16,11 +15,10 @@ import threading
 import unittest
 from unittest import mock
 
-MODULE = pathlib.Path(__file__).resolve().parent.parent / "lanes" / "replacing.py"
-_spec = importlib.util.spec_from_file_location("replacing", MODULE)
-assert _spec and _spec.loader
-replacing = importlib.util.module_from_spec(_spec)
-_spec.loader.exec_module(replacing)
+from lanes import Busy, replacing, waiting
+
+#: The folder of the module.
+TOP = pathlib.Path(replacing.__file__).resolve().parent.parent
 
 CALLS = "openat,flock,ftruncate,fchmod,write,fsync,rename,renameat,renameat2,unlink,unlinkat"
 
@@ -47,8 +45,14 @@ class Replaced(unittest.TestCase):
             self.assertEqual(self.get(), data)
             self.assertEqual(os.listdir(self.folder), ["t"])
 
+    def test_a_short_write_goes_on(self) -> None:
+        write = os.write
+        with mock.patch.object(replacing.os, "write", lambda file, data: write(file, bytes(data[:7]))):
+            replacing.replace(self.path, b"x" * 100)
+        self.assertEqual(self.get(), b"x" * 100)
+
     def test_the_mode_is_kept(self) -> None:
-        for mode in (0o600, 0o640, 0o444):
+        for mode in (0o600, 0o640, 0o444, 0o1644, 0o2640, 0o4755):
             self.put()
             os.chmod(self.path, mode)
             replacing.replace(self.path, b"new")
@@ -122,12 +126,12 @@ class Replaced(unittest.TestCase):
         self.put()
         with open(self.lock, "wb") as lock:
             fcntl.flock(lock, fcntl.LOCK_EX)
-            with mock.patch.object(replacing, "_LONGEST_WAIT", 0.2), self.assertRaises(TimeoutError):
+            with mock.patch.object(waiting, "LONGEST", 0.2), self.assertRaises(Busy):
                 replacing.replace(self.path, b"new")
-            waiting = threading.Thread(target=replacing.replace, args=(self.path, b"new"))
-            waiting.start()
+            thread = threading.Thread(target=replacing.replace, args=(self.path, b"new"))
+            thread.start()
             self.assertEqual(self.get(), b"old")
-        waiting.join(30)
+        thread.join(30)
         self.assertEqual((self.get(), os.listdir(self.folder)), (b"new", ["t"]))
 
     def test_a_folder_that_is_not_there_is_an_error_at_once(self) -> None:
@@ -151,7 +155,7 @@ class Replaced(unittest.TestCase):
     def test_the_calls_are_those_of_the_program_in_its_order(self) -> None:
         self.put()
         trace = os.path.join(self.folder, "trace")
-        code = f"import sys; sys.path.insert(0, {str(MODULE.parent)!r}); import replacing; replacing.replace({self.path!r}, b'new')"
+        code = f"import sys; sys.path.insert(0, {str(TOP)!r}); from lanes import replacing; replacing.replace({self.path!r}, b'new')"
         done = subprocess.run(["strace", "-y", "-o", trace, "-e", f"trace={CALLS}", sys.executable, "-B", "-c", code], capture_output=True, timeout=60)
         if done.returncode != 0:
             self.skipTest(f"strace can't trace: {done.stderr[-200:]!r}")

@@ -3,11 +3,19 @@
 from __future__ import annotations
 
 import copy
+import gc
 import io
+import os
+import pathlib
 import pickle
+import random
+import tempfile
 import unittest
+import unittest.mock
+import weakref
 
-from lanes import BatchName, Refused, Table
+from lanes import BatchName, OutOfMemory, Refused, Table, arrow, library
+from lanes import table as table_module
 
 
 def visits() -> Table:
@@ -52,6 +60,82 @@ class Descriptions(unittest.TestCase):
         self.assertNotEqual(visits(), visits().to_bytes())
 
 
+class Habits(unittest.TestCase):
+    def test_a_table_is_closed_at_the_end_of_its_block(self) -> None:
+        with tempfile.TemporaryDirectory() as room:
+            path = pathlib.Path(room, "t.lanes")
+            visits().save(path)
+            for table in Table.open(path), visits():
+                with table as entered:
+                    self.assertIs(entered, table)
+                    self.assertEqual(len(table), 5)
+                for act in lambda: len(table), table.to_bytes, lambda: table.delete("SITE = 1"), lambda: table.merge(visits()), table.check:
+                    with self.assertRaisesRegex(ValueError, "this table is closed"):
+                        act()
+                self.assertEqual(repr(table), "<lanes.Table, closed>")
+                table.close()
+        with self.assertRaises(ZeroDivisionError), visits() as table:
+            raise ZeroDivisionError
+
+    def test_a_table_that_nobody_has_is_gone(self) -> None:
+        table = visits()
+        seen = weakref.ref(table)
+        self.assertIs(seen(), table)
+        del table
+        gc.collect()
+        self.assertIsNone(seen())
+
+    def test_calls_of_a_subclass_give_that_subclass(self) -> None:
+        class Own(Table):
+            """A table of one's own."""
+
+        table = Own.create("VISITS", visits().columns)
+        self.assertIs(type(table), Own)
+        self.assertIs(type(Own.from_bytes(visits().to_bytes())), Own)
+        loaded = table.import_csv("SITE,HITS\n1,1\n", batch="1.1")
+        for other in loaded, loaded.delete("SITE = 1"), loaded.delete_rows("1.1", 0), loaded.forget(), loaded.merge(table, table.delete_rows("1.1", 0)), loaded.apply(table.to_bytes()), copy.copy(loaded):
+            self.assertIs(type(other), Own)
+        self.assertEqual(loaded, Table.from_bytes(loaded.to_bytes()))
+        self.assertEqual(repr(table), f"<Own VISITS of {len(table.to_bytes())} bytes>")
+
+    def test_a_table_of_many_long_names_is_described(self) -> None:
+        columns = {f"C{number:02}{'X' * 61}": "TINYINT" for number in range(32)}
+        table = Table.create("T" * 64, columns).import_csv(",".join(map(str, range(32))) + "\n", heading=False, batch="1.1")
+        self.assertEqual((table.name, table.columns, len(table)), ("T" * 64, columns, 1))
+        self.assertEqual(Table.from_bytes(table.to_bytes()).columns, columns)
+        self.assertEqual(table.query(f"SELECT {','.join(columns)} FROM {'T' * 64} GROUP BY {','.join(columns)}"), [tuple(range(32))])
+
+    def test_large_tables_that_differ_at_the_end_are_not_equal(self) -> None:
+        pick = random.Random(1)
+        rows = "".join(f"{pick.randrange(-(1 << 31), 1 << 31)}\n" for _ in range(400_000))
+        table = Table.create("T", {"A": "INTEGER"}).import_csv(rows, heading=False, batch="1.1")
+        one, other = table.delete_rows("1.7", 3), table.delete_rows("1.7", 4)
+        self.assertGreater(len(one.to_bytes()), 1_200_000)
+        self.assertEqual(len(one.to_bytes()), len(other.to_bytes()))
+        self.assertNotEqual(one, other)
+        self.assertEqual(one, Table.from_bytes(one.to_bytes()))
+
+    def test_there_is_no_stream_without_a_compiler(self) -> None:
+        nowhere = pathlib.Path("/nowhere")
+        caches = [arrow._shim, arrow.has_shim]
+        with unittest.mock.patch.object(library, "_SHIM", nowhere), unittest.mock.patch.object(library, "_PACKAGED", nowhere):
+            for cache in caches:
+                cache.cache_clear()
+            self.assertFalse(hasattr(visits(), "__arrow_c_stream__"))
+            self.assertFalse(hasattr(Table, "__arrow_c_stream__"))
+        for cache in caches:
+            cache.cache_clear()
+
+
+    def test_a_stream_that_can_not_be_made_leaves_nothing(self) -> None:
+        if not hasattr(visits(), "__arrow_c_stream__"):
+            self.skipTest("there is no C compiler")
+        for call, answer in ("lanes_arrow_stream", 12), ("lanes_arrow_room", None):
+            with unittest.mock.patch.object(arrow._shim(), call, return_value=answer), self.assertRaises(OutOfMemory):
+                visits().__arrow_c_stream__()
+        self.assertTrue(visits().__arrow_c_stream__())
+
+
 class Lenience(unittest.TestCase):
     def test_columns_are_a_dict_or_pairs(self) -> None:
         pairs = [("A", "bigint"), ("B", "TinyInt")]
@@ -92,6 +176,19 @@ class Lenience(unittest.TestCase):
             self.assertEqual(empty.import_csv(csv, batch="1.1"), wanted)
         with self.assertRaises(Refused):
             empty.import_csv(io.StringIO(text))
+        with tempfile.TemporaryDirectory() as room:
+            path = pathlib.Path(room, "monday")
+            path.write_text("A\n1\n")
+            self.assertEqual(empty.import_csv(path, batch="1.1"), wanted)
+            for given in [str(path), os.fsencode(path), "monday.csv", "a/b.TSV", "x.txt", "x.csv.gz", b"monday.csv"]:
+                with self.subTest(given=given), self.assertRaises(ValueError) as caught:
+                    empty.import_csv(given)  # type: ignore[arg-type]
+                self.assertIn(repr(os.fsdecode(given)), str(caught.exception))  # type: ignore[type-var]
+                self.assertIn("pathlib.Path", str(caught.exception))
+                self.assertNotIsInstance(caught.exception, Refused)
+            with self.assertRaises(FileNotFoundError):
+                empty.import_csv(pathlib.Path(room, "none.csv"))
+        self.assertEqual(empty.import_csv(f"{'1' * 5}", heading=False, batch="1.1"), empty.import_csv("11111\n", heading=False, batch="1.1"))
         for csv in [5, [1, 2], None, ["A", "1"], {"A": 1}]:
             with self.subTest(csv=csv), self.assertRaisesRegex(TypeError, "a text of comma-separated values"):
                 empty.import_csv(csv)  # type: ignore[arg-type]
@@ -120,6 +217,26 @@ class Changes(unittest.TestCase):
         self.assertEqual(visits().delete_rows("1.1", 1).delete_rows((1, 1), 0), visits().delete("HITS < 11"))
         early = Table.create("VISITS", {"SITE": "SMALLINT", "HITS": "INTEGER"}).delete_rows("2.1", 0)
         self.assertEqual(early.merge(visits()), visits().delete("HITS = 20"))
+
+    def test_rows_to_the_end_of_a_batch_are_deleted(self) -> None:
+        table = Table.create("T", {"A": "INTEGER"}).import_csv("1\n" * 65_536, heading=False, batch="1.1")
+        for first, last, rows in (32_767, 32_768, 65_534), (65_535, None, 65_535), (0, 65_535, 0), (40_000, 65_535, 40_000):
+            self.assertEqual(len(table.delete_rows("1.1", first, last)), rows)
+        with self.assertRaises(Refused) as caught:
+            table.delete_rows("1.1", 1, 0)
+        self.assertTrue(str(caught.exception).startswith("BadRange 0: "))
+        self.assertEqual(caught.exception.place, (0,))
+
+    def test_a_text_without_a_last_line_end_has_all_its_bytes(self) -> None:
+        empty = Table.create("T", {"A": "INTEGER"})
+        for csv in "A\n1\n23", b"A\n1\n23", bytearray(b"A\n1\n23"), io.BytesIO(b"A\n1\n23"), io.StringIO("A\n1\n23"):
+            self.assertEqual(empty.import_csv(csv, batch="1.1").query("SELECT SUM(A) FROM T"), [(24,)])
+
+    def test_a_name_is_drawn_of_eight_words(self) -> None:
+        empty = Table.create("T", {"A": "INTEGER"})
+        words = [7] * 7 + [(3 << 32) + 16]  # of seven the high bits are 0, so they serve for no name
+        with unittest.mock.patch.object(table_module.secrets, "randbits", side_effect=words):
+            self.assertEqual(empty.import_csv("A\n1\n").dump(names=True), "BATCH,ORDINAL,A\n3.17,0,1\n")
 
     def test_rows_that_are_none_are_refused(self) -> None:
         for batch, first, last, name in [("1.1", 2, 1, "BadRange"), ("1.0", 0, 0, "BadName"), ("0.1", 0, 0, "BadName")]:

@@ -13,7 +13,7 @@ import unittest.mock
 from typing import Any
 
 import lanes
-from lanes import Table, replacing
+from lanes import Busy, Table, waiting
 
 #: The program: the script runs the one that was built here or the released one.
 PROGRAM = pathlib.Path(__file__).resolve().parent.parent.parent / "lanes"
@@ -66,6 +66,25 @@ class Updating(unittest.TestCase):
         self.assertEqual(os.stat(self.path).st_ino, before)
         self.only()
 
+    def test_a_table_that_is_the_same_is_on_the_disk_afterwards(self) -> None:
+        synced: list[str] = []
+        with unittest.mock.patch.object(os, "fsync", lambda opened: synced.append(os.readlink(f"/proc/self/fd/{opened}"))):
+            with lanes.update(self.path) as change:
+                change.table = change.table.delete("A = 1")
+        self.assertEqual(synced, [self.path, self.folder])
+        for count in 1, 2:
+            faults = [None] * (count - 1) + [OSError(5, "a fault")] + [None] * (2 - count)
+            with unittest.mock.patch.object(os, "fsync", side_effect=faults), self.assertWarns(RuntimeWarning), lanes.update(self.path):
+                pass
+        self.only()
+
+    def test_a_change_that_keeps_the_length_is_written(self) -> None:
+        self.empty.import_csv("1\n" * 10, heading=False, batch="1.1").delete_rows("1.1", 3).save(self.path)
+        before = os.path.getsize(self.path)
+        with lanes.update(self.path) as change:
+            change.table = change.table.delete_rows("1.1", 4)
+        self.assertEqual((os.path.getsize(self.path), self.count()), (before, 8))
+
     def test_a_link_is_followed_and_stays_one(self) -> None:
         link = os.path.join(self.folder, "link")
         os.symlink("t.lanes", link)
@@ -86,8 +105,8 @@ class Updating(unittest.TestCase):
         self.only()
 
     def test_a_file_that_another_has_is_waited_for(self) -> None:
-        with lanes.update(self.path), unittest.mock.patch.object(replacing, "_LONGEST_WAIT", 0.1):
-            with self.assertRaises(TimeoutError):
+        with lanes.update(self.path), unittest.mock.patch.object(waiting, "LONGEST", 0.1):
+            with self.assertRaises(Busy):
                 self.empty.save(self.path)
         self.empty.save(self.path)
 

@@ -44,6 +44,39 @@ def each_function(name, kind, values, plain, once):
     return Table(name, f"A {kind} B SMALLINT", [batch] if values else [], queries)
 
 
+def text_of(value):
+    return "NULL" if value is None else str(value)
+
+
+def grouped(pairs):
+    """The lines of groups, null first, with COUNT(*), COUNT, SUM, MIN and MAX of the values: from keys, each a tuple of cells, and values."""
+    groups = {}
+    for key, value in pairs:
+        groups.setdefault(key, []).append(value)
+    for key in sorted(groups, key=lambda key: [(cell is not None, cell or 0) for cell in key]):
+        there = [value for value in groups[key] if value is not None]
+        cells = [*key, len(groups[key]), len(there), *([sum(there), min(there), max(there)] if there else [None] * 3)]
+        yield ",".join(text_of(cell) for cell in cells)
+
+
+def by_runs(name, length, size):
+    """Rows whose key A has runs of a length, in batches of a size. K is A with nulls: scattered ones, and whole runs of them."""
+    keys = [n // length * 7919 % 499 for n in range(70_000)]
+    nullable = [None if n % 89 == 5 or n // length % 7 == 2 else key for n, key in enumerate(keys)]
+    values = [None if n % 11 == 3 else n * n % 1009 - 500 for n in range(70_000)]
+    cells = list(zip(keys, nullable, values))
+    wheres = {"": lambda row: True, " WHERE B > 0": lambda row: row[2] is not None and row[2] > 0, " WHERE A <> 3": lambda row: row[0] != 3}
+    queries = []
+    for where, keeps in wheres.items():
+        for columns in ([0], [1], [0, 1]):
+            names = ",".join("AK"[column] for column in columns)
+            heading = f"{names},COUNT(*),COUNT(B),SUM(B),MIN(B),MAX(B)"
+            pairs = [(tuple(row[column] for column in columns), row[2]) for row in cells if keeps(row)]
+            queries.append((f"SELECT {heading} FROM T{where} GROUP BY {names}", [heading, *grouped(pairs)]))
+    batches = [",".join("(" + ",".join(map(text_of, row)) + ")" for row in cells[first : first + size]) for first in range(0, len(cells), size)]
+    return Table(name, "A INTEGER K INTEGER B SMALLINT", batches, queries)
+
+
 SET_FUNCTIONS = [
     each_function("no rows", "BIGINT", [], "0,NULL,NULL,NULL,NULL", "0,NULL,NULL,NULL,NULL"),
     each_function("nulls alone", "INTEGER", [None, None], "0,NULL,NULL,NULL,NULL", "0,NULL,NULL,NULL,NULL"),
@@ -210,4 +243,9 @@ TABLES = SET_FUNCTIONS + [
             ("SELECT COUNT(DISTINCT A) FROM T", ["COUNT(DISTINCT A)", "100000"]),
         ],
     ),
+    # The same answers by vectors that are full and by vectors that aren't: with some 20 runs in a vector, and with some 60.
+    by_runs("runs of 36 rows in batches of 700 rows", 36, 700),
+    by_runs("runs of 36 rows in batches of 65,536 rows", 36, 65_536),
+    by_runs("runs of 12 rows in batches of 700 rows", 12, 700),
+    by_runs("runs of 12 rows in batches of 65,536 rows", 12, 65_536),
 ]

@@ -279,7 +279,8 @@ static void try_sentences(void) {
         memset(out, FILLER, ROOM);
         expect(lanes_sentence((uint8_t)number, &place, out, length == 0 ? 0 : length - 1) == length && is_untouched(out, 0), "a sentence without room");
     }
-    expect(lanes_version(out, ROOM) == 5 && memcmp(out, "0.5.1", 5) == 0 && is_untouched(out, 5), "the version");
+    memset(out, FILLER, ROOM);
+    expect(lanes_version(out, ROOM) == strlen(LANES_VERSION) && memcmp(out, LANES_VERSION, strlen(LANES_VERSION)) == 0 && is_untouched(out, strlen(LANES_VERSION)), "the version is the header's");
 }
 
 /* What one thread is told, again and again, beside what was told before there were threads. */

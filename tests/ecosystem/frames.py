@@ -62,22 +62,43 @@ def arrays_and_frames_have_the_rows_of_dump(seed, count=TABLES):
         assert {name: [None if cell is pd.NA else int(cell) for cell in frame[name]] for name in some} == {name: wanted[name] for name in some}
 
 
-def columns_that_are_not_there_are_refused():
+def told(kind, words, call, *given, **named):
+    """Whether a call raises this, in words that begin so."""
+    try:
+        call(*given, **named)
+    except kind as fault:
+        assert str(fault).startswith(words), f"{fault} is told of {given} {named}"
+        return
+    raise AssertionError(f"{given} {named} was taken")
+
+
+def columns_and_conditions_that_are_wrong_are_told_by_their_names():
     table = Table.create("T", {"A": "INTEGER", "B": "BIGINT"})
     for call in table.to_numpy, table.to_pandas:
-        for columns, where, name in [(["A", "C"], "", "NoSuchColumn"), (["A"], "C = 1", "NoSuchColumn"), (None, "A =", "Syntax"), (["A"], "1 = 1 GROUP BY A", "Syntax"), (["\u00e9"], "", "Syntax")]:
-            try:
-                call(columns, where)
-            except Refused as refusal:
-                assert refusal.name == name or columns == ["\u00e9"], (columns, where, refusal)
-                continue
-            raise AssertionError(f"{columns} where {where} was taken")
-        try:
-            call("A")
-        except TypeError:
-            continue
-        raise AssertionError("a text was taken for several names")
+        for columns, where, kind, words in [
+            (["A", "c"], "", Refused, "NoSuchColumn 2: columns: 'c' is no column of the table, which has A, B"),
+            (["A B"], "", Refused, "NoSuchColumn 0: columns: 'A B' is no column"),
+            (["\u00e9"], "", Refused, "NoSuchColumn 0: columns: '\u00e9' is no column"),
+            (["A"], "Zed > 1", Refused, "NoSuchColumn 0: where: 'Zed' is no column of the table, which has A, B"),
+            (None, "A =", Refused, "Syntax 3: where: byte 3: "),
+            (["A"], "1 = 1 GROUP BY A", Refused, "Syntax 6: where: 'GROUP': byte 6: "),
+            ("A", "", TypeError, "columns: several names"),
+            (5, "", TypeError, "columns: several names"),
+            ([5], "", TypeError, "columns: the name of a column"),
+            (["A"], None, TypeError, "where: a text is wanted"),
+            (["A"], 5, TypeError, "where: a text is wanted"),
+        ]:
+            told(kind, words, call, columns, where)
     assert table.to_numpy([]) == {} and len(table.to_pandas()) == 0
+    frame = pd.DataFrame({"A": [1], "B": [2]})
+    for wrong, kind, words in [
+        (frame.rename(columns={"B": 1}), TypeError, "frame: 1 is no name of a column"),
+        (frame.rename(columns={"B": "A"}), ValueError, "frame: the column 'A' is there twice"),
+        (frame["A"], TypeError, "frame: a frame of pandas is wanted"),
+        (frame.to_numpy(), TypeError, "frame: a frame of pandas is wanted"),
+        (frame[["A"]], ValueError, "columns: the columns A, B are wanted, each once, and these are A"),
+    ]:
+        told(kind, words, table.import_frame, wrong)
 
 
 def rows_go_in_with_the_bytes_of_comma_separated_values(seed, count=TABLES):
@@ -99,7 +120,7 @@ def rows_go_in_with_the_bytes_of_comma_separated_values(seed, count=TABLES):
 
 
 def many_rows_become_batches_as_of_an_import():
-    rows = 3 * 65_536 + 1_500
+    rows = 5 * 65_536 + 1_500  # more than are made canonical at once
     pick = np.random.default_rng(5)
     columns = {"A": pick.integers(-100, 100, rows), "B": np.arange(rows), "C": pick.integers(0, 3, rows)}
     nulls = pick.random(rows) < 0.3
@@ -109,7 +130,7 @@ def many_rows_become_batches_as_of_an_import():
     fields = [columns["A"].tolist(), ["" if is_null else value for value, is_null in zip(columns["B"].tolist(), nulls)], columns["C"].tolist()]
     csv = "".join(f"{a},{b},{c}\n" for a, b, c in zip(*fields))
     assert found == table.import_csv(csv, heading=False, batch="4.9")
-    assert found.check()[0] == 4 and found.import_columns({**columns, "B": ColumnData(columns["B"], nulls)}, batch="4.9") == found
+    assert found.check()[0] == 6 and found.import_columns({**columns, "B": ColumnData(columns["B"], nulls)}, batch="4.9") == found
     kept = found.delete("A < 0")
     assert kept.to_numpy(["B"])["B"].values.sum() == columns["B"][(columns["A"] >= 0) & ~nulls].sum()
 
@@ -129,10 +150,19 @@ def rows_that_do_not_fit_are_refused():
         ({"A": good, "B": [True, False, None]}, TypeError, "whole numbers"),
         ({"A": good, "B": [True, False, True]}, TypeError, "whole numbers"),
         ({"A": good, "B": [1, 1 << 64, None]}, ValueError, "outside every type"),
-        ({"A": good, "B": np.zeros((3, 1), int)}, ValueError, "a list of numbers"),
+        ({"A": good, "B": np.zeros((3, 1), int)}, ValueError, "column B: a list of numbers"),
+        ({"A": good, "B": [[1], [2, 3], [4]]}, ValueError, "column B: a list of numbers"),
+        ({"A": good, "B": None}, ValueError, "column B: a list of numbers"),
+        ({"A": good, "B": 5}, ValueError, "column B: a list of numbers"),
+        ({"A": good, "B": {1, 2, 3}}, ValueError, "column B: a list of numbers"),
+        ({"A": good, "B": (n for n in good)}, ValueError, "column B: a list of numbers"),
+        ({"A": good, "B": pd.array([1.0, None, 2.0], "Float64")}, TypeError, "column B: whole numbers"),
+        ({"A": good, "B": pd.array([True, None, False], "boolean")}, TypeError, "column B: whole numbers"),
         ({"A": [1, 2, 128], "B": good}, Refused, "row 2, column 0"),
-        ({"A": [-129, None, 128], "B": good}, Refused, "row 0, column 0"),
+        ({"A": [-129, None, 128], "B": good}, Refused, "OutOfType 0 0: row 0, column 0"),
         ({"A": good, "B": np.array([1, 1 << 63, 2], np.uint64)}, Refused, "row 1, column 1"),
+        ({"A": [1, 2, 128], "B": np.array([1, 1 << 63, 2], np.uint64)}, Refused, "row 1, column 1"),
+        ({"A": np.arange(300_000) // 299_999 * 200, "B": np.arange(300_000)}, Refused, "row 299999, column 0"),
     ]:
         try:
             table.import_columns(columns, batch="1.1")
@@ -156,6 +186,74 @@ def rows_that_do_not_fit_are_refused():
         raise AssertionError("names went past the end")
 
 
+def rows_go_in_from_arrays_of_every_kind():
+    table, wanted = Table.create("T", {"A": "SMALLINT"}), [1, -2, None, 300]
+    held = table.import_csv("1\n-2\n\n300\n", heading=False, batch="1.1")
+    plain = np.array([1, -2, 0, 300])
+    assert listed(held.to_numpy()["A"]) == wanted
+    for kind in "<i2", ">i2", "<i4", ">i4", "<i8", ">i8":
+        values, nulls = plain.astype(kind), np.array([False, False, True, False])
+        for data in ColumnData(values, nulls), np.ma.MaskedArray(values, nulls), ColumnData(np.repeat(values, 2)[::2], nulls):
+            assert table.import_columns({"A": data}, batch="1.1") == held, (kind, data)
+        if kind[0] == "<":
+            assert table.import_frame(pd.DataFrame({"A": pd.arrays.IntegerArray(values, nulls)}, index=[7, 7, 0, 1]), batch="1.1") == held, kind
+        assert listed(table.import_columns({"A": values}, batch="1.1").to_numpy()["A"]) == [1, -2, 0, 300]
+    for data in np.array([1, 2, 300], ">u4"), np.array([1, 2, 300], ">i2"), pd.array([1, 2, 300], "UInt16"), pd.array([1, 2, 300], "Int64"), pd.Series([1, 2, 300], index=[5, 6, 5]):
+        assert listed(table.import_columns({"A": data}, batch="1.1").to_numpy()["A"]) == [1, 2, 300], data
+    big = np.arange(1024, dtype=">i2")  # a whole vector
+    assert listed(table.import_columns({"A": big}, batch="1.1").to_numpy()["A"]) == list(range(1024))
+    under = np.ma.MaskedArray(np.array([1, 1 << 40, 3]), [False, True, False])  # what is under the mask is no value
+    for data in under, ColumnData(under.data, under.mask):
+        assert listed(table.import_columns({"A": data}, batch="1.1").to_numpy()["A"]) == [1, None, 3]
+
+
+def rows_about_the_ends_of_vectors_have_their_nulls():
+    """What is read has a stride of bits by 512 rows."""
+    for rows in 1, 511, 512, 513, 1023, 1024, 1025, 1536:
+        a, b = [row % 5 or None for row in range(rows)], [None if row % 3 == 1 else row for row in range(rows)]
+        table = Table.create("T", {"A": "TINYINT", "B": "BIGINT", "C": "INTEGER"}).import_columns({"A": a, "B": b, "C": [None] * rows}, batch="1.1")
+        wanted = {"A": a, "B": b, "C": [None] * rows}
+        for condition in "", "A IS NOT NULL OR A IS NULL":
+            assert {name: listed(data) for name, data in table.to_numpy(where=condition).items()} == wanted, rows
+            frame = table.to_pandas(where=condition)
+            assert {name: [None if cell is pd.NA else int(cell) for cell in frame[name]] for name in frame} == wanted, rows
+        if hasattr(table, "__arrow_c_stream__"):
+            assert {name: cells for name, (_, cells) in consumed(table.__arrow_c_stream__()).items()} == wanted, rows
+
+
+def memory_of(act):
+    """How much memory a call takes at most, beside what there was."""
+    gc.collect()
+    with open("/proc/self/clear_refs", "w", encoding="ascii") as file:
+        file.write("5")
+    before = resident()
+    kept = act()
+    with open("/proc/self/status", encoding="ascii") as file:
+        most = next(int(line.split()[1]) * 1024 for line in file if line.startswith("VmHWM"))
+    return most - before, kept
+
+
+def frames_take_little_memory_beside_them():
+    """With MALLOC_MMAP_THRESHOLD_ in the environment, so that memory that is let go goes back to the system at once."""
+    rows = 1_500_000
+    columns = {"A": "SMALLINT", "B": "INTEGER", "C": "BIGINT", "D": "SMALLINT", "E": "INTEGER", "F": "BIGINT"}
+    pick = np.random.default_rng(1)
+    empty = Table.create("T", columns)
+    nulls = pick.random(rows) < 0.3
+    size = sum((width + 1) * rows for width in (2, 4, 8, 2, 4, 8))
+    for greatest in 1000, (1 << 63) - 1:  # numbers that are packed well, and others
+        data = {name: ColumnData(pick.integers(0, min(greatest, 32767 if name in "AD" else 1 << 31 if name in "BE" else greatest), rows), nulls if name in "BF" else None) for name in columns}
+        table = Table.from_bytes(empty.import_columns(data, batch="1.1").to_bytes())
+        del data
+        len(table.to_pandas(["A"], where="A < 3"))  # pandas is loaded
+        for act in lambda: table.to_pandas(), lambda: table.to_pandas(where="A >= 0"):
+            most, frame = memory_of(act)
+            assert len(frame) == rows and 0.5 * size <= most <= 1.6 * size, most / size
+        most, other = memory_of(lambda: empty.import_frame(frame, batch="1.1"))
+        assert other == table and most <= 1.6 * size, most / size
+        del frame, other
+
+
 def answers_become_frames():
     big = (1 << 63) - 1
     table = Table.create("T", {"A": "INTEGER", "B": "BIGINT"}).import_csv(f"1,{big}\n1,{big}\n,-{big}\n2,\n", heading=False, batch="1.1")
@@ -165,6 +263,12 @@ def answers_become_frames():
     assert frame["A"][0] is pd.NA and frame["MEAN"].tolist() == [pd.NA, 1.0, 2.0]
     nothing = table.query("SELECT A,SUM(B) FROM T WHERE A > 9 GROUP BY A").to_pandas()
     assert (list(nothing.columns), len(nothing)) == (["A", "SUM(B)"], 0)
+    for where, count in ("A IS NULL", 1), ("A > 9", 0), ("A = 1", 1):
+        for select in "AVG(A)", "avg ( distinct A ) AS M", "\nAvg\t(A) COUNTED":
+            sql = f"select\tA , {select},SUM(A)\nFrom T WHERE {where} GROUP BY A HAVING AVG(A) IS NULL OR AVG(A) > 0"
+            for answer in table.query(sql), lanes.finish(table.part(sql)), lanes.split(sql, table).finish(table.part(sql)):
+                frame = answer.to_pandas()
+                assert len(frame) == count and [str(kind) for kind in frame.dtypes] == ["Int64", "Float64", "Int64"], (sql, frame.dtypes)
     html = table.query("SELECT A,SUM(B) FROM T GROUP BY A")._repr_html_()
     assert html == f"<table><tr><th>A</th><th>SUM(B)</th></tr><tr><td><i>NULL</i></td><td>-{big}</td></tr><tr><td>1</td><td>{2 * big}</td></tr><tr><td>2</td><td><i>NULL</i></td></tr></table>"
     assert "<b>T</b>: 4 rows" in table._repr_html_() and "<tr><td>B</td><td>BIGINT</td></tr>" in table._repr_html_()
@@ -235,6 +339,156 @@ def streams_have_the_rows_of_dump(seed, count=TABLES):
     del long
     gc.collect()
     assert consumed(capsule)["A"][1] == [None if row % 7 == 3 else row for row in range(rows)]
+
+
+class Given:
+    """A stream of Arrow by hand: columns of a name, a format and flags, and arrays of a length and an offset, of a bitmap of their own and, for
+    each column, of an offset, values and a bitmap. It counts what is not released."""
+
+    def __init__(self, columns, arrays, fails_at=None, whole=b"+s"):
+        self.columns, self.arrays, self.fails_at, self.whole = columns, list(arrays), fails_at, whole
+        self.kept, self.held = [], 0
+
+    def __arrow_c_stream__(self, requested_schema=None):
+        stream = Stream(self.call("get_schema", self.get_schema), self.call("get_next", self.get_next), None, self.call("release", self.gone(Stream)))
+        words = ctypes.create_string_buffer(b"the cable is cut")
+        said = ctypes.CFUNCTYPE(P, P)(lambda _: ctypes.addressof(words))
+        stream.get_last_error = ctypes.cast(said, P)
+        self.held += 1
+        self.kept.append((stream, words, said))
+        return ctypes.PYFUNCTYPE(ctypes.py_object, P, ctypes.c_char_p, P)(("PyCapsule_New", ctypes.pythonapi))(ctypes.addressof(stream), b"arrow_array_stream", None)
+
+    def call(self, name, act):
+        made = dict(Stream._fields_)[name](act)
+        self.kept.append(made)
+        return made
+
+    def gone(self, kind):
+        def release(at):
+            kind.from_address(at).release = dict(kind._fields_)["release"]()
+            self.held -= 1
+        return release
+
+    def fill(self, struct, values):
+        for name, value in values.items():
+            setattr(struct, name, value)
+        struct.release = self.call("release", self.gone(type(struct)))
+        self.held += 1
+        return struct
+
+    def many(self, kind, items):
+        pointers = (ctypes.POINTER(kind) * max(len(items), 1))(*map(ctypes.pointer, items))
+        self.kept.append((items, pointers))
+        return ctypes.cast(pointers, ctypes.POINTER(ctypes.POINTER(kind)))
+
+    def get_schema(self, _, out):
+        children = [self.fill(Schema(), {"format": kind, "name": name.encode(), "flags": flags}) for name, kind, flags in self.columns]
+        self.held -= len(children)  # they go with their parent
+        self.fill(out.contents, {"format": self.whole, "name": b"", "n_children": len(children), "children": self.many(Schema, children)})
+        return 0
+
+    def buffers(self, *given):
+        kept = [ctypes.create_string_buffer(data, max(len(data), 1)) if data is not None else None for data in given]
+        pointers = (P * len(kept))(*(ctypes.addressof(data) if data is not None else None for data in kept))
+        self.kept.append((kept, pointers))
+        return ctypes.cast(pointers, ctypes.POINTER(P))
+
+    def get_next(self, _, out):
+        if self.fails_at == len(self.arrays):
+            return 5
+        if not self.arrays:
+            out.contents.release = dict(Array._fields_)["release"]()
+            return 0
+        length, offset, bits, columns = self.arrays.pop(0)
+        children = [
+            self.fill(Array(), {"length": length + offset, "null_count": -1 if mask is not None else 0, "offset": begin, "n_buffers": 2, "buffers": self.buffers(mask, values)})
+            for begin, values, mask in columns
+        ]
+        self.held -= len(children)
+        self.fill(out.contents, {"length": length, "offset": offset, "null_count": -1 if bits else 0, "n_buffers": 1, "buffers": self.buffers(bits), "n_children": len(children), "children": self.many(Array, children)})
+        return 0
+
+
+def streams_go_in():
+    table = Table.create("T", {"A": "INTEGER", "B": "BIGINT"})
+    wanted = table.import_csv("7,-1\n8,\n,3\n10,4\n,5\n", heading=False, batch="1.1")
+    small = np.arange(20, dtype="<i1").tobytes()
+    arrays = [
+        (0, 0, None, [(0, b"", None), (0, b"", None)]),
+        (2, 3, None, [(4, small, None), (1, np.array([9, 9, 9, 9, -1, 9], "<i8").tobytes(), bytes([0b010000]))]),
+        (3, 0, bytes([0b111]), [(9, small, bytes([0xFF, 0b100])), (0, np.array([3, 4, 5], "<i8").tobytes(), None)]),
+    ]
+    given = Given([("A", b"c", 2), ("B", b"l", 2)], arrays)
+    found = table.import_arrow(given, batch="1.1")
+    assert found == wanted and given.held == 0, found.dump()
+    for data in found.to_pandas(), found.to_pandas(["B", "A"]):
+        assert table.import_frame(data, batch="1.1") == wanted
+    if hasattr(table, "__arrow_c_stream__"):
+        big = Table.create("T", {"A": "TINYINT", "B": "BIGINT"}).import_columns({"A": [row % 7 or None for row in range(140_000)], "B": list(range(140_000))}, batch="1.1")
+        assert Table.create("T", big.columns).import_arrow(big, batch="1.1") == big
+        assert len(table.import_arrow(big)) == 140_000
+        assert table.import_arrow(table) == table
+    one = (1, 0, None, [(0, bytes(8), None)])
+    good = [("A", b"i", 2), ("B", b"l", 2)]
+    for columns, rows, kind, words, more in [
+        ([("A", b"I", 2)], [one], TypeError, "column A: int8, int16, int32 or int64 is wanted, and this is uint32", {}),
+        ([("A", b"g", 2)], [one], TypeError, "column A: int8, int16, int32 or int64 is wanted, and this is float64", {}),
+        ([("A", b"u", 2)], [one], TypeError, "column A: int8, int16, int32 or int64 is wanted, and this is utf8", {}),
+        ([("A", b"tdD", 2)], [one], TypeError, "column A: int8, int16, int32 or int64 is wanted, and this is date or time", {}),
+        ([("A", b"i", 2), ("A", b"i", 2)], [one], ValueError, "data: the column 'A' is there twice", {}),
+        ([("A", b"i", 2)], [one], ValueError, "columns: the columns A, B are wanted", {}),
+        (good, [(2, 0, bytes([0b01]), [(0, bytes(8), None), (0, bytes(16), None)])], ValueError, "data: a row is null as a whole", {}),
+        (good, [one], OSError, "data: the stream gives 1 columns", {}),
+        (good, [one], OSError, "[Errno 5] data: the stream fails: the cable is cut", {"fails_at": 1}),
+        (good, [one], TypeError, "the stream of a table is wanted here, and this is", {"whole": b"i"}),
+        (good, [(1, 0, None, [(0, bytes(4), None), (0, bytes(8), None)])] * 2, None, "", {}),
+        ([("A", b"l", 2), ("B", b"l", 2)], [(1, 0, None, [(0, (1 << 40).to_bytes(8, "little"), None), (0, bytes(8), None)])], Refused, "OutOfType", {}),
+    ]:
+        given = Given(columns, rows, **more)
+        if kind:
+            told(kind, words, table.import_arrow, given)
+        else:
+            table.import_arrow(given)
+        gc.collect()
+        assert given.held == 0, (columns, given.held)
+    for wrong in 5, None, "text", [1, 2]:
+        told(TypeError, "data: whatever gives Arrow's stream is wanted here", table.import_arrow, wrong)
+
+
+def asked_for(columns, whole=b"+s"):
+    """A capsule of a schema, and what it stands on."""
+    given = Given(columns, [], whole=whole)
+    schema = Schema()
+    given.get_schema(None, ctypes.pointer(schema))
+    given.kept.append(schema)
+    return ctypes.PYFUNCTYPE(ctypes.py_object, P, ctypes.c_char_p, P)(("PyCapsule_New", ctypes.pythonapi))(ctypes.addressof(schema), b"arrow_schema", None), given
+
+
+def a_schema_of_wider_integers_is_given_and_another_one_refused():
+    table = Table.create("T", {"A": "TINYINT", "B": "INTEGER"}).import_csv("1,10\n-1,\n,30\n", heading=False, batch="1.1")
+    a, b = [1, -1, None], [10, None, 30]
+    for columns, wanted in [
+        ([("A", b"c", 2), ("B", b"i", 2)], {"A": (b"c", a), "B": (b"i", b)}),
+        ([("A", b"l", 2), ("B", b"l", 2)], {"A": (b"l", a), "B": (b"l", b)}),
+        ([("B", b"i", 2), ("A", b"s", 2)], {"B": (b"i", b), "A": (b"s", a)}),
+        ([("B", b"l", 2)], {"B": (b"l", b)}),
+    ]:
+        capsule, kept = asked_for(columns)
+        found = consumed(table.__arrow_c_stream__(requested_schema=capsule))
+        assert found == wanted and list(found) == list(wanted), found
+    for columns, words, whole in [
+        ([("A", b"c", 2), ("B", b"s", 2)], "requested_schema: column B is INTEGER", b"+s"),
+        ([("A", b"C", 2)], "requested_schema: column A is TINYINT", b"+s"),
+        ([("A", b"g", 2)], "requested_schema: column A is TINYINT", b"+s"),
+        ([("A", b"c", 0)], "requested_schema: column A may be null", b"+s"),
+        ([("C", b"c", 2)], "requested_schema: the columns A, B are there", b"+s"),
+        ([("A", b"c", 2), ("A", b"c", 2)], "requested_schema: the columns A, B are there", b"+s"),
+        ([("A", b"c", 2)], "requested_schema: the stream of a table is wanted", b"c"),
+    ]:
+        capsule, kept = asked_for(columns, whole)
+        told(ValueError, words, table.__arrow_c_stream__, capsule)
+        assert kept.held == 1, "a schema is its giver's"
+    told(ValueError, "", table.__arrow_c_stream__, table.__arrow_c_stream__())
 
 
 def streams_that_nobody_takes_are_released():

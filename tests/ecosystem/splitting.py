@@ -1,5 +1,5 @@
-"""Answers over many files: random questions over random files, whose parts are combined in random trees, in Python and by the program,
-beside `query` over the merged file; faulty ones are refused alike; files that aren't apart are refused, and so are damaged parts."""
+"""Answers over many files: random questions over random files, whose partial answers are combined in random trees, in Python and by the program,
+beside `query` over the merged file; faulty ones are refused alike; files that aren't apart are refused, and so are damaged partial answers."""
 
 from __future__ import annotations
 
@@ -15,13 +15,13 @@ import questions
 QUESTIONS = 400
 
 
-def tree(pick, plan, parts):
-    """The combination of parts in any shape and order."""
-    parts = list(parts)
-    while len(parts) > 1:
-        pick.shuffle(parts)
-        parts.append(plan.combine(parts.pop(), parts.pop()))
-    return parts[0]
+def tree(pick, plan, partials):
+    """The combination of partial answers in any shape and order."""
+    partials = list(partials)
+    while len(partials) > 1:
+        pick.shuffle(partials)
+        partials.append(plan.combine(partials.pop(), partials.pop()))
+    return partials[0]
 
 
 def text(answer):
@@ -52,7 +52,7 @@ def questions_have_the_answer_of_the_merged_file(seed, count):
                 wanted = merged.query(sql)
             except lanes.Refused as refusal:
                 refused += 1
-                for act in (lambda: lanes.split(sql, tables[0]), lambda: tables[0].part(sql)):
+                for act in (lambda: lanes.split(sql, tables[0]), lambda: tables[0].partial(sql)):
                     try:
                         act()
                     except lanes.Refused as other:
@@ -61,12 +61,12 @@ def questions_have_the_answer_of_the_merged_file(seed, count):
                     raise AssertionError(f"{sql!r} was not refused")
                 continue
             plan = pickle.loads(pickle.dumps(lanes.split(sql, tables[0])))
-            parts = [pickle.loads(pickle.dumps(plan.ask(table, is_apart=pick.random() < 0.1))) for table in tables]
+            partials = [pickle.loads(pickle.dumps(plan.ask(table))) for table in tables]
             if pick.random() < 0.3:
-                parts.append(plan.none())
-            whole = tree(pick, plan, parts)
-            pick.shuffle(parts)
-            assert whole == lanes.combine(parts) == merged.part(sql), sql
+                partials.append(plan.none())
+            whole = tree(pick, plan, partials)
+            pick.shuffle(partials)
+            assert whole == lanes.combine(partials) == merged.partial(sql), sql
             found = plan.finish(whole)
             assert text(found) == text(wanted), f"{sql!r} over {[table.dump(names=True) for table in tables]}\n{found}\n{wanted}"
     assert refused > count // 50
@@ -113,19 +113,19 @@ def sums_go_past_64_bits():
     assert text(found)[1] == [[str(15 * most), f"{most}.000000", str(most)]], found
 
 
-def damaged_parts_are_refused_or_read(seed):
-    """Each front of a part is refused, and one with a changed byte is refused or is another part: no call ends the process."""
+def damaged_partial_answers_are_refused_or_read(seed):
+    """Each front of a partial answer is refused, and one with a changed byte is refused or is another partial answer: no call ends the process."""
     pick = random.Random(seed)
     columns, tables = shards(pick)
     while len(tables) < 2 or not all(map(len, tables)):
         columns, tables = shards(pick)
     asked = f"SELECT {','.join(f'COUNT(DISTINCT {name}),SUM({name}),MIN({name})' for name in columns)} FROM T GROUP BY A"
-    one, other = (table.part(asked) for table in tables[:2])
+    one, other = (table.partial(asked) for table in tables[:2])
     refused = 0
     for at in range(len(one)):
         changed = bytearray(one)
         changed[at] ^= 1 << pick.randrange(8)
-        for act in (lambda part: lanes.combine([other, part]), lanes.finish):
+        for act in (lambda partial: lanes.combine([other, partial]), lanes.finish):
             try:
                 act(bytes(changed))
             except (lanes.Refused, lanes.NotApart):
@@ -135,15 +135,15 @@ def damaged_parts_are_refused_or_read(seed):
             except lanes.Refused as refusal:
                 assert refusal.name in ("Truncated", "BadMagic"), refusal
                 continue
-            raise AssertionError(f"a part of {at} bytes was taken")
+            raise AssertionError(f"a partial answer of {at} bytes was taken")
     assert refused > len(one) // 4, refused
 
 
-def by_the_program(program, room, pick, parts, form):
-    """The answer that some parts, which are files, come to: combined by the program, a few at a time."""
-    files = [room / f"{at}.part" for at in range(len(parts))]
-    for file, part in zip(files, parts):
-        file.write_bytes(part)
+def by_the_program(program, room, pick, partials, form):
+    """The answer that some partial answers, which are files, come to: combined by the program, a few at a time."""
+    files = [room / f"{at}.partial" for at in range(len(partials))]
+    for file, partial in zip(files, partials):
+        file.write_bytes(partial)
     while len(files) > 1:
         pick.shuffle(files)
         taken = [files.pop() for _ in range(min(len(files), pick.randint(2, 3)))]
@@ -154,19 +154,19 @@ def by_the_program(program, room, pick, parts, form):
 
 
 def the_program_gives_the_answer_of_the_merged_file(program, seed, count):
-    """Byte for byte, in each form; and its parts are those of Python."""
+    """Byte for byte, in each form; and its partial answers are those of Python."""
     pick = random.Random(seed)
     with tempfile.TemporaryDirectory(prefix="lanes-parts-") as folder:
         room = pathlib.Path(folder)
         for _ in range(count):
             columns, tables = shards(pick)
             sql, form = questions.question(pick, columns), pick.choice(["text", "csv", "json", "table"])
-            parts = []
+            partials = []
             for table in tables:
                 table.save(room / "t.lanes")
-                parts.append(subprocess.run([program, "part", room / "t.lanes", sql], stdout=subprocess.PIPE, check=True).stdout)
-                assert parts[-1] == table.part(sql), sql
+                partials.append(subprocess.run([program, "partial", room / "t.lanes", sql], stdout=subprocess.PIPE, check=True).stdout)
+                assert partials[-1] == table.partial(sql), sql
             tables[0].merge(*tables[1:]).save(room / "t.lanes")
             wanted = subprocess.run([program, "query", "--format", form, room / "t.lanes", sql], stdout=subprocess.PIPE, check=True).stdout
-            found = by_the_program(program, room, pick, parts, form)
+            found = by_the_program(program, room, pick, partials, form)
             assert found == wanted, f"{sql!r}: {found} and {wanted}"

@@ -54,6 +54,13 @@ def condition(pick, names, depth=2):
     return f"NOT {name} = {operand(pick, names)}"
 
 
+def row_condition(pick):
+    """A condition on the places of rows."""
+    number = pick.choice([str(pick.randint(-1, 30)), str(pick.randint(-1, 300)), "9223372036854775807", "-9223372036854775808", "2.5", "NULL", "'3'"])
+    one = f"rowid {pick.choice(['=', '<', '<=', '>', '>=', '<>', 'IS'])} {number}"
+    return f"{one} AND {row_condition(pick)}" if pick.random() < 0.4 else one
+
+
 def asked(pick, names):
     """A question of the table x."""
     a, b = pick.choice(names), pick.choice(names)
@@ -73,6 +80,11 @@ def asked(pick, names):
             f"SELECT COUNT(*) FROM x p LEFT JOIN x q ON q.{a} > p.{a} AND q.{b} = 1",
             f"SELECT rowid FROM x WHERE {a} IN (SELECT {b} FROM x {where}) ORDER BY rowid",
             f"SELECT (SELECT COUNT(*) FROM x q WHERE q.{a} < p.{a}) FROM x p {where} ORDER BY p.rowid",
+            f"SELECT p.rowid,p.{a},q.{a},q.{b} FROM x p, x q ORDER BY 1,3,4 LIMIT 300",
+            f"SELECT rowid,* FROM x WHERE {row_condition(pick)} ORDER BY rowid",
+            f"SELECT rowid,{a} FROM x WHERE {row_condition(pick)} AND {condition(pick, names)} ORDER BY rowid",
+            f"SELECT p.rowid,p.{a},q.{b} FROM x p JOIN x q ON q.rowid = p.rowid + {pick.randint(-2, 2)} {where.replace(names[0], 'p.' + names[0]) if len(names) == 1 else ''} ORDER BY 1",
+            f"SELECT COUNT(*),TOTAL({b}) FROM x WHERE rowid IN (SELECT rowid + 1 FROM x {where})",
         ]
     )
 
@@ -164,6 +176,151 @@ def a_statement_sees_one_state(extension):
         assert "NoSuchColumn" in outcome(base, "SELECT A FROM x") and "NoSuchTable" in outcome(base, "SELECT * FROM z")
 
 
+def a_cursor_that_opens_late_sees_the_state_of_its_statement(extension):
+    with tempfile.TemporaryDirectory(prefix="lanes-sqlite-") as room:
+        path = os.path.join(room, "t.lanes")
+        first = Table.create("T", {"A": "INTEGER"}).import_csv("1\n2\n3\n", heading=False, batch="1.1")
+        first.save(path)
+        base = connected(extension)
+        base.execute(f"CREATE VIRTUAL TABLE temp.x USING lanes('{path}')")
+        base.execute("CREATE TABLE n(N)")
+        base.execute("INSERT INTO n VALUES (1), (2), (3)")
+        running = base.execute("SELECT A,CASE WHEN A > 1 THEN (SELECT TOTAL(q.A) FROM x q WHERE q.A >= p.A) END FROM x p ORDER BY +p.rowid")
+        late = base.execute("SELECT N,CASE WHEN N > 1 THEN (SELECT TOTAL(q.A) FROM x q WHERE q.A >= n.N) END FROM n JOIN x p ON p.A = N")
+        assert running.fetchone() == (1, None) and late.fetchone() == (1, None)
+        first.import_csv("100\n", heading=False, batch="2.1").save(path)
+        assert late.fetchall() == [(2, 5.0), (3, 3.0)]
+        assert running.fetchall() == [(2, 5.0), (3, 3.0)]
+
+
+def a_cursor_that_is_not_read_to_its_end_keeps_nothing(extension):
+    """A later statement sees the file as it is then, whatever cursors are open; and at the end nothing is left open."""
+    with tempfile.TemporaryDirectory(prefix="lanes-sqlite-") as room:
+        path = os.path.join(room, "t.lanes")
+        table = Table.create("T", {"A": "INTEGER"}).import_csv("1\n2\n3\n", heading=False, batch="1.1")
+        table.save(path)
+        base = connected(extension)
+        base.execute(f"CREATE VIRTUAL TABLE temp.x USING lanes('{path}')")
+        base.execute(f"CREATE VIRTUAL TABLE temp.z USING lanes('{path}', 'SELECT COUNT(*) AS N FROM T')")
+        opened, mapped = open_files(), mappings(room)
+        cursors = []
+        for number in range(2, 6):
+            for _ in "once", "again":
+                cursors.append(base.execute("SELECT A FROM x"))
+                assert cursors[-1].fetchone() == (1,)
+                cursors.append(base.execute("SELECT N FROM z"))
+            table = table.import_csv(f"{number}\n", heading=False, batch=(number, 1))
+            table.save(path)
+            assert base.execute("SELECT COUNT(*) FROM x").fetchall() == base.execute("SELECT N FROM z").fetchall() == [(2 + number,)]
+        left = [len(cursor.fetchall()) for cursor in cursors[::4]]
+        assert left == [2, 3, 4, 5], left
+        for cursor in cursors:
+            cursor.close()
+        assert (open_files(), mappings(room)) == (opened, mapped)
+
+
+def open_files():
+    return len(os.listdir("/proc/self/fd"))
+
+
+def mappings(room):
+    with open("/proc/self/maps") as file:
+        return sum(room in line for line in file)
+
+
+def counted(rows, columns):
+    """A table of so many rows in batches of at most 400, of which each column has nulls of its own."""
+    table = Table.create("T", {f"C{n}_" + "LONG" * 14 * (columns > 9): "INTEGER" for n in range(columns)})
+    for first in range(0, rows, 400):
+        lines = [",".join("" if (row * 7 + n) % (n % 5 + 2) == 0 else str(row * (n + 1) % 1000) for n in range(columns)) + "\n" for row in range(first, min(rows, first + 400))]
+        table = table.import_csv("".join(lines), heading=False, batch=(1, first // 400 + 1))
+    return table
+
+
+def tables_of_all_sizes_are_those_of_a_copy(extension):
+    """Numbers of rows around those that fill a word of bits, 32 columns of long names, and batches that are read in steps."""
+    with tempfile.TemporaryDirectory(prefix="lanes-sqlite-") as room:
+        for rows, columns in [(0, 3), (1, 3), (511, 3), (512, 3), (513, 3), (1024, 3), (1025, 3), (700, 32)]:
+            table, base = counted(rows, columns), connected(extension)
+            names = [*table.columns]
+            table.save(os.path.join(room, "t.lanes"))
+            base.execute(f"CREATE VIRTUAL TABLE temp.x USING lanes('{room}/t.lanes')")
+            copied(base, table)
+            for sql in [
+                "SELECT rowid,* FROM x",
+                f"SELECT {','.join(f'COUNT({name}),TOTAL({name})' for name in names)} FROM x",
+                f"SELECT rowid,{names[-1]} FROM x WHERE {names[1]} > 500",
+                f"SELECT p.rowid,q.{names[-1]} FROM x p JOIN x q ON q.rowid = p.rowid WHERE p.{names[0]} IS NOT NULL",
+                f"SELECT rowid,{names[0]} FROM x WHERE rowid BETWEEN 398 AND 402 OR rowid = 512 ORDER BY 1",
+                *(f"SELECT rowid,{names[0]} FROM x WHERE rowid {op} {row} ORDER BY 1" for op in ["=", "<", "<=", ">", ">=", "<>"] for row in [-1, 0, 1, 399, 400, 401, rows - 1, rows]),
+                f"SELECT p.{names[0]},q.{names[0]},q.{names[1]} FROM (SELECT * FROM x LIMIT 30) p, x q",
+                f"SELECT {','.join(reversed(names))} FROM x WHERE {names[-1]} = 1 OR {names[0]} = 2 ORDER BY rowid",
+            ]:
+                found, wanted = outcome(base, sql), outcome(base, sql.replace("FROM x", "FROM y").replace("JOIN x", "JOIN y"))
+                assert found == wanted, (rows, columns, sql)
+            base.close()
+
+
+def answers_longer_than_their_first_room_are_whole(extension):
+    with tempfile.TemporaryDirectory(prefix="lanes-sqlite-") as room:
+        path, rows = os.path.join(room, "t.lanes"), 200_000
+        Table.create("T", {"A": "INTEGER"}).import_csv("".join(f"{n}\n" for n in range(rows)), heading=False, batch="1.1").save(path)
+        base = connected(extension)
+        base.execute(f"CREATE VIRTUAL TABLE temp.z USING lanes('{path}', 'SELECT A,COUNT(*) AS N FROM T GROUP BY A')")
+        assert base.execute("SELECT COUNT(*),SUM(A),SUM(N),MAX(A) FROM z").fetchone() == (rows, rows * (rows - 1) // 2, rows, rows - 1)
+        assert base.execute("SELECT rowid,A,N FROM z WHERE rowid IN (0, 199999, 200000) OR rowid BETWEEN 7 AND 8 ORDER BY 1").fetchall() == [(n, n, 1) for n in (0, 7, 8, 199999)]
+
+
+def a_row_is_found_by_its_place(extension):
+    """A join by rowid ends soon: a row is found at once, and not by a scan."""
+    with tempfile.TemporaryDirectory(prefix="lanes-sqlite-") as room:
+        path, rows = os.path.join(room, "t.lanes"), 2 * 65536 + 100
+        Table.create("T", {"A": "INTEGER", "B": "INTEGER"}).import_csv("".join(f"{n},{n % 1000}\n" for n in range(rows)), heading=False, batch="1.1").save(path)
+        base = connected(extension)
+        base.execute(f"CREATE VIRTUAL TABLE temp.x USING lanes('{path}')")
+        assert base.execute("SELECT rowid,A FROM x WHERE A = 123456").fetchall() == [(123456, 123456)]
+        assert base.execute("SELECT A,B FROM x WHERE rowid = 123456").fetchall() == [(123456, 456)]
+        steps = iter(range(50))  # of a million operations each
+        base.set_progress_handler(lambda: next(steps, None) is None, 1_000_000)
+        assert base.execute("SELECT COUNT(*),SUM(q.B = p.B) FROM x p JOIN x q ON q.rowid = p.rowid").fetchone() == (rows, rows)
+
+
+def a_folder_is_a_table(extension):
+    with tempfile.TemporaryDirectory(prefix="lanes-sqlite-") as room:
+        site = lanes.Folder.create(os.path.join(room, "site"), "T", {"A": "INTEGER", "B": "BIGINT"})
+        for number in range(1, 8):
+            site.import_csv("".join(f"{n},{n * number}\n" for n in range(number * 10)), heading=False, batch=(1, number))
+        with open(os.path.join(room, "site", "notes.txt"), "w") as file:
+            file.write("no part")
+        base = connected(extension)
+        base.execute(f"CREATE VIRTUAL TABLE temp.x USING lanes('{room}/site')")
+        base.execute(f"CREATE VIRTUAL TABLE temp.z USING lanes('{room}/site/', 'SELECT COUNT(*) AS N,SUM(B) AS S FROM T')")
+
+        def agree():
+            assert base.execute("SELECT A,B FROM x").fetchall() == [tuple(map(int, line.split(","))) for line in site.read().dump().splitlines()[1:]]
+            assert base.execute("SELECT * FROM z").fetchone() == tuple(site.query("SELECT COUNT(*),SUM(B) FROM T")[0])
+
+        agree()
+        site.delete("A < 5")
+        agree()
+        os.mkdir(os.path.join(room, "site", "0" * 32 + ".lanes"))
+        assert base.execute("SELECT COUNT(*),SUM(B) FROM x").fetchone() == base.execute("SELECT * FROM z").fetchone()
+        os.rmdir(os.path.join(room, "site", "0" * 32 + ".lanes"))
+        running = base.execute("SELECT B FROM x")
+        first = running.fetchone()
+        site.pack(everything=True)
+        site.delete("A > 50")
+        assert len([first, *running]) == 245
+        agree()
+        part = os.path.join(room, "site", site.parts()[0])
+        with open(part, "r+b") as file:
+            file.truncate(20)
+        assert f"{os.path.basename(part)}: Truncated" in outcome(base, "SELECT * FROM x")
+        os.unlink(part)
+        Table.create("U", {"A": "INTEGER"}).save(os.path.join(room, "site", "1" * 32 + ".lanes"))
+        assert f"{room}/site: SchemaDiffers" in outcome(base, "SELECT * FROM x")
+
+
 def what_is_wrong_is_said(extension):
     with tempfile.TemporaryDirectory(prefix="lanes-sqlite-") as room:
         path = os.path.join(room, "t.lanes")
@@ -171,7 +328,7 @@ def what_is_wrong_is_said(extension):
         base = connected(extension)
         for words, said in [
             (f"'{room}/none'", "can't be read"),
-            (f"'{room}'", "can't be read"),
+            (f"'{room}'", "has no part, so it is no replica"),
             ("", "a file is wanted"),
             (f"'{path}', 'SELECT 1', 2", "a file is wanted"),
             (f"'{path}', 'SELECT B FROM T'", "NoSuchColumn: byte 7: unknown column"),
@@ -185,10 +342,22 @@ def what_is_wrong_is_said(extension):
             assert "may not be modified" in outcome(base, sql), outcome(base, sql)
 
 
+TESTS = [
+    a_statement_sees_one_state,
+    a_cursor_that_opens_late_sees_the_state_of_its_statement,
+    a_cursor_that_is_not_read_to_its_end_keeps_nothing,
+    tables_of_all_sizes_are_those_of_a_copy,
+    answers_longer_than_their_first_room_are_whole,
+    a_row_is_found_by_its_place,
+    a_folder_is_a_table,
+    what_is_wrong_is_said,
+]
+
+
 def main():
     extension, seed, count = sys.argv[1], int((sys.argv + ["", "1"])[2] or 1), int((sys.argv + [""] * 3)[3] or 600)
-    a_statement_sees_one_state(extension)
-    what_is_wrong_is_said(extension)
+    for test in TESTS:
+        test(extension)
     print(rows_are_those_of_a_copy(extension, seed, count), "questions were alike")
 
 

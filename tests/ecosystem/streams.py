@@ -36,6 +36,10 @@ def a_program_in_c_takes_what_queries_say(consumer, seed=1, count=25):
             if at == 0:
                 columns = {"A": "TINYINT", "B": "INTEGER"}
                 table = lanes.Table.create("T", columns).import_csv("1,\n,-7\n3,4\n" * 50_000, heading=False, batch="1.1").delete_rows("1.1", 3)
+            elif at <= 5:  # about the ends of what 64 bytes of bits have
+                columns, rows = {"A": "SMALLINT", "B": "BIGINT", "C": "TINYINT"}, (511, 512, 513, 1024, 1025)[at - 1]
+                csv = "".join(f"{row % 7 or ''},{row if row % 3 else ''},\n" for row in range(rows))
+                table = lanes.Table.create("T", columns).import_csv(csv, heading=False, batch="1.1")
             table.save(path)
             for where in "", questions.condition(pick, columns, [], 1):
                 found = subprocess.run([consumer, path, where], capture_output=True, text=True, timeout=60)

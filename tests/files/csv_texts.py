@@ -1,5 +1,6 @@
 """Comma-separated values as sqlite3, PostgreSQL's COPY and spreadsheets write them, and what is said of those that are at fault."""
 
+import os
 import shutil
 import subprocess
 
@@ -38,6 +39,21 @@ def a_spreadsheet_with_a_mark_and_carriage_returns(room):
 
 def nulls_in_each_form_and_a_last_line_without_its_end(room):
     assert made(room, b"A,B\n,NULL\n\\N,\"NULL\"\n\"\\N\",7") == dumped(((None, None), (None, None), (None, 7)))
+
+
+def a_word_is_a_null_as_it_is_in_the_text_and_in_quotes(room):
+    for word, text, rows in (
+        ("NA", b'1,NA\n2,"NA"\n3,4\n', ((1, None), (2, None), (3, 4))),
+        ('"5"', b'1,5\n2,"5"\n3,""5""\n', ((1, 5), (2, None), (3, None))),
+        ("9" * 31, b"1,%s\n" % (b"9" * 31), ((1, None),)),
+        ("", b'1,""\n2,\n', ((1, None), (2, None))),
+        ("--", b'1,--\n2,"--"\n', ((1, None), (2, None))),
+    ):
+        found = made(room, text, "--no-header", "--null", word)
+        assert found == dumped(rows), f"with {word} it is {found!r}"
+        os.remove(room.path("t"))
+    room.ok("create", "t", "T", "A", "SMALLINT", "B", "BIGINT")
+    room.refused("import", "--no-header", "--null", '"x"', "t", "-", given=b"1,x\n", line="refused BadCsv 1 2")
 
 
 def an_empty_line_is_a_row_of_a_table_of_one_column_alone(room):
@@ -125,7 +141,7 @@ FAULTS = (
     (b"", ["--columns", "A,-"], "BadCsv 1 0", "visits.csv, line 1: the header is missing: did the command before it fail?"),
     (b"x,40000\n", ["--no-header", "--columns", "-,A"], "BadCsv 1 2", 'visits.csv, line 1, column A: "40000" is outside the type SMALLINT'),
     (b"x,y\n1,2\n", ["--columns", "B,C"], "NoSuchColumn 2", '--columns, byte 2: there is no column "C": the table has A, B'),
-    (b"x,y\n1,2\n", ["--columns", "B,-,,A"], "NoSuchColumn 4", '--columns, byte 4: there is no column ",": the table has A, B'),
+    (b"x,y\n1,2\n", ["--columns", "B,-,,A"], "NoSuchColumn 4", '--columns, byte 4: there is no column "": the table has A, B'),
     (b"A,C\n", [], "BadCsv 1 2", 'visits.csv, line 1, field 2: "C" is not a column of the table, which has A, B'),
     (b"A,a\n", [], "BadCsv 1 2", 'visits.csv, line 1, field 2: "a" is there for the second time'),
     (b"1,2\n+5,2\n", ["--no-header"], "BadCsv 2 1", None),
@@ -184,6 +200,7 @@ TESTS = [
     postgres_copy_without_a_header,
     a_spreadsheet_with_a_mark_and_carriage_returns,
     nulls_in_each_form_and_a_last_line_without_its_end,
+    a_word_is_a_null_as_it_is_in_the_text_and_in_quotes,
     an_empty_line_is_a_row_of_a_table_of_one_column_alone,
     the_fields_of_a_text_are_those_that_words_name,
     what_is_dumped_is_imported_as_the_same_rows,

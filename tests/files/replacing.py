@@ -367,6 +367,42 @@ def a_file_that_can_not_be_synced_is_a_failed_write(room):
         assert room.get("e/t") == held and os.listdir(room.path("e")) == ["t"]
 
 
+def traced_at(room, words, options=(), given=b""):
+    """What strace says of a command, with its status and what it says on standard error."""
+    if shutil.which("strace") is None:
+        raise Lacking("strace is not installed")
+    words = ["strace", "-f", "-y", "-o", "trace", "-e", f"trace={CALLS}", *options, room.program, *words]
+    done = subprocess.run(words, input=given, cwd=room.folder, capture_output=True, timeout=60)
+    if not os.path.exists(room.path("trace")) or not room.get("trace"):
+        raise Lacking(f"strace can't trace: {done.stderr[-200:]!r}")
+    return room.get("trace").decode(), done.returncode, done.stderr
+
+
+def an_answer_that_changes_nothing_syncs_the_file_and_its_folder(room):
+    os.mkdir(room.path("d"))
+    room.make("d/t")
+    load = ("import", "--no-header", "--batch", "2.1", "d/t", "-")
+    # The load is killed before the folder is synced, and sent again.
+    traced_at(room, load, options=("-e", "inject=fsync:signal=KILL:when=2"), given=b"3,40\n")
+    room.ok("check", "d/t", prints=b"ok batches=2 ranges=0\n")
+    room.ok("delete-rows", "d/t", "5.5", "1", "2")
+    held = room.get("d/t")
+    said = b"d/t: nothing changed, but this or its folder could not be synced: a loss of power may bring an older file back\n"
+    for words in (load, ("delete", "d/t", "A = 7"), ("delete-rows", "d/t", "5.5", "1", "2"), ("apply", "d/t", "d/t"), ("forget", "d/t"), ("merge", "d/t", "d/t")):
+        trace, status, err = traced_at(room, words, given=b"3,40\n")
+        assert (status, err) == (0, b""), f"{words} ended with {status} and said {err!r}"
+        place = 0
+        for step in (r"flock\(.*lanes-lock>, LOCK_EX", r"fsync\([0-9]+<[^>]*/d/t>\) += 0", r"fsync\([0-9]+<[^>]*/d>\) += 0", r"unlink.*lanes-lock"):
+            found = re.compile(step).search(trace, place)
+            assert found, f"{words}: {step} isn't in its place in\n{trace[-2000:]}"
+            place = found.end()
+        assert "rename" not in trace and trace.count("fsync(") == 2
+        for when in (1, 2):
+            trace, status, err = traced_at(room, words, options=("-e", f"inject=fsync:error=EIO:when={when}"), given=b"3,40\n")
+            assert "INJECTED" in trace and (status, err) == (0, said), f"{words} ended with {status} and said {err!r} at {when}"
+        assert room.get("d/t") == held and os.listdir(room.path("d")) == ["t"]
+
+
 TESTS = [
     a_change_that_changes_nothing_leaves_the_file_and_no_lock,
     a_refusal_leaves_the_file_and_no_lock,
@@ -390,5 +426,6 @@ TESTS = [
     a_merge_into_a_device_is_written_in_place,
     the_system_calls_stand_in_their_order,
     a_folder_that_can_not_be_synced_is_told_and_the_file_is_replaced,
+    an_answer_that_changes_nothing_syncs_the_file_and_its_folder,
     a_file_that_can_not_be_synced_is_a_failed_write,
 ]

@@ -107,8 +107,39 @@ def names_that_are_no_parts_are_passed_over(room):
     assert len(os.listdir(room.path("d"))) == 11 and count(room) == 2
 
 
+def a_flipped_bit_in_a_head_is_damage(room):
+    make_folder(room, loads=3)
+    part = max(parts_of(room), key=lambda name: os.path.getsize(room.path("d/" + name)))
+    data = room.get("d/" + part)
+    damaged = 0
+    for at in range(0, 40):
+        room.put("d/" + part, data[:at] + bytes([data[at] ^ 4]) + data[at + 1 :])
+        for words in (("import", "--no-header", "d", "/dev/null"), ("delete-rows", "d", "6.6", "0", "0")):
+            status, _, err = room.run(*words)
+            # What is in a head and does no harm to it, as the number of batches, is not seen by who reads heads alone.
+            assert status == 0 or err == f"refused Damaged\nd/{part}: {DAMAGED}\n".encode(), f"{words} at {at} said {err!r}"
+            damaged += status
+    assert damaged > 20
+    room.put("d/" + part, data)
+
+
+def a_name_that_leads_nowhere_is_told_by_each_command(room):
+    make_folder(room, loads=2)
+    name = name_of(b"nowhere")
+    os.symlink("nowhere", room.path("d/" + name))
+    for words in (*READERS, ("import", "--no-header", "d", "/dev/null"), ("delete-rows", "d", "6.6", "0", "0"), ("import", "--no-header", "--batch", "9.9", "d", "/dev/null"), ("apply", "d", "d"), ("offer", "d", "s")):
+        if words[0] in ("apply", "offer"):
+            room.put("s", b"")
+            words = (words[0], "d", "s")
+        room.refused(*words, line="refused ReadFault", sentence=f"d/{name}: no such file or folder")
+    os.remove(room.path("d/" + name))
+    assert count(room) == 4
+
+
 TESTS = [
     a_flipped_bit_is_seen_by_each_command_and_named,
+    a_flipped_bit_in_a_head_is_damage,
+    a_name_that_leads_nowhere_is_told_by_each_command,
     a_damaged_smallest_part_is_seen_by_an_import,
     half_a_part_and_an_empty_one_are_damaged,
     a_part_that_is_there_and_damaged_is_not_taken_for_the_new_one,

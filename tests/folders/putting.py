@@ -81,6 +81,9 @@ def a_pack_is_on_the_disk_before_anything_is_removed_under_the_lock(room):
             r"link.*\"d/\.part-[0-9a-f]{16}\".*\"d/[0-9a-f]{32}\.lanes\".* = 0",
             r"fsync\([0-9]+<[^>]*/d>\) += 0",
             r"flock\(.*/d>, LOCK_EX\|LOCK_NB\) += 0",
+            r"openat\(.*\"d/[0-9a-f]{32}\.lanes\", O_RDONLY",
+            r"fsync\(.*/d/[0-9a-f]{32}\.lanes>\) += 0",
+            r"fsync\([0-9]+<[^>]*/d>\) += 0",
             r"unlink.*\"d/[0-9a-f]{32}\.lanes\"",
             r"unlink.*\"d/[0-9a-f]{32}\.lanes\"",
             r"unlink.*\"d/[0-9a-f]{32}\.lanes\"",
@@ -90,9 +93,72 @@ def a_pack_is_on_the_disk_before_anything_is_removed_under_the_lock(room):
             r"write\(1<.*ok parts=1 packed=4",
         ),
     )
+    assert trace.count(f"\"d/{parts_of(room)[0]}\", O_RDONLY") == 1, "the pack is not synced by the handle that read it"
     placed = trace.index("link")
     assert not re.search(r"unlink.*\"d/[0-9a-f]{32}\.lanes\"", trace[:placed]), "a part was removed before the pack was in its place"
     assert f"unlink(\"d/{parts_of(room)[0]}\"" not in trace and f"\"d/{parts_of(room)[0]}\", 0) = 0" not in trace
+
+
+def a_pack_that_is_not_known_to_be_on_the_disk_removes_nothing(room):
+    # The syncs are those of the temporary, of the folder, and under the lock of the pack and of the folder.
+    for when in ("2", "3", "4", "2+"):
+        folder = f"d{when}"
+        make_folder(room, folder, loads=3)
+        before = set(parts_of(room, folder))
+        trace, status, err = traced(room, "pack", "--all", folder, options=("-e", f"inject=fsync:error=EIO:when={when}"))
+        assert "INJECTED" in trace
+        said = f"refused WriteFault\n{folder}: the joined part was added, but it could not be synced, so no part is removed\n"
+        assert status == 1 and err == said.encode(), f"at {when} it said {err!r}"
+        left = set(parts_of(room, folder))
+        assert before < left and len(left) == len(before) + 1, f"at {when} the folder has {left}"
+        assert count(room, folder) == 6
+        room.ok("pack", "--all", folder, prints=b"ok parts=1 packed=4\n")
+        assert count(room, folder) == 6
+
+
+def a_pack_looks_under_the_lock_at_its_part_before_it_removes(room):
+    for fault in ("other", "gone"):
+        make_folder(room, fault, loads=3)
+        before = set(parts_of(room, fault))
+        lock = os.open(room.path(fault), os.O_RDONLY)
+        fcntl.flock(lock, fcntl.LOCK_SH)
+        packing = room.start("pack", "--all", fault)
+        deadline = time.monotonic() + 8
+        while not set(parts_of(room, fault)) - before and time.monotonic() < deadline:
+            time.sleep(0.05)
+        # It has put its part, and waits for the lock.
+        (pack,) = set(parts_of(room, fault)) - before
+        if fault == "other":
+            room.put(f"{fault}/{pack}", b"other bytes")
+        else:
+            os.remove(room.path(f"{fault}/{pack}"))
+        os.close(lock)
+        status, err = packing.wait(60), packing.stderr.read()
+        if fault == "other":
+            assert status == 1 and err.startswith(f"refused Damaged\n{fault}/{pack}: ".encode()), f"it said {err!r}"
+            os.remove(room.path(f"{fault}/{pack}"))
+            assert set(parts_of(room, fault)) == before
+        assert count(room, fault) == 6
+
+
+def a_part_that_is_there_already_is_synced_by_the_handle_that_read_it(room):
+    make_folder(room)
+    room.ok("delete-rows", "d", "5.5", "1", "1")
+    before = parts_of(room)
+    trace, status, err = traced(room, "delete-rows", "d", "5.5", "1", "1")
+    assert status == 0 and parts_of(room) == before, f"it said {err!r}"
+    put = trace[trace.index("link") :]
+    in_order(
+        put,
+        (
+            r"link.*EEXIST",
+            r"openat\(.*\"d/[0-9a-f]{32}\.lanes\", O_RDONLY",
+            r"fsync\(.*/d/[0-9a-f]{32}\.lanes>\) += 0",
+            r"fsync\([0-9]+<[^>]*/d>\) += 0",
+            r"write\(1<.*ok",
+        ),
+    )
+    assert len(re.findall(r"openat\(.*\.lanes\", O_RDONLY", put)) == 1
 
 
 def a_folder_is_made_all_at_once(room):
@@ -286,9 +352,149 @@ def of_two_loads_of_one_name_at_once_one_is_refused(room):
         only_parts(room)
 
 
+def offered(room, name, rows):
+    """A file whose batch 7.1 has these rows."""
+    room.ok("create", name, "T", "A", "SMALLINT", "B", "BIGINT")
+    room.ok("import", "--no-header", "--batch", "7.1", name, "-", given=rows)
+
+
+def of_two_applies_at_once_that_disagree_one_is_refused(room):
+    offered(room, "one", b"1,1\n")
+    offered(room, "other", b"2,2\n")
+    conflict = b"refused Conflict 7.1\nboth have a batch 7.1, with different rows\n"
+    named = ("import", "--no-header", "--batch", "7.1")
+    for turn, (first, second) in enumerate(
+        (
+            (("apply", "d", "one"), ("apply", "d", "other")),
+            (("apply", "d", "one"), (*named, "d", "2.csv")),
+            ((*named, "d", "1.csv"), ("apply", "d", "other")),
+        )
+    ):
+        folder = f"d{turn}"
+        make_folder(room, folder)
+        lock = os.open(room.path(folder), os.O_RDONLY)
+        fcntl.flock(lock, fcntl.LOCK_SH)
+        room.put("1.csv", b"1,1\n")
+        room.put("2.csv", b"2,2\n")
+        commands = [room.start(*(folder if word == "d" else word for word in words)) for words in (first, second)]
+        # Both have looked at the folder, and wait for its lock.
+        deadline = time.monotonic() + 8
+        while len([name for name in os.listdir(room.path(folder)) if name.startswith(".part-")]) < 2 and time.monotonic() < deadline:
+            time.sleep(0.05)
+        os.close(lock)
+        ended = sorted((one.wait(60), one.stderr.read()) for one in commands)
+        assert ended == [(0, b""), (1, conflict)], f"{first} and {second} ended so: {ended}"
+        assert count(room, folder) == 3
+        only_parts(room, folder)
+
+
+def an_apply_that_is_stopped_before_its_lock_sees_what_came_meanwhile(room):
+    offered(room, "one", b"1,1\n")
+    offered(room, "other", b"2,2\n")
+    conflict = b"refused Conflict 7.1\nboth have a batch 7.1, with different rows\n"
+    for words, folder, expected, rows in (("other", "d", (1, conflict), 3), ("one", "e", (0, b""), 3)):
+        make_folder(room, folder)
+        if shutil.which("strace") is None:
+            raise Lacking("strace is not installed")
+        # It is stopped when it has synced its temporary.
+        stopped = ["strace", "-f", "-o", "trace", "-e", "trace=fsync", "-e", "inject=fsync:signal=STOP:when=1", room.program, "apply", folder, words]
+        waiting = subprocess.Popen(stopped, cwd=room.folder, stdin=subprocess.DEVNULL, stdout=subprocess.PIPE, stderr=subprocess.PIPE)
+        deadline = time.monotonic() + 8
+        while "SIGSTOP" not in (room.get("trace").decode() if os.path.exists(room.path("trace")) else "") and time.monotonic() < deadline:
+            time.sleep(0.05)
+        room.ok("apply", folder, "one", prints=b"ok batches=2 ranges=0 new=1\n")
+        process = int(room.get("trace").split()[0])
+        os.kill(process, signal.SIGCONT)
+        _, err = waiting.communicate(timeout=60)
+        assert (waiting.returncode, err) == expected, f"it ended with {waiting.returncode} and said {err!r}"
+        assert count(room, folder) == rows
+        only_parts(room, folder)
+        os.remove(room.path("trace"))
+
+
+def an_answer_that_adds_nothing_syncs_what_it_relies_on(room):
+    make_folder(room)
+    offered(room, "one", b"1,1\n")
+    # The load and the apply are killed before the folder is synced, and sent again.
+    kill = ("-e", "inject=fsync:signal=KILL:when=2")
+    load = ("import", "--no-header", "--batch", "8.8", "d", "-")
+    for words in (load, ("apply", "d", "one")):
+        before = parts_of(room)
+        traced(room, *words, options=kill, given=b"8,8\n")
+        assert len(parts_of(room)) == len(before) + 1, f"{words} put no part before it was killed"
+    held = parts_of(room)
+    for words in (load, ("apply", "d", "one"), ("delete", "d", "A = 77"), ("--quiet", *load)):
+        words = (words[1], words[0], *words[2:]) if words[0] == "--quiet" else words
+        trace, status, err = traced(room, *words, given=b"8,8\n")
+        assert (status, err) == (0, b"") and parts_of(room) == held, f"{words} said {err!r}"
+        in_order(trace, [rf"fsync\(.*/d/{name}>\) += 0" for name in held] + [r"fsync\([0-9]+<[^>]*/d>\) += 0"])
+        said = b"d: nothing was added, but the parts or the folder could not be synced: a loss of power may take parts away\n"
+        for when in (1, len(held) + 1):
+            trace, status, err = traced(room, *words, options=("-e", f"inject=fsync:error=EIO:when={when}"), given=b"8,8\n")
+            assert "INJECTED" in trace and (status, err) == (0, said), f"{words} said {err!r} at {when}"
+    assert parts_of(room) == held
+    only_parts(room)
+
+
+def a_named_load_and_an_apply_are_placed_under_the_lock(room):
+    make_folder(room)
+    offered(room, "one", b"1,1\n")
+    for words in (("import", "--no-header", "--batch", "8.8", "d", "-"), ("apply", "d", "one")):
+        trace, status, err = traced(room, *words, given=b"8,8\n")
+        assert status == 0, f"{words} said {err!r}"
+        in_order(
+            trace,
+            (
+                r"fsync\(.*\.part-[0-9a-f]{16}>\) += 0",
+                r"flock\(.*/d>, LOCK_EX\|LOCK_NB\) += 0",
+                r"getdents64\(",
+                r"link.*\"d/\.part-[0-9a-f]{16}\".*\"d/[0-9a-f]{32}\.lanes\".* = 0",
+                r"fsync\([0-9]+<[^>]*/d>\) += 0",
+                r"flock\(.*/d>, LOCK_UN\)",
+                r"write\(1<.*ok batches=",
+            ),
+        )
+        assert "LOCK_UN" not in trace[trace.index("LOCK_EX|LOCK_NB) = 0\n", trace.index("/d>, LOCK_EX")) : trace.index("link")]
+
+
+def packs_that_meet_choose_anew_and_lose_nothing(room):
+    make_folder(room, loads=60)
+    for is_all in (True, False):
+        packs = [room.start("pack", *(["--all"] if is_all else []), "d") for _ in range(4)]
+        ended = [(one.wait(120), one.stderr.read()) for one in packs]
+        assert ended == [(0, b"")] * 4, f"they ended so: {ended}"
+        assert count(room) == 120
+        for at in range(40):
+            room.ok("import", "--no-header", "d", "-", given=b"7,7\n")
+        for row in range(40):
+            room.ok("delete-rows", "d", "6.6", str(row), str(row))
+        room.ok("delete", "d", "A = 7 AND B = 7", prints=b"ok 40\n")
+    only_parts(room)
+
+
+def a_part_that_is_gone_at_each_look_is_busy_after_ten_seconds(room):
+    if shutil.which("strace") is None:
+        raise Lacking("strace is not installed")
+    make_folder(room, loads=2)
+    part = f"d/{parts_of(room)[0]}"
+    started = time.monotonic()
+    commands = []
+    for at, words in enumerate((("query", "d", "SELECT COUNT(*) FROM T"), ("pack", "--all", "d"), ("import", "--no-header", "d", "/dev/null"), ("merge", "m", "d"))):
+        gone = ["strace", "-f", "-o", f"trace{at}", "-P", part, "-e", "trace=openat", "-e", "inject=openat:error=ENOENT", room.program, *words]
+        commands.append((words, subprocess.Popen(gone, cwd=room.folder, stdin=subprocess.DEVNULL, stdout=subprocess.PIPE, stderr=subprocess.PIPE)))
+    for words, one in commands:
+        _, err = one.communicate(timeout=60)
+        assert one.returncode == 1 and b"refused Busy\n" in err, f"{words} ended with {one.returncode} and said {err!r}"
+        assert time.monotonic() - started > 9, f"{words} ended after {time.monotonic() - started} seconds"
+    assert count(room) == 4
+
+
 TESTS = [
     an_import_lists_under_the_lock_and_syncs_before_it_answers,
     a_pack_is_on_the_disk_before_anything_is_removed_under_the_lock,
+    a_pack_that_is_not_known_to_be_on_the_disk_removes_nothing,
+    a_pack_looks_under_the_lock_at_its_part_before_it_removes,
+    a_part_that_is_there_already_is_synced_by_the_handle_that_read_it,
     a_folder_is_made_all_at_once,
     a_failed_call_leaves_the_folder_as_it_was,
     a_folder_that_can_not_be_synced_is_told_and_the_part_is_there,
@@ -300,4 +506,10 @@ TESTS = [
     what_a_kill_leaves_is_swept_and_no_part_is_half,
     a_temporary_that_is_held_is_not_swept,
     of_two_loads_of_one_name_at_once_one_is_refused,
+    of_two_applies_at_once_that_disagree_one_is_refused,
+    an_apply_that_is_stopped_before_its_lock_sees_what_came_meanwhile,
+    an_answer_that_adds_nothing_syncs_what_it_relies_on,
+    a_named_load_and_an_apply_are_placed_under_the_lock,
+    packs_that_meet_choose_anew_and_lose_nothing,
+    a_part_that_is_gone_at_each_look_is_busy_after_ten_seconds,
 ]

@@ -54,7 +54,7 @@ FOLDER = {"d/kept": b"old"}
 WIDER = ONE_ROW[:29] + b"\x01" + ONE_ROW[30:34] + bytes(128) + ONE_ROW[34:]
 
 # All commands.
-COMMANDS = ["create", "import", "query", "part", "combine", "finish", "delete", "delete-rows", "forget", "dump", "inspect", "summary", "offer", "apply", "check", "merge", "run"]
+COMMANDS = ["create", "import", "query", "partial", "combine", "finish", "delete", "delete-rows", "forget", "dump", "inspect", "summary", "offer", "apply", "check", "merge", "run"]
 
 
 # Batches of one row and of two, and which rows of them are deleted.
@@ -117,7 +117,7 @@ CASES = [
     Case("help names the commands, shows an example and names the page of the script language", ["--help"], 0, [b"Usage: lanes <COMMAND>", *(f"\n  {name} ".encode() for name in COMMANDS), b"--version", b"table 2 T A SMALLINT", b"docs/FORMATS.md"]),
     Case("help of a command shows an example and names the page of the script language", ["run", "--help"], 0, [b"Usage: lanes run [OPTIONS] [SCRIPT]", b"--explain", b"table 2 T A SMALLINT", b"docs/FORMATS.md"]),
     Case("help of merge says what becomes of the file that is written", ["merge", "--help"], 0, [b"Usage: lanes merge [OPTIONS] <OUT> <IN>...", b"OUT is replaced as a whole", b"stays as it was if the merge is refused"]),
-    Case("the version is a line", ["--version"], 0, b"lanes 0.5.1\n"),
+    Case("the version is a line", ["--version"], 0, b"lanes 0.6.0\n"),
     Case(
         "refused lines are explained where that is asked for, and the replies stay as they are",
         ["run", "--explain"],
@@ -238,6 +238,9 @@ CASES = [
     Case("a separator that a number has is one too", ["import", "--separator", "-", "t", "-"], 2, err=[b"C is one ASCII character"], files={"t": ONE_ROW}),
     Case("a further word is a null if it is given", ["import", "--null", "NA", "--no-header", "--batch", "2.1", "t", "-"], 0, b"ok batches=1 new=1 rows=3 first=2.1\n", input=b'NA\n"NA"\nNULL\n', files={"t": ONE_ROW}),
     Case("it is exactly that word", ["import", "--null", "NA", "--no-header", "t", "v"], 1, err=b'refused BadCsv 1 1\nv, line 1, column A: "na" is not a whole number\n', files={"t": ONE_ROW, "v": b"na\n"}, writes={"t": ONE_ROW}),
+    Case("a word may have quotes of its own", ["import", "--null", '"7"', "--no-header", "--batch", "2.1", "t", "-"], 0, b"ok batches=1 new=1 rows=1 first=2.1\n", input=b'7\n', files={"t": ONE_ROW}, writes={"t": BOTH}),
+    Case("a number of 31 digits is a word like another", ["import", "--null", "9" * 31, "--no-header", "--batch", "2.1", "t", "-"], 0, b"ok batches=1 new=1 rows=1 first=2.1\n", input=b"9" * 31 + b"\n", files={"t": ONE_ROW}),
+    Case("one of 30 digits is none", ["import", "--null", "9" * 30, "t", "-"], 2, err=[b"WORD is a number"], files={"t": ONE_ROW}),
     Case("the fields are those that words name if they are given", ["import", "--columns", "B,-,a", "--batch", "2.1", "t", "-"], 0, b"ok batches=1 new=1 rows=1 first=2.1\n", input=b"x,y,z\n8,?,7\n", files={"t": NO_PAIR}, writes={"t": ONE_PAIR}),
     Case("a word that names no column is refused with those that are there", ["import", "--columns", "A,-,C", "t", "-"], 1, err=b'refused NoSuchColumn 4\n--columns, byte 4: there is no column "C": the table has A, B\n', input=b"x,y,z\n", files={"t": NO_PAIR}, writes={"t": NO_PAIR}),
     Case("the file is judged before that", ["import", "--columns", "C", "t", "-"], 1, err=[b"refused Truncated 0\n"], files={"t": b""}),
@@ -269,6 +272,8 @@ CASES = [
     Case("columns are dumped in the order of their names", ["dump", "--names", "--columns", "a,A", "t"], 0, b"BATCH,ORDINAL,A,A\n1.1,0,7,7\n2.1,0,7,7\n", files={"t": BOTH}),
     Case("an empty condition and an empty list are all rows and columns", ["dump", "--where", "", "--columns", "", "t"], 0, b"A\n7\n7\n", files={"t": BOTH}),
     Case("a column that isn't there is not dumped", ["dump", "--columns", "A,B", "t"], 1, err=b'refused NoSuchColumn 2\n--columns, byte 2: there is no column "B": the table has A\n', files={"t": BOTH}),
+    Case("names of columns that begin with hyphens are names", ["dump", "--columns", "--x", "t"], 1, err=b'refused NoSuchColumn 0\n--columns, byte 0: there is no column "--x": the table has A\n', files={"t": BOTH}),
+    Case("two hyphens are one too", ["dump", "--columns", "--", "t"], 1, err=b'refused NoSuchColumn 0\n--columns, byte 0: there is no column "--": the table has A\n', files={"t": BOTH}),
     Case("a dump's condition of a column that isn't there is refused", ["dump", "--where", "B = 7", "t"], 1, err=b'refused NoSuchColumn 0\n--where, byte 0: there is no column "B": the table has A\n', files={"t": BOTH}),
     Case("a dump's condition that is none is refused before its columns are", ["dump", "--where", "A =", "--columns", "B", "t"], 1, err=b"refused Syntax 3\n--where, byte 3: the text ends too early; expected is a column or a whole number\n", files={"t": BOTH}),
     Case("help of dump tells of its options", ["dump", "--help"], 0, [b"--where <COND>", b"--columns <NAMES>"]),

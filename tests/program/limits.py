@@ -3,7 +3,9 @@
 What is wanted is worked out here from the input, by rules of its own, never from what the program wrote.
 """
 
-from cases import SECOND_BATCH, Case, batch, file_of
+import hashlib
+
+from cases import ONE_ROW, SECOND_BATCH, Case, batch, file_of
 
 BATCHES = 1_048_576
 MESSAGES = 65_536
@@ -109,8 +111,39 @@ def lines_of_queries(name, *lengths, refused=None):
     return Case(name, ["query", "t", "-"], 1 if refused else 0, b"COUNT(*)\n1\n" * len(kept), told, b"".join(query_line(length) + b"\n" for length in lengths), files={"t": SECOND_BATCH})
 
 
+def many_words():
+    """An import whose --columns has 96 words: the 32 columns of a table, each between two fields that are passed over."""
+    head = b"FLCF" + bytes([1, 0, 32, 0, 1]) + b"T" + b"".join(bytes([2, len(name)]) + name for name in (b"C%d" % column for column in range(32)))
+    row = batch(1, 1, 0) + b"".join(bytes(5) + column.to_bytes(2, "little") for column in range(1, 32))
+    words = ",".join(f"-,C{column},-" for column in reversed(range(32)))
+    line = ",".join(f"x,{column}," for column in reversed(range(32)))
+    return Case(
+        "an import takes 96 words for its fields",
+        ["import", "--no-header", "--columns", words, "--batch", "1.1", "t", "-"],
+        0,
+        b"ok batches=1 new=1 rows=1 first=1.1\n",
+        input=lines(line),
+        files={"t": head + bytes(12)},
+        writes={"t": head + bytes([1, 0, 0, 0]) + row + bytes(8)},
+    )
+
+
 FULL_FILE = file_of(b"T", *(batch(1, number, 7) for number in range(1, BATCHES + 1)))[:-8] + ranges_of(10_000)
 NO_BATCHES = file_of(b"T")
+
+
+def folder_of(*files):
+    """A folder d that has each of these files as a part."""
+    return {f"d/{hashlib.sha512(data).hexdigest()[:32]}.lanes": data for data in files}
+
+
+def no_room(name):
+    return f"refused Full\n{name}: there is no room: a replica holds at most 1,048,576 batches, a script 65,536 messages\n".encode()
+
+
+# A folder with a batch that lies in two parts, which counts twice where only the heads are read.
+FULL_FOLDER, FULLER_FOLDER = folder_of(FULL_FILE), folder_of(FULL_FILE, ONE_ROW)
+NO_ROWS = b"ok batches=0 new=0 rows=0\n"
 
 # Each batch but the last is deleted.
 ALL_BATCHES = [batch(1, number, 7) for number in range(1, BATCHES + 1)]
@@ -122,6 +155,7 @@ LIMIT_CASES = [
     full_messages(),
     many_ranges(),
     many_columns(),
+    many_words(),
     many_groups(),
     long_where("a megabyte of OR is answered", "OR", 7, 2),
     long_where("a megabyte of AND is answered", "AND", 8, 0),
@@ -140,6 +174,12 @@ LIMIT_CASES = [
         writes={"t": file_of(b"T", ALL_BATCHES[-1], ranges=ALL_RANGES)},
     ),
     Case("one batch more is refused in a full file", ["merge", "out", "t", "u"], 1, err=b"refused Full\nu: there is no room: a replica holds at most 1,048,576 batches, a script 65,536 messages\n", files={"t": FULL_FILE, "u": SECOND_BATCH}, writes={"out": None}),
+    *(
+        Case(f"{what} into {where} is refused" if rows else f"no rows go into {where}, {what}", ["import", "--no-header", *named, target, "-"], 1 if rows else 0, b"" if rows else NO_ROWS, no_room(target) if rows else b"", input=rows, files=files, writes=files)
+        for where, target, files in (("a full file", "t", {"t": FULL_FILE}), ("a full folder", "d", FULL_FOLDER), ("a folder that counts a batch twice", "d", FULLER_FOLDER))
+        for what, named in (("a load under a drawn name", []), ("a named load", ["--batch", "2.1"]))
+        for rows in (b"7\n", b"")
+    ),
     Case("a file that claims a batch too many is refused", ["check", "t"], 1, err=b"refused BadCount 13\nt, byte 13: the count is out of range\n", files={"t": NO_BATCHES[:13] + (BATCHES + 1).to_bytes(4, "little") + NO_BATCHES[17:]}),
     Case("a file that claims batches that aren't there is cut short", ["check", "t"], 1, err=b"refused Truncated 17\nt, byte 17: the bytes end too early\n", files={"t": NO_BATCHES[:13] + BATCHES.to_bytes(4, "little")}),
     Case("a file that claims ranges that aren't there is cut short", ["check", "t"], 1, err=b"refused Truncated 25\nt, byte 25: the bytes end too early\n", files={"t": NO_BATCHES[:17] + bytes([255] * 8)}),

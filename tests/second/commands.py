@@ -11,6 +11,8 @@ from scripts import NAMES, Maker
 from texts import MARK, batches_of, dumped, in_form, inspected, inspected_as_json, read_rows
 
 STRAY = ["+5", "1.0", "1e3", " 5", "5 ", "null", '""', '"5', '5"', "--1", "-", "9" * 31, '"1"2', "\\n", "x", "7\t", "\u00e9", '"NULL', "\\N\\N", "0x1"]
+# Words for a null: with quotes of their own, of hyphens, of digits that are too many, and nothing at all.
+WORDS = ["NA", '"5"', '"NA"', "--", "-", "", "9" * 31, "5 ", '"', '""', "+5"]
 FORMS = ("text", "csv", "json", "table")
 STEPS = 12
 
@@ -51,9 +53,11 @@ class Site(Maker):
         return None if found == wanted else f"{words} {given[:300]!r}\n  second {str(wanted)[:400]}\n  program {str(found)[:400]}"
 
     # ---- loads
-    def field(self, bits):
+    def field(self, bits, word=None):
         if self.pick.random() < 0.01:
             return self.pick.choice(STRAY)
+        if word is not None and self.pick.random() < 0.2:
+            return self.pick.choice(["{}", '"{}"']).format(word)
         top = 1 << bits - 1
         value = self.cell(bits) if self.pick.random() < 0.99 else self.pick.choice([top, -top - 1])
         if value is None:
@@ -61,10 +65,10 @@ class Site(Maker):
         digits = self.pick.choice(["", "", "00"]) + str(abs(value))
         return self.pick.choice(["{}", "{}", '"{}"']).format(("-" if value < 0 else "") + digits)
 
-    def line(self, order):
+    def line(self, order, word):
         if self.pick.random() < 0.05:
             return ""
-        fields = [self.field(BITS[self.schema.columns[place][1]]) for place in order]
+        fields = [self.field(BITS[self.schema.columns[place][1]], word) for place in order]
         if self.pick.random() < 0.01:
             fields = self.pick.choice([fields[1:], fields + ["1"]])
         return ",".join(fields)
@@ -77,11 +81,11 @@ class Site(Maker):
             names.append("A")
         return ",".join(self.pick.choice(["{}", '"{}"']).format(self.pick.choice([name, name.lower()])) for name in names)
 
-    def text(self, has_header):
+    def text(self, has_header, word):
         order = list(range(len(self.schema.columns)))
         if has_header:
             self.pick.shuffle(order)
-        lines = [self.header(order)] * has_header + [self.line(order) for _ in range(self.pick.choice([0, 1, 2, 5, 20]))]
+        lines = [self.header(order)] * has_header + [self.line(order, word) for _ in range(self.pick.choice([0, 1, 2, 5, 20]))]
         ends = [self.pick.choice(["\n", "\n", "\r\n"]) for _ in lines]
         text = "".join(line + end for line, end in zip(lines, ends))
         if self.pick.random() < 0.3:
@@ -90,8 +94,9 @@ class Site(Maker):
 
     def load(self):
         has_header = self.pick.random() < 0.6
-        given = self.text(has_header)
-        self.loads.append((self.some_load_name(), has_header, given))
+        word = self.pick.choice(WORDS) if self.pick.random() < 0.2 else None
+        given = self.text(has_header, word)
+        self.loads.append((self.some_load_name(), has_header, word, given))
         return self.imported(*self.loads[-1])
 
     def load_again(self):
@@ -100,10 +105,10 @@ class Site(Maker):
     def some_load_name(self):
         return self.pick.choice([(0, 1), (1, 0), *[(1, at) for at in range(1, 6)], *[(2**32 - 1, 2**32 - 1)], (7, len(self.loads) + 1)])
 
-    def imported(self, name, has_header, given):
-        words = ["import", "--batch", f"{name[0]}.{name[1]}", *["--no-header"] * (not has_header), "t", "-"]
+    def imported(self, name, has_header, word, given):
+        words = ["import", "--batch", f"{name[0]}.{name[1]}", *["--no-header"] * (not has_header), *["--null", word][: 2 * (word is not None)], "t", "-"]
         try:
-            wanted = self.taken(name, read_rows(given, self.schema, has_header))
+            wanted = self.taken(name, read_rows(given, self.schema, has_header, None if word is None else word.encode()))
         except Fault as fault:
             wanted = fault
         return self.compared(words, wanted, given)
@@ -160,12 +165,26 @@ class Site(Maker):
     def dump_some(self):
         text, names = self.text_of(self.changed(self.condition(2, self.row_operand))), self.schema.names()
         columns = self.pick.choices(names, k=self.pick.choice([1, 1, 2, 3]))
+        if self.pick.random() < 0.1:
+            columns[self.pick.randrange(len(columns))] = self.pick.choice(["--", "--X", "-", "NOPE"])
         try:
-            kept = set(names_where(read_condition(text, names), self.state.live_named(), names)) if text else None
-            wanted = dumped(self.schema, self.state, False, columns, kept)
+            wanted = self.some_dumped(text, columns)
         except Fault as fault:
             wanted = fault
         return self.compared(["dump", "--where", text, "--columns", ",".join(columns).lower(), "t"], wanted)
+
+    def some_dumped(self, text, columns):
+        """What a dump writes. The faults of a condition's text come before a column that isn't there, and its own columns after that."""
+        names = self.schema.names()
+        lacking = [len(",".join([*columns[:at], ""])) for at, name in enumerate(columns) if name not in names]
+        try:
+            kept = set(names_where(read_condition(text, names), self.state.live_named(), names)) if text else None
+        except Fault as fault:
+            if not lacking or not str(fault).startswith("NoSuchColumn"):
+                raise
+        if lacking:
+            raise Fault(f"NoSuchColumn {lacking[0]}")
+        return dumped(self.schema, self.state, False, columns, kept)
 
     def ask(self):
         text = self.query().removeprefix("query  ")

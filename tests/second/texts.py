@@ -32,17 +32,20 @@ def header_order(line, names):
         raise Fault("BadCsv 1 0")
     order = []
     for at, field in enumerate(fields, 1):
-        quoted = len(field) > 1 and field[:1] == b'"' == field[-1:]
-        name = (field[1:-1] if quoted else field).decode("latin-1").upper()
+        name = unquoted(field).decode("latin-1").upper()
         if name not in names or names.index(name) in order:
             raise Fault(f"BadCsv 1 {at}")
         order.append(names.index(name))
     return order
 
 
-def cell_of(field, bits):
-    """The cell that a field stands for, or False where it is none of its column's type."""
-    if field in NULLS:
+def unquoted(field):
+    return field[1:-1] if len(field) > 1 and field[:1] == b'"' == field[-1:] else field
+
+
+def cell_of(field, bits, word=None):
+    """The cell that a field is, or False if it is none of its column's type. A further word is a null, in quotes too."""
+    if field in NULLS or word in (field, unquoted(field)):
         return None
     if not NUMBER.fullmatch(field):
         return False
@@ -50,8 +53,8 @@ def cell_of(field, bits):
     return value if -(1 << bits - 1) <= value < 1 << bits - 1 else False
 
 
-def read_rows(text, schema, has_header):
-    """The rows of a text, or its first fault."""
+def read_rows(text, schema, has_header, word=None):
+    """The rows of a text, or its first fault, where a further word may be a null."""
     names, bits, rows = schema.names(), schema.bits(), []
     order, first, lines = list(range(len(names))), 1, lines_of(text)
     if has_header:
@@ -64,7 +67,7 @@ def read_rows(text, schema, has_header):
             raise Fault(f"BadCsv {number} 0")
         row = [None] * len(names)
         for at, (field, place) in enumerate(zip(fields, order), 1):
-            cell = cell_of(field, bits[place])
+            cell = cell_of(field, bits[place], word)
             if cell is False:
                 raise Fault(f"BadCsv {number} {at}")
             row[place] = cell

@@ -1,4 +1,4 @@
-//! Tests of bit_interleave: packing and unpacking of vectors, arithmetic modulo powers of two, and words where a growth is refused.
+//! Tests of bit_interleave: packed words at values worked out by hand, and where a growth is refused.
 #![tactic(auto)]
 
 #[cfg(test)]

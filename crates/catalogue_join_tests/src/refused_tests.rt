@@ -1,7 +1,6 @@
 //! Calls of sets, each with a growth refused. A test's own growths are counted from 1: with the Nth refused, a test fails by an
 //! `AllocError` of its set-up, or, where it was a growth of the call that it is of, as `growth_refused` says; with none refused
-//! it passes. The command `tests/refused-memory` refuses each in turn and counts those texts. A call whose test's name ends in
-//! `grows_nowhere` has none to refuse.
+//! it passes. The command `tests/refused-memory` refuses each in turn and counts those texts.
 use crate::row_list_tests::{rows_at, set_of};
 use crate::tests::{batch, held_of, row};
 use catalogue_join::{Held, Tombs};
@@ -147,20 +146,6 @@ fn insert_rows(tombs: &mut Tombs) -> Result<(), Fail> {
 fn a_refused_insert_of_rows_leaves_the_set(rt: HostRuntime) -> Result<(), Fail> {
     let mut tombs = tombs_with(rt.alloc(), &RANGES)?;
     insert_rows(&mut tombs)
-}
-
-/// Inserts rows 6 to 8 in a set with the ranges of these tests, which has them.
-fn insert_rows_again(tombs: &mut Tombs) -> Result<(), Fail> {
-    match tombs.insert(row(1, 6), 8) {
-        Ok(()) => Ok(()),
-        Err(AllocError) => growth_refused(has_ranges(tombs, &RANGES)),
-    }
-}
-
-#[test]
-fn an_insert_of_deleted_rows_grows_nowhere(rt: HostRuntime) -> Result<(), Fail> {
-    let mut tombs = tombs_with(rt.alloc(), &RANGES)?;
-    insert_rows_again(&mut tombs)
 }
 
 /// Joins another set to a set with the ranges of these tests.

@@ -1,12 +1,8 @@
-//! Tests of column_file: files and messages in bytes, at worked bytes and places, and where a reader, a writer or a growth fails.
+//! Tests of column_file: files and messages in bytes worked out by hand, and where a reader, a writer or a growth fails.
 #![tactic(auto)]
 
 #[cfg(test)]
-mod coding_tests;
-#[cfg(test)]
 mod file_tests;
-#[cfg(test)]
-mod filling_tests;
 #[cfg(test)]
 mod refused_tests;
 #[cfg(test)]

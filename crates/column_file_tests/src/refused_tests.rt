@@ -1,10 +1,10 @@
 //! Calls that read and write files and messages, each with a growth refused. A test's own growths are counted from 1: with the
 //! Nth refused, a test fails by an `AllocError` or `Memory` of its set-up, or, where it was a growth of the call that it is of,
 //! with the text `REFUSED` or `CHANGED`; with none refused it passes. The command `tests/refused-memory` refuses each in turn and
-//! counts those texts. A call whose test's name ends in `grows_nowhere` has none to refuse.
-use crate::file_tests::{THREE_ROWS, ZEROS, changed, offer_from, opened};
+//! counts those texts.
+use crate::file_tests::{THREE_ROWS, ZEROS, changed, opened};
 use crate::tests::TWO_NAMES;
-use column_file::{check, export, open, read_offer, read_summary, write_offer, write_summary};
+use column_file::{check, export, open, read_offer, read_summary};
 use replica_store::{Offer, Store};
 use segment_core::Coding;
 use std::alloc::Global;
@@ -163,38 +163,4 @@ fn is_exported_again(rt: &impl Abort, alloc: Global, bytes: &[u8]) -> Result<(),
 fn a_refused_export_writes_nothing(rt: HostRuntime) -> Result<(), Fail> {
     let bytes = changed(rt.alloc(), &THREE_ROWS)?;
     is_exported_again(&rt, rt.alloc(), &bytes)
-}
-
-/// What writing an offer that has these bytes ends as.
-fn is_written(rt: &impl Abort, offer: &Offer, bytes: &[u8]) -> Result<(), Fail> {
-    let mut room = [0; ROOM];
-    match write_offer(offer, &mut Counted::new(room.as_mut_slice())) {
-        Ok(()) => assert!(rt; begins_with(&room, bytes)),
-        Err(fault) => return refused(fault, 0, false),
-    }
-    Ok(())
-}
-
-/// The same for the offer that bytes are.
-fn is_written_again(rt: &impl Abort, alloc: Global, bytes: &[u8]) -> Result<(), Fail> {
-    let offer = offer_from(alloc, bytes)?;
-    is_written(rt, &offer, bytes)
-}
-
-#[test]
-fn a_written_offer_grows_nowhere(rt: HostRuntime) -> Result<(), Fail> {
-    let bytes = changed(rt.alloc(), &THREE_ROWS)?;
-    is_written_again(&rt, rt.alloc(), &bytes)
-}
-
-#[test]
-fn a_written_summary_grows_nowhere(rt: HostRuntime) -> Result<(), Fail> {
-    let alloc = rt.alloc();
-    let summary = read_summary(alloc, &mut Counted::new(TWO_NAMES))?;
-    let mut room = [0; ROOM];
-    match write_summary(&summary, &mut Counted::new(room.as_mut_slice())) {
-        Ok(()) => assert!(rt; begins_with(&room, TWO_NAMES)),
-        Err(fault) => return refused(fault, 0, false),
-    }
-    Ok(())
 }

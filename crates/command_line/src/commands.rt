@@ -3,7 +3,7 @@ ghost use Rattle.std.specs.Prelude.{IfErr};
 ghost use Rattle.command_line.specs.Outcome.{IsUnread};
 
 use crate::fault::Fault;
-use crate::part_forms::{combine_command, finish_command, part_command};
+use crate::partial_answer_forms::{combine_command, finish_command, partial_command};
 use crate::requests::{CsvForm, Queries, Request, Source};
 use crate::words;
 use answer_formats::Format;
@@ -13,7 +13,7 @@ use std::alloc::{AllocError, Global};
 use table_model::{BatchName, RowName};
 
 /// The program's version.
-const VERSION: &str = "0.5.1";
+const VERSION: &str = "0.6.0";
 
 /// What is shown below the help of the program and that of `lanes run`.
 const SCRIPT_HELP: &str =
@@ -43,6 +43,9 @@ const SEPARATOR_FAULT: &str =
 const FORGET_HELP: &str =
     "Pull from the other sites first. Deletions stay, and a batch's name stays used up for ever: docs/COMMANDS.md says when to forget.";
 
+/// The name that `lanes partial` had up to 0.5. It is read for one release more.
+const FORMER_PARTIAL: &str = "part";
+
 /// A command.
 #[derive(Clone, Copy, Debug, PartialEq, Eq)]
 enum Verb {
@@ -53,7 +56,7 @@ enum Verb {
     DeleteRows,
     Forget,
     Query,
-    Part,
+    Partial,
     Combine,
     Finish,
     Dump,
@@ -71,7 +74,7 @@ const VERBS: [Verb; 18] = [
     Verb::Create,
     Verb::Import,
     Verb::Query,
-    Verb::Part,
+    Verb::Partial,
     Verb::Combine,
     Verb::Finish,
     Verb::Delete,
@@ -92,7 +95,7 @@ const VERBS: [Verb; 18] = [
 pub fn read_request<'a>(alloc: Global, words: &'a [String]) -> Result<Request<'a>, Fault>
     ensures { IfErr result IsUnread }
 {
-    let matches = commands(alloc)?.try_get_matches_from(words)?;
+    let matches = commands_asked(alloc, words)?.try_get_matches_from(words)?;
     let Some((name, given)) = matches.subcommand() else {
         return Err(fault(
             commands(alloc)?,
@@ -108,6 +111,19 @@ pub fn read_request<'a>(alloc: Global, words: &'a [String]) -> Result<Request<'a
             "there is no such command",
         )),
     }
+}
+
+/// The program's commands, with the former name of one if that is asked for: no help and no fault names it.
+fn commands_asked<'a>(alloc: Global, words: &[String]) -> Result<Command<'a>, AllocError> {
+    let command = commands(alloc)?;
+    if words
+        .get(1)
+        .is_some_and(|word| word.as_str() == FORMER_PARTIAL)
+    {
+        let former = Command::new(alloc, FORMER_PARTIAL).bin_name("lanes partial")?;
+        return command.subcommand(partial_command(alloc, former)?);
+    }
+    Ok(command)
 }
 
 /// The program's commands.
@@ -153,7 +169,7 @@ impl Verb {
             Verb::DeleteRows => "delete-rows",
             Verb::Forget => "forget",
             Verb::Query => "query",
-            Verb::Part => "part",
+            Verb::Partial => "partial",
             Verb::Combine => "combine",
             Verb::Finish => "finish",
             Verb::Dump => "dump",
@@ -169,6 +185,9 @@ impl Verb {
 
     /// The command of this word.
     fn named(name: &str) -> Option<Verb> {
+        if name == FORMER_PARTIAL {
+            return Some(Verb::Partial);
+        }
         for verb in VERBS {
             if verb.name() == name {
                 return Some(verb);
@@ -190,7 +209,7 @@ impl Verb {
             Verb::DeleteRows => delete_rows_command(alloc, command),
             Verb::Forget => forget_command(alloc, command),
             Verb::Query => query_command(alloc, command),
-            Verb::Part => part_command(alloc, command),
+            Verb::Partial => partial_command(alloc, command),
             Verb::Combine => combine_command(alloc, command),
             Verb::Finish => finish_command(alloc, command),
             Verb::Dump => dump_command(alloc, command),
@@ -223,13 +242,13 @@ impl Verb {
                 is_quiet: given.get_flag("quiet"),
             }),
             Verb::Query => self.query_request(alloc, given),
-            Verb::Part => Ok(Request::Part {
+            Verb::Partial => Ok(Request::Partial {
                 file: Source::named(text_of(given, "FILE")),
                 sql: text_of(given, "SQL"),
             }),
             Verb::Combine => self.combine_request(alloc, given),
             Verb::Finish => Ok(Request::Finish {
-                part: Source::named(text_of(given, "PART")),
+                partial: Source::named(text_of(given, "PARTIAL")),
                 format: self.format(alloc, given)?,
             }),
             Verb::Dump => Ok(Request::Dump {
@@ -431,12 +450,12 @@ impl Verb {
     ) -> Result<Request<'a>, Fault>
         ensures { IfErr result IsUnread }
     {
-        let names = given.get_strs("PART").unwrap_or(&[]);
-        let parts = words::sources(alloc, names)?;
-        if words::inputs(parts.as_slice()) > 1 {
-            return Err(self.fault(alloc, "only one PART can be -"));
+        let names = given.get_strs("PARTIAL").unwrap_or(&[]);
+        let partials = words::sources(alloc, names)?;
+        if words::inputs(partials.as_slice()) > 1 {
+            return Err(self.fault(alloc, "only one PARTIAL can be -"));
         }
-        Ok(Request::Combine { parts })
+        Ok(Request::Combine { partials })
     }
 
     /// What `lanes inspect` asks for.
@@ -672,7 +691,8 @@ fn dump_command<'a>(alloc: Global, command: Command<'a>) -> Result<Command<'a>, 
     let columns = Arg::new(alloc, "columns")
         .long("columns")
         .value_name("NAMES")
-        .help("Only these columns, in this order, with a comma between each two");
+        .help("Only these columns, in this order, with a comma between each two")
+        .allow_hyphen_values(true);
     command
         .about("Writes the rows as comma-separated values")
         .arg(names)?

@@ -3,7 +3,7 @@
 
 mod commands;
 mod fault;
-mod part_forms;
+mod partial_answer_forms;
 mod program_arguments;
 mod requests;
 mod words;

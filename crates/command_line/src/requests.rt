@@ -41,8 +41,8 @@ pub struct CsvForm<'a> {
     pub separator: u8,
     /// A word that is a null besides the usual ones.
     pub null_word: Option<&'a str>,
-    /// What the fields of a line are, if the header does not say it: names of columns, or `-` for a field that is passed over, with a comma
-    /// between each two.
+    /// What the fields of a line are, if the header does not say it: names of columns, or `-` for a field that is passed over, with
+    /// a comma between each two.
     pub columns: Option<&'a str>,
 }
 
@@ -118,22 +118,22 @@ pub enum Request<'a> {
         /// The form of the answers.
         format: Format,
     },
-    /// `lanes part FILE SQL`: what a file gives to the answer of a query over several files, as bytes.
-    Part {
+    /// `lanes partial FILE SQL`: what a file gives to the answer of a query over several files, as bytes.
+    Partial {
         /// Where the file is read from. Its name may be that of a folder.
         file: Source<'a>,
         /// The query.
         sql: &'a str,
     },
-    /// `lanes combine PART..`: the part of all files that some parts are of.
+    /// `lanes combine PARTIAL..`: the partial answer of all files that some partial answers are of.
     Combine {
-        /// Where the parts are read from, at least one.
-        parts: Vec<Source<'a>>,
+        /// Where the partial answers are read from, at least one.
+        partials: Vec<Source<'a>>,
     },
-    /// `lanes finish [--format FORMAT] PART`: the answer of the query that a part is of.
+    /// `lanes finish [--format FORMAT] PARTIAL`: the answer of the query that a partial answer is of.
     Finish {
-        /// Where the part is read from.
-        part: Source<'a>,
+        /// Where the partial answer is read from.
+        partial: Source<'a>,
         /// The form of the answer.
         format: Format,
     },

@@ -3,7 +3,7 @@
 use crate::requests::Source;
 use answer_formats::{Format, ReportForm};
 use std::alloc::{AllocError, Global};
-use table_model::{BatchName, ColType, Number, Origin};
+use table_model::{BatchName, ColType, Number, Origin, magnitude};
 
 /// How many digits an origin or a batch's number has at most.
 const NUMBER_DIGITS: usize = 10;
@@ -129,10 +129,10 @@ fn has_name_twice(words: &str) -> bool {
     false
 }
 
-/// Whether a text is a whole number: an optional minus sign and digits.
+/// Whether a text is a whole number as a field of comma-separated values is one: an optional minus sign and 1 to 30 digits.
 pub fn is_number(text: &str) -> bool {
     let digits = text.strip_prefix('-').unwrap_or(text);
-    !digits.is_empty() && digits.bytes().all(|byte| byte.is_ascii_digit())
+    magnitude(digits.as_bytes()).is_some()
 }
 
 /// How many of these sources are standard input.

@@ -125,10 +125,38 @@ const REQUESTS: [(&[&str], &str); 40] = [
     (&["import", "--separator", "\\", "f", "c"], "fault"),
 ];
 
-const MORE_REQUESTS: [(&[&str], &str); 38] = [
+const MORE_REQUESTS: [(&[&str], &str); 44] = [
     (&["import", "--separator", "\n", "f", "c"], "fault"),
     (&["import", "--null", "-99", "f", "c"], "fault"),
     (&["import", "--null", "0", "f", "c"], "fault"),
+    (
+        &[
+            "import",
+            "--null",
+            "-000000000000000000000000000001",
+            "f",
+            "c",
+        ],
+        "fault",
+    ),
+    (
+        &[
+            "import",
+            "--null",
+            "0000000000000000000000000000001",
+            "f",
+            "c",
+        ],
+        "Import { file: \"f\", csvs: [File(\"c\")], first: None, form: CsvForm { has_header: true, separator: 44, null_word: Some(\"0000000000000000000000000000001\"), columns: None }, is_quiet: false }",
+    ),
+    (
+        &["import", "--null", "\"5\"", "f", "c"],
+        "Import { file: \"f\", csvs: [File(\"c\")], first: None, form: CsvForm { has_header: true, separator: 44, null_word: Some(\"\\\"5\\\"\"), columns: None }, is_quiet: false }",
+    ),
+    (
+        &["import", "--null", "--", "f", "c"],
+        "Import { file: \"f\", csvs: [File(\"c\")], first: None, form: CsvForm { has_header: true, separator: 44, null_word: Some(\"--\"), columns: None }, is_quiet: false }",
+    ),
     (&["import", "f", "-", "-"], "fault"),
     (&["import", "f", "c", "--batch", "1.1"], "fault"),
     (
@@ -182,26 +210,26 @@ const MORE_REQUESTS: [(&[&str], &str); 38] = [
     ),
     (&["pack", "d", "--all"], "fault"),
     (
-        &["part", "t", "A"],
-        "Part { file: File(\"t\"), sql: \"A\" }",
+        &["partial", "t", "A"],
+        "Partial { file: File(\"t\"), sql: \"A\" }",
     ),
-    (&["part", "-", "-"], "Part { file: Input, sql: \"-\" }"),
+    (&["part", "-", "-"], "Partial { file: Input, sql: \"-\" }"),
     (
-        &["part", "t", "--x"],
-        "Part { file: File(\"t\"), sql: \"--x\" }",
+        &["partial", "t", "--x"],
+        "Partial { file: File(\"t\"), sql: \"--x\" }",
     ),
     (
         &["combine", "a", "-", "--b", "a"],
-        "Combine { parts: [File(\"a\"), Input, File(\"--b\"), File(\"a\")] }",
+        "Combine { partials: [File(\"a\"), Input, File(\"--b\"), File(\"a\")] }",
     ),
-    (&["combine", "-"], "Combine { parts: [Input] }"),
+    (&["combine", "-"], "Combine { partials: [Input] }"),
     (
         &["finish", "p"],
-        "Finish { part: File(\"p\"), format: Text }",
+        "Finish { partial: File(\"p\"), format: Text }",
     ),
     (
         &["finish", "--format", "json", "-"],
-        "Finish { part: Input, format: Json }",
+        "Finish { partial: Input, format: Json }",
     ),
     (&["finish", "--format", "xml", "p"], "fault"),
     (&["finish", "p", "--format"], "fault"),
@@ -212,6 +240,14 @@ const MORE_REQUESTS: [(&[&str], &str); 38] = [
     (
         &["dump", "--columns", "b,A", "--where", "-1 = A", "f"],
         "Dump { file: \"f\", has_names: false, condition: \"-1 = A\", columns: \"b,A\" }",
+    ),
+    (
+        &["dump", "--columns", "--", "f"],
+        "Dump { file: \"f\", has_names: false, condition: \"\", columns: \"--\" }",
+    ),
+    (
+        &["dump", "--columns", "--x", "f"],
+        "Dump { file: \"f\", has_names: false, condition: \"\", columns: \"--x\" }",
     ),
     (
         &["inspect", "f"],
@@ -289,7 +325,7 @@ const FAULTS: [&[&str]; 34] = [
     &["import", "--batch", ".1", "f", "c"],
     &["imports", "f", "c"],
     &["query", "t"],
-    &["part", "t"],
+    &["partial", "t"],
     &["part", "t", "A", "B"],
     &["combine"],
     &["combine", "-", "a", "-"],

@@ -212,15 +212,15 @@ fn a_sentence_names_its_input_and_what_is_known_beside(rt: HostRuntime) -> Resul
         ),
         (
             CommandRefusal::NotApart(NAME),
-            "b.part",
+            "b.partial",
             Knowledge::Nothing,
-            "b.part: batch 1.7 is in both parts, or one file deletes rows of it that the other has: merge these files, and make one part of what comes",
+            "b.partial: batch 1.7 is in both partial answers, or one file deletes rows of it that the other has: merge the two files, and make one partial answer from the result",
         ),
         (
             CommandRefusal::QueryDiffers,
-            "b.part",
+            "b.partial",
             Knowledge::Nothing,
-            "b.part: the parts are of different queries, or the groups of a part are not those of its query: make all parts with the same text",
+            "b.partial: the partial answers are of different queries, or the groups of one are not those of its query: make all partial answers with the same text",
         ),
         (
             CommandRefusal::TooMany,

@@ -45,10 +45,10 @@ is_null_word dialect text = same_text text (codes "NULL") || (same_text text (92
 abbrev pub value_of : DialectForm → List ℕ → Option (Option ℤ)
 value_of dialect text = cond (is_null_word dialect text) (Some None) (option_map Some (integer_of text))
 
--- what a field is: nothing at all is a null; else a value, which may be in double quotes
+-- what a field is: nothing at all is a null, and so is the dialect's own word as it is; else a value, which may be in double quotes
 abbrev pub cell_of : DialectForm → List ℕ → Option (Option ℤ)
 cell_of dialect [] = Some None
-cell_of dialect (c ∷ cs) = value_of dialect (unquoted (c ∷ cs))
+cell_of dialect (c ∷ cs) = cond (is_own_word dialect.null_word (c ∷ cs)) (Some None) (value_of dialect (unquoted (c ∷ cs)))
 
 -- a cell, where its column's type has it
 abbrev pub fitting : ColumnShape → Option ℤ → Option (Option ℤ)

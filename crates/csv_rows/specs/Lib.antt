@@ -1,5 +1,6 @@
 pub mod CsvText
 pub mod DialectForm
+pub mod FaultyField
 pub mod Field
 pub mod Line
 pub mod LineReading

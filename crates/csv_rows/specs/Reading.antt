@@ -13,20 +13,21 @@ use Rattle.csv_rows.specs.declared.error.CsvError.{CsvError}
 use Rattle.csv_rows.specs.declared.error.CsvError.TheVariants.{Refused}
 
 -- A reader of CSV: the table, the dialect of the text, whether the first line is a header, for each field of a line the place of its
--- column, or none where it is passed over, once that is known, how many lines were read, the bytes that came and weren't taken yet, and
--- how many bytes came in all.
+-- column, or none where it is passed over, once that is known, the line that was read last, how many lines were read, the bytes that came
+-- and weren't taken yet, and how many bytes came in all.
 pub record Reading : Type 0 where
   pub table : Table
   pub dialect : DialectForm
   pub has_header : Bool
   pub order : Option (List (Option ℕ))
+  pub line : List ℕ
   pub number : ℕ
   pub pending : List ℕ
   pub given : ℕ
 
 -- a reader of a text in a dialect that has read nothing
 abbrev pub at_start_in : DialectForm → Table → Bool → Reading
-at_start_in dialect table has_header = record { table = table; dialect = dialect; has_header = has_header; order = None; number = 0; pending = []; given = 0 }
+at_start_in dialect table has_header = record { table = table; dialect = dialect; has_header = has_header; order = None; line = []; number = 0; pending = []; given = 0 }
 
 -- a reader of a text in the usual dialect that has read nothing
 abbrev pub at_start : Table → Bool → Reading

@@ -40,8 +40,8 @@ impl Dialect {
         }
     }
 
-    /// The dialect in which this byte separates, and this word, if there is one, is a null besides those of the usual dialect. A line
-    /// feed never separates fields, since it ends the line.
+    /// The dialect in which this byte separates, and this word, if there is one, is a null besides those of the usual dialect, in double
+    /// quotes or not. A line feed never separates fields, since it ends the line.
     pub fn new(separator: u8, null_word: Option<String>) -> Dialect
         ensures { result ≡ record { separator = separator; null_word = option_map string_bytes null_word; order = None } }
     {

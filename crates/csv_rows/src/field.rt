@@ -42,7 +42,7 @@ fn value(dialect: &Dialect, text: &[u8]) -> Option<Option<i128>>
 fn cell(dialect: &Dialect, field: &[u8]) -> Option<Option<i128>>
     ensures { result ≡ cell_of dialect.now field.now }
 {
-    if field.is_empty() {
+    if field.is_empty() || dialect.is_own_word(field) {
         return Some(None);
     }
     value(dialect, unquoted(field))

@@ -1,10 +1,11 @@
 //! Rows of a text of comma-separated values, batch by batch.
-ghost use Rattle.std.specs.Prelude.{◌≡◌, ◌<◌, ◌≤◌, ◌+◌, ◌++◌, [], suc, length, Ok, Err, None, ◌-◌, slice_get, Some, IfSome, IfOk, IfErr, OnOk, OnErr, IsTrue, IsFalse, IsSome, Option, List, ℕ};
+ghost use Rattle.std.specs.Prelude.{◌≡◌, ◌<◌, ◌≤◌, ◌+◌, ◌++◌, [], suc, length, Ok, Err, None, IfOk, IfErr, OnOk, OnErr, IsTrue, IsFalse, IsSome, Option, List, ℕ};
 ghost use Rattle.std.specs.Io.KnownBytes.{IsAtEnd};
 ghost use Rattle.table_model.specs.Faults.{read_limit};
 ghost use Rattle.table_model.specs.Table.{AreRows, row_limit};
 ghost use Rattle.csv_rows.specs.Reading.{at_start, at_start_in, to_come, AsKnown, Gave, NothingToCome, Refuses, Came, Counts, ReadsOnward};
 ghost use Rattle.csv_rows.specs.CsvText.{header_rows, rows_from};
+ghost use Rattle.csv_rows.specs.FaultyField.{field_at, faulty_field, shown, column_of};
 ghost use Rattle.csv_rows.specs.Line.{lines_of};
 ghost use Rattle.csv_rows.specs.RowReading.{ReadsOn, RefusesLines, RefusesHeader, NoLines};
 
@@ -45,7 +46,7 @@ impl Model for CsvReader {
 
     ghost Value = { Reading };
 
-    ghost view = { λ c. record { table = c.schema; dialect = c.dialect; has_header = c.has_header; order = c.order; number = c.lines.number; pending = c.lines.pending; given = c.lines.given } };
+    ghost view = { λ c. record { table = c.schema; dialect = c.dialect; has_header = c.has_header; order = c.order; line = c.lines.line; number = c.lines.number; pending = c.lines.pending; given = c.lines.given } };
 
     ghost invariant = { λ c. IfNone c.order ((c.lines.at ≡ 0) × (length c.lines.pending < 3) × (c.lines.number ≡ 0)) };
 }
@@ -112,25 +113,28 @@ impl CsvReader {
     }
 
     /// The line that was read last, without its end: after `BadCsv` the line at fault, which is empty if there is no header.
-    pub fn line(&self) -> &[u8] {
+    pub fn line(&self) -> &[u8]
+        ensures { result.now ≡ self.now.line }
+    {
         self.lines.line()
     }
 
     /// The first 40 bytes of a field of the line that was read last, by its column, counted from 1: after `BadCsv` those of the
     /// faulty field. There are none if the line does not have that field.
     pub fn faulty_field(&self, column: u64) -> &[u8]
-        ensures { length result.now ≤ 40 }
+        ensures { result.now ≡ shown (faulty_field self.now column) }
     {
-        let field = field_at(self.lines.line(), self.dialect.separator(), column);
-        let (shown, _) = field.split_at(field.len().min(SHOWN));
-        shown
+        if column == 0 {
+            return b"";
+        }
+        shown(field_at(self.lines.line(), self.dialect.separator(), column - 1))
     }
 
     /// The place in the schema, from 0, of the column to which a field belongs, by the field's column in the text, counted from 1:
     /// after `BadCsv` in a row, that of the faulty field's column. None for a field of the header and one that is passed over, and if a
     /// line does not have that field.
     pub fn column_of(&self, column: u64) -> Option<usize>
-        ensures { IfSome result (λ place. IfSome self.now.order (λ order. slice_get order (column - 1) ≡ Some (Some place))) }
+        ensures { result ≡ column_of self.now column }
     {
         if column == 0 || (self.has_header && self.lines.number() <= 1) {
             return None;
@@ -301,16 +305,27 @@ fn read_rows<R: Read>(
     Err(CsvError::Refused(Refusal::ReadFault))
 }
 
-/// A field of a line, by its column, counted from 1.
-fn field_at(line: &[u8], separator: u8, column: u64) -> &[u8] {
-    let mut at: u64 = 1;
-    let mut rest = line;
-    while let (field, Some(after)) = first_field(rest, separator) {
-        if at >= column {
+/// The first bytes of a field.
+fn shown(field: &[u8]) -> &[u8]
+    ensures { result.now ≡ shown field.now }
+{
+    let (front, _) = field.split_at(SHOWN.min(field.len()));
+    front
+}
+
+/// The field of a line at this place, counted from 0; empty if the line does not have it.
+fn field_at(line: &[u8], separator: u8, place: u64) -> &[u8]
+    ensures { result.now ≡ field_at separator line.now place }
+{
+    let mut before = place;
+    let mut rest = Some(line);
+    while let Some(text) = rest {
+        let (field, after) = first_field(text, separator);
+        if before == 0 {
             return field;
         }
-        at += 1;
+        before -= 1;
         rest = after;
     }
-    if at >= column { rest } else { b"" }
+    b""
 }

@@ -2,10 +2,6 @@
 #![tactic(auto)]
 
 #[cfg(test)]
-mod dialect_tests;
-#[cfg(test)]
-mod limit_tests;
-#[cfg(test)]
 mod readme_example;
 #[cfg(test)]
 mod refused_tests;

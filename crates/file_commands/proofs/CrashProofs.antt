@@ -11,22 +11,30 @@ use Rattle.column_file.specs.Files.{canonical_file}
 use Rattle.column_file.specs.Input.{IsUnread}
 use Rattle.file_replacing.specs.Event.{Event, Read}
 use Rattle.file_replacing.specs.Disk.{Disk, MayLeave, Reads}
-use Rattle.file_replacing.specs.Locking.{AllLocking, OnlyLocks}
+use Rattle.file_replacing.specs.Locking.{AllLocking, OnlyLocks, AllKeeping, OnlyKeeps}
 use Rattle.file_replacing.specs.Safe.{StaysOld, OldOrNew, IsNew, IsInPlace}
-use Rattle.file_replacing.specs.Whole.{OldOrChanged, IsChanged, IsChangedInPlace, IsUnchanged}
+use Rattle.file_replacing.specs.Whole.{OldOrChanged, IsChanged, IsChangedInPlace, IsUnchanged, IsOnDisk}
 use Rattle.file_replacing.specs.declared.outcome.Replaced.{Replaced}
 use Rattle.file_replacing.specs.declared.outcome.Replaced.TheVariants.{Synced, Unsynced}
-use Rattle.file_replacing.proofs.Locks.{stays_old}
-use Rattle.file_replacing.proofs.Whole.{reads_then_replaces, reads_then_new, reads_then_in_place, reads_then_leaves}
+use Rattle.file_replacing.proofs.Failing.{fails_later}
+use Rattle.file_replacing.proofs.Locks.{stays_old, keeps_old}
+use Rattle.file_replacing.proofs.Whole.{reads_then_replaces, reads_then_new, reads_then_in_place, reads_then_keeps, reads_then_on_disk}
+use Rattle.file_commands.specs.declared.outcome.Left.{Left}
+use Rattle.file_commands.specs.declared.outcome.Left.TheVariants.{Changed, Kept, KeptUnsynced}
 use Rattle.file_commands.specs.Finished.{AtAnyMoment, Finishes, in_memory}
 use Rattle.file_commands.specs.CrashLaws.{IsFileAfter, BeforeOrAfter, IsLeft, HasAnswered, IsEmptyFile, Creating, HasCreated, IsMerged}
 
+-- what stays as it was is the state before
+stays : {Y : Type 0} (command : Replica → Made Y) (lock name : List ℕ) (before after : List Event) → StaysOld lock name before after → BeforeOrAfter command lock name before after
+stays command lock name before after (calls, is, old) = (calls, is, λ laters d e held moment c left. ⊎_elim (λ x. inl x) (λ x. inr (inr x)) (old laters d e moment c left))
+
 -- only the lock was touched
 pub leaves : {Y : Type 0} (command : Replica → Made Y) (lock name : List ℕ) → lock ≢ name → (before after : List Event) → OnlyLocks lock before after → BeforeOrAfter command lock name before after
-leaves command lock name apart before after only = kept (stays_old lock name apart before after only)
-  where
-    kept : StaysOld lock name before after → BeforeOrAfter command lock name before after
-    kept (calls, is, stays) = (calls, is, λ laters d e held moment c left. ⊎_elim (λ x. inl x) (λ x. inr (inr x)) (stays laters d e moment c left))
+leaves command lock name apart before after only = stays command lock name before after (stays_old lock name apart before after only)
+
+-- or files and the folder were synced
+pub keeps : {Y : Type 0} (command : Replica → Made Y) (lock name : List ℕ) → lock ≢ name → (before after : List Event) → OnlyKeeps lock before after → BeforeOrAfter command lock name before after
+keeps command lock name apart before after only = stays command lock name before after (keeps_old lock name apart before after only)
 
 -- a refusal of which this is said, whatever it is
 pub refused_so : {T : Type 0} (r : Result T Refusal) (P : Refusal → Type 0) (Q : Type 0) → Q → IfErr r (λ e. P e → Q)
@@ -42,6 +50,18 @@ read_then_left lock name answer before mid after is_read (calls, is, all) = (
 )
   where
     and_read : (calls : List Event) → AllLocking lock calls → AllLocking lock (calls ++ Read name answer ∷ [])
+    and_read [] all = (tt, tt)
+    and_read (call ∷ calls) all = (all.0, and_read calls all.1)
+
+-- the file was read, and then it was kept
+read_then_kept : (lock name : List ℕ) (answer : Option (Option (List ℕ))) (before mid after : List Event) → mid ≡ Read name answer ∷ before → OnlyKeeps lock mid after → OnlyKeeps lock before after
+read_then_kept lock name answer before mid after is_read (calls, is, all) = (
+  calls ++ Read name answer ∷ [],
+  is ∙ ap (λ (h : List Event). calls ++ h) is_read ∙ sym (append_assoc calls (Read name answer ∷ []) before),
+  and_read calls all,
+)
+  where
+    and_read : (calls : List Event) → AllKeeping lock calls → AllKeeping lock (calls ++ Read name answer ∷ [])
     and_read [] all = (tt, tt)
     and_read (call ∷ calls) all = (all.0, and_read calls all.1)
 
@@ -72,28 +92,34 @@ module _ {X Y : Type 0} (view : X → Y) (changed : X → Bool) (command : Repli
 
       at_any_moment : (b : Bool) → Changing b → AtAnyMoment b lock name bytes mid after → BeforeOrAfter command lock name before after
       at_any_moment true changes either = replaced changes (reads_then_replaces lock name apart input before mid after is_read bytes either)
-      at_any_moment false changes only = leaves command lock name apart before after (read_then_left lock name (Some (Some input)) before mid after is_read only)
+      at_any_moment false changes only = keeps command lock name apart before after (read_then_kept lock name (Some (Some input)) before mid after is_read only)
 
       pub changes_any : Changes view changed (Ok x) (Some input) (Some []) (Some bytes) command → AtAnyMoment (changed x) lock name bytes mid after → BeforeOrAfter command lock name before after
       changes_any changes = at_any_moment (changed x) changes
 
-      left_so : (how : Option Replaced) (b : Bool) (old new : Replica) → input ≡ file_of old → Leaves b input (Some []) (Some bytes) (file_of new)
+      left_so : (how : Left) (b : Bool) (old new : Replica) → input ≡ file_of old → Leaves b input (Some []) (Some bytes) (file_of new)
           → Finishes how b lock name bytes mid after → IsLeft how lock name (file_of old) (file_of new) before after
-      left_so (Some Synced) true old new is_file is_new (is, finished) =
+      left_so (Changed Synced) true old new is_file is_new (is, finished) =
           subst (λ (b : List ℕ). IsChanged lock name b (file_of new) before after) is_file
           (subst (λ (b : List ℕ). IsChanged lock name input b before after) is_new (reads_then_new lock name apart input before mid after is_read bytes finished))
-      left_so (Some Unsynced) true old new is_file is_new (is, finished) =
+      left_so (Changed Unsynced) true old new is_file is_new (is, finished) =
           subst (λ (b : List ℕ). IsChangedInPlace lock name b (file_of new) before after) is_file
           (subst (λ (b : List ℕ). IsChangedInPlace lock name input b before after) is_new (reads_then_in_place lock name apart input before mid after is_read bytes finished))
-      left_so None false old new is_file (none, same) (is, finished) = (
+      left_so Kept false old new is_file (none, same) (is, only, on_disk) = (
         sym same ∙ is_file,
-        subst (λ (b : List ℕ). IsUnchanged lock name b before after) is_file (reads_then_leaves lock name apart input before mid after is_read finished),
+        subst (λ (b : List ℕ). IsOnDisk lock name b before after) is_file (reads_then_on_disk lock name apart input before mid after is_read on_disk),
       )
-      left_so (Some Synced) false old new is_file is_new (is, finished) = absurd (let e : ⊥ = cc in e)
-      left_so (Some Unsynced) false old new is_file is_new (is, finished) = absurd (let e : ⊥ = cc in e)
-      left_so None true old new is_file is_new (is, finished) = absurd (let e : ⊥ = cc in e)
+      left_so KeptUnsynced false old new is_file (none, same) (is, only, failed) = (
+        sym same ∙ is_file,
+        subst (λ (b : List ℕ). IsUnchanged lock name b before after) is_file (reads_then_keeps lock name apart input before mid after is_read only),
+        fails_later before mid after (Read name (Some (Some input)) ∷ []) is_read failed,
+      )
+      left_so (Changed Synced) false old new is_file is_new (is, finished) = absurd (let e : ⊥ = cc in e)
+      left_so (Changed Unsynced) false old new is_file is_new (is, finished) = absurd (let e : ⊥ = cc in e)
+      left_so Kept true old new is_file is_new (is, only, finished) = absurd (let e : ⊥ = cc in e)
+      left_so KeptUnsynced true old new is_file is_new (is, only, finished) = absurd (let e : ⊥ = cc in e)
 
-      pub changes_answered : (how : Option Replaced) → Changes view changed (Ok x) (Some input) (Some []) (Some bytes) command → Finishes how (changed x) lock name bytes mid after
+      pub changes_answered : (how : Left) → Changes view changed (Ok x) (Some input) (Some []) (Some bytes) command → Finishes how (changed x) lock name bytes mid after
           → HasAnswered view command x how lock name before after
       changes_answered how (old, new, is_file, held_old, made, is_new, held_new, says) finished = (
         old,
@@ -121,18 +147,18 @@ module _ {X Y : Type 0} (view : X → Y) (changed : X → Bool) (command : Repli
   pub any_at : AtAnyMoment (changed x) lock name written mid after → BeforeOrAfter command lock name before after
   any_at any = changes_any view changed command lock name apart before mid after input is_read x bytes so (subst (λ (b : List ℕ). AtAnyMoment (changed x) lock name b mid after) is_written any)
 
-  pub answered_at : (how : Option Replaced) → Finishes how (changed x) lock name written mid after → HasAnswered view command x how lock name before after
+  pub answered_at : (how : Left) → Finishes how (changed x) lock name written mid after → HasAnswered view command x how lock name before after
   answered_at how finished = changes_answered view changed command lock name apart before mid after input is_read x bytes how so (subst (λ (b : List ℕ). Finishes how (changed x) lock name b mid after) is_written finished)
 
 module _ (lock name new : List ℕ) (before after : List Event) where
-  pub finishes : (how : Replaced) (b : Bool) → b ≡ true → (how ≡ Synced → IsNew lock name new before after) → IsInPlace lock name new before after → Finishes (Some how) b lock name new before after
+  pub finishes : (how : Replaced) (b : Bool) → b ≡ true → (how ≡ Synced → IsNew lock name new before after) → IsInPlace lock name new before after → Finishes (Changed how) b lock name new before after
   finishes Synced b is synced put = (is, synced refl)
   finishes Unsynced b is synced put = (is, put)
 
   pub changed_any : (b : Bool) → b ≡ true → OldOrNew lock name new before after → AtAnyMoment b lock name new before after
   changed_any b is either = subst (λ (x : Bool). AtAnyMoment x lock name new before after) (sym is) either
 
-  pub left_any : (b : Bool) → b ≡ false → OnlyLocks lock before after → AtAnyMoment b lock name new before after
+  pub left_any : (b : Bool) → b ≡ false → OnlyKeeps lock before after → AtAnyMoment b lock name new before after
   left_any b is only = subst (λ (x : Bool). AtAnyMoment x lock name new before after) (sym is) only
 
 -- a file that is made

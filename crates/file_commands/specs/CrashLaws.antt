@@ -10,9 +10,12 @@ use Rattle.replica_files.specs.Commands.{Made, held_in, file_of, as_held, merged
 use Rattle.file_replacing.specs.Event.{Event}
 use Rattle.file_replacing.specs.Disk.{Disk, MayLeave, Reads}
 use Rattle.file_replacing.specs.Safe.{Moment, IsHeld, IsNew, IsInPlace}
-use Rattle.file_replacing.specs.Whole.{IsChanged, IsChangedInPlace, IsUnchanged}
+use Rattle.file_replacing.specs.Failed.{HasFailed}
+use Rattle.file_replacing.specs.Whole.{IsChanged, IsChangedInPlace, IsUnchanged, IsOnDisk}
 use Rattle.file_replacing.specs.declared.outcome.Replaced.{Replaced}
 use Rattle.file_replacing.specs.declared.outcome.Replaced.TheVariants.{Synced, Unsynced}
+use Rattle.file_commands.specs.declared.outcome.Left.{Left}
+use Rattle.file_commands.specs.declared.outcome.Left.TheVariants.{Changed, Kept, KeptUnsynced}
 
 -- The file of the state after: when the lock was had the file read as the canonical file of a replica, the command makes another of
 -- that, and this is the canonical file of the other.
@@ -29,19 +32,20 @@ BeforeOrAfter command lock name before after =
     × ((laters : List (Option (List ℕ))) (d e : Disk) → IsHeld lock name d → Moment lock name laters calls d e
     → (c : Option (List ℕ)) → MayLeave e name c → MayLeave d name c ⊎ IsFileAfter command name d c ⊎ Contains laters c)
 
--- how the file is left, by how it was replaced
-abbrev pub IsLeft : Option Replaced → List ℕ → List ℕ → List ℕ → List ℕ → List Event → List Event → Type 0
-IsLeft (Some Synced) lock name old new before after = IsChanged lock name old new before after
-IsLeft (Some Unsynced) lock name old new before after = IsChangedInPlace lock name old new before after
-IsLeft None lock name old new before after = (new ≡ old) × IsUnchanged lock name old before after
+-- How the file is left. If nothing changed it is on the disk, so that a crash leaves it as it is; or a call that was to sync it failed.
+abbrev pub IsLeft : Left → List ℕ → List ℕ → List ℕ → List ℕ → List Event → List Event → Type 0
+IsLeft (Changed Synced) lock name old new before after = IsChanged lock name old new before after
+IsLeft (Changed Unsynced) lock name old new before after = IsChangedInPlace lock name old new before after
+IsLeft Kept lock name old new before after = (new ≡ old) × IsOnDisk lock name old before after
+IsLeft KeptUnsynced lock name old new before after = (new ≡ old) × IsUnchanged lock name old before after × HasFailed before after
 
 -- A command that has answered: the file read as the canonical file of a replica when the lock was had, the answer and the new replica
 -- are what the command makes of that, and the file is left as the new one's.
-abbrev pub HasAnswered : {X Y : Type 0} → (X → Y) → (Replica → Made Y) → X → Option Replaced → List ℕ → List ℕ → List Event → List Event → Type 0
-HasAnswered view command answer replaced lock name before after =
+abbrev pub HasAnswered : {X Y : Type 0} → (X → Y) → (Replica → Made Y) → X → Left → List ℕ → List ℕ → List Event → List Event → Type 0
+HasAnswered view command answer left lock name before after =
     (old : Replica) × (new : Replica)
     × (held_in (file_of old) ≡ Ok old) × (command old ≡ Ok (view answer, new)) × (held_in (file_of new) ≡ Ok (as_held new))
-    × IsLeft replaced lock name (file_of old) (file_of new) before after
+    × IsLeft left lock name (file_of old) (file_of new) before after
 
 -- the canonical file of the empty table
 abbrev pub IsEmptyFile : Result Table Refusal → List ℕ → Type 0

@@ -33,14 +33,14 @@ pub fn apply<F: Folder>(
     offers: Vec<Offer>,
 ) -> Result<Outcome<Applied>, Refusal>
     ensures any_moment { BeforeOrAfter (applying offers.items) (string_bytes place.now.lock) (string_bytes place.now.name) (F.history folder.old) (F.history folder.new) }
-    ensures answered { IfOk result (λ done. HasAnswered (λ answer. (answer.batches, answer.ranges, answer.new)) (applying offers.items) done.answer done.replaced (string_bytes place.now.lock) (string_bytes place.now.name) (F.history folder.old) (F.history folder.new)) }
+    ensures answered { IfOk result (λ done. HasAnswered (λ answer. (answer.batches, answer.ranges, answer.new)) (applying offers.items) done.answer done.left (string_bytes place.now.lock) (string_bytes place.now.name) (F.history folder.old) (F.history folder.new)) }
     ensures refused { IfErr result (λ e. e ≢ WriteFault → StaysOld (string_bytes place.now.lock) (string_bytes place.now.name) (F.history folder.old) (F.history folder.new)) }
 {
     let old = read_file(alloc, folder, place)?;
     match applied(alloc, old.as_slice(), offers) {
         Ok((answer, new)) => {
-            let replaced = finish(folder, place, answer.is_changed, new.as_slice())?;
-            Ok(Outcome { answer, replaced })
+            let left = finish(folder, place, answer.is_changed, new.as_slice())?;
+            Ok(Outcome { answer, left })
         }
         Err(refusal) => {
             leave(folder, place);

@@ -33,14 +33,14 @@ pub fn delete<F: Folder>(
     condition: &str,
 ) -> Result<Outcome<Deleted>, Refusal>
     ensures any_moment { BeforeOrAfter (deleting condition.now) (string_bytes place.now.lock) (string_bytes place.now.name) (F.history folder.old) (F.history folder.new) }
-    ensures answered { IfOk result (λ done. HasAnswered (λ answer. answer.rows) (deleting condition.now) done.answer done.replaced (string_bytes place.now.lock) (string_bytes place.now.name) (F.history folder.old) (F.history folder.new)) }
+    ensures answered { IfOk result (λ done. HasAnswered (λ answer. answer.rows) (deleting condition.now) done.answer done.left (string_bytes place.now.lock) (string_bytes place.now.name) (F.history folder.old) (F.history folder.new)) }
     ensures refused { IfErr result (λ e. e ≢ WriteFault → StaysOld (string_bytes place.now.lock) (string_bytes place.now.name) (F.history folder.old) (F.history folder.new)) }
 {
     let old = read_file(alloc, folder, place)?;
     match deleted(alloc, old.as_slice(), condition) {
         Ok((answer, new)) => {
-            let replaced = finish(folder, place, answer.rows != 0, new.as_slice())?;
-            Ok(Outcome { answer, replaced })
+            let left = finish(folder, place, answer.rows != 0, new.as_slice())?;
+            Ok(Outcome { answer, left })
         }
         Err(refusal) => {
             leave(folder, place);
@@ -74,14 +74,14 @@ pub fn delete_rows<F: Folder>(
     last: u16,
 ) -> Result<Outcome<DeletedRows>, Refusal>
     ensures any_moment { BeforeOrAfter (λ r. deleted_rows r first last) (string_bytes place.now.lock) (string_bytes place.now.name) (F.history folder.old) (F.history folder.new) }
-    ensures answered { IfOk result (λ done. HasAnswered (λ answer. tt) (λ r. deleted_rows r first last) done.answer done.replaced (string_bytes place.now.lock) (string_bytes place.now.name) (F.history folder.old) (F.history folder.new)) }
+    ensures answered { IfOk result (λ done. HasAnswered (λ answer. tt) (λ r. deleted_rows r first last) done.answer done.left (string_bytes place.now.lock) (string_bytes place.now.name) (F.history folder.old) (F.history folder.new)) }
     ensures refused { IfErr result (λ e. e ≢ WriteFault → StaysOld (string_bytes place.now.lock) (string_bytes place.now.name) (F.history folder.old) (F.history folder.new)) }
 {
     let old = read_file(alloc, folder, place)?;
     match rows_deleted(alloc, old.as_slice(), first, last) {
         Ok((answer, new)) => {
-            let replaced = finish(folder, place, answer.is_changed, new.as_slice())?;
-            Ok(Outcome { answer, replaced })
+            let left = finish(folder, place, answer.is_changed, new.as_slice())?;
+            Ok(Outcome { answer, left })
         }
         Err(refusal) => {
             leave(folder, place);

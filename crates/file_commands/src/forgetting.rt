@@ -32,14 +32,14 @@ pub fn forget<F: Folder>(
     place: &Place,
 ) -> Result<Outcome<Forgotten>, Refusal>
     ensures any_moment { BeforeOrAfter forgetting (string_bytes place.now.lock) (string_bytes place.now.name) (F.history folder.old) (F.history folder.new) }
-    ensures answered { IfOk result (λ done. HasAnswered (λ answer. (answer.batches, answer.rows)) forgetting done.answer done.replaced (string_bytes place.now.lock) (string_bytes place.now.name) (F.history folder.old) (F.history folder.new)) }
+    ensures answered { IfOk result (λ done. HasAnswered (λ answer. (answer.batches, answer.rows)) forgetting done.answer done.left (string_bytes place.now.lock) (string_bytes place.now.name) (F.history folder.old) (F.history folder.new)) }
     ensures refused { IfErr result (λ e. e ≢ WriteFault → StaysOld (string_bytes place.now.lock) (string_bytes place.now.name) (F.history folder.old) (F.history folder.new)) }
 {
     let old = read_file(alloc, folder, place)?;
     match forgotten(alloc, old.as_slice()) {
         Ok((answer, new)) => {
-            let replaced = finish(folder, place, answer.batches != 0, new.as_slice())?;
-            Ok(Outcome { answer, replaced })
+            let left = finish(folder, place, answer.batches != 0, new.as_slice())?;
+            Ok(Outcome { answer, left })
         }
         Err(refusal) => {
             leave(folder, place);

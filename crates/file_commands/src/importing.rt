@@ -48,14 +48,14 @@ pub fn import<F: Folder>(
     words: &[u64],
 ) -> Result<Outcome<Imported>, Refusal>
     ensures any_moment { BeforeOrAfter (importing load given words.now) (string_bytes place.now.lock) (string_bytes place.now.name) (F.history folder.old) (F.history folder.new) }
-    ensures answered { IfOk result (λ done. HasAnswered (λ answer. answer) (importing load given words.now) done.answer done.replaced (string_bytes place.now.lock) (string_bytes place.now.name) (F.history folder.old) (F.history folder.new)) }
+    ensures answered { IfOk result (λ done. HasAnswered (λ answer. answer) (importing load given words.now) done.answer done.left (string_bytes place.now.lock) (string_bytes place.now.name) (F.history folder.old) (F.history folder.new)) }
     ensures refused { IfErr result (λ e. e ≢ WriteFault → StaysOld (string_bytes place.now.lock) (string_bytes place.now.name) (F.history folder.old) (F.history folder.new)) }
 {
     let old = read_file(alloc, folder, place)?;
     match imported(alloc, old.as_slice(), load, given, words) {
         Ok((answer, new)) => {
-            let replaced = finish(folder, place, answer.new != 0, new.as_slice())?;
-            Ok(Outcome { answer, replaced })
+            let left = finish(folder, place, answer.new != 0, new.as_slice())?;
+            Ok(Outcome { answer, left })
         }
         Err(refusal) => {
             leave(folder, place);

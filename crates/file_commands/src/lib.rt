@@ -18,5 +18,5 @@ pub use deleting::{delete, delete_rows};
 pub use forgetting::forget;
 pub use importing::import;
 pub use merging::merged;
-pub use outcome::Outcome;
+pub use outcome::{Left, Outcome};
 pub use putting::put;

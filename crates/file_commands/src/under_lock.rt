@@ -6,8 +6,9 @@ ghost use Rattle.file_replacing.specs.Locking.{OnlyLocks};
 ghost use Rattle.table_model.specs.declared.refusal.Refusal.TheVariants.{WriteFault};
 ghost use Rattle.file_commands.specs.Finished.{AtAnyMoment, Finishes, in_memory};
 
+use crate::Left;
 use crate::putting::put;
-use file_replacing::{Folder, Place, Replaced};
+use file_replacing::{Folder, Place, keep};
 use std::alloc::Global;
 use std::io::{self, ErrorKind};
 use table_model::Refusal;
@@ -50,23 +51,25 @@ pub(crate) fn leave<F: Folder>(folder: &mut F, place: &Place)
     let _ = folder.remove(place.lock());
 }
 
-/// Puts the bytes in the file's place where it is changed, and else gives the lock back.
+/// Puts the bytes in the file's place if it is changed, and else has it on the disk as it is. The lock is given back.
 pub(crate) fn finish<F: Folder>(
     folder: &mut F,
     place: &Place,
     is_changed: bool,
     bytes: &[u8],
-) -> Result<Option<Replaced>, Refusal>
+) -> Result<Left, Refusal>
     ensures any_moment { AtAnyMoment is_changed (string_bytes place.now.lock) (string_bytes place.now.name) bytes.now (F.history folder.old) (F.history folder.new) }
     ensures finished { IfOk result (λ how. Finishes how is_changed (string_bytes place.now.lock) (string_bytes place.now.name) bytes.now (F.history folder.old) (F.history folder.new)) }
     ensures fault { IfErr result (λ e. (e ≡ WriteFault) × (is_changed ≡ true)) }
 {
     if is_changed {
         let how = put(folder, place, bytes)?;
-        Ok(Some(how))
+        Ok(Left::Changed(how))
     } else {
-        leave(folder, place);
-        Ok(None)
+        match keep(folder, place) {
+            Ok(()) => Ok(Left::Kept),
+            Err(_) => Ok(Left::KeptUnsynced),
+        }
     }
 }
 

@@ -1,7 +1,7 @@
 -- What the calls keep for the next command.
 use Rattle.std.proofs.Common.{◌≡◌, ◌≢◌, ◌⊎◌, inl, inr, ⊎_elim, ℕ, true, false, List, [], ◌∷◌, Option, Some, None, refl, sym, ◌∙◌, ap, subst}
 use Rattle.std.proofs.lemmas.Bool.{cond-true, cond-false}
-use Rattle.file_replacing.specs.Event.{Event, Opened, Locked, Compared, Emptied, Wrote, Synced, Renamed, Removed, Settled, Read, unanswered}
+use Rattle.file_replacing.specs.Event.{Event, Opened, Locked, Compared, Emptied, Wrote, Synced, Renamed, Removed, Settled, SyncedFile, Read, unanswered}
 use Rattle.file_replacing.specs.Disk.{Disk, Names, lead, move, Reaches, MayName, IsApart, IsFresh, led, moved, opened, Takes}
 use Rattle.file_replacing.specs.Safe.{Run, Moment, IsKept, IsOurs, AllOurs, Restarts}
 use Rattle.file_replacing.proofs.Lemmas.{other_name, same_bytes, led_names}
@@ -109,6 +109,8 @@ module _ (lock name : List ℕ) (apart : lock ≢ name) where
   kept_call (Removed n false) v w ours (inr is) kept = subst (λ (x : Disk). IsKept lock name x) (sym is) (subst (λ (m : List ℕ). IsKept lock name (led v m None)) (sym ours) (kept_removed v kept))
   kept_call (Settled true) v w ours is kept = subst (λ (x : Disk). IsKept lock name x) (sym is) (kept_along v (record v { synced = v.names; changes = [] }) refl (λ names may. inl (⊎_elim (λ x. x) (λ x. x) may)) kept)
   kept_call (Settled false) v w ours is kept = subst (λ (x : Disk). IsKept lock name x) (sym is) kept
+  kept_call (SyncedFile n true) v w ours (f, at, is) kept = kept_along v w (ap (λ (x : Disk). x.names) is) (λ names may. subst (λ (x : Disk). MayName x names) is may) kept
+  kept_call (SyncedFile n false) v w ours is kept = subst (λ (x : Disk). IsKept lock name x) (sym is) kept
   kept_call (Read n (Some a)) v w ours is kept = subst (λ (x : Disk). IsKept lock name x) (sym is.1) kept
   kept_call (Read n None) v w ours is kept = subst (λ (x : Disk). IsKept lock name x) (sym is) kept
 
@@ -122,6 +124,7 @@ module _ (lock name : List ℕ) (apart : lock ≢ name) where
   ours_begun (Renamed from to ok) ours = ours
   ours_begun (Removed n ok) ours = ours
   ours_begun (Settled ok) ours = ours
+  ours_begun (SyncedFile n ok) ours = ours
   ours_begun (Read n a) ours = ours
 
   module _ (laters : List (Option (List ℕ))) where

@@ -1,10 +1,10 @@
 -- What the calls leave as it was.
-use Rattle.std.proofs.Common.{◌≡◌, ◌≢◌, ◌⊎◌, inl, inr, ℕ, ◌+◌, Bool, true, false, List, ◌++◌, length, drop, Option, Some, None, refl, sym, ◌∙◌, ap, arith}
+use Rattle.std.proofs.Common.{◌≡◌, ◌≢◌, ◌⊎◌, inl, inr, ℕ, ◌+◌, ◌==◌, ◌||◌, ◌&&◌, not, Bool, true, false, List, [], ◌++◌, length, drop, Option, Some, None, refl, sym, ◌∙◌, ap, arith}
 use Rattle.std.specs.Str.{bytes_eq}
 use Rattle.std.proofs.lemmas.Bool.{eq-eqb, ne_eqb, cond-true, cond-false, false_from_ne_true}
 use Rattle.std.proofs.lemmas.Slice.Eq.{bytes_eq-Decides}
 use Rattle.std.proofs.lemmas.List.{take_all, drop_all, append-nil}
-use Rattle.file_replacing.specs.Disk.{Disk, Names, lead, move, MayName, MayHold, Has, MayLeave, IsApart, led, moved, filled, overlaid}
+use Rattle.file_replacing.specs.Disk.{Disk, Names, lead, move, MayName, MayHold, Has, MayLeave, MayShow, IsApart, led, moved, filled, stored, overlaid}
 
 pub other_name : (n m : List ℕ) → n ≢ m → bytes_eq n m ≡ false
 other_name n m ne = false_from_ne_true _ (λ e. ne ((bytes_eq-Decides n m).0 e))
@@ -92,3 +92,37 @@ at_end b piece place is =
     ap (λ (l : List ℕ). l ++ piece ++ drop (place + length piece) b) (take_all place b (omega arith))
     ∙ ap (λ (l : List ℕ). b ++ piece ++ l) (drop_all (place + length piece) b (omega arith))
     ∙ append-nil (b ++ piece)
+
+-- once the folder is synced a name has what it has now
+pub settled_shows : (v : Disk) (name : List ℕ) (c : Option (List ℕ)) → MayLeave (record v { synced = v.names; changes = [] }) name c → MayShow v name c
+settled_shows v name c left =
+    let e = same left.0 left.1 in
+    has_along v (record v { synced = v.names; changes = [] }) left.0 v.names name c (ap (λ (n : Names). n name) e) (λ f bytes at holds. holds) left.2
+  where
+    same : (names : Names) → ((names ≡ v.names) ⊎ (names ≡ v.names)) → names ≡ v.names
+    same names (inl e) = e
+    same names (inr e) = e
+
+pub leaves_settled : (v : Disk) (name : List ℕ) (c : Option (List ℕ)) → MayLeave (record v { synced = v.names; changes = [] }) name c → MayLeave v name c
+leaves_settled v name c left = (v.names, inl refl, settled_shows v name c left)
+
+-- what a file may hold once one is synced it might hold before
+holds_stored : (v : Disk) (stored_one file : ℕ) (bytes : List ℕ) → MayHold (stored v stored_one) file bytes → MayHold v file bytes
+holds_stored v stored_one file bytes (inl is) = inl is
+holds_stored v stored_one file bytes (inr is) = inr (front (v.is_synced file) (file == stored_one && not (file == v.mine)) is)
+  where
+    front : (a b : Bool) → (a || b) ≡ false → a ≡ false
+    front true b e = e
+    front false b e = refl
+
+pub leaves_stored : (v : Disk) (name : List ℕ) (file : ℕ) (c : Option (List ℕ)) → MayLeave (stored v file) name c → MayLeave v name c
+leaves_stored v name file c left =
+    (left.0, left.1, has_along v (stored v file) left.0 left.0 name c refl (λ f bytes at holds. holds_stored v file f bytes holds) left.2)
+
+-- the file that was synced is on the disk, unless it is the open one
+pub stored_is_synced : (v : Disk) (file : ℕ) → file ≢ v.mine → (stored v file).is_synced file ≡ true
+stored_is_synced v file ne = back (v.is_synced file) _ (ap (λ (b : Bool). b && not (file == v.mine)) (eq-eqb file file refl) ∙ ap (λ (b : Bool). not b) (ne_eqb file v.mine ne))
+  where
+    back : (a b : Bool) → b ≡ true → (a || b) ≡ true
+    back true b e = refl
+    back false b e = e

@@ -7,6 +7,8 @@ pub mod Turn
 pub mod Splits
 pub mod Locks
 pub mod LockCalls
+pub mod OnDisk
+pub mod KeepCalls
 pub mod Whole
 pub mod NoLock
 pub mod Failing

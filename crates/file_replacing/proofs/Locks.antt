@@ -1,24 +1,41 @@
 -- The calls that have a lock.
 use Rattle.std.proofs.Common.{◌≡◌, ◌≢◌, ◌⊎◌, inl, inr, ⊎_elim, ℕ, true, false, List, [], ◌∷◌, ◌++◌, Option, Some, None, refl, sym, ◌∙◌, ap, subst, append_assoc}
 use Rattle.std.specs.List.{Contains}
-use Rattle.file_replacing.specs.Event.{Event, Opened, Locked, Compared, Removed, Read, unanswered}
-use Rattle.file_replacing.specs.Disk.{Disk, MayLeave, IsApart, Takes}
-use Rattle.file_replacing.specs.Safe.{Others, Run, Moment, IsHeld, IsKept, IsOurs, AllOurs, StaysKept, TakesLock, StaysOld}
-use Rattle.file_replacing.specs.Locking.{IsLocking, AllLocking, OnlyLocks}
-use Rattle.file_replacing.proofs.Lemmas.{leaves_led}
+use Rattle.file_replacing.specs.Event.{Event, Opened, Locked, Compared, Removed, Settled, SyncedFile, Read, unanswered}
+use Rattle.file_replacing.specs.Disk.{Disk, MayLeave, IsApart, stored, Takes}
+use Rattle.file_replacing.specs.Safe.{Others, Run, Moment, IsHeld, IsKept, IsOurs, AllOurs, OnlyOurs, StaysKept, TakesLock, StaysOld}
+use Rattle.file_replacing.specs.Locking.{IsLocking, AllLocking, OnlyLocks, IsKeeping, AllKeeping, OnlyKeeps}
+use Rattle.file_replacing.proofs.Lemmas.{leaves_led, leaves_settled, leaves_stored}
 use Rattle.file_replacing.proofs.Kept.{kept_run, kept_moment}
 use Rattle.file_replacing.proofs.Splits.{run_split}
 
 module _ (lock name : List ℕ) where
-  ours : (call : Event) → IsLocking lock call → IsOurs lock name call
+  -- what has a lock and reads is some of what keeps a file
+  keeping : (call : Event) → IsLocking lock call → IsKeeping lock call
+  keeping (Settled ok) is = tt
+  keeping (SyncedFile n ok) is = tt
+  keeping (Opened n ok) is = is
+  keeping (Locked got) is = is
+  keeping (Compared n same) is = is
+  keeping (Removed n ok) is = is
+  keeping (Read n a) is = is
+  keeping call is = absurd is
+
+  pub all_keeping : (calls : List Event) → AllLocking lock calls → AllKeeping lock calls
+  all_keeping [] all = tt
+  all_keeping (call ∷ calls) all = (keeping call all.0, all_keeping calls all.1)
+
+  ours : (call : Event) → IsKeeping lock call → IsOurs lock name call
   ours (Opened n ok) is = is
   ours (Locked got) is = tt
   ours (Compared n same) is = tt
   ours (Removed n ok) is = is
+  ours (Settled ok) is = tt
+  ours (SyncedFile n ok) is = tt
   ours (Read n a) is = tt
   ours call is = absurd is
 
-  all_ours : (calls : List Event) → AllLocking lock calls → AllOurs lock name calls
+  all_ours : (calls : List Event) → AllKeeping lock calls → AllOurs lock name calls
   all_ours [] all = tt
   all_ours (call ∷ calls) all = (ours call all.0, all_ours calls all.1)
 
@@ -26,7 +43,7 @@ module _ (lock name : List ℕ) where
     other : name ≢ lock
     other e = apart (sym e)
 
-    leaves : (call : Event) (v w : Disk) → IsLocking lock call → Takes call v w → (c : Option (List ℕ)) → MayLeave w name c → MayLeave v name c
+    pub leaves : (call : Event) (v w : Disk) → IsKeeping lock call → Takes call v w → (c : Option (List ℕ)) → MayLeave w name c → MayLeave v name c
     leaves (Opened n true) v w is (inl (f, at, to)) c left = subst (λ (x : Disk). MayLeave x name c) to left
     leaves (Opened n true) v w is (inr (f, none, fresh, to)) c left =
         leaves_led v n name (Some f) c (λ e. other (e ∙ is)) (subst (λ (x : Disk). MayLeave x name c) to left)
@@ -42,25 +59,31 @@ module _ (lock name : List ℕ) where
     leaves (Removed n false) v w is (inl to) c left = subst (λ (x : Disk). MayLeave x name c) to left
     leaves (Removed n false) v w is (inr to) c left =
         leaves_led v n name None c (λ e. other (e ∙ is)) (subst (λ (x : Disk). MayLeave x name c) to left)
+    leaves (Settled true) v w is to c left = leaves_settled v name c (subst (λ (x : Disk). MayLeave x name c) to left)
+    leaves (Settled false) v w is to c left = subst (λ (x : Disk). MayLeave x name c) to left
+    leaves (SyncedFile n true) v w is (f, at, to) c left = leaves_stored v name f c (subst (λ (x : Disk). MayLeave x name c) to left)
+    leaves (SyncedFile n false) v w is to c left = subst (λ (x : Disk). MayLeave x name c) to left
     leaves (Read n (Some a)) v w is to c left = subst (λ (x : Disk). MayLeave x name c) to.1 left
     leaves (Read n None) v w is to c left = subst (λ (x : Disk). MayLeave x name c) to left
     leaves call v w is to c left = absurd is
 
-    locking_begun : (call : Event) → IsLocking lock call → IsLocking lock (unanswered call)
+    locking_begun : (call : Event) → IsKeeping lock call → IsKeeping lock (unanswered call)
     locking_begun (Opened n ok) is = is
     locking_begun (Locked got) is = tt
     locking_begun (Compared n same) is = tt
     locking_begun (Removed n ok) is = is
+    locking_begun (Settled ok) is = tt
+    locking_begun (SyncedFile n ok) is = tt
     locking_begun (Read n a) is = tt
     locking_begun call is = absurd is
 
     module _ (laters : List (Option (List ℕ))) where
-      old_run : (calls : List Event) (d e : Disk) → AllLocking lock calls → Run lock name laters calls d e → (c : Option (List ℕ)) → MayLeave e name c → MayLeave d name c ⊎ Contains laters c
+      old_run : (calls : List Event) (d e : Disk) → AllKeeping lock calls → Run lock name laters calls d e → (c : Option (List ℕ)) → MayLeave e name c → MayLeave d name c ⊎ Contains laters c
       old_run [] d e all run c left = run.left c left
       old_run (call ∷ earlier) d e all (v, w, run, takes, others) c left =
           ⊎_elim (λ here. old_run earlier d v all.1 run c (leaves call v w all.0 takes c here)) (λ later. inr later) (others.left c left)
 
-      pub old_moment : (calls : List Event) (d e : Disk) → AllLocking lock calls → Moment lock name laters calls d e → (c : Option (List ℕ)) → MayLeave e name c → MayLeave d name c ⊎ Contains laters c
+      pub old_moment : (calls : List Event) (d e : Disk) → AllKeeping lock calls → Moment lock name laters calls d e → (c : Option (List ℕ)) → MayLeave e name c → MayLeave d name c ⊎ Contains laters c
       old_moment [] d e all moment c left = moment.left c left
       old_moment (call ∷ earlier) d e all (inl run) c left = old_run (call ∷ earlier) d e all run c left
       old_moment (call ∷ earlier) d e all (inr (inl (v, w, run, takes, others))) c left =
@@ -92,11 +115,21 @@ module _ (lock name : List ℕ) where
           } in
           held_on w2 e o3 (subst (λ (x : Disk). IsHeld lock name x) (sym t2.1) here)
 
+    -- the file stays as it was while it is synced
+    pub keeps_old : (before after : List Event) → OnlyKeeps lock before after → StaysOld lock name before after
+    keeps_old before after (calls, is, all) = (calls, is, λ laters d e moment c left. old_moment laters calls d e all moment c left)
+
+    pub keeps_kept : (before after : List Event) → OnlyKeeps lock before after → StaysKept lock name before after
+    keeps_kept before after (calls, is, all) = (calls, is, λ laters d e kept moment. kept_moment lock name apart laters calls d e (all_ours calls all) kept moment)
+
+    pub keeps_ours : (before after : List Event) → OnlyKeeps lock before after → OnlyOurs lock name before after
+    keeps_ours before after (calls, is, all) = (calls, is, all_ours calls all)
+
     pub stays_old : (before after : List Event) → OnlyLocks lock before after → StaysOld lock name before after
-    stays_old before after (calls, is, all) = (calls, is, λ laters d e moment c left. old_moment laters calls d e all moment c left)
+    stays_old before after (calls, is, all) = keeps_old before after (calls, is, all_keeping calls all)
 
     pub stays_kept : (before after : List Event) → OnlyLocks lock before after → StaysKept lock name before after
-    stays_kept before after (calls, is, all) = (calls, is, λ laters d e kept moment. kept_moment lock name apart laters calls d e (all_ours calls all) kept moment)
+    stays_kept before after (calls, is, all) = keeps_kept before after (calls, is, all_keeping calls all)
 
     pub takes_lock : (before after : List Event) → after ≡ Compared lock true ∷ Locked true ∷ Opened lock true ∷ before → TakesLock lock name before after
     takes_lock before after is = (Compared lock true ∷ Locked true ∷ Opened lock true ∷ [], is, λ laters d e kept run. had laters d e kept run)
@@ -108,5 +141,5 @@ module _ (lock name : List ℕ) where
       is ∙ ap (λ (h : List Event). calls ++ h) was ∙ sym (append_assoc calls earlier before),
       λ laters d e kept run.
           let parts = run_split lock name laters calls earlier d e run in
-          takes laters parts.0 e (kept_run lock name apart laters earlier d parts.0 (all_ours earlier all) kept parts.1) parts.2,
+          takes laters parts.0 e (kept_run lock name apart laters earlier d parts.0 (all_ours earlier (all_keeping earlier all)) kept parts.1) parts.2,
     )

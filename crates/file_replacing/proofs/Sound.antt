@@ -4,7 +4,7 @@ use Rattle.std.specs.List.{Contains}
 use Rattle.std.specs.Str.{bytes_eq}
 use Rattle.std.proofs.lemmas.Bool.{cond-true, cond-false, eq-eqb, and_parts, ne_eqb}
 use Rattle.std.proofs.lemmas.Slice.Eq.{bytes_eq-Decides}
-use Rattle.file_replacing.specs.Event.{Event, Opened, Locked, Compared, Emptied, Wrote, Synced, Renamed, Removed, Settled, Read, unanswered}
+use Rattle.file_replacing.specs.Event.{Event, Opened, Locked, Compared, Emptied, Wrote, Synced, Renamed, Removed, Settled, SyncedFile, Read, unanswered}
 use Rattle.file_replacing.specs.Disk.{Disk, Names, MayHold, Has, MayLeave, MayShow, IsApart, moved, filled, overlaid, Takes}
 use Rattle.file_replacing.specs.Safe.{HasLock, Others, Run, Moment, IsHeld, OldOrNew, IsNew, IsOld, IsInPlace}
 use Rattle.file_replacing.specs.Phase.{Phase, Holding, Dirty, Filled, Ready, InPlace, Stored, Unsure, Back, Gone, GoneUnsure, Bad, emptied, wrote, synced, renamed, renamed_from, removed, settled, compared, next, phase_after, Goes}
@@ -34,6 +34,7 @@ module _ (lock name new : List ℕ) where
   stays_bad (Removed n ok) = removed_bad (bytes_eq n lock)
   stays_bad (Settled true) = refl
   stays_bad (Settled false) = refl
+  stays_bad (SyncedFile n ok) = refl
   stays_bad (Read n answer) = refl
 
   pub was_fine : (call : Event) (p : Phase) → next lock name new call p ≢ Bad → p ≢ Bad
@@ -290,6 +291,7 @@ module _ (lock name new : List ℕ) (laters : List (Option (List ℕ))) where
     step (Renamed from to ok) p d v w m t = step_renamed from to ok p d v w m t
     step (Removed n ok) p d v w m t = removed_when _ p d v w (λ e. removed_leaves n ok v w (λ same. apart (sym (same ∙ (bytes_eq-Decides n lock).0 e))) t) m
     step (Settled ok) p d v w m t = step_settled ok p d v w m t
+    step (SyncedFile n ok) p d v w m t = tt
     step (Read n (Some answer)) p d v w m t = subst (λ (x : Disk). Means p d x) (sym t.1) m
     step (Read n None) p d v w m t = subst (λ (x : Disk). Means p d x) (sym t) m
 
@@ -352,6 +354,7 @@ module _ (lock name new : List ℕ) (laters : List (Option (List ℕ))) where
     fine_begun (Renamed from to ok) p fine = fine_renamed_from from to ok p fine
     fine_begun (Removed n ok) p fine = fine
     fine_begun (Settled ok) p fine = fine_settled ok p fine
+    fine_begun (SyncedFile n ok) p fine = fine
     fine_begun (Read n answer) p fine = fine
 
     -- at each moment of a run in turn

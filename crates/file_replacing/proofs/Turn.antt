@@ -3,7 +3,7 @@ use Rattle.std.proofs.Common.{◌≡◌, ◌≢◌, ℕ, Bool, true, false, ◌&
 use Rattle.std.specs.Str.{bytes_eq}
 use Rattle.std.proofs.lemmas.Bool.{and_parts}
 use Rattle.std.proofs.lemmas.Slice.Eq.{bytes_eq-Decides}
-use Rattle.file_replacing.specs.Event.{Event, Opened, Locked, Compared, Emptied, Wrote, Synced, Renamed, Removed, Settled, Read}
+use Rattle.file_replacing.specs.Event.{Event, Opened, Locked, Compared, Emptied, Wrote, Synced, Renamed, Removed, Settled, SyncedFile, Read}
 use Rattle.file_replacing.specs.Safe.{IsOurs, AllOurs, OnlyOurs, StaysKept}
 use Rattle.file_replacing.specs.Phase.{Phase, Holding, Ready, Bad, renamed, renamed_from, removed, next, phase_after, Goes}
 use Rattle.file_replacing.proofs.Sound.{was_fine}
@@ -38,6 +38,7 @@ module _ (lock name new : List ℕ) where
   ours_next (Renamed from to ok) p fine = ours_renamed_from from to ok p fine
   ours_next (Removed n ok) p fine = ours_removed (bytes_eq n lock) n p (λ e. (bytes_eq-Decides n lock).0 e) fine
   ours_next (Settled ok) p fine = tt
+  ours_next (SyncedFile n ok) p fine = absurd (fine refl)
   ours_next (Read n a) p fine = tt
 
   all_ours : (calls : List Event) → phase_after lock name new Holding calls ≢ Bad → AllOurs lock name calls

@@ -4,11 +4,12 @@ use Rattle.std.specs.List.{Contains}
 use Rattle.std.proofs.lemmas.List.{append_cancel_right}
 use Rattle.file_replacing.specs.Event.{Event, Read}
 use Rattle.file_replacing.specs.Disk.{Disk, MayLeave, Reads}
-use Rattle.file_replacing.specs.Locking.{OnlyLocks}
+use Rattle.file_replacing.specs.Locking.{OnlyLocks, OnlyKeeps}
 use Rattle.file_replacing.specs.Safe.{Run, Moment, IsHeld, OldOrNew, IsNew, IsOld, IsInPlace}
-use Rattle.file_replacing.specs.Whole.{HoldingThenReplacing, OldOrChanged, IsChanged, IsChangedInPlace, IsUnchanged}
+use Rattle.file_replacing.specs.Whole.{HoldingThenReplacing, OldOrChanged, IsChanged, IsChangedInPlace, IsUnchanged, StaysOnDisk, IsOnDisk}
 use Rattle.file_replacing.proofs.Splits.{run_is_moment, moment_split, run_split}
-use Rattle.file_replacing.proofs.Locks.{held_on, stays_old, old_moment}
+use Rattle.file_replacing.proofs.Locks.{held_on, stays_old, keeps_old, old_moment}
+use Rattle.file_replacing.proofs.OnDisk.{reads_one, reads_some}
 
 -- after these calls, then those
 both : (calls earlier before mid after : List Event) → after ≡ calls ++ mid → mid ≡ earlier ++ before → after ≡ (calls ++ earlier) ++ before
@@ -119,3 +120,28 @@ module _ (lock name : List ℕ) (apart : lock ≢ name) (old : List ℕ) (before
   reads_then_leaves only =
       let stays = stays_old lock name apart mid after only in
       unchanged_by stays.0 stays.1 (λ laters d e held run. stays.2 laters d e (run_is_moment lock name laters stays.0 d e run))
+
+  -- the file is as it was while it was synced
+  pub reads_then_keeps : OnlyKeeps lock mid after → IsUnchanged lock name old before after
+  reads_then_keeps only =
+      let stays = keeps_old lock name apart mid after only in
+      unchanged_by stays.0 stays.1 (λ laters d e held run. stays.2 laters d e (run_is_moment lock name laters stays.0 d e run))
+
+  -- the file reads still as it did
+  reads_still : (laters : List (Option (List ℕ))) (d v : Disk) → IsHeld lock name d → Run lock name laters reading d v → Reads v name (Some old)
+  reads_still laters d v held (v0, w0, o0, takes, o1) =
+      let first = held_on lock name apart laters d v0 o0 held in
+      let second : IsHeld lock name w0 = subst (λ (x : Disk). IsHeld lock name x) (sym takes.1) first in
+      let found = reads_some v name in
+      let before : Reads v0 name found.0 = subst (λ (x : Disk). Reads x name found.0) takes.1 ((o1.held second.has).reads found.0 found.1) in
+      subst (λ (c : Option (List ℕ)). Reads v name c) (reads_one v0 name old found.0 takes.0 before) found.1
+
+  pub reads_then_on_disk : StaysOnDisk lock name mid after → IsOnDisk lock name old before after
+  reads_then_on_disk (calls, is, there) = (
+    calls ++ reading,
+    both calls reading before mid after is is_read,
+    λ laters d e held run.
+        let parts = run_split lock name laters calls reading d e run in
+        let first = had laters d parts.0 held parts.1 in
+        (first.0, λ c left. there laters parts.0 e first.1 parts.2 old (reads_still laters d parts.0 held parts.1) c left),
+  )

@@ -1,6 +1,6 @@
 -- One folder on a disk, as this process and a crash see it.
-use Rattle.std.specs.Prelude.{◌≡◌, ◌≢◌, ◌⊎◌, ◌==◌, ◌+◌, ◌≤◌, ℕ, Bool, true, false, List, [], ◌∷◌, ◌++◌, length, take, drop, Option, Some, None, if◌then◌else◌, bytes_eq}
-use Rattle.file_replacing.specs.Event.{Event, Opened, Locked, Compared, Emptied, Wrote, Synced, Renamed, Removed, Settled, Read}
+use Rattle.std.specs.Prelude.{◌≡◌, ◌≢◌, ◌⊎◌, ◌==◌, ◌+◌, ◌≤◌, ◌||◌, ◌&&◌, not, ℕ, Bool, true, false, List, [], ◌∷◌, ◌++◌, length, take, drop, Option, Some, None, if◌then◌else◌, bytes_eq}
+use Rattle.file_replacing.specs.Event.{Event, Opened, Locked, Compared, Emptied, Wrote, Synced, Renamed, Removed, Settled, SyncedFile, Read}
 
 -- which file, by its number, each name leads to
 abbrev pub Names : Type 0
@@ -97,6 +97,10 @@ filled d bytes place is_clean =
 abbrev pub opened : Disk → ℕ → Disk
 opened d file = record d { mine = file; place = 0; is_clean = false; is_locked = false }
 
+-- The disk once the bytes that a read of this file gives are on the disk. Of the open file only `Synced` says that.
+abbrev pub stored : Disk → ℕ → Disk
+stored d file = record d { is_synced = λ f. d.is_synced f || (f == file && not (f == d.mine)) }
+
 -- the bytes, over those from this place on
 abbrev pub overlaid : List ℕ → ℕ → List ℕ → List ℕ
 overlaid file place bytes = take place file ++ bytes ++ drop (place + length bytes) file
@@ -125,5 +129,7 @@ Takes (Removed name true) d e = e ≡ led d name None
 Takes (Removed name false) d e = (e ≡ d) ⊎ (e ≡ led d name None)
 Takes (Settled true) d e = e ≡ record d { synced = d.names; changes = [] }
 Takes (Settled false) d e = e ≡ d
+Takes (SyncedFile name true) d e = (file : ℕ) × (d.names name ≡ Some file) × (e ≡ stored d file)
+Takes (SyncedFile name false) d e = e ≡ d
 Takes (Read name (Some answer)) d e = Reads d name answer × (e ≡ d)
 Takes (Read name None) d e = e ≡ d

@@ -1,6 +1,6 @@
 -- Calls that failed.
 use Rattle.std.specs.Prelude.{◌≡◌, ◌⊎◌, false, List, [], ◌∷◌, ◌++◌, Some, None}
-use Rattle.file_replacing.specs.Event.{Event, Opened, Locked, Compared, Emptied, Wrote, Synced, Renamed, Removed, Settled, Read}
+use Rattle.file_replacing.specs.Event.{Event, Opened, Locked, Compared, Emptied, Wrote, Synced, Renamed, Removed, Settled, SyncedFile, Read}
 
 -- The call failed, or did not get the lock. A write that takes nothing has failed.
 abbrev pub Fails : Event → Type 0
@@ -14,6 +14,7 @@ Fails (Synced ok) = ok ≡ false
 Fails (Renamed from to ok) = ok ≡ false
 Fails (Removed name ok) = ok ≡ false
 Fails (Settled ok) = ok ≡ false
+Fails (SyncedFile name ok) = ok ≡ false
 Fails (Read name (Some answer)) = ⊥
 Fails (Read name None) = Unit {0}
 

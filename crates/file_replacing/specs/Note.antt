@@ -1,6 +1,6 @@
 -- How a call is noted: by numbers, of which the first says which call and the second whether it succeeded, and by its texts.
 use Rattle.std.specs.Prelude.{ℕ, Bool, true, false, List, ◌==◌, map, slice_index, Option, Some, None, if◌then◌else◌}
-use Rattle.file_replacing.specs.Event.{Event, Opened, Locked, Compared, Emptied, Wrote, Synced, Renamed, Removed, Settled, Read}
+use Rattle.file_replacing.specs.Event.{Event, Opened, Locked, Compared, Emptied, Wrote, Synced, Renamed, Removed, Settled, SyncedFile, Read}
 
 -- a call as it is noted: its numbers, and its texts
 abbrev pub Noted : Type 0
@@ -27,7 +27,8 @@ event_from kind ok n first second =
     else if kind == 6 then Renamed first second (ok == 1)
     else if kind == 7 then Removed first (ok == 1)
     else if kind == 8 then Settled (ok == 1)
-    else Read first (answer_of n second)
+    else if kind == 9 then Read first (answer_of n second)
+    else SyncedFile first (ok == 1)
 
 -- the call that a note is of
 abbrev pub event_of : Noted → Event

@@ -1,6 +1,6 @@
 -- How far the replacing of a file is, by the calls so far. What a phase means of the disk is in the proofs.
 use Rattle.std.specs.Prelude.{◌≡◌, ◌≢◌, ◌&&◌, ℕ, Bool, true, false, List, [], ◌∷◌, ◌++◌, take, Option, Some, None, bytes_eq}
-use Rattle.file_replacing.specs.Event.{Event, Opened, Locked, Compared, Emptied, Wrote, Synced, Renamed, Removed, Settled, Read}
+use Rattle.file_replacing.specs.Event.{Event, Opened, Locked, Compared, Emptied, Wrote, Synced, Renamed, Removed, Settled, SyncedFile, Read}
 
 -- how far the replacing of a file is
 pub data Phase : Type 0 where
@@ -87,6 +87,7 @@ next lock name new (Synced ok) p = synced ok p
 next lock name new (Renamed from to ok) p = renamed_from lock name new from to ok p
 next lock name new (Removed n ok) p = removed (bytes_eq n lock) p
 next lock name new (Settled ok) p = settled ok p
+next lock name new (SyncedFile n ok) p = Bad
 next lock name new (Read n answer) p = p
 
 -- after these calls, of which the newest comes first

@@ -50,3 +50,18 @@ IsUnchanged lock name old before after =
     (calls : List Event) × (after ≡ calls ++ before)
     × ((laters : List (Option (List ℕ))) (d e : Disk) → IsHeld lock name d → Run lock name laters calls d e
     → Reads d name (Some old) × ((c : Option (List ℕ)) → MayLeave e name c → MayLeave d name c ⊎ Contains laters c))
+
+-- After these calls a crash leaves what the file had when the lock was had, or what a later holder of the lock put there.
+abbrev pub StaysOnDisk : List ℕ → List ℕ → List Event → List Event → Type 0
+StaysOnDisk lock name before after =
+    (calls : List Event) × (after ≡ calls ++ before)
+    × ((laters : List (Option (List ℕ))) (d e : Disk) → IsHeld lock name d → Run lock name laters calls d e
+    → (old : List ℕ) → Reads d name (Some old) → (c : Option (List ℕ)) → MayLeave e name c → (c ≡ Some old) ⊎ Contains laters c)
+
+-- After these calls a crash leaves these bytes, or what a later holder of the lock put there, and the file had them when the lock was
+-- had.
+abbrev pub IsOnDisk : List ℕ → List ℕ → List ℕ → List Event → List Event → Type 0
+IsOnDisk lock name old before after =
+    (calls : List Event) × (after ≡ calls ++ before)
+    × ((laters : List (Option (List ℕ))) (d e : Disk) → IsHeld lock name d → Run lock name laters calls d e
+    → Reads d name (Some old) × ((c : Option (List ℕ)) → MayLeave e name c → (c ≡ Some old) ⊎ Contains laters c))

@@ -1,6 +1,6 @@
 //! A folder, by the few calls that replace a file. A folder is asked for a record of its calls and their answers, and for nothing else.
 ghost use Rattle.std.specs.Prelude.{◌≡◌, ◌≤◌, ◌∷◌, List, Some, None, false, length, is_ok, IfOk, MatchResult, option_map};
-ghost use Rattle.file_replacing.specs.Event.{Event, Opened, Locked, Compared, Emptied, Wrote, Synced, Renamed, Removed, Settled, Read};
+ghost use Rattle.file_replacing.specs.Event.{Event, Opened, Locked, Compared, Emptied, Wrote, Synced, Renamed, Removed, Settled, SyncedFile, Read};
 
 use std::alloc::Global;
 use std::io;
@@ -62,6 +62,10 @@ pub trait Folder {
     /// Syncs the folder that was opened.
     fn settle(&mut self) -> io::Result<()>
         ensures { history self.new ≡ Settled (is_ok result) ∷ history self.old };
+
+    /// Syncs the file of a name, which need not be the open one.
+    fn sync_file(&mut self, name: &str) -> io::Result<()>
+        ensures { history self.new ≡ SyncedFile name.now (is_ok result) ∷ history self.old };
 
     /// The bytes of the file of a name, if there is one.
     fn read(&mut self, alloc: Global, name: &str) -> io::Result<Option<Vec<u8>>>

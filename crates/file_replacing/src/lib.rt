@@ -4,6 +4,7 @@
 
 mod folder;
 mod holding;
+mod keeping;
 mod laws;
 mod names;
 mod outcome;
@@ -15,6 +16,7 @@ mod watch;
 
 pub use folder::Folder;
 pub use holding::{HoldError, hold, try_hold};
+pub use keeping::keep;
 pub use laws::{holding_then_replacing, restarts};
 pub use names::folder_of;
 pub use outcome::{ReplaceError, Replaced};

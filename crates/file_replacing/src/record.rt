@@ -1,7 +1,7 @@
 //! A list of calls that only clauses read.
 ghost use Rattle.std.specs.Prelude.{◌≡◌, List, [], ◌∷◌, Some, None};
 ghost use Rattle.std.specs.Borrow.{ftrue};
-ghost use Rattle.file_replacing.specs.Event.{Opened, Locked, Compared, Emptied, Wrote, Synced, Renamed, Removed, Settled, Read};
+ghost use Rattle.file_replacing.specs.Event.{Opened, Locked, Compared, Emptied, Wrote, Synced, Renamed, Removed, Settled, SyncedFile, Read};
 ghost use Rattle.file_replacing.specs.Note.{Noted, events_of};
 
 use std::marker::{Model, PhantomData};
@@ -26,6 +26,8 @@ const REMOVED: u64 = 7;
 const SETTLED: u64 = 8;
 
 const READ: u64 = 9;
+
+const SYNCED_FILE: u64 = 10;
 
 /// The calls of a folder so far, each with its answer. It takes no memory, and does nothing.
 #[derive(Drop)]
@@ -148,6 +150,17 @@ impl Record {
             self.note(&[SETTLED, 1, 0], &[], &[]);
         } else {
             self.note(&[SETTLED, 0, 0], &[], &[]);
+        }
+    }
+
+    /// The file of a name was synced, or was not.
+    pub fn synced_file(&mut self, name: &str, ok: bool)
+        ensures { events_of self.new.noted ≡ SyncedFile name.now ok ∷ events_of self.old.noted }
+    {
+        if ok {
+            self.note(&[SYNCED_FILE, 1, 0], name.as_bytes(), &[]);
+        } else {
+            self.note(&[SYNCED_FILE, 0, 0], name.as_bytes(), &[]);
         }
     }
 

@@ -235,6 +235,12 @@ impl<'r, R: Files<File = File>, W: ReadWatch + Drop> Folder for SystemFolder<'r,
         answer
     }
 
+    fn sync_file(&mut self, name: &str) -> io::Result<()> {
+        let answer = fs::open(self.rt, name).and_then(|file| file.sync_all());
+        self.calls.synced_file(name, answer.is_ok());
+        answer
+    }
+
     fn read(&mut self, alloc: Global, name: &str) -> io::Result<Option<Vec<u8>>> {
         let answer = read_whole(self.rt, &self.watch, alloc, name);
         match &answer {

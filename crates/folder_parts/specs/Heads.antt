@@ -1,5 +1,5 @@
 -- The head of a part: its schema and how many batches it has.
-use Rattle.std.specs.Prelude.{◌≡◌, ℕ, ◌+◌, ◌≤◌, List, length, take, codes, Result, Ok, Err, Option, Some, None, cond, nat_le}
+use Rattle.std.specs.Prelude.{◌≡◌, ◌==◌, ◌||◌, ℕ, ◌+◌, ◌≤◌, List, length, take, codes, Result, Ok, Err, Option, Some, None, cond, nat_le}
 use Rattle.std.specs.List.{sum}
 use Rattle.table_model.specs.Reading.{◌>>=◌}
 use Rattle.table_model.specs.Table.{Table}
@@ -17,6 +17,6 @@ front = before (head (codes "FLCF")) (λ _. name_count)
 abbrev pub head_in : List ℕ → Result (Table × ℕ) Refusal
 head_in bytes = front.read (length bytes) bytes >>= λ found. Ok found.0
 
--- whether a number of batches are too many
+-- whether parts with these numbers of batches have room for new ones: for none always, else where all are not too many
 abbrev pub room_for : List ℕ → ℕ → Result (Unit {0}) Refusal
-room_for batches new = cond (nat_le (new + sum batches) batch_limit) (Ok tt) (Err Full)
+room_for batches new = cond (new == 0 || nat_le (new + sum batches) batch_limit) (Ok tt) (Err Full)

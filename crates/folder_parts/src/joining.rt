@@ -7,7 +7,7 @@ ghost use Rattle.folder_parts.specs.Parts.{OpensPart, JoinsPart};
 use crate::fault::PartFault;
 use crate::part_naming::is_part;
 use column_file::open_bytes;
-use replica_store::Store;
+use replica_store::{Joined, Store};
 use std::alloc::Global;
 use std::marker::Model;
 use table_model::{Origin, Refusal};
@@ -15,7 +15,7 @@ use table_model::{Origin, Refusal};
 /// The join of parts that came one after another. Contracts see the replica that has what all of them hold.
 #[derive(Drop)]
 pub(crate) struct Join {
-    store: Store,
+    joined: Joined,
 }
 
 impl Model for Join {
@@ -26,9 +26,9 @@ impl Model for Join {
 
     ghost coded = { coded_replica };
 
-    ghost view = { λ j. j.store.replica };
+    ghost view = { λ j. j.joined.replica };
 
-    ghost invariant = { λ j. AreCanonicalOf j.store.replica.schema j.store.replica.state.batches j.store.segments };
+    ghost invariant = { λ j. AreCanonicalOf j.joined.replica.schema j.joined.replica.state.batches j.joined.segments };
 }
 
 /// What a part of this name holds. Refused are a name of other bytes (`Damaged`), and then what [`open`](column_file::open) refuses.
@@ -52,7 +52,8 @@ impl Join {
         ensures { OpensPart (λ join. join) result (record { name = name.now; bytes = bytes.now }) }
     {
         let store = open_part(alloc, name, bytes)?;
-        Ok(Join { store })
+        let joined = Joined::new(alloc, store)?;
+        Ok(Join { joined })
     }
 
     /// The join with a further part.
@@ -64,17 +65,17 @@ impl Join {
         ensures { JoinsPart (λ join. join) result self (record { name = name.now; bytes = bytes.now }) }
     {
         let other = open_part(alloc, name, bytes)?;
-        let Join { mut store } = self;
-        store.merge(alloc, &other)?;
-        Ok(Join { store })
+        let Join { joined } = self;
+        let next = joined.with(alloc, other)?;
+        Ok(Join { joined: next })
     }
 
     /// The store that has what all parts hold. `Memory` is answered where there is none for it.
-    pub fn into_store(self, _alloc: Global) -> Result<Store, Refusal>
+    pub fn into_store(self, alloc: Global) -> Result<Store, Refusal>
         ensures store { Gives (λ store. store.replica) result (Ok self) }
         ensures segments { IfOk result (λ store. AreCanonicalOf store.replica.schema store.replica.state.batches store.segments) }
     {
-        let Join { store } = self;
-        Ok(store)
+        let Join { joined } = self;
+        joined.into_store(alloc)
     }
 }

@@ -21,11 +21,11 @@ fn sum_of(numbers: &[u32]) -> u128
 }
 
 /// Whether parts with these numbers of batches have room for a number of new ones: all of them together are at most 1,048,576. Otherwise `Full`.
-/// A batch that lies in two parts counts twice.
+/// A batch that lies in two parts counts twice. There is always room for no batch.
 pub fn check_room(batches: &[u32], new: u32) -> Result<(), Refusal>
     ensures { result ≡ room_for batches.now new }
 {
-    if u128::from(new) + sum_of(batches) <= MAX_BATCHES {
+    if new == 0 || u128::from(new) + sum_of(batches) <= MAX_BATCHES {
         Ok(())
     } else {
         Err(Refusal::Full)

@@ -58,6 +58,10 @@ unfoldable pub number_difference : ℕ → List ℕ → ℕ → ℤ
 number_difference t numbers n =
     int_wrap (integer_width t) (pos (by_place numbers n) -ℤ pos (by_place numbers (n - 1)))
 
+-- sixteen numbers are those of a place, of numbers by places
+abbrev pub AreOfPlace : ℕ → List ℕ → List ℕ → Type 0
+AreOfPlace place lanes numbers = (i : ℕ) → i < 16 → slice_index numbers (16 * place + i) ≡ slice_index lanes i
+
 -- the difference at each row, and at step 0, which has none, that of row 1
 unfoldable pub differences_within : ℕ → List ℤ → List ℤ
 differences_within t values = rows_of (λ n. difference_at t values (cond (is_later t n) n 1))

@@ -8,12 +8,12 @@ ghost use Rattle.bit_interleave.specs.PackedWords.{HasWidth};
 ghost use Rattle.bit_interleave.specs.Places.{by_place};
 ghost use Rattle.bit_interleave.specs.Range.{AreInRange, value_at};
 ghost use Rattle.frame_delta.specs.Frame.{ArePacked, TellApart, AreAbove};
-ghost use Rattle.frame_delta.specs.Delta.{IsDeltaForm, AreSums, delta_value, delta_values, least_delta, delta_bytes};
+ghost use Rattle.frame_delta.specs.Delta.{IsDeltaForm, AreSums, AreOfPlace, delta_value, delta_values, least_delta, delta_bytes};
 
 use crate::differences::{bases_of, differences_within, fill_first_steps, starts_at_zero};
 use crate::extremes::{Frame, gaps_above};
 use crate::pieces::{added, put_four, raised};
-use crate::spans::{LaneSpread, at, differences_at, later_spread, low_bits};
+use crate::spans::{LaneSpread, at, differences_at, first_differences, later_spread, low_bits};
 use bit_interleave::{LaneWord, Values, Words, put_place, step_at, wrap};
 use std::alloc::{AllocError, Global};
 use std::marker::Model;
@@ -314,6 +314,18 @@ impl Delta {
             }
         }
         bytes_at(lane_width, so_far.spread().width(lane_width)) < bound
+    }
+
+    /// Whether the payload of the least form of 1024 values may have fewer bytes than `bound`, as far as the numbers of places 0 and 1
+    /// tell, sixteen each, of the numbers by places that `is_below` takes. Where it says no, it has no fewer.
+    pub fn may_be_below(lane_width: usize, first: [u64; 16], second: [u64; 16], bound: u16) -> bool
+        requires lane_width { IsLaneWidth lane_width }
+        ensures { (numbers : List ℕ) (values : List ℤ) (r : ℤ) → AreOfPlace 0 first numbers → AreOfPlace 1 second numbers → AreAbove lane_width r numbers values
+            → delta_bytes (least_delta lane_width values) < bound → IsTrue result }
+    {
+        let differences = first_differences(lane_width, first, second);
+        let spread = LaneSpread::of(differences).spread();
+        bytes_at(lane_width, spread.width(lane_width)) < bound
     }
 
     /// The lane width in bits: 8, 16, 32 or 64.

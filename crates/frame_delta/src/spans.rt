@@ -1,11 +1,11 @@
 //! The least and the greatest of numbers by places, sixteen rows at a time.
-ghost use Rattle.std.specs.Prelude.{◌≡◌, ℕ, ◌+◌, ◌*◌, ◌%◌, ◌^◌, ◌<◌, ◌≤◌, min, max, pos, length, slice_index};
+ghost use Rattle.std.specs.Prelude.{◌≡◌, ℕ, ◌+◌, ◌*◌, ◌%◌, ◌^◌, ◌<◌, ◌≤◌, List, min, max, pos, length, slice_index};
 ghost use Rattle.std.specs.Int.{int_wrap};
 ghost use Rattle.transpose_order.specs.Place.{IsLaneWidth};
 ghost use Rattle.bit_interleave.specs.Arithmetic.{integer_width};
 ghost use Rattle.bit_interleave.specs.Places.{by_place};
 ghost use Rattle.frame_delta.specs.Extremes.{at_top, IsSpread};
-ghost use Rattle.frame_delta.specs.Delta.{is_later, number_difference};
+ghost use Rattle.frame_delta.specs.Delta.{is_later, number_difference, AreOfPlace};
 
 use crate::extremes::Spread;
 use std::simd::prelude::*;
@@ -46,6 +46,24 @@ pub(crate) fn differences_at(
     ensures lanes { (i : ℕ) → i < 16 → slice_index result i ≡ at_top lane_width (number_difference lane_width numbers.now (64 * i + place)) }
 {
     ordered(lane_width, at(numbers, place) - at(numbers, place - 1))
+}
+
+/// The differences of the numbers of place 1 from those of place 0, as numbers in the same order.
+#[inline(always)]
+pub(crate) fn first_differences(
+    lane_width: usize,
+    first: [u64; 16],
+    second: [u64; 16],
+) -> Simd<u64, 16>
+    requires { IsLaneWidth lane_width }
+    ensures long { length result ≡ 16 }
+    ensures lanes { (numbers : List ℕ) → AreOfPlace 0 first numbers → AreOfPlace 1 second numbers → (i : ℕ) → i < 16
+        → slice_index result i ≡ at_top lane_width (number_difference lane_width numbers (64 * i + 1)) }
+{
+    ordered(
+        lane_width,
+        Simd::from_array(second) - Simd::from_array(first),
+    )
 }
 
 /// The low `lane_width` bits of each of sixteen numbers.

@@ -2,8 +2,6 @@
 #![tactic(auto)]
 
 #[cfg(test)]
-mod place_tests;
-#[cfg(test)]
 mod readme_example;
 #[cfg(test)]
 mod refused_tests;

@@ -1,6 +1,7 @@
 //! What a command changes in a file, and what it says of that.
 
-use file_replacing::{Folder, Place, Replaced};
+use file_commands::Left;
+use file_replacing::{Folder, Place};
 use replica_files::{Applied, Deleted, DeletedRows, Forgotten, Imported, Load, file_schema};
 use replica_store::Offer;
 use std::alloc::Global;
@@ -47,33 +48,33 @@ impl<'a> Change<'a> {
         folder: &mut F,
         place: &Place,
     ) -> Result<Done, Refusal> {
-        let (answer, replaced) = match self {
+        let (answer, left) = match self {
             Change::Create { table, columns } => {
                 let replaced = file_commands::create(alloc, folder, place, table, columns)?;
-                (Answer::Created, Some(replaced))
+                (Answer::Created, Left::Changed(replaced))
             }
             Change::Import { load, first, words } => {
                 let done = file_commands::import(alloc, folder, place, load, first, words)?;
-                (Answer::Imported(done.answer), done.replaced)
+                (Answer::Imported(done.answer), done.left)
             }
             Change::Delete { condition } => {
                 let done = file_commands::delete(alloc, folder, place, condition)?;
-                (Answer::Deleted(done.answer), done.replaced)
+                (Answer::Deleted(done.answer), done.left)
             }
             Change::DeleteRows { first, last } => {
                 let done = file_commands::delete_rows(alloc, folder, place, first, last)?;
-                (Answer::DeletedRows(done.answer), done.replaced)
+                (Answer::DeletedRows(done.answer), done.left)
             }
             Change::Forget => {
                 let done = file_commands::forget(alloc, folder, place)?;
-                (Answer::Forgotten(done.answer), done.replaced)
+                (Answer::Forgotten(done.answer), done.left)
             }
             Change::Apply { offers } => {
                 let done = file_commands::apply(alloc, folder, place, offers)?;
-                (Answer::Applied(done.answer), done.replaced)
+                (Answer::Applied(done.answer), done.left)
             }
         };
-        Ok(Done::new(answer, replaced))
+        Ok(Done::new(answer, left))
     }
 
     /// Whether the change would be refused of a file as it is, whose lock can't be had.
@@ -132,18 +133,18 @@ pub enum Answer {
 #[derive(Drop)]
 pub struct Done {
     answer: Answer,
-    replaced: Option<Replaced>,
+    left: Left,
 }
 
 impl Done {
-    /// A command's answer, and how what it changed was replaced; none if nothing was changed.
-    pub fn new(answer: Answer, replaced: Option<Replaced>) -> Done {
-        Done { answer, replaced }
+    /// A command's answer, and how it left what it is about.
+    pub fn new(answer: Answer, left: Left) -> Done {
+        Done { answer, left }
     }
 
-    /// Whether the file was replaced, and its folder could not be synced.
-    pub fn is_unsynced(&self) -> bool {
-        self.replaced == Some(Replaced::Unsynced)
+    /// How it left that.
+    pub fn left(&self) -> Left {
+        self.left
     }
 }
 

@@ -11,7 +11,8 @@ use crate::reports::write_line;
 use crate::watched_folder::{Unheld, WatchedFolder};
 use command_line::{CsvForm, Source, not_for_a_folder};
 use csv_rows::{CsvError, CsvReader, Dialect, Order, WordError};
-use file_replacing::{Folder, HoldError, Place, SystemFolder};
+use file_commands::Left;
+use file_replacing::{Folder, HoldError, Place, Replaced, SystemFolder};
 use refusal_sentences::{
     CommandRefusal, Fields, Knowledge, Printable, Sentence, Text, Wanted, is_of_a_text,
 };
@@ -350,12 +351,7 @@ fn no_column(alloc: Global, schema: &Schema, words: &str, place: u64) -> Failure
         0u64,
         |at, word| at.saturating_add(word.len() as u64).saturating_add(1),
     );
-    let text = Text {
-        text: words,
-        is_condition: true,
-        schema: Some(schema),
-    };
-    Failure::of_text(alloc, Refusal::NoSuchColumn(at), "--columns", text)
+    Failure::of_name(alloc, "--columns", words, at, schema)
 }
 
 /// How many fields a line should have.
@@ -620,8 +616,10 @@ fn say<R: Print + Eprint + Files + AllocGlobal>(
     } else {
         write_line(rt, line.as_bytes())
     };
-    if done.is_unsynced() {
-        say_unsynced(rt, file);
+    match done.left() {
+        Left::Changed(Replaced::Unsynced) => say_unsynced(rt, file),
+        Left::KeptUnsynced => say_kept_unsynced(rt, file),
+        Left::Changed(Replaced::Synced) | Left::Kept => {}
     }
     told
 }
@@ -631,5 +629,13 @@ pub fn say_unsynced<R: Eprint>(rt: &R, file: &str) {
     let name = Printable(file);
     let _ = eprintln!(rt;
         "{name}: this was replaced, but its folder could not be synced: a loss of power may bring the old file back"
+    );
+}
+
+/// Says on standard error that nothing changed in a file, and it or its folder could not be synced.
+pub fn say_kept_unsynced<R: Eprint>(rt: &R, file: &str) {
+    let name = Printable(file);
+    let _ = eprintln!(rt;
+        "{name}: nothing changed, but this or its folder could not be synced: a loss of power may bring an older file back"
     );
 }

@@ -182,6 +182,26 @@ impl Failure {
         }
     }
 
+    /// A refusal of the name that begins at a byte of a list of columns, which was given with an option.
+    pub fn of_name(alloc: Global, option: &str, list: &str, at: u64, schema: &Schema) -> Failure {
+        let rest = usize::try_from(at).ok().and_then(|at| list.get(at..));
+        let name = rest.unwrap_or(list).split(',').next().unwrap_or(list);
+        let refusal = Refusal::NoSuchColumn(at);
+        let sentence = Sentence {
+            refusal: CommandRefusal::from(refusal),
+            subject: option,
+            knowledge: Knowledge::Name { name, schema },
+        };
+        let pointer = match Pointer::new(list, refusal) {
+            Some(pointer) => format!(in alloc; "{pointer}").ok(),
+            None => None,
+        };
+        Failure {
+            pointer,
+            ..Failure::new(alloc, sentence)
+        }
+    }
+
     /// Reports the failure, and answers the status that it ends with. Where standard error is no terminal the place in a text isn't
     /// shown.
     pub fn report<R: Print + Eprint, N: Write>(

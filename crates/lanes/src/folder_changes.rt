@@ -7,12 +7,12 @@ use crate::changing::{
 };
 use crate::failure::Failure;
 use crate::folders::{Opened, open_folder, read_heads};
-use crate::named_loads::put_named;
+use crate::judged_puts::put_judged;
 use crate::names::fault_of_names;
 use crate::progress::Progress;
-use crate::putting::{exists, make_folder, put_part, say};
+use crate::putting::{exists, keep_all, make_folder, put_part, say};
 use command_line::{CsvForm, Source};
-use file_replacing::Replaced;
+use file_commands::Left;
 use folder_parts::{
     check_room, part_of_deletes, part_of_load, part_of_named_load, part_of_offers, part_of_rows,
 };
@@ -57,7 +57,13 @@ pub fn create<R: Print + Eprint + Files<File = File> + RandomSource + AllocGloba
         (Err(refusal), _) => return Err(refused_alone(rt, folder, in_memory(refusal))),
     }
     let replaced = make_folder(rt, folder, writer.into_inner().as_slice())?;
-    say(rt, folder, Answer::Created, Some(replaced), is_quiet)
+    say(
+        rt,
+        folder,
+        Answer::Created,
+        Left::Changed(replaced),
+        is_quiet,
+    )
 }
 
 /// Puts the rows of comma-separated values into a folder as one part, under names that are drawn or begin with the one that is given.
@@ -115,10 +121,18 @@ fn import_drawn<
     };
     let mut writer = Counted::new(Vec::new(rt.alloc()));
     match part_of_load(rt.alloc(), load, &words, &mut writer) {
+        Ok(done) if done.new == 0 => {
+            say(rt, folder, Answer::Imported(done), Left::Kept, is_quiet)
+        }
         Ok(done) => {
-            let bytes = writer.into_inner();
-            let replaced = put_some(rt, folder, done.new != 0, bytes.as_slice())?;
-            say(rt, folder, Answer::Imported(done), replaced, is_quiet)
+            let replaced = put_part(rt, folder, writer.into_inner().as_slice())?;
+            say(
+                rt,
+                folder,
+                Answer::Imported(done),
+                Left::Changed(replaced),
+                is_quiet,
+            )
         }
         Err(refusal) => Err(refused_alone(rt, folder, in_memory(refusal))),
     }
@@ -149,28 +163,22 @@ fn import_named<
     let load = load_of(rt, progress, csvs, opened.held.schema(), form)?;
     let mut writer = Counted::new(Vec::new(rt.alloc()));
     match part_of_named_load(rt.alloc(), &mut opened.held, load, first, &mut writer) {
-        Ok(done) if done.new == 0 => { say(rt, folder, Answer::Imported(done), None, is_quiet) }
+        Ok(done) if done.new == 0 => {
+            let left = keep_all(rt, folder, &opened.parts);
+            say(rt, folder, Answer::Imported(done), left, is_quiet)
+        }
         Ok(done) => {
             let bytes = writer.into_inner();
-            let replaced = put_named(rt, folder, &opened.parts, bytes.as_slice())?;
-            say(rt, folder, Answer::Imported(done), Some(replaced), is_quiet)
+            let replaced = put_judged(rt, folder, &opened.parts, bytes.as_slice())?;
+            say(
+                rt,
+                folder,
+                Answer::Imported(done),
+                Left::Changed(replaced),
+                is_quiet,
+            )
         }
         Err(refusal) => Err(refused_alone(rt, folder, in_memory(refusal))),
-    }
-}
-
-/// Puts bytes into a folder as a part, if there is anything to put.
-fn put_some<R: Files<File = File> + RandomSource + AllocGlobal>(
-    rt: &R,
-    folder: &str,
-    is_some: bool,
-    bytes: &[u8],
-) -> Result<Option<Replaced>, Failure> {
-    if is_some {
-        let replaced = put_part(rt, folder, bytes)?;
-        Ok(Some(replaced))
-    } else {
-        Ok(None)
     }
 }
 
@@ -187,10 +195,19 @@ pub fn delete<
     let opened: Opened<OpenFile> = open_folder(rt, progress, folder)?;
     let mut writer = Counted::new(Vec::new(rt.alloc()));
     match part_of_deletes(rt.alloc(), opened.held.store(), condition, &mut writer) {
+        Ok(done) if done.rows == 0 => {
+            let left = keep_all(rt, folder, &opened.parts);
+            say(rt, folder, Answer::Deleted(done), left, is_quiet)
+        }
         Ok(done) => {
-            let bytes = writer.into_inner();
-            let replaced = put_some(rt, folder, done.rows != 0, bytes.as_slice())?;
-            say(rt, folder, Answer::Deleted(done), replaced, is_quiet)
+            let replaced = put_part(rt, folder, writer.into_inner().as_slice())?;
+            say(
+                rt,
+                folder,
+                Answer::Deleted(done),
+                Left::Changed(replaced),
+                is_quiet,
+            )
         }
         Err(refusal) if is_of_a_text(refusal) => {
             let schema = Some(opened.held.schema());
@@ -210,13 +227,14 @@ pub fn delete_rows<
         Ok(()) => {
             let replaced = put_part(rt, folder, writer.into_inner().as_slice())?;
             let answer = Answer::DeletedRows(DeletedRows { is_changed: true });
-            say(rt, folder, answer, Some(replaced), is_quiet)
+            say(rt, folder, answer, Left::Changed(replaced), is_quiet)
         }
         Err(refusal) => Err(refused_alone(rt, folder, in_memory(refusal))),
     }
 }
 
-/// Puts what offers bring into a folder as one part, all or none.
+/// Puts what offers bring into a folder as one part, all or none. Of two applies at once that have other rows under one name the second
+/// is refused.
 pub fn apply<
     R: Print
         + Eprint
@@ -239,10 +257,20 @@ pub fn apply<
     let offers = offers.as_slice();
     let mut writer = Counted::new(Vec::new(rt.alloc()));
     match part_of_offers(rt.alloc(), &mut opened.held, offers, &mut writer) {
+        Ok(done) if !done.is_changed => {
+            let left = keep_all(rt, folder, &opened.parts);
+            say(rt, folder, Answer::Applied(done), left, is_quiet)
+        }
         Ok(done) => {
             let bytes = writer.into_inner();
-            let replaced = put_some(rt, folder, done.is_changed, bytes.as_slice())?;
-            say(rt, folder, Answer::Applied(done), replaced, is_quiet)
+            let replaced = put_judged(rt, folder, &opened.parts, bytes.as_slice())?;
+            say(
+                rt,
+                folder,
+                Answer::Applied(done),
+                Left::Changed(replaced),
+                is_quiet,
+            )
         }
         Err(Refusal::SchemaDiffers) => {
             let schema = opened.held.schema();

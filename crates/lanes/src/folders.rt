@@ -5,9 +5,10 @@ use crate::part_failures::{Unread, busy, of_folder, refused, why_unread};
 use crate::parts::{Opening, PartFile, Untold};
 use crate::progress::{PartCount, Progress, ToldOpening};
 use folder_parts::{
-    HEAD_BYTES, Head, Part, PartFault, PartRefusal, is_part_name, join_parts, open_parts, part_head,
+    HEAD_BYTES, Head, Part, PartFault, PartRefusal, is_part, is_part_name, join_parts, open_parts,
+    part_head,
 };
-use part_folder::{Listing, list, list_locked, path_in};
+use part_folder::{Listing, Patience, is_link, list, list_locked, path_in};
 use refusal_sentences::CommandRefusal;
 use replica_files::OpenFile;
 use replica_store::Store;
@@ -16,9 +17,6 @@ use std::fs::{self, File, Files};
 use std::io::{self, ErrorKind, Read};
 use std::rt::Clock;
 use table_model::{Counted, Refusal, Schema};
-
-/// How often a folder is looked at, if parts are gone when they are read.
-const LOOKS: u32 = 100;
 
 /// The parts of a folder at one look, by their names and their paths in ascending order, and how many other names it has.
 #[derive(Drop)]
@@ -210,7 +208,8 @@ pub fn open_folder<H: Opens, R: Eprint + Files<File = File> + Clock + AllocGloba
     folder: &str,
 ) -> Result<Opened<H>, Failure> {
     let mut is_careful = false;
-    for _ in 0..LOOKS {
+    let mut patience = Patience::new(rt);
+    for _ in 0..u64::MAX {
         let parts = Parts::listed(rt, folder, is_careful)?;
         let count = PartCount::new(&*progress, &*folder, parts.count());
         let outcome = open_paths(rt, parts.paths(), ToldOpening::new(&count));
@@ -220,6 +219,9 @@ pub fn open_folder<H: Opens, R: Eprint + Files<File = File> + Clock + AllocGloba
             Err(Unread::Gone) => {}
             Err(Unread::Folder) => is_careful = true,
             Err(Unread::Refused(failure)) => return Err(failure),
+        }
+        if !patience.wait(rt) {
+            break;
         }
     }
     Err(busy(rt.alloc(), folder))
@@ -248,13 +250,17 @@ pub fn read_heads<R: Files<File = File> + Clock + AllocGlobal + Clone + Drop>(
     folder: &str,
 ) -> Result<Heads, Failure> {
     let mut is_careful = false;
-    for _ in 0..LOOKS {
+    let mut patience = Patience::new(rt);
+    for _ in 0..u64::MAX {
         let parts = Parts::listed(rt, folder, is_careful)?;
         match heads_of(rt, parts.paths()) {
             Ok(heads) => return Ok(heads),
             Err(Unread::Gone) => {}
             Err(Unread::Folder) => is_careful = true,
             Err(Unread::Refused(failure)) => return Err(failure),
+        }
+        if !patience.wait(rt) {
+            break;
         }
     }
     Err(busy(rt.alloc(), folder))
@@ -279,13 +285,14 @@ fn heads_of<R: Files<File = File> + AllocGlobal>(
     let mut buffer = vec![in rt.alloc(); 0u8; HEAD_BYTES]?;
     let mut batches = Vec::with_capacity(rt.alloc(), paths.len())?;
     let mut found: Option<Schema> = None;
+    let mut first = 0;
     let mut smallest = (0, u64::MAX);
     for (index, path) in paths.iter().enumerate() {
         let (head, size) = match front_of(rt, path.as_str(), buffer.as_mut_slice()) {
             Ok(Front::Head(head, size)) => (head, size),
             Ok(Front::Gone) => return Err(Unread::Gone),
             Ok(Front::Folder) => continue,
-            Err(fault) => return Err(Unread::Refused(refused(rt, paths, index, fault))),
+            Err(fault) => return Err(Unread::Refused(of_head(rt, paths, index, index, fault))),
         };
         if size < smallest.1 {
             smallest = (index, size);
@@ -294,10 +301,13 @@ fn heads_of<R: Files<File = File> + AllocGlobal>(
         match &found {
             Some(schema) if !schema.same(&head.schema) => {
                 let fault = PartFault::Refused(Refusal::SchemaDiffers);
-                return Err(Unread::Refused(refused(rt, paths, index, fault)));
+                return Err(Unread::Refused(of_head(rt, paths, first, index, fault)));
             }
             Some(_) => {}
-            None => found = Some(head.schema),
+            None => {
+                found = Some(head.schema);
+                first = index;
+            }
         }
     }
     let Some(schema) = found else {
@@ -305,6 +315,38 @@ fn heads_of<R: Files<File = File> + AllocGlobal>(
     };
     let _whole = open_one(rt, paths, smallest.0)?;
     Ok(Heads { schema, batches })
+}
+
+/// The refusal of the part of one of these paths, whose head is at fault or of another table than that of the first. If the bytes of one
+/// of the two are not those of its name, it is damaged.
+fn of_head<R: Files + AllocGlobal>(
+    rt: &R,
+    paths: &[String],
+    first: usize,
+    index: usize,
+    fault: PartFault,
+) -> Failure {
+    let is_read = fault != PartFault::Refused(Refusal::ReadFault)
+        && fault != PartFault::Refused(Refusal::Memory);
+    for at in [index, first] {
+        if let Some(path) = paths.get(at) {
+            if is_read && is_damaged(rt, path.as_str()) {
+                return refused(rt, paths, at, PartFault::Damaged);
+            }
+        }
+    }
+    refused(rt, paths, index, fault)
+}
+
+/// Whether a part that can be read has other bytes than its name says.
+fn is_damaged<R: Files + AllocGlobal>(rt: &R, path: &str) -> bool {
+    match fs::read(rt, path) {
+        Ok(bytes) => match is_part(rt.alloc(), last_of(path), bytes.as_slice()) {
+            Ok(is_named) => !is_named,
+            Err(_) => false,
+        },
+        Err(_) => false,
+    }
 }
 
 /// What the part of one of these paths holds, by its index.
@@ -331,7 +373,7 @@ fn front_of<R: Files<File = File> + AllocGlobal>(
             Ok(Front::Head(part_head(rt.alloc(), bytes)?, size))
         }
         Ok(None) => Ok(Front::Folder),
-        Err(error) if error.kind() == ErrorKind::NotFound => Ok(Front::Gone),
+        Err(error) if error.kind() == ErrorKind::NotFound && !is_link(rt, path) => Ok(Front::Gone),
         Err(_) => Err(PartFault::Refused(Refusal::ReadFault)),
     }
 }

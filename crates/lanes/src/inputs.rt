@@ -3,11 +3,11 @@
 use crate::failure::{Failure, INPUT};
 use crate::folders::{Opened, is_folder, open_folder};
 use crate::progress::{Progress, Told};
-use answer_parts::Part;
 use column_file::read_schema;
 use command_line::Source;
 use either::Either;
-use part_file::read_part;
+use partial_answers::PartialAnswer;
+use partial_file::read_partial_answer;
 use refusal_sentences::{CommandRefusal, Sentence};
 use replica_files::{OpenFile, file_schema};
 use std::alloc::Global;
@@ -97,13 +97,19 @@ pub fn schema_again<R: Files + AllocGlobal>(rt: &R, name: &str) -> Option<Schema
     }
 }
 
-/// A part that was read before, for a sentence. None if it can't be read twice, as a pipe can't.
-pub fn part_again<R: Files + AllocGlobal>(rt: &R, source: Source<'_>) -> Option<Part> {
+/// A partial answer that was read before, for a sentence. None if it can't be read twice, as a pipe can't.
+pub fn partial_answer_again<R: Files + AllocGlobal>(
+    rt: &R,
+    source: Source<'_>,
+) -> Option<PartialAnswer> {
     let Source::File(name) = source else {
         return None;
     };
     match fs::metadata(rt, name) {
-        Ok(found) if found.is_file() => read_part(rt.alloc(), &mut reader_of(rt, name)).ok(),
+        Ok(found) if found.is_file() => read_partial_answer(
+            rt.alloc(),
+            &mut reader_of(rt, name),
+        ).ok(),
         _ => None,
     }
 }

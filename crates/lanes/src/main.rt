@@ -9,8 +9,8 @@ mod folder_changes;
 mod folder_reports;
 mod folders;
 mod inputs;
+mod judged_puts;
 mod merging;
-mod named_loads;
 mod names;
 mod output;
 mod packing;
@@ -19,7 +19,7 @@ mod parts;
 mod progress;
 mod putting;
 mod queries;
-mod query_parts;
+mod query_partial_answers;
 mod reports;
 mod scripts;
 mod watched;
@@ -121,13 +121,15 @@ fn answer<
             queries,
             format,
         } => return query(rt, progress, file, queries, format, terminals, notes),
-        Request::Part { file, sql } => {
-            query_parts::part(rt, progress, file, sql, terminals.output)?;
+        Request::Partial { file, sql } => {
+            query_partial_answers::partial(rt, progress, file, sql, terminals.output)?;
         }
-        Request::Combine { parts } => {
-            query_parts::combine(rt, progress, parts.as_slice(), terminals.output)?;
+        Request::Combine { partials } => {
+            query_partial_answers::combine(rt, progress, partials.as_slice(), terminals.output)?;
         }
-        Request::Finish { part, format } => query_parts::finish(rt, progress, part, format)?,
+        Request::Finish { partial, format } => query_partial_answers::finish(
+            rt, progress, partial, format,
+        )?,
         Request::Create {
             file,
             table,

@@ -12,8 +12,9 @@ use crate::putting::{make_folder, say};
 use crate::reports::write_line;
 use command_line::{Source, not_for_a_folder};
 use either::Either;
-use file_commands::merged;
+use file_commands::{Left, merged};
 use folder_parts::PartFault;
+use part_folder::Patience;
 use refusal_sentences::CommandRefusal;
 use std::alloc::AllocError;
 use std::fs::{self, File, Files};
@@ -22,9 +23,6 @@ use std::os::unix::fs::MetadataExt;
 use std::random::RandomSource;
 use std::rt::Clock;
 use table_model::{Counted, Refusal};
-
-/// How often folders are looked at, if parts are gone when they are read.
-const LOOKS: u32 = 100;
 
 /// What to do instead of a merge into a folder that is there.
 const NO_FOLDER: &str =
@@ -80,7 +78,7 @@ fn merge_into_folder<
     }
     let bytes = merged_files(rt, progress, names, sources.as_slice())?;
     let replaced = make_folder(rt, out, bytes.as_slice())?;
-    say(rt, out, Answer::Created, Some(replaced), is_quiet)
+    say(rt, out, Answer::Created, Left::Changed(replaced), is_quiet)
 }
 
 /// Writes what all of some files hold to what is no regular file.
@@ -99,7 +97,7 @@ fn fill<R: Eprint + Files<File = File> + Clock + AllocGlobal + Clone + Drop>(
 }
 
 /// Replaces a file by what all of some files hold. Those that are the file itself are read under the name that its lock is of, so that a
-/// link that is switched meanwhile changes nothing. If one of them is the file itself and nothing changed, the file is left alone.
+/// link that is switched meanwhile changes nothing. If one of them is the file itself and nothing changed, the file is had on the disk as it is.
 fn replace<R: Eprint + Files<File = File> + Clock + AllocGlobal + Clone + Drop>(
     rt: &R,
     progress: &Progress<'_, R>,
@@ -116,7 +114,7 @@ fn replace<R: Eprint + Files<File = File> + Clock + AllocGlobal + Clone + Drop>(
             if own.contains(&true)
                 && output.is_held()
                 && has_bytes(rt, output.name(), bytes.as_slice()) => {
-            output.leave();
+            output.keep(rt, out);
             Ok(())
         }
         Ok(bytes) => output.replace(rt, out, bytes.as_slice()),
@@ -192,7 +190,8 @@ fn merged_files<R: Eprint + Files<File = File> + Clock + AllocGlobal + Clone + D
     sources: &[&str],
 ) -> Result<Vec<u8>, Failure> {
     let mut is_careful = false;
-    for _ in 0..LOOKS {
+    let mut patience = Patience::new(rt);
+    for _ in 0..u64::MAX {
         let (inputs, fault) = Inputs::of(rt, sources, is_careful)?;
         let outcome = if fault.is_some() && inputs.paths.as_slice().is_empty() {
             Ok(Vec::new(rt.alloc()))
@@ -204,6 +203,9 @@ fn merged_files<R: Eprint + Files<File = File> + Clock + AllocGlobal + Clone + D
             Err(Unread::Gone) => {}
             Err(Unread::Folder) => is_careful = true,
             Err(Unread::Refused(failure)) => return Err(failure),
+        }
+        if !patience.wait(rt) {
+            break;
         }
     }
     Err(Failure::of(rt.alloc(), CommandRefusal::Busy))

@@ -1,10 +1,10 @@
 //! The file that a merge writes.
 
-use crate::changing::{not_written, say_unsynced, unlocked};
+use crate::changing::{not_written, say_kept_unsynced, say_unsynced, unlocked};
 use crate::failure::Failure;
 use crate::watched_folder::{Unheld, WatchedFolder};
 use file_commands::put;
-use file_replacing::{Folder, Place, Replaced, SystemFolder, Unwatched};
+use file_replacing::{Folder, Place, Replaced, SystemFolder, Unwatched, keep};
 use std::alloc::AllocError;
 use std::fs::{self, File, Files};
 use std::io::{self, Write};
@@ -52,6 +52,18 @@ impl<'r, R: Eprint + Files<File = File> + Clock + AllocGlobal> Output<'r, R> {
         } = self;
         if held == Some(Ok(())) {
             let _ = folder.remove(place.lock());
+        }
+    }
+
+    /// Has the file on the disk as it is, and gives the lock back, which is had. `file` is what it is called in a sentence.
+    pub fn keep(self, rt: &R, file: &str) {
+        let Output {
+            mut folder,
+            place,
+            held: _held,
+        } = self;
+        if keep(&mut folder, &place).is_err() {
+            say_kept_unsynced(rt, file);
         }
     }
 

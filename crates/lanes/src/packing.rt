@@ -3,21 +3,24 @@
 use crate::failure::Failure;
 use crate::folder_changes::in_memory;
 use crate::folders::{Parts, last_of, parts_of};
-use crate::part_failures::{Unread, of_folder, why_unread};
+use crate::part_failures::{Unread, busy, of_folder, why_unread};
 use crate::parts::Untold;
-use crate::putting::put_part;
+use crate::putting::{keep_part, put_part};
 use crate::reports::write_line;
+use file_replacing::Replaced;
 use folder_parts::{PartFault, PartRefusal, is_removed, packed_prefix, part_name};
-use part_folder::{FolderFault, FolderLock, remove_all, sweep};
+use part_folder::{FolderFault, FolderLock, Patience, is_link, remove_all, sweep};
 use refusal_sentences::CommandRefusal;
 use std::alloc::AllocError;
 use std::fs::{self, File, Files};
+use std::io::ErrorKind;
 use std::random::RandomSource;
 use std::rt::Clock;
 use table_model::{Counted, Refusal};
 
-/// How often a pack joins parts at most. Each time there are fewer.
-const ROUNDS: u32 = 1_000;
+/// What is said of a pack whose part is not known to be on the disk.
+const NOT_ON_DISK: &str =
+    "the joined part was added, but it could not be synced, so no part is removed";
 
 /// Joins the small parts of a folder into one, until each part has more than a seventh of the bytes of those before it, or once all
 /// parts; and says how many parts there are then, and how many were joined and removed.
@@ -32,23 +35,54 @@ pub fn pack<
     if let Err(fault) = sweep(rt, folder) {
         return Err(of_folder(rt.alloc(), folder, fault));
     }
-    let mut packed = 0usize;
-    for _ in 0..ROUNDS {
-        let chosen = chosen_parts(rt, folder, is_all)?;
-        if chosen.len() < 2 {
-            break;
-        }
-        packed = packed.saturating_add(pack_once(rt, folder, chosen)?);
-        if is_all {
-            break;
-        }
-    }
+    let packed = pack_rounds(rt, folder, is_all)?;
     let parts = Parts::listed(rt, folder, true)?.count();
     if is_quiet {
         return Ok(());
     }
     let line = format!(in rt.alloc(); "ok parts={parts} packed={packed}\n")?;
     write_line(rt, line.as_bytes())
+}
+
+/// What came of joining some parts once.
+#[derive(Clone, Copy, Debug, PartialEq, Eq)]
+enum Round {
+    /// So many parts were joined and removed.
+    Packed(usize),
+    /// Another pack was there: one of the parts is gone, or the part that joins them.
+    Overtaken,
+}
+
+/// Joins parts as long as there are some to be joined, or once all; how many were joined and removed. If another pack was there, the
+/// parts are listed and chosen anew, until ten seconds are over.
+fn pack_rounds<R: Files<File = File> + Clock + RandomSource + AllocGlobal + Clone + Drop>(
+    rt: &R,
+    folder: &str,
+    is_all: bool,
+) -> Result<usize, Failure> {
+    let mut packed = 0usize;
+    let mut patience = Patience::new(rt);
+    for _ in 0..u64::MAX {
+        let chosen = chosen_parts(rt, folder, is_all)?;
+        if chosen.len() < 2 {
+            return Ok(packed);
+        }
+        match pack_once(rt, folder, chosen.as_slice())? {
+            Round::Packed(count) => {
+                packed = packed.saturating_add(count);
+                if is_all {
+                    return Ok(packed);
+                }
+                patience = Patience::new(rt);
+            }
+            Round::Overtaken => {
+                if !patience.wait(rt) {
+                    break;
+                }
+            }
+        }
+    }
+    Err(busy(rt.alloc(), folder))
 }
 
 /// Whether a name is that of something else than a folder.
@@ -92,45 +126,39 @@ fn sized_parts<R: Files<File = File> + Clock + AllocGlobal + Clone + Drop>(
     for path in parts.into_paths() {
         match fs::metadata(rt, path.as_str()) {
             Ok(found) if found.is_file() => sized.push((found.len(), path))?,
-            _ => {}
+            Ok(_) => {}
+            Err(error) if error.kind() == ErrorKind::NotFound && !is_link(rt, path.as_str()) => {}
+            Err(error) => {
+                let kind = error.kind();
+                let refusal = Refusal::ReadFault;
+                return Err(Failure::of_reason(rt.alloc(), refusal, path.as_str(), kind));
+            }
         }
     }
     sized.sort()?;
     Ok(sized)
 }
 
-/// Joins the parts of these paths into one, and removes them; how many these were. A part that is gone is left out.
+/// Joins the parts of these paths into one, and removes them.
 fn pack_once<R: Files<File = File> + Clock + RandomSource + AllocGlobal + Clone + Drop>(
     rt: &R,
     folder: &str,
-    mut paths: Vec<String>,
-) -> Result<usize, Failure> {
-    for _ in 0..paths.len() {
-        if paths.len() < 2 {
-            break;
-        }
-        match joined(rt, paths.as_slice()) {
-            Ok(bytes) => return replace(rt, folder, paths.as_slice(), bytes.as_slice()),
-            Err((at, Unread::Gone)) | Err((at, Unread::Folder)) if at < paths.len() => {
-                let _ = paths.remove(at);
-            }
-            Err((_, Unread::Refused(failure))) => return Err(failure),
-            Err(_) => break,
-        }
+    paths: &[String],
+) -> Result<Round, Failure> {
+    match joined(rt, paths) {
+        Ok(bytes) => replace(rt, folder, paths, bytes.as_slice()),
+        Err(Unread::Gone) | Err(Unread::Folder) => Ok(Round::Overtaken),
+        Err(Unread::Refused(failure)) => Err(failure),
     }
-    Ok(0)
 }
 
-/// The join of the parts of these paths, as a part; or which of them is not taken, by its index, and why.
-fn joined<R: Files + AllocGlobal>(rt: &R, paths: &[String]) -> Result<Vec<u8>, (usize, Unread)> {
+/// The join of the parts of these paths, as a part.
+fn joined<R: Files + AllocGlobal>(rt: &R, paths: &[String]) -> Result<Vec<u8>, Unread> {
     let mut writer = Counted::new(Vec::new(rt.alloc()));
-    let mut readers = match parts_of(rt, paths, Untold) {
-        Ok(readers) => readers,
-        Err(lacking) => return Err((0, Unread::from(lacking))),
-    };
+    let mut readers = parts_of(rt, paths, Untold)?;
     let outcome = match readers.as_mut_slice().split_first_mut() {
         Some((first, others)) => folder_parts::pack(rt.alloc(), first, others, &mut writer),
-        None => return Ok(writer.into_inner()),
+        None => return Err(Unread::Gone),
     };
     match outcome {
         Ok(()) => Ok(writer.into_inner()),
@@ -141,9 +169,9 @@ fn joined<R: Files + AllocGlobal>(rt: &R, paths: &[String]) -> Result<Vec<u8>, (
             },
         ) => {
             let refusal = in_memory(Refusal::WriteFault);
-            Err((0, Unread::Refused(Failure::of(rt.alloc(), refusal))))
+            Err(Unread::Refused(Failure::of(rt.alloc(), refusal)))
         }
-        Err(refusal) => Err((refusal.part, why_unread(rt, paths, readers, refusal))),
+        Err(refusal) => Err(why_unread(rt, paths, readers, refusal)),
     }
 }
 
@@ -153,9 +181,11 @@ fn replace<R: Files<File = File> + Clock + RandomSource + AllocGlobal + Clone + 
     folder: &str,
     paths: &[String],
     bytes: &[u8],
-) -> Result<usize, Failure> {
+) -> Result<Round, Failure> {
     let pack = part_name(rt.alloc(), bytes)?;
-    let _replaced = put_part(rt, folder, bytes)?;
+    if put_part(rt, folder, bytes)? == Replaced::Unsynced {
+        return Err(not_on_disk(rt, folder));
+    }
     let names = names_of(rt, paths)?;
     let mut removed = Vec::with_capacity(rt.alloc(), names.len())?;
     for name in names.as_slice().chunks(1) {
@@ -169,15 +199,39 @@ fn replace<R: Files<File = File> + Clock + RandomSource + AllocGlobal + Clone + 
         Ok(lock) => lock,
         Err(fault) => return Err(of_folder(rt.alloc(), folder, fault)),
     };
-    let outcome = remove_all(rt, folder, &lock, removed.as_slice());
+    let outcome = remove_joined(rt, folder, &lock, pack.as_str(), bytes, removed.as_slice());
     lock.release();
-    match outcome {
-        Ok(()) => Ok(removed.len()),
+    outcome
+}
+
+/// Removes the parts of these names, once the part that joins them is seen to be on the disk, with these bytes, under the folder's
+/// exclusive lock. If that part is gone meanwhile, nothing is removed.
+fn remove_joined<R: Files<File = File> + AllocGlobal>(
+    rt: &R,
+    folder: &str,
+    lock: &FolderLock,
+    pack: &str,
+    bytes: &[u8],
+    joined: &[&str],
+) -> Result<Round, Failure> {
+    match keep_part(rt, folder, pack, bytes)? {
+        Some(Replaced::Synced) => {}
+        Some(Replaced::Unsynced) => return Err(not_on_disk(rt, folder)),
+        None => return Ok(Round::Overtaken),
+    }
+    match remove_all(rt, folder, lock, joined) {
+        Ok(()) => Ok(Round::Packed(joined.len())),
         Err(FolderFault::System(kind)) => {
             Err(Failure::of_reason(rt.alloc(), Refusal::WriteFault, folder, kind))
         }
         Err(fault) => Err(of_folder(rt.alloc(), folder, fault)),
     }
+}
+
+/// The refusal of a pack whose part is not known to be on the disk.
+fn not_on_disk<R: AllocGlobal>(rt: &R, folder: &str) -> Failure {
+    let refusal = CommandRefusal::from(Refusal::WriteFault);
+    Failure::advised(rt.alloc(), refusal, folder, NOT_ON_DISK)
 }
 
 /// The last components of paths.

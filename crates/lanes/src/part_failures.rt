@@ -4,7 +4,7 @@ use crate::failure::Failure;
 use crate::inputs::reader_of;
 use crate::parts::{Opening, PartFile};
 use folder_parts::{Part, PartFault, PartRefusal};
-use part_folder::FolderFault;
+use part_folder::{FolderFault, is_link};
 use refusal_sentences::{CommandRefusal, Knowledge, Sentence};
 use replica_store::Store;
 use std::alloc::{AllocError, AllocFailed, Global};
@@ -75,14 +75,6 @@ pub fn unread_for<R: Files + AllocGlobal>(
             kind,
         )),
         None => Unread::Refused(refused(rt, paths, at, PartFault::Refused(Refusal::ReadFault))),
-    }
-}
-
-/// Whether a path is that of a symbolic link.
-fn is_link<R: Files>(rt: &R, path: &str) -> bool {
-    match fs::symlink_metadata(rt, path) {
-        Ok(found) => found.is_symlink(),
-        Err(_) => false,
     }
 }
 

@@ -2,12 +2,14 @@
 
 use crate::change::{Answer, Done};
 use crate::failure::Failure;
+use crate::folders::Parts;
 use crate::reports::write_line;
+use file_commands::Left;
 use file_replacing::Replaced;
-use folder_parts::{is_part, part_name};
-use part_folder::{MakeFault, Placed, Temporary, make, path_in, settle};
+use folder_parts::part_name;
+use part_folder::{Kept, MakeFault, Placed, Temporary, keep, make, path_in, sync_all};
 use refusal_sentences::{CommandRefusal, Printable};
-use std::fs::{self, File, Files};
+use std::fs::{File, Files};
 use std::io::ErrorKind;
 use std::random::RandomSource;
 use table_model::Refusal;
@@ -24,7 +26,7 @@ pub fn put_part<R: Files<File = File> + RandomSource + AllocGlobal>(
     let name = part_name(rt.alloc(), bytes)?;
     for _ in 0..TRIES {
         let temporary = written(rt, folder, bytes)?;
-        if let Some(replaced) = place(rt, folder, temporary, name.as_str())? {
+        if let Some(replaced) = place(rt, folder, temporary, name.as_str(), bytes)? {
             return Ok(replaced);
         }
     }
@@ -43,42 +45,50 @@ pub fn written<'r, R: Files<File = File> + RandomSource + AllocGlobal>(
     }
 }
 
-/// Gives a temporary the name of the part that it is. None if a part that had the name before is gone since.
+/// Gives a temporary, which has these bytes, the name of the part that it is. None if a part that had the name before is gone since.
 pub fn place<R: Files<File = File> + RandomSource + AllocGlobal>(
     rt: &R,
     folder: &str,
     temporary: Temporary<'_, R>,
     name: &str,
+    bytes: &[u8],
 ) -> Result<Option<Replaced>, Failure> {
     let path = path_in(rt.alloc(), folder, name)?;
     match temporary.place(path.as_str()) {
         Ok(Placed::Synced) => Ok(Some(Replaced::Synced)),
         Ok(Placed::Unsynced) => Ok(Some(Replaced::Unsynced)),
-        Ok(Placed::Taken) => keep(rt, folder, path.as_str(), name),
+        Ok(Placed::Taken) => keep_part(rt, folder, name, bytes),
         Err(error) => Err(unwritten(rt, folder, error.kind())),
     }
 }
 
-/// Compares a part that is there already with its name, and has it on the disk. None if it is gone.
-fn keep<R: Files<File = File> + AllocGlobal>(
+/// Has a part on the disk that is there already with these bytes. None if it is gone.
+pub fn keep_part<R: Files<File = File> + AllocGlobal>(
     rt: &R,
     folder: &str,
-    path: &str,
     name: &str,
+    bytes: &[u8],
 ) -> Result<Option<Replaced>, Failure> {
-    let bytes = match fs::read(rt, path) {
-        Ok(bytes) => bytes,
-        Err(error) if error.kind() == ErrorKind::NotFound => return Ok(None),
-        Err(error) => {
-            return Err(Failure::of_reason(rt.alloc(), Refusal::ReadFault, path, error.kind()));
-        }
-    };
-    if !is_part(rt.alloc(), name, bytes.as_slice())? {
-        return Err(Failure::of_file(rt, CommandRefusal::Damaged, path));
+    let path = path_in(rt.alloc(), folder, name)?;
+    match keep(rt, folder, path.as_str(), bytes) {
+        Ok(Kept::Synced) => Ok(Some(Replaced::Synced)),
+        Ok(Kept::Unsynced) => Ok(Some(Replaced::Unsynced)),
+        Ok(Kept::Gone) => Ok(None),
+        Ok(Kept::Other) => Err(Failure::of_file(rt, CommandRefusal::Damaged, path.as_str())),
+        Err(error) => Err(Failure::of_reason(
+            rt.alloc(),
+            Refusal::ReadFault,
+            path.as_str(),
+            error.kind(),
+        )),
     }
-    match settle(rt, folder, path) {
-        Ok(()) => Ok(Some(Replaced::Synced)),
-        Err(_) => Ok(Some(Replaced::Unsynced)),
+}
+
+/// Has the parts of a folder on the disk that a command has read, which adds none since all that it brings is there.
+pub fn keep_all<R: Files<File = File>>(rt: &R, folder: &str, parts: &Parts) -> Left {
+    match sync_all(rt, folder, parts.paths()) {
+        Ok(()) => Left::Kept,
+        Err(_) => Left::KeptUnsynced,
     }
 }
 
@@ -113,18 +123,20 @@ pub fn say<R: Print + Eprint + Files + AllocGlobal>(
     rt: &R,
     folder: &str,
     answer: Answer,
-    replaced: Option<Replaced>,
+    left: Left,
     is_quiet: bool,
 ) -> Result<(), Failure> {
-    let done = Done::new(answer, replaced);
+    let done = Done::new(answer, left);
     let line = format!(in rt.alloc(); "{done}\n")?;
     let told = if is_quiet {
         Ok(())
     } else {
         write_line(rt, line.as_bytes())
     };
-    if done.is_unsynced() {
-        say_unsynced(rt, folder);
+    match left {
+        Left::Changed(Replaced::Unsynced) => say_unsynced(rt, folder),
+        Left::KeptUnsynced => say_kept_unsynced(rt, folder),
+        Left::Changed(Replaced::Synced) | Left::Kept => {}
     }
     told
 }
@@ -134,5 +146,13 @@ fn say_unsynced<R: Eprint>(rt: &R, folder: &str) {
     let name = Printable(folder);
     let _ = eprintln!(rt;
         "{name}: the part was added, but the folder could not be synced: a loss of power may take it away"
+    );
+}
+
+/// Says on standard error that nothing was added to a folder, and it or its parts could not be synced.
+fn say_kept_unsynced<R: Eprint>(rt: &R, folder: &str) {
+    let name = Printable(folder);
+    let _ = eprintln!(rt;
+        "{name}: nothing was added, but the parts or the folder could not be synced: a loss of power may take parts away"
     );
 }

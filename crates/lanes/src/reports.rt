@@ -60,10 +60,10 @@ pub fn dump<R: Print + Eprint + Files<File = File> + Clock + AllocGlobal + Clone
     ) {
         Ok(choice) => choice,
         Err(Unchosen::NoSuchName(at)) => {
-            return Err(unchosen(rt, Refusal::NoSuchColumn(at), "--columns", columns, &held));
+            return Err(Failure::of_name(rt.alloc(), "--columns", columns, at, held.schema()));
         }
         Err(Unchosen::Refused(refusal)) => {
-            return Err(unchosen(rt, refusal, "--where", condition, &held));
+            return Err(unchosen(rt, refusal, condition, &held));
         }
     };
     let mut writer = buffered(rt)?;
@@ -71,23 +71,17 @@ pub fn dump<R: Print + Eprint + Files<File = File> + Clock + AllocGlobal + Clone
     told(rt, flushed(writer, outcome))
 }
 
-/// The refusal of the text that is given with an option.
-fn unchosen<R: AllocGlobal>(
-    rt: &R,
-    refusal: Refusal,
-    option: &str,
-    text: &str,
-    held: &OpenFile,
-) -> Failure {
+/// The refusal of the condition that is given with `--where`.
+fn unchosen<R: AllocGlobal>(rt: &R, refusal: Refusal, condition: &str, held: &OpenFile) -> Failure {
     if !is_of_a_text(refusal) {
         return Failure::from(refusal);
     }
     let text = Text {
-        text,
+        text: condition,
         is_condition: true,
         schema: Some(held.schema()),
     };
-    Failure::of_text(rt.alloc(), refusal, option, text)
+    Failure::of_text(rt.alloc(), refusal, "--where", text)
 }
 
 /// Writes what a file holds and how its columns are coded, or a list of its batches.

@@ -120,6 +120,10 @@ impl<F: Folder + Drop> Folder for WatchedFolder<F> {
         self.inner.settle()
     }
 
+    fn sync_file(&mut self, name: &str) -> io::Result<()> {
+        self.inner.sync_file(name)
+    }
+
     fn read(&mut self, alloc: Global, name: &str) -> io::Result<Option<Vec<u8>>> {
         self.inner.read(alloc, name)
     }

@@ -5,4 +5,4 @@ pub mod LooseValues
 pub mod Openings
 pub mod QueryRuns
 pub mod ColumnGivings
-pub mod PartGivings
+pub mod PartialAnswerGivings

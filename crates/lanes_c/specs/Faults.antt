@@ -5,10 +5,10 @@ use Rattle.table_model.specs.declared.place.Place.{Place as Named}
 use Rattle.table_model.specs.declared.place.Place.TheVariants as named
 use Rattle.table_model.specs.declared.refusal.Refusal.{Refusal}
 use Rattle.table_model.specs.declared.refusal.Refusal.TheVariants as refusals
-use Rattle.answer_parts.specs.declared.fault.PartFault.{PartFault}
-use Rattle.answer_parts.specs.declared.fault.PartFault.TheVariants as parts
-use Rattle.part_commands.specs.declared.part_error.PartError.{PartError}
-use Rattle.part_commands.specs.declared.part_error.PartError.TheVariants as errors
+use Rattle.partial_answers.specs.declared.fault.PartialAnswerFault.{PartialAnswerFault}
+use Rattle.partial_answers.specs.declared.fault.PartialAnswerFault.TheVariants as partials
+use Rattle.partial_commands.specs.declared.partial_answer_error.PartialAnswerError.{PartialAnswerError}
+use Rattle.partial_commands.specs.declared.partial_answer_error.PartialAnswerError.TheVariants as errors
 use Rattle.csv_rows.specs.declared.error.CsvError.{CsvError}
 use Rattle.csv_rows.specs.declared.error.CsvError.TheVariants as csv
 use Rattle.live_columns.specs.declared.choice.Unchosen.{Unchosen}
@@ -37,7 +37,7 @@ numbers_of (named.Byte at) = pair at 0
 abbrev pub place_of : Refusal → Place
 place_of refusal = numbers_of (named_by refusal)
 
--- the number of a fault: a refusal's own, 38 for comma-separated values outside the grammar, 39 for a closed handle, and 40 to 42 for parts that don't go together
+-- the number of a fault: a refusal's own, 38 for comma-separated values outside the grammar, 39 for a closed handle, and 40 to 42 for partial answers that don't go together
 abbrev pub number_of_fault : Fault → ℕ
 number_of_fault (faults.Refused refusal) = number_of refusal
 number_of_fault (faults.BadCsv line column) = 38
@@ -87,16 +87,16 @@ told_of_csv (csv.BadCsv line column) = faults.BadCsv line column
 told_of_csv (csv.LineTooLong line) = faults.LineTooLong line
 told_of_csv (csv.Refused refusal) = told refusal
 
--- what C gets of parts that aren't combined, or of one that isn't finished
-abbrev pub told_of_parts : PartFault → Fault
-told_of_parts parts.Memory = faults.Refused refusals.Memory
-told_of_parts parts.SchemaDiffers = faults.Refused refusals.SchemaDiffers
-told_of_parts parts.QueryDiffers = faults.QueryDiffers
-told_of_parts (parts.NotApart name) = faults.NotApart name
-told_of_parts parts.TooMany = faults.TooMany
-told_of_parts (parts.Query refusal) = faults.Refused refusal
+-- what C gets of partial answers that aren't combined, or of one that isn't finished
+abbrev pub told_of_partial_answers : PartialAnswerFault → Fault
+told_of_partial_answers partials.Memory = faults.Refused refusals.Memory
+told_of_partial_answers partials.SchemaDiffers = faults.Refused refusals.SchemaDiffers
+told_of_partial_answers partials.QueryDiffers = faults.QueryDiffers
+told_of_partial_answers (partials.NotApart name) = faults.NotApart name
+told_of_partial_answers partials.TooMany = faults.TooMany
+told_of_partial_answers (partials.Query refusal) = faults.Refused refusal
 
 -- the same where its bytes may be refused
-abbrev pub told_of_part : PartError → Fault
-told_of_part (errors.Refused refusal) = told refusal
-told_of_part (errors.Fault fault) = told_of_parts fault
+abbrev pub told_of_partial_answer : PartialAnswerError → Fault
+told_of_partial_answer (errors.Refused refusal) = told refusal
+told_of_partial_answer (errors.Fault fault) = told_of_partial_answers fault

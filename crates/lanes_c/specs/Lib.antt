@@ -5,7 +5,7 @@ pub mod Handles
 pub mod Importing
 pub mod Names
 pub mod Opened
-pub mod Parts
+pub mod PartialAnswers
 pub mod Queries
 pub mod Rooms
 pub mod Taking

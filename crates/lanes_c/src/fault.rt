@@ -1,13 +1,13 @@
 //! Why a call gave nothing, as C gets it: a number and a place.
 ghost use Rattle.std.specs.Prelude.{◌≡◌};
-ghost use Rattle.lanes_c.specs.Faults.{number_of_fault, place_of, place_of_fault, in_names, nowhere, of_query, pair, told, told_of_choice, told_of_csv, told_of_part, told_of_parts};
+ghost use Rattle.lanes_c.specs.Faults.{number_of_fault, place_of, place_of_fault, in_names, nowhere, of_query, pair, told, told_of_choice, told_of_csv, told_of_partial_answer, told_of_partial_answers};
 ghost use Rattle.lanes_c.specs.declared.fault.Fault.TheVariants.{Refused};
 ghost use Rattle.table_model.specs.declared.refusal.Refusal.TheVariants.{Memory};
 
-use answer_parts::PartFault;
 use csv_rows::CsvError;
 use live_columns::Unchosen;
-use part_commands::PartError;
+use partial_answers::PartialAnswerFault;
+use partial_commands::PartialAnswerError;
 use std::alloc::{AllocError, AllocFailed};
 use table_model::{BatchName, Refusal};
 
@@ -17,7 +17,8 @@ use table_model::{BatchName, Refusal};
 pub struct Place {
     /// A byte of the input from 0; a row from 0; the origin of a batch; a line from 1.
     pub first: u64,
-    /// A column from 0; the number of a batch; a field of a line from 1, and 0 for a wrong number of fields; a query of several from 0; 1 in the names of columns.
+    /// A column from 0; the number of a batch; a field of a line from 1, and 0 for a wrong number of fields; a query of several
+    /// from 0; 1 in the names of columns.
     pub second: u64,
 }
 
@@ -36,9 +37,9 @@ pub enum Fault {
     InNames(Refusal),
     /// A handle that is closed.
     NotOpen,
-    /// Two parts of an answer that would count a batch twice, or rows that one of their files deletes; the least batch.
+    /// Two partial answers that would count a batch twice, or rows that one of their files deletes; the least batch.
     NotApart(BatchName),
-    /// Parts of the answers of different queries.
+    /// Partial answers of different queries.
     QueryDiffers,
     /// A number of an answer that is past its range.
     TooMany,
@@ -95,28 +96,28 @@ impl From<Unchosen> for Fault {
     }
 }
 
-impl From<PartFault> for Fault {
-    ghost from_gives = { λ given fault. fault ≡ told_of_parts given };
+impl From<PartialAnswerFault> for Fault {
+    ghost from_gives = { λ given fault. fault ≡ told_of_partial_answers given };
 
-    fn from(given: PartFault) -> Fault {
+    fn from(given: PartialAnswerFault) -> Fault {
         match given {
-            PartFault::Memory => Fault::Refused(Refusal::Memory),
-            PartFault::SchemaDiffers => Fault::Refused(Refusal::SchemaDiffers),
-            PartFault::QueryDiffers => Fault::QueryDiffers,
-            PartFault::NotApart(name) => Fault::NotApart(name),
-            PartFault::TooMany => Fault::TooMany,
-            PartFault::Query(refusal) => Fault::Refused(refusal),
+            PartialAnswerFault::Memory => Fault::Refused(Refusal::Memory),
+            PartialAnswerFault::SchemaDiffers => Fault::Refused(Refusal::SchemaDiffers),
+            PartialAnswerFault::QueryDiffers => Fault::QueryDiffers,
+            PartialAnswerFault::NotApart(name) => Fault::NotApart(name),
+            PartialAnswerFault::TooMany => Fault::TooMany,
+            PartialAnswerFault::Query(refusal) => Fault::Refused(refusal),
         }
     }
 }
 
-impl From<PartError> for Fault {
-    ghost from_gives = { λ given fault. fault ≡ told_of_part given };
+impl From<PartialAnswerError> for Fault {
+    ghost from_gives = { λ given fault. fault ≡ told_of_partial_answer given };
 
-    fn from(given: PartError) -> Fault {
+    fn from(given: PartialAnswerError) -> Fault {
         match given {
-            PartError::Refused(refusal) => Fault::from(refusal),
-            PartError::Fault(fault) => Fault::from(fault),
+            PartialAnswerError::Refused(refusal) => Fault::from(refusal),
+            PartialAnswerError::Fault(fault) => Fault::from(fault),
         }
     }
 }

@@ -1,13 +1,6 @@
-//! Tests of lanes_main and over all crates below it: scripts, the texts that they give, the files that they export and open, and
-//! offers in other forms that are queried.
+//! Tests of lanes_main: a run of steps, and scripts and files where a reader or a writer fails.
 #![tactic(auto)]
 
-#[cfg(test)]
-mod file_tests;
-#[cfg(test)]
-mod form_tests;
-#[cfg(test)]
-mod refused_tests;
 #[cfg(test)]
 mod stop_tests;
 #[cfg(test)]

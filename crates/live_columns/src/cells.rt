@@ -26,7 +26,8 @@ fn clear_rows(numbers: &mut [i64; 1024], rows: &Mask)
     }
 }
 
-/// Decodes a column's vector: the numbers of its cells in row order, 0 at a null and past the vector's end. It answers these rows.
+/// Decodes a column's vector, in one pass: the numbers of its cells in row order, 0 at a null and past the vector's end. It answers these
+/// rows.
 pub fn cells_into<C: Columns>(
     columns: &mut C,
     id: VectorId,
@@ -38,6 +39,7 @@ pub fn cells_into<C: Columns>(
     ensures numbers { (n : ℕ) → n < 1024 → slice_index_or numbers.new n (pos 0) ≡ number_at (cell_at (vector_of (C.seen columns.old).state id) column n) }
     ensures nulls { result ≡ rows_of (λ n. is_null (whole (cell_at (vector_of (C.seen columns.old).state id) column n))) }
     ensures same { IsSame (C.seen columns.old) (C.seen columns.new) }
+    ensures passes { (C.seen columns.new).passes ≤ (C.seen columns.old).passes + 1 }
 {
     let nulls = columns.nulls(id, column);
     columns.decode_into(id, column, numbers);

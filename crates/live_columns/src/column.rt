@@ -34,6 +34,7 @@ fn write_vector<C: Columns>(
     ensures valid { (before : ℕ → ℕ) (cells : List Bool) → length cells ≡ first → AreMarked before cells valid.old → AreMarked before (cells ++ map is_none (cells_in column (kept_in (C.seen columns.old).state kept.now))) valid.new }
     ensures nulls { result ≡ null_count (cells_in column (kept_in (C.seen columns.old).state kept.now)) }
     ensures same { IsSame (C.seen columns.old) (C.seen columns.new) }
+    ensures passes { (C.seen columns.new).passes ≤ (C.seen columns.old).passes + 1 }
 {
     let nulls = cells_into(columns, kept.id, column, numbers);
     put_rows(numbers, &kept.rows, values, first);
@@ -65,6 +66,7 @@ fn write_column<C: Columns>(
     ensures valid { valid.new ≡ validity (cells_in column (rows_in (C.seen columns.old).state chosen.now.vectors.items)) }
     ensures nulls { result ≡ null_count (cells_in column (rows_in (C.seen columns.old).state chosen.now.vectors.items)) }
     ensures same { IsSame (C.seen columns.old) (C.seen columns.new) }
+    ensures passes { (C.seen columns.new).passes ≤ (C.seen columns.old).passes + length chosen.now.vectors.items }
 {
     set_front(valid, chosen.count);
     let mut numbers = [0; 1024];
@@ -81,6 +83,8 @@ fn write_column<C: Columns>(
 
 /// Writes the cells of columns at chosen rows, column by column: their numbers, 0 at a null; their validity bits, bit `i % 8` of byte
 /// `i / 8` being 1 where cell `i` is a value, and 0 where it is null and past the last cell; and how many cells are null.
+///
+/// Each column takes one pass over each vector that has a chosen row.
 ///
 /// Column `c` has its numbers from `c * chosen.count` on, its bits from byte `c * stride_of(chosen.count)` on, and its nulls at `c`.
 pub fn write_columns<C: Columns>(
@@ -100,6 +104,7 @@ pub fn write_columns<C: Columns>(
     ensures valid { valid.new ≡ validities (columns_in places.now (rows_in (C.seen columns.old).state chosen.now.vectors.items)) ++ drop (length places.now * stride_of chosen.now.count) valid.old }
     ensures nulls { nulls.new ≡ map null_count (columns_in places.now (rows_in (C.seen columns.old).state chosen.now.vectors.items)) ++ drop (length places.now) nulls.old }
     ensures same { IsSame (C.seen columns.old) (C.seen columns.new) }
+    ensures passes { (C.seen columns.new).passes ≤ (C.seen columns.old).passes + length places.now * length chosen.now.vectors.items }
 {
     let rows = chosen.count;
     let stride = stride_of(rows);

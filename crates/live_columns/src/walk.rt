@@ -1,7 +1,8 @@
 //! The walk over all vectors of a state to the live rows at which a condition is true.
-ghost use Rattle.std.specs.Prelude.{◌≡◌, ◌<◌, ◌^◌, ◌++◌, IfOk, OnOk, sum_by, count_by};
+ghost use Rattle.std.specs.Prelude.{◌≡◌, ◌<◌, ◌≤◌, ◌+◌, ◌*◌, ◌^◌, ◌++◌, IfOk, OnOk, cond, sum_by, count_by};
+ghost use Rattle.query_eval.specs.Kept.{has_live, live_vectors_in, where_mentions};
 ghost use Rattle.query_eval.specs.Read.{IsSame};
-ghost use Rattle.query_eval.specs.Vector.{IsThere, batch_count};
+ghost use Rattle.query_eval.specs.Vector.{IsThere, batch_count, vector_of};
 ghost use Rattle.live_columns.specs.Chosen.{AreThere, IsChosen, rows_in, rows_where};
 ghost use Rattle.live_columns.specs.Walk.{kept_of, rows_of_batch};
 
@@ -21,6 +22,7 @@ fn push_vector<C: Columns>(
     ensures rows { OnOk result (rows_in (C.seen columns.old).state vectors.new.items ≡ rows_in (C.seen columns.old).state vectors.old.items ++ kept_of (C.seen columns.old).table condition.now (C.seen columns.old).state id) }
     ensures there { OnOk result (AreThere (C.seen columns.old).state vectors.old.items → AreThere (C.seen columns.old).state vectors.new.items) }
     ensures same { IsSame (C.seen columns.old) (C.seen columns.new) }
+    ensures passes { (C.seen columns.new).passes ≤ (C.seen columns.old).passes + cond (has_live (vector_of (C.seen columns.old).state id)) (where_mentions condition.now) 0 }
 {
     let rows = kept_mask(columns, id, condition);
     if rows.next_true(0) < 1024 {
@@ -40,6 +42,7 @@ fn push_batch<C: Columns>(
     ensures rows { OnOk result (rows_in (C.seen columns.old).state vectors.new.items ≡ rows_in (C.seen columns.old).state vectors.old.items ++ rows_of_batch (C.seen columns.old).table condition.now (C.seen columns.old).state batch) }
     ensures there { OnOk result (AreThere (C.seen columns.old).state vectors.old.items → AreThere (C.seen columns.old).state vectors.new.items) }
     ensures same { IsSame (C.seen columns.old) (C.seen columns.new) }
+    ensures passes { OnOk result ((C.seen columns.new).passes ≤ (C.seen columns.old).passes + where_mentions condition.now * live_vectors_in (C.seen columns.old).state batch) }
 {
     for vector in 0..columns.vectors(batch) {
         push_vector(columns, condition, VectorId { batch, vector }, vectors)?;

@@ -2,19 +2,23 @@
 #![tactic(auto)]
 
 mod fault;
+mod keeping;
 mod listing;
 mod lock;
 mod making;
 mod names;
+mod patience;
 mod removing;
 mod sweeping;
 mod temporary;
 
 pub use fault::FolderFault;
+pub use keeping::{Kept, keep, sync_all};
 pub use listing::{Listing, list, list_locked};
 pub use lock::FolderLock;
 pub use making::{MakeFault, make};
-pub use names::path_in;
+pub use names::{is_link, path_in};
+pub use patience::Patience;
 pub use removing::remove_all;
 pub use sweeping::sweep;
-pub use temporary::{Placed, Temporary, settle};
+pub use temporary::{Placed, Temporary};

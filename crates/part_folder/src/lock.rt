@@ -1,19 +1,10 @@
 //! The lock of a folder, which is on the folder itself: shared while its names are listed, exclusive while files are removed.
 
 use crate::fault::FolderFault;
+use crate::patience::Patience;
 use std::fs::{self, File, Files, TryLockError};
+use std::io;
 use std::rt::Clock;
-use std::time::{Duration, Instant};
-use std::{io, thread};
-
-/// How often a lock is tried at most; with a sleep after each try that makes ten seconds, and sleeps may take longer.
-const TRIES: u32 = 1005;
-
-/// How many milliseconds one sleep takes at most; the first ones take 1, 2 and so on.
-const LONGEST_SLEEP: u64 = 10;
-
-/// How many seconds a lock is waited for.
-const LONGEST_WAIT: u64 = 10;
 
 /// How a folder is locked.
 #[derive(Clone, Copy, Debug, PartialEq, Eq)]
@@ -75,9 +66,8 @@ impl FolderLock {
 
 /// Waits for the lock of a folder that is open.
 fn wait<R: Clock>(rt: &R, folder: &File, kind: Kind) -> Result<(), FolderFault> {
-    let began = Instant::now(rt);
-    let mut pause = 1u64;
-    for _ in 0..TRIES {
+    let mut patience = Patience::new(rt);
+    for _ in 0..u64::MAX {
         let tried = match kind {
             Kind::Shared => folder.try_lock_shared(),
             Kind::Exclusive => folder.try_lock(),
@@ -85,21 +75,11 @@ fn wait<R: Clock>(rt: &R, folder: &File, kind: Kind) -> Result<(), FolderFault> 
         match tried {
             Ok(()) => return Ok(()),
             Err(TryLockError::Error(_)) => return Err(FolderFault::NoLock),
-            Err(TryLockError::WouldBlock) if has_waited(rt, &began) => break,
-            Err(TryLockError::WouldBlock) => thread::sleep(rt, Duration::from_millis(pause)),
+            Err(TryLockError::WouldBlock) => {}
         }
-        pause = pause.saturating_add(1).min(LONGEST_SLEEP);
+        if !patience.wait(rt) {
+            break;
+        }
     }
     Err(FolderFault::Busy)
-}
-
-/// Whether a lock was waited for as long as it is, by a clock that can be read.
-fn has_waited<R: Clock>(rt: &R, began: &io::Result<Instant>) -> bool {
-    match began {
-        Ok(began) => match began.elapsed(rt) {
-            Ok(waited) => waited.as_secs() >= LONGEST_WAIT,
-            Err(_) => false,
-        },
-        Err(_) => false,
-    }
 }

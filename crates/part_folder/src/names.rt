@@ -1,6 +1,7 @@
 //! Names in a folder, and those of temporaries.
 
 use std::alloc::{AllocError, Global};
+use std::fs::{self, Files};
 use std::io;
 use std::random::RandomSource;
 
@@ -53,5 +54,13 @@ pub fn is_temporary(name: &str) -> bool {
                     || (b'a' <= byte && byte <= b'f'))
         }
         None => false,
+    }
+}
+
+/// Whether a path is that of a symbolic link.
+pub fn is_link<R: Files>(rt: &R, path: &str) -> bool {
+    match fs::symlink_metadata(rt, path) {
+        Ok(found) => found.is_symlink(),
+        Err(_) => false,
     }
 }

@@ -152,9 +152,3 @@ fn renamed<R: Files>(rt: &R, temporary: &str, path: &str) -> io::Result<bool> {
     let _ = fs::remove_file(rt, temporary);
     outcome
 }
-
-/// Has a file of a folder, which another may have put there, on the disk under its name.
-pub fn settle<R: Files<File = File>>(rt: &R, folder: &str, path: &str) -> io::Result<()> {
-    fs::open(rt, path)?.sync_all()?;
-    fs::open(rt, folder)?.sync_all()
-}

@@ -17,7 +17,7 @@ use Rattle.query_eval.specs.Slices.{AreSliced}
 use Rattle.query_eval.specs.Vector.{Vector, row_at}
 use Rattle.query_eval.specs.declared.grouping.split.Slice.{Slice}
 use Rattle.query_eval.proofs.CodeLemmas.{code_same}
-use Rattle.query_eval.proofs.SliceLemmas.{all_below, sliced_more}
+use Rattle.query_eval.proofs.SliceLemmas.{all_below, and_under, left_within, sliced_more}
 use Rattle.query_eval.specs.Coded.{cell_of_code}
 
 -- ---- the rows with a code, and those with a later one
@@ -62,13 +62,15 @@ each_pushed P slices after slice e each one i s l =
         subst (λ (k : ℕ). P (get_or (slices ++ slice ∷ []) k s)) last (subst P (sym (get_or-append_seam slices slice [] s)) one)
 
 pub sliced_code : (by : List ℕ) (v : Vector) (mask left next : List Bool) (old mid new : BTreeMap Cells ℕ) (slices after : List Slice) (slice : Slice) (codes : List ℕ) (keys : List ℤ) (count code row : ℕ)
-    → ((i j : ℕ) → i < j → j < count → get_or keys i (pos 0) <ℤ get_or keys j (pos 0)) → ((n : ℕ) → n < 1024 → get_or codes n 0 ≤ count) → ((n : ℕ) → n < 1024 → cell_of_code count keys (get_or codes n 0) ∷ [] ≡ key_of by (row_at v n))
+    → ((i j : ℕ) → i < j → j < count → get_or keys i (pos 0) <ℤ get_or keys j (pos 0)) → ((n : ℕ) → n < 1024 → get_or codes n 0 ≤ count) → ((n : ℕ) → n < 1024 → has mask n ≡ true → cell_of_code count keys (get_or codes n 0) ∷ [] ≡ key_of by (row_at v n))
     → AreSliced by v mask left old mid slices → code ≤ count → row < 1024 → has slice.rows row ≡ true → ((n : ℕ) → n < 1024 → has slice.rows n ≡ (has left n && (get_or codes n 0 == code)))
     → IsTakenIn (cell_of_code count keys code ∷ []) slice.place mid new → next ≡ rows_of (λ n. has left n && not (has slice.rows n)) → after ≡ slices ++ slice ∷ [] → AreSliced by v mask next old new after
 sliced_code by v mask left next old mid new slices after slice codes keys count code row rises within shown h few inside on rows taken e f =
     let here = and_parts (has left row) (get_or codes row 0 == code) (sym (rows row inside) ∙ on) in
     let is : code ≡ get_or codes row 0 = sym ((Decides-eqb (get_or codes row 0) code).0 here.1) in
-    sliced_more by v mask left next old mid new slices after slice (cell_of_code count keys code ∷ []) row 1024 h inside here.0 (ap (λ k. cell_of_code count keys k ∷ []) is ∙ shown row inside) taken
+    let kept : (n : ℕ) → n < 1024 → has left n ≡ true → has mask n ≡ true = left_within by v mid mask left slices h.parted in
+    sliced_more by v mask left next old mid new slices after slice (cell_of_code count keys code ∷ []) row 1024 h inside here.0 (ap (λ k. cell_of_code count keys k ∷ []) is ∙ shown row inside (kept row inside here.0)) taken
     (λ n l. all_below left slice.rows n (same_cells (cell_of_code count keys code ∷ []) (key_of by (row_at v n))) l
-    (rows n l ∙ ap (λ b. has left n && b) (code_same count keys rises code (get_or codes n 0) few (within n l) ∙ ap (same_cells (cell_of_code count keys code ∷ [])) (shown n l))))
+    (rows n l ∙ and_under (has left n) (get_or codes n 0 == code) (same_cells (cell_of_code count keys code ∷ []) (key_of by (row_at v n)))
+    (λ on. code_same count keys rises code (get_or codes n 0) few (within n l) ∙ ap (same_cells (cell_of_code count keys code ∷ [])) (shown n l (kept n l on)))))
     e f

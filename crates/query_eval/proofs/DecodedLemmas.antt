@@ -1,5 +1,5 @@
 -- A column's cells by its nulls and its decoded values.
-use Rattle.std.proofs.Common.{◌≡◌, ℕ, ◌<◌, Bool, false, cond, List, [], ◌∷◌, length, slice_index_or, Option, Some, None, IfSome, ℤ, pos, refl, sym, ap, ◌∙◌}
+use Rattle.std.proofs.Common.{◌≡◌, ℕ, ◌<◌, Bool, true, false, cond, ◌&&◌, List, [], ◌∷◌, length, slice_index_or, Option, Some, None, IfSome, ℤ, pos, refl, sym, ap, ◌∙◌}
 use Rattle.table_model.specs.Answer.{whole}
 use Rattle.table_model.specs.Condition.{is_null, is_among}
 use Rattle.table_model.specs.Truth.{and_of, comparison, truth_of}
@@ -8,6 +8,7 @@ use Rattle.transpose_order.specs.Mask.{rows_of, has}
 use Rattle.transpose_order.specs.MaskWords.{has-rows_of}
 use Rattle.std.specs.List.{list_any}
 use Rattle.std.specs.Ordering.{int_eq}
+use Rattle.std.proofs.Math.Bool.{and-true}
 use Rattle.std.proofs.lemmas.Bool.{false≢true}
 use Rattle.table_model.proofs.Predicates.{predicates}
 use Rattle.table_model.specs.declared.truth.Truth.TheVariants.{Unknown}
@@ -25,16 +26,20 @@ decoded_cell v column nulls values e f n h =
     one None g = refl
     one (Some z) g = ap (λ x. Some x) (f n z h g)
 
--- without nulls each row has the value of its run
-pub runs_cells : (v : Vector) (column : ℕ) (nulls : List Bool) (values : List ℤ) → nulls ≡ rows_of (λ n. is_null (whole (cell_at v column n))) → ((n : ℕ) → n < 1024 → has nulls n ≡ false) → (o : Option (List Bool)) → IfSome o (λ starts. AreRuns v column starts values)
-    → IfSome o (λ starts. AreKeys (column ∷ []) v (run_key starts values))
-runs_cells v column nulls values e none None h = h
-runs_cells v column nulls values e none (Some starts) h = λ n l. ap (λ o. o ∷ []) (by_cell n l (cell_at v column n) refl)
+-- where no row of a mask is null, each has the value of its run
+pub runs_cells : (v : Vector) (column : ℕ) (nulls mask : List Bool) (values : List ℤ) → nulls ≡ rows_of (λ n. is_null (whole (cell_at v column n))) → ((n : ℕ) → n < 1024 → has mask n ≡ true → has nulls n ≡ false) → (o : Option (List Bool)) → IfSome o (λ starts. AreRuns v column starts values)
+    → IfSome o (λ starts. AreKeys (column ∷ []) v mask (run_key starts values))
+runs_cells v column nulls mask values e none None h = h
+runs_cells v column nulls mask values e none (Some starts) h = λ n l on. ap (λ o. o ∷ []) (by_cell n l on (cell_at v column n) refl)
   where
-    by_cell : (n : ℕ) → n < 1024 → (o : Option ℤ) → cell_at v column n ≡ o → Some (slice_index_or values (run_at starts n) (pos 0)) ≡ cell_at v column n
-    by_cell n l (Some z) f = ap (λ x. Some x) (h.value n z l f) ∙ sym f
-    by_cell n l None f =
-        absurd (false≢true (sym (none n l) ∙ ap (λ m. has m n) e ∙ has-rows_of (λ n. is_null (whole (cell_at v column n))) n l ∙ ap (λ (o : Option ℤ). is_null (whole o)) f))
+    by_cell : (n : ℕ) → n < 1024 → has mask n ≡ true → (o : Option ℤ) → cell_at v column n ≡ o → Some (slice_index_or values (run_at starts n) (pos 0)) ≡ cell_at v column n
+    by_cell n l on (Some z) f = ap (λ x. Some x) (h.value n z l f) ∙ sym f
+    by_cell n l on None f =
+        absurd (false≢true (sym (none n l on) ∙ ap (λ m. has m n) e ∙ has-rows_of (λ n. is_null (whole (cell_at v column n))) n l ∙ ap (λ (o : Option ℤ). is_null (whole o)) f))
+
+-- where no row is both null and of a mask, no row of the mask is null
+pub not_null : (nulls mask both : List Bool) → both ≡ rows_of (λ n. has nulls n && has mask n) → ((n : ℕ) → n < 1024 → has both n ≡ false) → (n : ℕ) → n < 1024 → has mask n ≡ true → has nulls n ≡ false
+not_null nulls mask both e none n l on = sym (and-true (has nulls n)) ∙ ap (λ b. has nulls n && b) (sym on) ∙ sym (ap (λ m. has m n) e ∙ has-rows_of (λ n. has nulls n && has mask n) n l) ∙ none n l
 
 pub between_same : (x y l m h k : Option ℤ) → x ≡ y → l ≡ m → h ≡ k → and_of (comparison GreaterOrEqual x l) (comparison LessOrEqual x h) ≡ and_of (comparison GreaterOrEqual y m) (comparison LessOrEqual y k)
 between_same x y l m h k e f g =

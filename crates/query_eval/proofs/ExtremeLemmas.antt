@@ -1,5 +1,5 @@
 -- An extreme of values more, row by row, and by the greatest of the turned values.
-use Rattle.std.proofs.Common.{◌≡◌, ◌≢◌, ℕ, ◌+◌, Bool, true, false, cond, unwrap_or, option_map, List, [], ◌∷◌, ◌++◌, map, get_or, Option, Some, None, ℤ, pos, negsuc, ◌-ℤ◌, FitsSigned, w64, refl, sym, ap, ◌∙◌, arith, append-nil}
+use Rattle.std.proofs.Common.{◌≡◌, ◌≢◌, ℕ, ◌+◌, Bool, true, false, cond, unwrap_or, option_map, List, [], ◌∷◌, ◌++◌, map, get_or, Option, Some, None, ℤ, pos, negsuc, ◌-ℤ◌, ◌≤ℤ◌, FitsSigned, w64, refl, sym, ap, subst, ◌∙◌, arith, append-nil}
 use Rattle.std.specs.Int.{int_max, int_min}
 use Rattle.std.proofs.lemmas.Int.{ints, clamps}
 use Rattle.std.proofs.lemmas.List.{map-append}
@@ -58,6 +58,19 @@ top_more e k rows values b top x on fits also before is = one b is ∙ ap top_of
         ∙ ap (λ o. unwrap_or o least_number) (sym (greatest-append front (z ∷ [])))
     one false at = ap (int_max top) at ∙ max_least top fits ∙ before ∙ ap top_of (sym (append-nil front))
 
+-- the greatest is below a bound, one value more
+top_within : (o : Option ℤ) (x bound : ℤ) → unwrap_or o least_number ≤ℤ bound → x ≤ℤ bound → unwrap_or (greater o (Some x)) least_number ≤ℤ bound
+top_within None x bound h small = small
+top_within (Some y) x bound h small = omega (arith, ints, clamps, h, small)
+
+pub top_bounded : (e : Extreme) (k : ℕ) (rows : List Bool) (values : List ℤ) (b : Bool) (x bound : ℤ) → has rows k ≡ b → x ≡ cond b (turned e (get_or values k (pos 0))) least_number → x ≤ℤ bound → top_of (map (turned e) (values_below k rows values)) ≤ℤ bound → top_of (map (turned e) (values_below (k + 1) rows values)) ≤ℤ bound
+top_bounded e k rows values true x bound on is small before =
+    let front : List ℤ = map (turned e) (values_below k rows values) in
+    let z : ℤ = turned e (get_or values k (pos 0)) in
+    let now : map (turned e) (values_below (k + 1) rows values) ≡ front ++ z ∷ [] = ap (map (turned e)) (values_more k rows values true on) ∙ map-append (turned e) (values_below k rows values) (get_or values k (pos 0) ∷ []) in
+    subst (λ (o : Option ℤ). unwrap_or o least_number ≤ℤ bound) (sym (ap greatest now ∙ greatest-append front (z ∷ []))) (top_within (greatest front) z bound before (subst (λ (y : ℤ). y ≤ℤ bound) is small))
+top_bounded e k rows values false x bound on is small before = subst (λ (zs : List ℤ). top_of (map (turned e) zs) ≤ℤ bound) (sym (values_more k rows values false on ∙ append-nil (values_below k rows values))) before
+
 -- ---- an extreme by the greatest of the turned values
 turned_min : (x y : ℤ) → int_min x (negsuc 0 -ℤ y) ≡ negsuc 0 -ℤ int_max (negsuc 0 -ℤ x) y
 turned_min x y = omega (arith, ints, clamps)
@@ -88,6 +101,24 @@ extreme_some e zs top is some = by_greatest (greatest (map (turned e) zs)) refl
     by_greatest : (o : Option ℤ) → greatest (map (turned e) zs) ≡ o → Some (turned e top) ≡ extreme_of e zs
     by_greatest None h = absurd (some (is ∙ ap (λ o. unwrap_or o least_number) h) (none_turned e zs h))
     by_greatest (Some y) h = ap (λ z. Some (turned e z)) (is ∙ ap (λ o. unwrap_or o least_number) h) ∙ sym (turned_extreme e zs ∙ ap (option_map (turned e)) h)
+
+-- ---- values that an extreme is not behind
+past_none : (e : Extreme) (b : ℤ) → further e (Some b) None ≡ Some b
+past_none Least b = refl
+past_none Greatest b = refl
+
+past_some : (e : Extreme) (b y : ℤ) → y ≤ℤ turned e b → further e (Some b) (Some (turned e y)) ≡ Some b
+past_some Least b y h = ap Some (let e : int_min b (negsuc 0 -ℤ y) ≡ b = omega (arith, ints, clamps, h) in e)
+past_some Greatest b y h = ap Some (let e : int_max b y ≡ b = omega (arith, ints, clamps, h) in e)
+
+pub extreme_reached : (e : Extreme) (b bound : ℤ) (zs : List ℤ) → bound ≤ℤ turned e b → top_of (map (turned e) zs) ≤ℤ bound → further e (Some b) (extreme_of e zs) ≡ Some b
+extreme_reached e b bound zs reached small = by_greatest (greatest (map (turned e) zs)) refl
+  where
+    by_greatest : (o : Option ℤ) → greatest (map (turned e) zs) ≡ o → further e (Some b) (extreme_of e zs) ≡ Some b
+    by_greatest None h = ap (further e (Some b)) (turned_extreme e zs ∙ ap (option_map (turned e)) h) ∙ past_none e b
+    by_greatest (Some y) h =
+        let top : top_of (map (turned e) zs) ≡ y = ap (λ o. unwrap_or o least_number) h in
+        ap (further e (Some b)) (turned_extreme e zs ∙ ap (option_map (turned e)) h) ∙ past_some e b y (omega (arith, ints, top, small, reached))
 
 pub extreme_none : (e : Extreme) (zs : List ℤ) → zs ≡ [] → None ≡ extreme_of e zs
 extreme_none e zs h = sym (ap (extreme_of e) h ∙ no_extreme e)

@@ -5,7 +5,7 @@ use Rattle.std.specs.List.{cons_option, list_any, range_with_len}
 use Rattle.std.specs.Option.{is_some}
 use Rattle.std.specs.Ordering.{int_eq}
 use Rattle.std.proofs.Math.Bool.{and_assoc, and-false, and-true, or_assoc}
-use Rattle.std.proofs.lemmas.Bool.{false≢true, le-ltb, lt-ltb, ltb-false, not-false, or_parts}
+use Rattle.std.proofs.lemmas.Bool.{and_parts, false≢true, le-ltb, lt-ltb, ltb-false, not-false, or_parts}
 use Rattle.std.proofs.lemmas.Bool.Decides.{Decides-eqb, Decides-int_eq}
 use Rattle.std.proofs.lemmas.List.{map-append, take_more}
 use Rattle.std.proofs.lemmas.Option.{same_Some}
@@ -69,14 +69,14 @@ like_next row n i mask rows like next columns column l inside at before one is =
     ∙ ap (λ ds. has mask n && same_cells (map (λ d. key_cell d row) ds) (map (λ d. key_cell d n) ds)) (sym front)
 
 -- ---- the rows where a cell may differ from that of the row before
-pub unchanged_value : (nulls rows : List Bool) (values : List ℤ) (n : ℕ) → n + 1 < 1024 → ((k : ℕ) → k < 1024 → has nulls k ≡ false) → rows ≡ rows_of (differs_at values) → has rows (n + 1) ≡ false
+pub unchanged_value : (nulls rows turning both : List Bool) (values : List ℤ) (n : ℕ) → n + 1 < 1024 → rows ≡ rows_of (differs_at values) → (has turning (n + 1) ≡ false → has nulls (n + 1) ≡ has nulls n) → both ≡ rows_of (λ k. has rows k || has turning k) → has both (n + 1) ≡ false
     → cond (has nulls (n + 1)) None (Some (get_or values (n + 1) (pos 0))) ≡ cond (has nulls n) None (Some (get_or values n (pos 0)))
-unchanged_value nulls rows values n l none e off =
+unchanged_value nulls rows turning both values n l e null f off =
     let next : suc n ≡ n + 1 = omega arith in
-    let same : int_eq (get_or values n (pos 0)) (get_or values (suc n) (pos 0)) ≡ true = not-false (int_eq (get_or values n (pos 0)) (get_or values (suc n) (pos 0))) (ap (differs_at values) next ∙ sym (has-rows_of (differs_at values) (n + 1) l) ∙ sym (ap (λ m. has m (n + 1)) e) ∙ off) in
-    ap (λ b. cond b None (Some (get_or values (n + 1) (pos 0)))) (none (n + 1) l)
-    ∙ ap Some (sym ((Decides-int_eq (get_or values n (pos 0)) (get_or values (suc n) (pos 0))).0 same ∙ ap (λ k. get_or values k (pos 0)) next))
-    ∙ sym (ap (λ b. cond b None (Some (get_or values n (pos 0)))) (none n (omega (arith, l))))
+    let each = or_parts (has rows (n + 1)) (has turning (n + 1)) (sym (has-rows_of (λ k. has rows k || has turning k) (n + 1) l) ∙ sym (ap (λ m. has m (n + 1)) f) ∙ off) in
+    let same : int_eq (get_or values n (pos 0)) (get_or values (suc n) (pos 0)) ≡ true = not-false (int_eq (get_or values n (pos 0)) (get_or values (suc n) (pos 0))) (ap (differs_at values) next ∙ sym (has-rows_of (differs_at values) (n + 1) l) ∙ sym (ap (λ m. has m (n + 1)) e) ∙ each.0) in
+    ap (λ b. cond b None (Some (get_or values (n + 1) (pos 0)))) (null each.1)
+    ∙ ap (λ z. cond (has nulls n) None (Some z)) (sym ((Decides-int_eq (get_or values n (pos 0)) (get_or values (suc n) (pos 0))).0 same ∙ ap (λ k. get_or values k (pos 0)) next))
 
 -- one column more
 pub unchanged_next : (n i : ℕ) (columns : List KeyColumn) (column : KeyColumn) (before changes next : List Bool) → n + 1 < 1024 → i < length columns → column ≡ get_or columns i column
@@ -102,6 +102,11 @@ run_same columns changes row end within same none n h l =
     steps (suc d) before =
         ap (λ k. map (λ c. key_cell c k) columns) (let e : row + suc d ≡ (row + d) + 1 = omega arith in e) ∙ same (row + d) (omega (arith, before, within)) (none ((row + d) + 1) (omega arith) (omega (arith, before)))
         ∙ steps d (omega (arith, before))
+
+-- two tests of rows of a mask are alike where they are so at its rows
+pub and_under : (a b c : Bool) → (a ≡ true → b ≡ c) → (a && b) ≡ (a && c)
+and_under true b c h = h refl
+and_under false b c h = refl
 
 -- all rows with a key are those below 1024
 pub all_below : (mask rows : List Bool) (n : ℕ) (b : Bool) → n < 1024 → has rows n ≡ (has mask n && b) → has rows n ≡ (has mask n && (ltb n 1024 && b))
@@ -280,6 +285,12 @@ parted_grown by v mid new mask left (s ∷ ss) grown h = (slice_grown by v mid n
 parted_push : (by : List ℕ) (v : Vector) (new : BTreeMap Cells ℕ) (mask left : List Bool) (slices : List Slice) (slice : Slice) → IsSlice by v new left slice → AreParted by v new mask slices left → AreParted by v new mask (slices ++ slice ∷ []) (rows_outside left slice)
 parted_push by v new mask left [] slice one h = (subst (λ (m : List Bool). IsSlice by v new m slice) (sym h) one, ap (λ m. rows_outside m slice) h)
 parted_push by v new mask left (s ∷ ss) slice one h = (h.0, parted_push by v new (rows_outside mask s) left ss slice one h.1)
+
+-- the rows that are left are rows of the mask
+pub left_within : (by : List ℕ) (v : Vector) (index : BTreeMap Cells ℕ) (mask left : List Bool) (slices : List Slice) → AreParted by v index mask slices left → (n : ℕ) → n < 1024 → has left n ≡ true → has mask n ≡ true
+left_within by v index mask left [] h n l on = ap (λ m. has m n) h ∙ on
+left_within by v index mask left (s ∷ ss) h n l on =
+    (and_parts (has mask n) (not (has s.rows n)) (sym (has-rows_of (λ k. has mask k && not (has s.rows k)) n l) ∙ left_within by v index (rows_outside mask s) left ss h.1 n l on)).0
 
 pub sliced_none : (by : List ℕ) (v : Vector) (mask : List Bool) (m : BTreeMap Cells ℕ) (slices : List Slice) → slices ≡ [] → AreSliced by v mask mask m m slices
 sliced_none by v mask m slices e = subst (AreSliced by v mask mask m m) (sym e) (record { grown = grown_same m; parted = refl; occurs = λ q. refl })

@@ -57,13 +57,13 @@ spanned_none by v mask m spans long e = subst (λ (left : List Bool). AreSliced 
 rows_before : (m f e s k : Bool) → f ≡ false → (m && s) ≡ false → (m && (f && e)) ≡ ((m && s) && (e && k))
 rows_before m f e s k off none = ap (λ b. m && (b && e)) off ∙ and-false m ∙ sym (ap (λ b. b && (e && k)) none)
 
-rows_inside : (m f e s k : Bool) → f ≡ true → e ≡ true → s ≡ true → k ≡ true → (m && (f && e)) ≡ ((m && s) && (e && k))
+rows_inside : (m f e s k : Bool) → f ≡ true → e ≡ true → s ≡ true → (m ≡ true → k ≡ true) → (m && (f && e)) ≡ ((m && s) && (e && k))
 rows_inside true true true true true on end start key = refl
-rows_inside false true true true true on end start key = refl
+rows_inside false true true true k on end start key = refl
 rows_inside m false e s k on end start key = absurd (false≢true on)
 rows_inside m true false s k on end start key = absurd (false≢true end)
 rows_inside m true true false k on end start key = absurd (false≢true start)
-rows_inside m true true true false on end start key = absurd (false≢true key)
+rows_inside true true true true false on end start key = absurd (false≢true (key refl))
 
 rows_after : (m f e s k : Bool) → e ≡ false → (m && (f && e)) ≡ ((m && s) && (e && k))
 rows_after m f true s k off = absurd (false≢true (sym off))
@@ -88,13 +88,13 @@ left_after m f true s g off start on = absurd (false≢true (sym off))
 left_after m f false false g off start on = absurd (false≢true start)
 left_after m f false true false off start on = absurd (false≢true on)
 
-module _ (by : List ℕ) (v : Vector) (mask : List Bool) (start first end : ℕ) (key : Cells) (low : start ≤ first) (high : first < end) (none : (n : ℕ) → start ≤ n → n < first → has mask n ≡ false) (same : (n : ℕ) → first ≤ n → n < end → key ≡ key_of by (row_at v n)) where
+module _ (by : List ℕ) (v : Vector) (mask : List Bool) (start first end : ℕ) (key : Cells) (low : start ≤ first) (high : first < end) (none : (n : ℕ) → start ≤ n → n < first → has mask n ≡ false) (same : (n : ℕ) → first ≤ n → n < end → has mask n ≡ true → key ≡ key_of by (row_at v n)) where
   gap : (n : ℕ) → n < first → (n < start) ⊎ (start ≤ n) → (has mask n && leb start n) ≡ false
   gap n l (inl a) = ap (λ b. has mask n && b) (lt-leb start n a) ∙ and-false (has mask n)
   gap n l (inr a) = ap (λ b. b && leb start n) (none n a l)
 
-  its_key : (n : ℕ) → first ≤ n → n < end → same_cells key (key_of by (row_at v n)) ≡ true
-  its_key n a b = ap (same_cells key) (sym (same n a b)) ∙ itself_row key
+  its_key : (n : ℕ) → first ≤ n → n < end → has mask n ≡ true → same_cells key (key_of by (row_at v n)) ≡ true
+  its_key n a b on = ap (same_cells key) (sym (same n a b on)) ∙ itself_row key
 
   -- a span's rows are those below its end with its key, of the rows that were left
   its_rows : (n : ℕ) → n < 1024 → has (rows_between mask first end) n ≡ (has (rows_from mask start) n && (ltb n end && same_cells key (key_of by (row_at v n))))
@@ -126,7 +126,7 @@ module _ (by : List ℕ) (v : Vector) (mask : List Bool) (start first end : ℕ)
       let slice : Slice = span_slice mask span in
       let inside : first < 1024 = omega (arith, high, most) in
       sliced_more by v mask (rows_from mask start) (rows_from mask end) old mid new (slices_of_spans mask spans) (slices_of_spans mask after) slice key first end h inside
-      (has-rows_of (λ n. has mask n && leb start n) first inside ∙ ap (λ b. has mask first && b) (le-leb start first low) ∙ and-true (has mask first) ∙ on) (same first (omega arith) high) t
+      (has-rows_of (λ n. has mask n && leb start n) first inside ∙ ap (λ b. has mask first && b) (le-leb start first low) ∙ and-true (has mask first) ∙ on) (same first (omega arith) high on) t
       its_rows (rows_left slice refl) (ap (slices_of_spans mask) e ∙ map-append (span_slice mask) spans (span ∷ []))
 
 -- ---- the run of a row

@@ -1,13 +1,20 @@
 -- Tallies, as spans of a vector's rows come: a span is a slice of the rows that it covers.
-use Rattle.std.proofs.Common.{◌≡◌, ◌≢◌, ◌==◌, ℕ, zero, suc, ◌+◌, ◌-◌, ◌<◌, ◌≤◌, min, nat_le, nat_lt, Bool, true, false, cond, not, ◌&&◌, List, [], ◌++◌, length, get_or, take, drop, length-drop, count_by, ℤ, pos, refl, sym, ap, subst, ◌∙◌, arith}
+use Rattle.std.proofs.Common.{◌≡◌, ◌≢◌, ◌==◌, ℕ, zero, suc, ◌+◌, ◌-◌, ◌<◌, ◌≤◌, min, nat_le, nat_lt, Bool, true, false, cond, not, ◌&&◌, List, [], ◌++◌, length, get_or, take, drop, length-drop, count_by, ℤ, pos, ◌+ℤ◌, ◌*ℤ◌, ◌≤ℤ◌, map, FitsSigned, w64, refl, sym, ap, subst, ◌∙◌, arith}
 use Rattle.std.proofs.lemmas.Bool.Decides.{nat_tests}
+use Rattle.std.proofs.lemmas.Int.{ints}
+use Rattle.table_model.specs.Extreme.{turned as turned_by}
+use Rattle.table_model.specs.declared.extreme.Extreme.{Extreme}
+use Rattle.query_eval.specs.Forms.{AreFormed, least_number, top_below, top_of}
+use Rattle.query_eval.specs.declared.tallies.forms.Form.TheVariants.{Shown}
+use Rattle.query_eval.proofs.ExtremeLemmas.{top_bounded}
 use Rattle.std.proofs.lemmas.List.{get_or-drop, get_or-map, get_or-take, length-map, length-take, take_all}
 use Rattle.table_model.specs.State.{Cells}
-use Rattle.transpose_order.specs.Mask.{count_below, has, rows_of}
+use Rattle.transpose_order.specs.Mask.{count_below, has, rows_of, truth_at}
 use Rattle.transpose_order.specs.MaskWords.{has-rows_of, length-rows_of, rows_of-like}
-use Rattle.transpose_order.proofs.MaskLemmas.{count_below-add, count_below-le, count_below-same, count_below-suc, count_below-zero, count_by-rows_of}
+use Rattle.transpose_order.proofs.MaskLemmas.{count_below-add, count_below-le, count_below-same, count_below-suc, count_below-zero, count_by-rows_of, has-words}
 use Rattle.query_eval.specs.Grouping.{AreCells, AreNulls, IsHeld, aggregate_values}
 use Rattle.query_eval.specs.Kept.{rows_at}
+use Rattle.query_eval.specs.Packed.{packed_sum}
 use Rattle.query_eval.specs.Slices.{rows_between, rows_sliced, slices_of_spans, span_slice, values_at, values_below}
 use Rattle.query_eval.specs.Tally.{IsTally, kind_of}
 use Rattle.query_eval.specs.Vector.{Vector}
@@ -15,6 +22,7 @@ use Rattle.query_eval.specs.declared.tallies.aggregate.Aggregate.{Aggregate}
 use Rattle.query_eval.specs.declared.grouping.split.Slice.{Slice}
 use Rattle.query_eval.specs.declared.grouping.split.Span.{Span}
 use Rattle.query_eval.specs.declared.tallies.tally.Tally.{Tally}
+use Rattle.query_eval.proofs.FormLemmas.{packed_more}
 use Rattle.query_eval.proofs.MaskedLemmas.{length-values_at, values_all, values_none, values_skip, values_some}
 use Rattle.query_eval.proofs.SharedLemmas.{count_slice, held_slice, values_slice}
 
@@ -51,6 +59,10 @@ pub counts_rise : (p : ℕ → Bool) (first end : ℕ) → first ≤ end → cou
 counts_rise p first end order =
     let next : first + (end - first) ≡ end = omega arith in
     omega (arith, ap (count_below p) (sym next) ∙ count_below-add p first (end - first))
+
+-- as many rows of a mask are below one as its words say
+pub counted_by_words : (words : List ℕ) (rows : List Bool) (n : ℕ) → rows ≡ rows_of (truth_at words) → n ≤ 1024 → count_below (truth_at words) n ≡ count_below (has rows) n
+counted_by_words words rows n e l = count_below-same (truth_at words) (has rows) n (λ i h. sym (has-words words rows (sym e) i (omega (arith, h, l))))
 
 module _ (rows : List Bool) (first end : ℕ) (within : end ≤ 1024) where
   pub between_has : (n : ℕ) → first ≤ n → n < end → has (rows_between rows first end) n ≡ has rows n
@@ -111,6 +123,49 @@ module _ (rows : List Bool) (first end : ℕ) (within : end ≤ 1024) where
   -- one with a row has
   pub some_between : first ≤ end → (values : List ℤ) (row : ℕ) → first ≤ row → row < end → has rows row ≡ true → values_at (rows_between rows first end) values ≢ []
   some_between order values row h l on = values_some row (rows_between rows first end) values (between_has row h l ∙ on) (omega (arith, l, within))
+
+-- ---- a bound of what a span shows
+module _ (e : Extreme) (rows : List Bool) (values shown : List ℤ) (are : AreFormed (Shown e) rows values shown) (first end : ℕ) (within : end ≤ 1024) (order : first ≤ end) (bound : ℤ) (fit : FitsSigned w64 bound) (most : (n : ℕ) → first ≤ n → n < end → get_or shown n (pos 0) ≤ℤ bound) where
+  below_bound : (d : ℕ) → first + d ≤ end → top_below e (first + d) (rows_between rows first end) values ≤ℤ bound
+  below_bound zero l =
+      let none : top_below e (first + zero) (rows_between rows first end) values ≡ least_number =
+      ap (λ k. top_below e k (rows_between rows first end) values) (let q : first + zero ≡ first = omega arith in q) ∙ ap (λ zs. top_of (map (turned_by e) zs)) (between_first rows first end within order values) in
+      omega (arith, ints, none, fit)
+  below_bound (suc d) l =
+      let n : ℕ = first + d in
+      let next : n + 1 ≡ first + suc d = omega arith in
+      subst (λ (k : ℕ). top_below e k (rows_between rows first end) values ≤ℤ bound) next
+      (top_bounded e n (rows_between rows first end) values (has rows n) (get_or shown n (pos 0)) bound (between_has rows first end within n (omega arith) (omega (arith, l))) (are n (omega (arith, l, within))) (most n (omega arith) (omega (arith, l))) (below_bound d (omega (arith, l))))
+
+  pub bounded_span : top_of (map (turned_by e) (values_at (rows_between rows first end) values)) ≤ℤ bound
+  bounded_span =
+      let next : first + (end - first) ≡ end = omega (arith, order) in
+      subst (λ (zs : List ℤ). top_of (map (turned_by e) zs) ≤ℤ bound) (ap (λ k. values_below k (rows_between rows first end) values) next ∙ between_all rows first end within values) (below_bound (end - first) (omega (arith, next)))
+
+-- ---- the packed sum of a span
+module _ (rows : List Bool) (first end : ℕ) (within : end ≤ 1024) (order : first ≤ end) (values : List ℤ) where
+  below_sum : (d : ℕ) → first + d ≤ end → packed_sum (values_below (first + d) rows values) ≡ packed_sum (values_below first rows values) +ℤ packed_sum (values_below (first + d) (rows_between rows first end) values)
+  below_sum zero l =
+      let none : packed_sum (values_below (first + zero) (rows_between rows first end) values) ≡ pos 0 =
+      ap (λ k. packed_sum (values_below k (rows_between rows first end) values)) (let e : first + zero ≡ first = omega arith in e) ∙ ap packed_sum (between_first rows first end within order values) in
+      let same : packed_sum (values_below (first + zero) rows values) ≡ packed_sum (values_below first rows values) = ap (λ k. packed_sum (values_below k rows values)) (let e : first + zero ≡ first = omega arith in e) in
+      omega (arith, ints, none, same)
+  below_sum (suc d) l =
+      let n : ℕ = first + d in
+      let next : n + 1 ≡ first + suc d = omega arith in
+      let x : ℤ = cond (has rows n) (pos 2048 *ℤ get_or values n (pos 0) +ℤ pos 1) (pos 0) in
+      let before = below_sum d (omega (arith, l)) in
+      let all = packed_more n rows values (has rows n) (packed_sum (values_below n rows values)) x refl refl refl ∙ ap (λ k. packed_sum (values_below k rows values)) next in
+      let part = packed_more n (rows_between rows first end) values (has rows n) (packed_sum (values_below n (rows_between rows first end) values)) x (between_has rows first end within n (omega arith) (omega (arith, l))) refl refl
+      ∙ ap (λ k. packed_sum (values_below k (rows_between rows first end) values)) next in
+      omega (arith, ints, before, all, part)
+
+  pub between_sum : packed_sum (values_below end rows values) ≡ packed_sum (values_below first rows values) +ℤ packed_sum (values_at (rows_between rows first end) values)
+  between_sum =
+      let next : first + (end - first) ≡ end = omega (arith, order) in
+      ap (λ k. packed_sum (values_below k rows values)) (sym next) ∙ below_sum (end - first) (omega (arith, next))
+      ∙ ap (λ k. packed_sum (values_below first rows values) +ℤ packed_sum (values_below k (rows_between rows first end) values)) next
+      ∙ ap (λ zs. packed_sum (values_below first rows values) +ℤ packed_sum zs) (between_all rows first end within values)
 
 -- ---- the part of a list that a span covers
 pub part_at : (first end i : ℕ) (xs : List ℤ) → i < length (take (end - first) (drop first xs)) → (i < end - first) × (get_or (take (end - first) (drop first xs)) i (pos 0) ≡ get_or xs (first + i) (pos 0))

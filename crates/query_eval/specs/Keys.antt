@@ -1,5 +1,5 @@
 -- Keys of a vector's rows, as the grouping columns give them.
-use Rattle.std.specs.Prelude.{◌≡◌, ℕ, ◌<◌, ◌≤◌, ◌∷◌, [], cond, List, map, slice_index_or, Option, Some, None, ℤ, pos, ◌<ℤ◌, Bool}
+use Rattle.std.specs.Prelude.{◌≡◌, ℕ, ◌<◌, ◌≤◌, ◌∷◌, [], cond, List, map, slice_index_or, Option, Some, None, ℤ, pos, ◌<ℤ◌, Bool, true}
 use Rattle.table_model.specs.Group.{key_of}
 use Rattle.table_model.specs.State.{Cells}
 use Rattle.transpose_order.specs.Mask.{has}
@@ -36,21 +36,21 @@ key_read (Runs starts) columns values codes = run_key starts values
 key_read (Codes count) columns values codes = code_key count values codes
 key_read Columns columns values codes = column_key columns
 
--- each row of a vector has, in the grouping columns, the key that is said
-abbrev pub AreKeys : List ℕ → Vector → (ℕ → Cells) → Type 0
-AreKeys by v keys = (n : ℕ) → n < 1024 → keys n ≡ key_of by (row_at v n)
+-- each row of a mask has, in the grouping columns of a vector, the key that is said
+abbrev pub AreKeys : List ℕ → Vector → List Bool → (ℕ → Cells) → Type 0
+AreKeys by v mask keys = (n : ℕ) → n < 1024 → has mask n ≡ true → keys n ≡ key_of by (row_at v n)
 
--- whatever the grouping columns and the vector whose rows have these keys, the rows of a mask are sliced by them
+-- whatever the grouping columns and the vector in which the rows of a mask have these keys, they are sliced by them
 abbrev pub IsSlicing : (ℕ → Cells) → List Bool → List Bool → Places → Places → List Slice → Type 0
-IsSlicing keys mask left old new slices = (by : List ℕ) (v : Vector) → AreKeys by v keys → IsIndex old → AreSliced by v mask left old.index new.index slices
+IsSlicing keys mask left old new slices = (by : List ℕ) (v : Vector) → AreKeys by v mask keys → IsIndex old → AreSliced by v mask left old.index new.index slices
 
--- whatever the grouping columns and the vector whose rows have these keys, the rows of a mask are split by them
+-- whatever the grouping columns and the vector in which the rows of a mask have these keys, they are split by them
 abbrev pub IsSplitting : (ℕ → Cells) → List Bool → Places → Places → Split → Type 0
-IsSplitting keys mask old new split = (by : List ℕ) (v : Vector) → AreKeys by v keys → IsIndex old → IsSplit by v mask old.index new.index split
+IsSplitting keys mask old new split = (by : List ℕ) (v : Vector) → AreKeys by v mask keys → IsIndex old → IsSplit by v mask old.index new.index split
 
--- whatever the grouping columns and the vector whose rows have these keys, the rows of a mask have the places of them
+-- whatever the grouping columns and the vector in which the rows of a mask have these keys, they have the places of them
 abbrev pub IsPlacing : (ℕ → Cells) → List Bool → Places → Places → List ℕ → Type 0
-IsPlacing keys mask old new out = (by : List ℕ) (v : Vector) → AreKeys by v keys → IsIndex old → ArePlaced 1024 by v mask old.index new.index out
+IsPlacing keys mask old new out = (by : List ℕ) (v : Vector) → AreKeys by v mask keys → IsIndex old → ArePlaced 1024 by v mask old.index new.index out
 
 -- codes are few enough to slice by, each of 1024 rows has one up to the count, and the values below it rise
 pub record AreFewCodes (count : ℕ) (codes : List ℕ) (values : List ℤ) : Type 0 where

@@ -45,14 +45,14 @@ pub record ArePlaced (k : ℕ) (by : List ℕ) (v : Vector) (mask : List Bool) (
   pub placed : (n : ℕ) → n < k → has mask n ≡ true → get key_cmp new (key_of by (row_at v n)) ≡ Some (slice_index_or places n 0)
   pub occurs : (key : Cells) → is_some (get key_cmp new key) ≡ (is_some (get key_cmp old key) || list_any (same_cells key) (map (key_of by) (rows_below k v mask)))
 
--- decoded values, but for the nulls, are the keys of a vector's rows
-abbrev pub AreKeyCells : List ℕ → Vector → List Bool → List ℤ → Type 0
-AreKeyCells by v nulls values = (n : ℕ) → n < 1024 → cond (has nulls n) None (Some (slice_index_or values n (pos 0))) ∷ [] ≡ key_of by (row_at v n)
+-- decoded values, but for the nulls, are the keys of a vector's rows of a mask
+abbrev pub AreKeyCells : List ℕ → Vector → List Bool → List Bool → List ℤ → Type 0
+AreKeyCells by v mask nulls values = (n : ℕ) → n < 1024 → has mask n ≡ true → cond (has nulls n) None (Some (slice_index_or values n (pos 0))) ∷ [] ≡ key_of by (row_at v n)
 
 -- the rows of a mask have the places of their keys, which are decoded values but for the nulls
 abbrev pub PlacesCells : List Bool → List ℤ → List Bool → Places → Places → List ℕ → Type 0
-PlacesCells nulls values mask old new out = (by : List ℕ) (v : Vector) → AreKeyCells by v nulls values → IsIndex old → ArePlaced 1024 by v mask old.index new.index out
+PlacesCells nulls values mask old new out = (by : List ℕ) (v : Vector) → AreKeyCells by v mask nulls values → IsIndex old → ArePlaced 1024 by v mask old.index new.index out
 
 -- the rows of a word of a mask have the places of their keys too, which are decoded values but for those of a word of nulls
 abbrev pub PlacesWord : List ℤ → ℕ → ℕ → ℕ → Places → Places → List ℕ → List ℕ → Type 0
-PlacesWord values word nulls first old new before after = (by : List ℕ) (v : Vector) (mask null_rows : List Bool) (start : BTreeMap Cells ℕ) → AreKeyCells by v null_rows values → AreBits 64 word mask first → AreBits 64 nulls null_rows first → IsIndex old → ArePlaced first by v mask start old.index before → ArePlaced (first + 64) by v mask start new.index after
+PlacesWord values word nulls first old new before after = (by : List ℕ) (v : Vector) (mask null_rows : List Bool) (start : BTreeMap Cells ℕ) → AreKeyCells by v mask null_rows values → AreBits 64 word mask first → AreBits 64 nulls null_rows first → IsIndex old → ArePlaced first by v mask start old.index before → ArePlaced (first + 64) by v mask start new.index after

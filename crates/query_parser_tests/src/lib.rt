@@ -1,4 +1,4 @@
-//! Tests of query_parser: queries, conditions and their faults, whether names are those of a table, and where a growth is refused.
+//! Tests of query_parser: the example of its README, long texts, and a growth that is refused.
 #![tactic(auto)]
 
 #[cfg(test)]

@@ -20,9 +20,9 @@ pub enum CommandRefusal {
     Busy,
     /// A part of a folder has other bytes than its name says.
     Damaged,
-    /// Two parts of an answer that would count a batch twice, or rows that one of their files deletes; the least batch.
+    /// Two partial answers that would count a batch twice, or rows that one of their files deletes; the least batch.
     NotApart(BatchName),
-    /// Parts of the answers of different queries.
+    /// Partial answers of different queries.
     QueryDiffers,
     /// A number of an answer that is past its range.
     TooMany,

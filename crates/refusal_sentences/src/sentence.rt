@@ -3,7 +3,7 @@
 use crate::command_refusal::CommandRefusal;
 use crate::csv_fault::{Fields, write_fault_of_field, write_fault_of_heading};
 use crate::meaning::meaning_of;
-use crate::quoted::Printable;
+use crate::quoted::{Printable, Quoted};
 use crate::reason::{unread, unwritten};
 use crate::tables::{Names, Table};
 use crate::text_fault::Text;
@@ -39,6 +39,11 @@ pub enum Knowledge<'a> {
     },
     /// The text of a query or a condition, and the table that it asks.
     Text(Text<'a>),
+    /// A name in a list of columns, and the table that has none of this name.
+    Name {
+        name: &'a str,
+        schema: &'a Schema,
+    },
     /// The table that rows are for.
     Rows(&'a Schema),
     /// The other input that has a batch of the same name.
@@ -193,10 +198,10 @@ impl<'a> Sentence<'a> {
             ),
             CommandRefusal::NotApart(name) => write!(
                 f,
-                "batch {name} is in both parts, or one file deletes rows of it that the other has: merge these files, and make one part of what comes"
+                "batch {name} is in both partial answers, or one file deletes rows of it that the other has: merge the two files, and make one partial answer from the result"
             ),
             CommandRefusal::QueryDiffers => f.write_str(
-                "the parts are of different queries, or the groups of a part are not those of its query: make all parts with the same text",
+                "the partial answers are of different queries, or the groups of one are not those of its query: make all partial answers with the same text",
             ),
             CommandRefusal::TooMany => f.write_str(
                 "a count has more than 64 bits, a sum or a mean more than 128, or DISTINCT more than 2^36 values: ask fewer files at once",
@@ -234,6 +239,11 @@ impl<'a> Sentence<'a> {
                     f,
                     "this and {other} have a batch {name}, with different rows"
                 )?;
+            }
+            (CommandRefusal::Named(Refusal::NoSuchColumn(_)), Knowledge::Name { name, schema }) => {
+                let name = Quoted(name.as_bytes());
+                let names = Names(schema);
+                write!(f, "there is no column {name}: the table has {names}")?;
             }
             (CommandRefusal::Named(refusal), Knowledge::Rows(schema)) => {
                 return write_fault_of_rows(refusal, schema, f);

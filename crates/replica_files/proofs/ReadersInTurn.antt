@@ -65,11 +65,16 @@ all_read remaining (suc at) (old ∷ olds) [] so end = absurd so
 all_read remaining (suc at) (old ∷ olds) (new ∷ news) so end = (so.0, all_read remaining at olds news so.1 (omega (arith, end)))
 
 -- and then the call was refused as it wrote
-read_then_written : {D : Type 0} (remaining : D → Option (List ℕ)) (e : Refusal) (olds news : List (D × ℕ)) → AreReadWhole remaining olds news → (e ≡ Memory) ⊎ (e ≡ WriteFault) → ReadInTurn remaining e olds news
+pub read_then_written : {D : Type 0} (remaining : D → Option (List ℕ)) (e : Refusal) (olds news : List (D × ℕ)) → AreReadWhole remaining olds news → (e ≡ Memory) ⊎ (e ≡ WriteFault) → ReadInTurn remaining e olds news
 read_then_written remaining e [] [] all why = why
 read_then_written remaining e [] (new ∷ news) all why = absurd all
 read_then_written remaining e (old ∷ olds) [] all why = absurd all
 read_then_written remaining e (old ∷ olds) (new ∷ news) all why = inl (all.0, read_then_written remaining e olds news all.1 why)
+
+-- memory ran out before any was read
+pub none_read : {D : Type 0} (remaining : D → Option (List ℕ)) (readers : List (D × ℕ)) → ReadInTurn remaining Memory readers readers
+none_read remaining [] = inl refl
+none_read remaining (reader ∷ readers) = inr (record { whole = λ memory failed. absurd (memory refl); counts = refl }, refl)
 
 -- ---- one file
 

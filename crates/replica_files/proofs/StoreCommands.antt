@@ -196,6 +196,10 @@ merge_listed r other e (inl refused) =
     merge_fault_of (same_table r.schema other.schema) r other (conflict_with r.state.batches (entries_of other)) e (merged_fault (merge_fault r other) (with_join r other) e refused)
 merge_listed r other e (inr lack) = ap is_refusal_of_merge lack.0
 
+pub join_listed : (r other : Replica) (e : Refusal) → (merged r other ≡ Err e) ⊎ (e ≡ Memory) → IsTrue (is_refusal_of_merge e)
+join_listed r other e (inl refused) = merge_listed r other e (inl refused)
+join_listed r other e (inr lack) = ap is_refusal_of_merge lack
+
 -- what both ways grow into each other is the same
 both_equal : (a b : Bool) → (IsTrue a → IsTrue b) → (IsTrue b → IsTrue a) → a ≡ b
 both_equal true b there back = sym (there refl)

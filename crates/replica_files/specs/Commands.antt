@@ -116,19 +116,20 @@ merged_with r (input ∷ inputs) = held_in input >>= λ other. merged r other >>
 abbrev pub merged_files : List ℕ → List (List ℕ) → Result Replica Refusal
 merged_files first others = held_in first >>= λ r. merged_with r others
 
--- what files hold was merged into a replica, one file or all; Memory and ReadFault may come in the place of anything
-abbrev pub MergesInto : Result (Unit {0}) Refusal → Replica → Result Replica Refusal → Type 0
-MergesInto (Ok done) new made = made ≡ Ok new
-MergesInto (Err e) new made = (made ≡ Err e) ⊎ IsUnread e
+-- What files hold was merged into a replica, one file or all, and what was returned, seen by view, is what came of it; Memory and
+-- ReadFault may come in the place of anything.
+abbrev pub MergesInto : {X : Type 0} → (X → Replica) → Result X Refusal → Result Replica Refusal → Type 0
+MergesInto view (Ok x) made = made ≡ Ok (view x)
+MergesInto view (Err e) made = (made ≡ Err e) ⊎ IsUnread e
 
 -- one file
-abbrev pub Merging : Result (Unit {0}) Refusal → Option (List ℕ) → Replica → Replica → Type 0
-Merging result None old new = Unit {0}
-Merging result (Some input) old new = MergesInto result new (merged_with old (input ∷ []))
+abbrev pub Merging : {X : Type 0} → (X → Replica) → Result X Refusal → Option (List ℕ) → Replica → Type 0
+Merging view result None old = Unit {0}
+Merging view result (Some input) old = MergesInto view result (merged_with old (input ∷ []))
 
 -- some files
-abbrev pub MergesAll : Result (Unit {0}) Refusal → Replica → Replica → List (List ℕ) → Type 0
-MergesAll result old new inputs = MergesInto result new (merged_with old inputs)
+abbrev pub MergesAll : {X : Type 0} → (X → Replica) → Result X Refusal → Replica → List (List ℕ) → Type 0
+MergesAll view result old inputs = MergesInto view result (merged_with old inputs)
 
 -- the file of a replica that was made
 abbrev pub written_of : Result Replica Refusal → Result (List ℕ) Refusal

@@ -6,42 +6,42 @@ ghost use Rattle.replica_files.specs.Refusals.{AreReadWhole, StopsAt, ReadInTurn
 
 use crate::file_writing::write_changed;
 use column_file::open;
-use replica_store::Store;
+use replica_store::{Joined, Store};
 use std::alloc::Global;
 use std::io::{Read, Write};
 use table_model::{Counted, Origin, Refusal};
 
-/// Merges what a file holds into a store. The file's own store is let go before the call ends.
+/// The join with what a file holds. The file's own store is let go before the call ends.
 fn merge_one<R: Read>(
     alloc: Global,
-    store: &mut Store,
+    joined: Joined,
     reader: &mut Counted<R>,
-) -> Result<(), Refusal>
-    ensures merged { Merging result (R.remaining reader.old.0) store.old.replica store.new.replica }
+) -> Result<Joined, Refusal>
+    ensures merged { Merging (λ whole. whole.replica) result (R.remaining reader.old.0) joined.replica }
     ensures read { OnOk result (IsReadWhole R.remaining reader.old reader.new) }
     ensures listed { IfErr result (λ e. IsTrue (reading_or is_refusal_of_merge e)) }
     ensures stops { IfErr result (λ e. StopsAt R.remaining e reader.old reader.new) }
 {
     let other = open(alloc, reader, Origin(1))?;
-    store.merge(alloc, &other)?;
-    Ok(())
+    joined.with(alloc, other)
 }
 
-/// Merges what files hold into a store, file by file.
+/// What a store and files hold, joined file by file.
 fn merge_others<R: Read>(
     alloc: Global,
-    store: &mut Store,
+    first: Store,
     readers: &mut [Counted<R>],
-) -> Result<(), Refusal>
-    ensures merged { (inputs : List (List ℕ)) → map (λ reader. R.remaining reader.0) readers.old ≡ map Some inputs → MergesAll result store.old.replica store.new.replica inputs }
+) -> Result<Store, Refusal>
+    ensures merged { (inputs : List (List ℕ)) → map (λ reader. R.remaining reader.0) readers.old ≡ map Some inputs → MergesAll (λ whole. whole.replica) result first.replica inputs }
     ensures read { OnOk result (AreReadWhole R.remaining readers.old readers.new) }
     ensures listed { IfErr result (λ e. IsTrue (reading_or is_refusal_of_merge e)) }
     ensures in_turn { IfErr result (λ e. ReadInTurn R.remaining e readers.old readers.new) }
 {
+    let mut joined = Joined::new(alloc, first)?;
     for index in 0..readers.len() {
-        merge_one(alloc, store, &mut readers[index])?;
+        joined = merge_one(alloc, joined, &mut readers[index])?;
     }
-    Ok(())
+    joined.into_store(alloc)
 }
 
 /// Writes the canonical file of what all of some files hold. Each reader is read to its end, and its file merged, before the next
@@ -60,7 +60,7 @@ pub fn merge<R: Read, W: Write>(
         Merges result (W.contents writer.old.0) (W.contents writer.new.0) input inputs }
     ensures ends { EndsMerge R.remaining W.contents (first.old ∷ others.old) (first.new ∷ others.new) writer.old writer.new result }
 {
-    let mut store = open(alloc, first, Origin(1))?;
-    merge_others(alloc, &mut store, others)?;
-    write_changed(alloc, &store, true, writer)
+    let store = open(alloc, first, Origin(1))?;
+    let whole = merge_others(alloc, store, others)?;
+    write_changed(alloc, &whole, true, writer)
 }

@@ -1,14 +1,8 @@
 //! Commands over files in memory.
-
-use answer_formats::ReportForm;
-use column_file::{read_offer, read_summary};
 use csv_rows::{CsvError, CsvReader};
-use live_columns::{Unchosen, choose};
 use replica_files::{
-    Applied, Load, OpenFile, apply, create, delete, delete_rows, dump, dump_where, file_schema,
-    forget, import, inspect, merge, offer, read_csv, summary,
+    Load, OpenFile, create, delete, delete_rows, file_schema, forget, import, read_csv, summary,
 };
-use replica_store::Offer;
 use std::alloc::Global;
 use table_model::{BatchName, ColType, Counted, Number, Origin, Refusal, RowName};
 
@@ -134,81 +128,9 @@ pub fn opened(alloc: Global, file: &[u8]) -> Result<OpenFile, Refusal> {
     OpenFile::read(alloc, &mut Counted::new(file))
 }
 
-/// The dump of a file.
-pub fn dumped(alloc: Global, file: &[u8], has_names: bool) -> Result<Vec<u8>, Refusal> {
-    let mut writer = Counted::new(Vec::new(alloc));
-    dump(alloc, &opened(alloc, file)?, has_names, &mut writer)?;
-    Ok(writer.into_inner())
-}
-
-/// The dump of a file's columns by their names, at the rows for which a condition is true.
-pub fn dumped_where(
-    alloc: Global,
-    file: &[u8],
-    columns: &str,
-    condition: &str,
-    has_names: bool,
-) -> Result<Vec<u8>, Refusal> {
-    let file = opened(alloc, file)?;
-    let choice = match choose(alloc, file.schema(), columns.as_bytes(), b',', condition) {
-        Ok(choice) => choice,
-        Err(Unchosen::NoSuchName(at)) => return Err(Refusal::NoSuchColumn(at)),
-        Err(Unchosen::Refused(refusal)) => return Err(refusal),
-    };
-    let mut writer = Counted::new(Vec::new(alloc));
-    dump_where(alloc, &file, &choice, has_names, &mut writer)?;
-    Ok(writer.into_inner())
-}
-
-/// What is told of a file.
-pub fn inspected(alloc: Global, file: &[u8]) -> Result<Vec<u8>, Refusal> {
-    let mut writer = Counted::new(Vec::new(alloc));
-    inspect(alloc, &opened(alloc, file)?, ReportForm::Text, &mut writer)?;
-    Ok(writer.into_inner())
-}
-
 /// The summary of a file.
 pub fn summarized(alloc: Global, file: &[u8]) -> Result<Vec<u8>, Refusal> {
     let mut writer = Counted::new(Vec::new(alloc));
     summary(alloc, &opened(alloc, file)?, &mut writer)?;
-    Ok(writer.into_inner())
-}
-
-/// The offer of a file to a summary.
-pub fn offered(alloc: Global, file: &[u8], asked: &[u8]) -> Result<Vec<u8>, Refusal> {
-    let asked = read_summary(alloc, &mut Counted::new(asked))?;
-    let mut writer = Counted::new(Vec::new(alloc));
-    offer(alloc, &opened(alloc, file)?, &asked, &mut writer)?;
-    Ok(writer.into_inner())
-}
-
-/// What an apply of offers writes over a file, and answers.
-pub fn applied(
-    alloc: Global,
-    file: &[u8],
-    messages: &[&[u8]],
-) -> Result<(Applied, Vec<u8>), Refusal> {
-    let mut offers: Vec<Offer> = Vec::new(alloc);
-    for message in messages {
-        offers.push(read_offer(alloc, &mut Counted::new(*message))?)?;
-    }
-    let mut writer = Counted::new(Vec::new(alloc));
-    let made = apply(alloc, &mut Counted::new(file), offers, &mut writer)?;
-    Ok((made, writer.into_inner()))
-}
-
-/// What a merge of files writes.
-pub fn merged<'a>(alloc: Global, first: &'a [u8], others: &[&'a [u8]]) -> Result<Vec<u8>, Refusal> {
-    let mut readers = Vec::new(alloc);
-    for other in others {
-        readers.push(Counted::new(*other))?;
-    }
-    let mut writer = Counted::new(Vec::new(alloc));
-    merge(
-        alloc,
-        &mut Counted::new(first),
-        readers.as_mut_slice(),
-        &mut writer,
-    )?;
     Ok(writer.into_inner())
 }

@@ -1,7 +1,7 @@
 //! Each command with a growth refused. A test's own growths are counted from 1: with the Nth refused, a test fails by an
 //! `AllocError` or `Memory` of its set-up, or, where it was a growth of the call that it is of, with the text `REFUSED` or `CHANGED`;
 //! with none refused it passes. The command `tests/refused-memory` refuses each in turn and counts those texts.
-use crate::commands::{Command, file_of, loaded, name, row};
+use crate::commands::{Command, file_of, loaded, row};
 use answer_formats::ReportForm;
 use column_file::read_offer;
 use replica_files::{

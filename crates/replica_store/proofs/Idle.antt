@@ -25,7 +25,7 @@ absorbs true b h = refl
 absorbs false true h = sym (h refl)
 absorbs false false h = refl
 
-deletions_same : (ours theirs : set.FinSet row_name_cmp) → set.is_subset theirs ours ≡ true → set.union ours theirs ≡ ours
+pub deletions_same : (ours theirs : set.FinSet row_name_cmp) → set.is_subset theirs ours ≡ true → set.union ours theirs ≡ ours
 deletions_same ours theirs within =
     set.same_set row_names_total exact_row_names (set.union ours theirs) ours
     (λ q. set.contains-union row_names_total ours theirs q ∙ absorbs (set.contains ours q) (set.contains theirs q) (set.is_subset-contains row_names_total theirs ours within q))

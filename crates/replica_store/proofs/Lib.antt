@@ -22,5 +22,7 @@ pub mod VectorPlaces
 pub mod ExchangeAnswers
 pub mod Growth
 pub mod Idle
+pub mod Taken
 pub mod RowLists
 pub mod RecodeAnswers
+pub mod JoinedStores

@@ -212,3 +212,10 @@ module _ {X : Type 0} where
         or_none : (o : Option X) → or_else o None ≡ o
         or_none None = refl
         or_none (Some x) = refl
+
+  -- so is a union with entries none of which it lacks
+  pub union-nothing : (m : map.FinMap name_cmp X) (fs : List (BatchName × X)) → Sorted fs → lacked_by (names_of m) fs ≡ [] → union_of m (as_map fs) ≡ m
+  union-nothing m fs sorted none =
+      let all : map.entries (as_map fs) ≡ fs = entries-as_map fs sorted in
+      let few : length (lacked_by (names_of m) (map.entries (as_map fs))) ≡ 0 = ap (λ (xs : List (BatchName × X)). length (lacked_by (names_of m) xs)) all ∙ ap length none in
+      union-same m (as_map fs) (omega (arith, len-union m (as_map fs), few))

@@ -8,3 +8,4 @@ pub mod Segments
 pub mod ExchangeLaws
 pub mod RecodeLaws
 pub mod ForgetStoreLaws
+pub mod Joined

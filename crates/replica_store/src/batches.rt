@@ -237,6 +237,9 @@ impl Batches {
         ensures ok { OnOk result ((others : List Entry) → AreLackedOf self.old.segments others fresh.items → self.new.segments ≡ union_of self.old.segments (map.from_sorted others)) }
         ensures err { OnErr result (self.new ≡ self.old) }
     {
+        if fresh.is_empty() {
+            return Ok(());
+        }
         let (fresh_up_to, fresh_past) = parted(self.own, fresh)?;
         let room_up_to = room_for(alloc, &self.up_to, &fresh_up_to)?;
         let room_past = room_for(alloc, &self.past, &fresh_past)?;
@@ -247,6 +250,21 @@ impl Batches {
         self.past = merged(past, fresh_past, room_past);
         self.held = held;
         Ok(())
+    }
+
+    /// The batches, in ascending order of name, and the set of their names.
+    pub fn into_entries(self) -> Result<(Vec<(BatchName, Segment)>, Held), AllocError>
+        ensures entries { IfOk result (λ parts. parts.0.items ≡ map.entries self.segments) }
+        ensures names { IfOk result (λ parts. parts.1 ≡ names_of self.segments) }
+    {
+        let Batches {
+            up_to: mut entries,
+            mut past,
+            held,
+            ..
+        } = self;
+        entries.append(&mut past)?;
+        Ok((entries, held))
     }
 
     /// Adds a batch with a proper name that isn't there. One that is the last of its part moves no other.

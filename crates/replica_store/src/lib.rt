@@ -3,12 +3,14 @@
 
 mod batches;
 mod inserted;
+mod joined;
 mod laws;
 mod offer;
 mod store;
 mod summary;
 
 pub use inserted::Inserted;
+pub use joined::Joined;
 pub use laws::{exchange_laws, forget_store_laws, keeping_laws, merge_laws};
 pub use offer::Offer;
 pub use store::{MAX_BATCHES, Store};

@@ -1,6 +1,6 @@
 //! A replica's store: a table's schema, an own origin, and a state that appends, inserts, deletes, merges and applied messages
 //! change.
-ghost use Rattle.std.specs.Prelude.{◌++◌, ◌≡◌, ◌<◌, ◌≤◌, slice_get, Some, None, Ok, Err, true, false, IsOk, IfOk, IfErr, OnOk, OnErr, IsTrue, T};
+ghost use Rattle.std.specs.Prelude.{◌++◌, ◌≡◌, ◌<◌, ◌≤◌, slice_get, Some, None, Ok, Err, true, false, is_ok, IsOk, IfOk, IfErr, OnOk, OnErr, IsTrue, T};
 ghost use Rattle.std.specs.FinMap as map;
 ghost use Rattle.std.specs.List.{All, list_all};
 ghost use Rattle.table_model.specs.Name.{name_cmp, is_proper_name};
@@ -285,6 +285,30 @@ impl Store {
         Ok(true)
     }
 
+    /// Whether another store is merged without a refusal but `Memory`.
+    pub(crate) fn merges_with(&self, other: &Store) -> bool
+        ensures { result ≡ is_ok (merged self.now.replica other.now.replica) }
+    {
+        let (first, second) = other.batches.parts();
+        self.merge_fault(&other.schema, first, second).is_ok()
+    }
+
+    /// How many steps a join of its batches and deletions takes.
+    pub(crate) fn steps(&self) -> usize {
+        self.batches.len().saturating_add(self.tombs.ranges().len())
+    }
+
+    /// Adds the batches and deletions of a store that is merged without a refusal. Its segments are moved, so none is copied.
+    pub(crate) fn join(&mut self, alloc: Global, other: Store) -> Result<(), AllocError>
+        requires { IsOk (merged self.old.replica other.replica) }
+        ensures replica { OnOk result (merged self.old.replica other.replica ≡ Ok (tt, self.new.replica)) }
+        ensures segments { OnOk result (self.new.segments ≡ union_of self.old.segments other.segments) }
+    {
+        let Store { batches, tombs, .. } = other;
+        let (entries, names) = batches.into_entries()?;
+        self.move_all(alloc, entries, &names, &tombs)
+    }
+
     /// The names of the batches that are held, from which another replica sees what to offer. `Memory` is answered if there is
     /// none.
     pub fn summary(&self, alloc: Global) -> Result<Summary, Refusal>
@@ -537,6 +561,9 @@ impl Store {
         ensures segments { OnOk result (self.new.segments ≡ union_of self.old.segments (map.from_sorted (first.now ++ second.now))) }
         ensures err { OnErr result (self.new ≡ self.old) }
     {
+        if self.tombs.has_all(tombs) {
+            return self.batches.join(alloc, first, second, names);
+        }
         let tombs = self.tombs.joined(tombs)?;
         self.batches.join(alloc, first, second, names)?;
         self.tombs = tombs;
@@ -558,6 +585,9 @@ impl Store {
         ensures segments { OnOk result (self.new.segments ≡ union_of self.old.segments (map.from_sorted entries.items)) }
         ensures err { OnErr result (self.new ≡ self.old) }
     {
+        if self.tombs.has_all(tombs) {
+            return self.batches.absorb(alloc, entries, names);
+        }
         let tombs = self.tombs.joined(tombs)?;
         self.batches.absorb(alloc, entries, names)?;
         self.tombs = tombs;

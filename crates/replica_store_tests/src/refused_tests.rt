@@ -1,7 +1,6 @@
 //! Calls of a store, each with a growth refused. A test's own growths are counted from 1: with the Nth refused, a test fails by
 //! an `AllocError` or `Memory` of its set-up, or, where it was a growth of the call that it is of, as `growth_refused` says; with
-//! none refused it passes. The command `tests/refused-memory` refuses each in turn and counts those texts. A call whose test's
-//! name ends in `grows_nowhere` has none to refuse.
+//! none refused it passes. The command `tests/refused-memory` refuses each in turn and counts those texts.
 //!
 //! A function that makes a store, or drops one, is dear to prove on each of its ways out. So each call is made where the store is
 //! only lent, and what the call needs is made by one function for all calls that need the same.
@@ -19,18 +18,6 @@ const HELD: &[Told] = &[Told::Batch(1, 1, &[10, 11]), Told::Deletion(1, 1, 0, 0)
 
 /// A store's batch alone: a set of deletions grows with its first range, and then has room for some.
 const UNDELETED: &[Told] = &[Told::Batch(1, 1, &[10, 11])];
-
-/// The same batch, and so many ranges of deleted rows that one more takes memory.
-const DELETED: &[Told] = &[
-    Told::Batch(1, 1, &[10, 11]),
-    Told::Deletion(1, 1, 0, 0),
-    Told::Deletion(4, 4, 3, 9),
-    Told::Deletion(5, 1, 0, 0),
-    Told::Deletion(6, 1, 0, 0),
-];
-
-/// Those ranges.
-const DELETED_RANGES: &[Deleted] = &[(1, 1, 0, 0), (4, 4, 3, 9), (5, 1, 0, 0), (6, 1, 0, 0)];
 
 /// What another store holds, beside which the first lacks a batch and a deletion.
 const BESIDE: &[Told] = &[Told::Batch(2, 1, &[20]), Told::Deletion(2, 1, 5, 9)];
@@ -139,11 +126,6 @@ fn a_refused_insert_leaves_the_store(rt: HostRuntime) -> Result<(), Fail> {
 }
 
 #[test]
-fn an_insert_of_a_held_batch_grows_nowhere(rt: HostRuntime) -> Result<(), Fail> {
-    end(called(rt.alloc(), Call::Insert(1, 1), &[10, 11])?)
-}
-
-#[test]
 fn a_refused_summary_leaves_the_store(rt: HostRuntime) -> Result<(), Fail> {
     end(called(rt.alloc(), Call::Summary, &[])?)
 }
@@ -171,18 +153,8 @@ fn a_refused_delete_leaves_the_store(rt: HostRuntime) -> Result<(), Fail> {
 }
 
 #[test]
-fn a_delete_of_deleted_rows_grows_nowhere(rt: HostRuntime) -> Result<(), Fail> {
-    end(deleted(rt.alloc(), Call::Delete, DELETED, DELETED_RANGES, 1)?)
-}
-
-#[test]
 fn a_refused_delete_of_listed_rows_leaves_the_store(rt: HostRuntime) -> Result<(), Fail> {
     end(deleted(rt.alloc(), Call::DeleteAll, UNDELETED, &[], 2)?)
-}
-
-#[test]
-fn a_delete_of_listed_rows_that_are_deleted_grows_nowhere(rt: HostRuntime) -> Result<(), Fail> {
-    end(deleted(rt.alloc(), Call::DeleteAll, DELETED, DELETED_RANGES, 1)?)
 }
 
 /// Whether a store is as it was before the call.
@@ -223,11 +195,6 @@ fn merged(alloc: Global, theirs: &[Told]) -> Result<Came, Refusal> {
 #[test]
 fn a_refused_merge_leaves_the_store(rt: HostRuntime) -> Result<(), Fail> {
     end(merged(rt.alloc(), BESIDE)?)
-}
-
-#[test]
-fn a_merge_that_brings_nothing_grows_nowhere(rt: HostRuntime) -> Result<(), Fail> {
-    end(merged(rt.alloc(), HELD)?)
 }
 
 /// Makes an offer to the summary.

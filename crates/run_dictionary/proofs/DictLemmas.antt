@@ -21,7 +21,7 @@ use Rattle.bit_interleave.proofs.SixteenLemmas.{get_or-sixteen_of}
 use Rattle.bit_interleave.specs.PackedWords.{PackedWords, words_packing}
 use Rattle.bit_interleave.proofs.ValueLemmas.{length-unpacked, get_or-unpacked, All-unpacked, HasWidth-words_packing}
 use Rattle.bit_interleave.proofs.WordsLemmas.{All-packed}
-use Rattle.bit_interleave.proofs.RoundTrip.{unpacked-packed}
+use Rattle.bit_interleave.proofs.RoundTrip.{unpacked-packed, packed-unpacked}
 use Rattle.bit_interleave.proofs.LeastWidthLemmas.{least_width-holds, least_width-least}
 use Rattle.bit_interleave.specs.Places.{by_place}
 use Rattle.bit_interleave.specs.Range.{value_at, AreInRange}
@@ -330,6 +330,14 @@ codes_read form f xs is n h = packed_codes_read form.width form.codes xs f.words
 
 pub words_read : (form : DictForm) → IsDictForm form → form.codes ≡ words_packing form.codes.lane_width form.width (unpacked form.codes.lane_width form.width form.codes.numbers) → form.codes ≡ words_packing 16 form.width (unpacked 16 form.width form.codes.numbers)
 words_read form f back = back ∙ ap (λ t. words_packing t form.width (unpacked t form.width form.codes.numbers)) f.words
+
+-- a form's words are those that pack its codes
+pub words_pack : (form : DictForm) → IsDictForm form → form.codes ≡ words_packing 16 form.width (unpacked 16 form.width form.codes.numbers)
+words_pack form f =
+    words_read form f (sym (ap (λ (ns : List ℕ). same_width form.codes ns) (packed-unpacked form.codes.lane_width form.width form.codes.numbers (inr (inl f.words)) f.packed.count f.fit)))
+  where
+    same_width : PackedWords → List ℕ → PackedWords
+    same_width p ns = record { lane_width = p.lane_width; numbers = ns }
 
 -- the number packed at a row's lane and step
 pub code_in_place : (form : DictForm) → IsDictForm form → (row : ℕ) {lane step : ℕ} (code : ℕ) → code ≡ packed_value form.codes.lane_width form.width form.codes.numbers lane step → lane ≡ lane_of 16 row → step ≡ step_of 16 row → code ≡ code_at form row

@@ -97,6 +97,19 @@ pub(crate) fn payload_bytes(lane_width: usize, count: usize, width: usize) -> u1
     (count * lane_width / 8 + 128 * width) as u16
 }
 
+/// How many values of a lane width there are in so many bytes: by a division by a constant.
+fn values_in(lane_width: usize, bytes: usize) -> usize
+    requires { IsLaneWidth lane_width }
+    ensures { result ≡ bytes / (lane_width / 8) }
+{
+    match lane_width {
+        8 => bytes,
+        16 => bytes / 2,
+        32 => bytes / 4,
+        _ => bytes / 8,
+    }
+}
+
 /// How many distinct values a dictionary has at most whose payload is below a bound.
 pub(crate) fn most_values(lane_width: usize, bound: u16) -> usize
     requires { IsLaneWidth lane_width }
@@ -107,7 +120,7 @@ pub(crate) fn most_values(lane_width: usize, bound: u16) -> usize
     let mut most: usize = 0;
     for width in 0..11 {
         let bytes = (bound as usize).saturating_sub(128 * width + 1);
-        most = most.max((1 << width).min(bytes / (lane_width / 8)));
+        most = most.max((1 << width).min(values_in(lane_width, bytes)));
     }
     most
 }

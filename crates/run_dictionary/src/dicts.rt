@@ -105,6 +105,10 @@ impl Dict {
         requires packed { HasWidth codes.now width }
         ensures { IsTrue result ↔ AreCodesBelow width codes.now count }
     {
+        if count >> width != 0 {
+            // No code of so few bits is as great.
+            return true;
+        }
         let mut unpacked = [0; 1024];
         codes.unpack_by_places(width, &mut unpacked);
         are_below(&unpacked, count)
@@ -189,11 +193,19 @@ impl Dict {
     pub fn is_least(&self) -> bool
         ensures { IsTrue result ↔ (self.now ≡ least_dict self.now.lane_width (dict_values self.now)) }
     {
-        let width = self.codes.packed_width();
         let mut codes = [0; 1024];
-        self.codes.unpack_by_places(width, &mut codes);
+        self.write_codes(&mut codes);
+        self.is_least_of(&codes)
+    }
+
+    /// Whether this is the least form of the values that it decodes to, from the rows' codes by places, which `write_codes` writes.
+    pub fn is_least_of(&self, codes: &[u64; 1024]) -> bool
+        requires { (n : ℕ) → n < 1024 → by_place codes.now n ≡ code_at self.now n }
+        ensures { IsTrue result ↔ (self.now ≡ least_dict self.now.lane_width (dict_values self.now)) }
+    {
+        let width = self.codes.packed_width();
         let count = self.values.len();
-        width == width_of(count as u64 - 1) && all_used(&codes, count)
+        width == width_of(count as u64 - 1) && all_used(codes, count)
     }
 
     /// Writes the rows' codes by places: number `16 * p + i` is the code of row `64 * i + p`. Two codes are equal exactly where the

@@ -5,6 +5,7 @@ ghost use Rattle.transpose_order.specs.Mask.{rows_of, has, count_below};
 ghost use Rattle.bit_interleave.specs.Range.{value_at};
 ghost use Rattle.run_dictionary.specs.Runs.{changes_at, changed_values, run_of};
 
+use bit_interleave::Values;
 use transpose_order::Mask;
 
 /// With more runs than this, of less than eight rows each, a vector is written row by row.
@@ -125,12 +126,12 @@ pub(crate) fn write_rows(starts: &Mask, runs: &[i64], into: &mut [i64; 1024])
 }
 
 /// Whether each value differs from the one before.
-pub(crate) fn all_differ(runs: &[i64]) -> bool
+pub(crate) fn all_differ(runs: &Values) -> bool
     ensures { IsTrue result
-        ↔ ((k : ℕ) → k + 1 < length runs.now → slice_index_or runs.now k (pos 0) ≢ slice_index_or runs.now (k + 1) (pos 0)) }
+        ↔ ((k : ℕ) → k + 1 < length runs.now.values → value_at runs.now.values k ≢ value_at runs.now.values (k + 1)) }
 {
     for k in 1..runs.len() {
-        if runs[k] == runs[k - 1] {
+        if runs.get(k) == runs.get(k - 1) {
             return false;
         }
     }
@@ -138,17 +139,31 @@ pub(crate) fn all_differ(runs: &[i64]) -> bool
 }
 
 /// The least and the greatest of some values.
-pub(crate) fn extremes(values: &[i64]) -> (i64, i64)
-    requires { 0 < length values.now }
-    ensures bounds { (k : ℕ) → k < length values.now → (result.0 ≤ℤ value_at values.now k) × (value_at values.now k ≤ℤ result.1) }
-    ensures least { (k : ℕ) × (k < length values.now) × (value_at values.now k ≡ result.0) }
-    ensures greatest { (k : ℕ) × (k < length values.now) × (value_at values.now k ≡ result.1) }
+pub(crate) fn extremes(values: &Values) -> (i64, i64)
+    requires { 0 < length values.now.values }
+    ensures bounds { (k : ℕ) → k < length values.now.values → (result.0 ≤ℤ value_at values.now.values k) × (value_at values.now.values k ≤ℤ result.1) }
+    ensures least { (k : ℕ) × (k < length values.now.values) × (value_at values.now.values k ≡ result.0) }
+    ensures greatest { (k : ℕ) × (k < length values.now.values) × (value_at values.now.values k ≡ result.1) }
 {
-    let mut least = values[0];
-    let mut greatest = values[0];
+    let mut least = values.get(0);
+    let mut greatest = values.get(0);
     for k in 1..values.len() {
-        least = least.min(values[k]);
-        greatest = greatest.max(values[k]);
+        let value = values.get(k);
+        least = least.min(value);
+        greatest = greatest.max(value);
     }
     (least, greatest)
+}
+
+/// Whether there are three values at least, of which the first three differ.
+pub(crate) fn three_differ(values: &Values) -> bool
+    ensures { IsTrue result
+        ↔ ((2 < length values.now.values) × (value_at values.now.values 0 ≢ value_at values.now.values 1)
+        × (value_at values.now.values 0 ≢ value_at values.now.values 2) × (value_at values.now.values 1 ≢ value_at values.now.values 2)) }
+{
+    if values.len() < 3 {
+        return false;
+    }
+    let (first, second, third) = (values.get(0), values.get(1), values.get(2));
+    first != second && first != third && second != third
 }

@@ -10,7 +10,9 @@ ghost use Rattle.run_dictionary.specs.Runs.{IsRunForm, run_of, run_value, run_va
 
 use crate::counting::most_values;
 use crate::places::changes_reach;
-use crate::run_words::{all_differ, changes, count_changes, extremes, write_changed, write_rows};
+use crate::run_words::{
+    all_differ, changes, count_changes, extremes, three_differ, write_changed, write_rows,
+};
 use crate::seen::more_values;
 use bit_interleave::Values;
 use std::alloc::{AllocError, Global};
@@ -138,8 +140,7 @@ impl Runs {
     pub fn is_least(&self) -> bool
         ensures { IsTrue result ↔ (self.now ≡ least_runs self.now.lane_width (run_values self.now)) }
     {
-        let mut room = [0; 1024];
-        all_differ(self.values.in_room(&mut room))
+        all_differ(&self.values)
     }
 
     /// The least and the greatest of the 1024 values, which are those of the runs.
@@ -148,8 +149,7 @@ impl Runs {
         ensures least { (n : ℕ) × (n < 1024) × (run_value self.now n ≡ result.0) }
         ensures greatest { (n : ℕ) × (n < 1024) × (run_value self.now n ≡ result.1) }
     {
-        let mut room = [0; 1024];
-        extremes(self.values.in_room(&mut room))
+        extremes(&self.values)
     }
 
     /// Whether the least dictionary of the 1024 values takes fewer bytes than a bound. The distinct values are those of the runs,
@@ -158,6 +158,9 @@ impl Runs {
         ensures { IsTrue result ↔ (dict_bytes (least_dict self.now.lane_width (run_values self.now)) < bound) }
     {
         let most = most_values(self.values.lane_width(), bound);
+        if most < 3 && three_differ(&self.values) {
+            return false;
+        }
         let mut room = [0; 1024];
         !more_values(self.values.in_room(&mut room), most)
     }

@@ -90,7 +90,7 @@ bytes_between t values low high bounds least greatest =
     ∙ ap (λ w. t / 8 + 128 * w) (sym (frame_width_is values)) ∙ sym (least_frame_bytes t values)
 
 -- ---- runs that repeat
-no_change : (values : List ℤ) (n : ℕ) → 0 < n → changes_at (value_at values) n ≡ false → value_at values n ≡ value_at values (n - 1)
+pub no_change : (values : List ℤ) (n : ℕ) → 0 < n → changes_at (value_at values) n ≡ false → value_at values n ≡ value_at values (n - 1)
 unfolding changes_at
 no_change values n some e =
     let later : nat_lt 0 n ≡ true = grind (arith, nat_tests) in
@@ -101,7 +101,7 @@ no_change values n some e =
     not_false true h = refl
     not_false false h = absurd (cc)
 
-is_no_change : (values : List ℤ) (n : ℕ) → (0 < n) ⊎ (n ≤ 0) → (0 < n → value_at values n ≡ value_at values (n - 1)) → changes_at (value_at values) n ≡ false
+pub is_no_change : (values : List ℤ) (n : ℕ) → (0 < n) ⊎ (n ≤ 0) → (0 < n → value_at values n ≡ value_at values (n - 1)) → changes_at (value_at values) n ≡ false
 unfolding changes_at
 is_no_change values n (inl some) e =
     let same : int_eq (value_at values n) (value_at values (n - 1)) ≡ true = (Decides-int_eq (value_at values n) (value_at values (n - 1))).1 (e some) in

@@ -4,6 +4,9 @@ pub mod FillLemmas
 pub mod RepeatLemmas
 pub mod NumberLemmas
 pub mod ChosenLemmas
+pub mod BareFrames
+pub mod LaterDeltas
+pub mod MixedRows
 pub mod SameCells
 pub mod VectorLemmas
 pub mod GatherLemmas

@@ -1,8 +1,10 @@
 -- Numbers by places tell a vector's values apart, so that what repeats is seen at the numbers.
-use Rattle.std.proofs.Common.{◌≡◌, ◌↔◌, ℕ, ◌+◌, ◌-◌, ◌*◌, ◌/◌, ◌%◌, ◌<◌, Bool, true, false, ℤ, pos, ◌+ℤ◌, List, length, get_or, sym, ◌∙◌, ap, arith}
+use Rattle.std.proofs.Common.{◌≡◌, ◌↔◌, ℕ, ◌+◌, ◌-◌, ◌*◌, ◌/◌, ◌%◌, ◌<◌, Bool, true, false, ℤ, pos, ◌+ℤ◌, List, map, length, get_or, sym, ◌∙◌, ap, arith}
 use Rattle.std.specs.Int.{w64, int_wrap, cast_unsigned}
 use Rattle.std.specs.Int.RustNames.{FitsSigned}
+use Rattle.std.specs.List.{range_with_len}
 use Rattle.std.proofs.lemmas.Int.{ints, int_wrap_fits}
+use Rattle.std.proofs.lemmas.List.FromFn.{get_or-map-range_with_len}
 use Rattle.transpose_order.specs.Place.{IsLaneWidth}
 use Rattle.bit_interleave.specs.Arithmetic.{integer_width}
 use Rattle.bit_interleave.specs.Range.{value_at, AreInRange}
@@ -43,6 +45,14 @@ signed_above t numbers values w long range are n l =
 pub signed_at : (numbers : List ℕ) (values : List ℤ) → ((q : ℕ) → q < 1024 → get_or numbers q 0 ≡ cast_unsigned w64 (value_at values (64 * (q % 16) + q / 16))) → AreSigned numbers values
 signed_at numbers values h n l =
     h (index_of_row n) (index_of_row-below n l) ∙ ap (λ k. cast_unsigned w64 (value_at values k)) (row_of_index-index_of_row n l)
+
+-- the numbers that a dictionary's values at codes by places are
+pub numbers_at : List ℤ → List ℕ → List ℕ
+numbers_at dictionary codes = map (λ k. cast_unsigned w64 (value_at dictionary (get_or codes k 0))) (range_with_len 0 1024)
+
+pub get_or-numbers_at : (dictionary : List ℤ) (codes : List ℕ) (k : ℕ) → k < 1024 → get_or (numbers_at dictionary codes) k 0 ≡ cast_unsigned w64 (value_at dictionary (get_or codes k 0))
+unfolding numbers_at
+get_or-numbers_at dictionary codes k h = get_or-map-range_with_len (λ k. cast_unsigned w64 (value_at dictionary (get_or codes k 0))) 0 1024 k k 0 h (omega arith)
 
 -- the values of a dictionary at codes by places
 pub dictionary_signed : (form : DictForm) (dictionary : List ℤ) (codes numbers : List ℕ) → dictionary ≡ form.values → ((n : ℕ) → n < 1024 → by_place codes n ≡ code_at form n) → ((k : ℕ) → k < 1024 → get_or numbers k 0 ≡ cast_unsigned w64 (value_at dictionary (get_or codes k 0))) → AreSigned numbers (dict_values form)

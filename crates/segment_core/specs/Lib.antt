@@ -5,6 +5,7 @@ pub mod Repeats
 pub mod Coded
 pub mod Choice
 pub mod CanonicalForm
+pub mod LaterRows
 pub mod CodedVector
 pub mod Segment
 pub mod Format

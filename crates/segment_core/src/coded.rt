@@ -136,15 +136,15 @@ impl Coded {
     }
 
     /// Whether these are the canonical form of a vector that is filled by their values: the values repeat as the fill asks, the
-    /// form is their least, and its coding is the one that is chosen for them.
-    pub(crate) fn is_canonical(&self, repeating: &RepeatingRows) -> bool
+    /// form is their least, and its coding is the one that is chosen for them. `room` is for numbers of the rows.
+    pub(crate) fn is_canonical(&self, repeating: &RepeatingRows, room: &mut [u64; 1024]) -> bool
         ensures { IsTrue result ↔ IsCanonicalForm repeating.now.rows repeating.now.valueless self.now }
     {
         match self {
-            Coded::For(form) => is_canonical_frame(form.get(), repeating),
-            Coded::Delta(form) => are_canonical_deltas(form.get(), repeating),
+            Coded::For(form) => is_canonical_frame(form.get(), repeating, room),
+            Coded::Delta(form) => are_canonical_deltas(form.get(), repeating, room),
             Coded::Runs(form) => are_canonical_runs(form.get(), repeating),
-            Coded::Dict(form) => is_canonical_dictionary(form.get(), repeating),
+            Coded::Dict(form) => is_canonical_dictionary(form.get(), repeating, room),
         }
     }
 

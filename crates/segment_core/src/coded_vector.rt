@@ -200,8 +200,16 @@ impl CodedVector {
     pub fn is_canonical(&self) -> bool
         ensures { IsTrue result ↔ (self.now ≡ canonical_vector (lane_width_of self.now.coded) (cells_of self.now)) }
     {
+        let mut room = [0; 1024];
+        self.is_canonical_in(&mut room)
+    }
+
+    /// The same by a room for numbers of the rows, which serves one vector after another.
+    pub(crate) fn is_canonical_in(&self, room: &mut [u64; 1024]) -> bool
+        ensures { IsTrue result ↔ (self.now ≡ canonical_vector (lane_width_of self.now.coded) (cells_of self.now)) }
+    {
         let repeating = RepeatingRows::of(self.rows(), &self.null_rows());
-        self.coded.is_canonical(&repeating)
+        self.coded.is_canonical(&repeating, room)
     }
 
     /// Whether two vectors have the same cells, whatever their codings. It takes no memory.

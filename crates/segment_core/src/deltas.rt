@@ -12,23 +12,26 @@ use frame_delta::{Delta, For};
 use run_dictionary::{Dict, Runs};
 
 /// Whether deltas are the canonical form of a vector that is filled by their values: these repeat as the fill asks, their form is
-/// the least, and DELTA is chosen for them.
-pub(crate) fn are_canonical_deltas(form: &Delta, repeating: &RepeatingRows) -> bool
+/// the least, and DELTA is chosen for them. `numbers` is room.
+pub(crate) fn are_canonical_deltas(
+    form: &Delta,
+    repeating: &RepeatingRows,
+    numbers: &mut [u64; 1024],
+) -> bool
     ensures { IsTrue result ↔ IsCanonicalForm repeating.now.rows repeating.now.valueless (InDeltas form.now) }
 {
     if !repeating.allow_first(form.value(0)) {
         return false;
     }
-    let mut numbers = [0; 1024];
-    form.unpack(&mut numbers);
-    if !form.is_least_of(&numbers) {
+    form.unpack(numbers);
+    if !form.is_least_of(numbers) {
         return false;
     }
-    form.sum(&mut numbers);
-    if !repeating.hold(&numbers) {
+    form.sum(numbers);
+    if !repeating.hold(numbers) {
         return false;
     }
-    are_deltas_chosen(form, &numbers)
+    are_deltas_chosen(form, numbers)
 }
 
 /// Whether DELTA is chosen for the values of deltas, of which they are the least form and which these numbers by places are, modulo

@@ -15,22 +15,29 @@ use frame_delta::{Delta, For};
 use run_dictionary::{Dict, Runs};
 
 /// Whether a frame is the canonical form of a vector that is filled by its values: these repeat as the fill asks, it is their least
-/// form, and FOR is chosen for them.
-pub(crate) fn is_canonical_frame(form: &For, repeating: &RepeatingRows) -> bool
+/// form, and FOR is chosen for them. `numbers` is room.
+pub(crate) fn is_canonical_frame(
+    form: &For,
+    repeating: &RepeatingRows,
+    numbers: &mut [u64; 1024],
+) -> bool
     ensures { IsTrue result ↔ IsCanonicalForm repeating.now.rows repeating.now.valueless (InFrame form.now) }
 {
+    if form.width() == 0 {
+        // All values are the reference: no coding takes fewer bytes, and FOR is the first.
+        return repeating.allow_first(form.reference());
+    }
     if !repeating.allow_first(form.value(0)) {
         return false;
     }
-    let mut numbers = [0; 1024];
-    form.unpack(&mut numbers);
-    if !form.is_least_of(&numbers) {
+    form.unpack(numbers);
+    if !form.is_least_of(numbers) {
         return false;
     }
-    if !repeating.hold(&numbers) {
+    if !repeating.hold(numbers) {
         return false;
     }
-    is_frame_chosen(form, &numbers)
+    is_frame_chosen(form, numbers)
 }
 
 /// Whether FOR is chosen for the values of a frame, of which it is the least form and which these packed numbers by places tell.

@@ -1,8 +1,13 @@
 //! Whether runs are the canonical form.
-ghost use Rattle.std.specs.Prelude.{◌≡◌, ◌↔◌, IsTrue};
+ghost use Rattle.std.specs.Prelude.{◌≡◌, ◌↔◌, ◌<◌, ◌+◌, ◌/◌, ◌==◌, ℕ, IsTrue};
+ghost use Rattle.std.specs.Int.{bit_at};
+ghost use Rattle.transpose_order.specs.Mask.{has};
+ghost use Rattle.transpose_order.specs.Place.{IsLaneWidth};
+ghost use Rattle.frame_delta.specs.Delta.{is_later};
 ghost use Rattle.run_dictionary.specs.Runs.{run_values, least_runs};
 ghost use Rattle.segment_core.specs.Choice.{choice};
 ghost use Rattle.segment_core.specs.CanonicalForm.{IsCanonicalForm};
+ghost use Rattle.segment_core.specs.LaterRows.{IsMixedWithin};
 ghost use Rattle.segment_core.specs.declared.coding.Coding.TheVariants.{Runs as ByRuns};
 ghost use Rattle.segment_core.specs.declared.coded.Coded.TheVariants.{Runs as InRuns};
 
@@ -11,6 +16,7 @@ use crate::numbers::write_by_places;
 use crate::repeats::RepeatingRows;
 use frame_delta::Delta;
 use run_dictionary::Runs;
+use transpose_order::Mask;
 
 /// Whether runs are the canonical form of a vector that is filled by their values: these repeat as the fill asks, their form is the
 /// least, and RLE is chosen for them.
@@ -43,9 +49,52 @@ fn are_runs_chosen(form: &Runs) -> bool
     if form.dictionary_is_below(bytes) {
         return false;
     }
+    if bytes < bytes_of_one_bit(lane_width) && are_mixed_within(lane_width, form.starts()) {
+        return true;
+    }
     let mut values = [0; 1024];
     form.decode(&mut values);
     let mut numbers = [0; 1024];
     write_by_places(&values, &mut numbers);
     !Delta::is_below(lane_width, &numbers, bytes + 1)
+}
+
+/// The payload's bytes of deltas of one bit.
+fn bytes_of_one_bit(lane_width: usize) -> u16
+    requires { IsLaneWidth lane_width }
+    ensures { result ≡ lane_width / 8 + 256 }
+{
+    (lane_width / 8 + 256) as u16
+}
+
+/// Whether, of the rows that are not the first of their lane, a mask has one and lacks another.
+fn are_mixed_within(lane_width: usize, mask: &Mask) -> bool
+    requires { IsLaneWidth lane_width }
+    ensures { IsTrue result ↔ IsMixedWithin lane_width mask.now }
+{
+    let later = later_rows(lane_width);
+    let had = later.and(mask);
+    let lacked = later.and_not(mask);
+    had.next_true(0) < 1024 && lacked.next_true(0) < 1024
+}
+
+/// The rows that are not the first of their lane.
+fn later_rows(lane_width: usize) -> Mask
+    requires { IsLaneWidth lane_width }
+    ensures { (n : ℕ) → n < 1024 → has result n ≡ is_later lane_width n }
+{
+    Mask::from_words([later_in_word(lane_width); 16])
+}
+
+/// The rows of a word of a mask that are not the first of their lane.
+fn later_in_word(lane_width: usize) -> u64
+    requires { IsLaneWidth lane_width }
+    ensures { (place : ℕ) → place < 64 → (bit_at result place == 1) ≡ is_later lane_width place }
+{
+    match lane_width {
+        8 => 0xFEFE_FEFE_FEFE_FEFE,
+        16 => 0xFFFE_FFFE_FFFE_FFFE,
+        32 => 0xFFFF_FFFE_FFFF_FFFE,
+        _ => 0xFFFF_FFFF_FFFF_FFFE,
+    }
 }

@@ -102,8 +102,9 @@ fn canonical_copies(alloc: Global, vectors: &[CodedVector]) -> Result<Vec<CodedV
 fn are_canonical(vectors: &[CodedVector]) -> bool
     ensures { IsTrue result ↔ AreCanonical vectors.now }
 {
+    let mut room = [0; 1024];
     for vector in vectors {
-        if !vector.is_canonical() {
+        if !vector.is_canonical_in(&mut room) {
             return false;
         }
     }

@@ -7,7 +7,7 @@ use std::alloc::{AllocError, Global};
 use std::process::Abort;
 use std::test::Fail;
 use table_model::{ColType, Counted, Refusal, Schema};
-use test_support::{Stop, agree, agree_at};
+use test_support::{Stop, agree};
 
 /// The schema of one SMALLINT column.
 fn one_column(alloc: Global) -> Result<Schema, Refusal> {
@@ -45,12 +45,6 @@ fn bytes_of(alloc: Global, pattern: Pattern) -> Result<Vec<u8>, Refusal> {
     let mut writer = Counted::new(Vec::new(alloc));
     segment.write_bytes(&mut writer)?;
     Ok(writer.into_inner())
-}
-
-/// What reading one row of one SMALLINT column from bytes is refused as.
-fn fault_of(alloc: Global, bytes: &[u8]) -> Result<Option<Refusal>, Refusal> {
-    let schema = one_column(alloc)?;
-    Ok(Segment::read_bytes(alloc, &schema, 1, bytes, 0).err())
 }
 
 /// One row of one SMALLINT column that stands in such bytes from a place on, and the place after it.
@@ -131,132 +125,6 @@ fn canonical_vectors_have_these_bytes(rt: HostRuntime) -> Result<(), Fail> {
     Ok(())
 }
 
-// A width may be the lane's, and no more; a code's may be 16 at every lane width.
-const WIDTHS: [(ColType, [u8; 3], Refusal); 10] = [
-    (ColType::Integer, [0, 0, 33], Refusal::BadWidth(2)),
-    (ColType::Integer, [0, 1, 33], Refusal::BadWidth(2)),
-    (ColType::Integer, [0, 3, 17], Refusal::BadWidth(2)),
-    (ColType::Integer, [0, 0, 32], Refusal::Truncated(3)),
-    (ColType::BigInt, [0, 0, 65], Refusal::BadWidth(2)),
-    (ColType::BigInt, [0, 1, 65], Refusal::BadWidth(2)),
-    (ColType::BigInt, [0, 3, 17], Refusal::BadWidth(2)),
-    (ColType::BigInt, [0, 1, 64], Refusal::Truncated(3)),
-    (ColType::BigInt, [0, 2, 2], Refusal::BadWidth(2)),
-    (ColType::BigInt, [0, 3, 16], Refusal::Truncated(3)),
-];
-
-#[test]
-fn widths_have_their_limits_at_each_type(rt: HostRuntime) -> Result<(), Fail> {
-    let alloc = rt.alloc();
-    for &(column_type, bytes, fault) in &WIDTHS {
-        let schema = Schema::new(alloc, "T", &[("A", column_type)])?;
-        let read = Segment::read_bytes(alloc, &schema, 1, &bytes, 0);
-        agree(read.err(), Some(fault))?;
-    }
-    Ok(())
-}
-
-/// Fronts, how many bytes that are 0 follow each, and the fault. The null flag is byte 0, the tag 1, the width 2, the count 3 and 4,
-/// and the payload begins at 5.
-const FAULTS: [(&[u8], usize, Refusal); 24] = [
-    (&[2], 0, Refusal::BadMask(0)),
-    (&[0, 4], 0, Refusal::BadTag(1)),
-    (&[0, 0, 17], 0, Refusal::BadWidth(2)),
-    (&[0, 1, 17], 0, Refusal::BadWidth(2)),
-    (&[0, 2, 0], 0, Refusal::BadWidth(2)),
-    (&[0, 3, 17], 0, Refusal::BadWidth(2)),
-    (&[0, 0, 16, 1, 0], 0, Refusal::BadCount(3)),
-    (&[0, 1, 16, 0, 1], 0, Refusal::BadCount(3)),
-    (&[0, 2, 1, 0, 0], 0, Refusal::BadCount(3)),
-    (&[0, 2, 1, 1, 4], 0, Refusal::BadCount(3)),
-    (&[0, 3, 1, 0, 0], 0, Refusal::BadCount(3)),
-    (&[0, 3, 16, 1, 4], 0, Refusal::BadCount(3)),
-    // Masks. Row n is bit n % 8 of byte n / 8: a mask's first byte 1 is row 0, and 2 is row 1.
-    (&[1], 128, Refusal::BadMask(1)),
-    (&[1, 2], 127, Refusal::BadMask(1)),
-    (&[1, 3], 127, Refusal::BadMask(1)),
-    (&[1, 1], 127, Refusal::Truncated(129)),
-    (&[0, 2, 1, 1, 0, 1], 127, Refusal::BadMask(5)),
-    (&[0, 2, 1, 1, 0, 2], 127, Refusal::BadCount(3)),
-    (&[0, 2, 1, 2, 0, 2], 127, Refusal::Truncated(133)),
-    (&[0, 2, 1, 2, 0, 2], 126, Refusal::Truncated(132)),
-    // Dictionaries. A second value that is no greater comes before the end of the bytes. One bit set of a code of one bit makes it 1.
-    (&[0, 3, 1, 2, 0, 7, 0, 7, 0], 0, Refusal::BadDictionary(7)),
-    (
-        &[0, 3, 1, 3, 0, 7, 0, 255, 255, 9],
-        0,
-        Refusal::BadDictionary(7),
-    ),
-    (&[0, 3, 1, 1, 0, 7, 0, 1], 127, Refusal::BadCode(7)),
-    (&[0, 3, 1, 1, 0, 7, 0, 1], 126, Refusal::Truncated(134)),
-];
-
-#[test]
-fn each_field_has_its_fault_at_its_place(rt: HostRuntime) -> Result<(), Fail> {
-    for &(front, zeros, fault) in &FAULTS {
-        let mut bytes = Vec::new(rt.alloc());
-        add(&mut bytes, front, zeros, &[])?;
-        agree_at(
-            format_args!("after {front:?}"),
-            fault_of(rt.alloc(), &bytes)?,
-            Some(fault),
-        )?;
-    }
-    Ok(())
-}
-
-/// One row in DICT of the value 7 with codes of one bit, in parts of so many of one byte, and the fault. A code of 1 isn't below the
-/// count of 1. The null flag and mask come first, then tag, width, count and value; the codes begin at 7, and at 135 after a mask.
-const CODES: [(&[(usize, u8)], Option<Refusal>); 4] = [
-    // The one row is null, and each code is 0.
-    (
-        &[(2, 1), (127, 0), (1, 3), (2, 1), (1, 0), (1, 7), (129, 0)],
-        None,
-    ),
-    // The code of the null row is 1, bit 0 of the first word.
-    (
-        &[
-            (2, 1),
-            (127, 0),
-            (1, 3),
-            (2, 1),
-            (1, 0),
-            (1, 7),
-            (1, 0),
-            (1, 1),
-            (127, 0),
-        ],
-        Some(Refusal::BadCode(135)),
-    ),
-    // The code at row 1 is 1, bit 1 of the first word, and at row 1023, the last bit of the last; there is row 0 alone.
-    (
-        &[
-            (1, 0),
-            (1, 3),
-            (2, 1),
-            (1, 0),
-            (1, 7),
-            (1, 0),
-            (1, 2),
-            (127, 0),
-        ],
-        Some(Refusal::BadCode(7)),
-    ),
-    (
-        &[(1, 0), (1, 3), (2, 1), (1, 0), (1, 7), (128, 0), (1, 128)],
-        Some(Refusal::BadCode(7)),
-    ),
-];
-
-#[test]
-fn codes_are_judged_where_a_row_is_null_or_absent(rt: HostRuntime) -> Result<(), Fail> {
-    for &(parts, fault) in &CODES {
-        let bytes = repeated(rt.alloc(), parts)?;
-        agree(fault_of(rt.alloc(), &bytes)?, fault)?;
-    }
-    Ok(())
-}
-
 /// The bytes of 1,025 rows of three columns in parts: a front, how many bytes that are 0 follow it, and the rest. Each vector has a
 /// null, and packed numbers or codes are of one bit, of which the last alone is set.
 const THREE_COLUMNS: [(&[u8], usize, &[u8]); 12] = [
@@ -300,18 +168,6 @@ const THREE_TYPES: [(&str, ColType); 3] = [
 fn three_read(alloc: Global, bytes: &[u8]) -> Result<(Segment, usize), Refusal> {
     let schema = Schema::new(alloc, "T", &THREE_TYPES)?;
     Segment::read_bytes(alloc, &schema, 1025, bytes, 0)
-}
-
-#[test]
-fn every_proper_front_is_truncated_with_its_length(rt: HostRuntime) -> Result<(), Fail> {
-    let alloc = rt.alloc();
-    let schema = Schema::new(alloc, "T", &THREE_TYPES)?;
-    let bytes = three_columns(alloc)?;
-    for end in 0..bytes.len() {
-        let front = Segment::read_bytes(alloc, &schema, 1025, &bytes[..end], 0);
-        agree(front.err(), Some(Refusal::Truncated(end as u64)))?;
-    }
-    Ok(())
 }
 
 /// What writing a segment answers, what was written and how often the writer failed, where the writer passes so many bytes on.

@@ -2,12 +2,8 @@
 #![tactic(auto)]
 
 #[cfg(test)]
-mod batch_tests;
-#[cfg(test)]
 mod bytes_tests;
 #[cfg(test)]
 mod refused_tests;
 #[cfg(test)]
 mod tests;
-#[cfg(test)]
-mod tiny_tests;

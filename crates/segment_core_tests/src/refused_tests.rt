@@ -1,8 +1,7 @@
 //! Calls that grow, each with a growth refused. A test's own growths are counted from 1: with the Nth refused, a test fails by an
 //! `AllocError` or `Memory` of its set-up, or, where it was a growth of the call that it is of, as `growth_refused` says; with
 //! none refused it passes. The command `tests/refused-memory` refuses each in turn and counts those texts.
-use crate::tests::{Pattern, first, rows_of, rows_with};
-use crate::tiny_tests::{CYCLE, ENDS};
+use crate::tests::{first, rows_with};
 use segment_core::{CodedVector, Coding, Segment};
 use std::alloc::{AllocError, Global};
 use std::process::Abort;
@@ -62,19 +61,6 @@ fn dictionary_bytes() -> [u8; 265] {
     bytes
 }
 
-/// The bytes of two rows of TINYINT, 7 and null: the null mask, DICT of 7 and 8 with codes of one bit, all 0.
-fn tiny_bytes() -> [u8; 263] {
-    let mut bytes = [0; 263];
-    bytes[0] = 1;
-    bytes[1] = 2;
-    bytes[129] = 3;
-    bytes[130] = 1;
-    bytes[131] = 2;
-    bytes[133] = 7;
-    bytes[134] = 8;
-    bytes
-}
-
 /// The schema of one column.
 fn column_of(alloc: Global, column_type: ColType) -> Result<Schema, Refusal> {
     Schema::new(alloc, "T", &[("A", column_type)])
@@ -130,11 +116,6 @@ fn a_refused_read_of_a_dictionary_gives_no_segment(rt: HostRuntime) -> Result<()
     is_read(rt.alloc(), ColType::SmallInt, &dictionary_bytes())
 }
 
-#[test]
-fn a_refused_read_of_8_bits_gives_no_segment(rt: HostRuntime) -> Result<(), Fail> {
-    is_read(rt.alloc(), ColType::TinyInt, &tiny_bytes())
-}
-
 /// Two rows that stood in bytes are copied, and left as they were where that is refused.
 fn is_copied(rt: &impl Abort, alloc: Global, bytes: &[u8]) -> Result<(), Fail> {
     let (segment, _) = two_rows(alloc, ColType::SmallInt, bytes)?;
@@ -147,21 +128,6 @@ fn is_copied(rt: &impl Abort, alloc: Global, bytes: &[u8]) -> Result<(), Fail> {
         }
     }
     Ok(())
-}
-
-#[test]
-fn a_refused_copy_of_a_frame_leaves_its_source(rt: HostRuntime) -> Result<(), Fail> {
-    is_copied(&rt, rt.alloc(), &frame_bytes())
-}
-
-#[test]
-fn a_refused_copy_of_deltas_leaves_its_source(rt: HostRuntime) -> Result<(), Fail> {
-    is_copied(&rt, rt.alloc(), &delta_bytes())
-}
-
-#[test]
-fn a_refused_copy_of_runs_leaves_its_source(rt: HostRuntime) -> Result<(), Fail> {
-    is_copied(&rt, rt.alloc(), &run_bytes())
 }
 
 #[test]
@@ -181,21 +147,6 @@ fn is_copied_canonically(rt: &impl Abort, alloc: Global, bytes: &[u8]) -> Result
         }
     }
     Ok(())
-}
-
-#[test]
-fn a_refused_canonical_copy_of_a_frame_leaves_its_source(rt: HostRuntime) -> Result<(), Fail> {
-    is_copied_canonically(&rt, rt.alloc(), &frame_bytes())
-}
-
-#[test]
-fn a_refused_canonical_copy_of_deltas_leaves_its_source(rt: HostRuntime) -> Result<(), Fail> {
-    is_copied_canonically(&rt, rt.alloc(), &delta_bytes())
-}
-
-#[test]
-fn a_refused_canonical_copy_of_runs_leaves_its_source(rt: HostRuntime) -> Result<(), Fail> {
-    is_copied_canonically(&rt, rt.alloc(), &run_bytes())
 }
 
 #[test]
@@ -225,39 +176,6 @@ fn is_recoded(
 }
 
 #[test]
-fn a_refused_recoding_to_for_changes_nothing(rt: HostRuntime) -> Result<(), Fail> {
-    is_recoded(
-        &rt,
-        rt.alloc(),
-        ColType::SmallInt,
-        &dictionary_bytes(),
-        Coding::For,
-    )
-}
-
-#[test]
-fn a_refused_recoding_to_delta_changes_nothing(rt: HostRuntime) -> Result<(), Fail> {
-    is_recoded(
-        &rt,
-        rt.alloc(),
-        ColType::SmallInt,
-        &dictionary_bytes(),
-        Coding::Delta,
-    )
-}
-
-#[test]
-fn a_refused_recoding_to_runs_changes_nothing(rt: HostRuntime) -> Result<(), Fail> {
-    is_recoded(
-        &rt,
-        rt.alloc(),
-        ColType::SmallInt,
-        &dictionary_bytes(),
-        Coding::Runs,
-    )
-}
-
-#[test]
 fn a_refused_recoding_to_dict_changes_nothing(rt: HostRuntime) -> Result<(), Fail> {
     is_recoded(
         &rt,
@@ -265,17 +183,6 @@ fn a_refused_recoding_to_dict_changes_nothing(rt: HostRuntime) -> Result<(), Fai
         ColType::SmallInt,
         &dictionary_bytes(),
         Coding::Dict,
-    )
-}
-
-#[test]
-fn a_refused_recoding_of_8_bits_changes_nothing(rt: HostRuntime) -> Result<(), Fail> {
-    is_recoded(
-        &rt,
-        rt.alloc(),
-        ColType::TinyInt,
-        &tiny_bytes(),
-        Coding::Delta,
     )
 }
 
@@ -311,39 +218,6 @@ fn is_built(
     Ok(())
 }
 
-// One value in all rows takes the 2 bytes of a reference alone.
-#[test]
-fn a_refused_build_of_one_value_gives_no_segment(rt: HostRuntime) -> Result<(), Fail> {
-    let rows = rows_of(rt.alloc(), 2, Pattern::All(7))?;
-    is_built(&rt, rt.alloc(), ColType::SmallInt, &rows, (Coding::For, 2))
-}
-
-// The filled vector is 7, 7, 8, 8, ..: a reference and a bit a row are 130 bytes, a mask and two values 132.
-#[test]
-fn a_refused_build_of_a_frame_gives_no_segment(rt: HostRuntime) -> Result<(), Fail> {
-    let rows = rows_with(rt.alloc(), &[Some(7), None, Some(8)])?;
-    is_built(
-        &rt,
-        rt.alloc(),
-        ColType::SmallInt,
-        &rows,
-        (Coding::For, 130),
-    )
-}
-
-// 0 to 65, then 65: the differences are 1 and 0. A least delta, 64 bases and a bit a row are 258 bytes, a mask and 66 values 260.
-#[test]
-fn a_refused_build_of_deltas_gives_no_segment(rt: HostRuntime) -> Result<(), Fail> {
-    let rows = rows_of(rt.alloc(), 66, Pattern::Counting)?;
-    is_built(
-        &rt,
-        rt.alloc(),
-        ColType::SmallInt,
-        &rows,
-        (Coding::Delta, 258),
-    )
-}
-
 // 7, 7, 9, 9, ..: a mask and two values are 132 bytes, and so are two values and a bit a row, which come later.
 #[test]
 fn a_refused_build_of_runs_gives_no_segment(rt: HostRuntime) -> Result<(), Fail> {
@@ -367,32 +241,6 @@ fn a_refused_build_of_a_dictionary_gives_no_segment(rt: HostRuntime) -> Result<(
         ColType::SmallInt,
         &rows,
         (Coding::Dict, 132),
-    )
-}
-
-// 0 to 127 in turn: a least delta and 128 bases of one byte each.
-#[test]
-fn a_refused_build_of_deltas_of_8_bits_gives_no_segment(rt: HostRuntime) -> Result<(), Fail> {
-    let rows = rows_of(rt.alloc(), 1024, CYCLE)?;
-    is_built(
-        &rt,
-        rt.alloc(),
-        ColType::TinyInt,
-        &rows,
-        (Coding::Delta, 129),
-    )
-}
-
-// -128 and 127 in turn: two values of one byte each, and a bit a row.
-#[test]
-fn a_refused_build_of_a_dictionary_of_8_bits_gives_no_segment(rt: HostRuntime) -> Result<(), Fail> {
-    let rows = rows_of(rt.alloc(), 1024, ENDS)?;
-    is_built(
-        &rt,
-        rt.alloc(),
-        ColType::TinyInt,
-        &rows,
-        (Coding::Dict, 130),
     )
 }
 
@@ -427,21 +275,6 @@ fn is_vector_copied(
     }
     let again = vector.copy(alloc);
     growth_refused(copied.is_err() && is_two_rows(vector, coding) && has_copied(&again, coding))
-}
-
-#[test]
-fn a_refused_copy_of_a_vector_leaves_its_frame(rt: HostRuntime) -> Result<(), Fail> {
-    is_vector_copied(&rt, rt.alloc(), &frame_bytes(), Coding::For)
-}
-
-#[test]
-fn a_refused_copy_of_a_vector_leaves_its_deltas(rt: HostRuntime) -> Result<(), Fail> {
-    is_vector_copied(&rt, rt.alloc(), &delta_bytes(), Coding::Delta)
-}
-
-#[test]
-fn a_refused_copy_of_a_vector_leaves_its_runs(rt: HostRuntime) -> Result<(), Fail> {
-    is_vector_copied(&rt, rt.alloc(), &run_bytes(), Coding::Runs)
 }
 
 #[test]

@@ -6,7 +6,7 @@ use replica_store::Store;
 use std::alloc::{AllocError, Global};
 use std::test::Fail;
 use store_view::StoreView;
-use table_model::{BatchName, ColType, Number, Origin, Query, Refusal, RowName, Rows, Schema};
+use table_model::{ColType, Origin, Query, Refusal, Rows, Schema};
 use test_support::agree_at;
 
 /// A query, its answer's lines, and how many passes it takes at most.
@@ -90,37 +90,6 @@ fn a_mention_takes_at_most_a_pass_a_vector(rt: HostRuntime) -> Result<(), Fail> 
     has_answers(rt.alloc(), &store, &OF_TWO_VECTORS)
 }
 
-/// Deletes the rows of the batch's first vector.
-fn delete_first_vector(alloc: Global, store: &mut Store) -> Result<(), Refusal> {
-    let first = RowName {
-        batch: BatchName {
-            origin: Origin(1),
-            number: Number(1),
-        },
-        ordinal: 0,
-    };
-    let _ = store.delete(alloc, first, 1023)?;
-    Ok(())
-}
-
-/// Queries over the one row of 0 that is left in the second vector.
-const OF_ONE_LEFT: [Asked; 3] = [
-    ("SELECT COUNT(*) FROM T", "COUNT(*)\n1\n", 0),
-    ("SELECT SUM(A) FROM T WHERE A >= 0", "SUM(A)\n0\n", 2),
-    (
-        "SELECT COUNT(*) FROM T WHERE A BETWEEN 0 AND 5",
-        "COUNT(*)\n1\n",
-        1,
-    ),
-];
-
-#[test]
-fn a_vector_without_a_live_row_takes_no_pass(rt: HostRuntime) -> Result<(), Fail> {
-    let mut store = filled_store(rt.alloc(), TWO_VECTORS, false)?;
-    delete_first_vector(rt.alloc(), &mut store)?;
-    has_answers(rt.alloc(), &store, &OF_ONE_LEFT)
-}
-
 /// A query with ten groups: it mentions the column three times.
 const OF_TEN_GROUPS: [Asked; 1] = [(
     "SELECT A,SUM(A) FROM T GROUP BY A",
@@ -132,54 +101,4 @@ const OF_TEN_GROUPS: [Asked; 1] = [(
 fn ten_groups_take_no_pass_each(rt: HostRuntime) -> Result<(), Fail> {
     let store = filled_store(rt.alloc(), 10, true)?;
     has_answers(rt.alloc(), &store, &OF_TEN_GROUPS)
-}
-
-/// Rows of three columns: the first is from the second to the third at the first and the last row, and isn't at the second and,
-/// whatever the null stands for, at the fourth.
-const THREE_COLUMNS: [[Option<i128>; 3]; 5] = [
-    [Some(1), Some(0), Some(2)],
-    [Some(5), Some(6), Some(9)],
-    [None, Some(1), Some(2)],
-    [Some(3), None, Some(2)],
-    [Some(3), Some(3), Some(3)],
-];
-
-/// Those rows.
-fn rows_of_three_columns(alloc: Global) -> Result<Rows, AllocError> {
-    let mut rows = Rows::new(alloc);
-    for cells in &THREE_COLUMNS {
-        rows.push_row(cells.as_slice())?;
-    }
-    Ok(rows)
-}
-
-/// A store with the rows of three columns.
-fn store_of_three_columns(alloc: Global) -> Result<Store, Refusal> {
-    let columns = [
-        ("A", ColType::SmallInt),
-        ("B", ColType::Integer),
-        ("C", ColType::BigInt),
-    ];
-    let rows = rows_of_three_columns(alloc)?;
-    store_of(alloc, &columns, &rows)
-}
-
-/// Queries that mention three columns, over one vector.
-const OF_THREE_COLUMNS: [Asked; 2] = [
-    (
-        "SELECT COUNT(*) FROM T WHERE A BETWEEN B AND C",
-        "COUNT(*)\n2\n",
-        3,
-    ),
-    (
-        "SELECT COUNT(*) FROM T WHERE A NOT BETWEEN B AND C",
-        "COUNT(*)\n2\n",
-        3,
-    ),
-];
-
-#[test]
-fn three_columns_take_at_most_a_pass_each(rt: HostRuntime) -> Result<(), Fail> {
-    let store = store_of_three_columns(rt.alloc())?;
-    has_answers(rt.alloc(), &store, &OF_THREE_COLUMNS)
 }

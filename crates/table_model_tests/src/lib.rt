@@ -1,4 +1,4 @@
-//! Tests of table_model: names, schemas, batches, refusals, counted reads and writes, answers and truth values, and where a growth is refused.
+//! Tests of table_model: the texts of refusals, counted reads and writes, and where a growth is refused.
 #![tactic(auto)]
 
 #[cfg(test)]

@@ -12,6 +12,7 @@ mod predicates;
 mod rows;
 mod side;
 mod true_rows;
+mod turning_rows;
 mod value_rows;
 mod where_masks;
 
@@ -23,4 +24,5 @@ pub(crate) use kept_rows::has_rows;
 pub use kept_rows::{KeptVector, kept_mask};
 pub use matches::matching;
 pub use pair::Pair;
+pub(crate) use turning_rows::turning_rows;
 pub(crate) use value_rows::{changed_rows, equal_rows};

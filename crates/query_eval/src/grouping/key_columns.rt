@@ -1,13 +1,14 @@
 //! The grouping columns of a vector, decoded.
 ghost use Rattle.std.specs.Prelude.{◌≡◌, ◌<◌, ◌≤◌, ◌+◌, ℕ, false, length, OnOk};
+ghost use Rattle.table_model.specs.Group.{key_of};
 ghost use Rattle.table_model.specs.State.{same_cell};
 ghost use Rattle.transpose_order.specs.Mask.{has};
-ghost use Rattle.query_eval.specs.Keys.{AreKeys, column_key, key_cell};
+ghost use Rattle.query_eval.specs.Keys.{column_key, key_cell};
 ghost use Rattle.query_eval.specs.Read.{IsRead, IsSame};
-ghost use Rattle.query_eval.specs.Vector.{IsThere, cell_at, vector_of};
+ghost use Rattle.query_eval.specs.Vector.{IsThere, cell_at, row_at, vector_of};
 
 use crate::columns::{Columns, VectorId, state_is_within_limits};
-use crate::filter::{changed_rows, equal_rows};
+use crate::filter::{changed_rows, equal_rows, turning_rows};
 use std::alloc::AllocError;
 use transpose_order::Mask;
 
@@ -67,15 +68,11 @@ impl KeyColumn {
         }
     }
 
-    /// The rows where the cell may differ from that of the row before: in a column without nulls, where the value differs.
+    /// The rows where the cell may differ from that of the row before: where the value differs, or one of the two is null.
     pub fn changes(&self) -> Mask
         ensures { (n : ℕ) → n + 1 < 1024 → has result (n + 1) ≡ false → key_cell self.now (n + 1) ≡ key_cell self.now n }
     {
-        if self.nulls.next_true(0) == 1024 {
-            changed_rows(&self.values)
-        } else {
-            Mask::all()
-        }
+        changed_rows(&self.values).or(&turning_rows(&self.nulls))
     }
 }
 
@@ -98,7 +95,7 @@ pub fn read_columns<C: Columns>(
     keys: &mut Vec<KeyColumn>,
 ) -> Result<(), AllocError>
     requires { IsThere (C.seen columns.old).state id.batch id.vector }
-    ensures cells { OnOk result (AreKeys places.now (vector_of (C.seen columns.old).state id) (column_key keys.new.items)) }
+    ensures cells { OnOk result ((n : ℕ) → n < 1024 → column_key keys.new.items n ≡ key_of places.now (row_at (vector_of (C.seen columns.old).state id) n)) }
     ensures same { IsSame (C.seen columns.old) (C.seen columns.new) }
     ensures passes { OnOk result ((C.seen columns.new).passes ≤ (C.seen columns.old).passes + length places.now) }
 {

@@ -136,6 +136,7 @@ pub fn place_rows<C: Columns>(
         columns,
         kept.id,
         grouping,
+        &kept.rows,
         &mut room.keys,
         &mut room.values,
         &mut room.split.codes,

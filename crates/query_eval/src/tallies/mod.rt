@@ -12,12 +12,15 @@ mod groups;
 mod masked_folds;
 mod packed;
 mod plan;
+mod row_counts;
 mod row_tallies;
+mod running_sums;
 mod slice_tallies;
 mod span_tallies;
 mod split_tallies;
 mod tally;
 mod whole_tallies;
+mod word_tops;
 
 pub use aggregate::Aggregate;
 pub(crate) use aggregate::place_or_end;

@@ -1,7 +1,8 @@
 //! Tallies, a group each, as the slices of a vector's rows come: one step a slice.
-ghost use Rattle.std.specs.Prelude.{◌≡◌, ◌<◌, ℕ, List, ℤ, length, slice_index_or, true, OnOk};
+ghost use Rattle.std.specs.Prelude.{◌≡◌, ◌<◌, ◌≤ℤ◌, ℕ, List, map, ℤ, length, slice_index_or, true, OnOk};
 ghost use Rattle.table_model.specs.Values.{total};
-ghost use Rattle.table_model.specs.Extreme.{extreme_of};
+ghost use Rattle.table_model.specs.Extreme.{extreme_of, turned};
+ghost use Rattle.query_eval.specs.Forms.{top_of};
 ghost use Rattle.query_eval.specs.Grouping.{AreCells, AreNulls, HaveSlices};
 ghost use Rattle.query_eval.specs.Slices.{AreShort, values_at};
 ghost use Rattle.query_eval.specs.Tally.{HaveAt, HaveMoreAt, kind_of};
@@ -48,6 +49,16 @@ pub fn extreme_more(tallies: &mut Vec<Tally>, place: usize, value: Option<i64>)
     if place < tallies.len() {
         tallies[place].extreme_more(value);
     }
+}
+
+/// Whether the tally at a place keeps an extreme that no values go past whose representations are at most this bound.
+pub fn reaches(tallies: &Vec<Tally>, place: usize, bound: i64) -> bool
+    ensures { (extreme : AnExtreme) (added : List ℤ) → result ≡ true → top_of (map (turned extreme) added) ≤ℤ bound → HaveAt (kinds.Extreme extreme) place added tallies.now.items tallies.now.items }
+{
+    if place < tallies.len() {
+        return tallies[place].reaches(bound);
+    }
+    false
 }
 
 /// Takes the values at the rows of a mask into the tally at a place. The values are short if `short` says so.

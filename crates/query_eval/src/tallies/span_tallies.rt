@@ -1,27 +1,37 @@
 //! Tallies, one for each group, as the spans of a vector's rows come: one step for each span, over adjacent rows.
-ghost use Rattle.std.specs.Prelude.{◌≡◌, ◌≤◌, Bool, List, ℤ, length, true, OnOk};
-ghost use Rattle.transpose_order.specs.Mask.{count_below, has};
+ghost use Rattle.std.specs.Prelude.{◌≡◌, ◌<◌, ◌≤◌, ◌≤ℤ◌, ℕ, Bool, List, ℤ, length, pos, slice_index_or, true, OnOk};
 ghost use Rattle.table_model.specs.Extreme.{extreme_of};
 ghost use Rattle.query_eval.specs.Forms.{AreFormed, top_between};
 ghost use Rattle.query_eval.specs.Grouping.{AreCells, AreNulls, HaveSpans, TakeCells, TakeSpans};
 ghost use Rattle.query_eval.specs.Packed.{ArePackable, ArePacked, AreSummable, packed_sum};
 ghost use Rattle.query_eval.specs.Slices.{AreShort, rows_between, rows_sliced, slices_of_spans, span_slice, values_at};
+ghost use Rattle.query_eval.specs.Tally.{HaveAt, kind_of};
 ghost use Rattle.query_eval.specs.TallyKinds.{aggregate_kind};
 ghost use Rattle.query_eval.specs.Vector.{Vector};
 ghost use Rattle.query_eval.specs.declared.tallies.aggregate.Aggregate.{Aggregate as AnAggregate};
 ghost use Rattle.table_model.specs.declared.extreme.Extreme.{Extreme as AnExtreme};
 ghost use Rattle.query_eval.specs.declared.tallies.forms.Form.TheVariants.{Shown};
+ghost use Rattle.query_eval.specs.declared.tallies.tally.Tally.{Tally as ATally};
 ghost use Rattle.query_eval.specs.declared.tallies.tally.TallyKind.TheVariants as kinds;
 
 use crate::grouping::Span;
 use crate::tallies::forms::Form;
 use crate::tallies::masked_folds::are_short;
 use crate::tallies::packed::{are_packable, pack, unpacked};
-use crate::tallies::slice_tallies::{add_slice, count_more, extreme_more, sum_more};
+use crate::tallies::row_counts::{rows_before_words, rows_below};
+use crate::tallies::running_sums::{sum_of_span, sum_up};
+use crate::tallies::slice_tallies::{add_slice, count_more, extreme_more, reaches, sum_more};
 use crate::tallies::tally::{Tally, TallyKind};
+use crate::tallies::word_tops::{span_bound, word_tops};
 use std::alloc::AllocError;
 use table_model::Extreme;
 use transpose_order::Mask;
+
+/// From how many spans on running sums of all rows take less time than a sum for each span.
+const MANY_SPANS: usize = 14;
+
+/// From how many spans on the greatest of each word of rows takes less time to find than it saves.
+const MANY_EXTREMES: usize = 48;
 
 /// A span of the rows that a vector has. One that ends before it begins has none.
 fn within_vector(span: Span) -> Span
@@ -37,32 +47,17 @@ fn within_vector(span: Span) -> Span
     }
 }
 
-/// How many rows of a mask are below an end, given how many are below the last end.
-fn count_again(rows: &Mask, end: usize, last: usize, below: usize) -> usize
-    requires end { end ≤ 1024 }
-    requires below { below ≡ count_below (has rows.now) last }
-    ensures { result ≡ count_below (has rows.now) end }
-{
-    if end == last {
-        below
-    } else {
-        rows.count_below(end)
-    }
-}
-
 /// Counts the rows of a mask that spans cover, except nulls, in the tallies at their places.
 pub fn count_spans(tallies: &mut Vec<Tally>, kept: &Mask, spans: &[Span], nulls: &Mask)
     ensures size { length tallies.new.items ≡ length tallies.old.items }
     ensures held { (a : AnAggregate) (v : Vector) → aggregate_kind a ≡ kinds.Count → AreNulls a v nulls.now → HaveSpans a v kept.now spans.now tallies.old.items tallies.new.items }
 {
     let rows = kept.and_not(nulls);
-    let mut end = 0;
-    let mut below = 0;
+    let words = rows_before_words(&rows);
     for covered in spans {
         let span = within_vector(*covered);
-        let before = count_again(&rows, span.first, end, below);
-        end = span.end;
-        below = rows.count_below(end);
+        let before = rows_below(&rows, &words, span.first);
+        let below = rows_below(&rows, &words, span.end);
         count_more(tallies, span.place, below - before);
     }
 }
@@ -139,6 +134,29 @@ fn sum_spans(
     }
 }
 
+/// Takes the values at the rows of a mask that many spans cover, except nulls, into the sums at their places, by running sums.
+/// `packed` is room for them.
+fn sum_many_spans(
+    tallies: &mut Vec<Tally>,
+    values: &[i64; 1024],
+    kept: &Mask,
+    spans: &[Span],
+    nulls: &Mask,
+    packed: &mut [i64; 1024],
+)
+    requires { ArePackable values.now }
+    ensures size { length tallies.new.items ≡ length tallies.old.items }
+    ensures held { TakeSpans kinds.Sum nulls.now values.now kept.now spans.now tallies.old.items tallies.new.items }
+{
+    pack(values, &kept.and_not(nulls), packed);
+    sum_up(packed);
+    for covered in spans {
+        let span = within_vector(*covered);
+        let (count, sum) = unpacked(sum_of_span(packed, span.first, span.end));
+        sum_more(tallies, span.place, count, sum);
+    }
+}
+
 /// The greatest number from row `first` up to `end`, or the least number if there is none.
 #[inline(always)]
 fn top_between(shown: &[i64; 1024], first: usize, end: usize) -> i64
@@ -196,6 +214,75 @@ fn extreme_spans(
     }
 }
 
+/// Takes the values at the rows of a mask that a span covers, given by their representations, into the extreme at its place. It
+/// looks at no row if the extreme reaches a bound of the representations.
+fn take_extreme(
+    tallies: &mut Vec<Tally>,
+    extreme: Extreme,
+    shown: &[i64; 1024],
+    rows: &Mask,
+    span: Span,
+    bound: i64,
+)
+    requires order { span.first ≤ span.end }
+    requires within { span.end ≤ 1024 }
+    requires bound { (n : ℕ) → span.first ≤ n → n < span.end → slice_index_or shown.now n (pos 0) ≤ℤ bound }
+    ensures size { length tallies.new.items ≡ length tallies.old.items }
+    ensures values { (values : List ℤ) → AreFormed (Shown extreme) rows.now values shown.now → HaveAt (kinds.Extreme extreme) span.place (values_at (rows_between rows.now span.first span.end) values) tallies.old.items tallies.new.items }
+    ensures kind { (g : ℕ) (t : ATally) → g < length tallies.old.items → kind_of (slice_index_or tallies.new.items g t) ≡ kind_of (slice_index_or tallies.old.items g t) }
+{
+    if reaches(tallies, span.place, bound) {
+        return;
+    }
+    let value = extreme_between(shown, extreme, rows, span.first, span.end);
+    extreme_more(tallies, span.place, value);
+}
+
+/// Takes the values at the rows of a mask that many spans cover, except nulls, into the tallies at their places, which keep an
+/// extreme. `shown` is room for the values' representations.
+fn extreme_many_spans(
+    tallies: &mut Vec<Tally>,
+    extreme: Extreme,
+    values: &[i64; 1024],
+    kept: &Mask,
+    spans: &[Span],
+    nulls: &Mask,
+    shown: &mut [i64; 1024],
+)
+    ensures size { length tallies.new.items ≡ length tallies.old.items }
+    ensures held { TakeSpans (kinds.Extreme extreme) nulls.now values.now kept.now spans.now tallies.old.items tallies.new.items }
+{
+    let rows = kept.and_not(nulls);
+    Form::Shown(extreme).write(values, &rows, shown);
+    let tops = word_tops(shown);
+    for covered in spans {
+        let span = within_vector(*covered);
+        let bound = span_bound(&tops, span.first, span.end);
+        take_extreme(tallies, extreme, shown, &rows, span, bound);
+    }
+}
+
+/// Takes the values at the rows of a mask that spans cover, except nulls, into the tallies at their places, which keep an extreme.
+/// `shown` is room for the values' representations.
+fn add_extremes(
+    tallies: &mut Vec<Tally>,
+    extreme: Extreme,
+    values: &[i64; 1024],
+    kept: &Mask,
+    spans: &[Span],
+    nulls: &Mask,
+    shown: &mut [i64; 1024],
+)
+    ensures size { length tallies.new.items ≡ length tallies.old.items }
+    ensures held { TakeSpans (kinds.Extreme extreme) nulls.now values.now kept.now spans.now tallies.old.items tallies.new.items }
+{
+    if spans.len() < MANY_EXTREMES {
+        extreme_spans(tallies, extreme, values, kept, spans, nulls, shown);
+    } else {
+        extreme_many_spans(tallies, extreme, values, kept, spans, nulls, shown);
+    }
+}
+
 /// Takes the values at the rows of a mask that spans cover, except nulls, into the sums at their places, packed if they can be.
 /// `packed` is room for them.
 fn add_sums(
@@ -210,7 +297,11 @@ fn add_sums(
     ensures held { OnOk result (TakeSpans kinds.Sum nulls.now values.now kept.now spans.now tallies.old.items tallies.new.items) }
 {
     if are_packable(values) {
-        sum_spans(tallies, values, kept, spans, nulls, packed);
+        if spans.len() < MANY_SPANS {
+            sum_spans(tallies, values, kept, spans, nulls, packed);
+        } else {
+            sum_many_spans(tallies, values, kept, spans, nulls, packed);
+        }
         return Ok(());
     }
     add_between(tallies, values, are_short(values), kept, spans, nulls)?;
@@ -237,7 +328,7 @@ pub fn add_spans(
     match kind {
         TallyKind::Sum => add_sums(tallies, values, kept, spans, nulls, packed)?,
         TallyKind::Extreme(extreme) => {
-            extreme_spans(tallies, extreme, values, kept, spans, nulls, packed);
+            add_extremes(tallies, extreme, values, kept, spans, nulls, packed);
         }
         TallyKind::Count | TallyKind::Distinct => {
             add_between(tallies, values, false, kept, spans, nulls)?;

@@ -1,5 +1,5 @@
 //! Set functions of a group, value by value.
-ghost use Rattle.std.specs.Prelude.{◌≡◌, ◌≤◌, ◌++◌, ◌∷◌, [], ◌+ℤ◌, ℤ, List, length, pos, IfOk, OnOk, FitsSigned, cond, false, true};
+ghost use Rattle.std.specs.Prelude.{◌≡◌, ◌≤◌, ◌++◌, ◌∷◌, [], ◌+ℤ◌, ◌≤ℤ◌, ℤ, List, map, length, pos, IfOk, OnOk, FitsSigned, cond, false, true};
 ghost use Rattle.std.specs.List.{list_any};
 ghost use Rattle.std.specs.Ordering.{int_eq};
 ghost use Rattle.std.specs.Int.{w128};
@@ -7,7 +7,8 @@ ghost use Rattle.table_model.specs.Group.{state_row_limit};
 ghost use Rattle.table_model.specs.Meaning.{fold_value};
 ghost use Rattle.table_model.specs.Values.{distinct, total};
 ghost use Rattle.table_model.proofs.Bounds.{AreSmall};
-ghost use Rattle.table_model.specs.Extreme.{extreme_of};
+ghost use Rattle.table_model.specs.Extreme.{extreme_of, further, turned};
+ghost use Rattle.query_eval.specs.Forms.{top_of};
 ghost use Rattle.query_eval.specs.Slices.{AreShort, values_at};
 ghost use Rattle.query_eval.specs.Tally.{AreAlike, AreTold, IsFieldOf, IsTally, TakesMore, kind_of};
 ghost use Rattle.table_model.specs.declared.extreme.Extreme.{Extreme as AnExtreme};
@@ -166,6 +167,16 @@ fn set_field(alloc: Global, fold: Fold, seen: &HashSet<i64>) -> Result<Field, Al
     Ok(values_field(fold, values.as_slice()))
 }
 
+/// Whether no values go past an extreme whose representations are at most a bound.
+fn is_reached(extreme: Extreme, value: Option<i64>, bound: i64) -> bool
+    ensures { (more : List ℤ) → result ≡ true → top_of (map (turned extreme) more) ≤ℤ bound → further extreme value (extreme_of extreme more) ≡ value }
+{
+    match value {
+        None => false,
+        Some(number) => bound <= extreme.turned(number),
+    }
+}
+
 impl Tally {
     /// The set function of no values. Only DISTINCT takes memory, for its set.
     pub fn new(alloc: Global, kind: TallyKind) -> Result<Tally, AllocError>
@@ -232,6 +243,16 @@ impl Tally {
     {
         if let Tally::Extreme(extreme, before) = self {
             *before = extreme.further(*before, value);
+        }
+    }
+
+    /// Whether the tally keeps an extreme that no values go past whose representations are at most this bound.
+    pub(crate) fn reaches(&self, bound: i64) -> bool
+        ensures { (extreme : AnExtreme) (values more : List ℤ) → result ≡ true → kind_of self.now ≡ kinds.Extreme extreme → top_of (map (turned extreme) more) ≤ℤ bound → TakesMore values more self.now self.now }
+    {
+        match self {
+            Tally::Extreme(extreme, value) => is_reached(*extreme, *value, bound),
+            Tally::Count(_) | Tally::Sum(_) | Tally::Distinct(_) => false,
         }
     }
 

@@ -1,28 +1,21 @@
--- A word is the number of its bytes.
-use Rattle.std.proofs.Common.{ℕ, ◌*◌, ◌/◌, ◌+◌, ◌<◌, ◌^◌, ◌≡◌, List, map, length, sym, ap, subst, ◌∙◌, arith}
+-- The words are those that the bytes are, in order.
+use Rattle.std.proofs.Common.{rules, ℕ, ◌/◌, ◌<◌, ◌^◌, ◌≡◌, List, map, length, sym, ap, subst, ◌∙◌, arith}
 use Rattle.std.specs.List.{All, range_with_len}
 use Rattle.std.proofs.lemmas.List.Elements.{All-from_get_or}
-use Rattle.transpose_order.specs.Mask.{number_of_bits}
-use Rattle.transpose_order.specs.Bytes.{bit_of_bytes}
 use Rattle.bit_interleave.specs.PackedBytes.{bytes_of, word_of_bytes}
 use Rattle.bit_interleave.specs.PackedWords.{PackedWords}
-use Rattle.bit_interleave.proofs.WordBytesLemmas.{word_read, words_more, All-words_of_bytes, bytes_come_back_from_words}
+use Rattle.bit_interleave.proofs.WordsLemmas.{whole_slice_written}
+use Rattle.bit_interleave.proofs.WordBytesLemmas.{All-words_of_bytes, bytes_come_back_from_words}
 use Rattle.bit_interleave.proofs.word_bytes.words_of.Goals as goal
-
-pub loop-i-preserved : goal.loop-i-preserved
-loop-i-preserved g c =
-    let t = g.U.LaneWord.BITS in
-    let bytes = c.args.bytes.now in
-    let read = subst (λ (n : ℕ). c.number_at.result ≡ number_of_bits (8 * (n / 8)) (λ p. bit_of_bytes bytes (8 * (n / 8 * c.loop-i.i) + p))) c.BITS-size.ensures c.number_at.ensures.value in
-    words_more g.U.LaneWord.number c.loop-i.words.items c.push.new.self.items c.from_u64.result (word_of_bytes t bytes) c.loop-i.i c.loop-i.invariant c.in_ok-push.ensures.items
-    (c.from_u64.ensures ∙ read ∙ word_read t bytes c.loop-i.i g.met.U.LaneWord.is_lane_width)
 
 pub returns-clause-value : goal.returns-clause-value
 returns-clause-value g c =
     let t = g.U.LaneWord.BITS in
     let bytes = c.args.bytes.now in
-    let all : c.loop-i.i ≡ length bytes / (t / 8) = subst (λ (n : ℕ). c.loop-i.i ≡ length bytes / (n / 8)) c.BITS-size.ensures (omega arith) in
-    ap (λ (ns : List ℕ). of_width t ns) (c.loop-i.invariant ∙ ap (λ n. map (word_of_bytes t bytes) (range_with_len 0 n)) all)
+    let made = c.in_ok-words.words.items in
+    let whole = whole_slice_written made c.read_into.new.words c.in_ok-words.words.len (omega (arith, c.in_ok-words.words.ok.0)) (omega (arith, c.as_mut_slice.ensures.value, c.read_into.auto.words)) in
+    let count : length c.as_mut_slice.result.now ≡ length bytes / (t / 8) = search rules in
+    ap (λ (ns : List ℕ). of_width t ns) (ap (map g.U.LaneWord.number) whole ∙ c.read_into.ensures ∙ ap (λ n. map (word_of_bytes t bytes) (range_with_len 0 n)) count)
   where
     of_width : ℕ → List ℕ → PackedWords
     of_width t ns = record { lane_width = t; numbers = ns }
@@ -35,4 +28,7 @@ returns-clause-back g c =
 
 pub returns-clause-fit : goal.returns-clause-fit
 returns-clause-fit g c =
-    subst (λ (ns : List ℕ). All (λ v. v < 2 ^ g.U.LaneWord.BITS) ns) (sym c.loop-i.invariant) (All-words_of_bytes g.U.LaneWord.BITS c.args.bytes.now c.loop-i.i)
+    let t = g.U.LaneWord.BITS in
+    let whole = whole_slice_written c.in_ok-words.words.items c.read_into.new.words c.in_ok-words.words.len (omega (arith, c.in_ok-words.words.ok.0)) (omega (arith, c.as_mut_slice.ensures.value, c.read_into.auto.words)) in
+    subst (λ ys. All (λ n. n < 2 ^ t) (map g.U.LaneWord.number ys)) (sym whole)
+    (subst (λ (ns : List ℕ). All (λ n. n < 2 ^ t) ns) (sym c.read_into.ensures) (All-words_of_bytes t c.args.bytes.now (length c.as_mut_slice.result.now)))

@@ -16,8 +16,8 @@ pub returns-in_err-old-clause-refused : goal.returns-in_err-old-clause-refused
 returns-in_err-old-clause-refused g c =
     refused_so c.from_residual.result _ _ (stays_old _ _ (longer_is_other _ _ _ _ c.args.place.now.longer refl refl) _ _ c.in_err-old.ensures.left)
 
-pub returns-in_err-replaced-in-Ok-clause-any_moment : goal.returns-in_err-replaced-in-Ok-clause-any_moment
-returns-in_err-replaced-in-Ok-clause-any_moment g c =
+pub returns-in_err-left-in-Ok-clause-any_moment : goal.returns-in_err-left-in-Ok-clause-any_moment
+returns-in_err-left-in-Ok-clause-any_moment g c =
     any_at (λ (d : Forgotten). let answer : ℕ × ℕ = (d.batches, d.rows) in answer) (λ (d : Forgotten). not (d.batches == 0)) forgetting _ _ (longer_is_other _ _ _ _ c.args.place.now.longer refl refl) _ _ _ c.in_ok-old.old.items c.as_slice.result.now c.in-Ok.new.items c.as_slice-in-Ok.result.now c.in_ok-old.ensures.read c.as_slice.ensures.value c.as_slice-in-Ok.ensures.value c.in-Ok.answer c.in-Ok.ensures c.finish.ensures.any_moment
 
 pub returns-in-Ok-clause-any_moment : goal.returns-in-Ok-clause-any_moment
@@ -26,7 +26,7 @@ returns-in-Ok-clause-any_moment g c =
 
 pub returns-in-Ok-clause-answered : goal.returns-in-Ok-clause-answered
 returns-in-Ok-clause-answered g c =
-    answered_at (λ (d : Forgotten). let answer : ℕ × ℕ = (d.batches, d.rows) in answer) (λ (d : Forgotten). not (d.batches == 0)) forgetting _ _ (longer_is_other _ _ _ _ c.args.place.now.longer refl refl) _ _ _ c.in_ok-old.old.items c.as_slice.result.now c.in-Ok.new.items c.as_slice-in-Ok.result.now c.in_ok-old.ensures.read c.as_slice.ensures.value c.as_slice-in-Ok.ensures.value c.in-Ok.answer c.in-Ok.ensures c.in_ok-replaced-in-Ok.replaced c.in_ok-replaced-in-Ok.ensures.finished
+    answered_at (λ (d : Forgotten). let answer : ℕ × ℕ = (d.batches, d.rows) in answer) (λ (d : Forgotten). not (d.batches == 0)) forgetting _ _ (longer_is_other _ _ _ _ c.args.place.now.longer refl refl) _ _ _ c.in_ok-old.old.items c.as_slice.result.now c.in-Ok.new.items c.as_slice-in-Ok.result.now c.in_ok-old.ensures.read c.as_slice.ensures.value c.as_slice-in-Ok.ensures.value c.in-Ok.answer c.in-Ok.ensures c.in_ok-left-in-Ok.left c.in_ok-left-in-Ok.ensures.finished
 
 pub returns-clause-any_moment : goal.returns-clause-any_moment
 returns-clause-any_moment g c =

@@ -17,8 +17,14 @@ returns-in_ok-how-clause-any_moment g c = changed_any _ _ _ _ _ c.args.is_change
 pub returns-in_ok-how-clause-finished : goal.returns-in_ok-how-clause-finished
 returns-in_ok-how-clause-finished g c = finishes _ _ _ _ _ c.in_ok-how.how c.args.is_changed c.if-is_changed.true c.in_ok-how.ensures.synced c.in_ok-how.ensures.in_place
 
-pub returns-else-is_changed-clause-any_moment : goal.returns-else-is_changed-clause-any_moment
-returns-else-is_changed-clause-any_moment g c = left_any _ _ _ _ _ c.args.is_changed c.if-is_changed.false c.leave.ensures
+pub returns-in-Ok-clause-any_moment : goal.returns-in-Ok-clause-any_moment
+returns-in-Ok-clause-any_moment g c = left_any _ _ _ _ _ c.args.is_changed c.if-is_changed.false c.keep.ensures.keeps
 
-pub returns-else-is_changed-clause-finished : goal.returns-else-is_changed-clause-finished
-returns-else-is_changed-clause-finished g c = (c.if-is_changed.false, c.leave.ensures)
+pub returns-in-Ok-clause-finished : goal.returns-in-Ok-clause-finished
+returns-in-Ok-clause-finished g c = (c.if-is_changed.false, c.keep.ensures.keeps, c.in-Ok.ensures.on_disk)
+
+pub returns-in-Err-clause-any_moment : goal.returns-in-Err-clause-any_moment
+returns-in-Err-clause-any_moment g c = left_any _ _ _ _ _ c.args.is_changed c.if-is_changed.false c.keep.ensures.keeps
+
+pub returns-in-Err-clause-finished : goal.returns-in-Err-clause-finished
+returns-in-Err-clause-finished g c = (c.if-is_changed.false, c.keep.ensures.keeps, c.in-Err.ensures.cause)

@@ -24,6 +24,7 @@ loop-kept-init g c = record {
   nulls = refl;
   table = refl;
   state = refl;
+  passes = omega arith;
 }
 
 pub write_vector-missing-requires-clause-there : goal.write_vector-missing-requires-clause-there
@@ -124,6 +125,7 @@ loop-kept-preserved g c =
       nulls = omega (arith, inv.nulls, ensures.nulls, step-nulls s r column kept front all inv.state more);
       table = ensures.same.table ∙ inv.table;
       state = ensures.same.state ∙ inv.state;
+      passes = omega (arith, inv.passes, ensures.passes);
     }
 
 pub returns-clause-values : goal.returns-clause-values

@@ -1,5 +1,5 @@
 -- The cells at the first vectors are written.
-use Rattle.std.proofs.Common.{◌≡◌, ◌<◌, ◌^◌, ℕ, get_or, map, length, take, is_none}
+use Rattle.std.proofs.Common.{◌≡◌, ◌<◌, ◌≤◌, ◌+◌, ◌^◌, ℕ, get_or, map, length, take, is_none}
 use Rattle.live_columns.specs.Bits.{AreMarked, front_bit}
 use Rattle.live_columns.specs.Chosen.{cells_in, rows_in}
 use Rattle.live_columns.specs.Columns.{null_count, number_at}
@@ -17,4 +17,5 @@ invariant-loop-kept g l =
       nulls : l.nulls ≡ null_count (cells_in l.column front);
       table : (g.C.Columns.seen l.columns).table ≡ (g.C.Columns.seen l.initial.columns).table;
       state : (g.C.Columns.seen l.columns).state ≡ s;
+      passes : (g.C.Columns.seen l.columns).passes ≤ (g.C.Columns.seen l.initial.columns).passes + l.kept-index;
     }

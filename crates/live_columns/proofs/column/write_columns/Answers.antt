@@ -52,4 +52,5 @@ loop-index-preserved g c =
           ∙ ap (λ l. l ++ drop (i + 1) c.args.nulls.now) (sym (nulls-more front (columns_in (take (i + 1) places) rows) column more));
       table = ensures.same.table ∙ inv.table;
       state = ensures.same.state ∙ inv.state;
+      passes = omega (arith, inv.passes, ensures.passes, next_place i (length vectors));
     }

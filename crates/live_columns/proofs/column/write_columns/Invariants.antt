@@ -1,5 +1,5 @@
 -- The first columns are written.
-use Rattle.std.proofs.Common.{◌≡◌, ◌*◌, ◌++◌, map, take, drop}
+use Rattle.std.proofs.Common.{◌≡◌, ◌≤◌, ◌+◌, ◌*◌, ◌++◌, length, map, take, drop}
 use Rattle.live_columns.specs.Chosen.{columns_in, rows_in}
 use Rattle.live_columns.specs.Columns.{null_count, numbers_of, stride_of, validities}
 use Rattle.live_columns.proofs.column.write_columns.Given as goal
@@ -14,4 +14,5 @@ invariant-loop-index g l =
       nulls : l.nulls ≡ map null_count front ++ drop l.index l.initial.nulls;
       table : (g.C.Columns.seen l.columns).table ≡ (g.C.Columns.seen l.initial.columns).table;
       state : (g.C.Columns.seen l.columns).state ≡ s;
+      passes : (g.C.Columns.seen l.columns).passes ≤ (g.C.Columns.seen l.initial.columns).passes + l.index * length l.chosen.vectors.items;
     }

@@ -1,7 +1,9 @@
 -- One vector more.
 use Rattle.std.proofs.Common.{◌<◌, ◌++◌, refl, sym, ap, subst, ◌∙◌, arith, append-nil}
 use Rattle.table_model.specs.State.{State}
+use Rattle.query_eval.specs.Kept.{where_mentions}
 use Rattle.query_eval.specs.Vector.{IsThere, vector_count}
+use Rattle.query_eval.proofs.KeptSteps.{passes-more}
 use Rattle.live_columns.specs.Chosen.{AreThere, rows_in}
 use Rattle.live_columns.proofs.Walking.{batch-step, front_rows-all}
 use Rattle.live_columns.proofs.walk.push_batch.Goals as goal
@@ -12,6 +14,7 @@ loop-vector-init g c = record {
   there = λ h. h;
   table = refl;
   state = refl;
+  passes = omega arith;
 }
 
 pub push_vector-requires : goal.push_vector-requires
@@ -30,6 +33,7 @@ loop-vector-preserved g c =
       there = λ h. subst (λ (x : State). AreThere x c.push_vector.new.vectors.items) inv.state (c.in_ok-push_vector.ensures.there (subst (λ (x : State). AreThere x c.loop-vector.vectors.items) (sym inv.state) (inv.there h)));
       table = c.push_vector.ensures.same.table ∙ inv.table;
       state = c.push_vector.ensures.same.state ∙ inv.state;
+      passes = passes-more s _ c.args.batch i (where_mentions c.args.condition.now) _ _ _ inv.state inv.passes c.push_vector.ensures.passes;
     }
 
 pub returns-clause-rows : goal.returns-clause-rows

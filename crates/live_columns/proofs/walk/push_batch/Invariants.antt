@@ -1,5 +1,8 @@
 -- The first vectors are added.
-use Rattle.std.proofs.Common.{◌≡◌, ◌++◌}
+use Rattle.std.proofs.Common.{◌≡◌, ◌≤◌, ◌+◌, ◌*◌, ◌++◌}
+use Rattle.transpose_order.specs.Mask.{count_below}
+use Rattle.query_eval.specs.Kept.{has_live, where_mentions}
+use Rattle.query_eval.specs.Vector.{vector_at}
 use Rattle.live_columns.specs.Chosen.{AreThere, rows_in}
 use Rattle.live_columns.proofs.Walking.{front_rows}
 use Rattle.live_columns.proofs.walk.push_batch.Given as goal
@@ -13,4 +16,5 @@ invariant-loop-vector g l =
       there : AreThere s l.initial.vectors.items → AreThere s l.vectors.items;
       table : (g.C.Columns.seen l.columns).table ≡ table;
       state : (g.C.Columns.seen l.columns).state ≡ s;
+      passes : (g.C.Columns.seen l.columns).passes ≤ (g.C.Columns.seen l.initial.columns).passes + where_mentions l.condition * count_below (λ vector. has_live (vector_at s l.batch vector)) l.vector;
     }

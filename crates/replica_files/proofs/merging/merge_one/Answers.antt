@@ -1,11 +1,31 @@
--- The file is read, and refused or merged.
+-- The file is read, and refused or joined.
+use Rattle.std.specs.Prelude.{ℕ, List, Option, Result, Ok, Err, IfErr, IsTrue}
 use Rattle.std.proofs.Common.{◌≡◌, arith}
 use Rattle.std.proofs.lemmas.Result.{err_from_is_err_and}
-use Rattle.replica_files.specs.Refusals.{is_refusal_of_merge}
-use Rattle.replica_files.proofs.StoreCommands.{merge_listed}
+use Rattle.table_model.specs.Reading.{Reads}
+use Rattle.table_model.specs.declared.refusal.Refusal.{Refusal}
+use Rattle.column_file.specs.Input.{IsReadWhole}
+use Rattle.replica_store.specs.Replica.{Replica, merged}
+use Rattle.replica_store.specs.Segments.{StoreForm}
+use Rattle.replica_files.specs.Refusals.{is_refusal_of_merge, reading_or, StopsAt}
+use Rattle.replica_files.proofs.FileMerges.{merging_done, for_ok}
+use Rattle.replica_files.proofs.StoreCommands.{join_listed}
 use Rattle.replica_files.proofs.RefusedOnFile.{or_reading, or_command}
 use Rattle.replica_files.proofs.ReadersInTurn.{unmerged_stops}
 use Rattle.replica_files.proofs.merging.merge_one.Goals as goal
+
+-- which refusals a join has
+refused_listed : {Y : Type 0} (view : Y → Replica) (result : Result Y Refusal) (r other : Replica) → Reads (λ (y : Y). (tt, view y)) result (merged r other) → IfErr result (λ e. IsTrue (is_refusal_of_merge e))
+refused_listed view (Ok y) r other joined = tt
+refused_listed view (Err e) r other joined = join_listed r other e joined
+
+all_listed : {Y : Type 0} (result : Result Y Refusal) → IfErr result (λ e. IsTrue (is_refusal_of_merge e)) → IfErr result (λ e. IsTrue (reading_or is_refusal_of_merge e))
+all_listed (Ok y) listed = tt
+all_listed (Err e) listed = or_command is_refusal_of_merge e listed
+
+all_stop : {D Y : Type 0} (remaining : D → Option (List ℕ)) (result : Result Y Refusal) (old new : D × ℕ) → IsReadWhole remaining old new → IfErr result (λ e. IsTrue (is_refusal_of_merge e)) → IfErr result (λ e. StopsAt remaining e old new)
+all_stop remaining (Ok y) old new whole listed = tt
+all_stop remaining (Err e) old new whole listed = unmerged_stops remaining e old new whole listed
 
 pub returns-in_err-other-clause-listed : goal.returns-in_err-other-clause-listed
 returns-in_err-other-clause-listed g c =
@@ -18,16 +38,18 @@ returns-in_err-other-clause-stops g c =
     let stops = c.in_err-other.ensures.reads (omega arith) in
     rw (p.1, p.2) (record { whole = stops.whole; counts = stops.counts })
 
-pub returns-in_err-merge-clause-listed : goal.returns-in_err-merge-clause-listed
-returns-in_err-merge-clause-listed g c =
-    let p = err_from_is_err_and c.from_residual-in_err-merge.result c.from_residual-in_err-merge.ensures.1 in
-    rw (p.1, p.2) (or_command is_refusal_of_merge c.in_err-merge.field-0.0 (merge_listed c.args.store.now.replica c.in_ok-other.other.replica c.in_err-merge.field-0.0 c.in_err-merge.ensures.acts.1))
-
-pub returns-in_err-merge-clause-stops : goal.returns-in_err-merge-clause-stops
-returns-in_err-merge-clause-stops g c =
-    let p = err_from_is_err_and c.from_residual-in_err-merge.result c.from_residual-in_err-merge.ensures.1 in
-    rw (p.1, p.2) (unmerged_stops g.R.Read.remaining c.in_err-merge.field-0.0 c.args.reader.now c.open.new.reader (c.in_ok-other.ensures.reads (omega arith))
-    (merge_listed c.args.store.now.replica c.in_ok-other.other.replica c.in_err-merge.field-0.0 c.in_err-merge.ensures.acts.1))
+pub returns-clause-merged : goal.returns-clause-merged
+returns-clause-merged g c =
+    merging_done (λ (store : StoreForm). store.replica) (λ (whole : StoreForm). whole.replica) c.in_ok-other.other c.with.result (g.R.Read.remaining c.args.reader.now.0) c.args.joined.replica c.in_ok-other.ensures.read c.with.ensures.value
 
 pub returns-clause-read : goal.returns-clause-read
-returns-clause-read g c = c.in_ok-other.ensures.reads (omega arith)
+returns-clause-read g c = for_ok c.with.result (c.in_ok-other.ensures.reads (omega arith))
+
+pub returns-clause-listed : goal.returns-clause-listed
+returns-clause-listed g c =
+    all_listed c.with.result (refused_listed (λ (whole : StoreForm). whole.replica) c.with.result c.args.joined.replica c.in_ok-other.other.replica c.with.ensures.value)
+
+pub returns-clause-stops : goal.returns-clause-stops
+returns-clause-stops g c =
+    all_stop g.R.Read.remaining c.with.result c.args.reader.now c.open.new.reader (c.in_ok-other.ensures.reads (omega arith))
+    (refused_listed (λ (whole : StoreForm). whole.replica) c.with.result c.args.joined.replica c.in_ok-other.other.replica c.with.ensures.value)

@@ -5,6 +5,6 @@ use Rattle.replica_files.proofs.merging.merge_others.Given as goal
 
 abbrev pub invariant-loop-index : goal.invariant-loop-index
 invariant-loop-index g l = record {
-  merged : MergedSoFar g.R.Read.remaining l.initial.store.replica l.store.replica l.initial.readers l.readers l.index;
+  merged : MergedSoFar g.R.Read.remaining l.fn.first.replica l.joined.replica l.initial.readers l.readers l.index;
   read : ReadUpTo g.R.Read.remaining l.index l.initial.readers l.readers;
 }

@@ -14,10 +14,10 @@ loop-width-preserved c =
     let narrow : w ≤ 10 = omega (arith, few) in
     let top : 2 ^ w ≤ 2 ^ 10 = pow_mono narrow in
     let bytes : c.saturating_sub-bytes.result ≡ bound - (128 * w + 1) = omega (arith, c.saturating_sub-bytes.ensures) in
-    let room = c.saturating_sub-bytes.result / (t / 8) in
+    let room = c.values_in.result in
     let lesser : c.min.result ≡ min (1 * 2 ^ w % 2 ^ 64) room = c.min.ensures ∙ ord_min-nat (1 * 2 ^ w % 2 ^ 64) room in
     let here : c.min.result ≡ min (2 ^ w) ((bound - (128 * w + 1)) / (t / 8)) =
-    subst (λ (b : ℕ). c.min.result ≡ min (2 ^ w) (b / (t / 8))) bytes (omega (arith, lesser, small)) in
+    subst (λ (b : ℕ). c.min.result ≡ min (2 ^ w) (b / (t / 8))) bytes (omega (arith, lesser, small, c.values_in.ensures)) in
     record {
       tried = below_more (λ (v : ℕ). min (2 ^ v) ((bound - (128 * v + 1)) / (t / 8)) ≤ c.max-most.result) w (λ v h. omega (arith, c.max-most.ensures, c.loop-width.invariant.tried v h)) (omega (arith, c.max-most.ensures, here));
       many = omega (arith, c.max-most.ensures, c.loop-width.invariant.many, here, top);

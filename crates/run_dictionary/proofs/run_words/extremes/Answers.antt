@@ -1,5 +1,5 @@
 -- A value more is not below the least and not above the greatest.
-use Rattle.std.proofs.Common.{rules, below_more, ◌≡◌, ℕ, ◌+◌, ◌<◌, ℤ, pos, ◌≤ℤ◌, FitsSigned, get_or, sym, ◌∙◌, subst, arith}
+use Rattle.std.proofs.Common.{rules, below_more, ℕ, ◌+◌, ◌<◌, ℤ, ◌≤ℤ◌, List, length, FitsSigned, sym, ◌∙◌, subst, arith}
 use Rattle.std.specs.Int.{w64}
 use Rattle.std.proofs.lemmas.Int.{ints, to_z-of_z}
 use Rattle.bit_interleave.specs.Range.{value_at}
@@ -9,39 +9,22 @@ use Rattle.run_dictionary.proofs.run_words.extremes.Goals as goal
 through : (x y z : ℤ) → x ≤ℤ y → y ≤ℤ z → x ≤ℤ z
 through x y z l m = omega (arith, ints)
 
-itself : (x y : ℤ) → x ≡ y → x ≤ℤ y
-itself x y e = omega (arith, ints)
-
-pub loop-k-init : goal.loop-k-init
-loop-k-init c =
-    let values = c.args.values.now in
-    let first : FitsSigned w64 (get_or values 0 (pos 0)) = search rules in
-    let same = to_z-of_z w64 (value_at values 0) first in
-    record {
-      low = λ i h. itself _ _ (same ∙ (λ j. value_at values (at_first i h j)));
-      high = λ i h. itself _ _ (sym (same ∙ (λ j. value_at values (at_first i h j))));
-      least = (0, c.requires, sym same);
-      greatest = (0, c.requires, sym same);
-    }
-  where
-    at_first : (i : ℕ) → i < 1 → 0 ≡ i
-    at_first i h = omega (arith, h)
-
 pub loop-k-preserved : goal.loop-k-preserved
 loop-k-preserved c =
-    let values = c.args.values.now in
+    let values : List ℤ = c.args.values.now.values in
     let k = c.loop-k.k in
     let value : ℤ = value_at values k in
-    let value_fits : FitsSigned w64 value = search rules in
+    let read_fits : FitsSigned w64 c.get-value.result = search rules in
     let least_fits : FitsSigned w64 c.min-least.result = search rules in
     let greatest_fits : FitsSigned w64 c.max-greatest.result = search rules in
-    let here = to_z-of_z w64 value value_fits in
+    let here = to_z-of_z w64 c.get-value.result read_fits ∙ c.get-value.ensures.value in
     let least = to_z-of_z w64 c.min-least.result least_fits in
     let greatest = to_z-of_z w64 c.max-greatest.result greatest_fits in
+    let within : k < length values = omega (arith, c.loop-k-test.true, c.len-k-end.ensures) in
     let value_low : c.min-least.result ≤ℤ value = subst (λ (z : ℤ). c.min-least.result ≤ℤ z) here c.min-least.ensures.other_bound in
     let value_high : value ≤ℤ c.max-greatest.result = subst (λ (z : ℤ). z ≤ℤ c.max-greatest.result) here c.max-greatest.ensures.other_bound in
-    let lower = reached_min values _ _ k c.loop-k-test.true (sym here) c.loop-k.invariant.least in
-    let higher = reached_max values _ _ k c.loop-k-test.true (sym here) c.loop-k.invariant.greatest in
+    let lower = reached_min values _ _ k within (sym here) c.loop-k.invariant.least in
+    let higher = reached_max values _ _ k within (sym here) c.loop-k.invariant.greatest in
     record {
       low = subst (λ (z : ℤ). (i : ℕ) → i < k + 1 → z ≤ℤ value_at values i) (sym least) (below_more (λ (i : ℕ). c.min-least.result ≤ℤ value_at values i) k (λ i h. through _ _ _ c.min-least.ensures.self_bound (c.loop-k.invariant.low i h)) value_low);
       high = subst (λ (z : ℤ). (i : ℕ) → i < k + 1 → value_at values i ≤ℤ z) (sym greatest) (below_more (λ (i : ℕ). value_at values i ≤ℤ c.max-greatest.result) k (λ i h. through _ _ _ (c.loop-k.invariant.high i h) c.max-greatest.ensures.self_bound) value_high);

@@ -5,8 +5,8 @@ use Rattle.run_dictionary.proofs.run_words.extremes.Given as goal
 
 abbrev pub invariant-loop-k : goal.invariant-loop-k
 invariant-loop-k l = record {
-  low : (i : ℕ) → i < l.k → l.least ≤ℤ value_at l.values i;
-  high : (i : ℕ) → i < l.k → value_at l.values i ≤ℤ l.greatest;
-  least : (i : ℕ) × (i < length l.values) × (value_at l.values i ≡ l.least);
-  greatest : (i : ℕ) × (i < length l.values) × (value_at l.values i ≡ l.greatest);
+  low : (i : ℕ) → i < l.k → l.least ≤ℤ value_at l.values.values i;
+  high : (i : ℕ) → i < l.k → value_at l.values.values i ≤ℤ l.greatest;
+  least : (i : ℕ) × (i < length l.values.values) × (value_at l.values.values i ≡ l.least);
+  greatest : (i : ℕ) × (i < length l.values.values) × (value_at l.values.values i ≡ l.greatest);
 }

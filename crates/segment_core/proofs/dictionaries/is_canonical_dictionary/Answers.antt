@@ -24,6 +24,6 @@ returns c =
     let allow = subst (λ (z : ℤ). IsTrue true ↔ (c.args.repeating.now.valueless ≡ true → z ≡ pos 0)) (to_z-of_z w64 c.value.result fits) c.if-not-allow_first.ensures in (
       λ yes. is_canonical_form c.args.repeating.now.rows c.args.repeating.now.valueless c.write_codes.new.codes (InDictionary form) c.write_codes.ensures.alike
           (λ v. value_at-values_of (InDictionary form) 0 (omega arith) ∙ sym c.value.ensures.value ∙ allow.0 refl v)
-          (c.if-not-hold.ensures.0 refl) (ap InDictionary (c.if-not-is_least.ensures.0 refl)) (c.is_dictionary_chosen.ensures.0 yes),
+          (c.if-not-hold.ensures.0 refl) (ap InDictionary (c.if-not-is_least_of.ensures.0 refl)) (c.is_dictionary_chosen.ensures.0 yes),
       λ h. c.is_dictionary_chosen.ensures.1 h.chosen,
     )

@@ -40,36 +40,19 @@ returns-then-is_below c =
       λ e. absurd (not_first form.lane_width values Dict Runs bytes own (omega arith) most e),
     )
 
--- the room has the dictionary's values
-room_is : (form : DictForm) (stored : LaneValues) (room : List ℤ) → stored ≡ record { lane_width = form.lane_width; values = form.values } → room ≡ stored.values → room ≡ form.values
-room_is form stored room e r = r ∙ ap (λ (v : LaneValues). v.values) e
-
-pub write_values_at-requires : goal.write_values_at-requires
-write_values_at-requires c k l =
-    let form : DictForm = c.args.form.now in
-    let codes : List ℕ = c.args.codes.now in
-    let same : by_place codes (row_of_index k) ≡ slice_index codes k = by_place-row_of_index codes k l in
-    let room : length c.in_room.result.now ≡ length form.values = ap length (room_is form c.values.result.now c.in_room.result.now c.values.ensures.value c.in_room.ensures.values) in
-    subst (λ (x : ℕ). x < length c.in_room.result.now) same (subst (λ (m : ℕ). by_place codes (row_of_index k) < m) (sym room) (c.requires.below (row_of_index k) (row_of_index-below k l)))
-
 pub returns : goal.returns
 returns c =
     let form : DictForm = c.args.form.now in
     let t : ℕ = c.lane_width-lane_width.result in
     let values : List ℤ = dict_values form in
     let bytes : ℕ = c.bytes_len-bytes.result in
-    let numbers : List ℕ = c.write_values_at.new.numbers in
     let own : bytes ≡ least_bytes form.lane_width values Dict = c.bytes_len-bytes.ensures ∙ ap dict_bytes c.requires.least in
     let is : t ≡ form.lane_width = c.lane_width-lane_width.ensures.value in
     let size = frame_of_ends (InDictionary form) t c.frame_bytes.result c.ends-least.result.0 c.ends-least.result.1 c.lane_width-lane_width.ensures.form is c.frame_bytes.ensures c.ends-least.ensures.bounds c.ends-least.ensures.least c.ends-least.ensures.greatest in
     let frame = subst (λ (n : ℕ). bytes < n) size c.if-frame_bytes-bytes.false in
     let few : bytes + 1 ≤ run_bytes (least_runs form.lane_width values) = subst (λ (u : ℕ). bytes + 1 ≤ run_bytes (least_runs u values)) is (at_least false (run_bytes (least_runs t values)) (bytes + 1) (c.if-is_below.ensures values (length-values_of (InDictionary form)) c.requires.apart) refl) in
     let runs : bytes < run_bytes (least_runs form.lane_width values) = omega arith in
-    let room = room_is form c.values.result.now c.in_room.result.now c.values.ensures.value c.in_room.ensures.values in
-    let signed = dictionary_signed form c.in_room.result.now c.args.codes.now numbers room c.requires.codes c.write_values_at.ensures in
-    let own_values = signed_above form.lane_width numbers values c.lane_width-lane_width.ensures.form.lane_width (length-values_of (InDictionary form)) (AreInRange-values_of (InDictionary form) c.lane_width-lane_width.ensures.form) signed in
-    let above = subst (λ (u : ℕ). AreAbove u (pos 0) numbers values) (sym is) own_values in
-    let last = subst (λ (u : ℕ). IsTrue (not c.is_below-2.result) ↔ (bytes + 1 ≤ delta_bytes (least_delta u values))) is (not_below c.is_below-2.result (delta_bytes (least_delta t values)) (bytes + 1) (c.is_below-2.ensures values (pos 0) (length-values_of (InDictionary form)) above)) in (
+    let last = not_below c.are_deltas_below.result (delta_bytes (least_delta form.lane_width values)) (bytes + 1) c.are_deltas_below.ensures in (
       λ yes. let more : bytes + 1 ≤ delta_bytes (least_delta form.lane_width values) = last.0 yes in
           let deltas : bytes < delta_bytes (least_delta form.lane_width values) = omega arith in
           dictionary_wins form.lane_width values bytes own frame deltas runs,

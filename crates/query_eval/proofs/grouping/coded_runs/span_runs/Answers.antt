@@ -49,7 +49,7 @@ loop-run-preserved c =
             spanned = λ by v shown h.
                 subst (λ (p : Places). AreSliced by v mask (rows_from mask end) old p.index (slices_of_spans mask c.if-row-end.spans.items)) (sym w.places-is)
                 (spanned_more by v mask start row end (Some value ∷ []) inv.order w.if-row-end.true inv.none
-                (λ n a b. ap (λ r. Some (get_or values r (pos 0)) ∷ []) (sym (run_steady starts start end n (omega (arith, inv.order, a)) b c.next_true-end.ensures.none ∙ inv.run begun)) ∙ shown n (omega (arith, b, c.next_true-end.ensures.within)))
+                (λ n a b on. ap (λ r. Some (get_or values r (pos 0)) ∷ []) (sym (run_steady starts start end n (omega (arith, inv.order, a)) b c.next_true-end.ensures.none ∙ inv.run begun)) ∙ shown n (omega (arith, b, c.next_true-end.ensures.within)) on)
                 old c.loop-run.places.index w.of_row.new.self.index c.loop-run.spans.items c.if-row-end.spans.items w.in_ok-place.place c.next_true-end.ensures.within (inv.here (omega (arith, inv.within, c.if-row-eq1024.false))) (inv.spanned by v shown h)
                 (subst (λ (z : ℤ). IsTakenIn (Some z ∷ []) w.in_ok-place.place c.loop-run.places.index w.of_row.new.self.index) (to_z-of_z w64 value fits) (w.in_ok-place.ensures.taken (inv.index h)))
                 (ap (λ s. s.items) w.spans-is ∙ w.in_ok-push.ensures.items));

@@ -21,7 +21,7 @@ loop-row-preserved c =
             index = λ h. subst IsIndex (sym w.places-is) (w.in_ok-place.ensures.index (inv.index h));
             placed = λ by v shown h.
                 subst (λ (p : Places). ArePlaced (n + 1) by v mask old p.index c.if-get.out) (sym w.places-is)
-                (placed_more n by v mask old c.loop-row.places.index c.loop-row.out (inv.placed by v shown h) w.of_key.new.self.index w.read_key.new.key w.in_ok-place.place c.if-get.out on (w.in_ok-read_key.ensures ∙ shown n c.loop-row-test.true) (w.in_ok-place.ensures.taken) (omega (arith, c.loop-row-test.true, inv.long)) w.out-is);
+                (placed_more n by v mask old c.loop-row.places.index c.loop-row.out (inv.placed by v shown h) w.of_key.new.self.index w.read_key.new.key w.in_ok-place.place c.if-get.out on (w.in_ok-read_key.ensures ∙ shown n c.loop-row-test.true on) (w.in_ok-place.ensures.taken) (omega (arith, c.loop-row-test.true, inv.long)) w.out-is);
           }
       | else-get w ↦
           let off : has mask n ≡ false = sym c.get.ensures ∙ w.if-get.false in

@@ -15,7 +15,7 @@ returns-then-columns-eq1-clause-placed c = λ by v shown h.
     let one : length columns ≡ 1 = omega (arith, c.if-columns-eq1.true) in
     let column : KeyColumn = c.index-columns-0.result in
     let at : column ≡ get_or columns 0 column = c.index-columns-0.is in
-    c.in_ok-place_by_value.ensures.placed by v (λ n l. only_one (λ d. key_cell d n) columns column one at ∙ shown n l) h
+    c.in_ok-place_by_value.ensures.placed by v (λ n l on. only_one (λ d. key_cell d n) columns column one at ∙ shown n l on) h
 
 pub returns-clause-placed : goal.returns-clause-placed
 returns-clause-placed c = λ by v shown h. c.in_ok-place_by_key.ensures.placed by v shown h

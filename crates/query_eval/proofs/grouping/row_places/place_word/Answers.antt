@@ -28,7 +28,7 @@ loop-bit-preserved c =
                 (subst (λ (z : ℤ). IsTakenIn (cond w.is_set-null.result None (Some z) ∷ []) w.in_ok-place.place c.loop-bit.places.index w.of_row.new.self.index) (to_z-of_z w64 (get_or values n (pos 0)) fits) (w.in_ok-place.ensures.taken (inv.index h))) in
                 subst (λ (k : ℕ). ArePlaced k by v mask before c.if-is_set.places.index c.if-is_set.out) next
                 (subst (λ (p : Places). ArePlaced (n + 1) by v mask before p.index c.if-is_set.out) (sym w.places-is)
-                (placed_more n by v mask before c.loop-bit.places.index c.loop-bit.out (inv.placed by v mask nulls before shown bits null_bits h first) w.of_row.new.self.index (cell ∷ []) w.in_ok-place.place c.if-is_set.out on (shown n within) taken (omega (arith, within, inv.long)) w.out-is));
+                (placed_more n by v mask before c.loop-bit.places.index c.loop-bit.out (inv.placed by v mask nulls before shown bits null_bits h first) w.of_row.new.self.index (cell ∷ []) w.in_ok-place.place c.if-is_set.out on (shown n within on) taken (omega (arith, within, inv.long)) w.out-is));
           }
       | else-is_set w ↦
           record {

@@ -30,7 +30,7 @@ loop-preserved c =
       index = λ h. c.in_ok-place.ensures.index (inv.index h);
       spanned = λ by v shown h.
           spanned_more by v c.args.mask.now c.loop.start first end (map (λ column. key_cell column first) columns) c.next_true-first.ensures.order (omega (arith, c.next_true-end.ensures.order)) c.next_true-first.ensures.none
-          (λ n a b. sym (run_same columns c.args.changes.now first end c.next_true-end.ensures.within c.requires c.next_true-end.ensures.none n a b) ∙ shown n (omega (arith, b, c.next_true-end.ensures.within)))
+          (λ n a b on. sym (run_same columns c.args.changes.now first end c.next_true-end.ensures.within c.requires c.next_true-end.ensures.none n a b) ∙ shown n (omega (arith, b, c.next_true-end.ensures.within)) on)
           c.args.places.now.index c.loop.places.index c.place_of.new.places.index c.loop.spans.items c.push.new.self.items c.in_ok-place.place c.next_true-end.ensures.within (c.next_true-first.ensures.here inside) (inv.spanned by v shown h) (c.in_ok-place.ensures.taken (inv.index h))
           c.in_ok-push.ensures.items;
     }

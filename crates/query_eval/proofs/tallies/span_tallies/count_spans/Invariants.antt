@@ -1,6 +1,5 @@
--- The spans so far are counted, and it is known how many rows are below the last one's end.
+-- The spans so far are counted.
 use Rattle.std.proofs.Common.{◌≡◌, length, take}
-use Rattle.transpose_order.specs.Mask.{count_below, has}
 use Rattle.query_eval.specs.Grouping.{AreNulls, HaveSlices}
 use Rattle.query_eval.specs.Slices.{slices_of_spans}
 use Rattle.query_eval.specs.TallyKinds.{aggregate_kind}
@@ -12,6 +11,5 @@ use Rattle.query_eval.proofs.tallies.span_tallies.count_spans.Given as goal
 abbrev pub invariant-loop-covered : goal.invariant-loop-covered
 invariant-loop-covered l = record {
   size : length l.tallies.items ≡ length l.initial.tallies.items;
-  below : l.below ≡ count_below (has l.rows) l.end;
   held : (a : Aggregate) (v : Vector) → aggregate_kind a ≡ kinds.Count → AreNulls a v l.nulls → HaveSlices a v (take l.covered-index (slices_of_spans l.kept l.spans)) l.initial.tallies.items l.tallies.items;
 }

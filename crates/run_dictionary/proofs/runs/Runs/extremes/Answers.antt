@@ -1,20 +1,15 @@
 -- The values of the rows are those of the runs, each of which has a row.
-use Rattle.std.proofs.Common.{ℕ, suc, ◌≡◌, ◌<◌, ℤ, pos, ◌≤ℤ◌, List, length, get_or, sym, ap, ◌∙◌, subst, arith}
+use Rattle.std.proofs.Common.{suc, pos, ◌≤ℤ◌, get_or, sym, ap, ◌∙◌, subst, arith}
 use Rattle.transpose_order.specs.Mask.{has}
-use Rattle.bit_interleave.specs.Range.{value_at}
 use Rattle.run_dictionary.specs.Runs.{RunForm, run_of, run_value}
 use Rattle.run_dictionary.proofs.RunLemmas.{run_of-within, row_of_run}
-use Rattle.run_dictionary.proofs.StepLemmas.{run_of-bound}
 use Rattle.run_dictionary.proofs.runs.Runs.extremes.Goals as goal
-
-pub in_room-requires : goal.in_room-requires
-in_room-requires c = omega (arith, run_of-bound _ c.self.invariant)
 
 pub returns-clause-bounds : goal.returns-clause-bounds
 returns-clause-bounds c = λ n h.
     let least = c.extremes.result.0 in
     let greatest = c.extremes.result.1 in
-    let bounds = subst (λ (xs : List ℤ). (k : ℕ) → k < length xs → (least ≤ℤ value_at xs k) × (value_at xs k ≤ℤ greatest)) c.in_room.ensures.values c.extremes.ensures.bounds in
+    let bounds = c.extremes.ensures.bounds in
     subst (λ (form : RunForm). (least ≤ℤ run_value form n) × (run_value form n ≤ℤ greatest)) c.self.view_is
     (bounds (run_of c.self.inside.starts n) (run_of-within _ c.self.invariant n h))
 
@@ -22,7 +17,7 @@ pub returns-clause-least : goal.returns-clause-least
 returns-clause-least c =
     let xs = c.self.inside.values.values in
     let starts = c.self.inside.starts in
-    let run = subst (λ (xs : List ℤ). (k : ℕ) × (k < length xs) × (value_at xs k ≡ c.extremes.result.0)) c.in_room.ensures.values c.extremes.ensures.least in
+    let run = c.extremes.ensures.least in
     let row = row_of_run (λ i. has starts (suc i)) 1023 run.0 (omega (arith, c.self.invariant.count, run.1)) in
     (row.0, omega (arith, row.1), ap (λ (form : RunForm). run_value form row.0) (sym c.self.view_is) ∙ ap (λ j. get_or xs j (pos 0)) row.2 ∙ run.2)
 
@@ -30,6 +25,6 @@ pub returns-clause-greatest : goal.returns-clause-greatest
 returns-clause-greatest c =
     let xs = c.self.inside.values.values in
     let starts = c.self.inside.starts in
-    let run = subst (λ (xs : List ℤ). (k : ℕ) × (k < length xs) × (value_at xs k ≡ c.extremes.result.1)) c.in_room.ensures.values c.extremes.ensures.greatest in
+    let run = c.extremes.ensures.greatest in
     let row = row_of_run (λ i. has starts (suc i)) 1023 run.0 (omega (arith, c.self.invariant.count, run.1)) in
     (row.0, omega (arith, row.1), ap (λ (form : RunForm). run_value form row.0) (sym c.self.view_is) ∙ ap (λ j. get_or xs j (pos 0)) row.2 ∙ run.2)

@@ -1,8 +1,0 @@
--- the words so far
-use Rattle.std.proofs.Common.{◌≡◌, map}
-use Rattle.std.specs.List.{range_with_len}
-use Rattle.bit_interleave.specs.PackedBytes.{word_of_bytes}
-use Rattle.bit_interleave.proofs.word_bytes.words_of.Given as goal
-
-abbrev pub invariant-loop-i : goal.invariant-loop-i
-invariant-loop-i g l = map g.U.LaneWord.number l.words.items ≡ map (word_of_bytes g.U.LaneWord.BITS l.bytes) (range_with_len 0 l.i)

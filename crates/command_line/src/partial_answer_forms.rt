@@ -1,0 +1,62 @@
+//! How the commands on partial answers are read by `clap`.
+
+use crate::commands::{first_word, format, word};
+use clap::Command;
+use std::alloc::{AllocError, Global};
+
+/// What is shown below the help of `lanes partial`.
+const PARTIAL_HELP: &str =
+    "A partial answer is bytes, for a file or a pipe. lanes combine combines those of files that share no batch, and lanes finish writes\nthe answer: that of the query over all these files merged. docs/COMMANDS.md has an example.";
+
+/// What is shown below the help of `lanes combine`.
+const COMBINE_HELP: &str =
+    "The partial answers are of one query, and of files that share no batch. Their order does not matter. What is written is a partial\nanswer too.";
+
+/// How `lanes partial` is read.
+pub(crate) fn partial_command<'a>(
+    alloc: Global,
+    command: Command<'a>,
+) -> Result<Command<'a>, AllocError> {
+    command
+        .about(
+            "Writes what a file gives to the answer of a query over many files, for lanes combine",
+        )
+        .after_help(PARTIAL_HELP)
+        .arg(first_word(
+            alloc,
+            "FILE",
+            "The file, or the folder of parts, or - for standard input",
+        ))?
+        .arg(word(alloc, "SQL", "The query"))
+}
+
+/// How `lanes combine` is read.
+pub(crate) fn combine_command<'a>(
+    alloc: Global,
+    command: Command<'a>,
+) -> Result<Command<'a>, AllocError> {
+    let partials = first_word(
+        alloc,
+        "PARTIAL",
+        "The partial answers that are combined, or - for standard input",
+    );
+    command
+        .about("Combines the partial answers of several files, for lanes finish")
+        .after_help(COMBINE_HELP)
+        .arg(partials.num_args(1..))
+}
+
+/// How `lanes finish` is read.
+pub(crate) fn finish_command<'a>(
+    alloc: Global,
+    command: Command<'a>,
+) -> Result<Command<'a>, AllocError> {
+    command
+        .about("Writes the answer of the query that a partial answer is of")
+        .arg(format(alloc, "The form of the answer: text, csv, json or table"))?
+        .arg(first_word(
+            alloc,
+            "PARTIAL",
+            "The partial answer, or - for standard input",
+        ))
+}

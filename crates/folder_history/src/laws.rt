@@ -1,0 +1,7 @@
+//! The laws, as the contract of a function that does nothing.
+ghost use Rattle.folder_history.specs.Laws.{FolderHistoryLaws};
+
+/// What was put is never lost, and who reads has it.
+pub fn folder_history_laws()
+    ensures { FolderHistoryLaws }
+{}

@@ -1,0 +1,6 @@
+//! What is never lost of a folder of parts that any number of processes use at once, each stopped at any moment, over losses of power.
+#![tactic(auto)]
+
+mod laws;
+
+pub use laws::folder_history_laws;

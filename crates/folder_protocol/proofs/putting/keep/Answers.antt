@@ -1,0 +1,50 @@
+use Rattle.std.proofs.Common.{rules, refl, ◌≢◌}
+use Rattle.folder_protocol.specs.Causes.{Fails, FailsToSync, FindsNone, FindsOther}
+use Rattle.folder_protocol.proofs.Causing.{follows_none, follows_on, has_now, has_later, on_err}
+use Rattle.folder_protocol.proofs.ReadLines.{opened, unopened}
+use Rattle.folder_protocol.proofs.Lines.{starts, goes_on}
+use Rattle.folder_protocol.proofs.putting.keep.Goals as goal
+
+pub returns-in_err-found-clause-in_turn : goal.returns-in_err-found-clause-in_turn
+returns-in_err-found-clause-in_turn g c = λ parts. goes_on parts _ _ _ _ (starts parts _) c.in_err-found.ensures tt
+
+pub returns-in-None-clause-in_turn : goal.returns-in-None-clause-in_turn
+returns-in-None-clause-in_turn g c = λ parts. goes_on parts _ _ _ _ (starts parts _) c.in_ok-found.ensures tt
+
+pub returns-then-ne-clause-in_turn : goal.returns-then-ne-clause-in_turn
+returns-then-ne-clause-in_turn g c = λ parts. goes_on parts _ _ _ _ (starts parts _) c.in_ok-found.ensures tt
+
+pub returns-in-Ok-settle-clause-in_turn : goal.returns-in-Ok-settle-clause-in_turn
+returns-in-Ok-settle-clause-in_turn g c = λ parts.
+    let read = goes_on parts _ _ _ _ (starts parts _) c.in_ok-found.ensures tt in
+    let synced = goes_on parts _ _ _ _ read c.sync.ensures tt in
+    goes_on parts _ _ _ _ synced c.settle.ensures tt
+
+pub returns-in-Ok-clause-in_turn : goal.returns-in-Ok-clause-in_turn
+returns-in-Ok-clause-in_turn g c = λ parts.
+    let read = goes_on parts _ _ _ _ (starts parts _) c.in_ok-found.ensures tt in
+    let synced = goes_on parts _ _ _ _ read c.sync.ensures tt in
+    goes_on parts _ _ _ _ synced c.settle.ensures tt
+
+pub returns-clause-in_turn : goal.returns-clause-in_turn
+returns-clause-in_turn g c = λ parts.
+    let read = goes_on parts _ _ _ _ (starts parts _) c.in_ok-found.ensures tt in
+    goes_on parts _ _ _ _ read c.sync.ensures tt
+
+pub returns-in_err-found-clause-fails : goal.returns-in_err-found-clause-fails
+returns-in_err-found-clause-fails g c = on_err c.from_residual.result (has_now Fails _ _ _ c.in_err-found.ensures refl)
+
+pub returns-in-None-clause-cause : goal.returns-in-None-clause-cause
+returns-in-None-clause-cause g c = has_now (FindsNone c.args.name.now) _ _ _ (unopened _ c.in_ok-found.field-0 c.args.name.now _ _ c.in_ok-found.ensures c.in-None.is) (refl, refl)
+
+pub returns-then-ne-clause-cause : goal.returns-then-ne-clause-cause
+returns-then-ne-clause-cause g c =
+    let other : c.in-Some.found.items ≢ c.args.bytes.now = search rules in
+    has_now (FindsOther c.args.name.now c.args.bytes.now) _ _ _ (opened _ c.in_ok-found.field-0 c.in-Some.found c.args.name.now _ _ c.in_ok-found.ensures c.in-Some.is) (refl, c.in-Some.found.items, refl, other)
+
+pub returns-in-Ok-clause-cause : goal.returns-in-Ok-clause-cause
+returns-in-Ok-clause-cause g c =
+    has_later FailsToSync _ _ _ (follows_on _ _ _ _ (follows_on _ _ _ _ (follows_none _) c.in_ok-found.ensures) c.sync.ensures) (has_now FailsToSync _ _ _ c.in-Err-settle.ensures refl)
+
+pub returns-clause-cause : goal.returns-clause-cause
+returns-clause-cause g c = has_later FailsToSync _ _ _ (follows_on _ _ _ _ (follows_none _) c.in_ok-found.ensures) (has_now FailsToSync _ _ _ c.in-Err.ensures refl)

@@ -1,0 +1,56 @@
+use Rattle.std.proofs.Common.{rules, inl, refl, ap, ◌≡◌, Bool, true, false, if◌then◌else◌}
+use Rattle.folder_history.specs.Call.{Done, Taken}
+use Rattle.folder_protocol.specs.Causes.{Fails, FailsToSync, AnswersLink}
+use Rattle.folder_protocol.proofs.Causing.{follows_none, follows_on, has_now, has_later, has_before, looks_later, fails_later, all_named, parts_without}
+use Rattle.folder_protocol.proofs.Lines.{starts, goes_on, joins}
+use Rattle.folder_protocol.proofs.putting.place.Goals as goal
+
+pub returns-in-Ok-clause-in_turn : goal.returns-in-Ok-clause-in_turn
+returns-in-Ok-clause-in_turn g c = λ parts named temp ready.
+    let linked = goes_on parts _ _ _ _ (starts parts _) c.in-Ok-true.ensures (c.args.bytes.now, ready, named) in
+    let removed = goes_on parts _ _ _ _ linked c.remove.ensures (inl temp) in
+    goes_on parts _ _ _ _ removed c.settle.ensures tt
+
+pub returns-in-Err-settle-clause-in_turn : goal.returns-in-Err-settle-clause-in_turn
+returns-in-Err-settle-clause-in_turn g c = λ parts named temp ready.
+    let linked = goes_on parts _ _ _ _ (starts parts _) c.in-Ok-true.ensures (c.args.bytes.now, ready, named) in
+    let removed = goes_on parts _ _ _ _ linked c.remove.ensures (inl temp) in
+    goes_on parts _ _ _ _ removed c.settle.ensures tt
+
+pub returns-in-Ok-false-clause-in_turn : goal.returns-in-Ok-false-clause-in_turn
+returns-in-Ok-false-clause-in_turn g c = λ parts named temp ready.
+    let linked = goes_on parts _ _ _ _ (starts parts _) c.in-Ok-false.ensures (c.args.bytes.now, ready, named) in
+    let removed = goes_on parts _ _ _ _ linked c.remove.ensures (inl temp) in
+    joins parts _ _ _ removed (c.keep.ensures.in_turn parts)
+
+pub returns-in-Err-clause-in_turn : goal.returns-in-Err-clause-in_turn
+returns-in-Err-clause-in_turn g c = λ parts named temp ready.
+    let linked = goes_on parts _ _ _ _ (starts parts _) c.in-Err.ensures (c.args.bytes.now, ready, named) in
+    goes_on parts _ _ _ _ linked c.remove.ensures (inl temp)
+
+pub returns-in-Err-settle-clause-cause : goal.returns-in-Err-settle-clause-cause
+returns-in-Err-settle-clause-cause g c =
+    has_later FailsToSync _ _ _ (follows_on _ _ _ _ (follows_on _ _ _ _ (follows_none _) c.in-Ok-true.ensures) c.remove.ensures) (has_now FailsToSync _ _ _ c.in-Err-settle.ensures refl)
+
+pub returns-in-Err-settle-clause-named : goal.returns-in-Err-settle-clause-named
+returns-in-Err-settle-clause-named g c =
+    let yes : c.in-Ok-true.field-0 ≡ true = search rules in
+    inl (has_before (AnswersLink c.args.name.now Done) _ _ _ (follows_on _ _ _ _ (follows_on _ _ _ _ (follows_none _) c.remove.ensures) c.settle.ensures) (has_now (AnswersLink c.args.name.now Done) _ _ _ c.in-Ok-true.ensures (refl, ap (λ (b : Bool). if b then Done else Taken) yes)))
+
+pub returns-in-Ok-false-clause-cause : goal.returns-in-Ok-false-clause-cause
+returns-in-Ok-false-clause-cause g c =
+    looks_later c.keep.result c.args.name.now c.args.bytes.now _ _ _ (follows_on _ _ _ _ (follows_on _ _ _ _ (follows_none _) c.in-Ok-false.ensures) c.remove.ensures) c.keep.ensures.cause
+
+pub returns-in-Ok-false-clause-fails : goal.returns-in-Ok-false-clause-fails
+returns-in-Ok-false-clause-fails g c =
+    fails_later c.keep.result _ _ _ (follows_on _ _ _ _ (follows_on _ _ _ _ (follows_none _) c.in-Ok-false.ensures) c.remove.ensures) c.keep.ensures.fails
+
+pub returns-in-Ok-false-clause-named : goal.returns-in-Ok-false-clause-named
+returns-in-Ok-false-clause-named g c =
+    let no : c.in-Ok-false.field-0 ≡ false = search rules in
+    let kept = c.keep.ensures.in_turn (parts_without c.args.temporary.now) in
+    all_named c.keep.result c.args.name.now _ _ (has_before (AnswersLink c.args.name.now Taken) _ _ _ (kept.0, kept.1)
+    (has_before (AnswersLink c.args.name.now Taken) _ _ _ (follows_on _ _ _ _ (follows_none _) c.remove.ensures) (has_now (AnswersLink c.args.name.now Taken) _ _ _ c.in-Ok-false.ensures (refl, ap (λ (b : Bool). if b then Done else Taken) no))))
+
+pub returns-in-Err-clause-fails : goal.returns-in-Err-clause-fails
+returns-in-Err-clause-fails g c = has_before Fails _ _ _ (follows_on _ _ _ _ (follows_none _) c.remove.ensures) (has_now Fails _ _ _ c.in-Err.ensures refl)

@@ -1,0 +1,3 @@
+pub mod Goes
+pub mod Reads
+pub mod Causes

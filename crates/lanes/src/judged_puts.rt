@@ -1,0 +1,115 @@
+//! Parts with batches of given names, as of a named load or of offers, each of which is put once it goes with all that is there.
+
+use crate::failure::Failure;
+use crate::folders::{Parts, part_of, parts_of};
+use crate::part_failures::{Unread, busy, of_folder, why_unread};
+use crate::parts::Untold;
+use crate::putting::{place, unwritten, written};
+use file_replacing::Replaced;
+use folder_parts::{PartFault, PartRefusal, join_parts, part_name};
+use part_folder::{FolderFault, FolderLock, Patience, Temporary};
+use refusal_sentences::CommandRefusal;
+use std::fs::{File, Files};
+use std::io::ErrorKind;
+use std::random::RandomSource;
+use std::rt::Clock;
+use table_model::Refusal;
+
+/// Puts a part into a folder of which these parts were looked at, and with which it goes. It is written first; then, under the folder's
+/// exclusive lock, the parts that came since are looked at, and it is given its name. If the file system has no such lock it goes
+/// without, and readers find two lists of rows of one name.
+///
+/// Refused as `Conflict` is a part that has other rows under a name that came since.
+pub fn put_judged<R: Files<File = File> + Clock + RandomSource + AllocGlobal + Clone + Drop>(
+    rt: &R,
+    folder: &str,
+    parts: &Parts,
+    bytes: &[u8],
+) -> Result<Replaced, Failure> {
+    let name = part_name(rt.alloc(), bytes)?;
+    let temporary = written(rt, folder, bytes)?;
+    let lock = match FolderLock::exclusive(rt, folder) {
+        Ok(lock) => Some(lock),
+        Err(FolderFault::NoLock) => None,
+        Err(fault) => {
+            temporary.discard();
+            return Err(of_folder(rt.alloc(), folder, fault));
+        }
+    };
+    let replaced = match judge(rt, folder, parts, name.as_str(), &temporary) {
+        Ok(()) => placed(rt, folder, temporary, name.as_str(), bytes),
+        Err(failure) => {
+            temporary.discard();
+            Err(failure)
+        }
+    };
+    if let Some(lock) = lock {
+        lock.release();
+    }
+    replaced
+}
+
+/// Gives the temporary its name.
+fn placed<R: Files<File = File> + RandomSource + AllocGlobal>(
+    rt: &R,
+    folder: &str,
+    temporary: Temporary<'_, R>,
+    name: &str,
+    bytes: &[u8],
+) -> Result<Replaced, Failure> {
+    match place(rt, folder, temporary, name, bytes)? {
+        Some(replaced) => Ok(replaced),
+        None => Err(unwritten(rt, folder, ErrorKind::ResourceBusy)),
+    }
+}
+
+/// Whether a new part goes with those that a folder has and the looked-at ones are not.
+fn judge<R: Files<File = File> + Clock + RandomSource + AllocGlobal + Clone + Drop>(
+    rt: &R,
+    folder: &str,
+    parts: &Parts,
+    name: &str,
+    temporary: &Temporary<'_, R>,
+) -> Result<(), Failure> {
+    let mut patience = Patience::new(rt);
+    for _ in 0..u64::MAX {
+        let since = parts.paths_since(rt, folder)?;
+        match go_together(rt, name, temporary.path(), since.as_slice()) {
+            Ok(()) => return Ok(()),
+            Err(Unread::Gone) | Err(Unread::Folder) => {}
+            Err(Unread::Refused(failure)) => return Err(failure),
+        }
+        if !patience.wait(rt) {
+            break;
+        }
+    }
+    Err(busy(rt.alloc(), folder))
+}
+
+/// Whether a new part, which has another path until it is placed, goes with the parts of these paths.
+fn go_together<R: Files + AllocGlobal>(
+    rt: &R,
+    name: &str,
+    path: &str,
+    others: &[String],
+) -> Result<(), Unread> {
+    if others.is_empty() {
+        return Ok(());
+    }
+    let mut first = part_of(rt, name, path, Untold)?;
+    let mut readers = parts_of(rt, others, Untold)?;
+    let refusal = match join_parts(rt.alloc(), &mut first, readers.as_mut_slice()) {
+        Ok(_store) => return Ok(()),
+        Err(refusal) => refusal,
+    };
+    match refusal.fault {
+        PartFault::Refused(Refusal::Conflict(name)) => {
+            let refusal = CommandRefusal::from(Refusal::Conflict(name));
+            Err(Unread::Refused(Failure::of(rt.alloc(), refusal)))
+        }
+        fault => {
+            let part = refusal.part.saturating_sub(1);
+            Err(why_unread(rt, others, readers, PartRefusal { part, fault }))
+        }
+    }
+}

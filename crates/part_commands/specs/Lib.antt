@@ -1,4 +1,0 @@
-pub mod StorePart
-pub mod FileParts
-pub mod PartTurns
-pub mod PartCommandLaws

@@ -1,9 +1,0 @@
-pub mod FaultsOfParts
-pub mod GroupLists
-pub mod PartLaws
-pub mod PartsRead
-pub mod Rising
-pub mod RunLists
-pub mod Spelled
-pub mod Written
-pub mod WrittenParts

@@ -1,7 +1,0 @@
-use Rattle.std.proofs.Common.{◌≡◌, ◌-◌, [], map}
-use Rattle.segment_core.specs.Format.{read_all}
-use Rattle.part_file.specs.PartBytes.{entry_of, group}
-use Rattle.part_file.proofs.group_reading.read_group_list.Given as goal
-
-abbrev pub invariant-loop : goal.invariant-loop
-invariant-loop l = read_all group (l.count - l.counter) (map entry_of l.groups.entries) l.total l.rest ≡ read_all group l.count [] l.total l.bytes

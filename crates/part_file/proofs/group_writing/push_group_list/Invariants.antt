@@ -1,7 +1,0 @@
-use Rattle.std.proofs.Common.{◌≡◌, ◌++◌}
-use Rattle.part_file.proofs.Spelled.{group_bytes}
-use Rattle.part_file.proofs.Written.{have_bytes}
-use Rattle.part_file.proofs.group_writing.push_group_list.Given as goal
-
-abbrev pub invariant-loop-key : goal.invariant-loop-key
-invariant-loop-key l = (l.bytes.items ++ group_bytes l.key-iterator ≡ l.initial.bytes.items ++ group_bytes l.all.entries) × (have_bytes l.all.entries ≡ have_bytes l.key-iterator)

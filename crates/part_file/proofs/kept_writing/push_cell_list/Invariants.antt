@@ -1,7 +1,0 @@
-use Rattle.std.proofs.Common.{◌≡◌, ◌++◌, IsTrue, take}
-use Rattle.std.specs.List.{flat_map, list_all}
-use Rattle.part_file.specs.PartBytes.{cell}
-use Rattle.part_file.proofs.kept_writing.push_cell_list.Given as goal
-
-abbrev pub invariant-loop-one : goal.invariant-loop-one
-invariant-loop-one l = (l.bytes.items ≡ l.initial.bytes.items ++ flat_map cell.spell (take l.one-index l.cells)) × IsTrue (list_all cell.valid (take l.one-index l.cells))

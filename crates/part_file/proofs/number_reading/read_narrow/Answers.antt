@@ -1,5 +1,0 @@
-use Rattle.std.proofs.Common.{inr, refl}
-use Rattle.part_file.proofs.number_reading.read_narrow.Goals as goal
-
-pub wrap-requires : goal.wrap-requires
-wrap-requires c = inr (inr (inr refl))

@@ -1,7 +1,0 @@
-use Rattle.std.proofs.Common.{◌≡◌, ◌-◌, []}
-use Rattle.segment_core.specs.Format.{read_all}
-use Rattle.part_file.specs.PartBytes.{run}
-use Rattle.part_file.proofs.run_reading.read_run_list.Given as goal
-
-abbrev pub invariant-loop : goal.invariant-loop
-invariant-loop l = read_all run (l.count - l.counter) l.found.items l.total l.rest ≡ read_all run l.count [] l.total l.bytes

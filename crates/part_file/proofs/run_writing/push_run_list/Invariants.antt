@@ -1,7 +1,0 @@
-use Rattle.std.proofs.Common.{◌≡◌, ◌++◌, [], take}
-use Rattle.std.specs.List.{flat_map}
-use Rattle.part_file.specs.PartBytes.{run}
-use Rattle.part_file.proofs.run_writing.push_run_list.Given as goal
-
-abbrev pub invariant-loop-one : goal.invariant-loop-one
-invariant-loop-one l = l.bytes.items ≡ l.initial.bytes.items ++ flat_map (run []).spell (take l.one-index l.all)

@@ -1,2 +1,0 @@
-pub mod PartBytes
-pub mod PartReading

@@ -1,0 +1,12 @@
+pub mod Measures
+pub mod PartialAnswer
+pub mod PartialAnswerLaws
+pub mod Counted
+pub mod Evaluated
+pub mod Kept
+pub mod Groups
+pub mod Between
+pub mod Refusing
+pub mod Shape
+pub mod Combining
+pub mod Kinds

@@ -1,0 +1,4 @@
+pub mod StorePartialAnswer
+pub mod FilePartialAnswers
+pub mod PartialAnswerTurns
+pub mod PartialCommandLaws

@@ -1,0 +1,9 @@
+pub mod FaultsOfPartialAnswers
+pub mod GroupLists
+pub mod PartialAnswerLaws
+pub mod PartialAnswersRead
+pub mod Rising
+pub mod RunLists
+pub mod Spelled
+pub mod Written
+pub mod WrittenPartialAnswers

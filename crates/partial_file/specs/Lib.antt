@@ -1,0 +1,2 @@
+pub mod PartialAnswerBytes
+pub mod PartialAnswerReading

@@ -1,2 +1,0 @@
-pub mod PlainRows
-pub mod PlainCoding

@@ -1,0 +1,91 @@
+"""The arguments of calls, which are judged by their names before anything else is done."""
+
+from __future__ import annotations
+
+import operator
+import os
+from typing import Any, Iterable, Type, TypeVar
+
+_One = TypeVar("_One")
+
+
+def is_of(name: str, kind: Type[_One], given: object) -> _One:
+    """An argument of a class of this module.
+
+    Raises:
+        TypeError: it is of another one.
+    """
+    if not isinstance(given, kind):
+        raise wrong(name, f"a {kind.__name__}", given)
+    return given
+
+
+def text_of(name: str, given: object) -> bytes:
+    """The bytes of a text.
+
+    Raises:
+        TypeError: it is none.
+        ValueError: it has half a surrogate pair.
+    """
+    if not isinstance(given, str):
+        raise wrong(name, "a text", given)
+    try:
+        return given.encode()
+    except UnicodeEncodeError as fault:
+        raise ValueError(f"{name}: {given[fault.start : fault.end]!r} is no character") from None
+
+
+def bytes_of(name: str, given: object) -> bytes:
+    """Bytes that were given; a number is none.
+
+    Raises:
+        TypeError: they are none.
+    """
+    if isinstance(given, bytes):
+        return given
+    if isinstance(given, (bytearray, memoryview)):
+        return bytes(given)
+    raise wrong(name, "bytes", given, "are")
+
+
+def path_of(name: str, given: Any) -> str:
+    """A path as a text.
+
+    Raises:
+        TypeError: it is none; a number is none.
+        ValueError: it has a byte 0.
+    """
+    if not isinstance(given, (str, bytes, os.PathLike)):
+        raise wrong(name, "a path", given)
+    path = os.fsdecode(given)
+    if "\0" in path:
+        raise ValueError(f"{name}: {path!r} has a byte 0, so it is no path")
+    return path
+
+
+def number_of(name: str, given: Any) -> int:
+    """A whole number.
+
+    Raises:
+        TypeError: it is none.
+    """
+    try:
+        return operator.index(given)
+    except TypeError:
+        raise wrong(name, "a whole number", given) from None
+
+
+def several(name: str, what: str, given: Any) -> list[Any]:
+    """The members of a list, a tuple or anything else that has several.
+
+    Raises:
+        TypeError: it is one text, or bytes, or nothing that has several.
+    """
+    if isinstance(given, (str, bytes, bytearray, memoryview)) or not isinstance(given, Iterable):
+        raise wrong(name, what, given, "are")
+    return list(given)
+
+
+def wrong(name: str, what: str, given: object, verb: str = "is") -> TypeError:
+    """What is raised of an argument of another type than the one that is wanted."""
+    return TypeError(f"{name}: {what} {verb} wanted here, and this is of type {type(given).__name__}")
