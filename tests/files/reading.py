@@ -147,6 +147,7 @@ def at_a_terminal(room, *words, pieces, pause):
 
 
 CLEAR = b"\r\x1b[K"
+UNSYNCED = b"d: nothing was added, but the parts or the folder could not be synced: a loss of power may take parts away\r\n"
 
 
 def a_slow_reading_says_at_a_terminal_how_far_it_is_and_clears_the_line(room):
@@ -223,7 +224,9 @@ def a_folder_that_opens_slowly_says_which_part_is_read(room):
     for words in (("query", "d", "SELECT COUNT(*) FROM T"), ("check", "d"), ("dump", "d"), ("inspect", "d"), ("summary", "d")):
         shown, status = at_a_terminal(room, *words, pieces=[held[:8], held[8:-1], held[-1:]], pause=1.2)
         assert status == 0 and shown.startswith(CLEAR + b"reading d: part 2 of 4" + CLEAR) and shown.endswith(CLEAR), f"{words} ended with {status} and showed {shown!r}"
-    # It finds a row: a delete that finds none syncs each part, and this part is a pipe.
+    # A delete that finds no row syncs each part. This one is a pipe, which is not opened a second time.
+    shown, status = at_a_terminal(room, "delete", "--quiet", "d", "A = 9", pieces=[held[:8], held[8:-1], held[-1:]], pause=1.2)
+    assert status == 0 and shown == UNSYNCED, f"a delete of no row ended with {status} and showed {shown!r}"
     shown, status = at_a_terminal(room, "delete", "--quiet", "d", "A = 1", pieces=[held[:8], held[8:-1], held[-1:]], pause=1.2)
     assert status == 0 and shown == b"", f"with --quiet it showed {shown!r}"
 

@@ -42,14 +42,13 @@ const COMBINE_HELP: &str =
     "Combines the partial answers of several files, for lanes finish\n\nUsage: lanes combine <PARTIAL>...\n\nArguments:\n  <PARTIAL>...  The partial answers that are combined, or - for standard input\n\nOptions:\n  -h, --help  Print help\n\nThe partial answers are of one query, and of files that share no batch. Their order does not matter. What is written is a partial\nanswer too.\n";
 
 // Help names each command and shows a script; a fault names what is wrong, the usage, and where help is.
-const TEXTS: [(&[&str], &str); 17] = [
+const TEXTS: [(&[&str], &str); 16] = [
     (&["lanes", "--help"], PROGRAM_HELP),
     (&["lanes", "help"], PROGRAM_HELP),
     (&["lanes", "run", "--help"], RUN_HELP),
     (&["lanes", "merge", "--help"], MERGE_HELP),
     (&["lanes", "pack", "--help"], PACK_HELP),
     (&["lanes", "partial", "--help"], PARTIAL_HELP),
-    (&["lanes", "part", "--help"], PARTIAL_HELP),
     (&["lanes", "combine", "--help"], COMBINE_HELP),
     (&["lanes", "--version"], "lanes 0.6.0\n"),
     (
