@@ -147,7 +147,7 @@ def at_a_terminal(room, *words, pieces, pause):
 
 
 CLEAR = b"\r\x1b[K"
-UNSYNCED = b"d: nothing was added, but the parts or the folder could not be synced: a loss of power may take parts away\r\n"
+UNSYNCED = b"d: nothing was added, but the parts or the folder could not be synced: a loss of power may take parts away\n"
 
 
 def a_slow_reading_says_at_a_terminal_how_far_it_is_and_clears_the_line(room):
