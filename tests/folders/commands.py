@@ -44,6 +44,11 @@ def each_command_says_of_a_folder_what_it_says_of_a_file(room):
         ("delete-rows", "9.9", "3", "5"),
         ("apply", "o"),
         ("apply", "o"),
+        ("forget",),
+        ("delete", "B = 10"),
+        ("forget",),
+        ("forget",),
+        ("import", "--no-header", "--batch", "1.2", b"5,10\n"),
     )
     for step in steps:
         given = step[-1] if isinstance(step[-1], bytes) else b""
@@ -124,8 +129,6 @@ def files_and_folders_merge_to_each_other(room):
     room.refused("merge", "f/", "none", line="refused ReadFault")
     status, _, err = room.run("merge", "f", "d")
     assert status == 2 and b"OUT is a folder" in err, f"it ended with {status} and said {err!r}"
-    status, _, err = room.run("forget", "f")
-    assert status == 2 and b"a forget takes a file" in err, f"it ended with {status} and said {err!r}"
     room.make("t", rows=b"1,1\n")
     room.refused("merge", "m", "t", "d", line="refused Conflict 1.1")
     room.ok("merge", "m", "m", "d", prints=b"ok\n")
