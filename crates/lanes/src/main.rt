@@ -4,6 +4,7 @@
 mod change;
 mod changing;
 mod checked_part;
+mod dead_rows;
 mod failure;
 mod folder_changes;
 mod folder_reports;
