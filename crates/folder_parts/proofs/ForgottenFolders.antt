@@ -1,7 +1,7 @@
 -- Folders in which batches were forgotten: their join is what is left of the state of all that their parts represent.
 use Rattle.std.specs.Prelude.{◌≡◌, ◌≢◌, ◌⊎◌, ℕ, Bool, true, false, List, [], ◌∷◌, ◌++◌, map as each, Option, Ok}
 use Rattle.std.proofs.Common.{refl, sym, ap, subst, ◌∙◌, inl, inr, append_assoc}
-use Rattle.table_model.specs.Operation.{Operation, Among, AreAgreeing, SameOperations, state_of}
+use Rattle.table_model.specs.Operation.{Operation, Insert, Among, AreAgreeing, SameOperations, state_of}
 use Rattle.table_model.specs.State.{live_rows}
 use Rattle.table_model.specs.Table.{Table}
 use Rattle.table_model.proofs.Operations.{state_of-same}
@@ -80,7 +80,7 @@ forget_appends first others table ops sets whole part dropped true before now do
 -- ---- next to other parts
 
 same_agree : (xs ys : List Operation) → SameOperations xs ys → AreAgreeing ys → AreAgreeing xs
-same_agree xs ys same agree name a b g h = agree name a b ((same _).0 g) ((same _).0 h)
+same_agree xs ys same agree name a b g h = agree name a b ((same (Insert name a)).0 g) ((same (Insert name b)).0 h)
 
 alike : (table : Table) (ops others : List Operation) (one two : Replica) → Rests table ops one → Rests table others two → AreAgreeing ops → SameOperations ops others → AreAlike one two
 alike table ops others one two ours theirs agree same =
@@ -123,7 +123,7 @@ forget_keeps first others rest table ops sets rest_sets left before beside after
 -- ---- what is removed
 
 within_agree : (ops world : List Operation) → Within ops world → AreAgreeing world → AreAgreeing ops
-within_agree ops world within agree name a b g h = agree name a b (within _ g) (within _ h)
+within_agree ops world within agree name a b g h = agree name a b (within (Insert name a) g) (within (Insert name b) h)
 
 module _ (table : Table) (world : List Operation) (stands : List ℕ → List Operation) (whole : List Event) (given : IsGiven table world stands whole) where
   each_stands : (files : List (List ℕ)) → AllCame files whole → EachStandsFor files table (each stands files)
@@ -141,38 +141,40 @@ module _ (table : Table) (world : List Operation) (stands : List ℕ → List Op
       among_second op (all_of (each stands files)) (stands file) (subst (λ (f : List ℕ). Among op (stands f)) same h)
   one_within gone (file ∷ files) (inr one) op h = among_first op (all_of (each stands files)) (stands file) (one_within gone files one op h)
 
+  lift_all : (files : List (List ℕ)) (events : List Event) → ((file : List ℕ) → Came file events → Came file whole) → AllCame files events → AllCame files whole
+  lift_all [] events lift came = tt
+  lift_all (file ∷ files) events lift came = (lift file came.0, lift_all files events lift came.1)
+
+  -- all that some files represent
+  abbrev joined : List ℕ → List (List ℕ) → List Operation
+  joined first others = folder_operations (stands first) (each stands others)
+
+  folder : (first : List ℕ) (others : List (List ℕ)) → AllCame (first ∷ others) whole → FolderStandsFor first others table (stands first) (each stands others)
+  folder first others came = record {
+    head = given.stands_for first came.0;
+    rest = each_stands others came.1;
+    agree = within_agree (joined first others) world (all_within (first ∷ others) came) given.agree;
+  }
+
+  made_stands : (first : List ℕ) (others : List (List ℕ)) (new : Replica) → AllCame (first ∷ others) whole → Joins first others new ⊎ Forgets first others new → StandsFor (file_of new) table (joined first others)
+  made_stands first others new came (inl joins) = join_stands first others table (stands first) (each stands others) new (folder first others came) joins
+  made_stands first others new came (inr forgets) = forget_stands first others table (stands first) (each stands others) new (folder first others came) forgets
+
+  -- the new file is another one than one that is removed
+  apart : (gone : List ℕ) (events : List Event) (replaced : IsReplaced gone events) → file_of replaced.new ≢ gone
+  apart gone events replaced = λ same.
+      let names : List (List ℕ) = each part_name (replaced.first ∷ replaced.others) in
+      let new : List ℕ = part_name (file_of replaced.new) in
+      let wrong : true ≡ false = sym replaced.removed ∙ ap (λ (file : List ℕ). is_removed names new (part_name file)) (sym same) ∙ not_itself names new in
+      cc
+
   covered : (gone : List ℕ) (events : List Event) → ((file : List ℕ) → Came file events → Came file whole) → IsReplaced gone events → IsCoveredThere stands gone events
-  covered gone events lift replaced = (file_of replaced.new, replaced.there, apart, λ op h. there op (one_within gone (replaced.first ∷ replaced.others) replaced.joined op h))
-    where
-      came : AllCame (replaced.first ∷ replaced.others) whole
-      came = all_came (replaced.first ∷ replaced.others) replaced.came
-        where
-          all_came : (files : List (List ℕ)) → AllCame files events → AllCame files whole
-          all_came [] some = tt
-          all_came (file ∷ files) some = (lift file some.0, all_came files some.1)
-
-      joined : List Operation
-      joined = folder_operations (stands replaced.first) (each stands replaced.others)
-
-      within : Within joined world
-      within = all_within (replaced.first ∷ replaced.others) came
-
-      folder : FolderStandsFor replaced.first replaced.others table (stands replaced.first) (each stands replaced.others)
-      folder = record { head = given.stands_for replaced.first came.0; rest = each_stands replaced.others came.1; agree = within_agree joined world within given.agree }
-
-      new_stands : Joins replaced.first replaced.others replaced.new ⊎ Forgets replaced.first replaced.others replaced.new → StandsFor (file_of replaced.new) table joined
-      new_stands (inl joins) = join_stands replaced.first replaced.others table (stands replaced.first) (each stands replaced.others) replaced.new folder joins
-      new_stands (inr forgets) = forget_stands replaced.first replaced.others table (stands replaced.first) (each stands replaced.others) replaced.new folder forgets
-
-      there : Within joined (stands (file_of replaced.new))
-      there = given.most (file_of replaced.new) joined (lift (file_of replaced.new) (there_came (file_of replaced.new) events replaced.there)) (new_stands replaced.made) within
-
-      apart : file_of replaced.new ≢ gone
-      apart = λ same.
-          let names : List (List ℕ) = each part_name (replaced.first ∷ replaced.others) in
-          let wrong : true ≡ false =
-          sym replaced.removed ∙ ap (λ (file : List ℕ). is_removed names (part_name (file_of replaced.new)) (part_name file)) (sym same) ∙ not_itself names (part_name (file_of replaced.new)) in
-          cc
+  covered gone events lift replaced =
+      let new : List ℕ = file_of replaced.new in
+      let came : AllCame (replaced.first ∷ replaced.others) whole = lift_all (replaced.first ∷ replaced.others) events lift replaced.came in
+      let most : Within (joined replaced.first replaced.others) (stands new) =
+      given.most new (joined replaced.first replaced.others) (lift new (there_came new events replaced.there)) (made_stands replaced.first replaced.others replaced.new came replaced.made) (all_within (replaced.first ∷ replaced.others) came) in
+      (new, replaced.there, apart gone events replaced, λ op h. most op (one_within gone (replaced.first ∷ replaced.others) replaced.joined op h))
 
   are_covered : (events : List Event) → ((file : List ℕ) → Came file events → Came file whole) → AreReplaced events → AreCoveredThere stands events
   are_covered [] lift replaced = tt

@@ -13,7 +13,7 @@ use Rattle.replica_files.specs.ForgetFileLaws.{StandsFor, EachStandsFor}
 use Rattle.replica_files.specs.FileLaws.{all_of}
 use Rattle.replica_files.specs.Forgetting.{forgetting}
 use Rattle.folder_parts.specs.FolderLaws.{Joins, FolderHolds, folder_operations, IsOneOf}
-use Rattle.folder_parts.specs.Folders.{Within, Event, Comes, Goes, Came, IsThere, IsHeld, WasBrought, AreCoveredThere, NothingIsLostThere}
+use Rattle.folder_parts.specs.Folders.{Within, Event, Comes, Goes, Came, IsThere, IsHeld, WasBrought, NothingIsLostThere}
 use Rattle.folder_parts.specs.Packing.{is_removed}
 use Rattle.folder_parts.specs.PartName.{part_name}
 
