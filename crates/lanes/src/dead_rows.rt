@@ -71,16 +71,16 @@ fn is_of(name: BatchName, done: Imported) -> bool {
 }
 
 /// Whether the file of a path, which is one of a table, has deletions.
-fn has_deletions<R: Files>(rt: &R, path: &str) -> io::Result<bool> {
+fn has_deletions<R: Files + AllocGlobal>(rt: &R, path: &str) -> io::Result<bool> {
     let mut file = fs::open(rt, path)?;
-    let mut piece = [0u8; PIECE];
+    let mut piece = vec![in rt.alloc(); 0u8; PIECE]?;
     let mut zeros = 0usize;
     for _ in 0..u64::MAX {
-        let count = file.read(&mut piece)?;
+        let count = file.read(piece.as_mut_slice())?;
         if count == 0 {
             break;
         }
-        let read = piece.get(..count).unwrap_or(&[]);
+        let read = piece.as_slice().get(..count).unwrap_or(&[]);
         zeros = zeros_at_end(read, zeros);
     }
     Ok(zeros < COUNT_BYTES)
