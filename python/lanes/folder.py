@@ -186,19 +186,43 @@ class Folder:
         removes temporaries that a killed process left.
 
         Raises:
-            Busy: others have had the folder for ten seconds. The joined part is there, and nothing is removed.
+            Busy: others have had the folder for ten seconds, and nothing is put or removed; or parts have come and gone for so long.
             OSError: the joined part, or the folder, can't be written or synced, and nothing is removed; or a part can't be removed.
         """
         part_folder.sweep(self.path)
-        removed = 0
+        removed, wait = 0, self._wait()
         while True:
             names = self._chosen(everything)
             if len(names) < 2:
                 break
-            removed += self._pack(names)
+            count = self._pack(names)
+            if count is None:
+                wait.again()
+                continue
+            removed, wait = removed + count, self._wait()
             if everything:
                 break
         return len(part_folder.listed(self.path)), removed
+
+    def forget(self) -> int:
+        """Drops the batches of which every row is deleted; how many there were. All parts are joined into one, and removed. Their deletions
+        stay, so that these rows never come back, and no answer changes. If there is no such batch, nothing is put or removed, and what the
+        folder holds is on the disk afterwards. docs/FOLDERS.md, "Forgetting", says when to forget.
+
+        Raises:
+            Busy: others have had the folder for ten seconds, and nothing is put or removed; or parts have come and gone for so long.
+            OSError: the new part, or the folder, can't be written or synced, and nothing is removed; or a part can't be removed.
+        """
+        wait = self._wait()
+        while True:
+            held, names = self._joined()
+            left = held.forget()
+            if left == held:
+                if self._settle(names):
+                    return 0
+            elif part_folder.replace(self.path, left.to_bytes(), names) is not None:
+                return held.check()[0] - left.check()[0]
+            wait.again()
 
     def parts(self) -> list[str]:
         """The names of the parts, in ascending order."""
@@ -250,7 +274,7 @@ class Folder:
             FileNotFoundError: there is no part, or one is a link that leads nowhere.
             Busy: parts have come and gone for ten seconds.
         """
-        wait = Wait("parts of this folder come and go", self.path)
+        wait = self._wait()
         while True:
             names = part_folder.listed(self.path)
             if not names:
@@ -394,19 +418,20 @@ class Folder:
             before += size
         return [name for _, name in (sized if everything else sized[:count])]
 
-    def _pack(self, names: list[str]) -> int:
-        """Joins parts into one and removes them, but for the one that is the join itself; how many were removed."""
-        names = list(names)
-        while len(names) > 1:
-            try:
-                joined = self._join(names)
-            except FileNotFoundError as gone:
-                names.remove(os.path.basename(gone.filename))
-                continue
-            pack = part_folder.put(self.path, joined.to_bytes(), is_strict=True)
-            removed = [name for name in names if name != pack]
-            return len(removed) if part_folder.remove_joined(self.path, removed, pack) else 0
-        return 0
+    def _pack(self, names: list[str]) -> Optional[int]:
+        """Joins parts into one and removes them, but for the one that is the join itself; how many were removed. None if a pack or a forget
+        was here meanwhile."""
+        try:
+            joined = self._join(names)
+        except FileNotFoundError as gone:
+            if part_folder.leads_nowhere(gone.filename):
+                raise
+            return None
+        return part_folder.replace(self.path, joined.to_bytes(), names)
+
+    def _wait(self) -> Wait:
+        """A wait for others, who take parts away."""
+        return Wait("parts of this folder come and go", self.path)
 
 
 def _empty_of(table: Table) -> Table:

@@ -183,18 +183,18 @@ class Temporary:
         self._file = self._opened = -1
 
 
-def put(folder: str, data: bytes, *, is_strict: bool = False) -> str:
+def put(folder: str, data: bytes) -> str:
     """Puts bytes into a folder as a part, unless it has it; its name.
 
     Raises:
         Damaged: the part of this name has other bytes.
-        OSError: the part can't be written; or, if the call is strict, it is there and can't be synced, or its folder can't.
+        OSError: the part can't be written.
     """
     name = part_name(data)
     for _ in range(_TRIES):
         temporary = Temporary(folder, data)
         try:
-            if temporary.place(name, is_strict=is_strict) or keep(folder, name, is_strict=is_strict):
+            if temporary.place(name) or keep(folder, name):
                 return name
         except BaseException:
             temporary.discard()
@@ -272,25 +272,44 @@ def make(folder: str, data: bytes) -> None:
         os.close(outer)
 
 
-def remove_joined(folder: str, names: Iterable[str], pack: str) -> bool:
-    """Removes parts of which a pack is the join, under the exclusive lock of the folder, once the pack is seen to be there and on the disk.
-    A part that is gone is no matter. If the pack is gone, it was packed itself: nothing is removed, and the answer is False.
+def replace(folder: str, data: bytes, joined: Iterable[str]) -> Optional[int]:
+    """Puts a part in the place of those that were read to make it; how many of these were removed. It is written first; then, under the
+    exclusive lock of the folder, they are seen to be there, it is given its name and is seen to be on the disk, and they are removed, but
+    for the one that is the part itself. If one of them is gone, or the part itself, a pack or a forget was here: none is removed.
 
     Raises:
-        Busy: others have had the folder for ten seconds. Nothing is removed then.
-        Damaged: the pack has other bytes than its name says. Nothing is removed then.
-        OSError: the pack can't be read or synced, or the file system has no such lock, and nothing is removed; or a part can't be removed.
+        Busy: others have had the folder for ten seconds. Nothing is put or removed then.
+        Damaged: the part of this name has other bytes. Nothing is removed then.
+        OSError: the part can't be written, or the file system has no such lock, and nothing is put; or the part or the folder can't be
+            synced, and nothing is removed; or a part can't be removed.
     """
-    with locked(folder, fcntl.LOCK_EX) as is_locked:
-        if not is_locked:
-            raise OSError(errno.ENOLCK, "the folder can't be locked, so no part is removed", folder)
-        if not keep(folder, pack, is_strict=True):
-            return False
-        for name in names:
-            with contextlib.suppress(FileNotFoundError):
-                os.unlink(os.path.join(folder, name))
-        _sync_folder(folder, folder, True)
-    return True
+    name, others = part_name(data), list(joined)
+    temporary = Temporary(folder, data)
+    try:
+        with locked(folder, fcntl.LOCK_EX) as is_locked:
+            if not is_locked:
+                raise OSError(errno.ENOLCK, "the folder can't be locked, so no part is removed", folder)
+            if not set(others) <= set(names_in(folder)):
+                temporary.discard()
+                return None
+            temporary.place(name, is_strict=True)
+            if not keep(folder, name, is_strict=True):
+                return None
+            return _remove(folder, [other for other in others if other != name])
+    except BaseException:
+        temporary.discard()
+        raise
+    finally:
+        temporary.close()
+
+
+def _remove(folder: str, names: list[str]) -> int:
+    """Removes parts from a folder whose exclusive lock is had; how many they are. One that is gone is no matter."""
+    for name in names:
+        with contextlib.suppress(FileNotFoundError):
+            os.unlink(os.path.join(folder, name))
+    _sync_folder(folder, folder, True)
+    return len(names)
 
 
 def sweep(folder: str) -> None:

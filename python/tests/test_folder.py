@@ -398,9 +398,9 @@ class OnTheDisk(InFolder):
         for step in [
             r"write\(\d+<[^>]*\.part-",
             r"fsync\(\d+<[^>]*\.part-",
+            rf"flock\(\d+<{folder}>, LOCK_EX",
             rf"link.*\.part-.*{joined}",
             rf"fsync\(\d+<{folder}>\) += 0",
-            rf"flock\(\d+<{folder}>, LOCK_EX",
             rf"fsync\(\d+<[^>]*{joined}>\) += 0",
             rf"fsync\(\d+<{folder}>\) += 0",
             r"unlink.*\.lanes",
@@ -456,23 +456,23 @@ class Packs(InFolder):
         for number in range(1, 4):
             self.folder.import_csv(f"{number},1\n", heading=False, batch=(1, number))
         before, joined = self.folder.parts(), part_folder.part_name(self.folder.read().to_bytes())
-        put = part_folder.put
+        keep = part_folder.keep
 
-        def spoiled(folder: str, data: bytes, **more: bool) -> str:
-            name = put(folder, data, **more)
-            pathlib.Path(folder, name).write_bytes(data[:-1])
-            return name
+        def spoiled(folder: str, name: str, **more: bool) -> bool:
+            path = pathlib.Path(folder, name)
+            path.write_bytes(path.read_bytes()[:-1])
+            return keep(folder, name, **more)
 
-        def lost(folder: str, data: bytes, **more: bool) -> str:
-            name = put(folder, data, **more)
+        def lost(folder: str, name: str, **more: bool) -> bool:
             os.unlink(os.path.join(folder, name))
-            return name
+            return keep(folder, name, **more)
 
-        with unittest.mock.patch.object(part_folder, "put", spoiled), self.assertRaises(Damaged):
+        with unittest.mock.patch.object(part_folder, "keep", spoiled), self.assertRaises(Damaged):
             self.folder.pack(everything=True)
         os.unlink(os.path.join(self.path, joined))
-        with unittest.mock.patch.object(part_folder, "put", lost):
-            self.assertEqual(self.folder.pack(everything=True), (len(before), 0))
+        self.assertEqual(self.folder.parts(), before)
+        with unittest.mock.patch.object(part_folder, "keep", lost), unittest.mock.patch.object(waiting, "LONGEST", 0.1), self.assertRaises(Busy):
+            self.folder.pack(everything=True)
         self.assertEqual(self.folder.parts(), before)
 
     def test_small_parts_are_joined_and_large_ones_stay(self) -> None:
@@ -517,8 +517,7 @@ class Packs(InFolder):
             ):
                 with self.assertRaises(Busy):
                     act()
-            joined = part_folder.part_name(self.folder.read().to_bytes())  # it is one of those before
-            self.assertEqual((len(self.folder.read()), self.folder.parts()), (1, sorted({*before, joined})))
+            self.assertEqual((len(self.folder.read()), self.folder.parts()), (1, before))
         with part_folder.locked(self.path, fcntl.LOCK_EX), unittest.mock.patch.object(waiting, "LONGEST", 0.1):
             with self.assertRaises(Busy):
                 self.folder.read()
@@ -554,7 +553,122 @@ class Packs(InFolder):
             self.assertEqual(os.listdir(self.room), ["site"])
 
 
+class Forgets(InFolder):
+    def half_dead(self) -> Table:
+        """A folder of three loads, of which the second is deleted: what a table leaves of it that forgets."""
+        for number in range(1, 4):
+            self.folder.import_csv(f"{number},1\n{number},2\n", heading=False, batch=(1, number))
+        self.folder.delete_rows("1.2", 0, 65_535)
+        self.folder.delete("A = 1 AND B = 1")
+        return self.folder.read().forget()
+
+    def test_a_forget_drops_the_batches_of_which_every_row_is_deleted(self) -> None:
+        self.assertEqual(self.folder.forget(), 0)
+        left = self.half_dead()
+        rows = self.folder.read().dump(names=True)
+        self.assertEqual(self.folder.forget(), 1)
+        self.assertEqual(self.folder.parts(), [part_folder.part_name(left.to_bytes())])
+        self.assertEqual((self.folder.read(), self.folder.read().dump(names=True)), (left, rows))
+        self.only_parts(1)
+        self.assertEqual((self.folder.forget(), self.folder.parts()), (0, [part_folder.part_name(left.to_bytes())]))
+        self.folder.delete("A > 0")
+        self.assertEqual((self.folder.forget(), len(self.folder), self.folder.read().check()[0]), (2, 0, 0))
+
+    def test_a_forget_of_nothing_has_what_is_there_on_the_disk(self) -> None:
+        self.folder.import_csv("1,1\n", heading=False, batch="1.1")
+        parts = self.folder.parts()
+        *synced, last = Syncs().of(self.folder.forget)
+        self.assertEqual((sorted(synced), last, self.folder.parts()), (parts, "site", parts))
+        with self.assertWarns(RuntimeWarning):
+            Syncs(fails_at=1).of(self.folder.forget)
+
+    def test_a_forget_that_is_not_on_the_disk_removes_nothing(self) -> None:
+        part = part_folder.part_name(self.half_dead().to_bytes())
+        before, rows = self.folder.parts(), self.folder.read().dump(names=True)
+        for fails_at in range(1, 5):
+            with self.subTest(fails_at=fails_at), self.assertRaises(OSError):
+                Syncs(fails_at).of(self.folder.forget)
+            self.assertEqual([name for name in self.folder.parts() if name != part], before)
+            self.assertEqual(self.folder.read().dump(names=True), rows)
+            with contextlib.suppress(FileNotFoundError):
+                os.unlink(os.path.join(self.path, part))
+        self.assertEqual(Syncs().of(self.folder.forget)[1:], ["site", part, "site", "site"])
+        self.assertEqual((self.folder.parts(), self.folder.read().dump(names=True)), ([part], rows))
+
+    def test_a_forget_that_is_not_locked_changes_nothing(self) -> None:
+        self.half_dead()
+        before = os.listdir(self.path)
+        with part_folder.locked(self.path, fcntl.LOCK_SH), unittest.mock.patch.object(waiting, "LONGEST", 0.1), self.assertRaises(Busy):
+            self.folder.forget()
+        with unittest.mock.patch.object(part_folder.fcntl, "flock", side_effect=OSError(95, "no locks")), self.assertRaises(OSError):
+            self.folder.forget()
+        self.assertEqual(sorted(os.listdir(self.path)), sorted(before))
+
+    def test_a_pack_or_a_forget_that_others_came_before_looks_again(self) -> None:
+        """What the one has read the other has replaced: what was dropped is not brought back, and what came meanwhile stays."""
+        replace = part_folder.replace
+        for act, other in (
+            (lambda: self.folder.pack(everything=True), lambda: self.folder.forget()),
+            (self.folder.forget, lambda: self.folder.pack(everything=True)),
+            (self.folder.forget, lambda: self.folder.forget()),
+        ):
+            self.half_dead()
+            late = []
+
+            def meanwhile(folder: str, data: bytes, joined: list[str]) -> object:
+                if not late:
+                    late.append(joined)
+                    with unittest.mock.patch.object(part_folder, "replace", replace):
+                        other()
+                        self.folder.import_csv("9,9\n", heading=False, batch="9.9")
+                return replace(folder, data, joined)
+
+            with unittest.mock.patch.object(part_folder, "replace", meanwhile):
+                act()
+            held = self.folder.read()
+            self.assertTrue(late)
+            self.assertEqual((len(held), held.forget()), (4, held))
+            for name in self.folder.parts():
+                os.unlink(os.path.join(self.path, name))
+            part_folder.put(self.path, self.empty.to_bytes())
+
+
 class AtOnce(InFolder):
+    def test_forgets_beside_loads_deletes_and_packs_lose_nothing(self) -> None:
+        failures: list[BaseException] = []
+
+        def guarded(act: Callable[[], object]) -> None:
+            try:
+                act()
+            except BaseException as fault:
+                failures.append(fault)
+
+        def load() -> None:
+            for number in range(1, 21):
+                Folder(self.path).import_csv(f"{number},1\n", heading=False, batch=(1, number))
+
+        def drop() -> None:
+            for number in range(1, 21):
+                Folder(self.path).import_csv(f"{number},2\n", heading=False, batch=(2, number))
+                Folder(self.path).delete("B = 2")
+
+        def forget() -> None:
+            for _ in range(12):
+                Folder(self.path).forget()
+
+        def pack() -> None:
+            for at in range(12):
+                Folder(self.path).pack(everything=at % 2 == 0)
+
+        threads = [threading.Thread(target=guarded, args=(act,)) for act in (load, drop, forget, forget, pack)]
+        for thread in threads:
+            thread.start()
+        for thread in threads:
+            thread.join(300)
+        self.assertEqual(failures, [])
+        self.folder.forget()
+        self.assertEqual((self.folder.query("SELECT B,COUNT(*),SUM(A) FROM T GROUP BY B"), self.folder.read().check()[0]), ([(1, 20, 210)], 20))
+
     def test_loads_deletes_and_packs_at_once_lose_nothing(self) -> None:
         failures: list[BaseException] = []
 
@@ -705,6 +819,11 @@ class BesideTheProgram(InFolder):
         self.assertEqual(sorted(os.listdir(other)), self.folder.parts())
         self.program("merge", "whole", "site")
         self.assertEqual(Table.open(os.path.join(self.room, "whole")), self.folder.read())
+        if "folder" in self.program("forget", "--help"):
+            self.folder.delete("A = 1 OR A > 2")
+            self.program("delete", "other", "A = 1 OR A > 2")
+            self.assertIn(f"ok batches={self.folder.forget()} rows=", self.program("forget", "other"))
+            self.assertEqual(sorted(os.listdir(other)), self.folder.parts())
 
     def test_both_may_change_a_folder_at_once(self) -> None:
         def python() -> None:

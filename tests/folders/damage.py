@@ -5,7 +5,7 @@ import os
 from parts import count, make_folder, name_of, parts_of
 
 DAMAGED = "its bytes are not those of its name: copy it again, or remove it"
-READERS = (("check", "d"), ("query", "d", "SELECT COUNT(*) FROM T"), ("dump", "d"), ("inspect", "d"), ("summary", "d"), ("delete", "d", "A = 1"), ("merge", "m", "d"), ("pack", "--all", "d"))
+READERS = (("check", "d"), ("query", "d", "SELECT COUNT(*) FROM T"), ("dump", "d"), ("inspect", "d"), ("summary", "d"), ("delete", "d", "A = 1"), ("merge", "m", "d"), ("pack", "--all", "d"), ("forget", "d"))
 
 
 def a_flipped_bit_is_seen_by_each_command_and_named(room):

@@ -34,6 +34,7 @@ def a_quiet_command_does_the_same_and_says_nothing(room):
                 ("delete", f"{name}{end}", "A = 1"),
                 ("delete-rows", f"{name}{end}", "2.2", "0", "65535"),
                 ("apply", f"{name}{end}", "p"),
+                ("forget", f"{name}{end}"),
                 ("pack", "--all", f"{name}{end}") if end else ("forget", name),
                 ("merge", f"{name}-m{end}", f"{name}{end}", "o"),
                 ("merge", f"{name}-m", f"{name}-m", "o") if not end else ("merge", f"{name}-n/", "o"),

@@ -78,9 +78,10 @@ def a_pack_is_on_the_disk_before_anything_is_removed_under_the_lock(room):
         trace,
         (
             r"fsync\(.*\.part-[0-9a-f]{16}>\) += 0",
+            r"flock\(.*/d>, LOCK_EX\|LOCK_NB\) += 0",
+            r"getdents64\(",
             r"link.*\"d/\.part-[0-9a-f]{16}\".*\"d/[0-9a-f]{32}\.lanes\".* = 0",
             r"fsync\([0-9]+<[^>]*/d>\) += 0",
-            r"flock\(.*/d>, LOCK_EX\|LOCK_NB\) += 0",
             r"openat\(.*\"d/[0-9a-f]{32}\.lanes\", O_RDONLY",
             r"fsync\(.*/d/[0-9a-f]{32}\.lanes>\) += 0",
             r"fsync\([0-9]+<[^>]*/d>\) += 0",
@@ -116,28 +117,38 @@ def a_pack_that_is_not_known_to_be_on_the_disk_removes_nothing(room):
         assert count(room, folder) == 6
 
 
+def stopped_at(room, call, *words, trace="trace", when=1):
+    """A command that is stopped by the kernel once it has made a system call so often, and the id of its process."""
+    if shutil.which("strace") is None:
+        raise Lacking("strace is not installed")
+    words = ["strace", "-f", "-o", trace, "-e", f"trace={call}", "-e", f"inject={call}:signal=STOP:when={when}", room.program, *words]
+    one = subprocess.Popen(words, cwd=room.folder, stdin=subprocess.DEVNULL, stdout=subprocess.PIPE, stderr=subprocess.PIPE)
+    deadline = time.monotonic() + 20
+    while "stopped by SIGSTOP" not in (room.get(trace).decode() if os.path.exists(room.path(trace)) else ""):
+        assert time.monotonic() < deadline and one.poll() is None, f"{words} was not stopped: {one.stderr.read()!r}"
+        time.sleep(0.02)
+    return one, int(room.get(trace).split()[0])
+
+
 def a_pack_looks_under_the_lock_at_its_part_before_it_removes(room):
     for fault in ("other", "gone"):
         make_folder(room, fault, loads=3)
         before = set(parts_of(room, fault))
-        lock = os.open(room.path(fault), os.O_RDONLY)
-        fcntl.flock(lock, fcntl.LOCK_SH)
-        packing = room.start("pack", "--all", fault)
-        deadline = time.monotonic() + 8
-        while not set(parts_of(room, fault)) - before and time.monotonic() < deadline:
-            time.sleep(0.05)
-        # It has put its part, and waits for the lock.
+        # It has given its part the name, and has the lock.
+        packing, process = stopped_at(room, "link", "pack", "--all", fault, trace=f"trace-{fault}")
         (pack,) = set(parts_of(room, fault)) - before
         if fault == "other":
             room.put(f"{fault}/{pack}", b"other bytes")
         else:
             os.remove(room.path(f"{fault}/{pack}"))
-        os.close(lock)
-        status, err = packing.wait(60), packing.stderr.read()
+        os.kill(process, signal.SIGCONT)
+        out, err = packing.communicate(timeout=60)
         if fault == "other":
-            assert status == 1 and err.startswith(f"refused Damaged\n{fault}/{pack}: ".encode()), f"it said {err!r}"
+            assert packing.returncode == 1 and err.startswith(f"refused Damaged\n{fault}/{pack}: ".encode()), f"it said {err!r}"
             os.remove(room.path(f"{fault}/{pack}"))
             assert set(parts_of(room, fault)) == before
+        else:
+            assert (packing.returncode, out, err) == (0, b"ok parts=1 packed=4\n", b""), f"it said {err!r}"
         assert count(room, fault) == 6
 
 
@@ -228,7 +239,8 @@ def a_folder_that_can_not_be_locked_is_read_and_not_packed(room):
     before = set(parts_of(room))
     _, status, err = traced(room, "pack", "--all", "d", options=no_lock)
     assert status == 1 and err == b"refused WriteFault\nd: this folder can't be locked here, so that no part is removed from it\n", f"it said {err!r}"
-    assert before < set(parts_of(room)) and count(room) == held
+    assert before == set(parts_of(room)) and count(room) == held
+    only_parts(room)
     room.ok("pack", "--all", "d")
     assert len(parts_of(room)) == 1 and count(room) == held
     only_parts(room)
@@ -251,7 +263,7 @@ def a_folder_that_others_have_locked_is_busy_after_ten_seconds(room):
         assert one.wait(60) == 1 and one.stderr.read() == b"refused Busy\nd: another command has had this folder for ten seconds\n"
     assert 9 < time.monotonic() - started < 30
     left = set(parts_of(room)) - set(before)
-    assert set(before) < set(parts_of(room)) and len(left) == 2 and count(room) == 7
+    assert set(before) < set(parts_of(room)) and len(left) == 1 and count(room) == 7
     only_parts(room)
     fcntl.flock(lock, fcntl.LOCK_EX)
     reading = room.start("query", "d", "SELECT COUNT(*) FROM T")

@@ -45,7 +45,6 @@ DELETED = ALL_THREE[:-8] + len(RANGES).to_bytes(8, "little") + b"".join(origin.t
 # What is said of a folder where a command takes none.
 USAGE = b"\n\nUsage: lanes <COMMAND>\n\nFor more information, try '--help'.\n"
 MERGE_FAULT = b"error: OUT is a folder: lanes apply FOLDER FILE.. adds files to it, and a name that ends in / makes a new one" + USAGE
-FORGET_FAULT = b"error: FILE is a folder, and a forget takes a file: lanes merge FILE FOLDER writes one, and lanes merge NEW/ FILE makes a folder of it" + USAGE
 
 # A folder d and the file in it.
 FOLDER = {"d/kept": b"old"}
@@ -169,7 +168,7 @@ CASES = [
     Case("a file that isn't there can't be merged", ["merge", "out", "t", "none"], 1, err=b"refused ReadFault\nnone: no such file or folder\n", files={"t": ONE_ROW}, writes={"out": None}),
     Case("a file in a folder that isn't there can't be written", ["merge", "none/out", "t"], 1, err=b"refused WriteFault\nnone/out: there is no such folder\n", files={"t": ONE_ROW}),
     Case("a folder can't be written in the place of a file", ["merge", "d", "t"], 2, err=MERGE_FAULT, files={"t": ONE_ROW, **FOLDER}, writes={"t": ONE_ROW, **FOLDER}),
-    Case("a folder can't forget", ["forget", "d"], 2, err=FORGET_FAULT, files=FOLDER, writes=FOLDER),
+    Case("a folder without a part can't forget", ["forget", "d"], 1, err=b"refused ReadFault\nd: this folder holds no part\n", files=FOLDER, writes=FOLDER),
     Case("a folder without a part that is one of the files to merge is a failed read", ["merge", "out", "t", "d"], 1, err=b"refused ReadFault\nd: this folder holds no part\n", files={"t": ONE_ROW, "out": b"old", **FOLDER}, writes={"out": b"old", **FOLDER}),
     Case("a folder that is the first of them is one too", ["merge", "out", "d", "t"], 1, err=b"refused ReadFault\nd: this folder holds no part\n", files={"t": ONE_ROW, **FOLDER}, writes={"out": None, **FOLDER}),
     Case("an empty file among those to merge is cut short", ["merge", "out", "t", "u"], 1, err=b"refused Truncated 0\nu: this is empty: did the command before it fail?\n", files={"t": ONE_ROW, "u": b"", "out": b"old"}, writes={"out": b"old", "u": b""}),

@@ -41,7 +41,7 @@ const SEPARATOR_FAULT: &str =
 
 /// What comes below the help of `lanes forget`.
 const FORGET_HELP: &str =
-    "Pull from the other sites first. Deletions stay, and a batch's name stays used up for ever: docs/COMMANDS.md says when to forget.";
+    "Pull from the other sites first. Deletions stay, and a batch's name stays used up for ever: docs/COMMANDS.md says when to forget.\nIn a folder all parts are joined into one, and other commands may run meanwhile.";
 
 /// The name that `lanes partial` had up to 0.5. It is read for one release more.
 const FORMER_PARTIAL: &str = "part";
@@ -659,7 +659,7 @@ fn forget_command<'a>(alloc: Global, command: Command<'a>) -> Result<Command<'a>
         .about("Drops the batches of which every row is deleted; no answer changes")
         .after_help(FORGET_HELP)
         .arg(quiet(alloc))?
-        .arg(first_word(alloc, "FILE", "The file"))
+        .arg(file(alloc))
 }
 
 fn query_command<'a>(alloc: Global, command: Command<'a>) -> Result<Command<'a>, AllocError> {

@@ -9,10 +9,10 @@ use Rattle.replica_files.specs.Commands.{held_in, file_of, as_held, merged_files
 use Rattle.replica_files.specs.FileLaws.{Holds, EachHolds, all_of, FileLaws}
 use Rattle.folder_parts.specs.FolderLaws.{Joins, FolderHolds, folder_operations, SameFolders, JoinHolds, PackKeeps, FolderIsFile, FolderFollows}
 
-same_ok : (a b : Replica) → ◌≡◌ {A = Result Replica Refusal} (Ok a) (Ok b) → a ≡ b
+pub same_ok : (a b : Replica) → ◌≡◌ {A = Result Replica Refusal} (Ok a) (Ok b) → a ≡ b
 same_ok a b e = cc
 
-all_of-append : (sets more : List (List Operation)) → all_of (sets ++ more) ≡ all_of more ++ all_of sets
+pub all_of-append : (sets more : List (List Operation)) → all_of (sets ++ more) ≡ all_of more ++ all_of sets
 all_of-append [] more = sym (append_nothing (all_of more))
   where
     append_nothing : (xs : List Operation) → xs ++ [] ≡ xs
@@ -26,7 +26,7 @@ each-append [] more table (ops ∷ sets) rest a b = absurd a
 each-append (bytes ∷ files) more table [] rest a b = absurd a
 each-append (bytes ∷ files) more table (ops ∷ sets) rest a b = (a.0, each-append files more table sets rest a.1 b)
 
-among_either : (op : Operation) (xs ys : List Operation) → Among op (xs ++ ys) → Among op xs ⊎ Among op ys
+pub among_either : (op : Operation) (xs ys : List Operation) → Among op (xs ++ ys) → Among op xs ⊎ Among op ys
 among_either op [] ys h = inr h
 among_either op (x ∷ xs) ys (inl e) = inl (inl e)
 among_either op (x ∷ xs) ys (inr h) = elim (among_either op xs ys h) as (λ _. Among op (x ∷ xs) ⊎ Among op ys) [ inl g ↦ inl (inr g) | inr g ↦ inr g ]
@@ -41,7 +41,7 @@ among_first op (x ∷ xs) ys (inl e) = inl e
 among_first op (x ∷ xs) ys (inr h) = inr (among_first op xs ys h)
 
 -- what is held beside is held already
-beside_same : (xs ys zs : List Operation) → ys ++ zs ≡ xs → SameOperations (xs ++ zs) xs
+pub beside_same : (xs ys zs : List Operation) → ys ++ zs ≡ xs → SameOperations (xs ++ zs) xs
 beside_same xs ys zs e op = (
   (λ h. elim (among_either op xs zs h) as (λ _. Among op xs) [ inl g ↦ g | inr g ↦ subst (λ (l : List Operation). Among op l) e (among_second op ys zs g) ]),
   (λ h. among_first op xs zs h),

@@ -1,4 +1,5 @@
 pub mod FolderSets
+pub mod ForgottenFolders
 pub mod JoinedSoFar
 pub mod PackedAway
 pub mod PackedSoFar

@@ -18,7 +18,7 @@ use Rattle.folder_parts.proofs.FolderSets.{join_holds, among_first, among_second
 use Rattle.folder_parts.proofs.Removals.{nothing_lost}
 
 -- the pack itself stays
-not_itself : (names : List (List ℕ)) (name : List ℕ) → is_removed names name name ≡ false
+pub not_itself : (names : List (List ℕ)) (name : List ℕ) → is_removed names name name ≡ false
 unfolding is_removed
 not_itself names name = ap (λ (b : Bool). not b && list_any (λ (other : List ℕ). same_text other name) names) (itself_text name)
 

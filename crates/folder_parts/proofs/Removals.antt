@@ -2,7 +2,7 @@
 use Rattle.std.specs.Prelude.{◌≡◌, ◌≢◌, ◌⊎◌, ◌↔◌, ℕ, Bool, true, false, List, [], ◌∷◌, eqb}
 use Rattle.std.proofs.Common.{refl, sym, ap, subst, ◌∙◌, inl, inr, true-eqb, false-eqb}
 use Rattle.table_model.specs.Operation.{Operation, Among}
-use Rattle.folder_parts.specs.Folders.{Within, IsLess, Event, Comes, Goes, Came, IsThere, IsCovered, AreCovered, WasBrought, IsHeld, NothingIsLost}
+use Rattle.folder_parts.specs.Folders.{Within, IsLess, Event, Comes, Goes, Came, IsThere, IsCovered, AreCovered, WasBrought, IsHeld, NothingIsLost, IsCoveredThere, AreCoveredThere, NothingIsLostThere}
 
 Or : List ℕ → List ℕ → Type 0
 Or a b = (a ≡ b) ⊎ (a ≢ b)
@@ -48,7 +48,7 @@ keeps holds (Comes other ∷ events) file covered (inr came) =
 keeps holds (Goes gone ∷ events) file covered came =
     after_going holds gone file events covered.0 (λ other c. keeps holds events other covered.1 c) (keeps holds events file covered.1 came)
 
-there_came : (file : List ℕ) (events : List Event) → IsThere file events → Came file events
+pub there_came : (file : List ℕ) (events : List Event) → IsThere file events → Came file events
 there_came file [] h = h
 there_came file (Comes other ∷ events) (inl e) = inl e
 there_came file (Comes other ∷ events) (inr h) = inr (there_came file events h)
@@ -58,4 +58,27 @@ pub nothing_lost : NothingIsLost
 nothing_lost holds events covered op = (
   (λ held. (held.0, there_came held.0 events held.1, held.2)),
   (λ brought. let has = keeps holds events brought.0 covered brought.1 in (has.0, has.1, has.2 op brought.2)),
+)
+
+-- ---- a file that goes is within one that is there
+
+-- where a file goes that is within another that is there, what it kept is kept by that one
+after_removal : (holds : List ℕ → List Operation) (gone file : List ℕ) (events : List Event) → IsCoveredThere holds gone events → Kept holds file events → Kept holds file (Goes gone ∷ events)
+after_removal holds gone file events covered has = choose (same_or_not has.0 gone)
+  where
+    choose : (has.0 ≡ gone) ⊎ (has.0 ≢ gone) → Kept holds file (Goes gone ∷ events)
+    choose (inr n) = (has.0, (n, has.1), has.2)
+    choose (inl e) = (covered.0, (covered.2.0, covered.1), λ op h. covered.2.1 op (subst (λ (f : List ℕ). Among op (holds f)) e (has.2 op h)))
+
+keeps_there : (holds : List ℕ → List Operation) (events : List Event) (file : List ℕ) → AreCoveredThere holds events → Came file events → Kept holds file events
+keeps_there holds [] file covered came = absurd came
+keeps_there holds (Comes other ∷ events) file covered (inl e) = (file, inl e, λ op h. h)
+keeps_there holds (Comes other ∷ events) file covered (inr came) =
+    let has = keeps_there holds events file covered came in (has.0, inr has.1, has.2)
+keeps_there holds (Goes gone ∷ events) file covered came = after_removal holds gone file events covered.0 (keeps_there holds events file covered.1 came)
+
+pub nothing_lost_there : NothingIsLostThere
+nothing_lost_there holds events covered op = (
+  (λ held. (held.0, there_came held.0 events held.1, held.2)),
+  (λ brought. let has = keeps_there holds events brought.0 covered brought.1 in (has.0, has.1, has.2 op brought.2)),
 )

@@ -49,3 +49,19 @@ IsHeld holds op events = (file : List ℕ) × IsThere file events × Among op (h
 -- at every moment the files that are there hold exactly what ever came
 abbrev pub NothingIsLost : Type 0
 NothingIsLost = (holds : List ℕ → List Operation) (events : List Event) → AreCovered holds events → (op : Operation) → IsHeld holds op events ↔ WasBrought holds op events
+
+-- ---- removal under a lock
+
+-- another file that is there has all that a file has
+abbrev pub IsCoveredThere : (List ℕ → List Operation) → List ℕ → List Event → Type 0
+IsCoveredThere holds file events = (other : List ℕ) × IsThere other events × (other ≢ file) × Within (holds file) (holds other)
+
+-- each file that goes has all that it has in another that is there when it goes
+abbrev pub AreCoveredThere : (List ℕ → List Operation) → List Event → Type 0
+AreCoveredThere holds [] = Unit {0}
+AreCoveredThere holds (Comes file ∷ events) = AreCoveredThere holds events
+AreCoveredThere holds (Goes file ∷ events) = IsCoveredThere holds file events × AreCoveredThere holds events
+
+-- at every moment the files that are there have exactly what ever came, also if two files have the same
+abbrev pub NothingIsLostThere : Type 0
+NothingIsLostThere = (holds : List ℕ → List Operation) (events : List Event) → AreCoveredThere holds events → (op : Operation) → IsHeld holds op events ↔ WasBrought holds op events

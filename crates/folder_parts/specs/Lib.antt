@@ -1,5 +1,6 @@
 pub mod FolderLaws
 pub mod Folders
+pub mod ForgetFolderLaws
 pub mod Heads
 pub mod Packing
 pub mod PartName

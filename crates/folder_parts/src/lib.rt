@@ -4,6 +4,7 @@
 mod beside;
 mod deletes;
 mod fault;
+mod forgetting;
 mod heads;
 mod joining;
 mod laws;
@@ -18,8 +19,9 @@ mod writing;
 
 pub use deletes::{part_of_deletes, part_of_rows};
 pub use fault::{PartFault, PartRefusal};
+pub use forgetting::part_of_forget;
 pub use heads::{HEAD_BYTES, Head, part_head};
-pub use laws::folder_laws;
+pub use laws::{folder_laws, forget_folder_laws};
 pub use loads::{part_of_load, part_of_named_load};
 pub use offers::part_of_offers;
 pub use opening::{join_parts, open_parts, pack};

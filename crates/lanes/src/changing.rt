@@ -1,15 +1,17 @@
 //! The commands that change a file: it is read, then its lock is taken, and it is read again and replaced whole.
 
 use crate::change::{Change, Done};
+use crate::dead_rows::say_dead_in_file;
 use crate::failure::Failure;
 use crate::folder_changes;
 use crate::folders::is_folder;
+use crate::forgetting::forget_folder;
 use crate::inputs::{name_of, reader_of, schema_again, schema_ahead, schema_of, source_of, unread};
 use crate::names::fault_of_names;
 use crate::progress::{LockedReading, Progress};
 use crate::reports::write_line;
 use crate::watched_folder::{Unheld, WatchedFolder};
-use command_line::{CsvForm, Source, not_for_a_folder};
+use command_line::{CsvForm, Source};
 use csv_rows::{CsvError, CsvReader, Dialect, Order, WordError};
 use file_commands::Left;
 use file_replacing::{Folder, HoldError, Place, Replaced, SystemFolder};
@@ -24,10 +26,6 @@ use std::io::{self, ErrorKind, Read};
 use std::random::RandomSource;
 use std::rt::Clock;
 use table_model::{BatchName, ColType, Counted, Refusal, RowName, Schema};
-
-/// What to do instead of a forget in a folder.
-const NO_FORGET: &str =
-    "FILE is a folder, and a forget takes a file: lanes merge FILE FOLDER writes one, and lanes merge NEW/ FILE makes a folder of it";
 
 /// What is said of a file if its lock may not be made.
 const NO_NEW_FILE: &str =
@@ -182,14 +180,11 @@ pub fn delete_rows<
 }
 
 /// Drops the batches of which every row is deleted.
-pub fn forget<R: Print + Eprint + Files<File = File> + Clock + AllocGlobal>(
-    rt: &R,
-    progress: &Progress<'_, R>,
-    file: &str,
-    is_quiet: bool,
-) -> Result<(), Failure> {
+pub fn forget<
+    R: Print + Eprint + Files<File = File> + Clock + RandomSource + AllocGlobal + Clone + Drop,
+>(rt: &R, progress: &Progress<'_, R>, file: &str, is_quiet: bool) -> Result<(), Failure> {
     if is_folder(rt, file) {
-        return Err(Failure::from(not_for_a_folder(rt.alloc(), NO_FORGET)));
+        return forget_folder(rt, progress, file, is_quiet);
     }
     change(rt, progress, file, Change::Forget, About::Nothing, is_quiet)
 }
@@ -442,8 +437,14 @@ fn change<R: Print + Eprint + Files<File = File> + Clock + AllocGlobal>(
     if let Err(why) = folder.hold(rt, &place) {
         return Err(not_held(rt, file, &place, change, why, about));
     }
+    let is_named = change.is_named_import();
     match changed(rt, change, &mut folder, &place) {
-        Ok(done) => say(rt, file, &done, is_quiet),
+        Ok(done) => {
+            if is_named {
+                say_dead_in_file(rt, file, place.name(), &done);
+            }
+            say(rt, file, &done, is_quiet)
+        }
         Err(CommandRefusal::Named(Refusal::WriteFault)) => {
             Err(not_written(rt, file, folder.reason()))
         }

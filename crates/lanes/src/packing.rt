@@ -1,26 +1,20 @@
-//! Packing a folder: small parts are joined into one, which is on the disk before they are removed.
+//! Packing a folder: small parts are joined into one, which is put in their place.
 
 use crate::failure::Failure;
 use crate::folder_changes::in_memory;
-use crate::folders::{Parts, last_of, parts_of};
+use crate::folders::{Parts, parts_of};
 use crate::part_failures::{Unread, busy, of_folder, why_unread};
 use crate::parts::Untold;
-use crate::putting::{keep_part, put_part};
+use crate::replacing::{Round, replace};
 use crate::reports::write_line;
-use file_replacing::Replaced;
-use folder_parts::{PartFault, PartRefusal, is_removed, packed_prefix, part_name};
-use part_folder::{FolderFault, FolderLock, Patience, is_link, remove_all, sweep};
+use folder_parts::{PartFault, PartRefusal, packed_prefix};
+use part_folder::{Patience, is_link, sweep};
 use refusal_sentences::CommandRefusal;
-use std::alloc::AllocError;
 use std::fs::{self, File, Files};
 use std::io::ErrorKind;
 use std::random::RandomSource;
 use std::rt::Clock;
 use table_model::{Counted, Refusal};
-
-/// What is said of a pack whose part is not known to be on the disk.
-const NOT_ON_DISK: &str =
-    "the joined part was added, but it could not be synced, so no part is removed";
 
 /// Joins the small parts of a folder into one, until each part has more than a seventh of the bytes of those before it, or once all
 /// parts; and says how many parts there are then, and how many were joined and removed.
@@ -44,17 +38,8 @@ pub fn pack<
     write_line(rt, line.as_bytes())
 }
 
-/// What came of joining some parts once.
-#[derive(Clone, Copy, Debug, PartialEq, Eq)]
-enum Round {
-    /// So many parts were joined and removed.
-    Packed(usize),
-    /// Another pack was there: one of the parts is gone, or the part that joins them.
-    Overtaken,
-}
-
-/// Joins parts as long as there are some to be joined, or once all; how many were joined and removed. If another pack was there, the
-/// parts are listed and chosen anew, until ten seconds are over.
+/// Joins parts as long as there are some to be joined, or once all; how many were joined and removed. If another pack or a forget was
+/// there, the parts are listed and chosen anew, until ten seconds are over.
 fn pack_rounds<R: Files<File = File> + Clock + RandomSource + AllocGlobal + Clone + Drop>(
     rt: &R,
     folder: &str,
@@ -68,7 +53,7 @@ fn pack_rounds<R: Files<File = File> + Clock + RandomSource + AllocGlobal + Clon
             return Ok(packed);
         }
         match pack_once(rt, folder, chosen.as_slice())? {
-            Round::Packed(count) => {
+            Round::Replaced(count) => {
                 packed = packed.saturating_add(count);
                 if is_all {
                     return Ok(packed);
@@ -173,72 +158,4 @@ fn joined<R: Files + AllocGlobal>(rt: &R, paths: &[String]) -> Result<Vec<u8>, U
         }
         Err(refusal) => Err(why_unread(rt, paths, readers, refusal)),
     }
-}
-
-/// Puts the join of the parts of these paths into a folder, and then removes them, but for the one that is the join itself.
-fn replace<R: Files<File = File> + Clock + RandomSource + AllocGlobal + Clone + Drop>(
-    rt: &R,
-    folder: &str,
-    paths: &[String],
-    bytes: &[u8],
-) -> Result<Round, Failure> {
-    let pack = part_name(rt.alloc(), bytes)?;
-    if put_part(rt, folder, bytes)? == Replaced::Unsynced {
-        return Err(not_on_disk(rt, folder));
-    }
-    let names = names_of(rt, paths)?;
-    let mut removed = Vec::with_capacity(rt.alloc(), names.len())?;
-    for name in names.as_slice().chunks(1) {
-        if let [joined] = name {
-            if is_removed(name, pack.as_str(), joined.as_str()) {
-                removed.push(joined.as_str())?;
-            }
-        }
-    }
-    let lock = match FolderLock::exclusive(rt, folder) {
-        Ok(lock) => lock,
-        Err(fault) => return Err(of_folder(rt.alloc(), folder, fault)),
-    };
-    let outcome = remove_joined(rt, folder, &lock, pack.as_str(), bytes, removed.as_slice());
-    lock.release();
-    outcome
-}
-
-/// Removes the parts of these names, once the part that joins them is seen to be on the disk, with these bytes, under the folder's
-/// exclusive lock. If that part is gone meanwhile, nothing is removed.
-fn remove_joined<R: Files<File = File> + AllocGlobal>(
-    rt: &R,
-    folder: &str,
-    lock: &FolderLock,
-    pack: &str,
-    bytes: &[u8],
-    joined: &[&str],
-) -> Result<Round, Failure> {
-    match keep_part(rt, folder, pack, bytes)? {
-        Some(Replaced::Synced) => {}
-        Some(Replaced::Unsynced) => return Err(not_on_disk(rt, folder)),
-        None => return Ok(Round::Overtaken),
-    }
-    match remove_all(rt, folder, lock, joined) {
-        Ok(()) => Ok(Round::Packed(joined.len())),
-        Err(FolderFault::System(kind)) => {
-            Err(Failure::of_reason(rt.alloc(), Refusal::WriteFault, folder, kind))
-        }
-        Err(fault) => Err(of_folder(rt.alloc(), folder, fault)),
-    }
-}
-
-/// The refusal of a pack whose part is not known to be on the disk.
-fn not_on_disk<R: AllocGlobal>(rt: &R, folder: &str) -> Failure {
-    let refusal = CommandRefusal::from(Refusal::WriteFault);
-    Failure::advised(rt.alloc(), refusal, folder, NOT_ON_DISK)
-}
-
-/// The last components of paths.
-fn names_of<R: AllocGlobal>(rt: &R, paths: &[String]) -> Result<Vec<String>, AllocError> {
-    let mut names = Vec::with_capacity(rt.alloc(), paths.len())?;
-    for path in paths {
-        names.push(String::from_str(rt.alloc(), last_of(path.as_str()))?)?;
-    }
-    Ok(names)
 }

@@ -27,7 +27,7 @@ use Rattle.replica_store.proofs.MergeAnswers.{is_merge, made_of}
 use Rattle.replica_store.proofs.Names.{contains-names_of}
 use Rattle.store_view.specs.Asked.{query_answer, answer_where, unless_refused, condition_names}
 use Rattle.column_file.specs.Files.{canonical_file, ranges_of}
-use Rattle.replica_files.specs.Commands.{held_in, file_of, as_held, Made, deleting, applied_all, applying, merged_with}
+use Rattle.replica_files.specs.Commands.{held_in, file_of, as_held, Made, deleting, applied_all, applying, merged_with, merged_files}
 use Rattle.replica_files.specs.FileLaws.{replica_of, Holds, inserts, deletes, deletes_found, deletes_where, operations_in, all_of}
 use Rattle.replica_files.specs.Forgetting.{forgetting}
 use Rattle.replica_files.specs.ForgetFileLaws.{StandsFor, AddsToStanding, EachStandsFor, MergesStand, PullsStand, MeansWhole, AnswersAlike, SameForgottenFiles, ForgetFileLaws}
@@ -37,12 +37,12 @@ use Rattle.replica_files.proofs.FileLaws.{ok_one, bound_parts, applies_all}
 use Rattle.replica_files.proofs.OperationSets.{get-state_of, state_of-append, delete-adds, state_of-inserts}
 
 -- a replica has what is left of the state of operations
-record Rests (table : Table) (ops : List Operation) (r : Replica) : Type 0 where
+pub record Rests (table : Table) (ops : List Operation) (r : Replica) : Type 0 where
   pub schema : r.schema ≡ table
   pub rest : IsRestOf r.state (state_of ops)
 
 -- what was read of a file that stands for operations
-stands_is : (input : List ℕ) (table : Table) (ops : List Operation) (r : Replica) → StandsFor input table ops → held_in input ≡ Ok r → Rests table ops r
+pub stands_is : (input : List ℕ) (table : Table) (ops : List Operation) (r : Replica) → StandsFor input table ops → held_in input ≡ Ok r → Rests table ops r
 stands_is input table ops r s is =
     let same : r ≡ record { schema = table; own = record { 0 = 1 }; state = s.state } = ok_one r (record { schema = table; own = record { 0 = 1 }; state = s.state }) (sym is ∙ s.read) in
     record {
@@ -51,7 +51,7 @@ stands_is input table ops r s is =
     }
 
 -- the file of such a replica stands for the operations
-stands_then : (table : Table) (ops : List Operation) (new : Replica) → Rests table ops new → AreAgreeing ops → held_in (file_of new) ≡ Ok (as_held new) → StandsFor (file_of new) table ops
+pub stands_then : (table : Table) (ops : List Operation) (new : Replica) → Rests table ops new → AreAgreeing ops → held_in (file_of new) ≡ Ok (as_held new) → StandsFor (file_of new) table ops
 stands_then table ops new r agree read = record {
   agree = agree;
   state = new.state;
@@ -116,11 +116,16 @@ merged-rests table ops r new (file ∷ files) (more ∷ sets) ours each agree e 
     let one = merge-rests table ops more r read.0 parts.0.1 parts.0.0 ours theirs.rest (back_agrees (all_of sets) (more ++ ops) turned) parts.1 in
     in_order table (all_of sets) more ops new (merged-rests table (more ++ ops) parts.0.1 new files sets one each.1 turned parts.2)
 
+-- what files are joined to is what is left of all that they stand for
+pub files-rest : (first : List ℕ) (others : List (List ℕ)) (table : Table) (ops : List Operation) (sets : List (List Operation)) (new : Replica) → StandsFor first table ops → EachStandsFor others table sets → AreAgreeing (all_of sets ++ ops)
+    → merged_files first others ≡ Ok new → Rests table (all_of sets ++ ops) new
+files-rest first others table ops sets new s each agree made =
+    let parts = bound_parts (held_in first) (λ (r : Replica). merged_with r others) new made in
+    merged-rests table ops parts.0 new others sets (stands_is first table ops parts.0 s parts.1) each agree parts.2
+
 merges_stand : MergesStand
 merges_stand first others table ops sets new s each agree made read =
-    let parts = bound_parts (held_in first) (λ (r : Replica). merged_with r others) new made in
-    let ours = stands_is first table ops parts.0 s parts.1 in
-    stands_then table (all_of sets ++ ops) new (merged-rests table ops parts.0 new others sets ours each agree parts.2) agree read
+    stands_then table (all_of sets ++ ops) new (files-rest first others table ops sets new s each agree made) agree read
 
 -- ---- imports
 
@@ -230,14 +235,18 @@ delete_rows_stand first last input table ops old new answer s agree is made read
 forget_made : (r new : Replica) (answer : ℕ × ℕ) → forgetting r ≡ Ok (answer, new) → record { schema = r.schema; own = r.own; state = forgotten r.state } ≡ new
 forget_made r new answer made = ap (λ (p : (ℕ × ℕ) × Replica). p.1) (ok_one _ (answer, new) made)
 
-forget_stands : AddsToStanding forgetting (λ table ops. [])
-forget_stands input table ops old new answer s agree is made read =
-    let ours = stands_is input table ops old s is in
+-- what a forget leaves of what is left is left
+pub forgotten-rests : (table : Table) (ops : List Operation) (old new : Replica) (answer : ℕ × ℕ) → Rests table ops old → forgetting old ≡ Ok (answer, new) → Rests table ops new
+forgotten-rests table ops old new answer ours made =
     let left : Rests table ops (record { schema = old.schema; own = old.own; state = forgotten old.state }) = record {
       schema = ours.schema;
       rest = forgets_all.then (forgotten old.state) old.state (state_of ops) (forgets_all.forgets old.state) ours.rest;
     } in
-    stands_then table ops new (subst (Rests table ops) (forget_made old new answer made) left) agree read
+    subst (Rests table ops) (forget_made old new answer made) left
+
+forget_stands : AddsToStanding forgetting (λ table ops. [])
+forget_stands input table ops old new answer s agree is made read =
+    stands_then table ops new (forgotten-rests table ops old new answer (stands_is input table ops old s is) made) agree read
 
 -- ---- what files that stand for operations answer, and their bytes
 
@@ -249,13 +258,15 @@ answers_alike sql table s whole rest = go (query_of sql)
     go (Ok query) = ap (unless_refused (resolved table query)) (forgets_all.answers s whole table query rest)
     go (Err e) = refl
 
+-- what is left of the state of operations has the rows and answers of the whole
+pub rests-mean : (table : Table) (ops : List Operation) (r : Replica) → Rests table ops r → MeansWhole r table ops
+rests-mean table ops r ours = record {
+  rows = forgets_all.live r.state (state_of ops) ours.rest;
+  answers = λ sql. ap (λ (t : Table). query_answer sql t r.state) ours.schema ∙ answers_alike sql table r.state (state_of ops) ours.rest;
+}
+
 means_whole : (bytes : List ℕ) (table : Table) (ops : List Operation) (r : Replica) → StandsFor bytes table ops → held_in bytes ≡ Ok r → MeansWhole r table ops
-means_whole bytes table ops r s is =
-    let ours = stands_is bytes table ops r s is in
-    record {
-      rows = forgets_all.live r.state (state_of ops) ours.rest;
-      answers = λ sql. ap (λ (t : Table). query_answer sql t r.state) ours.schema ∙ answers_alike sql table r.state (state_of ops) ours.rest;
-    }
+means_whole bytes table ops r s is = rests-mean table ops r (stands_is bytes table ops r s is)
 
 files_alike : AnswersAlike
 files_alike a b table ops others r q sql s t same read_a read_b =
@@ -263,13 +274,17 @@ files_alike a b table ops others r q sql s t same read_a read_b =
     ∙ ap (query_answer sql table) (state_of-same ops others s.agree same)
     ∙ sym ((means_whole b table others q t read_b).answers sql)
 
+-- what is left of one state has one file, once it is forgotten
+pub forgotten-alike : (table : Table) (ops others : List Operation) (r q new other : Replica) (dropped parted : ℕ × ℕ) → Rests table ops r → Rests table others q → AreAgreeing ops → SameOperations ops others
+    → forgetting r ≡ Ok (dropped, new) → forgetting q ≡ Ok (parted, other) → file_of new ≡ file_of other
+forgotten-alike table ops others r q new other dropped parted ours theirs agree same made_a made_b =
+    let state : forgotten r.state ≡ forgotten q.state =
+    forgets_all.least r.state (state_of ops) ours.rest ∙ ap forgotten (state_of-same ops others agree same) ∙ sym (forgets_all.least q.state (state_of others) theirs.rest) in
+    sym (ap file_of (forget_made r new dropped made_a)) ∙ (λ i. canonical_file ((ours.schema ∙ sym theirs.schema) i) (state i)) ∙ ap file_of (forget_made q other parted made_b)
+
 forgotten_files : SameForgottenFiles
 forgotten_files a b table ops others r q new other dropped parted s t same read_a read_b made_a made_b =
-    let ours = stands_is a table ops r s read_a in
-    let theirs = stands_is b table others q t read_b in
-    let state : forgotten r.state ≡ forgotten q.state =
-    forgets_all.least r.state (state_of ops) ours.rest ∙ ap forgotten (state_of-same ops others s.agree same) ∙ sym (forgets_all.least q.state (state_of others) theirs.rest) in
-    sym (ap file_of (forget_made r new dropped made_a)) ∙ (λ i. canonical_file ((ours.schema ∙ sym theirs.schema) i) (state i)) ∙ ap file_of (forget_made q other parted made_b)
+    forgotten-alike table ops others r q new other dropped parted (stands_is a table ops r s read_a) (stands_is b table others q t read_b) s.agree same made_a made_b
 
 -- ---- what is held
 

@@ -21,8 +21,8 @@ pub struct Forgotten {
     pub rows: u64,
 }
 
-/// Drops the batches of a store of which every row is deleted.
-fn forget_dead(alloc: Global, store: &mut Store) -> Result<Forgotten, Refusal>
+/// Drops the batches of a store of which every row is deleted. Their deletions stay. `Memory` is the only refusal.
+pub fn forget_dead(alloc: Global, store: &mut Store) -> Result<Forgotten, Refusal>
     ensures makes { Makes (λ done. (done.batches, done.rows)) (λ done. not (done.batches == 0)) store.old.replica result store.new.replica (forgetting store.old.replica) }
     ensures refused { IfErr result (λ e. IsTrue (is_refusal_of_forget e)) }
 {

@@ -32,13 +32,14 @@ mod stored;
 
 pub use answers::{NotAnswered, answer, answer_all, answer_text};
 pub use applying::{Applied, apply, apply_all, apply_offers};
+pub use batch_counts::{BatchCounts, counts_at};
 pub use batch_list::list_batches;
 pub use csv_reading::read_csv;
 pub use deleting::{Deleted, DeletedRows, delete, delete_rows};
 pub use dumping::{dump, dump_where};
 pub use exchange::{offer, summary};
 pub use file_check::check;
-pub use forgetting::{Forgotten, forget};
+pub use forgetting::{Forgotten, forget, forget_dead};
 pub use importing::{Imported, import, import_load};
 pub use laws::{drawn_names_are_free, dump_column_laws, dump_laws, file_laws, forget_file_laws};
 pub use line_part::LinePart;
