@@ -9,6 +9,7 @@ mod folder_changes;
 mod folder_reports;
 mod folders;
 mod inputs;
+mod inspecting;
 mod judged_puts;
 mod merging;
 mod names;
@@ -16,6 +17,7 @@ mod output;
 mod packing;
 mod part_failures;
 mod parts;
+mod peeked;
 mod progress;
 mod putting;
 mod queries;
@@ -127,9 +129,11 @@ fn answer<
         Request::Combine { partials } => {
             query_partial_answers::combine(rt, progress, partials.as_slice(), terminals.output)?;
         }
-        Request::Finish { partial, format } => query_partial_answers::finish(
-            rt, progress, partial, format,
-        )?,
+        Request::Finish {
+            partial,
+            expected,
+            format,
+        } => query_partial_answers::finish(rt, progress, partial, expected.as_slice(), format)?,
         Request::Create {
             file,
             table,
@@ -152,8 +156,9 @@ fn answer<
             file,
             first,
             last,
+            is_held,
             is_quiet,
-        } => changing::delete_rows(rt, progress, file, first, last, is_quiet)?,
+        } => changing::delete_rows(rt, progress, file, first, last, is_held, is_quiet)?,
         Request::Apply {
             file,
             offers,
@@ -170,7 +175,7 @@ fn answer<
             file,
             has_batches,
             form,
-        } => reports::inspect(rt, progress, file, has_batches, form)?,
+        } => inspecting::inspect(rt, progress, file, has_batches, form)?,
         Request::Summary { file } => reports::summary(rt, progress, file, terminals.output)?,
         Request::Offer { file, summary } => reports::offer(
             rt,

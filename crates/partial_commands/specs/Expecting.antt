@@ -25,9 +25,13 @@ use Rattle.partial_commands.specs.declared.expectation_error.ExpectationError.{E
 use Rattle.partial_commands.specs.declared.expectation_error.ExpectationError.TheVariants.{SchemaDiffers, Missing, Unanswered}
 use Rattle.partial_commands.specs.declared.partial_answer_error.PartialAnswerError.TheVariants.{Refused, Fault}
 
--- whether one of some summaries names a batch
+-- whether a summary names a batch
+abbrev pub is_named_by : BatchName → SummaryForm → Bool
+is_named_by name s = set.contains s.names name
+
+-- whether one of some summaries names it
 abbrev pub is_expected : List SummaryForm → BatchName → Bool
-is_expected expected name = list_any (λ (s : SummaryForm). set.contains s.names name) expected
+is_expected expected name = list_any (is_named_by name) expected
 
 -- whether all of some summaries are of a table
 abbrev pub are_of_table : Table → List SummaryForm → Bool

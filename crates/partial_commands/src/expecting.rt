@@ -17,12 +17,9 @@ use table_model::{BatchName, Counted, Schema};
 fn are_of_table(schema: &Schema, summaries: &[Summary]) -> bool
     ensures { result ≡ are_of_table schema.now summaries.now }
 {
-    for summary in summaries {
-        if !schema.same(summary.schema()) {
-            return false;
-        }
-    }
-    true
+    summaries
+        .iter()
+        .all(|summary| schema.same(summary.schema()))
 }
 
 /// All names of some summaries.
@@ -46,7 +43,7 @@ fn first_missing(
 {
     let names = expected_names(alloc, summaries)?;
     let missing = names.missing_from(held)?;
-    Ok(missing.first().copied())
+    Ok(missing.as_slice().first().copied())
 }
 
 /// Says whether a partial answer covers what summaries expect.
