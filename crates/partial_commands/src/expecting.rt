@@ -1,6 +1,7 @@
 //! The answer of a partial answer that has to cover what summaries expect: each batch that one of them names was counted.
 ghost use Rattle.std.specs.Prelude.{◌≡◌, IfOk, IfErr, OnOk};
 ghost use Rattle.std.specs.FinSet as set;
+ghost use Rattle.table_model.specs.declared.names.BatchName.{BatchName as Name};
 ghost use Rattle.partial_commands.specs.Expecting.{CountsUnexpected, Covers, IsFirstMissing, IsUncovered, WritesExpected, are_of_table, is_expected};
 
 use crate::expectation_error::ExpectationError;
@@ -24,7 +25,7 @@ fn are_of_table(schema: &Schema, summaries: &[Summary]) -> bool
 
 /// All names of some summaries.
 fn expected_names(alloc: Global, summaries: &[Summary]) -> Result<Held, AllocError>
-    ensures { IfOk result (λ names. (name : BatchName) → set.contains names name ≡ is_expected summaries.now name) }
+    ensures { IfOk result (λ names. (name : Name) → set.contains names name ≡ is_expected summaries.now name) }
 {
     let mut names = Held::new(alloc);
     for summary in summaries {
