@@ -6,7 +6,7 @@ use std::alloc::{AllocError, Global};
 
 /// What is shown below the help of `lanes inspect`.
 const INSPECT_HELP: &str =
-    "Of a partial answer it writes the table, the query, the number of groups and of batches, and a line for each run of batches that\nwere counted. Of a summary it writes the table, the number of batches and these lines.";
+    "FILE may also be a partial answer or a summary. Of a partial answer it writes the table, the query, the number of groups and of batches, and a line for each run of batches that\nwere counted. Of a summary it writes the table, the number of batches and these lines.";
 
 /// How `lanes dump` is read.
 pub(crate) fn dump_command<'a>(
@@ -47,9 +47,7 @@ pub(crate) fn inspect_command<'a>(
         "List the batches instead: the name of each, its rows and its live rows",
     );
     command
-        .about(
-            "Writes what a file holds and how its columns are coded, or what a partial answer or a summary covers",
-        )
+        .about("Writes what a file holds and how its columns are coded")
         .after_help(INSPECT_HELP)
         .arg(batches)?
         .arg(format(alloc, "The form of the report: text or json"))?
