@@ -6,7 +6,7 @@ use std::alloc::{AllocError, Global};
 
 /// What is shown below the help of `lanes inspect`.
 const INSPECT_HELP: &str =
-    "FILE may also be a partial answer or a summary. Of a partial answer it writes the table, the query, the number of groups and of batches, and a line for each run of batches that\nwere counted. Of a summary it writes the table, the number of batches and these lines.";
+    "FILE may also be a partial answer or a summary. Of a partial answer it writes the table, the query, the number of groups and of\nbatches, and a line for each run of batches that were counted. Of a summary it writes the table, the number of batches and these\nlines.";
 
 /// How `lanes dump` is read.
 pub(crate) fn dump_command<'a>(

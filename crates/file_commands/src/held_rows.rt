@@ -44,7 +44,8 @@ fn held_rows_deleted(
     ensures { IfOk result (λ made. Changes (λ answer. answer.is_held) (λ answer. answer.is_changed) (Ok made.0) (Some file.now) (Some []) (Some made.1.items) (λ r. deleted_if_held r first last)) }
 {
     let (deleted, new) = rows_deleted(alloc, file, first, last)?;
-    if holds(alloc, file, first.batch)? {
+    let is_held = holds(alloc, file, first.batch)?;
+    if is_held {
         let answer = HeldRows {
             is_held: true,
             is_changed: deleted.is_changed,

@@ -1,6 +1,6 @@
 -- What came of a tree of states and covers what is expected: the states hold it.
 use Rattle.std.specs.Prelude.{◌≡◌, ℕ, List, Bool, true, Result, Ok, Err, is_some}
-use Rattle.std.proofs.Common.{sym, ap, ◌∙◌, absurd}
+use Rattle.std.proofs.Common.{sym, ap, ◌∙◌}
 use Rattle.std.specs.FinMap as map
 use Rattle.std.specs.FinSet as set
 use Rattle.table_model.specs.Query.{QueryShape}

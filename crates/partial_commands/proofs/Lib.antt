@@ -6,3 +6,4 @@ pub mod PartialAnswerTurns
 pub mod Trees
 pub mod FirstMissing
 pub mod Expectations
+pub mod ExpectedAnswers
