@@ -57,6 +57,7 @@ def a_read_that_fails_in_the_middle_of_an_input_is_never_its_end(room):
     room.ok("import", "--no-header", "--batch", "2.1", "o", "rows")
     room.put("s", room.ok("summary", "t"))
     room.put("f", room.ok("offer", "o", "s"))
+    room.put("p", room.ok("partial", "t", "SELECT COUNT(*) FROM T"))
     for words, name, subject, given in (
         (("import", "--no-header", "t", "rows"), "rows", "rows", None),
         (("import", "--no-header", "t", "-"), "rows", "standard input", "rows"),
@@ -66,6 +67,10 @@ def a_read_that_fails_in_the_middle_of_an_input_is_never_its_end(room):
         (("offer", "o", "s"), "s", "s", None),
         (("offer", "o", "-"), "s", "standard input", "s"),
         (("offer", "o", "s"), "o", "o", None),
+        (("finish", "--expect", "s", "p"), "s", "s", None),
+        (("finish", "--expect", "-", "p"), "s", "standard input", "s"),
+        (("inspect", "o"), "o", "o", None),
+        (("inspect", "s"), "s", "s", None),
         (("merge", "t", "t", "o"), "o", "o", None),
         (("query", "o", "SELECT COUNT(*) FROM T"), "o", "o", None),
         (("dump", "o"), "o", "o", None),
@@ -76,7 +81,7 @@ def a_read_that_fails_in_the_middle_of_an_input_is_never_its_end(room):
 def a_read_that_fails_under_the_lock_is_told_and_the_lock_is_given_back(room):
     room.make("t", rows=rows_text(30_000))
     room.make("o", rows=b"")
-    for words in (("delete", "t", "A = 1"), ("delete-rows", "t", "1.1", "0", "0"), ("apply", "t", "o"), ("forget", "t")):
+    for words in (("delete", "t", "A = 1"), ("delete-rows", "t", "1.1", "0", "0"), ("delete-rows", "--held", "t", "1.1", "0", "0"), ("apply", "t", "o"), ("forget", "t")):
         each_failed_read_is_told(room, words, "t", "t")
 
 
@@ -102,6 +107,7 @@ def the_faults_of_the_file_come_before_those_of_the_other_input(room):
         ("delete", "t", "A ="),
         ("delete", "t", "C = 1"),
         ("delete-rows", "t", "0.1", "2", "1"),
+        ("delete-rows", "--held", "t", "0.1", "2", "1"),
         ("offer", "t", "bad"),
         ("query", "t", "SELECT"),
         ("dump", "--where", "A =", "t"),

@@ -42,6 +42,9 @@ def each_command_says_of_a_folder_what_it_says_of_a_file(room):
         ("delete", "A = 2"),
         ("delete", "A = 2"),
         ("delete-rows", "9.9", "3", "5"),
+        ("delete-rows", "--held", "1.1", "2", "2"),
+        ("delete-rows", "--held", "1.1", "2", "9"),
+        ("delete-rows", "--held", "9.9", "0", "9"),
         ("apply", "o"),
         ("apply", "o"),
         ("forget",),
@@ -56,7 +59,8 @@ def each_command_says_of_a_folder_what_it_says_of_a_file(room):
         if words[0] == "import":
             said = [room.ok(*words, file, "-", given=given) for file in ("t", "d")]
         else:
-            said = [room.ok(words[0], file, *words[1:]) for file in ("t", "d")]
+            options = [word for word in words[1:] if word.startswith("--")]
+            said = [room.ok(words[0], *options, file, *words[1 + len(options) :]) for file in ("t", "d")]
         assert said[0] == said[1], f"{step} said {said}"
         room.ok("merge", "--quiet", "m", "d")
         assert room.get("m") == room.get("t"), f"after {step} the folder merges to other bytes than the file"
@@ -94,6 +98,8 @@ def refusals_of_a_folder_are_those_of_a_file(room):
     room.refused("delete", "d", "C = 1", line="refused NoSuchColumn 0", sentence='byte 0: there is no column "C": the table has A, B')
     room.refused("delete-rows", "d", "1.1", "2", "1", line="refused BadRange 0", sentence="the range ends before it starts")
     room.refused("delete-rows", "d", "0.1", "1", "1", line="refused BadName")
+    room.refused("delete-rows", "--held", "d", "0.1", "2", "1", line="refused BadName")
+    room.refused("delete-rows", "--held", "d", "7.7", "2", "1", line="refused BadRange 0")
     room.refused("import", "--no-header", "--batch", "1.1", "d", "-", given=b"9,9\n", line="refused Conflict 1.1", sentence="both have a batch 1.1, with different rows")
     room.refused("import", "--no-header", "--batch", "0.1", "d", "-", given=b"9,9\n", line="refused BadName")
     room.refused("import", "--no-header", "d", "-", given=b"x,9\n", line="refused BadCsv 1 1")
@@ -225,6 +231,19 @@ def the_same_part_twice_is_one(room):
     assert stamps == [(found.st_ino, found.st_mtime_ns) for found in (os.stat(room.path("d/" + part)) for part in parts)]
 
 
+def rows_are_deleted_only_where_their_batch_is(room):
+    make_folder(room, loads=2)
+    before = parts_of(room)
+    room.ok("delete-rows", "--held", "d", "5.5", "0", "0", prints=b"ok held=0\n")
+    assert parts_of(room) == before == sorted(os.listdir(room.path("d")))
+    name = room.ok("inspect", "--batches", "d").split(b"\n")[1].split(b",")[0].decode()
+    rows = count(room)
+    room.ok("delete-rows", "--held", "--quiet", "d", name, "0", "0", prints=b"")
+    assert count(room) == rows - 1 and len(parts_of(room)) == len(before) + 1
+    room.ok("delete-rows", "--held", "d", name, "0", "0", prints=b"ok held=1\n")
+    assert count(room) == rows - 1 and len(parts_of(room)) == len(before) + 1
+
+
 def a_link_to_a_folder_and_links_to_parts_are_read_through(room):
     make_folder(room, loads=2)
     os.symlink("d", room.path("l"))
@@ -253,5 +272,6 @@ TESTS = [
     a_pack_joins_small_parts_alone,
     a_pack_sweeps_what_nobody_holds,
     the_same_part_twice_is_one,
+    rows_are_deleted_only_where_their_batch_is,
     a_link_to_a_folder_and_links_to_parts_are_read_through,
 ]

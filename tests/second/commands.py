@@ -139,14 +139,16 @@ class Site(Maker):
         origin, number = self.pick.choice([(0, 1), (1, 0), (1, 1), (1, 2), (7, 1), (9, 9)])
         first = self.pick.choice([0, 1, 3, 65_535])
         last = self.pick.choice([first, first, 2, 7])
-        wanted = "ok\n"
+        is_held = self.pick.random() < 0.4
+        has_batch = (origin, number) in self.state.batches
+        wanted = f"ok held={int(has_batch)}\n" if is_held else "ok\n"
         if 0 in (origin, number):
             wanted = Fault("BadName")
         elif last < first:
             wanted = Fault("BadRange 0")
-        else:
+        elif has_batch or not is_held:
             self.state.deleted.update((origin, number, at) for at in range(first, last + 1))
-        return self.compared(["delete-rows", "t", f"{origin}.{number}", str(first), str(last)], wanted)
+        return self.compared(["delete-rows", *["--held"] * is_held, "t", f"{origin}.{number}", str(first), str(last)], wanted)
 
     def forget(self):
         batches, rows = self.state.forget()

@@ -4,6 +4,9 @@ ghost use Rattle.command_line.specs.Outcome.{IsUnread};
 
 use crate::fault::Fault;
 use crate::partial_answer_forms::{combine_command, finish_command, partial_command};
+use crate::report_forms::{
+    check_command, dump_command, inspect_command, offer_command, summary_command,
+};
 use crate::requests::{CsvForm, Queries, Request, Source};
 use crate::words;
 use answer_formats::Format;
@@ -247,10 +250,7 @@ impl Verb {
                 sql: text_of(given, "SQL"),
             }),
             Verb::Combine => self.combine_request(alloc, given),
-            Verb::Finish => Ok(Request::Finish {
-                partial: Source::named(text_of(given, "PARTIAL")),
-                format: self.format(alloc, given)?,
-            }),
+            Verb::Finish => self.finish_request(alloc, given),
             Verb::Dump => Ok(Request::Dump {
                 file: text_of(given, "FILE"),
                 has_names: given.get_flag("names"),
@@ -405,6 +405,7 @@ impl Verb {
             file: text_of(given, "FILE"),
             first: RowName { batch, ordinal },
             last,
+            is_held: given.get_flag("held"),
             is_quiet: given.get_flag("quiet"),
         })
     }
@@ -456,6 +457,23 @@ impl Verb {
             return Err(self.fault(alloc, "only one PARTIAL can be -"));
         }
         Ok(Request::Combine { partials })
+    }
+
+    /// What `lanes finish` asks for.
+    fn finish_request<'a>(self, alloc: Global, given: &ArgMatches<'a>) -> Result<Request<'a>, Fault>
+        ensures { IfErr result IsUnread }
+    {
+        let format = self.format(alloc, given)?;
+        let partial = Source::named(text_of(given, "PARTIAL"));
+        let expected = words::sources(alloc, given.get_strs("expect").unwrap_or(&[]))?;
+        if words::inputs(expected.as_slice()).saturating_add(words::inputs(&[partial])) > 1 {
+            return Err(self.fault(alloc, "only one of SUMMARY and PARTIAL can be -"));
+        }
+        Ok(Request::Finish {
+            partial,
+            expected,
+            format,
+        })
     }
 
     /// What `lanes inspect` asks for.
@@ -537,12 +555,12 @@ pub(crate) fn first_word<'a>(alloc: Global, name: &'a str, help: &'a str) -> Arg
 }
 
 /// The file that a command reads or changes.
-fn file<'a>(alloc: Global) -> Arg<'a> {
+pub(crate) fn file<'a>(alloc: Global) -> Arg<'a> {
     first_word(alloc, "FILE", "The file, or the folder of parts")
 }
 
 /// An option that is there or not.
-fn flag<'a>(alloc: Global, name: &'a str, help: &'a str) -> Arg<'a> {
+pub(crate) fn flag<'a>(alloc: Global, name: &'a str, help: &'a str) -> Arg<'a> {
     Arg::new(alloc, name)
         .long(name)
         .action(ArgAction::SetTrue)
@@ -647,6 +665,11 @@ fn delete_command<'a>(alloc: Global, command: Command<'a>) -> Result<Command<'a>
 fn delete_rows_command<'a>(alloc: Global, command: Command<'a>) -> Result<Command<'a>, AllocError> {
     command
         .about("Deletes rows by their names, whether they are there or arrive later")
+        .arg(flag(
+            alloc,
+            "held",
+            "Delete only if FILE has the batch, and say whether it has: ok held=0 or ok held=1",
+        ))?
         .arg(quiet(alloc))?
         .arg(file(alloc))?
         .arg(word(alloc, "O.N", "The name of the rows' batch"))?
@@ -677,74 +700,12 @@ fn query_command<'a>(alloc: Global, command: Command<'a>) -> Result<Command<'a>,
         .num_args(1..))
 }
 
-fn dump_command<'a>(alloc: Global, command: Command<'a>) -> Result<Command<'a>, AllocError> {
-    let names = flag(
-        alloc,
-        "names",
-        "Put each row's batch and ordinal before its values",
-    );
-    let condition = Arg::new(alloc, "where")
-        .long("where")
-        .value_name("COND")
-        .help("Only the rows for which this condition is true, as in WHERE")
-        .allow_hyphen_values(true);
-    let columns = Arg::new(alloc, "columns")
-        .long("columns")
-        .value_name("NAMES")
-        .help("Only these columns, in this order, with a comma between each two")
-        .allow_hyphen_values(true);
-    command
-        .about("Writes the rows as comma-separated values")
-        .arg(names)?
-        .arg(condition)?
-        .arg(columns)?
-        .arg(file(alloc))
-}
-
-fn inspect_command<'a>(alloc: Global, command: Command<'a>) -> Result<Command<'a>, AllocError> {
-    let batches = flag(
-        alloc,
-        "batches",
-        "List the batches instead: the name of each, its rows and its live rows",
-    );
-    command
-        .about("Writes what a file holds and how its columns are coded")
-        .arg(batches)?
-        .arg(format(alloc, "The form of the report: text or json"))?
-        .arg(file(alloc))
-}
-
-fn summary_command<'a>(alloc: Global, command: Command<'a>) -> Result<Command<'a>, AllocError> {
-    command
-        .about("Writes the names of a file's batches, for lanes offer")
-        .arg(file(alloc))
-}
-
-fn offer_command<'a>(alloc: Global, command: Command<'a>) -> Result<Command<'a>, AllocError> {
-    command
-        .about("Writes what a file has and a summary does not, for lanes apply")
-        .arg(file(alloc))?
-        .arg(word(
-            alloc,
-            "SUMMARY",
-            "The summary's file, or - for standard input",
-        ))
-}
-
 fn apply_command<'a>(alloc: Global, command: Command<'a>) -> Result<Command<'a>, AllocError> {
     command
         .about("Applies offers, or other files of the same table, to a file")
         .arg(quiet(alloc))?
         .arg(file(alloc))?
         .arg(word(alloc, "OFFER", "The offers' files, or - for standard input").num_args(1..))
-}
-
-fn check_command<'a>(alloc: Global, command: Command<'a>) -> Result<Command<'a>, AllocError> {
-    command
-        .about(
-            "Says whether a file is in canonical form, and how many batches and ranges of deletions it has",
-        )
-        .arg(file(alloc))
 }
 
 fn merge_command<'a>(alloc: Global, command: Command<'a>) -> Result<Command<'a>, AllocError> {

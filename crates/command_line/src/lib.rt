@@ -5,6 +5,7 @@ mod commands;
 mod fault;
 mod partial_answer_forms;
 mod program_arguments;
+mod report_forms;
 mod requests;
 mod words;
 

@@ -1,7 +1,7 @@
 //! How the commands on partial answers are read by `clap`.
 
 use crate::commands::{first_word, format, word};
-use clap::Command;
+use clap::{Arg, ArgAction, Command};
 use std::alloc::{AllocError, Global};
 
 /// What is shown below the help of `lanes partial`.
@@ -11,6 +11,10 @@ const PARTIAL_HELP: &str =
 /// What is shown below the help of `lanes combine`.
 const COMBINE_HELP: &str =
     "The partial answers are of one query, and of files that share no batch. Their order does not matter. What is written is a partial\nanswer too.";
+
+/// What is shown below the help of `lanes finish`.
+const FINISH_HELP: &str =
+    "With --expect SUMMARY, which lanes summary writes of a file, the answer comes only if each batch that the SUMMARY names was\ncounted. So a partial answer that is missing is noticed: Missing, with a batch. The option may come several times.";
 
 /// How `lanes partial` is read.
 pub(crate) fn partial_command<'a>(
@@ -51,8 +55,18 @@ pub(crate) fn finish_command<'a>(
     alloc: Global,
     command: Command<'a>,
 ) -> Result<Command<'a>, AllocError> {
+    let expect = Arg::new(alloc, "expect")
+        .long("expect")
+        .value_name("SUMMARY")
+        .action(ArgAction::Append)
+        .help(
+            "Answer only if each batch that this summary names was counted, or - for standard input",
+        )
+        .allow_hyphen_values(true);
     command
         .about("Writes the answer of the query that a partial answer is of")
+        .after_help(FINISH_HELP)
+        .arg(expect)?
         .arg(format(alloc, "The form of the answer: text, csv, json or table"))?
         .arg(first_word(
             alloc,

@@ -91,7 +91,8 @@ pub enum Request<'a> {
         /// Whether nothing is printed if all is well.
         is_quiet: bool,
     },
-    /// `lanes delete-rows [--quiet] FILE O.N FIRST LAST`: rows deleted by their names, held or not.
+    /// `lanes delete-rows [--held] [--quiet] FILE O.N FIRST LAST`: rows deleted by their names, held or not, or only if their batch is
+    /// held.
     DeleteRows {
         /// The file's name.
         file: &'a str,
@@ -99,6 +100,8 @@ pub enum Request<'a> {
         first: RowName,
         /// The last row's ordinal.
         last: u16,
+        /// Whether they are deleted only if their batch is held.
+        is_held: bool,
         /// Whether nothing is printed if all is well.
         is_quiet: bool,
     },
@@ -130,10 +133,12 @@ pub enum Request<'a> {
         /// Where the partial answers are read from, at least one.
         partials: Vec<Source<'a>>,
     },
-    /// `lanes finish [--format FORMAT] PARTIAL`: the answer of the query that a partial answer is of.
+    /// `lanes finish [--expect SUMMARY].. [--format FORMAT] PARTIAL`: the answer of the query that a partial answer is of.
     Finish {
         /// Where the partial answer is read from.
         partial: Source<'a>,
+        /// Where the summaries are read from whose batches have to be counted.
+        expected: Vec<Source<'a>>,
         /// The form of the answer.
         format: Format,
     },
@@ -149,7 +154,8 @@ pub enum Request<'a> {
         /// The names of the columns, with a comma between each two; empty for all columns.
         columns: &'a str,
     },
-    /// `lanes inspect [--batches] [--format FORMAT] FILE`: what a file holds and how it is coded, or a list of its batches.
+    /// `lanes inspect [--batches] [--format FORMAT] FILE`: what a file holds and how it is coded, or a list of its batches; or what a
+    /// partial answer or a summary covers.
     Inspect {
         /// The file's name.
         file: &'a str,

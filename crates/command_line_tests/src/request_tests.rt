@@ -125,7 +125,7 @@ const REQUESTS: [(&[&str], &str); 40] = [
     (&["import", "--separator", "\\", "f", "c"], "fault"),
 ];
 
-const MORE_REQUESTS: [(&[&str], &str); 44] = [
+const MORE_REQUESTS: [(&[&str], &str); 48] = [
     (&["import", "--separator", "\n", "f", "c"], "fault"),
     (&["import", "--null", "-99", "f", "c"], "fault"),
     (&["import", "--null", "0", "f", "c"], "fault"),
@@ -195,8 +195,13 @@ const MORE_REQUESTS: [(&[&str], &str); 44] = [
     ),
     (
         &["delete-rows", "--quiet", "f", "1.2", "00000", "65535"],
-        "DeleteRows { file: \"f\", first: RowName { batch: BatchName { origin: Origin(1), number: Number(2) }, ordinal: 0 }, last: 65535, is_quiet: true }",
+        "DeleteRows { file: \"f\", first: RowName { batch: BatchName { origin: Origin(1), number: Number(2) }, ordinal: 0 }, last: 65535, is_held: false, is_quiet: true }",
     ),
+    (
+        &["delete-rows", "--held", "f", "1.2", "1", "3"],
+        "DeleteRows { file: \"f\", first: RowName { batch: BatchName { origin: Origin(1), number: Number(2) }, ordinal: 1 }, last: 3, is_held: true, is_quiet: false }",
+    ),
+    (&["delete-rows", "f", "--held", "1.2", "1", "3"], "fault"),
     (&["delete-rows", "f", "1.2", "0", "65536"], "fault"),
     (&["delete-rows", "f", "1.2", "0", "000001"], "fault"),
     (&["forget", "f"], "Forget { file: \"f\", is_quiet: false }"),
@@ -225,12 +230,17 @@ const MORE_REQUESTS: [(&[&str], &str); 44] = [
     (&["combine", "-"], "Combine { partials: [Input] }"),
     (
         &["finish", "p"],
-        "Finish { partial: File(\"p\"), format: Text }",
+        "Finish { partial: File(\"p\"), expected: [], format: Text }",
     ),
     (
         &["finish", "--format", "json", "-"],
-        "Finish { partial: Input, format: Json }",
+        "Finish { partial: Input, expected: [], format: Json }",
     ),
+    (
+        &["finish", "--expect", "a", "--expect", "-", "p"],
+        "Finish { partial: File(\"p\"), expected: [File(\"a\"), Input], format: Text }",
+    ),
+    (&["finish", "--expect", "-", "-"], "fault"),
     (&["finish", "--format", "xml", "p"], "fault"),
     (&["finish", "p", "--format"], "fault"),
     (

@@ -229,6 +229,30 @@ fn a_sentence_names_its_input_and_what_is_known_beside(rt: HostRuntime) -> Resul
             "a count has more than 64 bits, a sum or a mean more than 128, or DISTINCT more than 2^36 values: ask fewer files at once",
         ),
         (
+            CommandRefusal::Missing(NAME),
+            "b.summary",
+            Knowledge::Nothing,
+            "b.summary: batch 1.7 is named here and was not counted: the partial answer of its file is missing, or the batch was forgotten since this summary was made",
+        ),
+        (
+            CommandRefusal::from(Refusal::BadMagic),
+            "a.csv",
+            Knowledge::Front(b"SITE,HITS\r\n1"),
+            "a.csv: this begins with \"SITE,HITS\\x0D\\x0A1\", which looks like a text: lanes import takes comma-separated values",
+        ),
+        (
+            CommandRefusal::from(Refusal::BadMagic),
+            "a.gz",
+            Knowledge::Front(b"\x1f\x8b\x08\x00"),
+            "a.gz: this begins with \"\\x1F\\x8B\\x08\\x00\", which looks like what gzip packed: unpack it first",
+        ),
+        (
+            CommandRefusal::from(Refusal::BadMagic),
+            "a",
+            Knowledge::Front(b"\x00\x01\x02\x03"),
+            "a: this begins with \"\\x00\\x01\\x02\\x03\", which is no format of this program",
+        ),
+        (
             CommandRefusal::from(Refusal::Conflict(BatchName {
                 origin: Origin(7),
                 number: Number(1),

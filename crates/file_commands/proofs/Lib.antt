@@ -1,1 +1,2 @@
 pub mod CrashProofs
+pub mod HeldRows

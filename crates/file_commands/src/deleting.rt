@@ -50,7 +50,7 @@ pub fn delete<F: Folder>(
 }
 
 /// What a delete by names answers, and the bytes that it wrote, which are none where nothing changed.
-fn rows_deleted(
+pub(crate) fn rows_deleted(
     alloc: Global,
     file: &[u8],
     first: RowName,

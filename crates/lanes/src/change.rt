@@ -1,6 +1,6 @@
 //! What a command changes in a file, and what it says of that.
 
-use file_commands::Left;
+use file_commands::{HeldRows, Left};
 use file_replacing::{Folder, Place};
 use replica_files::{Applied, Deleted, DeletedRows, Forgotten, Imported, Load, file_schema};
 use replica_store::Offer;
@@ -27,8 +27,13 @@ pub enum Change<'a> {
     Delete {
         condition: &'a str,
     },
-    /// It deletes rows by their names.
+    /// It deletes rows by their names, held or not.
     DeleteRows {
+        first: RowName,
+        last: u16,
+    },
+    /// It deletes rows by their names if their batch is held.
+    DeleteHeldRows {
         first: RowName,
         last: u16,
     },
@@ -65,6 +70,10 @@ impl<'a> Change<'a> {
                 let done = file_commands::delete_rows(alloc, folder, place, first, last)?;
                 (Answer::DeletedRows(done.answer), done.left)
             }
+            Change::DeleteHeldRows { first, last } => {
+                let done = file_commands::delete_held_rows(alloc, folder, place, first, last)?;
+                (Answer::DeletedHeldRows(done.answer), done.left)
+            }
             Change::Forget => {
                 let done = file_commands::forget(alloc, folder, place)?;
                 (Answer::Forgotten(done.answer), done.left)
@@ -90,7 +99,7 @@ impl<'a> Change<'a> {
             Change::Delete { condition } => {
                 replica_files::delete(alloc, reader, condition, &mut nowhere).map(|_| ())
             }
-            Change::DeleteRows { first, last } => {
+            Change::DeleteRows { first, last } | Change::DeleteHeldRows { first, last } => {
                 replica_files::delete_rows(alloc, reader, first, last, &mut nowhere).map(|_| ())
             }
             Change::Forget => replica_files::forget(alloc, reader, &mut nowhere).map(|_| ()),
@@ -130,6 +139,7 @@ pub enum Answer {
     Imported(Imported),
     Deleted(Deleted),
     DeletedRows(DeletedRows),
+    DeletedHeldRows(HeldRows),
     Forgotten(Forgotten),
     Applied(Applied),
 }
@@ -166,6 +176,10 @@ impl fmt::Display for Done {
     fn fmt<W: fmt::Write>(&self, f: &mut fmt::Formatter<W>) -> fmt::Result {
         match &self.answer {
             Answer::Created | Answer::DeletedRows(_) => f.write_str("ok"),
+            Answer::DeletedHeldRows(done) => {
+                let held = u8::from(done.is_held);
+                write!(f, "ok held={held}")
+            }
             Answer::Imported(imported) => write_import(imported, f),
             Answer::Deleted(deleted) => {
                 let rows = deleted.rows;

@@ -155,7 +155,7 @@ pub fn delete<
     )
 }
 
-/// Deletes rows by their names, held or not.
+/// Deletes rows by their names, held or not, or only if their batch is held.
 pub fn delete_rows<
     R: Print + Eprint + Files<File = File> + Clock + RandomSource + AllocGlobal + Clone + Drop,
 >(
@@ -164,19 +164,22 @@ pub fn delete_rows<
     file: &str,
     first: RowName,
     last: u16,
+    is_held: bool,
     is_quiet: bool,
 ) -> Result<(), Failure> {
     if is_folder(rt, file) {
-        return folder_changes::delete_rows(rt, file, first, last, is_quiet);
+        return if is_held {
+            folder_changes::delete_held_rows(rt, progress, file, first, last, is_quiet)
+        } else {
+            folder_changes::delete_rows(rt, file, first, last, is_quiet)
+        };
     }
-    change(
-        rt,
-        progress,
-        file,
-        Change::DeleteRows { first, last },
-        About::Nothing,
-        is_quiet,
-    )
+    let asked = if is_held {
+        Change::DeleteHeldRows { first, last }
+    } else {
+        Change::DeleteRows { first, last }
+    };
+    change(rt, progress, file, asked, About::Nothing, is_quiet)
 }
 
 /// Drops the batches of which every row is deleted.

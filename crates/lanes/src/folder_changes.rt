@@ -13,7 +13,7 @@ use crate::names::fault_of_names;
 use crate::progress::Progress;
 use crate::putting::{exists, keep_all, make_folder, put_part, say};
 use command_line::{CsvForm, Source};
-use file_commands::Left;
+use file_commands::{HeldRows, Left};
 use folder_parts::{
     check_room, part_of_deletes, part_of_load, part_of_named_load, part_of_offers, part_of_rows,
 };
@@ -233,6 +233,41 @@ pub fn delete_rows<
         }
         Err(refusal) => Err(refused_alone(rt, folder, in_memory(refusal))),
     }
+}
+
+/// Puts the deletion of rows by their names into a folder as one part, if a part of the folder holds their batch.
+pub fn delete_held_rows<
+    R: Print + Eprint + Files<File = File> + Clock + RandomSource + AllocGlobal + Clone + Drop,
+>(
+    rt: &R,
+    progress: &Progress<'_, R>,
+    folder: &str,
+    first: RowName,
+    last: u16,
+    is_quiet: bool,
+) -> Result<(), Failure> {
+    let opened: Opened<OpenFile> = open_folder(rt, progress, folder)?;
+    let mut writer = Counted::new(Vec::new(rt.alloc()));
+    let schema = opened.held.schema();
+    if let Err(refusal) = part_of_rows(rt.alloc(), schema, first, last, &mut writer) {
+        return Err(refused_alone(rt, folder, in_memory(refusal)));
+    }
+    let is_held = opened
+        .held
+        .store()
+        .summary(rt.alloc())?
+        .names()
+        .holds(first.batch);
+    let left = if is_held {
+        Left::Changed(put_part(rt, folder, writer.into_inner().as_slice())?)
+    } else {
+        Left::Kept
+    };
+    let answer = HeldRows {
+        is_held,
+        is_changed: is_held,
+    };
+    say(rt, folder, Answer::DeletedHeldRows(answer), left, is_quiet)
 }
 
 /// Puts what offers bring into a folder as one part, all or none. Of two applies at once that have other rows under one name the second

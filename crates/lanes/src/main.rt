@@ -11,6 +11,7 @@ mod folder_reports;
 mod folders;
 mod forgetting;
 mod inputs;
+mod inspecting;
 mod judged_puts;
 mod merging;
 mod names;
@@ -18,6 +19,7 @@ mod output;
 mod packing;
 mod part_failures;
 mod parts;
+mod peeked;
 mod progress;
 mod putting;
 mod queries;
@@ -130,9 +132,11 @@ fn answer<
         Request::Combine { partials } => {
             query_partial_answers::combine(rt, progress, partials.as_slice(), terminals.output)?;
         }
-        Request::Finish { partial, format } => query_partial_answers::finish(
-            rt, progress, partial, format,
-        )?,
+        Request::Finish {
+            partial,
+            expected,
+            format,
+        } => query_partial_answers::finish(rt, progress, partial, expected.as_slice(), format)?,
         Request::Create {
             file,
             table,
@@ -155,8 +159,9 @@ fn answer<
             file,
             first,
             last,
+            is_held,
             is_quiet,
-        } => changing::delete_rows(rt, progress, file, first, last, is_quiet)?,
+        } => changing::delete_rows(rt, progress, file, first, last, is_held, is_quiet)?,
         Request::Apply {
             file,
             offers,
@@ -173,7 +178,7 @@ fn answer<
             file,
             has_batches,
             form,
-        } => reports::inspect(rt, progress, file, has_batches, form)?,
+        } => inspecting::inspect(rt, progress, file, has_batches, form)?,
         Request::Summary { file } => reports::summary(rt, progress, file, terminals.output)?,
         Request::Offer { file, summary } => reports::offer(
             rt,

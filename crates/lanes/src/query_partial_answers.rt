@@ -6,18 +6,21 @@ use crate::inputs::{name_of, opened_from, partial_answer_again, source_of, unrea
 use crate::progress::Progress;
 use crate::reports::{buffered, flushed, told};
 use crate::watched::Watched;
+use column_file::read_summary;
 use command_line::{Format, Source, not_for_a_terminal};
 use partial_answers::{PartialAnswer, PartialAnswerFault};
 use partial_commands::{
-    PartialAnswerError, combine_next, partial_answer_of_store, write_finished_answer,
+    ExpectationError, PartialAnswerError, combine_next, partial_answer_of_store,
+    write_expected_answer, write_finished_answer,
 };
-use partial_file::write_partial_answer;
+use partial_file::{read_partial_answer, write_partial_answer};
 use refusal_sentences::{CommandRefusal, Printable, Sentence, Text};
+use replica_store::Summary;
 use std::alloc::AllocError;
 use std::fs::{File, Files};
 use std::io;
 use std::rt::Clock;
-use table_model::{Counted, Refusal, Schema};
+use table_model::{BatchName, Counted, Refusal, Schema};
 
 /// What is said of a partial answer whose text is not a query.
 const NO_QUERY: &str = "this was not written by lanes partial: its text is not a query";
@@ -93,8 +96,23 @@ fn combined<'r, R: Eprint + Input + Files + Clock + AllocGlobal>(
     Ok(before)
 }
 
-/// Writes the answer of the query that a partial answer is of.
+/// Writes the answer of the query that a partial answer is of, if it covers what these summaries expect.
 pub fn finish<'r, R: Print + Eprint + Input + Files + Clock + AllocGlobal>(
+    rt: &'r R,
+    progress: &'r Progress<'r, R>,
+    source: Source<'_>,
+    expected: &[Source<'_>],
+    format: Format,
+) -> Result<(), Failure> {
+    if expected.is_empty() {
+        finish_any(rt, progress, source, format)
+    } else {
+        finish_expected(rt, progress, source, expected, format)
+    }
+}
+
+/// Writes the answer of the query that a partial answer is of, whatever it covers.
+fn finish_any<'r, R: Print + Eprint + Input + Files + Clock + AllocGlobal>(
     rt: &'r R,
     progress: &'r Progress<'r, R>,
     source: Source<'_>,
@@ -114,6 +132,87 @@ pub fn finish<'r, R: Print + Eprint + Input + Files + Clock + AllocGlobal>(
         }
         Err(error) => Err(refused(rt, source, error)),
     }
+}
+
+/// Writes the answer of the query that a partial answer is of, if each batch that one of these summaries names was counted.
+fn finish_expected<'r, R: Print + Eprint + Input + Files + Clock + AllocGlobal>(
+    rt: &'r R,
+    progress: &'r Progress<'r, R>,
+    source: Source<'_>,
+    expected: &[Source<'_>],
+    format: Format,
+) -> Result<(), Failure> {
+    let partial = match read_partial_answer(rt.alloc(), &mut source_of(rt, progress, source)) {
+        Ok(partial) => partial,
+        Err(refusal) => return Err(unread(rt, CommandRefusal::from(refusal), source)),
+    };
+    let schema = partial.schema().copy(rt.alloc())?;
+    let summaries = read_summaries(rt, progress, expected)?;
+    let summaries = summaries.as_slice();
+    let mut writer = Counted::new(Watched::new(io::writer(rt)));
+    match write_expected_answer(rt.alloc(), partial, summaries, format, &mut writer) {
+        Ok(()) => Ok(()),
+        Err(ExpectationError::Unanswered(PartialAnswerError::Refused(Refusal::WriteFault))) => {
+            told(rt, writer.into_inner().ended(Err(Refusal::WriteFault)))
+        }
+        Err(ExpectationError::Unanswered(error)) => Err(refused(rt, source, error)),
+        Err(ExpectationError::SchemaDiffers) => {
+            Err(of_other_table(rt, expected, summaries, name_of(source), &schema))
+        }
+        Err(ExpectationError::Missing(name)) => Err(missing(rt, expected, summaries, name)),
+    }
+}
+
+/// The summaries of these sources, one after another.
+fn read_summaries<'r, R: Eprint + Input + Files + Clock + AllocGlobal>(
+    rt: &'r R,
+    progress: &'r Progress<'r, R>,
+    sources: &[Source<'_>],
+) -> Result<Vec<Summary>, Failure> {
+    let mut summaries = Vec::new(rt.alloc());
+    for source in sources {
+        match read_summary(rt.alloc(), &mut source_of(rt, progress, *source)) {
+            Ok(summary) => summaries.push(summary)?,
+            Err(refusal) => return Err(unread(rt, CommandRefusal::from(refusal), *source)),
+        }
+    }
+    Ok(summaries)
+}
+
+/// Why a partial answer of a table is not finished: the first of these summaries that is of another one.
+fn of_other_table<R: AllocGlobal>(
+    rt: &R,
+    sources: &[Source<'_>],
+    summaries: &[Summary],
+    of: &str,
+    schema: &Schema,
+) -> Failure {
+    for (source, summary) in sources.iter().zip(summaries) {
+        if !summary.schema().same(schema) {
+            return Failure::of_tables(rt.alloc(), name_of(*source), summary.schema(), of, schema);
+        }
+    }
+    Failure::from(Refusal::SchemaDiffers)
+}
+
+/// Why a partial answer is not finished: a batch is missing, which the first of these summaries that has it names.
+fn missing<R: AllocGlobal>(
+    rt: &R,
+    sources: &[Source<'_>],
+    summaries: &[Summary],
+    name: BatchName,
+) -> Failure {
+    let refusal = CommandRefusal::Missing(name);
+    for (source, summary) in sources.iter().zip(summaries) {
+        if summary.names().holds(name) {
+            let sentence = Sentence {
+                subject: name_of(*source),
+                ..Sentence::new(refusal)
+            };
+            return Failure::new(rt.alloc(), sentence);
+        }
+    }
+    Failure::of(rt.alloc(), refusal)
 }
 
 /// Writes a partial answer to standard output.

@@ -6,10 +6,10 @@ use crate::folders::is_folder;
 use crate::inputs::{name_of, opened, source_of, unread};
 use crate::progress::Progress;
 use crate::watched::{Cause, Watched};
-use command_line::{ReportForm, Source, not_for_a_terminal};
+use command_line::{Source, not_for_a_terminal};
 use live_columns::{Unchosen, choose};
 use refusal_sentences::{CommandRefusal, Text, is_of_a_text};
-use replica_files::{OpenFile, dump_where, list_batches};
+use replica_files::{OpenFile, dump_where};
 use std::fs::{File, Files};
 use std::io::{self, BufWriter, Printer, Write};
 use std::rt::Clock;
@@ -82,27 +82,6 @@ fn unchosen<R: AllocGlobal>(rt: &R, refusal: Refusal, condition: &str, held: &Op
         schema: Some(held.schema()),
     };
     Failure::of_text(rt.alloc(), refusal, "--where", text)
-}
-
-/// Writes what a file holds and how its columns are coded, or a list of its batches.
-pub fn inspect<R: Print + Eprint + Files<File = File> + Clock + AllocGlobal + Clone + Drop>(
-    rt: &R,
-    progress: &Progress<'_, R>,
-    file: &str,
-    has_batches: bool,
-    form: ReportForm,
-) -> Result<(), Failure> {
-    if !has_batches && is_folder(rt, file) {
-        return folder_reports::inspect(rt, progress, file, form);
-    }
-    let held = opened(rt, progress, file)?;
-    let mut writer = buffered(rt)?;
-    let outcome = if has_batches {
-        list_batches(rt.alloc(), &held, form, &mut writer)
-    } else {
-        replica_files::inspect(rt.alloc(), &held, form, &mut writer)
-    };
-    told(rt, flushed(writer, outcome))
 }
 
 /// Writes the names of a file's batches, as a message.

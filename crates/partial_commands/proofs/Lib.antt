@@ -4,3 +4,6 @@ pub mod FileSteps
 pub mod PartialAnswersAgain
 pub mod PartialAnswerTurns
 pub mod Trees
+pub mod FirstMissing
+pub mod Expectations
+pub mod ExpectedAnswers

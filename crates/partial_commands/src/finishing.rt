@@ -13,7 +13,7 @@ use std::io::{Read, Write};
 use table_model::Counted;
 
 /// The text of the answer that a partial answer finishes to, in a format.
-fn answer_text(
+pub(crate) fn answer_text(
     alloc: Global,
     partial: PartialAnswer,
     format: Format,

@@ -16,3 +16,4 @@ command_text refusals.Damaged = codes "Damaged"
 command_text (refusals.NotApart name) = codes "NotApart " ++ name_text name
 command_text refusals.QueryDiffers = codes "QueryDiffers"
 command_text refusals.TooMany = codes "TooMany"
+command_text (refusals.Missing name) = codes "Missing " ++ name_text name

@@ -26,6 +26,8 @@ pub enum CommandRefusal {
     QueryDiffers,
     /// A number of an answer that is past its range.
     TooMany,
+    /// A batch that a summary names and a partial answer has not counted; the least.
+    Missing(BatchName),
 }
 
 impl From<Refusal> for CommandRefusal {
@@ -63,6 +65,7 @@ impl fmt::Display for CommandRefusal {
             CommandRefusal::NotApart(name) => write!(f, "NotApart {name}"),
             CommandRefusal::QueryDiffers => f.write_str("QueryDiffers"),
             CommandRefusal::TooMany => f.write_str("TooMany"),
+            CommandRefusal::Missing(name) => write!(f, "Missing {name}"),
         }
     }
 }

@@ -3,6 +3,7 @@
 
 mod command_refusal;
 mod csv_fault;
+mod front;
 mod meaning;
 mod pointer;
 mod quoted;

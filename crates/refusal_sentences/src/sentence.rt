@@ -2,6 +2,7 @@
 
 use crate::command_refusal::CommandRefusal;
 use crate::csv_fault::{Fields, write_fault_of_field, write_fault_of_heading};
+use crate::front::Front;
 use crate::meaning::meaning_of;
 use crate::quoted::{Printable, Quoted};
 use crate::reason::{unread, unwritten};
@@ -48,6 +49,8 @@ pub enum Knowledge<'a> {
     Rows(&'a Schema),
     /// The other input that has a batch of the same name.
     Other(&'a str),
+    /// The first bytes of an input of another format, at most 16.
+    Front(&'a [u8]),
     /// The table of the input, the one that it should have, and whose that is.
     Tables {
         found: &'a Schema,
@@ -137,7 +140,8 @@ impl<'a> Sentence<'a> {
             | (CommandRefusal::Damaged, _)
             | (CommandRefusal::NotApart(_), _)
             | (CommandRefusal::QueryDiffers, _)
-            | (CommandRefusal::TooMany, _) => Place::None,
+            | (CommandRefusal::TooMany, _)
+            | (CommandRefusal::Missing(_), _) => Place::None,
         }
     }
 
@@ -206,6 +210,10 @@ impl<'a> Sentence<'a> {
             CommandRefusal::TooMany => f.write_str(
                 "a count has more than 64 bits, a sum or a mean more than 128, or DISTINCT more than 2^36 values: ask fewer files at once",
             ),
+            CommandRefusal::Missing(name) => write!(
+                f,
+                "batch {name} is named here and was not counted: the partial answer of its file is missing, or the batch was forgotten since this summary was made"
+            ),
         }
     }
 }
@@ -239,6 +247,10 @@ impl<'a> Sentence<'a> {
                     f,
                     "this and {other} have a batch {name}, with different rows"
                 )?;
+            }
+            (CommandRefusal::Named(Refusal::BadMagic), Knowledge::Front(bytes)) => {
+                let front = Front(bytes);
+                write!(f, "{front}")?;
             }
             (CommandRefusal::Named(Refusal::NoSuchColumn(_)), Knowledge::Name { name, schema }) => {
                 let name = Quoted(name.as_bytes());

@@ -1,0 +1,16 @@
+-- The summary of the store that the file holds has the names of its batches.
+use Rattle.std.proofs.Common.{◌∙◌, sym, ap}
+use Rattle.std.specs.FinSet as set
+use Rattle.table_model.specs.Name.{name_cmp}
+use Rattle.replica_store.specs.Exchange.{SummaryForm, summary_of}
+use Rattle.replica_store.specs.Replica.{Replica, names_of}
+use Rattle.file_commands.proofs.HeldRows.{ok_one}
+use Rattle.file_commands.proofs.held_rows.holds.Goals as goal
+
+pub returns : goal.returns
+returns c = λ r is.
+    let same = ok_one c.in_ok-store.store.replica r (sym c.in_ok-store.ensures.read ∙ is) in
+    let told = ok_one (summary_of c.in_ok-store.store.replica) c.in_ok-summary.summary c.in_ok-summary.ensures in
+    c.holds.ensures
+    ∙ ap (λ (s : set.FinSet name_cmp). set.contains s c.args.name)
+    (c.names.ensures.value ∙ ap (λ (s : SummaryForm). s.names) (sym told) ∙ ap (λ (q : Replica). names_of q.state.batches) same)

@@ -1,0 +1,147 @@
+//! What `lanes inspect` writes: what a file or a folder holds, and what a partial answer or a summary covers.
+
+use crate::failure::Failure;
+use crate::folder_reports;
+use crate::folders::is_folder;
+use crate::inputs::{LazyFile, opened, unread};
+use crate::peeked::Peeked;
+use crate::progress::{Progress, Told};
+use crate::reports::{buffered, flushed, told};
+use column_file::read_summary;
+use command_line::{ReportForm, Source};
+use partial_commands::{inspect_partial_answer, inspect_summary};
+use partial_file::read_partial_answer;
+use refusal_sentences::{CommandRefusal, Knowledge, Sentence};
+use replica_files::{OpenFile, list_batches};
+use std::fs::{File, Files};
+use std::io::Read;
+use std::rt::Clock;
+use table_model::{Counted, Refusal};
+
+/// What a partial answer begins with.
+const PARTIAL: &[u8] = b"FLPT";
+
+/// What a summary begins with.
+const SUMMARY: &[u8] = b"FLSM";
+
+/// Writes what a file holds and how its columns are coded, or a list of its batches; or what a partial answer or a summary covers.
+pub fn inspect<R: Print + Eprint + Files<File = File> + Clock + AllocGlobal + Clone + Drop>(
+    rt: &R,
+    progress: &Progress<'_, R>,
+    file: &str,
+    has_batches: bool,
+    form: ReportForm,
+) -> Result<(), Failure> {
+    if is_folder(rt, file) {
+        return inspect_folder(rt, progress, file, has_batches, form);
+    }
+    let peeked = Peeked::new(Told::new(progress, Source::File(file), LazyFile::new(rt, file)));
+    if has_batches {
+        list(rt, file, peeked, form)
+    } else if peeked.front().starts_with(PARTIAL) {
+        inspect_partial(rt, file, peeked, form)
+    } else if peeked.front().starts_with(SUMMARY) {
+        inspect_names(rt, file, peeked, form)
+    } else {
+        inspect_file(rt, file, peeked, form)
+    }
+}
+
+/// Writes what a folder holds, or a list of its batches.
+fn inspect_folder<R: Print + Eprint + Files<File = File> + Clock + AllocGlobal + Clone + Drop>(
+    rt: &R,
+    progress: &Progress<'_, R>,
+    folder: &str,
+    has_batches: bool,
+    form: ReportForm,
+) -> Result<(), Failure> {
+    if !has_batches {
+        return folder_reports::inspect(rt, progress, folder, form);
+    }
+    let held = opened(rt, progress, folder)?;
+    let mut writer = buffered(rt)?;
+    let outcome = list_batches(rt.alloc(), &held, form, &mut writer);
+    told(rt, flushed(writer, outcome))
+}
+
+/// What a file holds whose first bytes were looked at.
+fn open<R: Files + AllocGlobal, D: Read + Drop>(
+    rt: &R,
+    file: &str,
+    reader: Peeked<D>,
+) -> Result<OpenFile, Failure> {
+    let mut reader = Counted::new(reader);
+    match OpenFile::read(rt.alloc(), &mut reader) {
+        Ok(held) => Ok(held),
+        Err(Refusal::BadMagic) => {
+            let reader = reader.into_inner();
+            let sentence = Sentence {
+                refusal: CommandRefusal::from(Refusal::BadMagic),
+                subject: file,
+                knowledge: Knowledge::Front(reader.front()),
+            };
+            Err(Failure::new(rt.alloc(), sentence))
+        }
+        Err(refusal) => Err(unread(rt, CommandRefusal::from(refusal), Source::File(file))),
+    }
+}
+
+/// Writes a list of a file's batches.
+fn list<R: Print + Files + AllocGlobal, D: Read + Drop>(
+    rt: &R,
+    file: &str,
+    reader: Peeked<D>,
+    form: ReportForm,
+) -> Result<(), Failure> {
+    let held = open(rt, file, reader)?;
+    let mut writer = buffered(rt)?;
+    let outcome = list_batches(rt.alloc(), &held, form, &mut writer);
+    told(rt, flushed(writer, outcome))
+}
+
+/// Writes what a file holds and how its columns are coded.
+fn inspect_file<R: Print + Files + AllocGlobal, D: Read + Drop>(
+    rt: &R,
+    file: &str,
+    reader: Peeked<D>,
+    form: ReportForm,
+) -> Result<(), Failure> {
+    let held = open(rt, file, reader)?;
+    let mut writer = buffered(rt)?;
+    let outcome = replica_files::inspect(rt.alloc(), &held, form, &mut writer);
+    told(rt, flushed(writer, outcome))
+}
+
+/// Writes what a partial answer covers.
+fn inspect_partial<R: Print + Files + AllocGlobal, D: Read + Drop>(
+    rt: &R,
+    file: &str,
+    reader: Peeked<D>,
+    form: ReportForm,
+) -> Result<(), Failure> {
+    match read_partial_answer(rt.alloc(), &mut Counted::new(reader)) {
+        Ok(partial) => {
+            let mut writer = buffered(rt)?;
+            let outcome = inspect_partial_answer(rt.alloc(), &partial, form, &mut writer);
+            told(rt, flushed(writer, outcome))
+        }
+        Err(refusal) => Err(unread(rt, CommandRefusal::from(refusal), Source::File(file))),
+    }
+}
+
+/// Writes which batches a summary names.
+fn inspect_names<R: Print + Files + AllocGlobal, D: Read + Drop>(
+    rt: &R,
+    file: &str,
+    reader: Peeked<D>,
+    form: ReportForm,
+) -> Result<(), Failure> {
+    match read_summary(rt.alloc(), &mut Counted::new(reader)) {
+        Ok(summary) => {
+            let mut writer = buffered(rt)?;
+            let outcome = inspect_summary(rt.alloc(), &summary, form, &mut writer);
+            told(rt, flushed(writer, outcome))
+        }
+        Err(refusal) => Err(unread(rt, CommandRefusal::from(refusal), Source::File(file))),
+    }
+}

@@ -1,0 +1,74 @@
+//! A reader whose first bytes are looked at before it is read.
+
+use std::io::{self, Read};
+
+/// How many of the first bytes are looked at, at most.
+const FRONT_BYTES: usize = 16;
+
+/// A reader whose first bytes were looked at. They come again, and then what follows.
+#[derive(Drop)]
+pub struct Peeked<D> {
+    inner: D,
+    front: [u8; FRONT_BYTES],
+    length: usize,
+    given: usize,
+    fault: Option<io::Error>,
+}
+
+impl<D: Read + Drop> Peeked<D> {
+    /// A reader, from which nothing was read yet. If it fails, that comes again when it is read.
+    pub fn new(inner: D) -> Peeked<D> {
+        let mut peeked = Peeked {
+            inner,
+            front: [0; FRONT_BYTES],
+            length: 0,
+            given: 0,
+            fault: None,
+        };
+        for _ in 0..FRONT_BYTES {
+            if !peeked.look() {
+                break;
+            }
+        }
+        peeked
+    }
+
+    /// Looks at more of the first bytes. Answers whether some came.
+    fn look(&mut self) -> bool {
+        let Some(room) = self.front.get_mut(self.length..) else {
+            return false;
+        };
+        match self.inner.read(room) {
+            Ok(count) => {
+                self.length = self.length.saturating_add(count).min(FRONT_BYTES);
+                count > 0
+            }
+            Err(error) => {
+                self.fault = Some(error);
+                false
+            }
+        }
+    }
+
+    /// The first bytes, at most 16.
+    pub fn front(&self) -> &[u8] {
+        self.front.get(..self.length).unwrap_or(&[])
+    }
+}
+
+impl<D: Read + Drop> Read for Peeked<D> {
+    fn read(&mut self, buffer: &mut [u8]) -> io::Result<usize> {
+        let left = self.front.get(self.given..self.length).unwrap_or(&[]);
+        let count = left.len().min(buffer.len());
+        if count > 0 {
+            let (before, _) = buffer.split_at_mut(count);
+            before.copy_from_slice(&left[..count]);
+            self.given = self.given.saturating_add(count);
+            return Ok(count);
+        }
+        match self.fault.take() {
+            Some(error) => Err(error),
+            None => self.inner.read(buffer),
+        }
+    }
+}
