@@ -1,0 +1,39 @@
+-- A table that is spread over several: each batch goes to one share, and with it the deletions that name it.
+use Rattle.std.specs.Prelude.{ℕ, zero, suc, Bool, cond, ◌==◌, List, [], ◌∷◌, filter}
+use Rattle.std.specs.Ordering.{is_lt}
+use Rattle.std.specs.FinMap as map
+use Rattle.std.specs.FinSet as set
+use Rattle.table_model.specs.Name.{name_cmp}
+use Rattle.table_model.specs.State.{State, join}
+use Rattle.table_model.specs.declared.names.BatchName.{BatchName}
+use Rattle.table_model.specs.declared.names.RowName.{RowName}
+
+-- The run that a name is in, counted from 0: each of the given names begins a run, and the names below the first of them are run 0.
+abbrev pub run_of : List BatchName → BatchName → ℕ
+run_of [] name = 0
+run_of (first ∷ firsts) name = cond (is_lt (name_cmp name first)) 0 (suc (run_of firsts name))
+
+-- The share that a name goes to: that of its run if a batch of this name is held, and else the first.
+abbrev pub share_at : List BatchName → State → BatchName → ℕ
+share_at firsts s name = cond (map.contains_key s.batches name) (run_of firsts name) 0
+
+-- what of a state goes with some names: the batches of these names, and the deletions that name them, also of rows that they don't have
+unfoldable pub of_names : (BatchName → Bool) → State → State
+of_names goes s = record { batches = map.retain_keys s.batches goes; deleted = set.from_list (filter (λ (row : RowName). goes row.batch) (set.items s.deleted)) }
+
+-- a share: what of a state goes with the names that go to it
+abbrev pub share_of : List BatchName → ℕ → State → State
+share_of firsts index s = of_names (λ name. share_at firsts s name == index) s
+
+-- TEMP
+pub data Shards : Type 0 where
+  One : State → Shards
+  Two : Shards → Shards → Shards
+abbrev pub joined : Shards → State
+joined (One s) = s
+joined (Two a b) = join (joined a) (joined b)
+
+-- the shares from the first up to one, each joined to those before it
+abbrev pub shares_up_to : List BatchName → State → ℕ → Shards
+shares_up_to firsts s zero = One (share_of firsts 0 s)
+shares_up_to firsts s (suc n) = Two (shares_up_to firsts s n) (One (share_of firsts (suc n) s))

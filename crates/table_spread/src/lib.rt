@@ -1,0 +1,6 @@
+//! A table spread over several: shares that are apart, and that are the table when they are joined.
+#![tactic(auto)]
+
+mod laws;
+
+pub use laws::spread_laws;
