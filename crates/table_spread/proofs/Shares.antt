@@ -14,7 +14,7 @@ use Rattle.table_model.specs.declared.names.RowName.{RowName}
 use Rattle.table_model.proofs.NameOrder.{row_names_total, exact_names, exact_row_names}
 use Rattle.table_model.proofs.Operations.{same_row_name}
 use Rattle.table_model.proofs.Joins.{or_else, or_else-idempotent, get-union, same_states, same_maps}
-use Rattle.table_spread.specs.Spread.{run_of, share_at, of_names, share_of, Shards, One, Two, joined, shares_up_to}
+use Rattle.table_spread.specs.Spread.{run_of, share_at, deletions_of, of_names, held_of, share_of, Shards, One, Two, joined, shares_up_to}
 
 -- a row of the list that passes the test
 any-filter : (p : RowName → Bool) (q : RowName) (rows : List RowName) → list_any (eq_by_cmp row_name_cmp q) (filter p rows) ≡ (p q && list_any (eq_by_cmp row_name_cmp q) rows)
@@ -42,12 +42,16 @@ pub get-of_names : (goes : BatchName → Bool) (s : State) (q : BatchName) → m
 unfolding of_names
 get-of_names goes s q = map.get-retain_keys s.batches goes q (λ x tied. ap goes (sym (exact_names q x tied)))
 
+pub contains-deletions_of : (goes : BatchName → Bool) (deleted : set.FinSet row_name_cmp) (r : RowName) → set.contains (deletions_of goes deleted) r ≡ (goes r.batch && set.contains deleted r)
+unfolding deletions_of
+contains-deletions_of goes deleted r =
+    set.contains-from_list row_names_total (filter (λ (row : RowName). goes row.batch) (set.items deleted)) r
+    ∙ any-filter (λ (row : RowName). goes row.batch) r (set.items deleted)
+    ∙ ap (λ b. goes r.batch && b) (sym (set.contains-items deleted r))
+
 pub contains-of_names : (goes : BatchName → Bool) (s : State) (r : RowName) → set.contains (of_names goes s).deleted r ≡ (goes r.batch && set.contains s.deleted r)
 unfolding of_names
-contains-of_names goes s r =
-    set.contains-from_list row_names_total (filter (λ (row : RowName). goes row.batch) (set.items s.deleted)) r
-    ∙ any-filter (λ (row : RowName). goes row.batch) r (set.items s.deleted)
-    ∙ ap (λ b. goes r.batch && b) (sym (set.contains-items s.deleted r))
+contains-of_names goes s r = contains-deletions_of goes s.deleted r
 
 either_if : {X : Type 0} (a b : Bool) (o : Option X) → or_else (cond a o None) (cond b o None) ≡ cond (a || b) o None
 either_if true true o = or_else-idempotent o
@@ -90,8 +94,8 @@ run_of-le (first ∷ firsts) name =
       | false ↦ let rest = run_of-le firsts name in omega arith
     ]
 
-pub share_at-le : (firsts : List BatchName) (s : State) (name : BatchName) → share_at firsts s name ≤ length firsts
-share_at-le firsts s name = elim (map.contains_key s.batches name) as (λ b. cond b (run_of firsts name) 0 ≤ length firsts) [ true ↦ run_of-le firsts name | false ↦ omega arith ]
+pub share_at-le : (firsts : List BatchName) (held : set.FinSet name_cmp) (name : BatchName) → share_at firsts held name ≤ length firsts
+share_at-le firsts held name = elim (set.contains held name) as (λ b. cond b (run_of firsts name) 0 ≤ length firsts) [ true ↦ run_of-le firsts name | false ↦ omega arith ]
 
 -- ---- the shares up to one
 -- ---- numbers up to one
@@ -125,14 +129,14 @@ up_to_all k n le = le-leb k n le
 module _ (firsts : List BatchName) (s : State) where
   -- what goes to the shares up to one
   abbrev pub goes_up_to : ℕ → BatchName → Bool
-  goes_up_to n name = nat_le (share_at firsts s name) n
+  goes_up_to n name = nat_le (share_at firsts (held_of s) name) n
 
   pub joined_up_to : (n : ℕ) → joined (shares_up_to firsts s n) ≡ of_names (goes_up_to n) s
-  joined_up_to zero = ap (λ (goes : BatchName → Bool). of_names goes s) (λ i name. up_to_none (share_at firsts s name) i)
+  joined_up_to zero = ap (λ (goes : BatchName → Bool). of_names goes s) (λ i name. up_to_none (share_at firsts (held_of s) name) i)
   joined_up_to (suc n) =
       ap (λ (t : State). join t (share_of firsts (suc n) s)) (joined_up_to n)
-      ∙ join-of_names (goes_up_to n) (λ name. share_at firsts s name == suc n) s
-      ∙ ap (λ (goes : BatchName → Bool). of_names goes s) (λ i name. up_to_more (share_at firsts s name) n i)
+      ∙ join-of_names (goes_up_to n) (λ name. share_at firsts (held_of s) name == suc n) s
+      ∙ ap (λ (goes : BatchName → Bool). of_names goes s) (λ i name. up_to_more (share_at firsts (held_of s) name) n i)
 
   pub joined_all : (n : ℕ) → length firsts ≤ n → joined (shares_up_to firsts s n) ≡ s
-  joined_all n le = joined_up_to n ∙ of_all (goes_up_to n) s (λ name. up_to_all (share_at firsts s name) n (let few = share_at-le firsts s name in omega (arith, le, few)))
+  joined_all n le = joined_up_to n ∙ of_all (goes_up_to n) s (λ name. up_to_all (share_at firsts (held_of s) name) n (let few = share_at-le firsts (held_of s) name in omega (arith, le, few)))

@@ -3,7 +3,7 @@ use Rattle.std.specs.Prelude.{ℕ, zero, suc, Bool, cond, ◌==◌, List, [], �
 use Rattle.std.specs.Ordering.{is_lt}
 use Rattle.std.specs.FinMap as map
 use Rattle.std.specs.FinSet as set
-use Rattle.table_model.specs.Name.{name_cmp}
+use Rattle.table_model.specs.Name.{name_cmp, row_name_cmp}
 use Rattle.table_model.specs.State.{State, join}
 use Rattle.table_model.specs.declared.names.BatchName.{BatchName}
 use Rattle.table_model.specs.declared.names.RowName.{RowName}
@@ -13,17 +13,29 @@ abbrev pub run_of : List BatchName → BatchName → ℕ
 run_of [] name = 0
 run_of (first ∷ firsts) name = cond (is_lt (name_cmp name first)) 0 (suc (run_of firsts name))
 
--- The share that a name goes to: that of its run if a batch of this name is held, and else the first.
-abbrev pub share_at : List BatchName → State → BatchName → ℕ
-share_at firsts s name = cond (map.contains_key s.batches name) (run_of firsts name) 0
+-- The share that a name goes to where some names are held: that of its run if it is one of them, and else the first.
+abbrev pub share_at : List BatchName → set.FinSet name_cmp → BatchName → ℕ
+share_at firsts held name = cond (set.contains held name) (run_of firsts name) 0
 
--- what of a state goes with some names: the batches of these names, and the deletions that name them, also of rows that they don't have
+-- whether a name goes to a share
+abbrev pub goes_to : List BatchName → set.FinSet name_cmp → ℕ → BatchName → Bool
+goes_to firsts held index name = share_at firsts held name == index
+
+-- the deletions that name some batches, also of rows that these don't have
+unfoldable pub deletions_of : (BatchName → Bool) → set.FinSet row_name_cmp → set.FinSet row_name_cmp
+deletions_of goes deleted = set.from_list (filter (λ (row : RowName). goes row.batch) (set.items deleted))
+
+-- what of a state goes with some names: the batches of these names, and the deletions that name them
 unfoldable pub of_names : (BatchName → Bool) → State → State
-of_names goes s = record { batches = map.retain_keys s.batches goes; deleted = set.from_list (filter (λ (row : RowName). goes row.batch) (set.items s.deleted)) }
+of_names goes s = record { batches = map.retain_keys s.batches goes; deleted = deletions_of goes s.deleted }
+
+-- TEMP
+unfoldable pub held_of : State → set.FinSet name_cmp
+held_of s = set.from_list (map.keys s.batches)
 
 -- a share: what of a state goes with the names that go to it
 abbrev pub share_of : List BatchName → ℕ → State → State
-share_of firsts index s = of_names (λ name. share_at firsts s name == index) s
+share_of firsts index s = of_names (goes_to firsts (held_of s) index) s
 
 -- TEMP
 pub data Shards : Type 0 where

@@ -2,5 +2,7 @@
 #![tactic(auto)]
 
 mod laws;
+mod name_runs;
 
 pub use laws::spread_laws;
+pub use name_runs::NameRuns;
