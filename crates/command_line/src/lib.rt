@@ -6,6 +6,7 @@ mod fault;
 mod partial_answer_forms;
 mod program_arguments;
 mod requests;
+mod spread_form;
 mod words;
 
 pub use answer_formats::{Format, ReportForm};

@@ -7,11 +7,16 @@ use Rattle.table_model.specs.Name.{name_cmp, row_name_cmp}
 use Rattle.table_model.specs.State.{State, join}
 use Rattle.table_model.specs.declared.names.BatchName.{BatchName}
 use Rattle.table_model.specs.declared.names.RowName.{RowName}
+use Rattle.replica_store.specs.Replica.{Replica}
 
 -- The run that a name is in, counted from 0: each of the given names begins a run, and the names below the first of them are run 0.
 abbrev pub run_of : List BatchName → BatchName → ℕ
 run_of [] name = 0
 run_of (first ∷ firsts) name = cond (is_lt (name_cmp name first)) 0 (suc (run_of firsts name))
+
+-- whether a name is in a run
+abbrev pub is_in_run : List BatchName → ℕ → BatchName → Bool
+is_in_run firsts index name = run_of firsts name == index
 
 -- The share that a name goes to where some names are held: that of its run if it is one of them, and else the first.
 abbrev pub share_at : List BatchName → set.FinSet name_cmp → BatchName → ℕ
@@ -37,10 +42,15 @@ held_of s = set.from_list (map.keys s.batches)
 abbrev pub share_of : List BatchName → ℕ → State → State
 share_of firsts index s = of_names (goes_to firsts (held_of s) index) s
 
+-- a share of a replica, of the same schema and own origin
+abbrev pub share_in : List BatchName → ℕ → Replica → Replica
+share_in firsts index r = record { schema = r.schema; own = r.own; state = share_of firsts index r.state }
+
 -- TEMP
 pub data Shards : Type 0 where
   One : State → Shards
   Two : Shards → Shards → Shards
+
 abbrev pub joined : Shards → State
 joined (One s) = s
 joined (Two a b) = join (joined a) (joined b)

@@ -1,6 +1,7 @@
 //! A table spread over several: shares that are apart, and that are the table when they are joined.
 #![tactic(auto)]
 
+mod division;
 mod laws;
 mod name_runs;
 
