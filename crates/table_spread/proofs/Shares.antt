@@ -14,7 +14,10 @@ use Rattle.table_model.specs.declared.names.RowName.{RowName}
 use Rattle.table_model.proofs.NameOrder.{row_names_total, exact_names, exact_row_names}
 use Rattle.table_model.proofs.Operations.{same_row_name}
 use Rattle.table_model.proofs.Joins.{or_else, or_else-idempotent, get-union, same_states, same_maps}
-use Rattle.table_spread.specs.Spread.{run_of, share_at, deletions_of, of_names, held_of, share_of, Shards, One, Two, joined, shares_up_to}
+use Rattle.partial_answers.specs.PartialAnswerLaws.{Shards, One, Two, joined}
+use Rattle.replica_store.specs.Replica.{names_of}
+use Rattle.table_spread.specs.Spread.{run_of, share_at, deletions_of, of_names, share_of}
+use Rattle.table_spread.specs.SpreadLaws.{shares_up_to}
 
 -- a row of the list that passes the test
 any-filter : (p : RowName → Bool) (q : RowName) (rows : List RowName) → list_any (eq_by_cmp row_name_cmp q) (filter p rows) ≡ (p q && list_any (eq_by_cmp row_name_cmp q) rows)
@@ -129,14 +132,14 @@ up_to_all k n le = le-leb k n le
 module _ (firsts : List BatchName) (s : State) where
   -- what goes to the shares up to one
   abbrev pub goes_up_to : ℕ → BatchName → Bool
-  goes_up_to n name = nat_le (share_at firsts (held_of s) name) n
+  goes_up_to n name = nat_le (share_at firsts (names_of s.batches) name) n
 
   pub joined_up_to : (n : ℕ) → joined (shares_up_to firsts s n) ≡ of_names (goes_up_to n) s
-  joined_up_to zero = ap (λ (goes : BatchName → Bool). of_names goes s) (λ i name. up_to_none (share_at firsts (held_of s) name) i)
+  joined_up_to zero = ap (λ (goes : BatchName → Bool). of_names goes s) (λ i name. up_to_none (share_at firsts (names_of s.batches) name) i)
   joined_up_to (suc n) =
       ap (λ (t : State). join t (share_of firsts (suc n) s)) (joined_up_to n)
-      ∙ join-of_names (goes_up_to n) (λ name. share_at firsts (held_of s) name == suc n) s
-      ∙ ap (λ (goes : BatchName → Bool). of_names goes s) (λ i name. up_to_more (share_at firsts (held_of s) name) n i)
+      ∙ join-of_names (goes_up_to n) (λ name. share_at firsts (names_of s.batches) name == suc n) s
+      ∙ ap (λ (goes : BatchName → Bool). of_names goes s) (λ i name. up_to_more (share_at firsts (names_of s.batches) name) n i)
 
   pub joined_all : (n : ℕ) → length firsts ≤ n → joined (shares_up_to firsts s n) ≡ s
-  joined_all n le = joined_up_to n ∙ of_all (goes_up_to n) s (λ name. up_to_all (share_at firsts (held_of s) name) n (let few = share_at-le firsts (held_of s) name in omega (arith, le, few)))
+  joined_all n le = joined_up_to n ∙ of_all (goes_up_to n) s (λ name. up_to_all (share_at firsts (names_of s.batches) name) n (let few = share_at-le firsts (names_of s.batches) name in omega (arith, le, few)))

@@ -1,13 +1,13 @@
 -- A table that is spread over several: each batch goes to one share, and with it the deletions that name it.
-use Rattle.std.specs.Prelude.{ℕ, zero, suc, Bool, cond, ◌==◌, List, [], ◌∷◌, filter}
+use Rattle.std.specs.Prelude.{ℕ, suc, Bool, cond, ◌==◌, List, [], ◌∷◌, filter}
 use Rattle.std.specs.Ordering.{is_lt}
 use Rattle.std.specs.FinMap as map
 use Rattle.std.specs.FinSet as set
 use Rattle.table_model.specs.Name.{name_cmp, row_name_cmp}
-use Rattle.table_model.specs.State.{State, join}
+use Rattle.table_model.specs.State.{State}
 use Rattle.table_model.specs.declared.names.BatchName.{BatchName}
 use Rattle.table_model.specs.declared.names.RowName.{RowName}
-use Rattle.replica_store.specs.Replica.{Replica}
+use Rattle.replica_store.specs.Replica.{Replica, names_of}
 
 -- The run that a name is in, counted from 0: each of the given names begins a run, and the names below the first of them are run 0.
 abbrev pub run_of : List BatchName → BatchName → ℕ
@@ -18,7 +18,7 @@ run_of (first ∷ firsts) name = cond (is_lt (name_cmp name first)) 0 (suc (run_
 abbrev pub is_in_run : List BatchName → ℕ → BatchName → Bool
 is_in_run firsts index name = run_of firsts name == index
 
--- The share that a name goes to where some names are held: that of its run if it is one of them, and else the first.
+-- The share that a name goes to if some names are held: that of its run if it is one of them, and else the first.
 abbrev pub share_at : List BatchName → set.FinSet name_cmp → BatchName → ℕ
 share_at firsts held name = cond (set.contains held name) (run_of firsts name) 0
 
@@ -34,28 +34,10 @@ deletions_of goes deleted = set.from_list (filter (λ (row : RowName). goes row.
 unfoldable pub of_names : (BatchName → Bool) → State → State
 of_names goes s = record { batches = map.retain_keys s.batches goes; deleted = deletions_of goes s.deleted }
 
--- TEMP
-unfoldable pub held_of : State → set.FinSet name_cmp
-held_of s = set.from_list (map.keys s.batches)
-
 -- a share: what of a state goes with the names that go to it
 abbrev pub share_of : List BatchName → ℕ → State → State
-share_of firsts index s = of_names (goes_to firsts (held_of s) index) s
+share_of firsts index s = of_names (goes_to firsts (names_of s.batches) index) s
 
 -- a share of a replica, of the same schema and own origin
 abbrev pub share_in : List BatchName → ℕ → Replica → Replica
 share_in firsts index r = record { schema = r.schema; own = r.own; state = share_of firsts index r.state }
-
--- TEMP
-pub data Shards : Type 0 where
-  One : State → Shards
-  Two : Shards → Shards → Shards
-
-abbrev pub joined : Shards → State
-joined (One s) = s
-joined (Two a b) = join (joined a) (joined b)
-
--- the shares from the first up to one, each joined to those before it
-abbrev pub shares_up_to : List BatchName → State → ℕ → Shards
-shares_up_to firsts s zero = One (share_of firsts 0 s)
-shares_up_to firsts s (suc n) = Two (shares_up_to firsts s n) (One (share_of firsts (suc n) s))

@@ -1,11 +1,8 @@
-//! The laws of shares, each the contract of a function that does nothing.
-ghost use Rattle.std.specs.Prelude.{◌≡◌, ◌≤◌, List, length};
-ghost use Rattle.std.specs.FinSet as set;
-ghost use Rattle.table_model.specs.Name.{name_cmp};
-ghost use Rattle.table_model.specs.declared.names.BatchName.{BatchName};
-ghost use Rattle.table_spread.specs.Spread.{share_at};
+//! The laws of shares, the contract of a function that does nothing.
+ghost use Rattle.table_spread.specs.SpreadLaws.{SpreadLaws};
 
-/// The shares.
+/// Each batch and each deletion goes to one share. Joined the shares are the table, merged they are the replica, and partial answers of
+/// them are combined without a refusal and finished to the answer of the table.
 pub fn spread_laws()
-    ensures { (firsts : List BatchName) (held : set.FinSet name_cmp) (name : BatchName) → share_at firsts held name ≤ length firsts }
+    ensures { SpreadLaws }
 {}
