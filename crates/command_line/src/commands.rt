@@ -8,6 +8,7 @@ use crate::report_forms::{
     check_command, dump_command, inspect_command, offer_command, summary_command,
 };
 use crate::requests::{CsvForm, Queries, Request, Source};
+use crate::spread_form::spread_command;
 use crate::words;
 use answer_formats::Format;
 use clap::error::ErrorKind;
@@ -69,11 +70,12 @@ enum Verb {
     Apply,
     Check,
     Merge,
+    Spread,
     Pack,
 }
 
 /// All commands, in the order of the help.
-const VERBS: [Verb; 18] = [
+const VERBS: [Verb; 19] = [
     Verb::Create,
     Verb::Import,
     Verb::Query,
@@ -90,6 +92,7 @@ const VERBS: [Verb; 18] = [
     Verb::Apply,
     Verb::Check,
     Verb::Merge,
+    Verb::Spread,
     Verb::Pack,
     Verb::Run,
 ];
@@ -182,6 +185,7 @@ impl Verb {
             Verb::Apply => "apply",
             Verb::Check => "check",
             Verb::Merge => "merge",
+            Verb::Spread => "spread",
             Verb::Pack => "pack",
         }
     }
@@ -222,6 +226,7 @@ impl Verb {
             Verb::Apply => apply_command(alloc, command),
             Verb::Check => check_command(alloc, command),
             Verb::Merge => merge_command(alloc, command),
+            Verb::Spread => spread_command(alloc, command),
             Verb::Pack => pack_command(alloc, command),
         }
     }
@@ -272,6 +277,11 @@ impl Verb {
             Verb::Merge => Ok(Request::Merge {
                 out: text_of(given, "OUT"),
                 files: texts_of(alloc, given, "IN")?,
+                is_quiet: given.get_flag("quiet"),
+            }),
+            Verb::Spread => Ok(Request::Spread {
+                file: text_of(given, "FILE"),
+                outs: texts_of(alloc, given, "OUT")?,
                 is_quiet: given.get_flag("quiet"),
             }),
             Verb::Pack => Ok(Request::Pack {
@@ -576,7 +586,7 @@ pub(crate) fn format<'a>(alloc: Global, help: &'a str) -> Arg<'a> {
 }
 
 /// The option of commands that change a file, to say nothing when all is well.
-fn quiet<'a>(alloc: Global) -> Arg<'a> {
+pub(crate) fn quiet<'a>(alloc: Global) -> Arg<'a> {
     flag(alloc, "quiet", "Print nothing if all is well")
 }
 

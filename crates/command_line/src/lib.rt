@@ -7,6 +7,7 @@ mod partial_answer_forms;
 mod program_arguments;
 mod report_forms;
 mod requests;
+mod spread_form;
 mod words;
 
 pub use answer_formats::{Format, ReportForm};

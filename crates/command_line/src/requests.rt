@@ -208,4 +208,13 @@ pub enum Request<'a> {
         /// Whether nothing is printed if all is well.
         is_quiet: bool,
     },
+    /// `lanes spread [--quiet] FILE OUT..`: what a file holds, spread over new files that share no batch.
+    Spread {
+        /// The file's name. It may be that of a folder.
+        file: &'a str,
+        /// The names of the files that are made, at least one; of folders if they end in `/`.
+        outs: Vec<&'a str>,
+        /// Whether nothing is printed if all is well.
+        is_quiet: bool,
+    },
 }

@@ -27,6 +27,7 @@ mod query_partial_answers;
 mod replacing;
 mod reports;
 mod scripts;
+mod spreading;
 mod watched;
 mod watched_folder;
 
@@ -92,7 +93,8 @@ fn is_told(request: &Request<'_>, is_shown: bool) -> bool {
         | Request::DeleteRows { is_quiet, .. }
         | Request::Forget { is_quiet, .. }
         | Request::Apply { is_quiet, .. }
-        | Request::Merge { is_quiet, .. } => !*is_quiet,
+        | Request::Merge { is_quiet, .. }
+        | Request::Spread { is_quiet, .. } => !*is_quiet,
         _ => true,
     }
 }
@@ -193,6 +195,11 @@ fn answer<
             files,
             is_quiet,
         } => merging::merge(rt, progress, out, files.as_slice(), is_quiet)?,
+        Request::Spread {
+            file,
+            outs,
+            is_quiet,
+        } => spreading::spread(rt, progress, file, outs.as_slice(), is_quiet)?,
         Request::Pack {
             folder,
             is_all,

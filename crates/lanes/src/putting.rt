@@ -142,7 +142,7 @@ pub fn say<R: Print + Eprint + Files + AllocGlobal>(
 }
 
 /// Says on standard error that a part was added, and its folder could not be synced.
-fn say_unsynced<R: Eprint>(rt: &R, folder: &str) {
+pub fn say_unsynced<R: Eprint>(rt: &R, folder: &str) {
     let name = Printable(folder);
     let _ = eprintln!(rt;
         "{name}: the part was added, but the folder could not be synced: a loss of power may take it away"

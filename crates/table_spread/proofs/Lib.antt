@@ -1,0 +1,5 @@
+pub mod Shares
+pub mod Deletions
+pub mod ShareFacts
+pub mod ApartShares
+pub mod MergedShares
