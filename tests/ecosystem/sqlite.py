@@ -287,13 +287,14 @@ def a_row_is_found_by_its_place(extension):
 
 
 FIRST_ROWS = """
-import resource, sqlite3, sys
+import sqlite3, sys
 base = sqlite3.connect(":memory:")
 base.enable_load_extension(True)
 base.load_extension(sys.argv[1])
 base.execute(f"CREATE VIRTUAL TABLE temp.x USING lanes('{sys.argv[2]}')")
 def peak():
-    return resource.getrusage(resource.RUSAGE_SELF).ru_maxrss
+    with open("/proc/self/status") as file:
+        return next(int(line.split()[1]) for line in file if line.startswith("VmHWM"))
 assert base.execute("SELECT * FROM x WHERE rowid < 0").fetchall() == []
 opened = peak()
 assert base.execute("SELECT A,B,C,D FROM x LIMIT 3").fetchall() == [(0, 1, 2, 3), (1, 2, 3, 4), (2, 3, 4, 5)]
