@@ -27,16 +27,6 @@ SQLITE_EXTENSION_INIT1
 /* How many columns a table has at most. */
 #define COLUMNS 32
 
-/* The library gives the columns of all batches at once: they are taken as one. */
-static size_t lanes_batches(lanes_table *table) { return table->opened != NULL; }
-
-static uint8_t lanes_columns_between(lanes_table *table, size_t first, size_t count, const uint8_t *names, size_t names_length, const uint8_t *condition, size_t condition_length, int64_t *values, size_t values_room, uint8_t *valid, size_t valid_room, uint64_t *nulls, size_t nulls_room, size_t *rows, lanes_place *place) {
-    size_t no_room = 0;
-    uint8_t number = lanes_columns(table, names, names_length, condition, condition_length, values, first || !count ? no_room : values_room, valid, valid_room, nulls, nulls_room, rows, place);
-    if (first || !count) *rows = 0;
-    return number;
-}
-
 /* How many rows a step is to have, and how many it has at most, unless one batch has more. */
 #define ENOUGH 65536
 #define MANY 262144

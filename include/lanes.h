@@ -297,10 +297,68 @@ uint8_t lanes_columns(lanes_table *table, const uint8_t *names, size_t names_len
                       int64_t *values, size_t values_room, uint8_t *valid, size_t valid_room, uint64_t *nulls, size_t nulls_room,
                       size_t *rows, lanes_place *place);
 
+/* Answers how many batches the table of a handle has: 0 when the handle is closed. */
+size_t lanes_batches(lanes_table *table);
+
+/* Gives the cells of columns as lanes_columns does, but of some batches: those from `first` on, which counts from 0 in ascending order of
+ * name, and at most `count` of them. So a table is read in pieces, and the first row costs a batch. A batch has at most 65,536 rows.
+ * All pieces of the batches from 0 to lanes_batches, one after another, are the rows that lanes_columns gives.
+ *
+ * Gives and refused: as lanes_columns. Where no batch is left, *rows is 0. */
+uint8_t lanes_columns_between(lanes_table *table, size_t first, size_t count, const uint8_t *names, size_t names_length,
+                              const uint8_t *condition, size_t condition_length, int64_t *values, size_t values_room, uint8_t *valid,
+                              size_t valid_room, uint64_t *nulls, size_t nulls_room, size_t *rows, lanes_place *place);
+
 /* Gives the words of which lanes_create makes the table: "VISITS SITE SMALLINT HITS INTEGER".
  *
  * Refused: LANES_NOT_OPEN when the handle is closed. */
 uint8_t lanes_schema(lanes_table *table, uint8_t *out, size_t room, size_t *length, lanes_place *place);
+
+/* Gives what the program's command `inspect` writes of the file of a handle's table: its counts, and a line for each column. The format
+ * is LANES_TEXT or LANES_JSON; another number is taken for LANES_TEXT.
+ *
+ * Refused: LANES_NOT_OPEN when the handle is closed. */
+uint8_t lanes_inspect(lanes_table *table, uint8_t format, uint8_t *out, size_t room, size_t *length, lanes_place *place);
+
+/* Gives the file of a handle's table.
+ *
+ * Refused: LANES_NOT_OPEN when the handle is closed. */
+uint8_t lanes_file(lanes_table *table, uint8_t *out, size_t room, size_t *length, lanes_place *place);
+
+/* The calls that begin with lanes_table_ change the table of a handle, and check no file again. With 0 the handle has the changed
+ * table; lanes_file gives its file, which is that of the call without a handle. When a call is refused, the handle has the table that
+ * it had. Another handle of the same table, which lanes_share gave, has what it had in both cases. So share a handle first to keep
+ * the table as it is before a change. While a call runs, memory has the table twice. */
+
+/* Imports rows of comma-separated values, as lanes_import.
+ *
+ * Refused, in this order: LANES_NOT_OPEN when the handle is closed; what lanes_import refuses after the file's first fault. */
+uint8_t lanes_table_import(lanes_table *table, const uint8_t *csv, size_t csv_length, bool has_heading, uint32_t origin, uint32_t number,
+                           const uint64_t *words, size_t words_count, lanes_place *place);
+
+/* Deletes the rows at which a condition is true, as lanes_delete.
+ *
+ * Refused, in this order: LANES_NOT_OPEN when the handle is closed; LANES_SYNTAX at the first byte that is no UTF-8; LANES_SYNTAX,
+ * LANES_NUMBER_TOO_LARGE, LANES_TOO_DEEP; LANES_NO_SUCH_COLUMN. */
+uint8_t lanes_table_delete(lanes_table *table, const uint8_t *condition, size_t condition_length, lanes_place *place);
+
+/* Deletes the rows of the batch origin.number from the ordinal `first` to `last`, both included. The batch may be one that isn't there:
+ * its rows are deleted when it comes.
+ *
+ * Refused, in this order: LANES_NOT_OPEN when the handle is closed; LANES_BAD_NAME where origin or number is 0; LANES_BAD_RANGE where
+ * last is less than first. */
+uint8_t lanes_table_delete_rows(lanes_table *table, uint32_t origin, uint32_t number, uint16_t first, uint16_t last, lanes_place *place);
+
+/* Applies an offer, as lanes_apply. A file is an offer too.
+ *
+ * Refused, in this order: LANES_NOT_OPEN when the handle is closed; the offer's first fault, with its place in the offer;
+ * LANES_SCHEMA_DIFFERS; LANES_CONFLICT with the least name that has two lists of rows; LANES_FULL. */
+uint8_t lanes_table_apply(lanes_table *table, const uint8_t *offer, size_t offer_length, lanes_place *place);
+
+/* Drops the batches of which every row is deleted, as lanes_forget.
+ *
+ * Refused: LANES_NOT_OPEN when the handle is closed. */
+uint8_t lanes_table_forget(lanes_table *table, lanes_place *place);
 
 /* Closes a handle. Closing a closed one does nothing. */
 void lanes_close(lanes_table *table);

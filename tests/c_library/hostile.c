@@ -78,8 +78,53 @@ static uint8_t gives_columns(const uint8_t *file, size_t file_length, const uint
     return refused;
 }
 
-static call_on_two *const CALLS[] = {checks, dumps, summarizes, creates, imports, lanes_query, lanes_delete, lanes_offer, lanes_apply, lanes_merge, answers_all, forgets, tells_schema, gives_columns};
-static const char *const NAMES[] = {"check", "dump", "summary", "create", "import", "query", "delete", "offer", "apply", "merge", "queries", "forget", "schema", "columns"};
+/* The changes of a handle's table, with the file of the changed table. */
+typedef uint8_t change_by_bytes(lanes_table *, const uint8_t *, size_t, lanes_place *);
+
+static uint8_t changes(change_by_bytes *change, const uint8_t *file, size_t file_length, const uint8_t *other, size_t other_length, uint8_t *out,
+                       size_t room, size_t *length, lanes_place *place) {
+    lanes_table table = LANES_CLOSED;
+    uint8_t refused = lanes_open(file, file_length, &table, place);
+    if (refused == LANES_OK) refused = change(&table, other, other_length, place);
+    if (refused != LANES_OK) *length = 0;
+    else refused = lanes_file(&table, out, room, length, place);
+    lanes_close(&table);
+    return refused;
+}
+
+static uint8_t imports_into(lanes_table *table, const uint8_t *other, size_t other_length, lanes_place *place) {
+    uint64_t words[2] = {0x0000000700000004, 0x0000000800000009};
+    uint8_t refused = lanes_table_import(table, other, other_length, true, 0, 0, words, 2, place);
+    return refused == LANES_OK ? lanes_table_forget(table, place) : refused;
+}
+
+static uint8_t changes_by_import(const uint8_t *file, size_t file_length, const uint8_t *other, size_t other_length, uint8_t *out, size_t room,
+                                 size_t *length, lanes_place *place) {
+    return changes(imports_into, file, file_length, other, other_length, out, room, length, place);
+}
+
+static uint8_t changes_by_delete(const uint8_t *file, size_t file_length, const uint8_t *other, size_t other_length, uint8_t *out, size_t room,
+                                 size_t *length, lanes_place *place) {
+    return changes(lanes_table_delete, file, file_length, other, other_length, out, room, length, place);
+}
+
+static uint8_t changes_by_offer(const uint8_t *file, size_t file_length, const uint8_t *other, size_t other_length, uint8_t *out, size_t room,
+                                size_t *length, lanes_place *place) {
+    return changes(lanes_table_apply, file, file_length, other, other_length, out, room, length, place);
+}
+
+static uint8_t inspects(const uint8_t *file, size_t file_length, const uint8_t *other, size_t other_length, uint8_t *out, size_t room,
+                        size_t *length, lanes_place *place) {
+    lanes_table table = LANES_CLOSED;
+    uint8_t refused = lanes_open(file, file_length, &table, place);
+    if (refused != LANES_OK) *length = 0;
+    else refused = lanes_inspect(&table, other_length == 0 ? LANES_TEXT : other[0], out, room, length, place);
+    lanes_close(&table);
+    return refused;
+}
+
+static call_on_two *const CALLS[] = {checks, dumps, summarizes, creates, imports, lanes_query, lanes_delete, lanes_offer, lanes_apply, lanes_merge, answers_all, forgets, tells_schema, gives_columns, changes_by_import, changes_by_delete, changes_by_offer, inspects};
+static const char *const NAMES[] = {"check", "dump", "summary", "create", "import", "query", "delete", "offer", "apply", "merge", "queries", "forget", "schema", "columns", "table_import", "table_delete", "table_apply", "inspect"};
 enum { COUNT = sizeof CALLS / sizeof *CALLS };
 
 /* Calls with so much of a room of ROOM bytes, all of them FILLER. The inputs are copies in blocks of their own, so that valgrind sees a read
@@ -162,7 +207,7 @@ static inputs make_inputs(void) {
     static const char queries[] = "SELECT COUNT(A) FROM T WHERE B > 3\nSELECT COUNT(*) FROM T";
     bytes both = bytes_of(queries);
     for (size_t call = 7; call < COUNT; call++) {
-        bytes from = call == 7 ? summary : call == 10 ? both : call == 13 ? bytes_of("B A") : other;
+        bytes from = call == 7 ? summary : call == 10 ? both : call == 13 ? bytes_of("B A") : call == 14 ? bytes_of("B,A\n5,6\n") : call == 15 ? bytes_of("A > 1") : other;
         free(made.others[call].at);
         made.others[call] = copy_of(from.at, from.length);
     }

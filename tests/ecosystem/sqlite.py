@@ -9,6 +9,7 @@ from __future__ import annotations
 import os
 import random
 import sqlite3
+import subprocess
 import sys
 import tempfile
 from decimal import Decimal
@@ -285,6 +286,36 @@ def a_row_is_found_by_its_place(extension):
         assert base.execute("SELECT COUNT(*),SUM(q.B = p.B) FROM x p JOIN x q ON q.rowid = p.rowid").fetchone() == (rows, rows)
 
 
+FIRST_ROWS = """
+import sqlite3, sys
+base = sqlite3.connect(":memory:")
+base.enable_load_extension(True)
+base.load_extension(sys.argv[1])
+base.execute(f"CREATE VIRTUAL TABLE temp.x USING lanes('{sys.argv[2]}')")
+def peak():
+    with open("/proc/self/status") as file:
+        return next(int(line.split()[1]) for line in file if line.startswith("VmHWM"))
+assert base.execute("SELECT * FROM x WHERE rowid < 0").fetchall() == []
+opened = peak()
+assert base.execute("SELECT A,B,C,D FROM x LIMIT 3").fetchall() == [(0, 1, 2, 3), (1, 2, 3, 4), (2, 3, 4, 5)]
+assert base.execute("SELECT rowid,A FROM x WHERE B = 7 LIMIT 1").fetchall() == [(6, 6)]
+assert base.execute("SELECT A FROM x LIMIT 1 OFFSET 200000").fetchall() == [(200000 % 10,)]
+first = peak() - opened
+assert base.execute("SELECT SUM(A) FROM x").fetchone() == (1300000 // 10 * 45,)
+print(first)
+"""
+
+
+def the_first_row_costs_a_batch(extension):
+    """The first rows of a table of 1.3 million rows take little memory beside its opening: its four columns would take 42 MB."""
+    with tempfile.TemporaryDirectory(prefix="lanes-sqlite-") as room:
+        path = os.path.join(room, "t.lanes")
+        rows = "".join(f"{n},{n + 1},{n + 2},{n + 3}\n" for n in range(10)) * 130_000
+        Table.create("T", {name: "BIGINT" for name in "ABCD"}).import_csv(rows, heading=False, batch="1.1").save(path)
+        ran = subprocess.run([sys.executable, "-c", FIRST_ROWS, extension, path], capture_output=True, text=True)
+        assert ran.returncode == 0 and int(ran.stdout) < 16 * 1024, (ran.stdout, ran.stderr)
+
+
 def a_folder_is_a_table(extension):
     with tempfile.TemporaryDirectory(prefix="lanes-sqlite-") as room:
         site = lanes.Folder.create(os.path.join(room, "site"), "T", {"A": "INTEGER", "B": "BIGINT"})
@@ -349,6 +380,7 @@ TESTS = [
     tables_of_all_sizes_are_those_of_a_copy,
     answers_longer_than_their_first_room_are_whole,
     a_row_is_found_by_its_place,
+    the_first_row_costs_a_batch,
     a_folder_is_a_table,
     what_is_wrong_is_said,
 ]

@@ -7,13 +7,13 @@ use Rattle.table_model.specs.State.{State, Cells}
 use Rattle.table_model.specs.Table.{ColumnShape, Table as Schema}
 use Rattle.table_model.specs.declared.names.RowName.{RowName}
 use Rattle.table_model.specs.declared.refusal.Refusal.TheVariants.{Memory}
-use Rattle.live_columns.specs.Chosen.{IsChosen, columns_in, rows_in, rows_where}
+use Rattle.live_columns.specs.Chosen.{IsChosen, columns_in, rows_in}
 use Rattle.live_columns.specs.Choices.{ChoiceForm, choice_of}
 use Rattle.live_columns.specs.Columns.{null_count, numbers_of, stride_of, validities}
 use Rattle.live_columns.specs.declared.choice.Choice.{Choice}
 use Rattle.live_columns.specs.declared.choice.Unchosen.{Unchosen}
 use Rattle.live_columns.specs.declared.chosen.ChosenRows.{ChosenRows}
-use Rattle.lanes_c.specs.ColumnCalls.{AsksTexts, ColumnRooms, ColumnsForm, IsGiven, IsPut, PutsColumns, ReadsChoice, RowsGiven, TellsColumns, column_words, columns_at, columns_of, columns_where, form_of, have_room, number_of_rows, place_of_rows, rows_told, told_choice, with_columns}
+use Rattle.lanes_c.specs.ColumnCalls.{AsksTexts, ColumnRooms, ColumnsForm, IsGiven, IsPut, PutsColumns, ReadsChoice, RowsGiven, RowsWhere, TellsColumns, column_words, columns_of, columns_over, columns_where, form_of, have_room, number_of_rows, place_of_rows, rows_told, told_choice, with_columns}
 use Rattle.lanes_c.specs.Faults.{told_of_choice}
 use Rattle.lanes_c.specs.declared.fault.Fault.{Fault}
 use Rattle.lanes_c.specs.declared.fault.Fault.TheVariants.{Refused}
@@ -41,18 +41,17 @@ with-room form values values' valid valid' nulls nulls' room p q r =
     made ∙ ap (λ b. cond b new old) (sym room)
 
 -- columns that were written where there is room for all
-pub put-done : (table : Schema) (s r : State) (choice : ChoiceForm) (chosen : ChosenRows) (places : List ℕ) (fit : Bool) (columns numbers bytes counts : ℕ) (values values' : List ℤ) (valid valid' nulls nulls' : List ℕ)
-    → r ≡ s → places ≡ choice.places → IsChosen s (rows_where table choice.condition s) chosen → columns ≡ length places → numbers ≡ length values → bytes ≡ length valid → counts ≡ length nulls
+pub put-done : (rows : RowsWhere) (s r : State) (choice : ChoiceForm) (chosen : ChosenRows) (places : List ℕ) (fit : Bool) (columns numbers bytes counts : ℕ) (values values' : List ℤ) (valid valid' nulls nulls' : List ℕ)
+    → r ≡ s → places ≡ choice.places → IsChosen s (rows choice.condition) chosen → columns ≡ length places → numbers ≡ length values → bytes ≡ length valid → counts ≡ length nulls
     → fit ≡ (nat_le (columns * chosen.count) numbers && (nat_le (columns * stride_of chosen.count) bytes && nat_le columns counts)) → fit ≡ true
     → values' ≡ numbers_of (columns_in places (rows_in r chosen.vectors.items)) ++ drop (length places * chosen.count) values
     → valid' ≡ validities (columns_in places (rows_in r chosen.vectors.items)) ++ drop (length places * stride_of chosen.count) valid
     → nulls' ≡ map null_count (columns_in places (rows_in r chosen.vectors.items)) ++ drop (length places) nulls
-    → IsPut (columns_of table s choice) values valid nulls values' valid' nulls'
-put-done table s r choice chosen places fit columns numbers bytes counts values values' valid valid' nulls nulls' same is h width long wide many test fits p q n =
-    let rows : List (RowName × Cells) = rows_where table choice.condition s in
-    let form : ColumnsForm = columns_of table s choice in
+    → IsPut (columns_of rows choice) values valid nulls values' valid' nulls'
+put-done rows s r choice chosen places fit columns numbers bytes counts values values' valid valid' nulls nulls' same is h width long wide many test fits p q n =
+    let form : ColumnsForm = columns_of rows choice in
     let written : columns_in places (rows_in r chosen.vectors.items) ≡ form.columns =
-    ap (λ (x : State). columns_in places (rows_in x chosen.vectors.items)) same ∙ ap (λ (l : List (RowName × Cells)). columns_in places l) h.are ∙ ap (λ (l : List ℕ). columns_in l rows) is in
+    ap (λ (x : State). columns_in places (rows_in x chosen.vectors.items)) same ∙ ap (λ (l : List (RowName × Cells)). columns_in places l) h.are ∙ ap (λ (l : List ℕ). columns_in l (rows choice.condition)) is in
     let count : length places ≡ length form.columns = ap length is ∙ sym (length-map {B = List (Option ℤ)} choice.places _) in
     let whole : fit ≡ have_room form (record { values = values; valid = valid; nulls = nulls }) =
     test
@@ -71,31 +70,31 @@ put-done table s r choice chosen places fit columns numbers bytes counts values 
 pub asks-mapped : {X Y : Type 0} (M : Result X Fault → Type 0) (N : Result Y Fault → Type 0) (x : Result X Fault) (y : Result Y Fault) (names condition : List ℕ) → (M x → N y) → ((e : Fault) → x ≡ Err e → y ≡ Err e) → AsksTexts M x names condition → AsksTexts N y names condition
 asks-mapped M N x y names condition means same h = ((λ n. ((λ k. means ((h.0 n).0 k)), (λ k. same _ ((h.0 n).1 k)))), (λ n. same _ (h.1 n)))
 
-told-ok : (table : Schema) (s : State) (m : Result ChoiceForm Unchosen) (choice : ChoiceForm) → told_choice m ≡ Ok choice → columns_where table s m ≡ Ok (columns_of table s choice)
-told-ok table s (Ok c) choice e =
+told-ok : (rows : RowsWhere) (m : Result ChoiceForm Unchosen) (choice : ChoiceForm) → told_choice m ≡ Ok choice → columns_where rows m ≡ Ok (columns_of rows choice)
+told-ok rows (Ok c) choice e =
     let same : c ≡ choice = cc in
-    let whole : ChoiceForm → Result ColumnsForm Fault = λ k. Ok (columns_of table s k) in
+    let whole : ChoiceForm → Result ColumnsForm Fault = λ k. Ok (columns_of rows k) in
     ap whole same
-told-ok table s (Err u) choice e = absurd cc
+told-ok rows (Err u) choice e = absurd cc
 
-told-err : (table : Schema) (s : State) (m : Result ChoiceForm Unchosen) (fault : Fault) → told_choice m ≡ Err fault → columns_where table s m ≡ Err fault
-told-err table s (Ok c) fault e = absurd cc
-told-err table s (Err u) fault e =
+told-err : (rows : RowsWhere) (m : Result ChoiceForm Unchosen) (fault : Fault) → told_choice m ≡ Err fault → columns_where rows m ≡ Err fault
+told-err rows (Ok c) fault e = absurd cc
+told-err rows (Err u) fault e =
     let same : told_of_choice u ≡ fault = cc in
     let whole : Fault → Result ColumnsForm Fault = λ k. Err k in
     ap whole same
 
 -- a choice that is refused
-pub puts-refused : (names condition : List ℕ) (table : Schema) (s : State) (rooms : ColumnRooms) (fault : Fault) → ReadsChoice (Err fault) names condition table → PutsColumns (Err fault) names condition table s rooms rooms
-puts-refused names condition table s rooms fault h = record {
+pub puts-refused : (names condition : List ℕ) (table : Schema) (rows : RowsWhere) (rooms : ColumnRooms) (fault : Fault) → ReadsChoice (Err fault) names condition table → PutsColumns (Err fault) names condition table rows rooms rooms
+puts-refused names condition table rows rooms fault h = record {
   given = Err fault;
-  meant = asks-mapped (IsGiven (told_choice (choice_of table 32 names condition))) (IsGiven (columns_at table s names condition)) (Err fault) (Err fault) names condition means (λ e is. again e is) h;
+  meant = asks-mapped (IsGiven (told_choice (choice_of table 32 names condition))) (IsGiven (columns_over table rows names condition)) (Err fault) (Err fault) names condition means (λ e is. again e is) h;
   told = refl;
   rooms = refl;
 }
   where
-    means : IsGiven (told_choice (choice_of table 32 names condition)) (Err fault) → IsGiven (columns_at table s names condition) (Err fault)
-    means (inl is) = inl (told-err table s (choice_of table 32 names condition) fault is)
+    means : IsGiven (told_choice (choice_of table 32 names condition)) (Err fault) → IsGiven (columns_over table rows names condition) (Err fault)
+    means (inl is) = inl (told-err rows (choice_of table 32 names condition) fault is)
     means (inr lacks) = inr lacks
 
     again : (e : Fault) → ◌≡◌ {A = Result ChoiceForm Fault} (Err fault) (Err e) → ◌≡◌ {A = Result ColumnsForm Fault} (Err fault) (Err e)
@@ -105,31 +104,31 @@ puts-refused names condition table s rooms fault h = record {
         ap whole same
 
 -- memory lacks
-pub puts-nothing : (names condition : List ℕ) (table : Schema) (s : State) (choice : Choice) (old new : ColumnRooms) → ReadsChoice (Ok choice) names condition table → new ≡ old → PutsColumns (Err (Refused Memory)) names condition table s old new
-puts-nothing names condition table s choice old new h same = record {
+pub puts-nothing : (names condition : List ℕ) (table : Schema) (rows : RowsWhere) (choice : Choice) (old new : ColumnRooms) → ReadsChoice (Ok choice) names condition table → new ≡ old → PutsColumns (Err (Refused Memory)) names condition table rows old new
+puts-nothing names condition table rows choice old new h same = record {
   given = Err (Refused Memory);
-  meant = asks-mapped (IsGiven (told_choice (choice_of table 32 names condition))) (IsGiven (columns_at table s names condition)) (form_of (Ok choice)) (Err (Refused Memory)) names condition (λ _. inr refl) (λ e is. absurd (cc)) h;
+  meant = asks-mapped (IsGiven (told_choice (choice_of table 32 names condition))) (IsGiven (columns_over table rows names condition)) (form_of (Ok choice)) (Err (Refused Memory)) names condition (λ _. inr refl) (λ e is. absurd (cc)) h;
   told = refl;
   rooms = same;
 }
 
 -- columns that are written
-pub puts-columns : (names condition : List ℕ) (table : Schema) (s : State) (choice : Choice) (rows : ℕ) (old new : ColumnRooms) → ReadsChoice (Ok choice) names condition table → rows ≡ (columns_of table s (record { condition = choice.condition; places = choice.places.items })).rows →
-    new ≡ with_columns (columns_of table s (record { condition = choice.condition; places = choice.places.items })) old → PutsColumns (Ok rows) names condition table s old new
-puts-columns names condition table s choice rows old new h many put =
+pub puts-columns : (names condition : List ℕ) (table : Schema) (rows : RowsWhere) (choice : Choice) (count : ℕ) (old new : ColumnRooms) → ReadsChoice (Ok choice) names condition table → count ≡ (columns_of rows (record { condition = choice.condition; places = choice.places.items })).rows →
+    new ≡ with_columns (columns_of rows (record { condition = choice.condition; places = choice.places.items })) old → PutsColumns (Ok count) names condition table rows old new
+puts-columns names condition table rows choice count old new h many put =
     let form : ChoiceForm = record { condition = choice.condition; places = choice.places.items } in
     let told : ℕ → RowsGiven = λ n. Ok n in
     record {
-      given = Ok (columns_of table s form);
-      meant = asks-mapped (IsGiven (told_choice (choice_of table 32 names condition))) (IsGiven (columns_at table s names condition)) (Ok form) (Ok (columns_of table s form)) names condition (told-ok table s (choice_of table 32 names condition) form) (λ e is. absurd (cc)) h;
+      given = Ok (columns_of rows form);
+      meant = asks-mapped (IsGiven (told_choice (choice_of table 32 names condition))) (IsGiven (columns_over table rows names condition)) (Ok form) (Ok (columns_of rows form)) names condition (told-ok rows (choice_of table 32 names condition) form) (λ e is. absurd (cc)) h;
       told = ap told many;
       rooms = put;
     }
 
 -- what was written is told
-pub tells-put : (result : RowsGiven) (names condition : List ℕ) (table : Schema) (s : State) (old new : ColumnRooms) (number rows : ℕ) (place : Place) → PutsColumns result names condition table s old new → number ≡ number_of_rows result → rows ≡ rows_told result → place ≡ place_of_rows result →
-    TellsColumns (λ given. AsksTexts (IsGiven (columns_at table s names condition)) given names condition) number old new rows place
-tells-put result names condition table s old new number rows place put n m p = record {
+pub tells-put : (result : RowsGiven) (names condition : List ℕ) (table : Schema) (chosen : RowsWhere) (old new : ColumnRooms) (number rows : ℕ) (place : Place) → PutsColumns result names condition table chosen old new → number ≡ number_of_rows result → rows ≡ rows_told result → place ≡ place_of_rows result →
+    TellsColumns (λ given. AsksTexts (IsGiven (columns_over table chosen names condition)) given names condition) number old new rows place
+tells-put result names condition table chosen old new number rows place put n m p = record {
   given = put.given;
   meant = put.meant;
   number_is = n ∙ ap number_of_rows put.told;

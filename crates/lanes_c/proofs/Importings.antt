@@ -1,5 +1,5 @@
 -- An import, step by step: the file's table, the rows of the text as batches of it, and the file with these.
-use Rattle.std.specs.Prelude.{◌≡◌, ℕ, ◌+◌, ◌*◌, ◌≤◌, Bool, List, [], ◌∷◌, ◌++◌, length, Option, Some, Result, Ok, Err}
+use Rattle.std.specs.Prelude.{◌≡◌, ℕ, ◌+◌, ◌*◌, ◌≤◌, Bool, List, [], ◌∷◌, ◌++◌, length, Option, Some, Result, Ok, Err, IfOk, IfErr}
 use Rattle.std.proofs.Common.{refl, sym, ap, subst, ◌∙◌, inl, inr, arith}
 use Rattle.std.proofs.lemmas.List.{length-append}
 use Rattle.table_model.specs.Outcome.{Gives}
@@ -18,8 +18,10 @@ use Rattle.replica_files.specs.Commands.{held_in, schema_in}
 use Rattle.replica_files.specs.CsvLoads.{AreCut, AreFull, LoadsRows, MayStop, RefusesText, StopsLoading, rows_of, with_batches}
 use Rattle.replica_files.specs.Loads.{LoadForm, empty_load}
 use Rattle.lanes_c.specs.Faults.{told, told_of_csv}
-use Rattle.lanes_c.specs.Importing.{HasTooMany, Loads, IsWhyNotLoaded, ImportsLoad, Imports}
+use Rattle.lanes_c.specs.Importing.{HasTooMany, Loads, LoadsText, IsWhyNotLoaded, IsWhyNotRead, ImportsLoad, Imports}
+use Rattle.lanes_c.specs.Opened.{IsWhyNotOpened}
 use Rattle.lanes_c.specs.Rooms.{Given}
+use Rattle.lanes_c.specs.declared.fault.Fault.{Fault}
 
 -- the table of a file is that of what it holds
 schema_held : (file : List ℕ) (schema : Table) → schema_in file ≡ Ok schema → (r : Replica) × (held_in file ≡ Ok r) × (r.schema ≡ schema)
@@ -35,18 +37,18 @@ unheld : (x : Result Replica Refusal) (e : Refusal) → (x >>= λ (r : Replica).
 unheld (Ok r) e is = cc
 unheld (Err f) e is = cc
 
--- a file that is refused as it is read
-pub file_refused : (e : Refusal) (file input text : List ℕ) (has_heading : Bool) → input ≡ file → ((e ≡ Memory → ⊥) → (e ≡ ReadFault → ⊥) → schema_in input ≡ Err e) → IsWhyNotLoaded file text has_heading (told e)
-file_refused Memory file input text has_heading same h = inl (inl refl)
-file_refused ReadFault file input text has_heading same h = inl (inr refl)
-file_refused WriteFault file input text has_heading same h = inl (inl refl)
-file_refused other file input text has_heading same h = inr (inl (ap held_in (sym same) ∙ unheld (held_in input) other (h (λ is. cc) (λ is. cc))))
+-- a file that is refused as its schema is read
+pub file_refused : (e : Refusal) (file input : List ℕ) → input ≡ file → ((e ≡ Memory → ⊥) → (e ≡ ReadFault → ⊥) → schema_in input ≡ Err e) → IsWhyNotOpened (told e) file
+file_refused Memory file input same h = inr (inl refl)
+file_refused ReadFault file input same h = inr (inr refl)
+file_refused WriteFault file input same h = inr (inl refl)
+file_refused other file input same h = inl (ap held_in (sym same) ∙ unheld (held_in input) other (h (λ is. cc) (λ is. cc)))
 
 -- a load for which there is no memory
-pub load_lacks : (schema : Table) (e : Refusal) (file text : List ℕ) (has_heading : Bool) → Gives {X = LoadForm} (λ (load : LoadForm). load) (Err e) (Ok (empty_load schema)) → IsWhyNotLoaded file text has_heading (told e)
-load_lacks schema e file text has_heading (inl is) = absurd cc
-load_lacks schema e file text has_heading (inr lack) =
-    let P : Refusal → Type 0 = λ x. IsWhyNotLoaded file text has_heading (told x) in subst P (sym lack.0) (inl (inl refl))
+pub load_lacks : (schema : Table) (e : Refusal) (text : List ℕ) (has_heading : Bool) → Gives {X = LoadForm} (λ (load : LoadForm). load) (Err e) (Ok (empty_load schema)) → IsWhyNotRead schema text has_heading (told e)
+load_lacks schema e text has_heading (inl is) = absurd cc
+load_lacks schema e text has_heading (inr lack) =
+    let P : Refusal → Type 0 = λ x. IsWhyNotRead schema text has_heading (told x) in subst P (sym lack.0) (inl (inl refl))
 
 -- how many rows full batches have
 full_rows : (batches : List Batch) → AreFull batches → length (rows_of batches) ≡ length batches * row_limit
@@ -66,46 +68,51 @@ too_many reading old new text schema has_heading start empty stops many rows com
     let count : length rows ≡ length (rows_of stops.full) + length left.0 = ap length left.1 ∙ length-append (rows_of stops.full) left.0 in
     omega (arith, ap length batches, many, some, count, full_rows stops.full stops.are_full)
 
--- what stops the rows of a text for a file's table
-stop_told : (e : Refusal) (reading : Reading) (schema : Table) (old new : LoadForm) (file text : List ℕ) (has_heading : Bool) → schema_in file ≡ Ok schema → reading ≡ at_start schema has_heading → old ≡ empty_load schema
-    → StopsLoading reading (Some text) old new (csv.Refused e) → MayStop new (csv.Refused e) → IsWhyNotLoaded file text has_heading (told e)
-stop_told Memory reading schema old new file text has_heading named start empty stops may = inl (inl refl)
-stop_told ReadFault reading schema old new file text has_heading named start empty stops may = inl (inr refl)
-stop_told Full reading schema old new file text has_heading named start empty stops may =
-    let held = schema_held file schema named in
-    let P : Table → Type 0 = λ t. HasTooMany t has_heading text in
-    inr (inr (refl, (held.0, held.1, subst P (sym held.2) (too_many reading old new text schema has_heading start empty stops may))))
-stop_told other reading schema old new file text has_heading named start empty stops may = absurd may
+-- what stops the rows of a text
+stop_told : (e : Refusal) (reading : Reading) (schema : Table) (old new : LoadForm) (text : List ℕ) (has_heading : Bool) → reading ≡ at_start schema has_heading → old ≡ empty_load schema
+    → StopsLoading reading (Some text) old new (csv.Refused e) → MayStop new (csv.Refused e) → IsWhyNotRead schema text has_heading (told e)
+stop_told Memory reading schema old new text has_heading start empty stops may = inl (inl refl)
+stop_told ReadFault reading schema old new text has_heading start empty stops may = inl (inr refl)
+stop_told Full reading schema old new text has_heading start empty stops may = inr (refl, too_many reading old new text schema has_heading start empty stops may)
+stop_told other reading schema old new text has_heading start empty stops may = absurd may
 
-csv_told : (e : CsvError) (csv : Reading) (schema : Table) (old new : LoadForm) (file text : List ℕ) (has_heading : Bool) → schema_in file ≡ Ok schema → csv ≡ at_start schema has_heading → old ≡ empty_load schema
-    → RefusesText csv e (Some text) → StopsLoading csv (Some text) old new e → IsWhyNotLoaded file text has_heading (told_of_csv e)
-csv_told (csv.Refused refusal) reading schema old new file text has_heading named start empty why stops =
+csv_told : (e : CsvError) (csv : Reading) (schema : Table) (old new : LoadForm) (text : List ℕ) (has_heading : Bool) → csv ≡ at_start schema has_heading → old ≡ empty_load schema
+    → RefusesText csv e (Some text) → StopsLoading csv (Some text) old new e → IsWhyNotRead schema text has_heading (told_of_csv e)
+csv_told (csv.Refused refusal) reading schema old new text has_heading start empty why stops =
     let same : old.schema ≡ reading.table = ap (λ (l : LoadForm). l.schema) empty ∙ sym (ap (λ (x : Reading). x.table) start) in
-    stop_told refusal reading schema old new file text has_heading named start empty stops (stops.may_stop same)
-csv_told (csv.BadCsv line column) reading schema old new file text has_heading named start empty why stops =
-    let held = schema_held file schema named in
-    let P : Reading → Type 0 = λ x. RefusesText x (csv.BadCsv line column) (Some text) in
-    let Q : Table → Type 0 = λ t. csv_rows t has_heading text ≡ Err (csv.BadCsv line column) in
-    (held.0, held.1, subst Q (sym held.2) (subst P start why))
-csv_told (csv.LineTooLong line) reading schema old new file text has_heading named start empty why stops =
-    let held = schema_held file schema named in
-    let P : Reading → Type 0 = λ x. RefusesText x (csv.LineTooLong line) (Some text) in
-    let Q : Table → Type 0 = λ t. csv_rows t has_heading text ≡ Err (csv.LineTooLong line) in
-    (held.0, held.1, subst Q (sym held.2) (subst P start why))
+    stop_told refusal reading schema old new text has_heading start empty stops (stops.may_stop same)
+csv_told (csv.BadCsv line column) reading schema old new text has_heading start empty why stops =
+    let P : Reading → Type 0 = λ x. RefusesText x (csv.BadCsv line column) (Some text) in subst P start why
+csv_told (csv.LineTooLong line) reading schema old new text has_heading start empty why stops =
+    let P : Reading → Type 0 = λ x. RefusesText x (csv.LineTooLong line) (Some text) in subst P start why
 
 -- ---- rows that are loaded
 
--- the rows that came are batches of the file's table
-loads_of : (csv : Reading) (schema : Table) (old load : LoadForm) (file text : List ℕ) (has_heading : Bool) → schema_in file ≡ Ok schema → csv ≡ at_start schema has_heading
-    → old ≡ empty_load schema → LoadsRows csv (Some text) old load → Loads file text has_heading load
-loads_of csv schema old load file text has_heading named start empty (rows, batches, come, cut, new) =
-    let held = schema_held file schema named in
+-- the rows that came are batches of the table
+loads_of : (csv : Reading) (schema : Table) (old load : LoadForm) (text : List ℕ) (has_heading : Bool) → csv ≡ at_start schema has_heading → old ≡ empty_load schema → LoadsRows csv (Some text) old load
+    → LoadsText schema text has_heading load
+loads_of csv schema old load text has_heading start empty (rows, batches, come, cut, new) =
     let P : Reading → Type 0 = λ x. to_come x text ≡ Ok rows in
-    let read : csv_rows schema has_heading text ≡ Ok rows = subst P start come in
-    let Q : Table → Type 0 = λ t. csv_rows t has_heading text ≡ Ok rows in
     let whole : load ≡ with_batches (empty_load schema) batches = new ∙ ap (λ (l : LoadForm). with_batches l batches) empty in
     let R : List Batch → Type 0 = λ b. AreCut rows b in
-    (held.0, rows, held.1, subst Q (sym held.2) read, ap (λ (l : LoadForm). l.schema) whole ∙ sym held.2, subst R (sym (ap (λ (l : LoadForm). l.batches) whole)) cut)
+    (rows, subst P start come, ap (λ (l : LoadForm). l.schema) whole, subst R (sym (ap (λ (l : LoadForm). l.batches) whole)) cut)
+
+-- what is loaded for the table of a file, or why not
+pub loads_held : (result : Result LoadForm Fault) (schema : Table) (file input text : List ℕ) (has_heading : Bool) → input ≡ file → schema_in input ≡ Ok schema → IfOk result (λ load. LoadsText schema text has_heading load)
+    → IfOk result (λ load. Loads file text has_heading load)
+loads_held (Ok load) schema file input text has_heading same named h =
+    let held = schema_held file schema (ap schema_in (sym same) ∙ named) in
+    let P : Table → Type 0 = λ t. LoadsText t text has_heading load in
+    (held.0, held.1, subst P (sym held.2) h)
+loads_held (Err fault) schema file input text has_heading same named h = tt
+
+pub unread_held : (result : Result LoadForm Fault) (schema : Table) (file input text : List ℕ) (has_heading : Bool) → input ≡ file → schema_in input ≡ Ok schema → IfErr result (λ fault. IsWhyNotRead schema text has_heading fault)
+    → IfErr result (λ fault. IsWhyNotLoaded file text has_heading fault)
+unread_held (Ok load) schema file input text has_heading same named h = tt
+unread_held (Err fault) schema file input text has_heading same named h =
+    let held = schema_held file schema (ap schema_in (sym same) ∙ named) in
+    let P : Table → Type 0 = λ t. IsWhyNotRead t text has_heading fault in
+    inr (held.0, held.1, subst P (sym held.2) h)
 
 -- an import of the rows of a text is one of their load
 pub imports_of : (given : Given) (load : LoadForm) (first : Option BatchName) (words file text : List ℕ) (has_heading : Bool) → Loads file text has_heading load → ImportsLoad given load first words file
@@ -113,18 +120,18 @@ pub imports_of : (given : Given) (load : LoadForm) (first : Option BatchName) (w
 imports_of (Ok bytes) load first words file text has_heading loads h = (load, loads, h)
 imports_of (Err fault) load first words file text has_heading loads h = inr (load, loads, h)
 
--- the same, over readers that had the file and the text
-pub text_refused : (e : CsvError) (csv : Reading) (schema : Table) (old new : LoadForm) (file input text given : List ℕ) (has_heading : Bool) → input ≡ file → given ≡ text → schema_in input ≡ Ok schema
-    → csv ≡ at_start schema has_heading → ◌≡◌ {A = Result LoadForm Refusal} (Ok (empty_load schema)) (Ok old) → RefusesText csv e (Some given) → StopsLoading csv (Some given) old new e → IsWhyNotLoaded file text has_heading (told_of_csv e)
-text_refused e csv schema old new file input text given has_heading same is named start empty why stops =
+-- the same, over a reader that had the text
+pub text_refused : (e : CsvError) (csv : Reading) (schema : Table) (old new : LoadForm) (text given : List ℕ) (has_heading : Bool) → given ≡ text → csv ≡ at_start schema has_heading
+    → ◌≡◌ {A = Result LoadForm Refusal} (Ok (empty_load schema)) (Ok old) → RefusesText csv e (Some given) → StopsLoading csv (Some given) old new e → IsWhyNotRead schema text has_heading (told_of_csv e)
+text_refused e csv schema old new text given has_heading is start empty why stops =
     let P : List ℕ → Type 0 = λ t. RefusesText csv e (Some t) in
     let Q : List ℕ → Type 0 = λ t. StopsLoading csv (Some t) old new e in
     let made : old ≡ empty_load schema = cc in
-    csv_told e csv schema old new file text has_heading (ap schema_in (sym same) ∙ named) start made (subst P is why) (subst Q is stops)
+    csv_told e csv schema old new text has_heading start made (subst P is why) (subst Q is stops)
 
-pub rows_loaded : (csv : Reading) (schema : Table) (old load : LoadForm) (file input text given : List ℕ) (has_heading : Bool) → input ≡ file → given ≡ text → schema_in input ≡ Ok schema
-    → csv ≡ at_start schema has_heading → ◌≡◌ {A = Result LoadForm Refusal} (Ok (empty_load schema)) (Ok old) → LoadsRows csv (Some given) old load → Loads file text has_heading load
-rows_loaded csv schema old load file input text given has_heading same is named start empty rows =
+pub rows_loaded : (csv : Reading) (schema : Table) (old load : LoadForm) (text given : List ℕ) (has_heading : Bool) → given ≡ text → csv ≡ at_start schema has_heading
+    → ◌≡◌ {A = Result LoadForm Refusal} (Ok (empty_load schema)) (Ok old) → LoadsRows csv (Some given) old load → LoadsText schema text has_heading load
+rows_loaded csv schema old load text given has_heading is start empty rows =
     let P : List ℕ → Type 0 = λ t. LoadsRows csv (Some t) old load in
     let made : old ≡ empty_load schema = cc in
-    loads_of csv schema old load file text has_heading (ap schema_in (sym same) ∙ named) start made (subst P is rows)
+    loads_of csv schema old load text has_heading start made (subst P is rows)

@@ -6,3 +6,6 @@ pub mod Openings
 pub mod QueryRuns
 pub mod ColumnGivings
 pub mod PartialAnswerGivings
+pub mod TableChanging
+pub mod TableReadings
+pub mod BetweenSteps

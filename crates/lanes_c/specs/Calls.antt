@@ -24,19 +24,20 @@ use Rattle.script_lines.specs.declared.command.Command.TheVariants.{Table as Mak
 use Rattle.replica_files.specs.Asking.{checked_text}
 use Rattle.replica_store.specs.Segments.{StoreForm}
 use Rattle.lanes_c.specs.Rooms.{Given}
+use Rattle.lanes_c.specs.declared.fault.Fault.{Fault}
 use Rattle.lanes_c.specs.declared.fault.Fault.TheVariants.{Refused}
 
 -- ---- what is given
 
--- What is given is what a meaning gives, the bytes or the refusal; out of memory may come in the place of anything, and so may
+-- What is given is what a meaning gives, the bytes or a replica, or the refusal; out of memory may come in the place of anything, and so may
 -- ReadFault, which means an input of more than 2^48 bytes.
-abbrev pub Yields : Given → Result (List ℕ) Refusal → Type 0
-Yields (Ok bytes) meaning = meaning ≡ Ok bytes
+abbrev pub Yields : {X : Type 0} → Result X Fault → Result X Refusal → Type 0
+Yields (Ok x) meaning = meaning ≡ Ok x
 Yields (Err (Refused e)) meaning = (meaning ≡ Err e) ⊎ IsUnread e
 Yields (Err other) meaning = ⊥
 
 -- the same where a text is asked: bytes that are no text are refused before all else
-abbrev pub Asks : Given → List ℕ → Result (List ℕ) Refusal → Type 0
+abbrev pub Asks : {X : Type 0} → Result X Fault → List ℕ → Result X Refusal → Type 0
 Asks given text meaning = (IsUtf8 text → Yields given meaning) × ((IsUtf8 text → ⊥) → given ≡ Err (Refused (Syntax (utf8_valid_len text))))
 
 -- ---- the calls

@@ -3,8 +3,10 @@ use Rattle.std.specs.Prelude.{◌≡◌, ◌⊎◌, ℕ, ◌*◌, Bool, ◌&&◌
 use Rattle.std.specs.List.{flat_map}
 use Rattle.std.specs.Str.{IsUtf8}
 use Rattle.std.specs.Str.Lossy.{utf8_valid_len}
-use Rattle.table_model.specs.State.{State}
+use Rattle.table_model.specs.Formula.{Formula}
+use Rattle.table_model.specs.State.{Cells, State}
 use Rattle.table_model.specs.Table.{ColumnShape, Table as Schema, type_text}
+use Rattle.table_model.specs.declared.names.RowName.{RowName}
 use Rattle.table_model.specs.declared.refusal.Refusal.{Refusal}
 use Rattle.table_model.specs.declared.refusal.Refusal.TheVariants.{Memory, NoSuchColumn, Syntax}
 use Rattle.live_columns.specs.Chosen.{columns_in, rows_where}
@@ -13,6 +15,8 @@ use Rattle.live_columns.specs.Columns.{null_count, numbers_of, stride_of, validi
 use Rattle.live_columns.specs.declared.choice.Choice.{Choice}
 use Rattle.live_columns.specs.declared.choice.Unchosen.{Unchosen}
 use Rattle.live_columns.specs.declared.choice.Unchosen.TheVariants as unchosen
+use Rattle.replica_store.specs.Replica.{Replica}
+use Rattle.lanes_c.specs.Between.{rows_between}
 use Rattle.lanes_c.specs.Calls.{Yields}
 use Rattle.lanes_c.specs.Faults.{nowhere, number_of_fault, place_of_fault, told_of_choice}
 use Rattle.lanes_c.specs.Opened.{IsNotOpen}
@@ -29,19 +33,31 @@ pub record ColumnsForm : Type 0 where
   pub rows : ℕ
   pub columns : List (List (Option ℤ))
 
--- the columns of a choice at the live rows of a state
-abbrev pub columns_of : Schema → State → ChoiceForm → ColumnsForm
-columns_of table s choice = record { rows = length (rows_where table choice.condition s); columns = columns_in choice.places (rows_where table choice.condition s) }
+-- the rows at which a condition is true, of some rows
+abbrev pub RowsWhere : Type 0
+RowsWhere = Option Formula → List (RowName × Cells)
+
+-- the columns of a choice at rows
+abbrev pub columns_of : RowsWhere → ChoiceForm → ColumnsForm
+columns_of rows choice = record { rows = length (rows choice.condition); columns = columns_in choice.places (rows choice.condition) }
 
 -- the same, where what is asked for is known
-abbrev pub columns_where : Schema → State → Result ChoiceForm Unchosen → Result ColumnsForm Fault
-columns_where table s (Ok choice) = Ok (columns_of table s choice)
-columns_where table s (Err fault) = Err (told_of_choice fault)
+abbrev pub columns_where : RowsWhere → Result ChoiceForm Unchosen → Result ColumnsForm Fault
+columns_where rows (Ok choice) = Ok (columns_of rows choice)
+columns_where rows (Err fault) = Err (told_of_choice fault)
 
--- The columns that are asked for by names, with one space between, and a condition, at the live rows of a state; or the first fault: of the
+-- The columns that are asked for by names of a table, with one space between, and a condition, at rows; or the first fault: of the
 -- condition's text, of a name, of the condition's names.
+abbrev pub columns_over : Schema → RowsWhere → List ℕ → List ℕ → Result ColumnsForm Fault
+columns_over table rows names condition = columns_where rows (choice_of table 32 names condition)
+
+-- the same at the live rows of a state
 abbrev pub columns_at : Schema → State → List ℕ → List ℕ → Result ColumnsForm Fault
-columns_at table s names condition = columns_where table s (choice_of table 32 names condition)
+columns_at table s names condition = columns_over table (λ c. rows_where table c s) names condition
+
+-- the same at the live rows of some of a state's batches: from a place on, at most a number of them
+abbrev pub columns_between : Schema → State → ℕ → ℕ → List ℕ → List ℕ → Result ColumnsForm Fault
+columns_between table s first count names condition = columns_over table (λ c. rows_between table c s first count) names condition
 
 -- what bytes ask that have to be texts: the first that is none is reported before all else
 abbrev pub AsksTexts : {X : Type 0} → (Result X Fault → Type 0) → Result X Fault → List ℕ → List ℕ → Type 0
@@ -129,9 +145,9 @@ abbrev pub ReadsChoice : Result Choice Fault → List ℕ → List ℕ → Schem
 ReadsChoice result names condition table = AsksTexts (IsGiven (told_choice (choice_of table 32 names condition))) (form_of result) names condition
 
 -- columns that are written into rooms: what they are, how many rows they have, and what the rooms are then
-pub record PutsColumns (result : RowsGiven) (names condition : List ℕ) (table : Schema) (s : State) (old new : ColumnRooms) : Type 0 where
+pub record PutsColumns (result : RowsGiven) (names condition : List ℕ) (table : Schema) (rows : RowsWhere) (old new : ColumnRooms) : Type 0 where
   pub given : Result ColumnsForm Fault
-  pub meant : AsksTexts (IsGiven (columns_at table s names condition)) given names condition
+  pub meant : AsksTexts (IsGiven (columns_over table rows names condition)) given names condition
   pub told : result ≡ rows_given given
   pub rooms : new ≡ rooms_left given old
 
@@ -144,13 +160,22 @@ pub record TellsColumns (Means : Result ColumnsForm Fault → Type 0) (number : 
   pub rows : told ≡ rows_told (rows_given given)
   pub place : at ≡ place_of_rows (rows_given given)
 
--- lanes_columns: The handle stays as it was. Of a closed one NotOpen is reported. Of an open one the columns of its replica's live rows are
--- given, and nothing else is written.
-abbrev pub ColumnsOpen : ℕ → List ℕ → List ℕ → Table → Table → ColumnRooms → ColumnRooms → ℕ → Place → Type 0
-ColumnsOpen number names condition old new was rooms rows place =
+-- Columns are read of a handle. It stays as it was. Of a closed one NotOpen is reported. Of an open one columns are given that its
+-- replica has, and nothing else is written.
+abbrev pub GivesColumns : (Replica → Result ColumnsForm Fault) → ℕ → List ℕ → List ℕ → Table → Table → ColumnRooms → ColumnRooms → ℕ → Place → Type 0
+GivesColumns columns number names condition old new was rooms rows place =
     (new.replica ≡ old.replica)
     × MatchOption old.replica (TellsColumns (λ given. given ≡ Err NotOpen) number was rooms rows place)
-    (λ r. TellsColumns (λ given. AsksTexts (IsGiven (columns_at r.schema r.state names condition)) given names condition) number was rooms rows place)
+    (λ r. TellsColumns (λ given. AsksTexts (IsGiven (columns r)) given names condition) number was rooms rows place)
+
+-- lanes_columns: the columns of the replica's live rows
+abbrev pub ColumnsOpen : ℕ → List ℕ → List ℕ → Table → Table → ColumnRooms → ColumnRooms → ℕ → Place → Type 0
+ColumnsOpen number names condition old new was rooms rows place = GivesColumns (λ r. columns_at r.schema r.state names condition) number names condition old new was rooms rows place
+
+-- lanes_columns_between: the columns of the live rows of some of the replica's batches
+abbrev pub ColumnsBetweenOpen : ℕ → ℕ → ℕ → List ℕ → List ℕ → Table → Table → ColumnRooms → ColumnRooms → ℕ → Place → Type 0
+ColumnsBetweenOpen number first count names condition old new was rooms rows place =
+    GivesColumns (λ r. columns_between r.schema r.state first count names condition) number names condition old new was rooms rows place
 
 -- ---- the schema
 

@@ -13,26 +13,34 @@ use Rattle.replica_files.specs.Commands.{held_in, file_made}
 use Rattle.replica_files.specs.CsvLoads.{AreCut}
 use Rattle.replica_files.specs.Loads.{LoadForm, importing}
 use Rattle.lanes_c.specs.Calls.{Yields}
+use Rattle.lanes_c.specs.Opened.{IsWhyNotOpened}
 use Rattle.lanes_c.specs.Rooms.{Given}
 use Rattle.lanes_c.specs.declared.fault.Fault.{Fault}
 use Rattle.lanes_c.specs.declared.fault.Fault.TheVariants as faults
 
--- the batches of a load are the rows of a text, read as rows of the table that a file holds
+-- the batches of a load are the rows of a text, read as rows of a table
+abbrev pub LoadsText : Table → List ℕ → Bool → LoadForm → Type 0
+LoadsText table text has_heading load = (rows : Batch) × (csv_rows table has_heading text ≡ Ok rows) × (load.schema ≡ table) × AreCut rows load.batches
+
+-- the same of the table that a file holds
 abbrev pub Loads : List ℕ → List ℕ → Bool → LoadForm → Type 0
-Loads file text has_heading load =
-    (r : Replica) × (rows : Batch) × (held_in file ≡ Ok r) × (csv_rows r.schema has_heading text ≡ Ok rows) × (load.schema ≡ r.schema) × AreCut rows load.batches
+Loads file text has_heading load = (r : Replica) × (held_in file ≡ Ok r) × LoadsText r.schema text has_heading load
 
 -- a text has more rows than the batches of a replica may have, if it has no fault
 abbrev pub HasTooMany : Table → Bool → List ℕ → Type 0
 HasTooMany table has_heading text = (rows : Batch) → csv_rows table has_heading text ≡ Ok rows → batch_limit * row_limit < length rows
 
--- Why the rows of a text weren't loaded: the file's first fault, the text's first fault, or Full, which means too many rows; out of
--- memory and ReadFault may come in the place of anything.
+-- Why the rows of a text weren't loaded as rows of a table: the text's first fault, or Full, which means too many rows; out of memory and
+-- ReadFault may come in the place of anything.
+abbrev pub IsWhyNotRead : Table → List ℕ → Bool → Fault → Type 0
+IsWhyNotRead table text has_heading (faults.Refused e) = IsUnread e ⊎ ((e ≡ Full) × HasTooMany table has_heading text)
+IsWhyNotRead table text has_heading (faults.BadCsv line column) = csv_rows table has_heading text ≡ Err (csv.BadCsv line column)
+IsWhyNotRead table text has_heading (faults.LineTooLong line) = csv_rows table has_heading text ≡ Err (csv.LineTooLong line)
+IsWhyNotRead table text has_heading other = ⊥
+
+-- why the rows of a text weren't loaded as rows of the table that a file holds: the file's first fault, or the text's
 abbrev pub IsWhyNotLoaded : List ℕ → List ℕ → Bool → Fault → Type 0
-IsWhyNotLoaded file text has_heading (faults.Refused e) = IsUnread e ⊎ ((held_in file ≡ Err e) ⊎ ((e ≡ Full) × ((r : Replica) × (held_in file ≡ Ok r) × HasTooMany r.schema has_heading text)))
-IsWhyNotLoaded file text has_heading (faults.BadCsv line column) = (r : Replica) × (held_in file ≡ Ok r) × (csv_rows r.schema has_heading text ≡ Err (csv.BadCsv line column))
-IsWhyNotLoaded file text has_heading (faults.LineTooLong line) = (r : Replica) × (held_in file ≡ Ok r) × (csv_rows r.schema has_heading text ≡ Err (csv.LineTooLong line))
-IsWhyNotLoaded file text has_heading other = ⊥
+IsWhyNotLoaded file text has_heading fault = IsWhyNotOpened fault file ⊎ ((r : Replica) × (held_in file ≡ Ok r) × IsWhyNotRead r.schema text has_heading fault)
 
 -- the name of these numbers; none where both are 0
 abbrev pub name_given : ℕ → ℕ → Option BatchName

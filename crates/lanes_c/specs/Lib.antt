@@ -1,3 +1,4 @@
+pub mod Between
 pub mod Calls
 pub mod ColumnCalls
 pub mod Faults
@@ -8,4 +9,6 @@ pub mod Opened
 pub mod PartialAnswers
 pub mod Queries
 pub mod Rooms
+pub mod TableChanges
+pub mod TableReading
 pub mod Taking

@@ -1,7 +1,7 @@
 //! The calls that make a file, and that make a file's successor: an empty table, an import, a delete, a forget.
 ghost use Rattle.std.specs.Prelude.{◌≡◌, ◌++◌, codes, IfOk, IfErr};
 ghost use Rattle.lanes_c.specs.Calls.{Yields, Asks, create_of, delete_of, empty_file_of, forget_of, line_of};
-ghost use Rattle.lanes_c.specs.Importing.{Loads, IsWhyNotLoaded, ImportsLoad, Imports, name_given};
+ghost use Rattle.lanes_c.specs.Importing.{Loads, LoadsText, IsWhyNotLoaded, IsWhyNotRead, ImportsLoad, Imports, name_given};
 ghost use Rattle.lanes_c.specs.Rooms.{Tells, given_by};
 
 use crate::fault::{Fault, Place};
@@ -11,7 +11,7 @@ use csv_rows::CsvReader;
 use replica_files::{Load, create, delete, file_schema, forget, import, read_csv};
 use script_lines::{Command, TableCommand, parse_line};
 use std::alloc::{AllocError, Global};
-use table_model::{BatchName, Counted, Number, Origin, Refusal};
+use table_model::{BatchName, Counted, Number, Origin, Refusal, Schema};
 
 /// The line of a script that makes a table of these words.
 fn line_of(alloc: Global, words: &[u8]) -> Result<Vec<u8>, AllocError>
@@ -70,20 +70,33 @@ fn forgotten(alloc: Global, file: &[u8]) -> Result<Vec<u8>, Fault>
     left(alloc, file, done.batches != 0, writer)
 }
 
-/// The rows of a text as batches of the table that a file holds.
-fn loaded(alloc: Global, file: &[u8], csv: &[u8], has_heading: bool) -> Result<Load, Fault>
-    ensures load { IfOk result (λ load. Loads file.now csv.now has_heading load) }
-    ensures fault { IfErr result (IsWhyNotLoaded file.now csv.now has_heading) }
+/// The rows of a text as batches of a table.
+pub(crate) fn loaded(
+    alloc: Global,
+    schema: &Schema,
+    csv: &[u8],
+    has_heading: bool,
+) -> Result<Load, Fault>
+    ensures load { IfOk result (λ load. LoadsText schema.now csv.now has_heading load) }
+    ensures fault { IfErr result (λ fault. IsWhyNotRead schema.now csv.now has_heading fault) }
 {
-    let schema = file_schema(alloc, &mut Counted::new(file))?;
-    let mut load = Load::new(alloc, &schema)?;
-    let mut rows = CsvReader::new(alloc, &schema, has_heading)?;
+    let mut load = Load::new(alloc, schema)?;
+    let mut rows = CsvReader::new(alloc, schema, has_heading)?;
     read_csv(alloc, &mut rows, &mut Counted::new(csv), &mut load)?;
     Ok(load)
 }
 
+/// The same of the table that a file holds.
+fn loaded_for(alloc: Global, file: &[u8], csv: &[u8], has_heading: bool) -> Result<Load, Fault>
+    ensures load { IfOk result (λ load. Loads file.now csv.now has_heading load) }
+    ensures fault { IfErr result (λ fault. IsWhyNotLoaded file.now csv.now has_heading fault) }
+{
+    let schema = file_schema(alloc, &mut Counted::new(file))?;
+    loaded(alloc, &schema, csv, has_heading)
+}
+
 /// The name of these numbers; none where both are 0.
-fn name_given(origin: u32, number: u32) -> Option<BatchName>
+pub(crate) fn name_given(origin: u32, number: u32) -> Option<BatchName>
     ensures { result ≡ name_given origin number }
 {
     if origin == 0 && number == 0 {
@@ -179,7 +192,7 @@ fn imported_text(
 ) -> Result<Vec<u8>, Fault>
     ensures { Imports (given_by result) csv.now has_heading first words.now file.now }
 {
-    let load = loaded(alloc, file, csv, has_heading)?;
+    let load = loaded_for(alloc, file, csv, has_heading)?;
     imported(alloc, file, load, first, words)
 }
 

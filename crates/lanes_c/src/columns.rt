@@ -3,16 +3,19 @@ ghost use Rattle.std.specs.Prelude.{◌≡◌, ◌<◌, ◌≤◌, ◌*◌, ◌+
 ghost use Rattle.std.specs.List.{All};
 ghost use Rattle.table_model.specs.Group.{state_row_limit};
 ghost use Rattle.table_model.specs.Table.{type_text};
+ghost use Rattle.live_columns.specs.Chosen.{rows_where};
 ghost use Rattle.live_columns.specs.Columns.{stride_of};
+ghost use Rattle.lanes_c.specs.Between.{rows_between};
 ghost use Rattle.lanes_c.specs.Calls.{Yields};
-ghost use Rattle.lanes_c.specs.ColumnCalls.{ColumnRooms, ColumnsOpen, IsPut, PutsColumns, ReadsChoice, SchemaOpen, column_words, columns_of, number_of_rows, place_of_rows, rows_told, schema_words};
+ghost use Rattle.lanes_c.specs.ColumnCalls.{ColumnRooms, ColumnsBetweenOpen, ColumnsOpen, IsPut, PutsColumns, ReadsChoice, SchemaOpen, column_words, columns_of, number_of_rows, place_of_rows, rows_told, schema_words};
 ghost use Rattle.lanes_c.specs.Rooms.{given_by};
 
+use crate::between::{BatchRange, rows_between};
 use crate::fault::{Fault, Place};
 use crate::handle::Table;
 use crate::room::hand_out;
 use crate::taking::text_of;
-use live_columns::{Choice, choose, rows_where, stride_of, write_columns};
+use live_columns::{Choice, choose, stride_of, write_columns};
 use query_eval::Columns;
 use replica_store::Store;
 use std::alloc::{AllocError, Global};
@@ -58,21 +61,22 @@ fn have_room(columns: usize, rows: usize, values: usize, valid: usize, nulls: us
         && columns <= nulls
 }
 
-/// Writes columns into rooms, if there is room for all of them, and answers how many rows they have.
+/// Writes columns of some batches into rooms, if there is room for all of them, and answers how many rows they have.
 fn put_columns<C: Columns>(
     alloc: Global,
     view: &mut C,
     choice: &Choice,
+    batches: BatchRange,
     values: &mut [i64],
     valid: &mut [u8],
     nulls: &mut [u64],
 ) -> Result<usize, AllocError>
     requires { All (λ place. place < length (C.seen view.old).table.columns) choice.now.places.items }
-    ensures rows { IfOk result (λ rows. rows ≡ (columns_of (C.seen view.old).table (C.seen view.old).state (record { condition = choice.now.condition; places = choice.now.places.items })).rows) }
-    ensures put { IfOk result (λ _. IsPut (columns_of (C.seen view.old).table (C.seen view.old).state (record { condition = choice.now.condition; places = choice.now.places.items })) values.old valid.old nulls.old values.new valid.new nulls.new) }
+    ensures rows { IfOk result (λ rows. rows ≡ (columns_of (λ c. rows_between (C.seen view.old).table c (C.seen view.old).state batches.first batches.count) (record { condition = choice.now.condition; places = choice.now.places.items })).rows) }
+    ensures put { IfOk result (λ _. IsPut (columns_of (λ c. rows_between (C.seen view.old).table c (C.seen view.old).state batches.first batches.count) (record { condition = choice.now.condition; places = choice.now.places.items })) values.old valid.old nulls.old values.new valid.new nulls.new) }
     ensures kept { IfErr result (λ _. (values.new ≡ values.old) × (valid.new ≡ valid.old) × (nulls.new ≡ nulls.old)) }
 {
-    let chosen = rows_where(alloc, view, &choice.condition)?;
+    let chosen = rows_between(alloc, view, &choice.condition, batches)?;
     let places = choice.places.as_slice();
     let columns = places.len();
     let numbers = values.len();
@@ -86,30 +90,51 @@ fn put_columns<C: Columns>(
     Ok(chosen.count)
 }
 
-/// Writes the columns that are asked for into rooms, if there is room for all of them, and answers how many rows they have.
+/// Writes the columns that are asked for of some batches into rooms, if there is room for all of them, and answers how many rows they
+/// have.
 fn put_asked<C: Columns>(
     alloc: Global,
     view: &mut C,
     names: &[u8],
     condition: &[u8],
+    batches: BatchRange,
     values: &mut [i64],
     valid: &mut [u8],
     nulls: &mut [u64],
 ) -> Result<usize, Fault>
-    ensures { PutsColumns result names.now condition.now (C.seen view.old).table (C.seen view.old).state (record { values = values.old; valid = valid.old; nulls = nulls.old }) (record { values = values.new; valid = valid.new; nulls = nulls.new }) }
+    ensures { PutsColumns result names.now condition.now (C.seen view.old).table (λ c. rows_between (C.seen view.old).table c (C.seen view.old).state batches.first batches.count) (record { values = values.old; valid = valid.old; nulls = nulls.old }) (record { values = values.new; valid = valid.new; nulls = nulls.new }) }
 {
     let choice = match asked_for(alloc, view.schema(), names, condition) {
         Ok(choice) => choice,
         Err(fault) => return Err(fault),
     };
-    match put_columns(alloc, view, &choice, values, valid, nulls) {
+    match put_columns(alloc, view, &choice, batches, values, valid, nulls) {
         Ok(rows) => Ok(rows),
         Err(_) => Err(Fault::Refused(Refusal::Memory)),
     }
 }
 
 /// The same of a store.
-fn columns_over(
+fn columns_between(
+    alloc: Global,
+    store: &Store,
+    names: &[u8],
+    condition: &[u8],
+    batches: BatchRange,
+    values: &mut [i64],
+    valid: &mut [u8],
+    nulls: &mut [u64],
+) -> Result<usize, Fault>
+    ensures { PutsColumns result names.now condition.now store.now.replica.schema (λ c. rows_between store.now.replica.schema c store.now.replica.state batches.first batches.count) (record { values = values.old; valid = valid.old; nulls = nulls.old }) (record { values = values.new; valid = valid.new; nulls = nulls.new }) }
+{
+    let mut view = StoreView::new(store);
+    put_asked(
+        alloc, &mut view, names, condition, batches, values, valid, nulls,
+    )
+}
+
+/// The same of all batches of a store.
+fn columns_of_all(
     alloc: Global,
     store: &Store,
     names: &[u8],
@@ -118,10 +143,13 @@ fn columns_over(
     valid: &mut [u8],
     nulls: &mut [u64],
 ) -> Result<usize, Fault>
-    ensures { PutsColumns result names.now condition.now store.now.replica.schema store.now.replica.state (record { values = values.old; valid = valid.old; nulls = nulls.old }) (record { values = values.new; valid = valid.new; nulls = nulls.new }) }
+    ensures { PutsColumns result names.now condition.now store.now.replica.schema (λ c. rows_where store.now.replica.schema c store.now.replica.state) (record { values = values.old; valid = valid.old; nulls = nulls.old }) (record { values = values.new; valid = valid.new; nulls = nulls.new }) }
 {
-    let mut view = StoreView::new(store);
-    put_asked(alloc, &mut view, names, condition, values, valid, nulls)
+    let all = BatchRange {
+        first: 0,
+        count: store.batches(),
+    };
+    columns_between(alloc, store, names, condition, all, values, valid, nulls)
 }
 
 /// Tells a caller how many rows columns have, with 0; or a fault's number and place, with no rows.
@@ -172,7 +200,46 @@ pub extern "C" fn lanes_columns(
     let Some(shared) = replace(table, Table::closed()).into_box(alloc) else {
         return tell_rows(Err(Fault::NotOpen), rows, place);
     };
-    let given = columns_over(alloc, &shared.store, names, condition, values, valid, nulls);
+    let given = columns_of_all(alloc, &shared.store, names, condition, values, valid, nulls);
+    drop(replace(table, Table::of_box(shared)).into_box(alloc));
+    tell_rows(given, rows, place)
+}
+
+/// Gives the cells of columns at the live rows of some batches at which a condition is true: as `lanes_columns` does, of the batches
+/// from `first` on, which counts from 0 in ascending order of name, and at most `count` of them. So the rows of a large table are read
+/// in pieces.
+///
+/// Refused is what `lanes_columns` refuses. Places past the last batch have no rows.
+#[unsafe(no_mangle)]
+pub extern "C" fn lanes_columns_between(
+    alloc: Global,
+    table: &mut Table,
+    first: usize,
+    count: usize,
+    names: &[u8],
+    condition: &[u8],
+    values: &mut [i64],
+    valid: &mut [u8],
+    nulls: &mut [u64],
+    rows: &mut usize,
+    place: &mut Place,
+) -> u8
+    ensures { ColumnsBetweenOpen result first count names.now condition.now table.old table.new (record { values = values.old; valid = valid.old; nulls = nulls.old }) (record { values = values.new; valid = valid.new; nulls = nulls.new }) rows.new place.new }
+{
+    let Some(shared) = replace(table, Table::closed()).into_box(alloc) else {
+        return tell_rows(Err(Fault::NotOpen), rows, place);
+    };
+    let batches = BatchRange { first, count };
+    let given = columns_between(
+        alloc,
+        &shared.store,
+        names,
+        condition,
+        batches,
+        values,
+        valid,
+        nulls,
+    );
     drop(replace(table, Table::of_box(shared)).into_box(alloc));
     tell_rows(given, rows, place)
 }

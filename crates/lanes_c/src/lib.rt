@@ -2,6 +2,7 @@
 //! opened of, until it is closed.
 #![tactic(auto)]
 
+mod between;
 mod changing;
 mod columns;
 mod fault;
@@ -16,10 +17,12 @@ mod queries;
 mod reading;
 mod room;
 mod shared;
+mod table_changes;
+mod table_reading;
 mod taking;
 
 pub use changing::{lanes_create, lanes_delete, lanes_forget, lanes_import};
-pub use columns::{lanes_columns, lanes_schema};
+pub use columns::{lanes_columns, lanes_columns_between, lanes_schema};
 pub use fault::Place;
 pub use handle::Table;
 pub use merging::lanes_merge;
@@ -29,3 +32,8 @@ pub use opening::{lanes_ask, lanes_close, lanes_open, lanes_share};
 pub use partials::{lanes_combine, lanes_finish, lanes_part, lanes_partial};
 pub use queries::lanes_queries;
 pub use reading::{lanes_check, lanes_dump, lanes_query};
+pub use table_changes::{
+    lanes_table_apply, lanes_table_delete, lanes_table_delete_rows, lanes_table_forget,
+    lanes_table_import,
+};
+pub use table_reading::{lanes_batches, lanes_file, lanes_inspect};

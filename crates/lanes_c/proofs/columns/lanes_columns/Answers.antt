@@ -3,6 +3,7 @@ use Rattle.std.specs.Prelude.{◌≡◌, ℕ, List, MatchOption}
 use Rattle.std.proofs.Common.{Some, Err, Option, sym, ap, subst, ◌∙◌}
 use Rattle.replica_store.specs.Replica.{Replica}
 use Rattle.replica_store.specs.Segments.{StoreForm}
+use Rattle.live_columns.specs.Chosen.{rows_where}
 use Rattle.lanes_c.specs.ColumnCalls.{AsksTexts, ColumnRooms, IsGiven, TellsColumns, columns_at}
 use Rattle.lanes_c.specs.declared.fault.Fault.TheVariants.{NotOpen}
 use Rattle.lanes_c.specs.declared.fault.Place.{Place}
@@ -16,7 +17,7 @@ returns c =
     let names : List ℕ = c.args.names.now in
     let condition : List ℕ = c.args.condition.now in
     let was : ColumnRooms = record { values = c.args.values.now; valid = c.args.valid.now; nulls = c.args.nulls.now } in
-    let rooms : ColumnRooms = record { values = c.columns_over-given.new.values; valid = c.columns_over-given.new.valid; nulls = c.columns_over-given.new.nulls } in
+    let rooms : ColumnRooms = record { values = c.columns_of_all-given.new.values; valid = c.columns_of_all-given.new.valid; nulls = c.columns_of_all-given.new.nulls } in
     let number : ℕ = c.tell_rows-2.result in
     let rows : ℕ = c.tell_rows-2.new.rows in
     let place : Place = c.tell_rows-2.new.place in
@@ -24,7 +25,7 @@ returns c =
     let held : c.args.table.now.replica ≡ Some r = ap (λ (t : Table). t.replica) (sym c.replace.ensures.value) ∙ c.in-Some.ensures in
     let again : c.replace-2.new.dest.replica ≡ Some r = ap (λ (t : Table). t.replica) c.replace-2.ensures.after ∙ c.of_box.ensures in
     let same : c.deref-2.result.now.replica ≡ r = ap (λ (s : StoreForm). s.replica) (c.deref-2.ensures ∙ ap (λ (x : Shared). x.store.value) c.deref.ensures) in
-    let told = tells-put c.columns_over-given.result names condition c.deref-2.result.now.replica.schema c.deref-2.result.now.replica.state was rooms number rows place c.columns_over-given.ensures c.tell_rows-2.ensures.number c.tell_rows-2.ensures.rows c.tell_rows-2.ensures.place in (
+    let told = tells-put c.columns_of_all-given.result names condition c.deref-2.result.now.replica.schema (λ x. rows_where c.deref-2.result.now.replica.schema x c.deref-2.result.now.replica.state) was rooms number rows place c.columns_of_all-given.ensures c.tell_rows-2.ensures.number c.tell_rows-2.ensures.rows c.tell_rows-2.ensures.place in (
       again ∙ sym held,
       subst
           (λ (o : Option Replica). MatchOption o (TellsColumns (λ given. given ≡ Err NotOpen) number was rooms rows place) (λ x. TellsColumns (λ given. AsksTexts (IsGiven (columns_at x.schema x.state names condition)) given names condition) number was rooms rows place))

@@ -1,0 +1,19 @@
+-- The handle has what was made of what it had, or it has that.
+use Rattle.std.specs.Prelude.{◌≡◌, Option, Some}
+use Rattle.std.proofs.Common.{sym, ap, subst, ◌∙◌, inl, inr, refl}
+use Rattle.replica_store.specs.Replica.{Replica}
+use Rattle.replica_store.specs.Segments.{StoreForm}
+use Rattle.lanes_c.specs.declared.handle.Table.{Table}
+use Rattle.lanes_c.specs.declared.shared.Shared.{Shared}
+use Rattle.lanes_c.specs.Calls.{Yields}
+use Rattle.lanes_c.specs.TableChanges.{Changed, changed_by, without_dead}
+use Rattle.lanes_c.proofs.TableChanging.{told_open}
+use Rattle.lanes_c.proofs.table_changes.lanes_table_forget.Goals as goal
+
+pub returns : goal.returns
+returns c =
+    let Means : Replica → Changed → Type 0 = λ x given. Yields given (without_dead x) in
+    let r : Replica = c.in-Some.shared.value.store.value.replica in
+    let held : c.args.table.now.replica ≡ Some r = ap (λ (t : Table). t.replica) (sym c.replace.ensures.value) ∙ c.in-Some.ensures in
+    let same : c.deref-2.result.now.replica ≡ r = ap (λ (s : StoreForm). s.replica) (c.deref-2.ensures ∙ ap (λ (x : Shared). x.store.value) c.deref.ensures) in
+    told_open Means (changed_by c.without_dead-changed.result) _ c.args.table.now c.put_change.new.table r _ held (subst (λ (x : Replica). Means x (changed_by c.without_dead-changed.result)) same c.without_dead-changed.ensures) (λ x h. inr (inl refl)) c.put_change.ensures
