@@ -106,7 +106,7 @@ const QUERIES: [(&str, Refusal, &str); 33] = [
     (
         "SELECT COUNT(*) FROM (SELECT SITE FROM VISITS)",
         Refusal::Syntax(21),
-        "byte 21: \"(\" is not possible here; expected is the table's name",
+        "byte 21: \"(\" is not possible here; expected the table's name",
     ),
     (
         "DELETE FROM VISITS",
@@ -116,32 +116,32 @@ const QUERIES: [(&str, Refusal, &str); 33] = [
     (
         "",
         Refusal::Syntax(0),
-        "byte 0: the text ends too early; expected is SELECT",
+        "byte 0: the text ends too early; expected SELECT",
     ),
     (
         "SELECT COUNT(*)",
         Refusal::Syntax(15),
-        "byte 15: the text ends too early; expected is FROM and the table's name",
+        "byte 15: the text ends too early; expected a comma, FROM, AS or a name",
     ),
     (
         "SELECT COUNT(*) FROM VISITS WHERE",
         Refusal::Syntax(33),
-        "byte 33: the text ends too early; expected is a condition",
+        "byte 33: the text ends too early; expected a condition",
     ),
     (
         "SELECT COUNT(*) AS SUM FROM VISITS",
         Refusal::Syntax(19),
-        "byte 19: \"SUM\" is not possible here; expected is a name that is no keyword",
+        "byte 19: \"SUM\" is not possible here; expected a name that is not a keyword",
     ),
     (
         "SELEKT COUNT(*) FROM VISITS",
         Refusal::Syntax(0),
-        "byte 0: \"SELEKT\" is not possible here; expected is SELECT",
+        "byte 0: \"SELEKT\" is not possible here; expected SELECT",
     ),
     (
         "SELECT COUNT(*) FROM VISITS SITE",
         Refusal::Syntax(28),
-        "byte 28: \"SITE\" is not possible here",
+        "byte 28: \"SITE\" is not possible here; expected WHERE, GROUP BY, HAVING or the end",
     ),
     (
         "SELECT SUM(QTY) FROM VISITS",
@@ -172,7 +172,7 @@ const QUERIES: [(&str, Refusal, &str); 33] = [
     (
         "SELECT",
         Refusal::Syntax(99),
-        "byte 99: the text ends too early; expected is a column or a set function",
+        "byte 99: the text ends too early; expected a column or a set function",
     ),
 ];
 

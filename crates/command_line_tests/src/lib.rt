@@ -4,6 +4,8 @@
 #[cfg(test)]
 mod knowledge_tests;
 #[cfg(test)]
+mod query_tests;
+#[cfg(test)]
 mod request_tests;
 #[cfg(test)]
 mod sentence_tests;

@@ -3,14 +3,18 @@
 
 mod command_refusal;
 mod csv_fault;
+mod cures;
 mod front;
+mod grammar;
 mod meaning;
+mod place;
 mod pointer;
 mod quoted;
 mod reason;
 mod sentence;
 mod tables;
 mod text_fault;
+mod tokens;
 
 pub use command_refusal::CommandRefusal;
 pub use csv_fault::{Fields, Wanted};
