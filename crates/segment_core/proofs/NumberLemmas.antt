@@ -8,7 +8,7 @@ use Rattle.std.proofs.lemmas.List.FromFn.{get_or-map-range_with_len}
 use Rattle.transpose_order.specs.Place.{IsLaneWidth}
 use Rattle.bit_interleave.specs.Arithmetic.{integer_width}
 use Rattle.bit_interleave.specs.Range.{value_at, AreInRange}
-use Rattle.bit_interleave.specs.Places.{by_place, index_of_row}
+use Rattle.bit_interleave.specs.Places.{by_place, index_of_row, row_of_index}
 use Rattle.bit_interleave.proofs.PlacesLemmas.{index_of_row-below, row_of_index-index_of_row}
 use Rattle.bit_interleave.proofs.WrapLemmas.{int_wrap-bits, fits_wide}
 use Rattle.frame_delta.specs.Frame.{TellApart, AreAbove}
@@ -45,6 +45,14 @@ signed_above t numbers values w long range are n l =
 pub signed_at : (numbers : List ℕ) (values : List ℤ) → ((q : ℕ) → q < 1024 → get_or numbers q 0 ≡ cast_unsigned w64 (value_at values (64 * (q % 16) + q / 16))) → AreSigned numbers values
 signed_at numbers values h n l =
     h (index_of_row n) (index_of_row-below n l) ∙ ap (λ k. cast_unsigned w64 (value_at values k)) (row_of_index-index_of_row n l)
+
+-- the numbers by places that are values in row order
+pub numbers_of : List ℤ → List ℕ
+numbers_of values = map (λ q. cast_unsigned w64 (value_at values (row_of_index q))) (range_with_len 0 1024)
+
+pub get_or-numbers_of : (values : List ℤ) (q : ℕ) → q < 1024 → get_or (numbers_of values) q 0 ≡ cast_unsigned w64 (value_at values (row_of_index q))
+unfolding numbers_of
+get_or-numbers_of values q h = get_or-map-range_with_len (λ k. cast_unsigned w64 (value_at values (row_of_index k))) 0 1024 q q 0 h (omega arith)
 
 -- the numbers that a dictionary's values at codes by places are
 pub numbers_at : List ℤ → List ℕ → List ℕ

@@ -143,7 +143,7 @@ impl Coded {
         match self {
             Coded::For(form) => is_canonical_frame(form.get(), repeating, room),
             Coded::Delta(form) => are_canonical_deltas(form.get(), repeating, room),
-            Coded::Runs(form) => are_canonical_runs(form.get(), repeating),
+            Coded::Runs(form) => are_canonical_runs(form.get(), repeating, room),
             Coded::Dict(form) => is_canonical_dictionary(form.get(), repeating, room),
         }
     }

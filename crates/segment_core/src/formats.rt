@@ -76,6 +76,9 @@ pub(crate) fn read_words(
     Ok((Words::from_le_bytes(alloc, lane_width, front)?, rest))
 }
 
+/// How many values are read through a small room: most lists are no longer.
+const FEW_VALUES: usize = 64;
+
 /// A number of values of `lane_width` bits, 8, 16, 32 or 64, at most 1024, at the front of what is left of an input of `total` bytes,
 /// and what comes after them. `Truncated` where there are fewer bytes.
 pub(crate) fn read_values(
@@ -91,7 +94,29 @@ pub(crate) fn read_values(
     ensures count { IfOk result (λ x. length x.0.values ≡ count) }
     ensures lanes { IfOk result (λ x. x.0.lane_width ≡ lane_width) }
 {
-    let mut room = [0; 1024];
+    if count <= FEW_VALUES {
+        read_in_room::<FEW_VALUES>(alloc, total, bytes, lane_width, count)
+    } else {
+        read_in_room::<1024>(alloc, total, bytes, lane_width, count)
+    }
+}
+
+/// The same through a room for `N` values, 1024 at most.
+fn read_in_room<const N: usize>(
+    alloc: Global,
+    total: usize,
+    bytes: &[u8],
+    lane_width: usize,
+    count: usize,
+) -> Result<(Values, &[u8]), Refusal>
+    requires lane_width { IsLaneWidth lane_width }
+    requires room { N ≤ 1024 }
+    requires many { count ≤ N }
+    ensures read { Reads (λ x. (x.0.values, x.1.now)) result ((all count (λ _. signed lane_width)).read total bytes.now) }
+    ensures count { IfOk result (λ x. length x.0.values ≡ count) }
+    ensures lanes { IfOk result (λ x. x.0.lane_width ≡ lane_width) }
+{
+    let mut room = [0; N];
     let mut rest = bytes;
     for i in 0..count {
         let (value, after) = read_value(total, rest, lane_width)?;

@@ -1,10 +1,10 @@
 //! Whether runs are the canonical form.
-ghost use Rattle.std.specs.Prelude.{◌≡◌, ◌↔◌, ◌<◌, ◌+◌, ◌/◌, ◌==◌, ℕ, IsTrue};
-ghost use Rattle.std.specs.Int.{bit_at};
+ghost use Rattle.std.specs.Prelude.{◌≡◌, ◌↔◌, ◌<◌, ◌+◌, ◌*◌, ◌/◌, ◌==◌, ℕ, IsTrue, slice_index};
+ghost use Rattle.std.specs.Int.{bit_at, w64, cast_unsigned};
 ghost use Rattle.transpose_order.specs.Mask.{has};
 ghost use Rattle.transpose_order.specs.Place.{IsLaneWidth};
-ghost use Rattle.frame_delta.specs.Delta.{is_later};
-ghost use Rattle.run_dictionary.specs.Runs.{run_values, least_runs};
+ghost use Rattle.frame_delta.specs.Delta.{is_later, delta_bytes, least_delta};
+ghost use Rattle.run_dictionary.specs.Runs.{run_value, run_values, least_runs};
 ghost use Rattle.segment_core.specs.Choice.{choice};
 ghost use Rattle.segment_core.specs.CanonicalForm.{IsCanonicalForm};
 ghost use Rattle.segment_core.specs.LaterRows.{IsMixedWithin};
@@ -19,8 +19,12 @@ use run_dictionary::Runs;
 use transpose_order::Mask;
 
 /// Whether runs are the canonical form of a vector that is filled by their values: these repeat as the fill asks, their form is the
-/// least, and RLE is chosen for them.
-pub(crate) fn are_canonical_runs(form: &Runs, repeating: &RepeatingRows) -> bool
+/// least, and RLE is chosen for them. `numbers` is room.
+pub(crate) fn are_canonical_runs(
+    form: &Runs,
+    repeating: &RepeatingRows,
+    numbers: &mut [u64; 1024],
+) -> bool
     ensures { IsTrue result ↔ IsCanonicalForm repeating.now.rows repeating.now.valueless (InRuns form.now) }
 {
     if !repeating.allow_first(form.value(0)) {
@@ -33,11 +37,11 @@ pub(crate) fn are_canonical_runs(form: &Runs, repeating: &RepeatingRows) -> bool
     if broken.next_true(0) < 1024 {
         return false;
     }
-    are_runs_chosen(form)
+    are_runs_chosen(form, numbers)
 }
 
-/// Whether RLE is chosen for the values of runs, of which they are the least form.
-fn are_runs_chosen(form: &Runs) -> bool
+/// Whether RLE is chosen for the values of runs, of which they are the least form. `numbers` is room.
+fn are_runs_chosen(form: &Runs, numbers: &mut [u64; 1024]) -> bool
     requires { form.now ≡ least_runs form.now.lane_width (run_values form.now) }
     ensures { IsTrue result ↔ (choice form.now.lane_width (run_values form.now) ≡ ByRuns) }
 {
@@ -52,11 +56,36 @@ fn are_runs_chosen(form: &Runs) -> bool
     if bytes < bytes_of_one_bit(lane_width) && are_mixed_within(lane_width, form.starts()) {
         return true;
     }
+    !are_deltas_below(form, bytes + 1, numbers)
+}
+
+/// Whether the least deltas of the values of runs take fewer bytes than a bound. The rows of two places mostly tell that they take no
+/// fewer. `numbers` is room.
+fn are_deltas_below(form: &Runs, bound: u16, numbers: &mut [u64; 1024]) -> bool
+    ensures { IsTrue result ↔ (delta_bytes (least_delta form.now.lane_width (run_values form.now)) < bound) }
+{
+    let lane_width = form.lane_width();
+    let first = values_of_place(form, 0);
+    let second = values_of_place(form, 1);
+    if !Delta::may_be_below(lane_width, first, second, bound) {
+        return false;
+    }
     let mut values = [0; 1024];
     form.decode(&mut values);
-    let mut numbers = [0; 1024];
-    write_by_places(&values, &mut numbers);
-    !Delta::is_below(lane_width, &numbers, bytes + 1)
+    write_by_places(&values, numbers);
+    Delta::is_below(lane_width, numbers, bound)
+}
+
+/// The values of the sixteen rows of a place.
+fn values_of_place(form: &Runs, place: usize) -> [u64; 16]
+    requires { place < 64 }
+    ensures { (i : ℕ) → i < 16 → slice_index result i ≡ cast_unsigned w64 (run_value form.now (64 * i + place)) }
+{
+    let mut numbers = [0; 16];
+    for i in 0..16 {
+        numbers[i] = form.value(64 * i + place).cast_unsigned();
+    }
+    numbers
 }
 
 /// The payload's bytes of deltas of one bit.

@@ -287,8 +287,9 @@ fn canonical_copies(alloc: Global, columns: &[Vectors]) -> Result<Vec<Vectors>, 
 fn are_canonical(columns: &[Vectors]) -> bool
     ensures { IsTrue result ↔ ((c : ℕ) (vectors : List VectorForm) → slice_get columns.now c ≡ Some vectors → AreCanonical vectors) }
 {
+    let mut room = [0; 1024];
     for column in 0..columns.len() {
-        if !columns[column].are_canonical() {
+        if !columns[column].are_canonical(&mut room) {
             return false;
         }
     }

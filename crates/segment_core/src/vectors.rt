@@ -44,11 +44,12 @@ impl Vectors {
         self.vectors[place] = vector;
     }
 
-    /// Whether each vector is the canonical one of its cells. It takes no memory.
-    pub fn are_canonical(&self) -> bool
+    /// Whether each vector is the canonical one of its cells. It takes no memory: `room` is for numbers of the rows, and serves one
+    /// column after another.
+    pub fn are_canonical(&self, room: &mut [u64; 1024]) -> bool
         ensures { IsTrue result ↔ AreCanonical self.now }
     {
-        are_canonical(self.vectors.as_slice())
+        are_canonical(self.vectors.as_slice(), room)
     }
 
     /// Whether two columns have the same cells, vector by vector. It takes no memory.
@@ -98,13 +99,12 @@ fn canonical_copies(alloc: Global, vectors: &[CodedVector]) -> Result<Vec<CodedV
     Ok(made)
 }
 
-/// Whether each vector is the canonical one of its cells.
-fn are_canonical(vectors: &[CodedVector]) -> bool
+/// Whether each vector is the canonical one of its cells. `room` is for numbers of the rows.
+fn are_canonical(vectors: &[CodedVector], room: &mut [u64; 1024]) -> bool
     ensures { IsTrue result ↔ AreCanonical vectors.now }
 {
-    let mut room = [0; 1024];
     for vector in vectors {
-        if !vector.is_canonical_in(&mut room) {
+        if !vector.is_canonical_in(room) {
             return false;
         }
     }

@@ -66,16 +66,12 @@ returns c =
     let t : ℕ = c.lane_width-lane_width.result in
     let values : List ℤ = run_values form in
     let bytes : ℕ = c.bytes_len-bytes.result in
-    let numbers : List ℕ = c.write_by_places.new.numbers in
     let own : bytes ≡ least_bytes form.lane_width values Runs = c.bytes_len-bytes.ensures ∙ ap run_bytes c.requires in
     let is : t ≡ form.lane_width = c.lane_width-lane_width.ensures.value in
     let size = frame_of_ends (InRuns form) t c.frame_bytes.result c.extremes-least.result.0 c.extremes-least.result.1 c.lane_width-lane_width.ensures.form is c.frame_bytes.ensures c.extremes-least.ensures.bounds c.extremes-least.ensures.least c.extremes-least.ensures.greatest in
     let frame = subst (λ (n : ℕ). bytes < n) size c.if-frame_bytes-bytes.false in
     let dictionary = at_least false (dict_bytes (least_dict form.lane_width values)) bytes c.if-dictionary_is_below.ensures refl in
-    let decoded = signed_above form.lane_width numbers c.decode.new.values c.lane_width-lane_width.ensures.form.lane_width c.decode.array_long c.decode.ensures.fit c.write_by_places.ensures in
-    let own_values = subst (λ (xs : List ℤ). AreAbove form.lane_width (pos 0) numbers xs) c.decode.ensures.values decoded in
-    let above = subst (λ (u : ℕ). AreAbove u (pos 0) numbers values) (sym is) own_values in
-    let last = subst (λ (u : ℕ). IsTrue (not c.is_below.result) ↔ (bytes + 1 ≤ delta_bytes (least_delta u values))) is (not_below c.is_below.result (delta_bytes (least_delta t values)) (bytes + 1) (c.is_below.ensures values (pos 0) (length-values_of (InRuns form)) above)) in (
+    let last = not_below c.are_deltas_below.result (delta_bytes (least_delta form.lane_width values)) (bytes + 1) c.are_deltas_below.ensures in (
       λ yes. let more : bytes + 1 ≤ delta_bytes (least_delta form.lane_width values) = last.0 yes in
           let deltas : bytes < delta_bytes (least_delta form.lane_width values) = omega arith in
           runs_win form.lane_width values bytes own frame deltas dictionary,

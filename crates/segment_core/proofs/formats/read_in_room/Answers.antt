@@ -9,15 +9,15 @@ use Rattle.bit_interleave.specs.Arithmetic.{integer_width}
 use Rattle.table_model.specs.declared.refusal.Refusal.{Refusal}
 use Rattle.segment_core.specs.Format.{signed}
 use Rattle.segment_core.proofs.ReadAll.{goes_on, ends, is_done}
-use Rattle.segment_core.proofs.formats.read_values.Goals as goal
+use Rattle.segment_core.proofs.formats.read_in_room.Goals as goal
 
 pub returns-in_err-value-clause-read : goal.returns-in_err-value-clause-read
-returns-in_err-value-clause-read c =
+returns-in_err-value-clause-read g c =
     let p = err_from_is_err_and c.from_residual.result c.from_residual.ensures.1 in
     rw (p.1, p.2) (or_memory c.in_err-value.ensures.read (λ fault. ends (λ _. signed c.args.lane_width) c.args.count c.loop-i.i (take c.loop-i.i c.loop-i.room) c.args.total c.loop-i.rest.now c.in_err-value.field-0.0 _ c.loop-i-test.true fault c.loop-i.invariant.read))
 
 pub loop-i-preserved : goal.loop-i-preserved
-loop-i-preserved c =
+loop-i-preserved g c =
     let i = c.loop-i.i in
     let room = c.loop-i.room in
     let value = c.in_ok-value.value in
@@ -30,7 +30,7 @@ loop-i-preserved c =
     }
 
 pub returns-clause-read : goal.returns-clause-read
-returns-clause-read c =
+returns-clause-read g c =
     let room = c.loop-i.room in
     let rest = c.loop-i.rest.now in
     let every : c.loop-i.i ≡ c.args.count = omega (arith, c.loop-i-test.false, c.loop-i.auto.i-end) in
