@@ -5,11 +5,12 @@ use crate::folder_changes::in_memory;
 use crate::folders::{Parts, last_of, parts_of};
 use crate::part_failures::{Unread, busy, of_folder, why_unread};
 use crate::parts::Untold;
-use crate::putting::{keep_part, put_part};
+use crate::putting::{kept, opened, put_part, unkept};
 use crate::reports::write_line;
 use file_replacing::Replaced;
 use folder_parts::{PartFault, PartRefusal, is_removed, packed_prefix, part_name};
-use part_folder::{FolderFault, FolderLock, Patience, is_link, remove_all, sweep};
+use folder_protocol::remove_joined;
+use part_folder::{Patience, is_link, sweep};
 use refusal_sentences::CommandRefusal;
 use std::alloc::AllocError;
 use std::fs::{self, File, Files};
@@ -186,45 +187,45 @@ fn replace<R: Files<File = File> + Clock + RandomSource + AllocGlobal + Clone + 
     if put_part(rt, folder, bytes)? == Replaced::Unsynced {
         return Err(not_on_disk(rt, folder));
     }
+    let removed = removed_names(rt, pack.as_str(), paths)?;
+    remove_covered(rt, folder, pack.as_str(), bytes, removed.as_slice())
+}
+
+/// The names of the parts of these paths that go once the part that joins them is on the disk.
+fn removed_names<R: AllocGlobal>(
+    rt: &R,
+    pack: &str,
+    paths: &[String],
+) -> Result<Vec<String>, AllocError> {
     let names = names_of(rt, paths)?;
     let mut removed = Vec::with_capacity(rt.alloc(), names.len())?;
     for name in names.as_slice().chunks(1) {
         if let [joined] = name {
-            if is_removed(name, pack.as_str(), joined.as_str()) {
-                removed.push(joined.as_str())?;
+            if is_removed(name, pack, joined.as_str()) {
+                removed.push(String::from_str(rt.alloc(), joined.as_str())?)?;
             }
         }
     }
-    let lock = match FolderLock::exclusive(rt, folder) {
-        Ok(lock) => lock,
-        Err(fault) => return Err(of_folder(rt.alloc(), folder, fault)),
-    };
-    let outcome = remove_joined(rt, folder, &lock, pack.as_str(), bytes, removed.as_slice());
-    lock.release();
-    outcome
+    Ok(removed)
 }
 
 /// Removes the parts of these names, once the part that joins them is seen to be on the disk, with these bytes, under the folder's
 /// exclusive lock. If that part is gone meanwhile, nothing is removed.
-fn remove_joined<R: Files<File = File> + AllocGlobal>(
+fn remove_covered<R: Files<File = File> + Clock + AllocGlobal>(
     rt: &R,
     folder: &str,
-    lock: &FolderLock,
     pack: &str,
     bytes: &[u8],
-    joined: &[&str],
+    joined: &[String],
 ) -> Result<Round, Failure> {
-    match keep_part(rt, folder, pack, bytes)? {
-        Some(Replaced::Synced) => {}
-        Some(Replaced::Unsynced) => return Err(not_on_disk(rt, folder)),
-        None => return Ok(Round::Overtaken),
-    }
-    match remove_all(rt, folder, lock, joined) {
-        Ok(()) => Ok(Round::Packed(joined.len())),
-        Err(FolderFault::System(kind)) => {
-            Err(Failure::of_reason(rt.alloc(), Refusal::WriteFault, folder, kind))
-        }
-        Err(fault) => Err(of_folder(rt.alloc(), folder, fault)),
+    let mut system = opened(rt, folder)?;
+    match remove_joined(rt.alloc(), &mut system, pack, bytes, joined) {
+        Ok(outcome) => match kept(rt, folder, pack, outcome)? {
+            Some(Replaced::Synced) => Ok(Round::Packed(joined.len())),
+            Some(Replaced::Unsynced) => Err(not_on_disk(rt, folder)),
+            None => Ok(Round::Overtaken),
+        },
+        Err(error) => Err(unkept(rt, folder, pack, &system, error.kind())),
     }
 }
 
