@@ -1,5 +1,6 @@
 //! A list of calls that only clauses read.
-ghost use Rattle.std.specs.Prelude.{◌≡◌, List, [], ◌∷◌, Some, None, true, false, take};
+ghost use Rattle.std.specs.Prelude.{◌≡◌, List, [], ◌∷◌, Some, None, true, false, take, map};
+ghost use Rattle.std.specs.String.{string_bytes};
 ghost use Rattle.std.specs.Borrow.{ftrue};
 ghost use Rattle.folder_history.specs.Call.{Made, Wrote, Synced, Linked, Removed, Settled, Locked, Unlocked, Began, Listed, Read, Exclusive, Shared, Done, Taken, Failed};
 ghost use Rattle.part_folder.specs.Note.{Noted, calls_of};
@@ -62,10 +63,17 @@ impl Record {
         }
     }
 
-    /// Notes a call, by its numbers and its texts.
-    fn note(&mut self, _numbers: &[u64], _first: &[u8], _second: &[u8])
-        ensures { self.new.noted ≡ (_numbers.now, _first.now, _second.now) ∷ self.old.noted }
+    /// Notes a call, by its numbers, its texts and its names.
+    fn note_all(&mut self, _numbers: &[u64], _first: &[u8], _second: &[u8], _names: &[String])
+        ensures { self.new.noted ≡ (_numbers.now, _first.now, _second.now, map string_bytes _names.now) ∷ self.old.noted }
     {}
+
+    /// Notes a call that has no names.
+    fn note(&mut self, numbers: &[u64], first: &[u8], second: &[u8])
+        ensures { self.new.noted ≡ (numbers.now, first.now, second.now, []) ∷ self.old.noted }
+    {
+        self.note_all(numbers, first, second, &[]);
+    }
 
     /// A file of a name was made, or was not.
     pub fn made(&mut self, name: &str, ok: bool)
@@ -175,7 +183,15 @@ impl Record {
         self.note(&[UNLOCKED, 1, 0], &[], &[]);
     }
 
-    /// A listing began, and gave nothing.
+    /// A listing began, and gave these names.
+    pub fn listed(&mut self, names: &[String])
+        ensures { calls_of self.new.noted ≡ Listed (Some (map string_bytes names.now)) ∷ Began ∷ calls_of self.old.noted }
+    {
+        self.note(&[BEGAN, 1, 0], &[], &[]);
+        self.note_all(&[LISTED, 1, 0], &[], &[], names);
+    }
+
+    /// A listing began, and failed.
     pub fn listed_not(&mut self)
         ensures { calls_of self.new.noted ≡ Listed None ∷ Began ∷ calls_of self.old.noted }
     {

@@ -5,6 +5,7 @@ ghost use Rattle.part_folder.specs.Note.{calls_of};
 
 use crate::fault::FolderFault;
 use crate::keeping::open_plain;
+use crate::listing::list_locked;
 use crate::lock::FolderLock;
 use crate::names::{is_link, path_in};
 use crate::record::Record;
@@ -141,7 +142,8 @@ fn error_of(fault: FolderFault) -> io::Error {
     }
 }
 
-impl<'r, R: Files<File = File> + Clock + AllocGlobal> Folder for SystemFolder<'r, R> {
+impl<'r, R: Files<File = File> + Clock + AllocGlobal + Clone + Drop> Folder
+    for SystemFolder<'r, R> {
     ghost history = { λ folder. calls_of folder.calls.noted };
 
     fn make(&mut self, name: &str) -> io::Result<()> {
@@ -229,8 +231,17 @@ impl<'r, R: Files<File = File> + Clock + AllocGlobal> Folder for SystemFolder<'r
     }
 
     fn list(&mut self, _alloc: Global) -> io::Result<Vec<String>> {
-        self.calls.listed_not();
-        Err(io::Error::from(ErrorKind::Unsupported))
+        match list_locked(self.rt, self.path.as_str()) {
+            Ok(listing) => {
+                let names = listing.into_names();
+                self.calls.listed(names.as_slice());
+                Ok(names)
+            }
+            Err(fault) => {
+                self.calls.listed_not();
+                Err(error_of(fault))
+            }
+        }
     }
 
     fn unlock(&mut self) {
