@@ -3,34 +3,107 @@
 use crate::change::{Answer, Done};
 use crate::failure::Failure;
 use crate::folders::Parts;
+use crate::part_failures::of_folder;
 use crate::reports::write_line;
 use file_commands::Left;
 use file_replacing::Replaced;
 use folder_parts::part_name;
-use part_folder::{Kept, MakeFault, Placed, Temporary, keep, make, path_in, sync_all};
+use folder_protocol::{Outcome, keep, put};
+use part_folder::{
+    MakeFault, Placed, SystemFolder, Temporary, make, path_in, sync_all, temporary_name,
+};
 use refusal_sentences::{CommandRefusal, Printable};
 use std::fs::{File, Files};
 use std::io::ErrorKind;
 use std::random::RandomSource;
+use std::rt::Clock;
 use table_model::Refusal;
 
 /// How often a part is put, if the one that was there before is gone when it is compared.
 const TRIES: u32 = 100;
 
 /// Puts these bytes into a folder as a part, unless the folder has it already. Answers how the folder was synced.
-pub fn put_part<R: Files<File = File> + RandomSource + AllocGlobal>(
+pub fn put_part<R: Files<File = File> + Clock + RandomSource + AllocGlobal>(
     rt: &R,
     folder: &str,
     bytes: &[u8],
 ) -> Result<Replaced, Failure> {
     let name = part_name(rt.alloc(), bytes)?;
+    let mut system = opened(rt, folder)?;
     for _ in 0..TRIES {
-        let temporary = written(rt, folder, bytes)?;
-        if let Some(replaced) = place(rt, folder, temporary, name.as_str(), bytes)? {
-            return Ok(replaced);
+        let temporary = new_temporary(rt, folder)?;
+        match put(rt.alloc(), &mut system, temporary.as_str(), name.as_str(), bytes) {
+            Ok(outcome) => {
+                if let Some(replaced) = kept(rt, folder, name.as_str(), outcome)? {
+                    return Ok(replaced);
+                }
+            }
+            Err(error) if error.kind() == ErrorKind::AlreadyExists => {}
+            Err(error) => return Err(unkept(rt, folder, name.as_str(), &system, error.kind())),
         }
     }
     Err(unwritten(rt, folder, ErrorKind::ResourceBusy))
+}
+
+/// A new name for a temporary of a folder.
+pub fn new_temporary<R: RandomSource + AllocGlobal>(
+    rt: &R,
+    folder: &str,
+) -> Result<String, Failure> {
+    match temporary_name(rt) {
+        Ok(temporary) => Ok(temporary),
+        Err(error) => Err(unwritten(rt, folder, error.kind())),
+    }
+}
+
+/// Opens a folder to which a part is added, or from which parts are removed.
+pub fn opened<'r, R: Files<File = File> + AllocGlobal>(
+    rt: &'r R,
+    folder: &str,
+) -> Result<SystemFolder<'r, R>, Failure> {
+    match SystemFolder::open(rt, folder) {
+        Ok(system) => Ok(system),
+        Err(error) => Err(unwritten(rt, folder, error.kind())),
+    }
+}
+
+/// What came of having a part on the disk. None if it is gone.
+pub fn kept<R: Files + AllocGlobal>(
+    rt: &R,
+    folder: &str,
+    name: &str,
+    outcome: Outcome,
+) -> Result<Option<Replaced>, Failure> {
+    match outcome {
+        Outcome::OnDisk => Ok(Some(Replaced::Synced)),
+        Outcome::Unsynced => Ok(Some(Replaced::Unsynced)),
+        Outcome::Gone => Ok(None),
+        Outcome::Damaged => {
+            let path = path_in(rt.alloc(), folder, name)?;
+            Err(Failure::of_file(rt, CommandRefusal::Damaged, path.as_str()))
+        }
+    }
+}
+
+/// The refusal of a command that could not put or keep the part of this name, since the system refuses a call for this reason: its lock,
+/// a read of the part, or a write.
+pub fn unkept<R: Files<File = File> + AllocGlobal>(
+    rt: &R,
+    folder: &str,
+    name: &str,
+    system: &SystemFolder<'_, R>,
+    kind: ErrorKind,
+) -> Failure {
+    if let Some(fault) = system.lock_fault() {
+        return of_folder(rt.alloc(), folder, fault);
+    }
+    if !system.is_unread() {
+        return unwritten(rt, folder, kind);
+    }
+    match path_in(rt.alloc(), folder, name) {
+        Ok(path) => Failure::of_reason(rt.alloc(), Refusal::ReadFault, path.as_str(), kind),
+        Err(lacking) => Failure::from(lacking),
+    }
 }
 
 /// Writes these bytes to a temporary of a folder.
@@ -46,7 +119,7 @@ pub fn written<'r, R: Files<File = File> + RandomSource + AllocGlobal>(
 }
 
 /// Gives a temporary, which has these bytes, the name of the part that it is. None if a part that had the name before is gone since.
-pub fn place<R: Files<File = File> + RandomSource + AllocGlobal>(
+pub fn place<R: Files<File = File> + Clock + RandomSource + AllocGlobal>(
     rt: &R,
     folder: &str,
     temporary: Temporary<'_, R>,
@@ -63,24 +136,16 @@ pub fn place<R: Files<File = File> + RandomSource + AllocGlobal>(
 }
 
 /// Has a part on the disk that is there already with these bytes. None if it is gone.
-pub fn keep_part<R: Files<File = File> + AllocGlobal>(
+pub fn keep_part<R: Files<File = File> + Clock + AllocGlobal>(
     rt: &R,
     folder: &str,
     name: &str,
     bytes: &[u8],
 ) -> Result<Option<Replaced>, Failure> {
-    let path = path_in(rt.alloc(), folder, name)?;
-    match keep(rt, folder, path.as_str(), bytes) {
-        Ok(Kept::Synced) => Ok(Some(Replaced::Synced)),
-        Ok(Kept::Unsynced) => Ok(Some(Replaced::Unsynced)),
-        Ok(Kept::Gone) => Ok(None),
-        Ok(Kept::Other) => Err(Failure::of_file(rt, CommandRefusal::Damaged, path.as_str())),
-        Err(error) => Err(Failure::of_reason(
-            rt.alloc(),
-            Refusal::ReadFault,
-            path.as_str(),
-            error.kind(),
-        )),
+    let mut system = opened(rt, folder)?;
+    match keep(rt.alloc(), &mut system, name, bytes) {
+        Ok(outcome) => kept(rt, folder, name, outcome),
+        Err(error) => Err(unkept(rt, folder, name, &system, error.kind())),
     }
 }
 

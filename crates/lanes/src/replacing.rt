@@ -2,14 +2,14 @@
 
 use crate::failure::Failure;
 use crate::folders::last_of;
-use crate::part_failures::of_folder;
-use crate::putting::{keep_part, unwritten, written};
+use crate::putting::{kept, new_temporary, opened, unkept};
 use file_replacing::Replaced;
 use folder_parts::{is_removed, part_name};
-use part_folder::{FolderFault, FolderLock, Placed, Temporary, list_locked, path_in, remove_all};
+use folder_protocol::{self, Outcome};
 use refusal_sentences::CommandRefusal;
 use std::alloc::AllocError;
 use std::fs::{File, Files};
+use std::io::ErrorKind;
 use std::random::RandomSource;
 use std::rt::Clock;
 use table_model::Refusal;
@@ -40,93 +40,56 @@ pub fn replace<R: Files<File = File> + Clock + RandomSource + AllocGlobal + Clon
     bytes: &[u8],
 ) -> Result<Round, Failure> {
     let part = part_name(rt.alloc(), bytes)?;
-    let names = names_of(rt, paths)?;
-    let temporary = written(rt, folder, bytes)?;
-    let lock = match FolderLock::exclusive(rt, folder) {
-        Ok(lock) => lock,
-        Err(fault) => {
-            temporary.discard();
-            return Err(of_folder(rt.alloc(), folder, fault));
-        }
-    };
-    let outcome = match are_there(rt, folder, names.as_slice()) {
-        Ok(true) => place(rt, folder, temporary, part.as_str(), bytes),
-        Ok(false) => {
-            temporary.discard();
-            Ok(Round::Overtaken)
-        }
-        Err(fault) => {
-            temporary.discard();
-            Err(of_folder(rt.alloc(), folder, fault))
-        }
-    };
-    let outcome = match outcome {
-        Ok(Round::Replaced(_)) => {
-            remove_others(rt, folder, &lock, part.as_str(), names.as_slice())
-        }
-        other => other,
-    };
-    lock.release();
-    outcome
-}
-
-/// Whether a folder whose exclusive lock is had has all of these names.
-fn are_there<R: Files<File = File> + AllocGlobal + Clone + Drop>(
-    rt: &R,
-    folder: &str,
-    names: &[String],
-) -> Result<bool, FolderFault> {
-    let listing = list_locked(rt, folder)?;
-    Ok(
-        names
-            .iter()
-            .all(|name| listing.names().binary_search(name).is_ok()),
-    )
-}
-
-/// Gives a temporary, which has these bytes, the name of the part that it is, and has it on the disk: what has the name then is read,
-/// compared and synced. No part is removed yet.
-fn place<R: Files<File = File> + RandomSource + AllocGlobal>(
-    rt: &R,
-    folder: &str,
-    temporary: Temporary<'_, R>,
-    part: &str,
-    bytes: &[u8],
-) -> Result<Round, Failure> {
-    let path = path_in(rt.alloc(), folder, part)?;
-    match temporary.place(path.as_str()) {
-        Ok(Placed::Synced) | Ok(Placed::Taken) => {}
-        Ok(Placed::Unsynced) => return Err(not_on_disk(rt, folder)),
-        Err(error) => return Err(unwritten(rt, folder, error.kind())),
+    let joined = removed_names(rt, part.as_str(), paths)?;
+    let temporary = new_temporary(rt, folder)?;
+    let mut system = opened(rt, folder)?;
+    match folder_protocol::replace(
+        rt.alloc(),
+        &mut system,
+        temporary.as_str(),
+        part.as_str(),
+        bytes,
+        joined.as_slice(),
+    ) {
+        Ok(Some(outcome)) => replaced(rt, folder, part.as_str(), joined.len(), outcome),
+        Ok(None) => Ok(Round::Overtaken),
+        // A sweep came between: it is tried anew.
+        Err(error) if error.kind() == ErrorKind::AlreadyExists => Ok(Round::Overtaken),
+        Err(error) => Err(unkept(rt, folder, part.as_str(), &system, error.kind())),
     }
-    match keep_part(rt, folder, part, bytes)? {
-        Some(Replaced::Synced) => Ok(Round::Replaced(0)),
+}
+
+/// What came of a part that was put in the place of so many others.
+fn replaced<R: Files + AllocGlobal>(
+    rt: &R,
+    folder: &str,
+    part: &str,
+    count: usize,
+    outcome: Outcome,
+) -> Result<Round, Failure> {
+    match kept(rt, folder, part, outcome)? {
+        Some(Replaced::Synced) => Ok(Round::Replaced(count)),
         Some(Replaced::Unsynced) => Err(not_on_disk(rt, folder)),
         None => Ok(Round::Overtaken),
     }
 }
 
-/// Removes the parts of these names from a folder whose exclusive lock is had, but for this part, which is made of them.
-fn remove_others<R: Files<File = File> + AllocGlobal>(
+/// The names of the parts of these paths that go once the part that is made of them is on the disk.
+fn removed_names<R: AllocGlobal>(
     rt: &R,
-    folder: &str,
-    lock: &FolderLock,
     part: &str,
-    names: &[String],
-) -> Result<Round, Failure> {
+    paths: &[String],
+) -> Result<Vec<String>, AllocError> {
+    let names = names_of(rt, paths)?;
     let mut removed = Vec::with_capacity(rt.alloc(), names.len())?;
-    for name in names.chunks(1) {
+    for name in names.as_slice().chunks(1) {
         if let [joined] = name {
             if is_removed(name, part, joined.as_str()) {
-                removed.push(joined.as_str())?;
+                removed.push(String::from_str(rt.alloc(), joined.as_str())?)?;
             }
         }
     }
-    match remove_all(rt, folder, lock, removed.as_slice()) {
-        Ok(()) => Ok(Round::Replaced(removed.len())),
-        Err(FolderFault::System(kind)) => Err(unwritten(rt, folder, kind)),
-        Err(fault) => Err(of_folder(rt.alloc(), folder, fault)),
-    }
+    Ok(removed)
 }
 
 /// The refusal of a part that is not known to be on the disk.

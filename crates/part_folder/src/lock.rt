@@ -3,7 +3,6 @@
 use crate::fault::FolderFault;
 use crate::patience::Patience;
 use std::fs::{self, File, Files, TryLockError};
-use std::io;
 use std::rt::Clock;
 
 /// How a folder is locked.
@@ -51,11 +50,6 @@ impl FolderLock {
         let folder = fs::open(rt, folder)?;
         wait(rt, &folder, kind)?;
         Ok(FolderLock { folder })
-    }
-
-    /// Syncs the folder.
-    pub fn sync(&self) -> io::Result<()> {
-        self.folder.sync_all()
     }
 
     /// Lets the lock go.

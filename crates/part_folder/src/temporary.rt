@@ -103,7 +103,7 @@ fn made<R: Files<File = File> + RandomSource + AllocGlobal>(
 }
 
 /// Whether a file that was just made is this process's: a sweep has not come first.
-fn is_ours<R: Files>(rt: &R, file: &File, path: &str) -> bool {
+pub fn is_ours<R: Files>(rt: &R, file: &File, path: &str) -> bool {
     match file.try_lock() {
         Err(TryLockError::WouldBlock) => false,
         Ok(()) | Err(TryLockError::Error(_)) => is_named(rt, file, path),
@@ -126,29 +126,26 @@ fn filled(file: &mut File, bytes: &[u8]) -> io::Result<()> {
 
 /// Gives the file of a temporary name another name, unless that is taken, and answers whether it did. The temporary name goes.
 fn named<R: Files>(rt: &R, temporary: &str, path: &str) -> io::Result<bool> {
-    let linked = fs::hard_link(rt, temporary, path);
-    match linked {
-        Err(error) if error.kind() != ErrorKind::AlreadyExists => {
-            return renamed(rt, temporary, path);
-        }
-        _ => {}
-    }
+    let answer = link_or_rename(rt, temporary, path);
     let _ = fs::remove_file(rt, temporary);
-    Ok(linked.is_ok())
+    answer
 }
 
-/// The same where the file system has no hard links: by a rename, if nothing has the name.
-fn renamed<R: Files>(rt: &R, temporary: &str, path: &str) -> io::Result<bool> {
-    let outcome = match fs::symlink_metadata(rt, path) {
-        Ok(_) => Ok(false),
-        Err(error) if error.kind() == ErrorKind::NotFound => {
-            fs::rename(rt, temporary, path).map(|_| true)
-        }
-        Err(error) => Err(error),
-    };
-    if outcome.is_ok_and(|is_placed| is_placed) {
-        return Ok(true);
+/// Gives the file of one path another path by a hard link, unless something has that, and answers whether it did. If the file system
+/// has no hard links the file is renamed.
+pub fn link_or_rename<R: Files>(rt: &R, from: &str, to: &str) -> io::Result<bool> {
+    match fs::hard_link(rt, from, to) {
+        Ok(()) => Ok(true),
+        Err(error) if error.kind() == ErrorKind::AlreadyExists => Ok(false),
+        Err(_) => rename_to_new(rt, from, to),
     }
-    let _ = fs::remove_file(rt, temporary);
-    outcome
+}
+
+/// Renames a file if nothing has the other path, and answers whether it did. Another process may put the same name in between.
+fn rename_to_new<R: Files>(rt: &R, from: &str, to: &str) -> io::Result<bool> {
+    match fs::symlink_metadata(rt, to) {
+        Ok(_) => Ok(false),
+        Err(error) if error.kind() == ErrorKind::NotFound => fs::rename(rt, from, to).map(|_| true),
+        Err(error) => Err(error),
+    }
 }

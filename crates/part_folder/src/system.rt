@@ -1,0 +1,272 @@
+//! A folder of the operating system, as the protocol of parts asks for it. Each method makes its call, and then notes it with its
+//! answer.
+ghost use Rattle.std.specs.Prelude.{◌≡◌, ◌≤◌, [], IfOk, length};
+ghost use Rattle.part_folder.specs.Note.{calls_of};
+
+use crate::fault::FolderFault;
+use crate::keeping::open_plain;
+use crate::listing::list_locked;
+use crate::lock::FolderLock;
+use crate::names::{is_link, path_in};
+use crate::record::Record;
+use crate::temporary::{is_ours, link_or_rename};
+use folder_protocol::Folder;
+use std::alloc::Global;
+use std::fs::{self, File, Files, OpenOptions};
+use std::io::{self, ErrorKind, Read, Write};
+use std::rt::Clock;
+
+/// A folder that is open, one file of it that is open, and its lock. Files are named by their names in the folder.
+#[derive(Drop)]
+pub struct SystemFolder<'r, R: Files<File = File>> {
+    rt: &'r R,
+    path: String,
+    folder: File,
+    file: Option<File>,
+    lock: Option<FolderLock>,
+    lock_fault: Option<FolderFault>,
+    is_unread: bool,
+    calls: Record,
+}
+
+impl<'r, R: Files<File = File> + AllocGlobal> SystemFolder<'r, R> {
+    /// Opens the folder of a path. No file of it is open yet.
+    pub fn open(rt: &'r R, path: &str) -> io::Result<SystemFolder<'r, R>>
+        ensures { IfOk result (λ folder. calls_of folder.calls.noted ≡ []) }
+    {
+        let folder = fs::open(rt, path)?;
+        Ok(SystemFolder {
+            rt,
+            path: String::from_str(rt.alloc(), path)?,
+            folder,
+            file: None,
+            lock: None,
+            lock_fault: None,
+            is_unread: false,
+            calls: Record::new(),
+        })
+    }
+}
+
+impl<'r, R: Files<File = File>> SystemFolder<'r, R> {
+    /// Why its lock was not got, if that was tried and failed.
+    pub fn lock_fault(&self) -> Option<FolderFault> {
+        self.lock_fault
+    }
+
+    /// Whether a file of it could not be read.
+    pub fn is_unread(&self) -> bool {
+        self.is_unread
+    }
+}
+
+/// The file that is open.
+fn opened(file: &Option<File>) -> io::Result<&File> {
+    match file {
+        Some(file) => Ok(file),
+        None => Err(io::Error::from(ErrorKind::NotFound)),
+    }
+}
+
+/// Makes the file of a new name in a folder, and takes its lock, so that no sweep removes it. The error is `AlreadyExists` if something
+/// has the name, or a sweep came between.
+fn made<R: Files<File = File> + AllocGlobal>(rt: &R, folder: &str, name: &str) -> io::Result<File> {
+    let path = path_in(rt.alloc(), folder, name)?;
+    let file = OpenOptions::new()
+        .write(true)
+        .create_new(true)
+        .open(rt, path.as_str())?;
+    if is_ours(rt, &file, path.as_str()) {
+        Ok(file)
+    } else {
+        Err(io::Error::from(ErrorKind::AlreadyExists))
+    }
+}
+
+/// Writes some of these bytes, however often the system asks to try again.
+fn write_some(file: &mut File, bytes: &[u8]) -> io::Result<usize>
+    ensures { IfOk result (λ taken. taken ≤ length bytes.now) }
+{
+    for _ in 0..u64::MAX {
+        match file.write(bytes) {
+            Err(error) if error.kind() == ErrorKind::Interrupted => {}
+            answer => return answer,
+        }
+    }
+    Err(io::Error::from(ErrorKind::Interrupted))
+}
+
+/// Gives the file of one name of a folder another one, unless something has that; and whether it did.
+fn linked<R: Files + AllocGlobal>(rt: &R, folder: &str, from: &str, to: &str) -> io::Result<bool> {
+    let first = path_in(rt.alloc(), folder, from)?;
+    let second = path_in(rt.alloc(), folder, to)?;
+    link_or_rename(rt, first.as_str(), second.as_str())
+}
+
+/// Removes a name from a folder. One that is gone is no error.
+fn removed<R: Files + AllocGlobal>(rt: &R, folder: &str, name: &str) -> io::Result<()> {
+    let path = path_in(rt.alloc(), folder, name)?;
+    match fs::remove_file(rt, path.as_str()) {
+        Err(error) if error.kind() == ErrorKind::NotFound => Ok(()),
+        answer => answer,
+    }
+}
+
+/// Opens the file of a name in a folder and reads it, if there is one.
+fn read_in<R: Files<File = File> + AllocGlobal>(
+    rt: &R,
+    alloc: Global,
+    folder: &str,
+    name: &str,
+) -> io::Result<Option<(File, Vec<u8>)>> {
+    let path = path_in(rt.alloc(), folder, name)?;
+    match open_plain(rt, path.as_str()) {
+        Ok(mut file) => {
+            let mut bytes = Vec::new(alloc);
+            file.read_to_end(&mut bytes)?;
+            Ok(Some((file, bytes)))
+        }
+        Err(error) if error.kind() == ErrorKind::NotFound && !is_link(rt, path.as_str()) => {
+            Ok(None)
+        }
+        Err(error) => Err(error),
+    }
+}
+
+/// The error of the system by which a fault is told.
+fn error_of(fault: FolderFault) -> io::Error {
+    match fault {
+        FolderFault::Busy => io::Error::from(ErrorKind::ResourceBusy),
+        FolderFault::NoLock => io::Error::from(ErrorKind::Unsupported),
+        FolderFault::System(kind) => io::Error::from(kind),
+    }
+}
+
+impl<'r, R: Files<File = File> + Clock + AllocGlobal + Clone + Drop> Folder
+    for SystemFolder<'r, R> {
+    ghost history = { λ folder. calls_of folder.calls.noted };
+
+    fn make(&mut self, name: &str) -> io::Result<()> {
+        match made(self.rt, self.path.as_str(), name) {
+            Ok(file) => {
+                self.file = Some(file);
+                self.calls.made(name, true);
+                Ok(())
+            }
+            Err(error) => {
+                self.calls.made(name, false);
+                Err(error)
+            }
+        }
+    }
+
+    fn write(&mut self, bytes: &[u8]) -> io::Result<usize> {
+        let answer = match &mut self.file {
+            Some(file) => write_some(file, bytes),
+            None => Err(io::Error::from(ErrorKind::NotFound)),
+        };
+        match answer {
+            Ok(taken) => self.calls.wrote(bytes, taken),
+            Err(_) => self.calls.wrote_not(bytes),
+        }
+        answer
+    }
+
+    fn sync(&mut self) -> io::Result<()> {
+        let answer = opened(&self.file).and_then(|file| file.sync_all());
+        self.calls.synced(answer.is_ok());
+        answer
+    }
+
+    fn link(&mut self, from: &str, to: &str) -> io::Result<bool> {
+        let answer = linked(self.rt, self.path.as_str(), from, to);
+        match answer {
+            Ok(true) => self.calls.linked(from, to),
+            Ok(false) => self.calls.taken(from, to),
+            Err(_) => self.calls.linked_not(from, to),
+        }
+        answer
+    }
+
+    fn remove(&mut self, name: &str) -> io::Result<()> {
+        let answer = removed(self.rt, self.path.as_str(), name);
+        self.calls.removed(name, answer.is_ok());
+        answer
+    }
+
+    fn settle(&mut self) -> io::Result<()> {
+        let answer = self.folder.sync_all();
+        self.calls.settled(answer.is_ok());
+        answer
+    }
+
+    fn lock(&mut self) -> io::Result<()> {
+        match FolderLock::exclusive(self.rt, self.path.as_str()) {
+            Ok(lock) => {
+                self.lock = Some(lock);
+                self.calls.locked(true);
+                Ok(())
+            }
+            Err(fault) => {
+                self.lock_fault = Some(fault);
+                self.calls.locked(false);
+                Err(error_of(fault))
+            }
+        }
+    }
+
+    fn lock_shared(&mut self) -> io::Result<()> {
+        match FolderLock::shared(self.rt, self.path.as_str()) {
+            Ok(lock) => {
+                self.lock = lock;
+                self.calls.locked_shared(true);
+                Ok(())
+            }
+            Err(fault) => {
+                self.lock_fault = Some(fault);
+                self.calls.locked_shared(false);
+                Err(error_of(fault))
+            }
+        }
+    }
+
+    fn list(&mut self, _alloc: Global) -> io::Result<Vec<String>> {
+        match list_locked(self.rt, self.path.as_str()) {
+            Ok(listing) => {
+                let names = listing.into_names();
+                self.calls.listed(names.as_slice());
+                Ok(names)
+            }
+            Err(fault) => {
+                self.calls.listed_not();
+                Err(error_of(fault))
+            }
+        }
+    }
+
+    fn unlock(&mut self) {
+        if let Some(lock) = self.lock.take() {
+            lock.release();
+        }
+        self.calls.unlocked();
+    }
+
+    fn read(&mut self, alloc: Global, name: &str) -> io::Result<Option<Vec<u8>>> {
+        match read_in(self.rt, alloc, self.path.as_str(), name) {
+            Ok(Some((file, bytes))) => {
+                self.file = Some(file);
+                self.calls.read(name, bytes.as_slice());
+                Ok(Some(bytes))
+            }
+            Ok(None) => {
+                self.calls.read_nothing(name);
+                Ok(None)
+            }
+            Err(error) => {
+                self.is_unread = true;
+                self.calls.unread(name);
+                Err(error)
+            }
+        }
+    }
+}
