@@ -1,5 +1,5 @@
 -- How answers come to their causes.
-use Rattle.std.proofs.Common.{◌≡◌, inl, inr, ℕ, true, false, Result, Ok, Err, IfOk, OnErr, List, [], ◌∷◌, ◌++◌, length, take, refl, sym, ◌∙◌, ap, append_assoc, arith}
+use Rattle.std.proofs.Common.{◌≡◌, inl, inr, ℕ, true, false, Result, Ok, Err, IfOk, IfSome, OnErr, Option, Some, None, List, [], ◌∷◌, ◌++◌, length, take, refl, sym, ◌∙◌, ap, append_assoc, arith}
 use Rattle.std.specs.Result.{is_ok}
 use Rattle.folder_history.specs.Call.{Call, Synced, Taken}
 use Rattle.folder_history.specs.Parts.{Parts, IsNoPart}
@@ -81,14 +81,14 @@ sync_fails (Ok x) before mid after first is = tt
 sync_fails (Err e) before mid after first is = has_later Fails before mid after first (has_now Fails mid after (Synced false) is refl)
 
 -- what came of a look, after some calls
-look_later : (how : Outcome) (name bytes : List ℕ) (before mid after : List Call) → Follows before mid → LookCause how name bytes mid after → LookCause how name bytes before after
+pub look_later : (how : Outcome) (name bytes : List ℕ) (before mid after : List Call) → Follows before mid → LookCause how name bytes mid after → LookCause how name bytes before after
 look_later OnDisk name bytes before mid after first cause = tt
 look_later Unsynced name bytes before mid after first cause = has_later _ before mid after first cause
 look_later Gone name bytes before mid after first cause = has_later _ before mid after first cause
 look_later Damaged name bytes before mid after first cause = has_later _ before mid after first cause
 
 -- and then some calls more
-look_before : (how : Outcome) (name bytes : List ℕ) (before mid after : List Call) → Follows mid after → LookCause how name bytes before mid → LookCause how name bytes before after
+pub look_before : (how : Outcome) (name bytes : List ℕ) (before mid after : List Call) → Follows mid after → LookCause how name bytes before mid → LookCause how name bytes before after
 look_before OnDisk name bytes before mid after then cause = tt
 look_before Unsynced name bytes before mid after then cause = has_before _ before mid after then cause
 look_before Gone name bytes before mid after then cause = has_before _ before mid after then cause
@@ -103,6 +103,19 @@ pub looks_before : {E : Type 0} (r : Result Outcome E) (name bytes : List ℕ) (
     → IfOk r (λ how. LookCause how name bytes before mid) → IfOk r (λ how. LookCause how name bytes before after)
 looks_before (Ok how) name bytes before mid after then cause = look_before how name bytes before mid after then cause
 looks_before (Err e) name bytes before mid after then cause = tt
+
+-- the same of an answer that may not be there
+pub looked_later : {E : Type 0} (r : Result (Option Outcome) E) (name bytes : List ℕ) (before mid after : List Call) → Follows before mid
+    → IfOk r (λ answer. IfSome answer (λ how. LookCause how name bytes mid after)) → IfOk r (λ answer. IfSome answer (λ how. LookCause how name bytes before after))
+looked_later (Ok (Some how)) name bytes before mid after first cause = look_later how name bytes before mid after first cause
+looked_later (Ok None) name bytes before mid after first cause = tt
+looked_later (Err e) name bytes before mid after first cause = tt
+
+pub looked_before : {E : Type 0} (r : Result (Option Outcome) E) (name bytes : List ℕ) (before mid after : List Call) → Follows mid after
+    → IfOk r (λ answer. IfSome answer (λ how. LookCause how name bytes before mid)) → IfOk r (λ answer. IfSome answer (λ how. LookCause how name bytes before after))
+looked_before (Ok (Some how)) name bytes before mid after then cause = look_before how name bytes before mid after then cause
+looked_before (Ok None) name bytes before mid after then cause = tt
+looked_before (Err e) name bytes before mid after then cause = tt
 
 -- another file had the name
 named_taken : (how : Outcome) (name : List ℕ) (before after : List Call) → HasCall (AnswersLink name Taken) before after → IsNamed how name before after

@@ -51,7 +51,7 @@ pub fn put<F: Folder>(
 }
 
 /// Writes the bytes to a new file, and has them on the disk.
-fn write_new<F: Folder>(folder: &mut F, temporary: &str, bytes: &[u8]) -> io::Result<()>
+pub fn write_new<F: Folder>(folder: &mut F, temporary: &str, bytes: &[u8]) -> io::Result<()>
     ensures in_turn { (parts : Parts) → IsNoPart parts temporary.now → GoesInTurn parts (F.history folder.old) (F.history folder.new) }
     ensures ready { (parts : Parts) → OnOk result (stage_of parts (F.history folder.new) ≡ Ready temporary.now bytes.now) }
     ensures fails { OnErr result (HasCall Fails (F.history folder.old) (F.history folder.new)) }

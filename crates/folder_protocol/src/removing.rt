@@ -37,7 +37,7 @@ pub fn remove_joined<F: Folder>(
 }
 
 /// The same under the lock.
-fn look_and_remove<F: Folder>(
+pub fn look_and_remove<F: Folder>(
     alloc: Global,
     folder: &mut F,
     name: &str,

@@ -1,0 +1,35 @@
+use Rattle.std.proofs.Common.{◌≡◌, Some, [], ◌∷◌, inl, true, refl, ap, map}
+use Rattle.std.specs.String.{string_bytes}
+use Rattle.folder_history.specs.Call.{Locked, Unlocked, Exclusive, lock_of}
+use Rattle.folder_protocol.specs.Causes.{Fails}
+use Rattle.folder_protocol.specs.declared.putting.Outcome.TheVariants.{OnDisk}
+use Rattle.folder_protocol.proofs.Causing.{follows_none, follows_on, has_now, has_before, looked_later, looked_before, fails_later, fails_before}
+use Rattle.folder_protocol.proofs.Lines.{starts, goes_on, joins, all_joined_later, answer_between, ready_locked}
+use Rattle.folder_protocol.proofs.replacing.lock_and_replace.Goals as goal
+
+pub returns-in-Ok-clause-in_turn : goal.returns-in-Ok-clause-in_turn
+returns-in-Ok-clause-in_turn g c = λ parts named temp ready joined.
+    let locked = goes_on parts _ _ _ _ (starts parts _) c.in-Ok.ensures tt in
+    let replaced = joins parts _ _ _ locked (c.look_and_replace-outcome.ensures.in_turn parts named temp (ready_locked parts _ _ _ _ _ ready c.in-Ok.ensures) (ap lock_of c.in-Ok.ensures) (all_joined_later parts _ _ _ _ locked joined)) in
+    goes_on parts _ _ _ _ replaced c.unlock.ensures tt
+
+pub returns-in-Ok-clause-gone : goal.returns-in-Ok-clause-gone
+returns-in-Ok-clause-gone g c =
+    answer_between c.look_and_replace-outcome.result (λ answer. answer ≡ Some OnDisk) (map string_bytes c.args.joined.now) _ _ _ _ (Locked Exclusive true ∷ []) (Unlocked ∷ []) c.in-Ok.ensures c.look_and_replace-outcome.ensures.gone c.unlock.ensures
+
+pub returns-in-Ok-clause-cause : goal.returns-in-Ok-clause-cause
+returns-in-Ok-clause-cause g c =
+    looked_before c.look_and_replace-outcome.result c.args.name.now c.args.bytes.now _ _ _ (follows_on _ _ _ _ (follows_none _) c.unlock.ensures)
+    (looked_later c.look_and_replace-outcome.result c.args.name.now c.args.bytes.now _ _ _ (follows_on _ _ _ _ (follows_none _) c.in-Ok.ensures) c.look_and_replace-outcome.ensures.cause)
+
+pub returns-in-Ok-clause-fails : goal.returns-in-Ok-clause-fails
+returns-in-Ok-clause-fails g c =
+    fails_before c.look_and_replace-outcome.result _ _ _ (follows_on _ _ _ _ (follows_none _) c.unlock.ensures)
+    (fails_later c.look_and_replace-outcome.result _ _ _ (follows_on _ _ _ _ (follows_none _) c.in-Ok.ensures) c.look_and_replace-outcome.ensures.fails)
+
+pub returns-in-Err-clause-in_turn : goal.returns-in-Err-clause-in_turn
+returns-in-Err-clause-in_turn g c = λ parts named temp ready joined.
+    goes_on parts _ _ _ _ (goes_on parts _ _ _ _ (starts parts _) c.in-Err.ensures tt) c.remove.ensures (inl temp)
+
+pub returns-in-Err-clause-fails : goal.returns-in-Err-clause-fails
+returns-in-Err-clause-fails g c = has_before Fails _ _ _ (follows_on _ _ _ _ (follows_none _) c.remove.ensures) (has_now Fails _ _ _ c.in-Err.ensures refl)

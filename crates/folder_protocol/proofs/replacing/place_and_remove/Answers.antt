@@ -1,0 +1,40 @@
+use Rattle.std.proofs.Common.{[], inl, refl, ap, ◌∙◌, map}
+use Rattle.std.specs.String.{string_bytes}
+use Rattle.folder_history.specs.Call.{lock_of}
+use Rattle.folder_protocol.specs.Causes.{Fails}
+use Rattle.folder_protocol.proofs.Causing.{follows_none, follows_on, has_now, has_later, has_before, look_later}
+use Rattle.folder_protocol.proofs.Lines.{starts, goes_on, joins, all_joined_later, removed_between, some_is}
+use Rattle.folder_protocol.proofs.replacing.place_and_remove.Goals as goal
+
+pub returns-in-Ok-look_and_remove-clause-in_turn : goal.returns-in-Ok-look_and_remove-clause-in_turn
+returns-in-Ok-look_and_remove-clause-in_turn g c = λ parts named temp ready lock joined.
+    let linked = goes_on parts _ _ _ _ (starts parts _) c.in-Ok.ensures (c.args.bytes.now, ready, named) in
+    let removed = goes_on parts _ _ _ _ linked c.remove.ensures (inl temp) in
+    joins parts _ _ _ removed (c.in-Ok-look_and_remove.ensures.in_turn parts named (ap lock_of c.remove.ensures ∙ ap lock_of c.in-Ok.ensures ∙ lock) (all_joined_later parts _ _ _ _ removed joined))
+
+pub returns-in-Ok-look_and_remove-clause-gone : goal.returns-in-Ok-look_and_remove-clause-gone
+returns-in-Ok-look_and_remove-clause-gone g c = λ is.
+    let placed = follows_on _ _ _ _ (follows_on _ _ _ _ (follows_none _) c.in-Ok.ensures) c.remove.ensures in
+    removed_between (map string_bytes c.args.joined.now) _ _ _ _ placed.0 [] placed.1 (c.in-Ok-look_and_remove.ensures.gone (some_is is)) refl
+
+pub returns-in-Ok-look_and_remove-clause-cause : goal.returns-in-Ok-look_and_remove-clause-cause
+returns-in-Ok-look_and_remove-clause-cause g c =
+    look_later _ c.args.name.now c.args.bytes.now _ _ _ (follows_on _ _ _ _ (follows_on _ _ _ _ (follows_none _) c.in-Ok.ensures) c.remove.ensures) c.in-Ok-look_and_remove.ensures.cause
+
+pub returns-in-Err-look_and_remove-clause-in_turn : goal.returns-in-Err-look_and_remove-clause-in_turn
+returns-in-Err-look_and_remove-clause-in_turn g c = λ parts named temp ready lock joined.
+    let linked = goes_on parts _ _ _ _ (starts parts _) c.in-Ok.ensures (c.args.bytes.now, ready, named) in
+    let removed = goes_on parts _ _ _ _ linked c.remove.ensures (inl temp) in
+    joins parts _ _ _ removed (c.in-Err-look_and_remove.ensures.in_turn parts named (ap lock_of c.remove.ensures ∙ ap lock_of c.in-Ok.ensures ∙ lock) (all_joined_later parts _ _ _ _ removed joined))
+
+pub returns-in-Err-look_and_remove-clause-fails : goal.returns-in-Err-look_and_remove-clause-fails
+returns-in-Err-look_and_remove-clause-fails g c =
+    has_later Fails _ _ _ (follows_on _ _ _ _ (follows_on _ _ _ _ (follows_none _) c.in-Ok.ensures) c.remove.ensures) c.in-Err-look_and_remove.ensures.fails
+
+pub returns-in-Err-clause-in_turn : goal.returns-in-Err-clause-in_turn
+returns-in-Err-clause-in_turn g c = λ parts named temp ready lock joined.
+    let linked = goes_on parts _ _ _ _ (starts parts _) c.in-Err.ensures (c.args.bytes.now, ready, named) in
+    goes_on parts _ _ _ _ linked c.remove.ensures (inl temp)
+
+pub returns-in-Err-clause-fails : goal.returns-in-Err-clause-fails
+returns-in-Err-clause-fails g c = has_before Fails _ _ _ (follows_on _ _ _ _ (follows_none _) c.remove.ensures) (has_now Fails _ _ _ c.in-Err.ensures refl)

@@ -1,0 +1,33 @@
+use Rattle.std.proofs.Common.{◌≡◌, Some, [], inl, refl, map}
+use Rattle.std.specs.String.{string_bytes}
+use Rattle.folder_protocol.specs.Causes.{Fails}
+use Rattle.folder_protocol.specs.declared.putting.Outcome.TheVariants.{OnDisk}
+use Rattle.folder_protocol.proofs.Causing.{follows_none, follows_on, has_before, looked_later, fails_later, parts_without, no_part_of}
+use Rattle.folder_protocol.proofs.Lines.{goes_on, joins, all_joined_later, answer_between}
+use Rattle.folder_protocol.proofs.replacing.replace.Goals as goal
+
+pub returns-in-Ok-clause-in_turn : goal.returns-in-Ok-clause-in_turn
+returns-in-Ok-clause-in_turn g c = λ parts named temp joined.
+    let wrote = c.in-Ok.ensures.in_turn parts temp in
+    joins parts _ _ _ wrote (c.lock_and_replace.ensures.in_turn parts named temp (c.in-Ok.ensures.ready parts) (all_joined_later parts _ _ _ _ wrote joined))
+
+pub returns-in-Ok-clause-gone : goal.returns-in-Ok-clause-gone
+returns-in-Ok-clause-gone g c =
+    let wrote = c.in-Ok.ensures.in_turn (parts_without c.args.temporary.now) (no_part_of c.args.temporary.now) in
+    answer_between c.lock_and_replace.result (λ answer. answer ≡ Some OnDisk) (map string_bytes c.args.joined.now) _ _ _ _ wrote.0 [] wrote.1 c.lock_and_replace.ensures.gone refl
+
+pub returns-in-Ok-clause-cause : goal.returns-in-Ok-clause-cause
+returns-in-Ok-clause-cause g c =
+    let wrote = c.in-Ok.ensures.in_turn (parts_without c.args.temporary.now) (no_part_of c.args.temporary.now) in
+    looked_later c.lock_and_replace.result c.args.name.now c.args.bytes.now _ _ _ (wrote.0, wrote.1) c.lock_and_replace.ensures.cause
+
+pub returns-in-Ok-clause-fails : goal.returns-in-Ok-clause-fails
+returns-in-Ok-clause-fails g c =
+    let wrote = c.in-Ok.ensures.in_turn (parts_without c.args.temporary.now) (no_part_of c.args.temporary.now) in
+    fails_later c.lock_and_replace.result _ _ _ (wrote.0, wrote.1) c.lock_and_replace.ensures.fails
+
+pub returns-in-Err-clause-in_turn : goal.returns-in-Err-clause-in_turn
+returns-in-Err-clause-in_turn g c = λ parts named temp joined. goes_on parts _ _ _ _ (c.in-Err.ensures.in_turn parts temp) c.remove.ensures (inl temp)
+
+pub returns-in-Err-clause-fails : goal.returns-in-Err-clause-fails
+returns-in-Err-clause-fails g c = has_before Fails _ _ _ (follows_on _ _ _ _ (follows_none _) c.remove.ensures) c.in-Err.ensures.fails

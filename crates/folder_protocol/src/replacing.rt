@@ -1,0 +1,136 @@
+//! How a part is put in the place of those that it was made of.
+ghost use Rattle.std.specs.Prelude.{◌≡◌, List, ℕ, ◌++◌, map, Some, OnErr, IfOk, IfSome};
+ghost use Rattle.std.specs.String.{string_bytes};
+ghost use Rattle.folder_history.specs.Call.{Call, Exclusive, lock_of};
+ghost use Rattle.folder_history.specs.Parts.{Parts, IsNoPart};
+ghost use Rattle.folder_history.specs.Turn.{Ready, stage_of};
+ghost use Rattle.folder_protocol.specs.Goes.{GoesInTurn, AreJoined, AreRemoved};
+ghost use Rattle.folder_protocol.specs.Causes.{Fails, HasCall, LookCause};
+
+use crate::Folder;
+use crate::putting::{Outcome, write_new};
+use crate::removing::look_and_remove;
+use std::alloc::Global;
+use std::io;
+
+/// Puts a part of this name and with these bytes into a folder, by a temporary of a new name, in the place of parts that were read and
+/// that it covers. It is written first. Then, under the exclusive lock, they are seen to be there, it is given its name, and once it is
+/// on the disk they are removed.
+///
+/// None if one of them is gone: nothing is put or removed then. What has taken its place may have dropped what this part would bring back.
+pub fn replace<F: Folder>(
+    alloc: Global,
+    folder: &mut F,
+    temporary: &str,
+    name: &str,
+    bytes: &[u8],
+    joined: &[String],
+) -> io::Result<Option<Outcome>>
+    // Each call is in turn.
+    ensures in_turn { (parts : Parts) → name.now ≡ parts.name_of bytes.now → IsNoPart parts temporary.now → AreJoined parts bytes.now (map string_bytes joined.now) (F.history folder.old) → GoesInTurn parts (F.history folder.old) (F.history folder.new) }
+    // Once the answer is that it is on the disk, each of them was removed.
+    ensures gone { IfOk result (λ answer. answer ≡ Some Outcome.OnDisk → AreRemoved (map string_bytes joined.now) (F.history folder.old) (F.history folder.new)) }
+    // Any other answer but None has its cause: a sync that failed, no file, or other bytes; and so has an error: a call that failed.
+    ensures cause { IfOk result (λ answer. IfSome answer (λ how. LookCause how name.now bytes.now (F.history folder.old) (F.history folder.new))) }
+    ensures fails { OnErr result (HasCall Fails (F.history folder.old) (F.history folder.new)) }
+{
+    match write_new(folder, temporary, bytes) {
+        Ok(()) => lock_and_replace(alloc, folder, temporary, name, bytes, joined),
+        Err(error) => {
+            let _ = folder.remove(temporary);
+            Err(error)
+        }
+    }
+}
+
+/// The same once the temporary is written.
+fn lock_and_replace<F: Folder>(
+    alloc: Global,
+    folder: &mut F,
+    temporary: &str,
+    name: &str,
+    bytes: &[u8],
+    joined: &[String],
+) -> io::Result<Option<Outcome>>
+    ensures in_turn { (parts : Parts) → name.now ≡ parts.name_of bytes.now → IsNoPart parts temporary.now → stage_of parts (F.history folder.old) ≡ Ready temporary.now bytes.now → AreJoined parts bytes.now (map string_bytes joined.now) (F.history folder.old) → GoesInTurn parts (F.history folder.old) (F.history folder.new) }
+    ensures gone { IfOk result (λ answer. answer ≡ Some Outcome.OnDisk → AreRemoved (map string_bytes joined.now) (F.history folder.old) (F.history folder.new)) }
+    ensures cause { IfOk result (λ answer. IfSome answer (λ how. LookCause how name.now bytes.now (F.history folder.old) (F.history folder.new))) }
+    ensures fails { OnErr result (HasCall Fails (F.history folder.old) (F.history folder.new)) }
+{
+    match folder.lock() {
+        Ok(()) => {
+            let outcome = look_and_replace(alloc, folder, temporary, name, bytes, joined);
+            folder.unlock();
+            outcome
+        }
+        Err(error) => {
+            let _ = folder.remove(temporary);
+            Err(error)
+        }
+    }
+}
+
+/// The same under the lock.
+fn look_and_replace<F: Folder>(
+    alloc: Global,
+    folder: &mut F,
+    temporary: &str,
+    name: &str,
+    bytes: &[u8],
+    joined: &[String],
+) -> io::Result<Option<Outcome>>
+    ensures in_turn { (parts : Parts) → name.now ≡ parts.name_of bytes.now → IsNoPart parts temporary.now → stage_of parts (F.history folder.old) ≡ Ready temporary.now bytes.now → lock_of (F.history folder.old) ≡ Some Exclusive → AreJoined parts bytes.now (map string_bytes joined.now) (F.history folder.old) → GoesInTurn parts (F.history folder.old) (F.history folder.new) }
+    ensures gone { IfOk result (λ answer. answer ≡ Some Outcome.OnDisk → AreRemoved (map string_bytes joined.now) (F.history folder.old) (F.history folder.new)) }
+    ensures cause { IfOk result (λ answer. IfSome answer (λ how. LookCause how name.now bytes.now (F.history folder.old) (F.history folder.new))) }
+    ensures fails { OnErr result (HasCall Fails (F.history folder.old) (F.history folder.new)) }
+{
+    match are_there(alloc, folder, joined) {
+        Ok(true) => place_and_remove(alloc, folder, temporary, name, bytes, joined),
+        Ok(false) => {
+            let _ = folder.remove(temporary);
+            Ok(None)
+        }
+        Err(error) => {
+            let _ = folder.remove(temporary);
+            Err(error)
+        }
+    }
+}
+
+/// Whether a folder of which the exclusive lock is held has all of these names. Its listing is taken to be in ascending order; if it is
+/// not, a name may be missed.
+fn are_there<F: Folder>(alloc: Global, folder: &mut F, names: &[String]) -> io::Result<bool>
+    ensures in_turn { (parts : Parts) → lock_of (F.history folder.old) ≡ Some Exclusive → GoesInTurn parts (F.history folder.old) (F.history folder.new) }
+    ensures follows { (calls : List Call) × (F.history folder.new ≡ calls ++ F.history folder.old) }
+    ensures stays { (parts : Parts) → stage_of parts (F.history folder.new) ≡ stage_of parts (F.history folder.old) }
+    ensures locked { lock_of (F.history folder.new) ≡ lock_of (F.history folder.old) }
+    ensures fails { OnErr result (HasCall Fails (F.history folder.old) (F.history folder.new)) }
+{
+    let listed = folder.list(alloc)?;
+    Ok(names.iter().all(|name| listed.binary_search(name).is_ok()))
+}
+
+/// Gives the temporary its name, has it on the disk, and then removes the parts of these names.
+fn place_and_remove<F: Folder>(
+    alloc: Global,
+    folder: &mut F,
+    temporary: &str,
+    name: &str,
+    bytes: &[u8],
+    joined: &[String],
+) -> io::Result<Option<Outcome>>
+    ensures in_turn { (parts : Parts) → name.now ≡ parts.name_of bytes.now → IsNoPart parts temporary.now → stage_of parts (F.history folder.old) ≡ Ready temporary.now bytes.now → lock_of (F.history folder.old) ≡ Some Exclusive → AreJoined parts bytes.now (map string_bytes joined.now) (F.history folder.old) → GoesInTurn parts (F.history folder.old) (F.history folder.new) }
+    ensures gone { IfOk result (λ answer. answer ≡ Some Outcome.OnDisk → AreRemoved (map string_bytes joined.now) (F.history folder.old) (F.history folder.new)) }
+    ensures cause { IfOk result (λ answer. IfSome answer (λ how. LookCause how name.now bytes.now (F.history folder.old) (F.history folder.new))) }
+    ensures fails { OnErr result (HasCall Fails (F.history folder.old) (F.history folder.new)) }
+{
+    let linked = folder.link(temporary, name);
+    let _ = folder.remove(temporary);
+    match linked {
+        Ok(_) => match look_and_remove(alloc, folder, name, bytes, joined) {
+            Ok(outcome) => Ok(Some(outcome)),
+            Err(error) => Err(error),
+        },
+        Err(error) => Err(error),
+    }
+}
