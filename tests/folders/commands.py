@@ -124,37 +124,6 @@ def a_folder_without_a_part_is_no_replica(room):
     room.only("d")
 
 
-def rows_that_are_deleted_when_they_come_are_told(room):
-    room.ok("create", "t", "T", "A", "SMALLINT", "B", "BIGINT")
-    make_folder(room, loads=0)
-    told = "{}: {} rows {} deleted already, so no query has them: was a batch of this name deleted before?\n"
-    for name in ("t", "d"):
-        # Nothing is deleted yet, and then nothing of these names is.
-        assert room.run("import", "--no-header", "--batch", "1.1", name, "-", given=b"1,1\n")[2] == b""
-        room.ok("delete-rows", name, "7.1", "0", "0")
-        room.ok("delete-rows", name, "7.2", "1", "65535")
-        for words, rows, said in (
-            (("--batch", "1.2"), b"1,1\n", ""),
-            ((), b"1,1\n", ""),
-            (("--batch", "7.1"), b"1,1\n", told.format(name, "1 of these 1", "is")),
-            (("--batch", "7.1"), b"1,1\n", ""),
-            (("--quiet", "--batch", "7.2"), b"1,1\n2,2\n3,3\n", told.format(name, "2 of these 3", "are")),
-            (("--batch", "7.3"), b"1,1\n", ""),
-            (("--batch", "7.4"), b"", ""),
-        ):
-            status, out, err = room.run("import", "--no-header", *words, name, "-", given=rows)
-            assert (status, err) == (0, said.encode()), f"{words} into {name} said {err!r}"
-            assert out == b"" if "--quiet" in words else out.startswith(b"ok "), f"{words} into {name} wrote {out!r}"
-        room.ok("forget", name, prints=b"ok batches=1 rows=1\n")
-    # An offer brings such rows without a word.
-    room.ok("create", "o", "T", "A", "SMALLINT", "B", "BIGINT")
-    room.ok("import", "--no-header", "--batch", "7.1", "o", "-", given=b"1,1\n")
-    for name in ("t", "d"):
-        status, _, err = room.run("apply", name, "o")
-        assert (status, err) == (0, b""), f"an apply said {err!r}"
-        assert count(room, name) == 5
-
-
 def files_and_folders_merge_to_each_other(room):
     make_folder(room, loads=3)
     room.ok("merge", "m", "d", prints=b"ok\n")
@@ -265,7 +234,6 @@ TESTS = [
     inspect_and_check_count_parts_and_others,
     refusals_of_a_folder_are_those_of_a_file,
     a_folder_without_a_part_is_no_replica,
-    rows_that_are_deleted_when_they_come_are_told,
     files_and_folders_merge_to_each_other,
     a_pack_keeps_what_the_folder_holds,
     a_pack_that_is_one_of_the_parts_stays,

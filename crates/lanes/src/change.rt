@@ -121,11 +121,6 @@ impl<'a> Change<'a> {
         file_schema(alloc, reader).map(|_| ())
     }
 
-    /// Whether it inserts batches under names that are given.
-    pub fn is_named_import(&self) -> bool {
-        matches!(self, Change::Import { first: Some(_), .. })
-    }
-
     /// Whether the file must not be there before.
     pub fn is_creation(&self) -> bool {
         matches!(self, Change::Create { .. })
@@ -155,14 +150,6 @@ impl Done {
     /// A command's answer, and how it left what it is about.
     pub fn new(answer: Answer, left: Left) -> Done {
         Done { answer, left }
-    }
-
-    /// What an import answered, if it was one.
-    pub fn imported(&self) -> Option<Imported> {
-        match &self.answer {
-            Answer::Imported(imported) => Some(*imported),
-            _ => None,
-        }
     }
 
     /// How it left that.

@@ -1,7 +1,6 @@
 //! The commands that change a file: it is read, then its lock is taken, and it is read again and replaced whole.
 
 use crate::change::{Change, Done};
-use crate::dead_rows::say_dead_in_file;
 use crate::failure::Failure;
 use crate::folder_changes;
 use crate::folders::is_folder;
@@ -440,14 +439,8 @@ fn change<R: Print + Eprint + Files<File = File> + Clock + AllocGlobal>(
     if let Err(why) = folder.hold(rt, &place) {
         return Err(not_held(rt, file, &place, change, why, about));
     }
-    let is_named = change.is_named_import();
     match changed(rt, change, &mut folder, &place) {
-        Ok(done) => {
-            if is_named {
-                say_dead_in_file(rt, file, place.name(), &done);
-            }
-            say(rt, file, &done, is_quiet)
-        }
+        Ok(done) => say(rt, file, &done, is_quiet),
         Err(CommandRefusal::Named(Refusal::WriteFault)) => {
             Err(not_written(rt, file, folder.reason()))
         }

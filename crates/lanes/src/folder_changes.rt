@@ -5,7 +5,6 @@ use crate::changing::{
     is_there, load_of, of_other_table, random_words, read_offers, refused_alone, schemas_of,
     with_columns,
 };
-use crate::dead_rows::say_dead;
 use crate::failure::Failure;
 use crate::folders::{Opened, open_folder, read_heads};
 use crate::judged_puts::put_judged;
@@ -171,7 +170,6 @@ fn import_named<
         Ok(done) => {
             let bytes = writer.into_inner();
             let replaced = put_judged(rt, folder, &opened.parts, bytes.as_slice())?;
-            say_dead(rt, folder, &opened.held, done);
             say(
                 rt,
                 folder,

@@ -4,7 +4,6 @@
 mod change;
 mod changing;
 mod checked_part;
-mod dead_rows;
 mod failure;
 mod folder_changes;
 mod folder_reports;

@@ -4,7 +4,7 @@ use Rattle.std.proofs.Common.{refl, sym, ap, subst, ◌∙◌, inl, inr, append_
 use Rattle.std.specs.FinMap as map
 use Rattle.std.specs.FinSet as set
 use Rattle.table_model.specs.Name.{row_name_cmp}
-use Rattle.table_model.specs.Operation.{Operation, Insert, Among, AreAgreeing, inserts_of, state_of, operations_of}
+use Rattle.table_model.specs.Operation.{Operation, Insert, Among, AreAgreeing, SameOperations, inserts_of, state_of, operations_of}
 use Rattle.table_model.specs.Query.{QueryShape}
 use Rattle.table_model.specs.Reading.{◌>>=◌}
 use Rattle.table_model.specs.State.{State, Batch, Agree, join}

@@ -13,7 +13,7 @@ use transpose_order::VECTOR_ROWS;
 
 /// A batch's name, how many rows it has, and how many of them are live.
 #[derive(Clone, Copy, Debug, PartialEq, Eq)]
-pub struct BatchCounts {
+pub(crate) struct BatchCounts {
     /// The batch's name.
     pub name: BatchName,
     /// How many rows it has, deleted ones among them.
@@ -37,7 +37,7 @@ fn live_count(tombs: &Tombs, name: BatchName, rows: usize) -> usize
 }
 
 /// The counts of the batch at this place, in ascending order of name and from 0.
-pub fn counts_at(store: &Store, index: usize) -> BatchCounts
+pub(crate) fn counts_at(store: &Store, index: usize) -> BatchCounts
     requires { index < map.len store.now.replica.state.batches }
     ensures counts { slice_get (batch_counts store.now.replica.state) index ≡ Some result }
     ensures few { result.live ≤ row_limit }

@@ -32,7 +32,6 @@ mod stored;
 
 pub use answers::{NotAnswered, answer, answer_all, answer_text};
 pub use applying::{Applied, apply, apply_all, apply_offers};
-pub use batch_counts::{BatchCounts, counts_at};
 pub use batch_list::list_batches;
 pub use csv_reading::read_csv;
 pub use deleting::{Deleted, DeletedRows, delete, delete_rows};
