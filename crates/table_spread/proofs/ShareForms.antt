@@ -1,5 +1,5 @@
 -- The batches of a run, with the deletions that go to its share, are the share.
-use Rattle.std.specs.Prelude.{◌≡◌, ◌≤◌, ℕ, Bool, true, false, cond, ◌==◌, List, length, filter, ◌++◌, Option, Some, None, is_some}
+use Rattle.std.specs.Prelude.{◌≡◌, ◌≤◌, ℕ, Bool, true, false, cond, ◌==◌, List, length, filter, ◌++◌, Option, Some, None, is_some, Result, Ok, Err, IfOk}
 use Rattle.std.proofs.Common.{refl, sym, ap, subst, ◌∙◌, arith}
 use Rattle.std.proofs.lemmas.List.Elements.{All-filter}
 use Rattle.std.specs.List.{All}
@@ -11,10 +11,11 @@ use Rattle.table_model.specs.Name.{name_cmp}
 use Rattle.table_model.specs.State.{Batch}
 use Rattle.table_model.specs.Table.{Table}
 use Rattle.table_model.specs.declared.names.BatchName.{BatchName}
+use Rattle.table_model.specs.declared.refusal.Refusal.{Refusal}
 use Rattle.table_model.proofs.NameOrder.{exact_names}
 use Rattle.table_model.proofs.Joins.{same_maps, same_states}
 use Rattle.segment_core.specs.Segment.{SegmentForm}
-use Rattle.replica_store.specs.Exchange.{OfferForm, AreOffered, offering}
+use Rattle.replica_store.specs.Exchange.{OfferForm, SummaryForm, AreOffered, offering}
 use Rattle.replica_store.specs.Replica.{Replica, names_of, batch_limit}
 use Rattle.replica_store.specs.Segments.{Entry, Segments, IsStored, rows_in}
 use Rattle.replica_store.proofs.Names.{contains-names_of}
@@ -68,3 +69,14 @@ module _ (firsts : List BatchName) (index : ℕ) where
       batches ∙ ap rows_in (segments_are (is_in_run firsts index) o.segments segments entries) ∙ rows_retained segments
       ∙ ap (λ (m : map.FinMap name_cmp Batch). map.retain_keys m (goes_to firsts (names_of m) index)) (sym shown) in
       λ i. record { schema = schema i; own = r.own; state = same_states o.state (record { batches = map.retain_keys r.state.batches (goes_to firsts (names_of r.state.batches) index); deleted = deletions_of (goes_to firsts (names_of r.state.batches) index) r.state.deleted }) kept deleted i }
+
+pub same_summary : (s t : SummaryForm) → ◌≡◌ {A = Result SummaryForm Refusal} (Ok t) (Ok s) → s ≡ t
+same_summary s t e = cc
+
+-- what is said of a value, if there is one, after what was said of it
+pub if_then : {X E : Type 0} {P Q : X → Type 0} (r : Result X E) → ((x : X) → P x → Q x) → IfOk r P → IfOk r Q
+if_then (Ok x) f h = f x h
+if_then (Err e) f h = tt
+
+pub same_replica : (r s : Replica) → ◌≡◌ {A = Result Replica Refusal} (Ok s) (Ok r) → r ≡ s
+same_replica r s e = cc
