@@ -1,5 +1,6 @@
 """A table that is spread over several files: each batch is in one of them, merged they are the file, and it is all or nothing."""
 
+import json
 import os
 import random
 import signal
@@ -37,8 +38,8 @@ def loaded(room, name, sizes, deletions=()):
 
 def batches_of(room, name):
     """The names of a file's batches, in their order, as pairs of numbers."""
-    lines = room.ok("inspect", "--batches", "--format", "csv", name).decode().splitlines()[1:]
-    return [tuple(int(it) for it in line.split(",")[0].split(".")) for line in lines]
+    lines = room.ok("inspect", "--batches", "--format", "json", name).splitlines()
+    return [tuple(int(it) for it in json.loads(line)["batch"].split(".")) for line in lines]
 
 
 def is_spread(room, file, outs, batches):

@@ -60,7 +60,7 @@ module _ (p : BatchName → Bool) (s : State) where
       let found = found_row rows q (sym (set.contains-from_list names_total batches q) ∙ both.0) in
       subst (λ (name : BatchName). p name ≡ true) (sym found.1.1) (deleted_goes found.0 (set.contains-items t.deleted found.0 ∙ found.1.0))
     where
-      abbrev batches_of : List RowName → List BatchName
+      batches_of : List RowName → List BatchName
       batches_of rows = each (λ (row : RowName). row.batch) rows
 
 -- names that go both ways
@@ -78,10 +78,10 @@ module _ (p q : BatchName → Bool) (s : State) (others : AreOthers p q) where
   may : (table : Table) (query : QueryShape) → may_be_combined (counted_of table query (of_names p s)) (counted_of table query (of_names q s)) ≡ true
   may table query = none_combined (counted_of table query (of_names p s)) (counted_of table query (of_names q s)) none
     where
-      abbrev one : State
+      one : State
       one = of_names p s
 
-      abbrev other : State
+      other : State
       other = of_names q s
 
       none : (name : BatchName) → is_between (counted_of table query one) (counted_of table query other) name ≡ true → ⊥
@@ -106,7 +106,7 @@ module _ (firsts : List BatchName) (s : State) where
 
   pub are_apart : (n : ℕ) → AreApart (shares_up_to firsts s n)
   are_apart zero = tt
-  are_apart (suc n) = (are_apart n, (tt, subst (λ (t : State). Apart t (share_of firsts (suc n) s)) (sym (joined_up_to firsts s n)) (apart_of (goes_up_to firsts s n) (goes_next n) s (others n))))
+  are_apart (suc n) = (are_apart n, tt, subst (λ (t : State). Apart t (share_of firsts (suc n) s)) (sym (joined_up_to firsts s n)) (apart_of (goes_up_to firsts s n) (goes_next n) s (others n)))
 
   module _ (table : Table) (query : QueryShape) where
     gathered_up_to : (n : ℕ) → gathered table query (shares_up_to firsts s n) ≡ Some (counted_of table query (of_names (goes_up_to firsts s n) s))

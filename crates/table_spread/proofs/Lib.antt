@@ -3,3 +3,4 @@ pub mod Deletions
 pub mod ShareFacts
 pub mod ApartShares
 pub mod MergedShares
+pub mod ShareForms

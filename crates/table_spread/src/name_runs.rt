@@ -5,6 +5,7 @@ ghost use Rattle.std.specs.FinMap.Entries.{where_key};
 ghost use Rattle.table_model.specs.Name.{name_cmp};
 ghost use Rattle.table_model.specs.Outcome.{Gives};
 ghost use Rattle.column_file.specs.Files.{canonical_file, Exports, HasFile, OpensTo};
+ghost use Rattle.replica_store.specs.Exchange.{AreOffered};
 ghost use Rattle.table_spread.specs.Spread.{run_of, is_in_run, goes_to, deletions_of, share_of, share_in};
 
 use crate::division::{Division, bytes_of};
@@ -104,8 +105,10 @@ impl NameRuns {
         store: &Store,
         index: usize,
     ) -> Result<Vec<(BatchName, Segment)>, AllocError>
-        ensures { IfOk result (λ copies. copies.items ≡ where_key name_cmp (is_in_run self.now index) (map.entries store.now.segments)) }
+        ensures value { IfOk result (λ copies. copies.items ≡ where_key name_cmp (is_in_run self.now index) (map.entries store.now.segments)) }
+        ensures offered { IfOk result (λ copies. AreOffered store.now.replica.schema copies.items) }
     {
+        store.is_within_limits();
         let (first, second) = store.parts();
         let mut copies = Vec::new(alloc);
         self.push_copies(alloc, index, first, &mut copies)?;
@@ -154,6 +157,7 @@ impl NameRuns {
         ensures value { Gives (λ share. share.replica) result (Ok (share_in self.now index store.now.replica)) }
         ensures segments { IfOk result (λ share. share.segments ≡ map.retain_keys store.now.segments (is_in_run self.now index)) }
     {
+        store.shows_its_segments();
         let summary = store.summary(alloc)?;
         let schema = store.schema().copy(alloc)?;
         let tombs = self.deletions(alloc, summary.names(), index, store.tombs())?;
