@@ -178,7 +178,7 @@ fn a_sentence_names_its_input_and_what_is_known_beside(rt: HostRuntime) -> Resul
             CSV,
             "v",
             hits(b"\"-40000\""),
-            "v, line 17, column HITS: \"\"-40000\"\" is outside the type SMALLINT",
+            "v, line 17, column HITS: \"-40000\" is outside the type SMALLINT",
         ),
         (
             CSV,
@@ -227,6 +227,30 @@ fn a_sentence_names_its_input_and_what_is_known_beside(rt: HostRuntime) -> Resul
             "",
             Knowledge::Nothing,
             "a count has more than 64 bits, a sum or a mean more than 128, or DISTINCT more than 2^36 values: ask fewer files at once",
+        ),
+        (
+            CommandRefusal::from(Refusal::Conflict(NAME)),
+            "t",
+            Knowledge::Held,
+            "t: this has batch 1.7 already, with other rows",
+        ),
+        (
+            CommandRefusal::from(Refusal::BadMagic),
+            "one.csv",
+            Knowledge::Beginning(b"SITE,HITS\r\n1,2\r\n"),
+            "one.csv: this is a text and no file of lanes: lanes import reads comma-separated values, and lanes run a script",
+        ),
+        (
+            CommandRefusal::from(Refusal::BadMagic),
+            "t",
+            Knowledge::Beginning(b"FLSM\x01\0"),
+            "t: this is a summary: lanes offer reads it",
+        ),
+        (
+            CommandRefusal::from(Refusal::BadMagic),
+            "t",
+            Knowledge::Beginning(b"\x01\x02"),
+            "t: the first four bytes are not those of this format",
         ),
         (
             CommandRefusal::from(Refusal::Conflict(BatchName {
@@ -310,7 +334,7 @@ fn what_is_quoted_is_cut_at_40_bytes_and_has_none_that_a_terminal_acts_on(
     rt: HostRuntime,
 ) -> Result<(), Fail> {
     let cases: [(&[u8], &str); 3] = [
-        (b"\x1b[2J\x7f\xc3\xa9~ ", "\"\\x1B[2J\\x7F\\xC3\\xA9~ \""),
+        (b"\x1b[2J\x7f\xc3\xa9~ ", "\"\\x1B[2J\\x7F\u{e9}~ \""),
         (
             b"a234567890b234567890c234567890d234567890e",
             "\"a234567890b234567890c234567890d234567890\"",
