@@ -1,16 +1,20 @@
 #!/usr/bin/env python3
-"""Writes docs/DEFINITIONS.md anew: each public definition of the crates' specs, with the comment above it. With --check it only tells
-whether the page is fresh, by its status."""
+"""Writes docs/DEFINITIONS.md anew: each definition of the crates' specs that a clause of a public call or type cites, with the comment
+above it. Every other public definition needs a comment too. With --check it only tells whether the page is fresh, by its status."""
 import pathlib, re, sys
 
 TOP = pathlib.Path(__file__).resolve().parent.parent
 HEAD = """# Definitions
 
-Each definition that contracts cite, with its plain meaning, by crate and file. A definition lives once, in the lowest crate that needs it. `python3 docs/definitions.py` writes this page.
+Each definition that a clause of a public call or type cites, with its plain meaning, by crate and file. A definition lives once, in the lowest crate that needs it. What these definitions are made of, and what only proofs use, is in the same folders of `specs/`, each with a comment. `python3 docs/definitions.py` writes this page.
 """
 DEFINED = re.compile(r"\s*(?:abbrev |unfoldable )?pub (?:record |data )?(?!mod |use |module )(\S+)")
 EQUATION = re.compile(r"\s*(?:abbrev |unfoldable )?pub \S+ :.* ≡ ")
 SYNTAX = re.compile(r"[a-z]+ (=|[A-Z]\b|SQL|HEX)|cond$|identifier \\\|")
+# What begins an item of a source, a clause, and a word of one.
+ITEM = re.compile(r"\s*(fn\b|pub\(|pub\b|impl\b|trait\b)")
+CLAUSE = re.compile(r"\s*(?:ensures|requires|ghost (?!use))")
+WORD = re.compile(r"[^\s(){}\[\],.;:]+")
 FIELD = re.compile(r"\s+pub \S+ :")
 
 
@@ -42,6 +46,22 @@ def definitions(lines):
     return found
 
 
+def cited():
+    """The words of clauses of public calls, of types and of traits."""
+    words = set()
+    for source in sorted(TOP.glob("crates/*/src/**/*.rt")):
+        is_public = False
+        for line in source.read_text().splitlines() if "_tests/" not in str(source) else []:
+            item = ITEM.match(line)
+            is_public = is_public if item is None else item[1] not in ("fn", "pub(")
+            if is_public and CLAUSE.match(line):
+                words |= set(WORD.findall(line))
+    return words
+
+
+CITED = cited()
+
+
 def section(crate):
     rows = []
     for file in sorted((TOP / "crates" / crate / "specs").rglob("*.antt")):
@@ -51,7 +71,8 @@ def section(crate):
         for name, comment in definitions(file.read_text().splitlines()):
             if not comment:
                 sys.exit(f"{crate}: {name} of {place} has no comment that says what it means")
-            rows.append(f"| `{name}` | {meaning(comment)} | `{place}` |")
+            if name in CITED:
+                rows.append(f"| `{name}` | {meaning(comment)} | `{place}` |")
     return [f"\n## `{crate}`\n", "| Definition | Meaning | File in `specs/` |", "|---|---|---|", *rows] if rows else []
 
 

@@ -1,12 +1,19 @@
 #!/usr/bin/env python3
 """Checks a few words of the pages that are written by hand: README.md, CONTRIBUTING.md, docs/*.md but DEFINITIONS.md, and the READMEs of
-crates. A condition is told by `if` or `when`, so the word `where` comes in headings alone; and `is had` and `is none` are not said. Code
-is passed over. It prints each line that is wrong, and the status is then 1."""
+crates; and of the docstrings of some crates. A condition is told by `if` or `when`, so the word `where` comes in headings alone; and
+`is had` and `is none` are not said. Nor are they in the texts of the program's messages, in all crates. Code is passed over. It prints
+each line that is wrong, and the status is then 1."""
 import pathlib, re, sys
 
 TOP = pathlib.Path(__file__).resolve().parent.parent
 PAGES = ["README.md", "CONTRIBUTING.md", "docs/*.md", "crates/*/README.md"]
 WRITTEN = ["DEFINITIONS.md"]
+# The crates whose docstrings are checked, those with few contracts first. The others are still to be mended.
+CRATES = ["refusal_sentences", "command_line", "lanes_main", "answer_formats", "csv_rows", "query_parser"]
+# A text of a program that has two words at least, so that names and options are none.
+TEXT = re.compile(r'"((?:[^"\\]|\\.)* (?:[^"\\]|\\.)*)"')
+# The condition of a script's line.
+SCRIPT_WORD = "delete where"
 NOT_SAID = re.compile(r"\b[Ww]here\b|\b(?:is|are|was|were) had\b|\bis none\b")
 
 
@@ -16,9 +23,30 @@ def lines_of(page):
     return [(number, re.sub(r"`[^`]*`", "`", line)) for number, line in enumerate(text.splitlines(), 1) if not line.startswith("#")]
 
 
+def docstrings_of(source):
+    """The lines of docstrings of a source, each with its number, without their code."""
+    lines = enumerate(source.read_text().splitlines(), 1)
+    return [(number, re.sub(r"`[^`]*`", "`", line)) for number, line in lines if re.match(r"\s*//[/!]", line)]
+
+
+def messages_of(source):
+    """The texts in quotes of a source, each with the number of its line, without the lines of scripts that they show."""
+    lines = [(number, line) for number, line in enumerate(source.read_text().splitlines(), 1) if not re.match(r"\s*//|\s*(?:ghost|ensures|requires)\b", line)]
+    return [(number, text.replace(SCRIPT_WORD, "")) for number, line in lines for text in TEXT.findall(line)]
+
+
+def faults_of(file, lines):
+    """The words of these lines of a file that are not said."""
+    return [f"{file.relative_to(TOP)}:{number}: {found[0]}" for number, line in lines for found in NOT_SAID.finditer(line)]
+
+
 def main():
     pages = [page for pattern in PAGES for page in sorted(TOP.glob(pattern)) if page.name not in WRITTEN]
-    wrong = [f"{page.relative_to(TOP)}:{number}: {found[0]}" for page in pages for number, line in lines_of(page) for found in NOT_SAID.finditer(line)]
+    sources = [source for crate in CRATES for source in sorted((TOP / "crates" / crate / "src").rglob("*.rt"))]
+    speaking = [source for source in sorted((TOP / "crates").glob("*/src/**/*.rt")) if "_tests/" not in str(source)]
+    wrong = [fault for page in pages for fault in faults_of(page, lines_of(page))]
+    wrong += [fault for source in sources for fault in faults_of(source, docstrings_of(source))]
+    wrong += [fault for source in speaking for fault in faults_of(source, messages_of(source))]
     print("".join(f"{line}\n" for line in wrong), end="")
     sys.exit(1 if wrong else 0)
 

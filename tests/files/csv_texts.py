@@ -124,9 +124,9 @@ FAULTS = (
     (b"A,B\n1,2\n3,abc\n", [], "BadCsv 3 2", 'visits.csv, line 3, column B: "abc" is not a whole number'),
     (b"B,A\nx,2\n", [], "BadCsv 2 1", 'visits.csv, line 2, column B: "x" is not a whole number'),
     (b"A,B\n40000,2\n", [], "BadCsv 2 1", 'visits.csv, line 2, column A: "40000" is outside the type SMALLINT'),
-    (b'A,B\n"1.0",2\n', [], "BadCsv 2 1", 'visits.csv, line 2, column A: ""1.0"" is not a whole number'),
+    (b'A,B\n"1.0",2\n', [], "BadCsv 2 1", 'visits.csv, line 2, column A: "1.0" is not a whole number'),
     (b"A,B\n\x1b[2J\xff,2\n", [], "BadCsv 2 1", 'visits.csv, line 2, column A: "\\x1B[2J\\xFF" is not a whole number'),
-    (b"A,B\n" + b"7" * 50 + b",2\n", [], "BadCsv 2 1", 'visits.csv, line 2, column A: "' + "7" * 40 + '" is not a whole number'),
+    (b"A,B\n" + b"7" * 50 + b",2\n", [], "BadCsv 2 1", 'visits.csv, line 2, column A: "' + "7" * 40 + '" has more than 30 digits'),
     (b"A,B\n1\n", [], "BadCsv 2 0", "visits.csv, line 2: the line has 1 field, and the table has 2 columns"),
     (b"A,B\n1,2,3\n", [], "BadCsv 2 0", "visits.csv, line 2: the line has 3 fields, and the table has 2 columns"),
     (b"A;B\n1;2\n", [], "BadCsv 1 0", "visits.csv, line 1: the line has 1 field, and the table has 2 columns; semicolons seem to separate its fields"),
@@ -142,14 +142,41 @@ FAULTS = (
     (b"x,40000\n", ["--no-header", "--columns", "-,A"], "BadCsv 1 2", 'visits.csv, line 1, column A: "40000" is outside the type SMALLINT'),
     (b"x,y\n1,2\n", ["--columns", "B,C"], "NoSuchColumn 2", '--columns, byte 2: there is no column "C": the table has A, B'),
     (b"x,y\n1,2\n", ["--columns", "B,-,,A"], "NoSuchColumn 4", '--columns, byte 4: there is no column "": the table has A, B'),
-    (b"A,C\n", [], "BadCsv 1 2", 'visits.csv, line 1, field 2: "C" is not a column of the table, which has A, B'),
+    (b"A,C\n", [], "BadCsv 1 2", 'visits.csv, line 1, field 2: "C" is not a column of the table, which has A, B: name the fields by --columns'),
     (b"A,a\n", [], "BadCsv 1 2", 'visits.csv, line 1, field 2: "a" is there for the second time'),
-    (b"1,2\n+5,2\n", ["--no-header"], "BadCsv 2 1", None),
-    (b"1,2\n1, 5\n", ["--no-header"], "BadCsv 2 2", None),
-    (b"1,2\nnull,5\n", ["--no-header"], "BadCsv 2 1", None),
-    (b'1,2\n"",5\n', ["--no-header"], "BadCsv 2 1", None),
+    (b"1,2\n+5,2\n", ["--no-header"], "BadCsv 2 1", 'visits.csv, line 2, column A: "+5" is not a whole number: a number has no plus sign'),
+    (b"1,2\n1, 5\n", ["--no-header"], "BadCsv 2 2", 'visits.csv, line 2, column B: " 5" is not a whole number: a field has no spaces'),
+    (b"1,2\nnull,5\n", ["--no-header"], "BadCsv 2 1", 'visits.csv, line 2, column A: "null" is not a whole number; if it is a null, say so by --null'),
+    (b'1,2\n"",5\n', ["--no-header"], "BadCsv 2 1", 'visits.csv, line 2, column A: "" is not a whole number: a null is an empty field without quotes, or NULL'),
+    (b"A,B\n1,2\n", ["--no-header"], "BadCsv 1 1", 'visits.csv, line 1, column A: "A" is not a whole number: if the first line has the names of columns, leave --no-header out'),
+    (b"1,2\n", [], "BadCsv 1 1", 'visits.csv, line 1, field 1: "1" is not a column of the table, which has A, B: if the first line is a row, say --no-header'),
+    (b"1,2\ncaf\xc3\xa9,5\n", ["--no-header"], "BadCsv 2 1", 'visits.csv, line 2, column A: "caf\u00e9" is not a whole number'),
+    (b"1,2\n" + b"x" * 39 + b"\xc3\xa9,5\n", ["--no-header"], "BadCsv 2 1", 'visits.csv, line 2, column A: "' + "x" * 39 + '" is not a whole number'),
+    (b"A,C,B\n", [], "BadCsv 1 0", 'visits.csv, line 1: the line has 3 fields, and the table has 2 columns, A, B; "C" is not one of them; name the fields by --columns, as --columns A,-,B'),
+    (b'"b"\n', [], "BadCsv 1 0", "visits.csv, line 1: the line has 1 field, and the table has 2 columns, A, B; A is missing; name the fields by --columns, as --columns B"),
+    (b"x,y,z\n", [], "BadCsv 1 0", "visits.csv, line 1: the line has 3 fields, and the table has 2 columns, A, B"),
+    (b'A,B\n"1,000",2\n', [], "BadCsv 2 0", "visits.csv, line 2: the line has 3 fields, and the table has 2 columns; quotes don't protect a separator: write numbers without it, or choose another one"),
+    (b"A,B\r1,2\r3,4\r", [], "BadCsv 1 0", "visits.csv, line 1: the line has 4 fields, and the table has 2 columns; a carriage return alone does not end a line: end lines with line feeds"),
+    (b"\xff\xfeA\0,\0B\0\n\0", [], "BadCsv 1 1", "visits.csv, line 1, field 1: this is UTF-16: save it as UTF-8"),
+    (b"A\0,\0B\0\n\0", [], "BadCsv 1 1", "visits.csv, line 1, field 1: this is UTF-16, or no text: save it as UTF-8"),
+    (b"\xfe\xff\0001\0,\0002", ["--no-header"], "BadCsv 1 1", "visits.csv, line 1, column A: this is UTF-16: save it as UTF-8"),
+    (b"\x1f\x8b\x08\0,\n", [], "BadCsv 1 1", "visits.csv, line 1, field 1: this is packed by gzip: unpack it, as by gzip -dc"),
+    (b'[{"A":1,"B":2}]\n', [], "BadCsv 1 1", "visits.csv, line 1, field 1: this is JSON: write its numbers as CSV"),
+    (b'{"A":1,"B":2}\n', ["--no-header"], "BadCsv 1 1", "visits.csv, line 1, column A: this is JSON: write its numbers as CSV"),
+    (b"<!DOCTYPE html>\n", [], "BadCsv 1 0", "visits.csv, line 1: this is HTML or XML: did a download fail?"),
+    (b"FLSM\1\0,\n", [], "BadCsv 1 1", "visits.csv, line 1, field 1: this is a summary: lanes offer and lanes inspect read it"),
     (b"1,2\n1e3,5\n", ["--no-header"], "BadCsv 2 1", None),
     (b"1,2\n" + b"1" * 1_048_577 + b"\n", ["--no-header"], "LineTooLong", "visits.csv, line 2: the line has more than 1,048,576 bytes"),
+)
+
+
+# What is no file of this program, and what is said of it.
+OTHER_FILES = (
+    (b"A,B\n1,2\n", "this is a text and no file of lanes: lanes import reads comma-separated values, and lanes run a script"),
+    (b"\x1f\x8b\x08\0", "this is packed by gzip: unpack it, as by gzip -dc"),
+    (b"SQLite format 3\0", "this is a database of SQLite: write its rows by sqlite3 -csv"),
+    (b"FLPT\1\0\0\0", "this is a partial answer: lanes combine, lanes finish and lanes inspect read it"),
+    (b"\1\2\3\4", "the first four bytes are not those of this format"),
 )
 
 
@@ -161,6 +188,10 @@ def what_is_at_fault_is_said_with_its_place(room):
     room.refused("import", "t", "none.csv", line="refused ReadFault", sentence="none.csv: no such file or folder")
     room.refused("import", "none", "none.csv", line="refused ReadFault", sentence="none: no such file or folder")
     room.refused("import", "t", ".", line="refused ReadFault", sentence=".: this is a folder")
+    for data, sentence in OTHER_FILES:
+        room.put("visits.csv", data)
+        for words in (["query", "visits.csv", "SELECT COUNT(*) FROM T"], ["check", "visits.csv"], ["apply", "t", "visits.csv"]):
+            room.refused(*words, line="refused BadMagic", sentence=f"visits.csv: {sentence}")
     assert room.get("t") == held
     room.only("t", "visits.csv")
 

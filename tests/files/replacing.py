@@ -50,7 +50,7 @@ def a_refusal_leaves_the_file_and_no_lock(room):
     held = room.make()
     room.refused("delete", "t", "A = ", line="refused Syntax 4")
     room.refused("delete-rows", "t", "1.1", "2", "1", line="refused BadRange 0", sentence="the range ends before it starts")
-    room.refused("import", "--no-header", "--batch", "1.1", "t", "-", given=b"1,10\n", line="refused Conflict 1.1", sentence="both have a batch 1.1, with different rows")
+    room.refused("import", "--no-header", "--batch", "1.1", "t", "-", given=b"1,10\n", line="refused Conflict 1.1", sentence="t: this has batch 1.1 already, with other rows")
     room.refused("import", "--no-header", "--batch", "0.1", "t", "-", given=b"1,10\n", line="refused BadName")
     room.refused("import", "--no-header", "--batch", "1.4294967295", "t", "-", given=rows_text(65_537), line="refused NumbersSpent")
     room.refused("apply", "t", "-", given=b"junk", line="refused BadMagic", sentence="standard input: the first four bytes are not those of this format")

@@ -73,7 +73,7 @@ def a_part_of_another_table_is_named_with_the_first(room):
     first = parts_of(room)[0]
     tables = {True: "T (A SMALLINT, B BIGINT)", False: "U (A SMALLINT)"}
     other = next(name for name in parts_of(room) if (name == name_of(data)) != (first == name_of(data)))
-    sentence = f"d/{other}: this is of the table {tables[other != name_of(data)]}, and d/{first} of {tables[first != name_of(data)]}"
+    sentence = f"d/{other}: this holds the table {tables[other != name_of(data)]}, but d/{first} holds {tables[first != name_of(data)]}"
     for words in READERS:
         room.refused(*words, line="refused SchemaDiffers", sentence=None if words[0] == "pack" else sentence)
     room.refused("import", "--no-header", "d", "-", given=b"1,1\n", line="refused SchemaDiffers", sentence=sentence)

@@ -24,7 +24,7 @@ def told(name, bytes_, text, json):
 
 
 def looks_like(name, bytes_, found):
-    return Case(name, ["inspect", "p"], 1, err=b"refused BadMagic\np: this begins with " + found + b"\n", files={"p": bytes_})
+    return Case(name, ["inspect", "p"], 1, err=b"refused BadMagic\np: " + found + b"\n", files={"p": bytes_})
 
 
 def expects(name, words, files, **outcome):
@@ -66,10 +66,10 @@ COVERAGE_CASES = [
     Case("a name twice in a summary is refused with its place", ["inspect", "p"], 1, err=[b"refused BadOrder 25\np, byte 25: "], files={"p": summary((1, 1), (1, 1))}),
     Case("bytes behind a summary are refused", ["inspect", "p"], 1, err=[b"refused TrailingBytes 25\n"], files={"p": summary((1, 1)) + b"\0"}),
     Case("a report that can't be written is a failed write", ["inspect", "p"], 1, err=b"refused WriteFault\nstandard output: no space is left on the device\n", files={"p": TWO}, output_to="full"),
-    looks_like("a text is said to look like one", b"A\n7\n", b'"A\\x0A7\\x0A", which looks like a text: lanes import takes comma-separated values'),
-    looks_like("so is what gzip packed", b"\x1f\x8b\x08\x00\x00", b'"\\x1F\\x8B\\x08\\x00\\x00", which looks like what gzip packed: unpack it first'),
-    looks_like("of other bytes the first 16 are shown", bytes(range(128, 160)), b'"' + b"".join(b"\\x%02X" % byte for byte in range(128, 144)) + b'", which is no format of this program'),
-    Case("a partial answer has no list of batches", ["inspect", "--batches", "p"], 1, err=[b"refused BadMagic\np: ", b"which looks like a partial answer: lanes finish and lanes inspect read it\n"], files={"p": TWO}),
+    looks_like("a text is said to be one", b"A\n7\n", b"this is a text and no file of lanes: lanes import reads comma-separated values, and lanes run a script"),
+    looks_like("so is what gzip packed", b"\x1f\x8b\x08\x00\x00", b"this is packed by gzip: unpack it, as by gzip -dc"),
+    looks_like("of other bytes it is said that they are no format of this program", bytes(range(128, 160)), b"the first four bytes are not those of this format"),
+    Case("a partial answer has no list of batches", ["inspect", "--batches", "p"], 1, err=[b"refused BadMagic\np: ", b"this is a partial answer: lanes combine, lanes finish and lanes inspect read it\n"], files={"p": TWO}),
     Case("three bytes are too few", ["inspect", "p"], 1, err=b"refused Truncated 3\np, byte 3: the bytes end too early\n", files={"p": b"FLP"}),
     expects("an answer comes if all batches of a summary were counted", ["--expect", "s", "p"], {"p": TWO, "s": summary((1, 1), (2, 1))}, out=ANSWER),
     expects("and if some were", ["--expect", "s", "p"], {"p": TWO, "s": summary((2, 1))}, out=ANSWER),

@@ -67,7 +67,7 @@ pub fn not_for_a_terminal(alloc: Global) -> Fault {
     }
 }
 
-/// The same, where memory is to be had.
+/// The same, if there is memory for it.
 fn to_a_terminal(alloc: Global) -> Result<clap::Error, AllocError> {
     commands(alloc)?.error(
         ErrorKind::InvalidValue,
@@ -75,7 +75,7 @@ fn to_a_terminal(alloc: Global) -> Result<clap::Error, AllocError> {
     )
 }
 
-/// The fault of a command line that names a folder where the command takes none, and what to do instead.
+/// The fault of a command line that names a folder for a command that takes none, and what to do instead.
 pub fn not_for_a_folder(alloc: Global, advice: &str) -> Fault {
     match of_a_folder(alloc, advice) {
         Ok(fault) => Fault::from(fault),
@@ -83,7 +83,7 @@ pub fn not_for_a_folder(alloc: Global, advice: &str) -> Fault {
     }
 }
 
-/// The same, where memory is to be had.
+/// The same, if there is memory for it.
 fn of_a_folder(alloc: Global, advice: &str) -> Result<clap::Error, AllocError> {
     commands(alloc)?.error(ErrorKind::InvalidValue, advice)
 }

@@ -3,7 +3,7 @@
 use answer_formats::{Format, ReportForm};
 use table_model::{BatchName, ColType, RowName};
 
-/// Where an input is read from.
+/// What an input is read from.
 #[derive(Clone, Copy, Debug, PartialEq, Eq)]
 pub enum Source<'a> {
     /// Standard input.
@@ -23,7 +23,7 @@ impl<'a> Source<'a> {
     }
 }
 
-/// Where queries are.
+/// What queries are read from.
 #[derive(Debug, Drop)]
 pub enum Queries<'a> {
     /// In the lines of standard input.
@@ -51,7 +51,7 @@ pub struct CsvForm<'a> {
 pub enum Request<'a> {
     /// `lanes run [--explain] [SCRIPT]`: a script's replies, written to standard output.
     Run {
-        /// Where the script is read from.
+        /// What the script is read from.
         source: Source<'a>,
         /// Whether standard error says why each refused line is refused.
         is_explained: bool,
@@ -73,7 +73,7 @@ pub enum Request<'a> {
     Import {
         /// The file's name.
         file: &'a str,
-        /// Where the texts are read from, at least one.
+        /// What the texts are read from, at least one.
         csvs: Vec<Source<'a>>,
         /// The name of the first batch, if it isn't drawn.
         first: Option<BatchName>,
@@ -123,19 +123,19 @@ pub enum Request<'a> {
     },
     /// `lanes partial FILE SQL`: what a file gives to the answer of a query over several files, as bytes.
     Partial {
-        /// Where the file is read from. Its name may be that of a folder.
+        /// What the file is read from. Its name may be that of a folder.
         file: Source<'a>,
         /// The query.
         sql: &'a str,
     },
     /// `lanes combine PARTIAL..`: the partial answer of all files that some partial answers are of.
     Combine {
-        /// Where the partial answers are read from, at least one.
+        /// What the partial answers are read from, at least one.
         partials: Vec<Source<'a>>,
     },
     /// `lanes finish [--expect SUMMARY].. [--format FORMAT] PARTIAL`: the answer of the query that a partial answer is of.
     Finish {
-        /// Where the partial answer is read from.
+        /// What the partial answer is read from.
         partial: Source<'a>,
         /// Where the summaries are read from whose batches have to be counted.
         expected: Vec<Source<'a>>,
@@ -173,14 +173,14 @@ pub enum Request<'a> {
     Offer {
         /// The file's name.
         file: &'a str,
-        /// Where the summary is read from.
+        /// What the summary is read from.
         summary: Source<'a>,
     },
     /// `lanes apply [--quiet] FILE OFFER..`: what offers bring, applied to a file.
     Apply {
         /// The file's name.
         file: &'a str,
-        /// Where the offers are read from, at least one.
+        /// What the offers are read from, at least one.
         offers: Vec<Source<'a>>,
         /// Whether nothing is printed if all is well.
         is_quiet: bool,

@@ -85,7 +85,7 @@ fn column_type(alloc: Global, written: &str) -> Result<Option<ColType>, AllocErr
     Ok(ColType::named(name.as_str()))
 }
 
-/// Where inputs of these names are read from: `-` is standard input.
+/// What inputs of these names are read from: `-` is standard input.
 pub fn sources<'a>(alloc: Global, names: &[&'a str]) -> Result<Vec<Source<'a>>, AllocError> {
     let mut sources = Vec::new(alloc);
     for name in names {

@@ -197,7 +197,7 @@ fn a_query_is_refused_with_what_to_write_instead(rt: HostRuntime) -> Result<(), 
 }
 
 // A line of the wrong number of fields for three columns, whether it is a header, and what is said of it.
-const LINES: [(&[u8], bool, &str); 10] = [
+const LINES: [(&[u8], bool, &str); 11] = [
     (
         b"1,2",
         false,
@@ -233,23 +233,38 @@ const LINES: [(&[u8], bool, &str); 10] = [
         true,
         "the header is missing: did the command before it fail?",
     ),
-    (b"\xff\xfeA\0", true, "this is UTF-16: save it as UTF-8"),
     (
-        b"\x1f\x8b\x08",
+        b"a,C",
         true,
-        "this is packed by gzip: unpack it, as by gzip -dc",
+        "the line has 2 fields, and the table has 3 columns, A, B, C; B is missing; name the fields by --columns, as --columns A,C",
     ),
     (
-        b"PK\x03\x04",
+        b"A,B,C,\"D\"",
         true,
-        "this is a zip file or a workbook: save it as CSV",
+        "the line has 4 fields, and the table has 3 columns, A, B, C; \"D\" is not one of them; name the fields by --columns, as --columns A,B,C,-",
+    ),
+    (
+        b"1,\"2,000\",3",
+        false,
+        "the line has 4 fields, and the table has 3 columns; quotes don't protect a separator: write numbers without it, or choose another one",
+    ),
+    (
+        b"1,2,3\r4,5,6",
+        false,
+        "the line has 5 fields, and the table has 3 columns; a carriage return alone does not end a line: end lines with line feeds",
     ),
 ];
 
 #[test]
 fn a_line_is_refused_with_how_many_fields_it_has(rt: HostRuntime) -> Result<(), Fail> {
+    let columns = [
+        ("A", ColType::SmallInt),
+        ("B", ColType::SmallInt),
+        ("C", ColType::SmallInt),
+    ];
+    let schema = Schema::new(rt.alloc(), "T", &columns)?;
     for &(line, is_header, want) in &LINES {
-        let fields = Fields::new(line, b',', Wanted::Columns(3), is_header);
+        let fields = Fields::new(line, b',', Wanted::Columns(&schema), is_header);
         let said = fields.to_string(rt.alloc())?;
         assert!(rt; said.as_str() == want, "said {said}");
     }
@@ -258,35 +273,35 @@ fn a_line_is_refused_with_how_many_fields_it_has(rt: HostRuntime) -> Result<(), 
 
 #[test]
 fn a_line_is_compared_with_a_list_of_words(rt: HostRuntime) -> Result<(), Fail> {
-    let cases: [(&[u8], bool, usize, &str); 5] = [
+    let cases: [(&[u8], bool, &str, &str); 5] = [
         (
             b"1,2",
             false,
-            3,
+            "A,-,B",
             "the line has 2 fields, and --columns has 3 words",
         ),
         (
             b"1,2",
             false,
-            1,
+            "A",
             "the line has 2 fields, and --columns has 1 word",
         ),
         (
             b"1,2",
             true,
-            2,
+            "A,B",
             "this is a row and no header: with --no-header it is read as a row",
         ),
         (
             b"",
             true,
-            1,
+            "A",
             "the header is missing: did the command before it fail?",
         ),
         (
             b"1;2",
             false,
-            2,
+            "A,B",
             "the line has 1 field, and --columns has 2 words; semicolons seem to separate its fields",
         ),
     ];
@@ -295,7 +310,9 @@ fn a_line_is_compared_with_a_list_of_words(rt: HostRuntime) -> Result<(), Fail> 
         let said = fields.to_string(rt.alloc())?;
         assert!(rt; said.as_str() == want, "said {said}");
     }
-    let fields = Fields::new(b"1,2", b';', Wanted::Columns(2), false);
+    let columns = [("A", ColType::SmallInt), ("B", ColType::SmallInt)];
+    let schema = Schema::new(rt.alloc(), "T", &columns)?;
+    let fields = Fields::new(b"1,2", b';', Wanted::Columns(&schema), false);
     let said = fields.to_string(rt.alloc())?;
     let want =
         "the line has 1 field, and the table has 2 columns; commas seem to separate its fields";
@@ -317,6 +334,55 @@ fn said(
     sentence.to_string(alloc)
 }
 
+// How a text begins that should be values of the columns A and B, and what is said of its first line.
+const BEGINNINGS: [(&[u8], &str); 7] = [
+    (b"\xff\xfeA\0", "this is UTF-16: save it as UTF-8"),
+    (b"A\0,\0", "this is UTF-16, or no text: save it as UTF-8"),
+    (
+        b"\x1f\x8b\x08",
+        "this is packed by gzip: unpack it, as by gzip -dc",
+    ),
+    (
+        b"PK\x03\x04",
+        "this is a zip file or a workbook: save it as CSV",
+    ),
+    (b"{\"A\":1", "this is JSON: write its numbers as CSV"),
+    (
+        b"<!DOCTYPE html>",
+        "this is HTML or XML: did a download fail?",
+    ),
+    (b"FLCF", "this is a file or an offer of lanes"),
+];
+
+#[test]
+fn a_text_that_is_no_csv_is_told_by_its_first_bytes(rt: HostRuntime) -> Result<(), Fail> {
+    let schema = Schema::new(rt.alloc(), "T", &[("A", ColType::SmallInt)])?;
+    let field = CommandRefusal::BadCsv { line: 1, column: 1 };
+    let line = CommandRefusal::BadCsv { line: 1, column: 0 };
+    for &(text, want) in &BEGINNINGS {
+        let heading = Knowledge::Heading {
+            text,
+            schema: &schema,
+        };
+        let value = Knowledge::Field {
+            column: "A",
+            column_type: ColType::SmallInt,
+            text,
+        };
+        let fields = Knowledge::Fields(Fields::new(text, b',', Wanted::Words("A,-,-"), true));
+        for (refusal, knowledge, place) in [
+            (field, heading, "line 1, field 1"),
+            (field, value, "line 1, column A"),
+            (line, fields, "line 1"),
+        ] {
+            let found = said(rt.alloc(), refusal, knowledge)?;
+            let whole = format!(in rt.alloc(); "v, {place}: {want}")?;
+            assert!(rt; found.as_str() == whole.as_str(), "said {found}");
+        }
+    }
+    Ok(())
+}
+
 #[test]
 fn tables_and_headings_are_named(rt: HostRuntime) -> Result<(), Fail> {
     let columns = [("SITE", ColType::SmallInt), ("HITS", ColType::Integer)];
@@ -335,14 +401,15 @@ fn tables_and_headings_are_named(rt: HostRuntime) -> Result<(), Fail> {
     };
     let alloc = rt.alloc();
     let unknown = said(alloc, header, heading(b"\"QTY\""))?;
-    let want = "v, line 1, field 2: \"\"QTY\"\" is not a column of the table, which has SITE, HITS";
+    let want =
+        "v, line 1, field 2: \"QTY\" is not a column of the table, which has SITE, HITS: name the fields by --columns";
     assert!(rt; unknown.as_str() == want, "said {unknown}");
     let repeated = said(alloc, header, heading(b"site"))?;
     let want = "v, line 1, field 2: \"site\" is there for the second time";
     assert!(rt; repeated.as_str() == want, "said {repeated}");
     let apart = said(alloc, differs, tables)?;
     let want =
-        "v: this is of the table U (A TINYINT), and t of VISITS (SITE SMALLINT, HITS INTEGER)";
+        "v: this holds the table U (A TINYINT), but t holds VISITS (SITE SMALLINT, HITS INTEGER)";
     assert!(rt; apart.as_str() == want, "said {apart}");
     let advice = Knowledge::Advice("what to do");
     let advised = said(alloc, CommandRefusal::from(Refusal::ReadFault), advice)?;

@@ -178,7 +178,7 @@ fn a_sentence_names_its_input_and_what_is_known_beside(rt: HostRuntime) -> Resul
             CSV,
             "v",
             hits(b"\"-40000\""),
-            "v, line 17, column HITS: \"\"-40000\"\" is outside the type SMALLINT",
+            "v, line 17, column HITS: \"-40000\" is outside the type SMALLINT",
         ),
         (
             CSV,
@@ -235,22 +235,28 @@ fn a_sentence_names_its_input_and_what_is_known_beside(rt: HostRuntime) -> Resul
             "b.summary: batch 1.7 is named here and was not counted: the partial answer of its file is missing, or the batch was forgotten since this summary was made",
         ),
         (
-            CommandRefusal::from(Refusal::BadMagic),
-            "a.csv",
-            Knowledge::Front(b"SITE,HITS\r\n1"),
-            "a.csv: this begins with \"SITE,HITS\\x0D\\x0A1\", which looks like a text: lanes import takes comma-separated values",
+            CommandRefusal::from(Refusal::Conflict(NAME)),
+            "t",
+            Knowledge::Held,
+            "t: this has batch 1.7 already, with other rows",
         ),
         (
             CommandRefusal::from(Refusal::BadMagic),
-            "a.gz",
-            Knowledge::Front(b"\x1f\x8b\x08\x00"),
-            "a.gz: this begins with \"\\x1F\\x8B\\x08\\x00\", which looks like what gzip packed: unpack it first",
+            "one.csv",
+            Knowledge::Beginning(b"SITE,HITS\r\n1,2\r\n"),
+            "one.csv: this is a text and no file of lanes: lanes import reads comma-separated values, and lanes run a script",
         ),
         (
             CommandRefusal::from(Refusal::BadMagic),
-            "a",
-            Knowledge::Front(b"\x00\x01\x02\x03"),
-            "a: this begins with \"\\x00\\x01\\x02\\x03\", which is no format of this program",
+            "t",
+            Knowledge::Beginning(b"FLSM\x01\0"),
+            "t: this is a summary: lanes offer and lanes inspect read it",
+        ),
+        (
+            CommandRefusal::from(Refusal::BadMagic),
+            "t",
+            Knowledge::Beginning(b"\x01\x02"),
+            "t: the first four bytes are not those of this format",
         ),
         (
             CommandRefusal::from(Refusal::Conflict(BatchName {
@@ -334,7 +340,7 @@ fn what_is_quoted_is_cut_at_40_bytes_and_has_none_that_a_terminal_acts_on(
     rt: HostRuntime,
 ) -> Result<(), Fail> {
     let cases: [(&[u8], &str); 3] = [
-        (b"\x1b[2J\x7f\xc3\xa9~ ", "\"\\x1B[2J\\x7F\\xC3\\xA9~ \""),
+        (b"\x1b[2J\x7f\xc3\xa9~ ", "\"\\x1B[2J\\x7F\u{e9}~ \""),
         (
             b"a234567890b234567890c234567890d234567890e",
             "\"a234567890b234567890c234567890d234567890\"",

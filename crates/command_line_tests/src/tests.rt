@@ -70,7 +70,7 @@ const TEXTS: [(&[&str], &str); 16] = [
     ),
     (
         &["./l", "query", "t", "A", "--x"],
-        "error: options stand before FILE: a word behind it that begins with -- is none\n\nUsage: lanes query [OPTIONS] <FILE> <SQL>...\n\nFor more information, try '--help'.\n",
+        "error: options go before FILE: after it, a word that begins with -- is not an option\n\nUsage: lanes query [OPTIONS] <FILE> <SQL>...\n\nFor more information, try '--help'.\n",
     ),
     (
         &["./l", "create", "t", "T", "A", "text"],

@@ -26,6 +26,9 @@ use std::random::RandomSource;
 use std::rt::Clock;
 use table_model::{BatchName, ColType, Counted, Refusal, RowName, Schema};
 
+/// What to do instead of applying a folder.
+const NO_OFFER: &str = "this is a folder: apply its parts, as OFFER/*.lanes";
+
 /// What is said of a file if its lock may not be made.
 const NO_NEW_FILE: &str =
     "permission denied: the folder that it is in may not be written, and a file is replaced whole";
@@ -242,10 +245,20 @@ pub fn read_offers<'r, R: Eprint + Input + Files + Clock + AllocGlobal>(
     for source in sources {
         match column_file::read_offer(rt.alloc(), &mut source_of(rt, progress, *source)) {
             Ok(offer) => offers.push(offer)?,
-            Err(refusal) => return Err(unread(rt, CommandRefusal::from(refusal), *source)),
+            Err(refusal) => return Err(unread_offer(rt, refusal, *source)),
         }
     }
     Ok(offers)
+}
+
+/// A refusal of an offer. A folder is none: its parts are.
+fn unread_offer<R: Files + AllocGlobal>(rt: &R, refusal: Refusal, source: Source<'_>) -> Failure {
+    match source {
+        Source::File(name) if refusal == Refusal::ReadFault && is_folder(rt, name) => {
+            Failure::advised(rt.alloc(), CommandRefusal::from(refusal), name, NO_OFFER)
+        }
+        _ => unread(rt, CommandRefusal::from(refusal), source),
+    }
 }
 
 /// The tables of offers.
@@ -352,10 +365,10 @@ fn no_column(alloc: Global, schema: &Schema, words: &str, place: u64) -> Failure
 }
 
 /// How many fields a line should have.
-fn wanted_fields(schema: &Schema, form: CsvForm<'_>) -> Wanted {
+fn wanted_fields<'a>(schema: &'a Schema, form: CsvForm<'a>) -> Wanted<'a> {
     match form.columns {
-        None => Wanted::Columns(schema.columns()),
-        Some(words) => Wanted::Words(words.split(',').count()),
+        None => Wanted::Columns(schema),
+        Some(words) => Wanted::Words(words),
     }
 }
 
@@ -381,7 +394,7 @@ fn fault_of_csv(
 fn known_of_field<'a>(
     csv: &'a CsvReader,
     schema: &'a Schema,
-    form: CsvForm<'_>,
+    form: CsvForm<'a>,
     is_first: bool,
     column: u64,
 ) -> Knowledge<'a> {
@@ -589,12 +602,9 @@ pub fn refused_alone<R: Files + AllocGlobal>(
 ) -> Failure {
     match refusal {
         CommandRefusal::Named(Refusal::BadRange(_)) => Failure::of_argument(rt.alloc(), refusal),
+        CommandRefusal::Named(Refusal::Conflict(_)) => Failure::of_held(rt.alloc(), refusal, file),
         CommandRefusal::Named(
-            Refusal::Conflict(_)
-            | Refusal::BadName
-            | Refusal::BadSchema
-            | Refusal::NumbersSpent
-            | Refusal::Memory,
+            Refusal::BadName | Refusal::BadSchema | Refusal::NumbersSpent | Refusal::Memory,
         ) => Failure::of(rt.alloc(), refusal),
         _ => Failure::of_file(rt, refusal, file),
     }

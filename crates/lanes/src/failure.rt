@@ -2,10 +2,12 @@
 
 use crate::watched::Cause;
 use command_line::Fault;
-use refusal_sentences::{CommandRefusal, Knowledge, Pointer, Printable, Sentence, Text};
+use refusal_sentences::{
+    CommandRefusal, KIND_BYTES, Knowledge, Pointer, Printable, Sentence, Text,
+};
 use std::alloc::{AllocError, AllocFailed, Global};
 use std::fs::{self, Files};
-use std::io::{ErrorKind, Write};
+use std::io::{ErrorKind, Read, Write};
 use std::process::ExitCode;
 use table_model::{Refusal, Schema};
 
@@ -17,7 +19,7 @@ pub const INPUT: &str = "standard input";
 
 /// What is said of a file that isn't there and is named like an option.
 const NO_OPTION: &str =
-    "no such file or folder: options stand before FILE, and this command has none of this name";
+    "no such file or folder (and this command has no such option: options are written in full, as --help)";
 
 /// Why a command failed, and what is said of it below the line of the refusal.
 #[derive(Drop)]
@@ -85,7 +87,11 @@ impl Failure {
 
     /// A refusal of what is read from a file, or written to it.
     pub fn of_file<R: Files + AllocGlobal>(rt: &R, refusal: CommandRefusal, name: &str) -> Failure {
+        let mut head = [0u8; KIND_BYTES];
         let knowledge = match refusal {
+            CommandRefusal::Named(Refusal::BadMagic) => {
+                Knowledge::Beginning(beginning_of(rt, name, &mut head))
+            }
             CommandRefusal::Named(Refusal::ReadFault) => known_of_reading(rt, name),
             CommandRefusal::Named(Refusal::WriteFault) => known_of_writing(rt, name),
             _ => Knowledge::Nothing,
@@ -98,6 +104,16 @@ impl Failure {
                 knowledge,
             },
         )
+    }
+
+    /// A refusal of batches that a file or a folder has already, with other rows.
+    pub fn of_held(alloc: Global, refusal: CommandRefusal, name: &str) -> Failure {
+        let sentence = Sentence {
+            refusal,
+            subject: name,
+            knowledge: Knowledge::Held,
+        };
+        Failure::new(alloc, sentence)
     }
 
     /// A refusal of a file or a folder that the system does not read or write, for this reason.
@@ -223,6 +239,22 @@ impl Failure {
     }
 }
 
+/// The first bytes of a file that was read before, as far as there is room. There are none if it can't be read twice, as a pipe can't.
+fn beginning_of<'a, R: Files>(rt: &R, name: &str, room: &'a mut [u8]) -> &'a [u8] {
+    let is_file = fs::metadata(rt, name).is_ok_and(|found| found.is_file());
+    let count = match fs::open(rt, name) {
+        Ok(mut file) if is_file => file.read(room).unwrap_or(0),
+        _ => 0,
+    };
+    let (beginning, _) = room.split_at(count.min(room.len()));
+    beginning
+}
+
+/// Whether a word is written like an option. A hyphen alone is not.
+fn is_like_an_option(word: &str) -> bool {
+    word.len() > 1 && word.starts_with('-')
+}
+
 /// What is known of a file that can't be read.
 fn known_of_reading<R: Files>(rt: &R, name: &str) -> Knowledge<'static> {
     match fs::metadata(rt, name) {
@@ -232,7 +264,7 @@ fn known_of_reading<R: Files>(rt: &R, name: &str) -> Knowledge<'static> {
             Ok(_) => Knowledge::Nothing,
         },
         Ok(_) => Knowledge::Nothing,
-        Err(error) if error.kind() == ErrorKind::NotFound && name.starts_with("--") => {
+        Err(error) if error.kind() == ErrorKind::NotFound && is_like_an_option(name) => {
             Knowledge::Advice(NO_OPTION)
         }
         Err(error) => Knowledge::Reason(error.kind()),

@@ -78,7 +78,7 @@ fn open<R: Files + AllocGlobal, D: Read + Drop>(
             let sentence = Sentence {
                 refusal: CommandRefusal::from(Refusal::BadMagic),
                 subject: file,
-                knowledge: Knowledge::Front(reader.front()),
+                knowledge: Knowledge::Beginning(reader.front()),
             };
             Err(Failure::new(rt.alloc(), sentence))
         }

@@ -16,13 +16,13 @@ use file_commands::{Left, merged};
 use folder_parts::PartFault;
 use part_folder::Patience;
 use refusal_sentences::CommandRefusal;
-use std::alloc::AllocError;
+use std::alloc::{AllocError, Global};
 use std::fs::{self, File, Files};
 use std::io::Read;
 use std::os::unix::fs::MetadataExt;
 use std::random::RandomSource;
 use std::rt::Clock;
-use table_model::{Counted, Refusal};
+use table_model::{BatchName, Counted, Refusal};
 
 /// What to do instead of a merge into a folder that is there.
 const NO_FOLDER: &str =
@@ -344,13 +344,24 @@ fn refused<R: Files + AllocGlobal>(
 ) -> Failure {
     match refusal {
         CommandRefusal::Named(Refusal::SchemaDiffers) => of_other_table(rt, names, begun),
-        CommandRefusal::Named(Refusal::Conflict(_) | Refusal::Memory) => {
-            Failure::of(rt.alloc(), refusal)
+        CommandRefusal::Named(Refusal::Memory) => Failure::of(rt.alloc(), refusal),
+        CommandRefusal::Named(Refusal::Conflict(batch)) => {
+            of_conflict(rt.alloc(), names, begun, batch)
         }
         _ => match names.get(begun.saturating_sub(1)) {
             Some(name) => Failure::of_file(rt, refusal, *name),
             None => Failure::of(rt.alloc(), refusal),
         },
+    }
+}
+
+/// A refusal of the last file that was begun, since one before it has a batch of the same name with other rows.
+fn of_conflict(alloc: Global, names: &[&str], begun: usize, batch: BatchName) -> Failure {
+    let refusal = CommandRefusal::from(Refusal::Conflict(batch));
+    let words = format!(in alloc; "a file before this one has batch {batch} with other rows");
+    match (names.get(begun.saturating_sub(1)), words) {
+        (Some(name), Ok(words)) => Failure::advised(alloc, refusal, *name, words.as_str()),
+        _ => Failure::of(alloc, refusal),
     }
 }
 

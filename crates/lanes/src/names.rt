@@ -48,7 +48,9 @@ fn fault_of_name(alloc: Global, name: &str) -> Result<Option<String>, AllocError
     let text = name.as_bytes();
     let quoted = Quoted(text);
     if is_keyword(text) {
-        let fault = format!(in alloc; "{quoted} is a keyword of the query language, and no name")?;
+        let fault = format!(in alloc;
+            "{quoted} is a keyword of the query language and can't be a name"
+        )?;
         Ok(Some(fault))
     } else if is_identifier(text) {
         Ok(None)

@@ -13,46 +13,41 @@ const SEPARATORS: [(u8, &str); 4] = [
     (b'|', "bars"),
 ];
 
-/// How texts begin that are not of this format, and what to do.
-const OTHER_FORMATS: [(&[u8], &str); 4] = [
-    (b"\xff\xfe", "this is UTF-16: save it as UTF-8"),
-    (b"\xfe\xff", "this is UTF-16: save it as UTF-8"),
-    (
-        b"\x1f\x8b",
-        "this is packed by gzip: unpack it, as by gzip -dc",
-    ),
-    (
-        b"PK\x03\x04",
-        "this is a zip file or a workbook: save it as CSV",
-    ),
-];
+/// How many fields of a header are named in a sentence at most.
+const NAMED_FIELDS: usize = 64;
 
 /// How many fields a line should have, and what says so.
-#[derive(Clone, Copy, Debug, PartialEq, Eq)]
-pub enum Wanted {
+#[derive(Clone, Copy)]
+pub enum Wanted<'a> {
     /// One for each column of the table.
-    Columns(usize),
-    /// One for each word of a list.
-    Words(usize),
+    Columns(&'a Schema),
+    /// One for each word of a list, with a comma between each two.
+    Words(&'a str),
 }
 
-impl Wanted {
+impl<'a> Wanted<'a> {
     /// How many they are.
     fn count(self) -> usize {
         match self {
-            Wanted::Columns(count) | Wanted::Words(count) => count,
+            Wanted::Columns(schema) => schema.columns(),
+            Wanted::Words(words) => words.split(',').count(),
         }
     }
 }
 
 /// How many fields a line should have, as the end of a sentence: `the table has 2 columns`.
-impl fmt::Display for Wanted {
+impl<'a> fmt::Display for Wanted<'a> {
     fn fmt<W: fmt::Write>(&self, f: &mut fmt::Formatter<W>) -> fmt::Result {
+        let count = self.count();
         match *self {
-            Wanted::Columns(1) => f.write_str("the table has 1 column"),
-            Wanted::Columns(count) => write!(f, "the table has {count} columns"),
-            Wanted::Words(1) => f.write_str("--columns has 1 word"),
-            Wanted::Words(count) => write!(f, "--columns has {count} words"),
+            Wanted::Columns(_) => {
+                let columns = if count == 1 { "column" } else { "columns" };
+                write!(f, "the table has {count} {columns}")
+            }
+            Wanted::Words(_) => {
+                let words = if count == 1 { "word" } else { "words" };
+                write!(f, "--columns has {count} {words}")
+            }
         }
     }
 }
@@ -62,13 +57,13 @@ impl fmt::Display for Wanted {
 pub struct Fields<'a> {
     line: &'a [u8],
     separator: u8,
-    wanted: Wanted,
+    wanted: Wanted<'a>,
     is_header: bool,
 }
 
 impl<'a> Fields<'a> {
     /// A line, the separator of its fields, how many fields it should have, and whether it is the header.
-    pub fn new(line: &'a [u8], separator: u8, wanted: Wanted, is_header: bool) -> Fields<'a> {
+    pub fn new(line: &'a [u8], separator: u8, wanted: Wanted<'a>, is_header: bool) -> Fields<'a> {
         Fields {
             line,
             separator,
@@ -77,20 +72,29 @@ impl<'a> Fields<'a> {
         }
     }
 
+    /// The line.
+    pub fn line(&self) -> &'a [u8] {
+        self.line
+    }
+
     /// How many fields the line has if this byte separates them.
     fn count(&self, separator: u8) -> usize {
         let cuts = self.line.iter().filter(|byte| **byte == separator).count();
         cuts.saturating_add(1)
     }
 
-    /// What the text is if it is of another format.
-    fn other_format(&self) -> Option<&'static str> {
-        for (beginning, advice) in OTHER_FORMATS {
-            if self.line.starts_with(beginning) {
-                return Some(advice);
+    /// How many fields the line would have if quotes protected a separator.
+    fn count_outside_quotes(&self) -> usize {
+        let mut is_quoted = false;
+        let mut count = 1usize;
+        for byte in self.line {
+            if *byte == b'"' {
+                is_quoted = !is_quoted;
+            } else if *byte == self.separator && !is_quoted {
+                count = count.saturating_add(1);
             }
         }
-        None
+        count
     }
 
     /// What seems to separate the fields, if it is another byte than it should be.
@@ -102,15 +106,104 @@ impl<'a> Fields<'a> {
         }
         None
     }
+
+    /// Whether the header has a field that names this column.
+    fn has_column(&self, name: &[u8]) -> bool {
+        self.line
+            .split(|byte| *byte == self.separator)
+            .any(|field| same_word(unquoted(field), name))
+    }
+
+    /// Whether the header has a field that names a column of the table.
+    fn has_any_column(&self, schema: &Schema) -> bool {
+        self.line
+            .split(|byte| *byte == self.separator)
+            .any(|field| has_name(schema, unquoted(field)))
+    }
+
+    /// Writes the columns of the table, which of them the header does not have, or which of its fields names none, and how to say what the
+    /// fields are.
+    fn write_names<W: fmt::Write>(
+        &self,
+        schema: &Schema,
+        f: &mut fmt::Formatter<W>,
+    ) -> fmt::Result {
+        let names = Names(schema);
+        write!(f, ", {names}")?;
+        if !self.has_any_column(schema) {
+            return Ok(());
+        }
+        self.write_missing(schema, f)?;
+        self.write_extra(schema, f)?;
+        f.write_str("; name the fields by --columns, as --columns ")?;
+        self.write_list(schema, f)
+    }
+
+    /// Writes the first column of the table that the header does not have, if there is one.
+    fn write_missing<W: fmt::Write>(
+        &self,
+        schema: &Schema,
+        f: &mut fmt::Formatter<W>,
+    ) -> fmt::Result {
+        for column in schema.column_list() {
+            let name = column.name();
+            if !self.has_column(name.as_bytes()) {
+                return write!(f, "; {name} is missing");
+            }
+        }
+        Ok(())
+    }
+
+    /// Writes the first field of the header that names no column of the table, if there is one.
+    fn write_extra<W: fmt::Write>(
+        &self,
+        schema: &Schema,
+        f: &mut fmt::Formatter<W>,
+    ) -> fmt::Result {
+        for field in self.line.split(|byte| *byte == self.separator) {
+            let name = unquoted(field);
+            if !has_name(schema, name) {
+                let name = Quoted(name);
+                return write!(f, "; {name} is not one of them");
+            }
+        }
+        Ok(())
+    }
+
+    /// Writes what the fields of the header are, as `--columns` takes it.
+    fn write_list<W: fmt::Write>(&self, schema: &Schema, f: &mut fmt::Formatter<W>) -> fmt::Result {
+        let fields = self.line.split(|byte| *byte == self.separator);
+        for (index, field) in fields.take(NAMED_FIELDS).enumerate() {
+            if index > 0 {
+                f.write_str(",")?;
+            }
+            write_word(schema, unquoted(field), f)?;
+        }
+        Ok(())
+    }
+
+    /// Writes what to do, if it is known, about fields whose number is wrong.
+    fn write_advice<W: fmt::Write>(&self, f: &mut fmt::Formatter<W>) -> fmt::Result {
+        match (self.likely_separator(), self.wanted) {
+            (Some(name), _) if self.wanted.count() > 1 => {
+                write!(f, "; {name} seem to separate its fields")
+            }
+            _ if self.count_outside_quotes() == self.wanted.count() => f.write_str(
+                "; quotes don't protect a separator: write numbers without it, or choose another one",
+            ),
+            _ if self.line.contains(&b'\r') => f.write_str(
+                "; a carriage return alone does not end a line: end lines with line feeds",
+            ),
+            (_, Wanted::Columns(schema)) if self.is_header => self.write_names(schema, f),
+            _ => Ok(()),
+        }
+    }
 }
 
 impl<'a> fmt::Display for Fields<'a> {
     fn fmt<W: fmt::Write>(&self, f: &mut fmt::Formatter<W>) -> fmt::Result {
         if self.is_header && self.line.is_empty() {
             return f.write_str("the header is missing: did the command before it fail?");
-        }
-        if let Some(advice) = self.other_format() {
-            return f.write_str(advice);
         }
         let found = self.count(self.separator);
         let wanted = self.wanted;
@@ -119,26 +212,74 @@ impl<'a> fmt::Display for Fields<'a> {
         }
         let fields = if found == 1 { "field" } else { "fields" };
         write!(f, "the line has {found} {fields}, and {wanted}")?;
-        match self.likely_separator() {
-            Some(name) if wanted.count() > 1 => {
-                write!(f, "; {name} seem to separate its fields")
-            }
-            _ => Ok(()),
-        }
+        self.write_advice(f)
     }
 }
 
-/// Writes what is wrong with a field of a row.
+/// Writes a field of a header as a word of `--columns`: the column's name, or a hyphen if it is no column.
+fn write_word<W: fmt::Write>(
+    schema: &Schema,
+    field: &[u8],
+    f: &mut fmt::Formatter<W>,
+) -> fmt::Result {
+    for column in schema.column_list() {
+        if same_word(column.name().as_bytes(), field) {
+            return f.write_str(column.name());
+        }
+    }
+    f.write_str("-")
+}
+
+/// Whether a table has a column of this name, in either case.
+fn has_name(schema: &Schema, name: &[u8]) -> bool {
+    schema
+        .column_list()
+        .iter()
+        .any(|column| same_word(column.name().as_bytes(), name))
+}
+
+/// Words that other systems write for a null.
+const NULLS: [&[u8]; 9] = [
+    b"NA", b"N/A", b"NaN", b"None", b"nil", b"null", b"-", b"?", b"missing",
+];
+
+/// Writes what is wrong with a field of a row, which is of this column.
 pub fn write_fault_of_field<W: fmt::Write>(
+    column: &str,
     column_type: ColType,
     text: &[u8],
     f: &mut fmt::Formatter<W>,
 ) -> fmt::Result {
-    let field = Quoted(text);
-    if is_whole_number(text) {
-        write!(f, "{field} is outside the type {column_type}")
+    let inner = unquoted(text);
+    let field = Quoted(inner);
+    if is_whole_number(inner) {
+        return write!(f, "{field} is outside the type {column_type}");
+    }
+    if is_long_number(inner) {
+        return write!(f, "{field} has more than 30 digits");
+    }
+    write!(f, "{field} is not a whole number")?;
+    match advice_on_field(column, inner) {
+        Some(advice) => write!(f, ": {advice}"),
+        None if NULLS.iter().any(|null| same_word(inner, null)) => {
+            f.write_str("; if it is a null, say so by --null")
+        }
+        None => Ok(()),
+    }
+}
+
+/// What to do about a field that is not a number, if it is known.
+fn advice_on_field(column: &str, field: &[u8]) -> Option<&'static str> {
+    if field.is_empty() {
+        Some("a null is an empty field without quotes, or NULL")
+    } else if same_word(field, column.as_bytes()) {
+        Some("if the first line has the names of columns, leave --no-header out")
+    } else if field.trim_ascii().len() < field.len() && is_whole_number(field.trim_ascii()) {
+        Some("a field has no spaces")
+    } else if field.first() == Some(&b'+') {
+        Some("a number has no plus sign")
     } else {
-        write!(f, "{field} is not a whole number")
+        None
     }
 }
 
@@ -148,17 +289,17 @@ pub fn write_fault_of_heading<W: fmt::Write>(
     schema: &Schema,
     f: &mut fmt::Formatter<W>,
 ) -> fmt::Result {
-    let field = Quoted(text);
     let name = unquoted(text);
-    let is_there = schema
-        .column_list()
-        .iter()
-        .any(|column| same_word(column.name().as_bytes(), name));
-    if is_there {
-        write!(f, "{field} is there for the second time")
+    let field = Quoted(name);
+    if has_name(schema, name) {
+        return write!(f, "{field} is there for the second time");
+    }
+    let names = Names(schema);
+    write!(f, "{field} is not a column of the table, which has {names}")?;
+    if is_whole_number(name) {
+        f.write_str(": if the first line is a row, say --no-header")
     } else {
-        let names = Names(schema);
-        write!(f, "{field} is not a column of the table, which has {names}")
+        f.write_str(": name the fields by --columns")
     }
 }
 
@@ -170,12 +311,22 @@ fn unquoted(field: &[u8]) -> &[u8] {
     }
 }
 
-/// Whether a field is a whole number as the grammar has it: an optional `-` and 1 to 30 digits, in double quotes or not.
-fn is_whole_number(field: &[u8]) -> bool {
-    let field = unquoted(field);
-    let digits = match field {
+/// The digits of a field, without a minus sign in front.
+fn digits_of(field: &[u8]) -> &[u8] {
+    match field {
         [b'-', digits @ ..] => digits,
         _ => field,
-    };
-    1 <= digits.len() && digits.len() <= 30 && digits.iter().all(|byte| byte.is_ascii_digit())
+    }
+}
+
+/// Whether a field without its quotes is a whole number as the grammar has it: an optional `-` and 1 to 30 digits.
+fn is_whole_number(field: &[u8]) -> bool {
+    let digits = digits_of(field);
+    1 <= digits.len() && digits.len() <= 30 && digits.iter().all(u8::is_ascii_digit)
+}
+
+/// Whether a field, of which at most the first 40 bytes are here, is a number of more digits than the grammar has.
+fn is_long_number(field: &[u8]) -> bool {
+    let digits = digits_of(field);
+    digits.len() > 30 && digits.iter().all(u8::is_ascii_digit)
 }

@@ -43,7 +43,7 @@ pub const NO_ARITHMETIC: &str = "there is no arithmetic: compute with the answer
 /// What is said of a number that is not whole.
 pub const NO_FRACTION: &str = "numbers are whole: a mean too is compared with a whole number";
 
-/// Words that no query has, where they are refused.
+/// Words at which a query is refused, since no query has them.
 const WORDS: [Cure; 43] = [
     (b"ORDER", NO_ORDER),
     (b"SORT", NO_ORDER),

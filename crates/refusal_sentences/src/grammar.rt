@@ -104,7 +104,7 @@ pub struct Reading<'a> {
     pub next: Next,
     /// The clause.
     pub clause: Clause,
-    /// The last word or symbol; empty if there is none.
+    /// The last word or symbol; empty before the first one.
     pub previous: &'a [u8],
 }
 
@@ -269,7 +269,7 @@ impl<'a> Reading<'a> {
     }
 }
 
-/// What is expected next, where a parenthesis is open or not.
+/// What is expected next in a clause, within an open parenthesis or not.
 #[derive(Clone, Copy)]
 pub struct Expected {
     /// What comes next.

@@ -4,7 +4,7 @@
 mod command_refusal;
 mod csv_fault;
 mod cures;
-mod front;
+mod file_kind;
 mod grammar;
 mod meaning;
 mod place;
@@ -18,6 +18,7 @@ mod tokens;
 
 pub use command_refusal::CommandRefusal;
 pub use csv_fault::{Fields, Wanted};
+pub use file_kind::KIND_BYTES;
 pub use pointer::Pointer;
 pub use quoted::{Printable, Quoted};
 pub use sentence::{Knowledge, Sentence, Words};

@@ -11,7 +11,7 @@ use crate::tokens::{
 use std::fmt;
 use table_model::{MAX_WORD, is_keyword, same_word};
 
-/// A text at the byte where it is refused.
+/// A text at the byte at which it is refused.
 #[derive(Clone, Copy)]
 pub struct Place<'a> {
     /// What has been read before it.
@@ -151,7 +151,7 @@ impl<'a> Place<'a> {
         }
     }
 
-    /// What to do instead of NULL and a truth value, where they are not possible.
+    /// What to do instead of NULL and a truth value, if they are not possible.
     fn advice_on_words(&self) -> Option<&'static str> {
         let is_truth = is_one_of(self.found, &[b"TRUE", b"FALSE", b"UNKNOWN"]);
         match self.reading.next {

@@ -12,7 +12,7 @@ pub struct Pointer<'a> {
 }
 
 impl<'a> Pointer<'a> {
-    /// Where a query is refused; none where the refusal names no place of the text.
+    /// The place at which a query is refused. None if the refusal names no place of the text.
     pub fn new(query: &'a str, refusal: Refusal) -> Option<Pointer<'a>> {
         let at = place_in_query(refusal)?;
         let at = usize::try_from(at).ok()?;
@@ -30,7 +30,7 @@ impl<'a> Pointer<'a> {
     }
 }
 
-/// The place in a query at which it is refused, in bytes from 0, where the refusal names one.
+/// The place in a query at which it is refused, in bytes from 0, if the refusal names one.
 fn place_in_query(refusal: Refusal) -> Option<u64> {
     match refusal {
         Refusal::Syntax(at)

@@ -2,7 +2,7 @@
 
 use crate::command_refusal::CommandRefusal;
 use crate::csv_fault::{Fields, write_fault_of_field, write_fault_of_heading};
-use crate::front::Front;
+use crate::file_kind::{of_no_csv, of_no_file};
 use crate::meaning::meaning_of;
 use crate::quoted::{Printable, Quoted};
 use crate::reason::{unread, unwritten};
@@ -23,6 +23,8 @@ pub enum Knowledge<'a> {
     Reason(ErrorKind),
     /// What to do instead, in words.
     Advice(&'a str),
+    /// The first bytes of the input.
+    Beginning(&'a [u8]),
     /// The line of the input, from 1.
     Line(u64),
     /// A line that has the wrong number of fields.
@@ -49,8 +51,8 @@ pub enum Knowledge<'a> {
     Rows(&'a Schema),
     /// The other input that has a batch of the same name.
     Other(&'a str),
-    /// The first bytes of an input of another format, at most 16.
-    Front(&'a [u8]),
+    /// That the input had a batch of the same name before.
+    Held,
     /// The table of the input, the one that it should have, and whose that is.
     Tables {
         found: &'a Schema,
@@ -239,7 +241,7 @@ impl<'a> Sentence<'a> {
                 let found = Table(found);
                 let wanted = Table(wanted);
                 let of = Printable(of);
-                write!(f, "this is of the table {found}, and {of} of {wanted}")?;
+                write!(f, "this holds the table {found}, but {of} holds {wanted}")?;
             }
             (CommandRefusal::Named(Refusal::Conflict(name)), Knowledge::Other(other)) => {
                 let other = Printable(other);
@@ -248,9 +250,8 @@ impl<'a> Sentence<'a> {
                     "this and {other} have a batch {name}, with different rows"
                 )?;
             }
-            (CommandRefusal::Named(Refusal::BadMagic), Knowledge::Front(bytes)) => {
-                let front = Front(bytes);
-                write!(f, "{front}")?;
+            (CommandRefusal::Named(Refusal::Conflict(name)), Knowledge::Held) => {
+                write!(f, "this has batch {name} already, with other rows")?;
             }
             (CommandRefusal::Named(Refusal::NoSuchColumn(_)), Knowledge::Name { name, schema }) => {
                 let name = Quoted(name.as_bytes());
@@ -263,8 +264,14 @@ impl<'a> Sentence<'a> {
             (CommandRefusal::Named(refusal), Knowledge::Text(text)) => {
                 return text.write_fault(refusal, f);
             }
-            (CommandRefusal::BadCsv { .. }, knowledge) => {
-                return write_fault_of_csv(knowledge, f);
+            (CommandRefusal::Named(Refusal::BadMagic), Knowledge::Beginning(input)) => {
+                match of_no_file(input) {
+                    Some(said) => f.write_str(said)?,
+                    None => return Ok(false),
+                }
+            }
+            (CommandRefusal::BadCsv { line, column }, knowledge) => {
+                return write_fault_of_csv(line == 1 && column <= 1, knowledge, f);
             }
             _ => return Ok(false),
         }
@@ -302,18 +309,36 @@ fn write_fault_of_rows<W: fmt::Write>(
 
 /// Writes what is wrong with a line of comma-separated values, or with one of its fields. Answers whether that is known.
 fn write_fault_of_csv<W: fmt::Write>(
+    is_first: bool,
     knowledge: Knowledge<'_>,
     f: &mut fmt::Formatter<W>,
 ) -> Result<bool, fmt::Error> {
+    if let Some(said) = knowledge.beginning(is_first).and_then(of_no_csv) {
+        f.write_str(said)?;
+        return Ok(true);
+    }
     match knowledge {
         Knowledge::Fields(fields) => write!(f, "{fields}")?,
         Knowledge::Field {
+            column,
             column_type,
             text,
-            ..
-        } => write_fault_of_field(column_type, text, f)?,
+        } => write_fault_of_field(column, column_type, text, f)?,
         Knowledge::Heading { text, schema } => write_fault_of_heading(text, schema, f)?,
         _ => return Ok(false),
     }
     Ok(true)
+}
+
+impl<'a> Knowledge<'a> {
+    /// The first bytes of the input, if what is refused is there.
+    fn beginning(&self, is_first: bool) -> Option<&'a [u8]> {
+        match *self {
+            Knowledge::Fields(fields) if is_first => Some(fields.line()),
+            Knowledge::Field { text, .. } | Knowledge::Heading { text, .. } if is_first => Some(
+                text,
+            ),
+            _ => None,
+        }
+    }
 }

@@ -32,7 +32,7 @@ pub fn is_of_a_text(refusal: Refusal) -> bool {
     )
 }
 
-/// The word after FROM; empty if there is none.
+/// The word after FROM; empty if nothing comes after it.
 fn table_of(text: &[u8]) -> &[u8] {
     let mut is_next = false;
     let mut rest = text.trim_ascii_start();
