@@ -24,7 +24,7 @@ fn asked(alloc: Global, words: &[&str]) -> Result<String, AllocError> {
     }
 }
 
-const REQUESTS: [(&[&str], &str); 40] = [
+const REQUESTS: [(&[&str], &str); 43] = [
     (&["run"], "Run { source: Input, is_explained: false }"),
     (&["run", "-"], "Run { source: Input, is_explained: false }"),
     (
@@ -37,6 +37,15 @@ const REQUESTS: [(&[&str], &str); 40] = [
         &["merge", "out", "a", "b", "c"],
         "Merge { out: \"out\", files: [\"a\", \"b\", \"c\"], is_quiet: false }",
     ),
+    (
+        &["spread", "t", "a", "b/"],
+        "Spread { file: \"t\", outs: [\"a\", \"b/\"], is_quiet: false }",
+    ),
+    (
+        &["spread", "--quiet", "t", "-"],
+        "Spread { file: \"t\", outs: [\"-\"], is_quiet: true }",
+    ),
+    (&["spread", "t"], "fault"),
     (
         &["merge", "-", "--x", "-b", "--help"],
         "Merge { out: \"-\", files: [\"--x\", \"-b\", \"--help\"], is_quiet: false }",

@@ -1,23 +1,20 @@
 -- What goes with some names and what goes with others are apart if no name goes both ways; so partial answers of shares are combined.
-use Rattle.std.specs.Prelude.{◌≡◌, ◌≤◌, ◌+◌, ℕ, zero, suc, Bool, true, false, cond, not, ◌==◌, nat_le, ◌&&◌, ◌||◌, List, [], ◌∷◌, length, Option, Some, None, is_some, map as each}
+use Rattle.std.specs.Prelude.{◌≡◌, ◌≤◌, ℕ, zero, suc, Bool, true, false, cond, not, ◌==◌, ◌&&◌, ◌||◌, List, length, Option, Some, None, is_some, map as each}
 use Rattle.std.proofs.Common.{refl, sym, ap, subst, ◌∙◌, arith}
 use Rattle.std.proofs.lemmas.Bool.{false≢true, and_parts, leb-true, eqb-true}
 use Rattle.std.specs.FinMap as map
 use Rattle.std.specs.FinSet as set
-use Rattle.std.specs.List.{list_any}
-use Rattle.std.specs.Ordering.{eq_by_cmp}
 use Rattle.table_model.specs.Meaning.{answer_of}
-use Rattle.table_model.specs.Name.{name_cmp}
 use Rattle.table_model.specs.Query.{QueryShape}
-use Rattle.table_model.specs.State.{State, Batch, join}
+use Rattle.table_model.specs.State.{State}
 use Rattle.table_model.specs.Table.{Table}
 use Rattle.table_model.specs.declared.names.BatchName.{BatchName}
 use Rattle.table_model.specs.declared.names.RowName.{RowName}
 use Rattle.table_model.proofs.NameOrder.{names_total}
-use Rattle.partial_answers.specs.Between.{is_between, IsFirstBetween}
+use Rattle.partial_answers.specs.Between.{is_between}
 use Rattle.partial_answers.specs.Counted.{Counted, held_of, strays_of, counted_of, gathered, may_be_combined, combined_with, if_apart}
 use Rattle.partial_answers.specs.PartialAnswer.{finish}
-use Rattle.partial_answers.specs.PartialAnswerLaws.{Apart, LeavesAlone, AreApart, One, Two, joined}
+use Rattle.partial_answers.specs.PartialAnswerLaws.{Apart, AreApart}
 use Rattle.partial_answers.proofs.FirstBetween.{none_combined}
 use Rattle.partial_answers.proofs.Names.{found_row, counted_laws}
 use Rattle.replica_store.specs.Replica.{names_of}

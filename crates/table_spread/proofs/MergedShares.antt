@@ -1,27 +1,22 @@
 -- The shares of a replica are merged one after another, and are the replica at last.
-use Rattle.std.specs.Prelude.{◌≡◌, ◌≤◌, ◌+◌, ℕ, zero, suc, Bool, true, false, cond, ◌==◌, nat_le, ◌&&◌, ◌||◌, List, [], ◌∷◌, length, filter, Option, Some, None, is_some, Result, Ok}
+use Rattle.std.specs.Prelude.{◌≡◌, ◌≤◌, ℕ, zero, suc, Bool, true, false, cond, ◌==◌, List, length, Option, Some, None, Result, Ok}
 use Rattle.std.proofs.Common.{refl, sym, ap, subst, ◌∙◌, arith}
-use Rattle.std.proofs.lemmas.Bool.{and_parts, eqb-true, false≢true}
 use Rattle.std.proofs.lemmas.List.Sums.{length-filter, count_by-le-length}
-use Rattle.std.specs.Cmp.{both_ways}
-use Rattle.std.specs.Ordering.{is_lt}
 use Rattle.std.specs.FinMap as map
 use Rattle.std.specs.FinMap.Entries.{where_key, is_sorted-where_key, find-where_key}
-use Rattle.std.specs.FinSet as set
 use Rattle.table_model.specs.Name.{name_cmp}
 use Rattle.table_model.specs.Reading.{◌>>=◌}
 use Rattle.table_model.specs.State.{State, Batch, Agree, join, union_of}
 use Rattle.table_model.specs.declared.names.BatchName.{BatchName}
-use Rattle.table_model.specs.declared.names.RowName.{RowName}
 use Rattle.table_model.specs.declared.refusal.Refusal.{Refusal}
-use Rattle.table_model.proofs.NameOrder.{names_total, exact_names}
+use Rattle.table_model.proofs.NameOrder.{exact_names}
 use Rattle.table_model.proofs.Joins.{same_maps}
-use Rattle.replica_store.specs.Replica.{Replica, names_of, merged, with_join, batch_limit}
-use Rattle.replica_store.proofs.Maps.{Sorted, as_map, get-as_map, len-as_map}
+use Rattle.replica_store.specs.Replica.{Replica, names_of, merged, batch_limit}
+use Rattle.replica_store.proofs.Maps.{as_map, get-as_map, len-as_map}
 use Rattle.replica_store.proofs.MergeAnswers.{merges}
-use Rattle.table_spread.specs.Spread.{run_of, share_at, of_names, share_of, share_in}
+use Rattle.table_spread.specs.Spread.{share_at, of_names, share_of, share_in}
 use Rattle.table_spread.specs.SpreadLaws.{merged_up_to}
-use Rattle.table_spread.proofs.Shares.{get-of_names, join-of_names, goes_up_to, joined_up_to, joined_all, up_to_none, up_to_more, of_all, up_to_all, share_at-le}
+use Rattle.table_spread.proofs.Shares.{get-of_names, join-of_names, goes_up_to, joined_up_to, joined_all, up_to_none, up_to_more}
 
 module _ {X : Type 0} where
   -- the entries whose names pass are the map of these names

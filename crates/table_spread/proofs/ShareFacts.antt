@@ -1,5 +1,5 @@
 -- What a share has.
-use Rattle.std.specs.Prelude.{◌≡◌, ◌≤◌, ℕ, zero, suc, Bool, true, false, cond, ◌==◌, ◌&&◌, List, [], ◌∷◌, length, is_some, Option, None}
+use Rattle.std.specs.Prelude.{◌≡◌, ◌≤◌, ℕ, suc, Bool, true, false, cond, ◌==◌, List, [], ◌∷◌, is_some, None}
 use Rattle.std.proofs.Common.{refl, sym, ap, ◌∙◌, arith, Less, Equal, Greater}
 use Rattle.std.proofs.lemmas.Bool.{false≢true, and_parts, eqb-true}
 use Rattle.std.specs.Ordering.{is_lt, ordering_reverse}
@@ -7,13 +7,13 @@ use Rattle.std.specs.declared.cmp.Ordering.{Ordering}
 use Rattle.std.specs.FinMap as map
 use Rattle.std.specs.FinSet as set
 use Rattle.table_model.specs.Name.{name_cmp}
-use Rattle.table_model.specs.State.{State, Batch}
+use Rattle.table_model.specs.State.{State}
 use Rattle.table_model.specs.declared.names.BatchName.{BatchName}
 use Rattle.table_model.specs.declared.names.RowName.{RowName}
 use Rattle.table_model.proofs.NameOrder.{names_total, exact_names}
 use Rattle.replica_store.specs.Replica.{names_of}
 use Rattle.replica_store.proofs.Names.{contains-names_of}
-use Rattle.table_spread.specs.Spread.{run_of, share_at, goes_to, of_names, share_of}
+use Rattle.table_spread.specs.Spread.{run_of, goes_to, share_of}
 use Rattle.table_spread.specs.SpreadLaws.{ShareLaws}
 use Rattle.table_spread.proofs.Shares.{get-of_names, contains-of_names, share_at-le}
 

@@ -1,12 +1,11 @@
 -- The batches of a run, with the deletions that go to its share, are the share.
-use Rattle.std.specs.Prelude.{◌≡◌, ◌≤◌, ℕ, Bool, true, false, cond, ◌==◌, List, length, filter, ◌++◌, Option, Some, None, is_some, Result, Ok, Err, IfOk}
-use Rattle.std.proofs.Common.{refl, sym, ap, subst, ◌∙◌, arith}
+use Rattle.std.specs.Prelude.{◌≡◌, ◌≤◌, ℕ, Bool, true, false, cond, ◌==◌, List, Option, Some, None, is_some, Result, Ok, Err, IfOk}
+use Rattle.std.proofs.Common.{refl, sym, ap, ◌∙◌, arith}
 use Rattle.std.proofs.lemmas.List.Elements.{All-filter}
 use Rattle.std.specs.List.{All}
 use Rattle.std.specs.Option.{option_map}
 use Rattle.std.specs.FinMap as map
 use Rattle.std.specs.FinMap.Entries.{where_key, is_sorted-where_key, find-where_key}
-use Rattle.std.specs.FinSet as set
 use Rattle.table_model.specs.Name.{name_cmp}
 use Rattle.table_model.specs.State.{Batch}
 use Rattle.table_model.specs.Table.{Table}

@@ -1,5 +1,5 @@
 -- What goes with some names and what goes with others is, joined, what goes with either.
-use Rattle.std.specs.Prelude.{◌≡◌, ◌⊎◌, ◌≤◌, ◌<◌, ℕ, zero, suc, Bool, true, false, cond, ◌==◌, nat_le, ◌&&◌, ◌||◌, List, [], ◌∷◌, length, filter, Option, Some, None, is_some}
+use Rattle.std.specs.Prelude.{◌≡◌, ◌⊎◌, ◌≤◌, ◌<◌, ℕ, zero, suc, Bool, true, false, cond, ◌==◌, nat_le, ◌&&◌, ◌||◌, List, [], ◌∷◌, length, filter, Option, Some, None}
 use Rattle.std.proofs.Common.{refl, sym, ap, ◌∙◌, inl, inr, arith}
 use Rattle.std.proofs.lemmas.Bool.{false≢true, or_right, le-leb, leb-true, eq-eqb, eqb-true, cases_lt}
 use Rattle.std.specs.Cmp.{both_ways}
@@ -8,13 +8,13 @@ use Rattle.std.specs.Ordering.{is_lt, eq_by_cmp}
 use Rattle.std.specs.FinMap as map
 use Rattle.std.specs.FinSet as set
 use Rattle.table_model.specs.Name.{name_cmp, row_name_cmp}
-use Rattle.table_model.specs.State.{State, Batch, join}
+use Rattle.table_model.specs.State.{State, join}
 use Rattle.table_model.specs.declared.names.BatchName.{BatchName}
 use Rattle.table_model.specs.declared.names.RowName.{RowName}
 use Rattle.table_model.proofs.NameOrder.{row_names_total, exact_names, exact_row_names}
 use Rattle.table_model.proofs.Operations.{same_row_name}
 use Rattle.table_model.proofs.Joins.{or_else, or_else-idempotent, get-union, same_states, same_maps}
-use Rattle.partial_answers.specs.PartialAnswerLaws.{Shards, One, Two, joined}
+use Rattle.partial_answers.specs.PartialAnswerLaws.{joined}
 use Rattle.replica_store.specs.Replica.{names_of}
 use Rattle.table_spread.specs.Spread.{run_of, share_at, deletions_of, of_names, share_of}
 use Rattle.table_spread.specs.SpreadLaws.{shares_up_to}

@@ -1,5 +1,5 @@
 -- The laws of shares: each batch and each deletion is in one of them, no two count a batch together, and joined they are the table.
-use Rattle.std.specs.Prelude.{◌≡◌, ◌≤◌, ℕ, zero, suc, false, true, cond, ◌==◌, ◌&&◌, List, [], ◌∷◌, length, Result, Ok, Some, None}
+use Rattle.std.specs.Prelude.{◌≡◌, ◌≤◌, ℕ, zero, suc, false, true, cond, ◌==◌, ◌&&◌, List, length, Result, Ok, Some, None}
 use Rattle.std.specs.Ordering.{is_lt}
 use Rattle.std.specs.FinMap as map
 use Rattle.std.specs.FinSet as set

@@ -1,5 +1,5 @@
 -- Each range whose batch goes to the share adds its rows, and in the end all ranges were looked at.
-use Rattle.std.specs.Prelude.{cond, take, length}
+use Rattle.std.specs.Prelude.{cond, take}
 use Rattle.std.proofs.Common.{◌≡◌, ◌+◌, sym, ap, ◌∙◌, arith, get_or}
 use Rattle.std.proofs.lemmas.List.{take_all}
 use Rattle.std.specs.FinSet as set

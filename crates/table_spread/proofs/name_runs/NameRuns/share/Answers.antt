@@ -1,8 +1,7 @@
 -- The copies and the deletions are the share.
 use Rattle.std.specs.Prelude.{◌≡◌, ◌==◌, Bool, false, cond, Result, Ok, Err}
-use Rattle.std.proofs.Common.{sym, ap, subst, ◌∙◌, arith}
+use Rattle.std.proofs.Common.{ap, subst, ◌∙◌, arith}
 use Rattle.std.proofs.lemmas.Bool.{ne_eqb}
-use Rattle.std.specs.FinMap as map
 use Rattle.table_model.specs.Outcome.{Gives}
 use Rattle.table_model.specs.declared.names.Origin.{Origin}
 use Rattle.table_model.specs.declared.refusal.Refusal.{Refusal}

@@ -1,6 +1,6 @@
 -- The share that was made is the one that is written.
-use Rattle.std.specs.Prelude.{◌≡◌, OnOk, Ok}
-use Rattle.std.proofs.Common.{sym, subst}
+use Rattle.std.specs.Prelude.{OnOk}
+use Rattle.std.proofs.Common.{subst}
 use Rattle.column_file.specs.Files.{canonical_file, OpensTo}
 use Rattle.replica_store.specs.Replica.{Replica}
 use Rattle.table_spread.specs.Spread.{share_in}
