@@ -50,7 +50,7 @@ pub fn put_judged<R: Files<File = File> + Clock + RandomSource + AllocGlobal + C
 }
 
 /// Gives the temporary its name.
-fn placed<R: Files<File = File> + Clock + RandomSource + AllocGlobal>(
+fn placed<R: Files<File = File> + Clock + RandomSource + AllocGlobal + Clone + Drop>(
     rt: &R,
     folder: &str,
     temporary: Temporary<'_, R>,

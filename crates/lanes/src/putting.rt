@@ -23,7 +23,7 @@ use table_model::Refusal;
 const TRIES: u32 = 100;
 
 /// Puts these bytes into a folder as a part, unless the folder has it already. Answers how the folder was synced.
-pub fn put_part<R: Files<File = File> + Clock + RandomSource + AllocGlobal>(
+pub fn put_part<R: Files<File = File> + Clock + RandomSource + AllocGlobal + Clone + Drop>(
     rt: &R,
     folder: &str,
     bytes: &[u8],
@@ -119,7 +119,7 @@ pub fn written<'r, R: Files<File = File> + RandomSource + AllocGlobal>(
 }
 
 /// Gives a temporary, which has these bytes, the name of the part that it is. None if a part that had the name before is gone since.
-pub fn place<R: Files<File = File> + Clock + RandomSource + AllocGlobal>(
+pub fn place<R: Files<File = File> + Clock + RandomSource + AllocGlobal + Clone + Drop>(
     rt: &R,
     folder: &str,
     temporary: Temporary<'_, R>,
@@ -136,7 +136,7 @@ pub fn place<R: Files<File = File> + Clock + RandomSource + AllocGlobal>(
 }
 
 /// Has a part on the disk that is there already with these bytes. None if it is gone.
-pub fn keep_part<R: Files<File = File> + Clock + AllocGlobal>(
+pub fn keep_part<R: Files<File = File> + Clock + AllocGlobal + Clone + Drop>(
     rt: &R,
     folder: &str,
     name: &str,
