@@ -44,7 +44,7 @@ pub fn spread<
         match make_share(rt, &runs, store, index, *out) {
             Ok(output) => made.push(output)?,
             Err(failure) => {
-                remove_all(rt, made);
+                remove_all(rt, made.as_slice());
                 return Err(failure);
             }
         }
@@ -115,9 +115,11 @@ impl Made {
 }
 
 /// Removes the outputs that were made, the last one first.
-fn remove_all<R: Files>(rt: &R, mut made: Vec<Made>) {
-    while let Some(output) = made.pop() {
-        output.remove(rt);
+fn remove_all<R: Files>(rt: &R, made: &[Made]) {
+    for later in 0..made.len() {
+        if let Some(output) = made.get(made.len() - 1 - later) {
+            output.remove(rt);
+        }
     }
 }
 
