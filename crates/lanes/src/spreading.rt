@@ -39,7 +39,7 @@ pub fn spread<
     are_free(rt, outs)?;
     let store = held.store();
     let runs = NameRuns::of(rt.alloc(), store, outs.len().max(1))?;
-    let mut made = Vec::new(rt.alloc());
+    let mut made = Vec::with_capacity(rt.alloc(), outs.len())?;
     for (index, out) in outs.iter().enumerate() {
         match make_share(rt, &runs, store, index, *out) {
             Ok(output) => made.push(output)?,
