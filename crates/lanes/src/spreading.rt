@@ -39,6 +39,9 @@ pub fn spread<
     are_free(rt, outs)?;
     let store = held.store();
     let runs = NameRuns::of(rt.alloc(), store, outs.len().max(1))?;
+    let files = outs.len();
+    let batches = store.batches();
+    let line = format!(in rt.alloc(); "ok files={files} batches={batches}\n")?;
     let mut made = Vec::with_capacity(rt.alloc(), outs.len())?;
     for (index, out) in outs.iter().enumerate() {
         match make_share(rt, &runs, store, index, *out) {
@@ -52,9 +55,6 @@ pub fn spread<
     if is_quiet {
         return Ok(());
     }
-    let files = outs.len();
-    let batches = store.batches();
-    let line = format!(in rt.alloc(); "ok files={files} batches={batches}\n")?;
     write_line(rt, line.as_bytes())
 }
 
