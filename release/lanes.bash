@@ -3,7 +3,7 @@ _lanes() {
     local word=${COMP_WORDS[COMP_CWORD]} before=${COMP_WORDS[COMP_CWORD - 1]} options=
     COMPREPLY=()
     if [ "$COMP_CWORD" = 1 ]; then
-        mapfile -t COMPREPLY < <(compgen -W 'create import query partial combine finish delete delete-rows forget dump inspect summary offer apply check merge pack run help --help --version' -- "$word")
+        mapfile -t COMPREPLY < <(compgen -W 'create import query partial combine finish delete delete-rows forget dump inspect summary offer apply check merge spread pack run help --help --version' -- "$word")
         return
     fi
     case $before in
@@ -31,6 +31,7 @@ _lanes() {
         apply) options='--quiet --help' ;;
         check) options='--help' ;;
         merge) options='--quiet --help' ;;
+        spread) options='--quiet --help' ;;
         pack) options='--all --quiet --help' ;;
         run) options='--explain --help' ;;
     esac

@@ -136,7 +136,7 @@ def what_is_there_is_not_replaced(room):
     # The file is judged first.
     room.put("bad", held[:-1])
     room.refused("spread", "bad", "t", line=f"refused Truncated {len(held) - 1}")
-    room.refused("spread", "none", "t", "t", line="refused ReadFault", sentence="none: there is no such file or folder")
+    room.refused("spread", "none", "t", "t", line="refused ReadFault", sentence="none: no such file or folder")
     assert room.get("t") == held
 
 

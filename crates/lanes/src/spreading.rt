@@ -39,12 +39,15 @@ pub fn spread<
     are_free(rt, outs)?;
     let store = held.store();
     let runs = NameRuns::of(rt.alloc(), store, outs.len().max(1))?;
-    let mut made = Vec::new(rt.alloc());
+    let files = outs.len();
+    let batches = store.batches();
+    let line = format!(in rt.alloc(); "ok files={files} batches={batches}\n")?;
+    let mut made = Vec::with_capacity(rt.alloc(), outs.len())?;
     for (index, out) in outs.iter().enumerate() {
         match make_share(rt, &runs, store, index, *out) {
             Ok(output) => made.push(output)?,
             Err(failure) => {
-                remove_all(rt, made);
+                remove_all(rt, made.as_slice());
                 return Err(failure);
             }
         }
@@ -52,9 +55,6 @@ pub fn spread<
     if is_quiet {
         return Ok(());
     }
-    let files = outs.len();
-    let batches = store.batches();
-    let line = format!(in rt.alloc(); "ok files={files} batches={batches}\n")?;
     write_line(rt, line.as_bytes())
 }
 
@@ -115,9 +115,11 @@ impl Made {
 }
 
 /// Removes the outputs that were made, the last one first.
-fn remove_all<R: Files>(rt: &R, mut made: Vec<Made>) {
-    while let Some(output) = made.pop() {
-        output.remove(rt);
+fn remove_all<R: Files>(rt: &R, made: &[Made]) {
+    for later in 0..made.len() {
+        if let Some(output) = made.get(made.len() - 1 - later) {
+            output.remove(rt);
+        }
     }
 }
 

@@ -7,15 +7,19 @@ use Rattle.std.specs.FinMap.Entries.{where_key, is_sorted-where_key, find-where_
 use Rattle.table_model.specs.Name.{name_cmp}
 use Rattle.table_model.specs.Reading.{◌>>=◌}
 use Rattle.table_model.specs.State.{State, Batch, Agree, join, union_of}
+use Rattle.table_model.specs.Table.{Table}
 use Rattle.table_model.specs.declared.names.BatchName.{BatchName}
 use Rattle.table_model.specs.declared.refusal.Refusal.{Refusal}
 use Rattle.table_model.proofs.NameOrder.{exact_names}
 use Rattle.table_model.proofs.Joins.{same_maps}
+use Rattle.column_file.specs.Files.{canonical_file, opened_from, HasFile}
+use Rattle.column_file.proofs.FileLaws.{files_open}
+use Rattle.replica_store.specs.Exchange.{OfferForm, offering}
 use Rattle.replica_store.specs.Replica.{Replica, names_of, merged, batch_limit}
 use Rattle.replica_store.proofs.Maps.{as_map, get-as_map, len-as_map}
 use Rattle.replica_store.proofs.MergeAnswers.{merges}
 use Rattle.table_spread.specs.Spread.{share_at, of_names, share_of, share_in}
-use Rattle.table_spread.specs.SpreadLaws.{merged_up_to}
+use Rattle.table_spread.specs.SpreadLaws.{merged_up_to, held_up_to}
 use Rattle.table_spread.proofs.Shares.{get-of_names, join-of_names, goes_up_to, joined_up_to, joined_all, up_to_none, up_to_more}
 
 module _ {X : Type 0} where
@@ -78,3 +82,23 @@ module _ (firsts : List BatchName) (r : Replica) (limit : map.len r.state.batche
 
   pub merged_all : (n : ℕ) → length firsts ≤ n → merged_up_to firsts r n ≡ Ok r
   merged_all n le = merged_so_far n ∙ ap (λ (s : State). Ok (record { schema = r.schema; own = r.own; state = s })) (sym (joined_up_to firsts r.state n) ∙ joined_all firsts r.state n le)
+
+-- the file of a state is opened to it
+opened_file : (table : Table) (state : State) → HasFile table state → opened_from (record { 0 = 1 }) (canonical_file table state) ≡ Ok (record { schema = table; own = record { 0 = 1 }; state = state })
+opened_file table state has =
+    let opens = files_open table state has in
+    ap (λ (read : Result OfferForm Refusal). read >>= λ o. Ok (offering (record { 0 = 1 }) o)) opens.1
+    ∙ (λ i. Ok (record { schema = opens.2 i; own = record { 0 = 1 }; state = opens.3 i }))
+
+module _ (firsts : List BatchName) (table : Table) (s : State) (written : (index : ℕ) → HasFile table (share_of firsts index s)) where
+  abbrev whole : Replica
+  whole = record { schema = table; own = record { 0 = 1 }; state = s }
+
+  held_so_far : (n : ℕ) → held_up_to firsts table s n ≡ merged_up_to firsts whole n
+  held_so_far zero = opened_file table (share_of firsts 0 s) (written 0)
+  held_so_far (suc n) =
+      ap (λ (held : Result Replica Refusal). held >>= λ before. opened_from (record { 0 = 1 }) (canonical_file table (share_of firsts (suc n) s)) >>= λ other. merged before other >>= λ done. Ok done.1) (held_so_far n)
+      ∙ ap (λ (opened : Result Replica Refusal). merged_up_to firsts whole n >>= λ before. opened >>= λ other. merged before other >>= λ done. Ok done.1) (opened_file table (share_of firsts (suc n) s) (written (suc n)))
+
+  pub held_all : (n : ℕ) → map.len s.batches ≤ batch_limit → length firsts ≤ n → held_up_to firsts table s n ≡ Ok whole
+  held_all n limit le = held_so_far n ∙ merged_all firsts whole limit n le

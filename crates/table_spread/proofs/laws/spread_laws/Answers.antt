@@ -2,7 +2,7 @@
 use Rattle.table_spread.proofs.Shares.{joined_all}
 use Rattle.table_spread.proofs.ShareFacts.{share_facts}
 use Rattle.table_spread.proofs.ApartShares.{are_apart, gathers, answers}
-use Rattle.table_spread.proofs.MergedShares.{merged_all}
+use Rattle.table_spread.proofs.MergedShares.{merged_all, held_all}
 use Rattle.table_spread.proofs.laws.spread_laws.Goals as goal
 
 pub returns : goal.returns
@@ -13,4 +13,5 @@ returns c = record {
   gathers = λ table query firsts s n le. gathers firsts s table query n le;
   answers = λ table query firsts s n c le is. answers firsts s table query n c le is;
   merges = λ firsts r n limit le. merged_all firsts r limit n le;
+  files = λ firsts table s n limit le written. held_all firsts table s written n limit le;
 }
