@@ -8,7 +8,7 @@ use Rattle.replica_store.specs.Replica.{Replica, delete_fault, deleted_rows, unl
 use Rattle.replica_files.specs.Commands.{Changes, file_of, held_in}
 use Rattle.replica_files.specs.declared.deleting.DeletedRows.{DeletedRows}
 use Rattle.replica_files.proofs.CommandSteps.{own_one}
-use Rattle.file_commands.specs.HeldRows.{deleted_if_held, holds}
+use Rattle.file_commands.specs.HeldDeletes.{deleted_if_held, holds}
 use Rattle.file_commands.specs.declared.held_rows.HeldRows.{HeldRows}
 
 pub ok_one : {X : Type 0} (x y : X) → ◌≡◌ {A = Result X Refusal} (Ok x) (Ok y) → x ≡ y
