@@ -1,2 +1,2 @@
 pub mod CrashProofs
-pub mod HeldRows
+pub mod HeldDeletes

@@ -1,3 +1,3 @@
 pub mod Finished
 pub mod CrashLaws
-pub mod HeldRows
+pub mod HeldDeletes

@@ -6,7 +6,7 @@ ghost use Rattle.file_replacing.specs.Safe.{StaysOld};
 ghost use Rattle.replica_store.specs.Replica.{Replica};
 ghost use Rattle.replica_files.specs.Commands.{Changes, held_in};
 ghost use Rattle.file_commands.specs.CrashLaws.{BeforeOrAfter, HasAnswered};
-ghost use Rattle.file_commands.specs.HeldRows.{deleted_if_held, holds};
+ghost use Rattle.file_commands.specs.HeldDeletes.{deleted_if_held, holds};
 
 use crate::Outcome;
 use crate::deleting::rows_deleted;

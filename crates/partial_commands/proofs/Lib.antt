@@ -7,3 +7,4 @@ pub mod Trees
 pub mod FirstMissing
 pub mod Expectations
 pub mod ExpectedAnswers
+pub mod CoverageTexts

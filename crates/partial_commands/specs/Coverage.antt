@@ -34,9 +34,13 @@ run_pair r = codes "[\"" ++ (name_text r.first ++ (codes "\",\"" ++ (name_text (
 abbrev pub run_lines : Names → List ℕ
 run_lines names = flat_map run_line (runs_of names)
 
--- the same as a list of JSON
+-- runs as a list of JSON
+abbrev pub pair_list : List Run → List ℕ
+pair_list runs = codes "[" ++ (separated (codes ",") (each run_pair runs) ++ codes "]")
+
+-- the maximal runs of a set of names as a list of JSON
 abbrev pub run_pairs : Names → List ℕ
-run_pairs names = codes "[" ++ (separated (codes ",") (each run_pair (runs_of names)) ++ codes "]")
+run_pairs names = pair_list (runs_of names)
 
 -- ---- the query
 

@@ -15,25 +15,27 @@ use std::alloc::{AllocError, Global};
 use std::io::Write;
 use table_model::{Counted, Refusal};
 
-/// The table and the query of a partial answer.
-fn table_and_query(
-    alloc: Global,
+/// Puts the table and the query of a partial answer behind a text.
+fn push_table_and_query(
+    out: &mut Vec<u8>,
     table: &str,
     query: &str,
     form: ReportForm,
-) -> Result<Vec<u8>, AllocError>
-    ensures { IfOk result (λ text. text.items ≡ table_and_query form table.now query.now) }
+) -> Result<(), AllocError>
+    ensures { OnOk result (out.new.items ≡ out.old.items ++ table_and_query form table.now query.now) }
 {
     match form {
         ReportForm::Text => {
-            let mut out = format!(in alloc; "table {table}\nquery ")?.into_bytes();
-            push_shown(&mut out, query.as_bytes())?;
-            Ok(out)
+            out.extend_from_slice(b"table ")?;
+            out.extend_from_slice(table.as_bytes())?;
+            out.extend_from_slice(b"\nquery ")?;
+            push_shown(out, query.as_bytes())
         }
         ReportForm::Json => {
-            let mut out = format!(in alloc; "{{\"table\":\"{table}\",\"query\":\"")?.into_bytes();
-            push_json(&mut out, query.as_bytes())?;
-            Ok(out)
+            out.extend_from_slice(b"{\"table\":\"")?;
+            out.extend_from_slice(table.as_bytes())?;
+            out.extend_from_slice(b"\",\"query\":\"")?;
+            push_json(out, query.as_bytes())
         }
     }
 }
@@ -86,7 +88,8 @@ fn partial_answer_coverage(
 {
     let groups = partial.groups().len();
     let batches = partial.held().len();
-    let mut out = table_and_query(alloc, partial.schema().table(), partial.text(), form)?;
+    let mut out = Vec::new(alloc);
+    push_table_and_query(&mut out, partial.schema().table(), partial.text(), form)?;
     let counts = groups_and_batches(alloc, groups, batches, form)?;
     out.extend_from_slice(counts.as_bytes())?;
     push_held_and_strays(alloc, &mut out, partial.held(), partial.strays(), form)?;

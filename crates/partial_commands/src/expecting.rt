@@ -59,7 +59,8 @@ fn expect(
     if !are_of_table(partial.schema(), summaries) {
         return Err(ExpectationError::SchemaDiffers);
     }
-    match first_missing(alloc, partial.held(), summaries)? {
+    let missing = first_missing(alloc, partial.held(), summaries)?;
+    match missing {
         Some(name) => Err(ExpectationError::Missing(name)),
         None => Ok(()),
     }

@@ -2,7 +2,7 @@
 ghost use Rattle.std.specs.Prelude.{◌≡◌, ◌++◌, ◌==◌, [], codes, cond, map, IfOk, OnOk};
 ghost use Rattle.std.specs.List.{flat_map};
 ghost use Rattle.answer_formats.specs.Formats.{separated};
-ghost use Rattle.partial_commands.specs.Coverage.{last_of, run_line, run_lines, run_pair, run_pairs};
+ghost use Rattle.partial_commands.specs.Coverage.{last_of, pair_list, run_line, run_lines, run_pair, run_pairs};
 
 use catalogue_join::{Held, Run};
 use std::alloc::{AllocError, Global};
@@ -80,6 +80,15 @@ fn push_pairs(alloc: Global, out: &mut Vec<u8>, runs: &[Run]) -> Result<(), Allo
     Ok(())
 }
 
+/// Puts runs as a list of JSON behind a text.
+fn push_pair_list(alloc: Global, out: &mut Vec<u8>, runs: &[Run]) -> Result<(), AllocError>
+    ensures { OnOk result (out.new.items ≡ out.old.items ++ pair_list runs.now) }
+{
+    out.extend_from_slice(b"[")?;
+    push_pairs(alloc, out, runs)?;
+    out.extend_from_slice(b"]")
+}
+
 /// Puts the maximal runs of a set of names as a list of JSON behind a text.
 pub(crate) fn push_run_pairs(
     alloc: Global,
@@ -88,7 +97,5 @@ pub(crate) fn push_run_pairs(
 ) -> Result<(), AllocError>
     ensures { OnOk result (out.new.items ≡ out.old.items ++ run_pairs names.now) }
 {
-    out.extend_from_slice(b"[")?;
-    push_pairs(alloc, out, names.runs())?;
-    out.extend_from_slice(b"]")
+    push_pair_list(alloc, out, names.runs())
 }

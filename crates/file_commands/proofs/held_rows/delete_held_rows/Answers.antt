@@ -2,7 +2,7 @@ use Rattle.std.specs.Prelude.{◌≢◌, ℕ, List, ◌==◌, not, Ok}
 use Rattle.std.proofs.Common.{ap, sym, refl, ◌∙◌, Bor}
 use Rattle.std.proofs.lemmas.Result.{err_from_is_err_and}
 use Rattle.replica_store.specs.Replica.{Replica}
-use Rattle.file_commands.specs.HeldRows.{deleted_if_held}
+use Rattle.file_commands.specs.HeldDeletes.{deleted_if_held}
 use Rattle.file_commands.specs.declared.held_rows.HeldRows.{HeldRows}
 use Rattle.file_replacing.proofs.LongerNames.{longer_is_other}
 use Rattle.file_replacing.proofs.Locks.{stays_old}

@@ -4,7 +4,7 @@ use Rattle.std.specs.FinSet as set
 use Rattle.table_model.specs.Name.{name_cmp}
 use Rattle.replica_store.specs.Exchange.{SummaryForm, summary_of}
 use Rattle.replica_store.specs.Replica.{Replica, names_of}
-use Rattle.file_commands.proofs.HeldRows.{ok_one}
+use Rattle.file_commands.proofs.HeldDeletes.{ok_one}
 use Rattle.file_commands.proofs.held_rows.holds.Goals as goal
 
 pub returns : goal.returns

@@ -8,14 +8,14 @@ use Rattle.replica_store.specs.Replica.{Replica, delete_fault, deleted_rows, unl
 use Rattle.replica_files.specs.Commands.{Changes, file_of, held_in}
 use Rattle.replica_files.specs.declared.deleting.DeletedRows.{DeletedRows}
 use Rattle.replica_files.proofs.CommandSteps.{own_one}
-use Rattle.file_commands.specs.HeldRows.{deleted_if_held, holds}
+use Rattle.file_commands.specs.HeldDeletes.{deleted_if_held, holds}
 use Rattle.file_commands.specs.declared.held_rows.HeldRows.{HeldRows}
 
 pub ok_one : {X : Type 0} (x y : X) → ◌≡◌ {A = Result X Refusal} (Ok x) (Ok y) → x ≡ y
 ok_one x y e = cc
 
 -- a delete that is made has no fault, and makes what it says
-unfaulted : (fault : Option Refusal) (made new : Replica) → unless_fault fault (Ok (tt, made)) ≡ Ok (tt, new) → (fault ≡ None) × (made ≡ new)
+unfaulted : (fault : Option Refusal) (made new : Replica) → unless_fault {X = Unit {0} × Replica} fault (Ok (tt, made)) ≡ Ok (tt, new) → (fault ≡ None) × (made ≡ new)
 unfaulted None made new is = (refl, ap (λ (p : Unit {0} × Replica). p.1) (ok_one (tt, made) (tt, new) is))
 unfaulted (Some e) made new is = absurd cc
 
@@ -25,27 +25,27 @@ module _ (first : RowName) (last : ℕ) (file written : List ℕ) (d : DeletedRo
   old = changes.0
 
   abbrev new : Replica
-  new = changes.1.0
+  new = changes.1
 
   made : (delete_fault first last ≡ None) × (with_deleted old (rows_between first last) ≡ new)
-  made = unfaulted (delete_fault first last) (with_deleted old (rows_between first last)) new changes.1.1.1.1.0
+  made = unfaulted (delete_fault first last) (with_deleted old (rows_between first last)) new changes.4
 
   chosen : (b : Bool) → holds old first.batch ≡ b → deleted_if_held old first last ≡ cond b (Ok (true, new)) (Ok (false, old))
-  chosen b is = λ i. unless_fault (made.0 i) (cond (is i) (Ok (true, made.1 i)) (Ok (false, old)))
+  chosen b is = λ i. unless_fault {X = Bool × Replica} (made.0 i) (cond (is i) (Ok (true, made.1 i)) (Ok (false, old)))
 
   -- the batch is held
   pub held_changes : ((r : Replica) → held_in file ≡ Ok r → true ≡ holds r first.batch)
       → Changes {X = HeldRows} (λ (a : HeldRows). a.is_held) (λ (a : HeldRows). a.is_changed) (Ok (record { is_held = true; is_changed = d.is_changed })) (Some file) (Some []) (Some written) (λ (r : Replica). deleted_if_held r first last)
   held_changes has =
-      let held : held_in file ≡ Ok old = changes.1.1.1.0 in
-      (old, new, changes.1.1.0, held, chosen true (sym (has old held)), changes.1.1.1.1.1)
+      let held : held_in file ≡ Ok old = changes.3 in
+      (old, new, changes.2, held, chosen true (sym (has old held)), changes.5, changes.6, changes.7)
 
   -- it isn't
   pub absent_changes : (now : List ℕ) → now ≡ [] → ((r : Replica) → held_in file ≡ Ok r → false ≡ holds r first.batch)
       → Changes {X = HeldRows} (λ (a : HeldRows). a.is_held) (λ (a : HeldRows). a.is_changed) (Ok (record { is_held = false; is_changed = false })) (Some file) (Some []) (Some now) (λ (r : Replica). deleted_if_held r first last)
   absent_changes now empty lacks =
-      let held : held_in file ≡ Ok old = changes.1.1.1.0 in
-      let same : file ≡ file_of old = changes.1.1.0 in
+      let held : held_in file ≡ Ok old = changes.3 in
+      let same : file ≡ file_of old = changes.2 in
       let again : held_in (file_of old) ≡ Ok old = sym (ap held_in same) ∙ held in
       let own = own_one file old held in
-      (old, old, same, held, chosen false (sym (lacks old held)), ((λ i. Some (empty i)), same), again ∙ (λ i. let o : Result Replica Refusal = Ok (own i) in o), ((λ _. refl), (λ _. refl)))
+      (old, old, same, held, chosen false (sym (lacks old held)), (ap (λ (l : List ℕ). let some : Option (List ℕ) = Some l in some) empty, same), again ∙ (λ i. let o : Result Replica Refusal = Ok (own i) in o), ((λ _. refl), (λ _. refl)))
