@@ -23,6 +23,7 @@ use Rattle.column_file.specs.Input.{IsUnread}
 use Rattle.replica_store.specs.Exchange.{OfferForm, SummaryForm, empty_summary, offered, offering, opened, unlisted, unlisted_state}
 use Rattle.replica_store.specs.Forgets.{forgotten_batches}
 use Rattle.replica_store.specs.Replica.{Replica, deleted_names, with_deleted}
+use Rattle.replica_store.specs.Segments.{StoreForm}
 use Rattle.replica_store.proofs.Offers.{get-unlisted}
 use Rattle.replica_files.specs.Commands.{Made, Makes, applying, deleting}
 use Rattle.replica_files.specs.Loads.{LoadForm}
@@ -106,7 +107,7 @@ either_memory e made (inr lack) = inr lack.0
 pub copy_is : (r copy : Replica) → ◌≡◌ {A = Result Replica Refusal} (Ok r) (Ok copy) → copy ≡ r
 copy_is r copy is = let same : r ≡ copy = cc in sym same
 
-pub copy_lacks : (r : Replica) (e : Refusal) (meaning : Result Replica Refusal) → (◌≡◌ {A = Result Replica Refusal} (Ok r) (Err e)) ⊎ ((e ≡ Memory) × IsOk {A = Replica} {B = Refusal} (Ok r)) → Yields {X = Replica} (Err (told e)) meaning
+pub copy_lacks : (r : Replica) (e : Refusal) (meaning : Result Replica Refusal) → Gives {X = StoreForm} (λ (s : StoreForm). s.replica) (Err e) (Ok r) → Yields {X = Replica} (Err (told e)) meaning
 copy_lacks r e meaning why = change_refused e meaning (inr (lacks r e (Ok r) refl why))
 
 -- rows that a condition finds
