@@ -304,7 +304,7 @@ size_t lanes_batches(lanes_table *table);
  * name, and at most `count` of them. So a table is read in pieces, and the first row costs a batch. A batch has at most 65,536 rows.
  * All pieces of the batches from 0 to lanes_batches, one after another, are the rows that lanes_columns gives.
  *
- * Gives and refused: as lanes_columns. Where no batch is left, *rows is 0. */
+ * Gives and refused: as lanes_columns. When no batch is left, *rows is 0. */
 uint8_t lanes_columns_between(lanes_table *table, size_t first, size_t count, const uint8_t *names, size_t names_length,
                               const uint8_t *condition, size_t condition_length, int64_t *values, size_t values_room, uint8_t *valid,
                               size_t valid_room, uint64_t *nulls, size_t nulls_room, size_t *rows, lanes_place *place);
@@ -345,7 +345,7 @@ uint8_t lanes_table_delete(lanes_table *table, const uint8_t *condition, size_t 
 /* Deletes the rows of the batch origin.number from the ordinal `first` to `last`, both included. The batch may be one that isn't there:
  * its rows are deleted when it comes.
  *
- * Refused, in this order: LANES_NOT_OPEN when the handle is closed; LANES_BAD_NAME where origin or number is 0; LANES_BAD_RANGE where
+ * Refused, in this order: LANES_NOT_OPEN when the handle is closed; LANES_BAD_NAME when origin or number is 0; LANES_BAD_RANGE when
  * last is less than first. */
 uint8_t lanes_table_delete_rows(lanes_table *table, uint32_t origin, uint32_t number, uint16_t first, uint16_t last, lanes_place *place);
 

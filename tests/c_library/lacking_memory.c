@@ -5,7 +5,7 @@
 extern void *__libc_malloc(size_t size);
 extern void *__libc_realloc(void *block, size_t size);
 
-/* How many growths are still given before one is refused; none is refused where it is negative. */
+/* How many growths are still given before one is refused; none is refused if it is negative. */
 static long left = -1;
 
 static bool is_given(void) {

@@ -23,14 +23,16 @@ use Rattle.column_file.specs.Input.{IsUnread}
 use Rattle.replica_store.specs.Exchange.{OfferForm, SummaryForm, empty_summary, offered, offering, opened, unlisted, unlisted_state}
 use Rattle.replica_store.specs.Forgets.{forgotten_batches}
 use Rattle.replica_store.specs.Replica.{Replica, deleted_names, with_deleted}
+use Rattle.replica_store.specs.Segments.{StoreForm}
 use Rattle.replica_store.proofs.Offers.{get-unlisted}
 use Rattle.replica_files.specs.Commands.{Made, Makes, applying, deleting}
 use Rattle.replica_files.specs.Loads.{LoadForm}
 use Rattle.replica_files.proofs.StoreCommands.{deletes_ok, only_memory}
 use Rattle.store_view.specs.Asked.{condition_names}
 use Rattle.lanes_c.specs.Calls.{Asks, Yields}
-use Rattle.lanes_c.specs.Faults.{told}
+use Rattle.lanes_c.specs.Faults.{nowhere, told}
 use Rattle.lanes_c.specs.Importing.{LoadsText}
+use Rattle.lanes_c.specs.Opened.{IsToldAs}
 use Rattle.lanes_c.specs.TableChanges.{Changed, ChangesOpen, ImportsText, IsShared, TellsChange, left_open, replica_made, with_load, with_offer, without_dead}
 use Rattle.lanes_c.specs.declared.fault.Fault.{Fault}
 use Rattle.lanes_c.specs.declared.fault.Fault.TheVariants.{NotOpen, Refused}
@@ -105,7 +107,7 @@ either_memory e made (inr lack) = inr lack.0
 pub copy_is : (r copy : Replica) → ◌≡◌ {A = Result Replica Refusal} (Ok r) (Ok copy) → copy ≡ r
 copy_is r copy is = let same : r ≡ copy = cc in sym same
 
-pub copy_lacks : (r : Replica) (e : Refusal) (meaning : Result Replica Refusal) → (◌≡◌ {A = Result Replica Refusal} (Ok r) (Err e)) ⊎ ((e ≡ Memory) × IsOk {A = Replica} {B = Refusal} (Ok r)) → Yields {X = Replica} (Err (told e)) meaning
+pub copy_lacks : (r : Replica) (e : Refusal) (meaning : Result Replica Refusal) → Gives {X = StoreForm} (λ (s : StoreForm). s.replica) (Err e) (Ok r) → Yields {X = Replica} (Err (told e)) meaning
 copy_lacks r e meaning why = change_refused e meaning (inr (lacks r e (Ok r) refl why))
 
 -- rows that a condition finds
@@ -154,6 +156,13 @@ text_imported (Ok new) load first words text has_heading r loads h = (load, load
 text_imported (Err fault) load first words text has_heading r loads h = inr (load, loads, h)
 
 -- ---- what a handle has
+
+-- a handle that has what a change made, or what it had
+pub change_done : (made : Changed) (number : ℕ) (r x : Replica) (is : Option Replica) (at : Place) → IsShared made (Ok x) → number ≡ 0 → is ≡ Some x → at ≡ nowhere → TellsChange (λ given. IsShared made given) number (Some r) is at
+change_done made number r x is at meant zero has none = record { given = Ok x; meant = meant; number_is = zero; replica = has; place = none }
+
+pub change_undone : (made : Changed) (number : ℕ) (r : Replica) (fault : Fault) (is : Option Replica) (at : Place) → IsShared made (Err fault) → IsToldAs fault number at → is ≡ Some r → TellsChange (λ given. IsShared made given) number (Some r) is at
+change_undone made number r fault is at meant told has = record { given = Err fault; meant = meant; number_is = told.0; replica = has; place = told.1 }
 
 -- what was told of a handle that was open
 pub told_open : (Means : Replica → Changed → Type 0) (made : Changed) (number : ℕ) (old new : Table) (r : Replica) (at : Place) → old.replica ≡ Some r → Means r made → ((x : Replica) → Means r (Ok x) → Means r (Err (Refused Memory)))

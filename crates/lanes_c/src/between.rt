@@ -12,7 +12,7 @@ use std::alloc::{AllocError, Global};
 use table_model::Condition;
 
 /// Some of a table's batches, in ascending order of name: from a place on, which counts from 0, at most a number of them.
-#[derive(Clone, Copy, Debug)]
+#[derive(Clone, Copy)]
 pub(crate) struct BatchRange {
     pub first: usize,
     pub count: usize,

@@ -1,5 +1,5 @@
 -- The vectors of the first of these batches are added.
-use Rattle.std.proofs.Common.{◌≡◌}
+use Rattle.std.proofs.Common.{◌≡◌, ◌≤◌, min}
 use Rattle.live_columns.specs.Chosen.{AreThere, rows_in}
 use Rattle.lanes_c.specs.Between.{rows_between}
 use Rattle.lanes_c.proofs.between.rows_between.Given as goal
@@ -10,6 +10,7 @@ invariant-loop-step g l =
     let table = (g.C.Columns.seen l.initial.columns).table in
     record {
       rows : rows_in s l.vectors.items ≡ rows_between table l.condition s l.first l.step;
+      most : l.step ≤ min l.count l.left;
       there : AreThere s l.vectors.items;
       table : (g.C.Columns.seen l.columns).table ≡ table;
       state : (g.C.Columns.seen l.columns).state ≡ s;

@@ -12,12 +12,12 @@ use Rattle.lanes_c.proofs.table_changes.copy_of.Goals as goal
 pub returns-in_err-nothing : goal.returns-in_err-nothing
 returns-in_err-nothing c =
     let p = err_from_is_err_and c.from_residual.result c.from_residual.ensures.1 in
-    rw (p.1, p.2) (inr (lacks _ c.in_err-nothing.field-0.0 _ refl c.in_err-nothing.ensures, tt))
+    rw (p.1, p.2) (inr (lacks _ c.in_err-nothing.field-0.0 _ refl c.in_err-nothing.ensures, refl))
 
 pub returns-in_err-all : goal.returns-in_err-all
 returns-in_err-all c =
     let p = err_from_is_err_and c.from_residual-in_err-all.result c.from_residual-in_err-all.ensures.1 in
-    rw (p.1, p.2) (inr (offer_lacks c.args.store.now.replica c.schema.result.now c.in_ok-nothing.nothing c.in_err-all.field-0.0 c.schema.ensures c.in_ok-nothing.ensures c.in_err-all.ensures.state, tt))
+    rw (p.1, p.2) (inr (offer_lacks c.args.store.now.replica c.schema.result.now c.in_ok-nothing.nothing c.in_err-all.field-0.0 c.schema.ensures c.in_ok-nothing.ensures c.in_err-all.ensures.state, refl))
 
 pub returns : goal.returns
 returns c =

@@ -1,6 +1,7 @@
 -- The handle has what was made of what it had, or it has that.
 use Rattle.std.specs.Prelude.{◌≡◌, Option, Some}
 use Rattle.std.proofs.Common.{sym, ap, subst, ◌∙◌, inl, inr, refl}
+use Rattle.table_model.specs.declared.names.RowName.{RowName}
 use Rattle.replica_store.specs.Replica.{Replica}
 use Rattle.replica_store.specs.Segments.{StoreForm}
 use Rattle.lanes_c.specs.declared.handle.Table.{Table}
@@ -16,4 +17,4 @@ returns c =
     let r : Replica = c.in-Some.shared.value.store.value.replica in
     let held : c.args.table.now.replica ≡ Some r = ap (λ (t : Table). t.replica) (sym c.replace.ensures.value) ∙ c.in-Some.ensures in
     let same : c.deref-2.result.now.replica ≡ r = ap (λ (s : StoreForm). s.replica) (c.deref-2.ensures ∙ ap (λ (x : Shared). x.store.value) c.deref.ensures) in
-    told_open Means (changed_by c.without_range-changed.result) _ c.args.table.now c.put_change.new.table r _ held (subst (λ (x : Replica). Means x (changed_by c.without_range-changed.result)) same c.without_range-changed.ensures) (λ x h. inr (inl refl)) c.put_change.ensures
+    told_open Means (changed_by c.without_range-changed.result) _ c.args.table.now c.put_change.new.table r _ held (subst (λ (x : Replica). Means x (changed_by c.without_range-changed.result)) same (subst (λ (n : RowName). Yields (changed_by c.without_range-changed.result) (without_range n c.args.last c.deref-2.result.now.replica)) c.row_name.ensures c.without_range-changed.ensures)) (λ x h. inr (inl refl)) c.put_change.ensures

@@ -1,9 +1,9 @@
 -- The offer is applied to a copy.
 use Rattle.std.specs.Prelude.{ℕ, List}
-use Rattle.std.proofs.Common.{ap, Bor}
+use Rattle.std.proofs.Common.{ap, Bor, Err, Ok}
 use Rattle.std.proofs.lemmas.Result.{err_from_is_err_and}
 use Rattle.replica_files.specs.Commands.{applying}
-use Rattle.lanes_c.specs.TableChanges.{changed_by}
+use Rattle.lanes_c.specs.Faults.{told}
 use Rattle.lanes_c.proofs.TableChanging.{copy_is, copy_lacks, made_of_copy, offer_refused, offer_there, refused_of_copy}
 use Rattle.lanes_c.proofs.table_changes.with_offer.Goals as goal
 
@@ -20,10 +20,10 @@ returns-in_err-changed c =
 pub returns-in_err-apply_offers : goal.returns-in_err-apply_offers
 returns-in_err-apply_offers c =
     let p = err_from_is_err_and c.from_residual-in_err-apply_offers.result c.from_residual-in_err-apply_offers.ensures.1 in
-    rw (p.1, p.2) (offer_there _ c.in_ok-offer.offer c.args.offer.now _ c.args.store.now.replica c.in_ok-offers.offers.items (ap (λ (w : Bor (List ℕ) × ℕ). w.0.now) c.new.ensures) c.in_ok-offer.ensures.read c.in_ok-offers.ensures.items
+    rw (p.1, p.2) (offer_there (Err (told c.in_err-apply_offers.field-0.0)) c.in_ok-offer.offer c.args.offer.now _ c.args.store.now.replica c.in_ok-offers.offers.items (ap (λ (w : Bor (List ℕ) × ℕ). w.0.now) c.new.ensures) c.in_ok-offer.ensures.read c.in_ok-offers.ensures.items
     (refused_of_copy (applying c.in_ok-offers.offers.items) c.args.store.now.replica c.in_ok-changed.changed.replica c.in_err-apply_offers.field-0.0 (copy_is c.args.store.now.replica c.in_ok-changed.changed.replica c.in_ok-changed.ensures) c.in_err-apply_offers.ensures.makes))
 
 pub returns : goal.returns
 returns c =
-    offer_there _ c.in_ok-offer.offer c.args.offer.now _ c.args.store.now.replica c.in_ok-offers.offers.items (ap (λ (w : Bor (List ℕ) × ℕ). w.0.now) c.new.ensures) c.in_ok-offer.ensures.read c.in_ok-offers.ensures.items
+    offer_there (Ok c.apply_offers.new.store.replica) c.in_ok-offer.offer c.args.offer.now _ c.args.store.now.replica c.in_ok-offers.offers.items (ap (λ (w : Bor (List ℕ) × ℕ). w.0.now) c.new.ensures) c.in_ok-offer.ensures.read c.in_ok-offers.ensures.items
     (made_of_copy (applying c.in_ok-offers.offers.items) c.args.store.now.replica c.in_ok-changed.changed.replica c.apply_offers.new.store.replica _ (copy_is c.args.store.now.replica c.in_ok-changed.changed.replica c.in_ok-changed.ensures) c.in_ok-apply_offers.ensures.makes.0)

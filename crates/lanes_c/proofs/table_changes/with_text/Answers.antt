@@ -10,7 +10,7 @@ use Rattle.lanes_c.proofs.table_changes.with_text.Goals as goal
 pub returns-in_err-load : goal.returns-in_err-load
 returns-in_err-load c =
     let p = err_from_is_err_and c.from_residual.result c.from_residual.ensures.1 in
-    rw (p.1, p.2) (inl (subst (λ (t : Schema). IsWhyNotRead t c.args.csv.now c.args.has_heading c.in_err-load.field-0) c.schema.ensures c.in_err-load.ensures.fault))
+    rw (p.1, p.2) (inl (subst (λ (t : Schema). IsWhyNotRead t c.args.csv.now c.args.has_heading c.in_err-load.field-0.0) c.schema.ensures c.in_err-load.ensures.fault))
 
 pub returns : goal.returns
 returns c =

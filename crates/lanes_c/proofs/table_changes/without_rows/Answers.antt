@@ -22,5 +22,5 @@ returns-in_err-delete_all c =
 
 pub returns : goal.returns
 returns c =
-    rows_gone c.args.condition.now c.args.store.now.replica c.in_ok-changed.changed.replica c.delete_all.new.self.replica c.in_ok-names.names.items c.as_slice.result.now (copy_is c.args.store.now.replica c.in_ok-changed.changed.replica c.in_ok-changed.ensures)
+    rows_gone c.args.condition.now c.args.store.now.replica c.in_ok-changed.changed.replica c.delete_all.new.self.replica c.in_ok-names.names.items c.as_slice.result.now tt (copy_is c.args.store.now.replica c.in_ok-changed.changed.replica c.in_ok-changed.ensures)
     c.in_ok-names.ensures.read c.as_slice.ensures.value c.in_ok-delete_all.ensures.acts
