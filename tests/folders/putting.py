@@ -359,7 +359,7 @@ def of_two_loads_of_one_name_at_once_one_is_refused(room):
         other = ended[2]
         assert ended[0][0] == ended[1][0] != other[0], f"they ended so: {ended}"
         refused = other if other[0] else ended[0]
-        assert refused[1] == f"refused Conflict 5.{turn}\nboth have a batch 5.{turn}, with different rows\n".encode(), f"it said {refused}"
+        assert refused[1] == f"refused Conflict 5.{turn}\nd: this has batch 5.{turn} already, with other rows\n".encode(), f"it said {refused}"
         assert count(room) == 2 + turn
         only_parts(room)
 
@@ -373,7 +373,6 @@ def offered(room, name, rows):
 def of_two_applies_at_once_that_disagree_one_is_refused(room):
     offered(room, "one", b"1,1\n")
     offered(room, "other", b"2,2\n")
-    conflict = b"refused Conflict 7.1\nboth have a batch 7.1, with different rows\n"
     named = ("import", "--no-header", "--batch", "7.1")
     for turn, (first, second) in enumerate(
         (
@@ -395,6 +394,7 @@ def of_two_applies_at_once_that_disagree_one_is_refused(room):
             time.sleep(0.05)
         os.close(lock)
         ended = sorted((one.wait(60), one.stderr.read()) for one in commands)
+        conflict = f"refused Conflict 7.1\n{folder}: this has batch 7.1 already, with other rows\n".encode()
         assert ended == [(0, b""), (1, conflict)], f"{first} and {second} ended so: {ended}"
         assert count(room, folder) == 3
         only_parts(room, folder)
@@ -403,7 +403,7 @@ def of_two_applies_at_once_that_disagree_one_is_refused(room):
 def an_apply_that_is_stopped_before_its_lock_sees_what_came_meanwhile(room):
     offered(room, "one", b"1,1\n")
     offered(room, "other", b"2,2\n")
-    conflict = b"refused Conflict 7.1\nboth have a batch 7.1, with different rows\n"
+    conflict = b"refused Conflict 7.1\nd: this has batch 7.1 already, with other rows\n"
     for words, folder, expected, rows in (("other", "d", (1, conflict), 3), ("one", "e", (0, b""), 3)):
         make_folder(room, folder)
         if shutil.which("strace") is None:

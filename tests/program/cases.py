@@ -4,6 +4,7 @@ The replies are worked out by hand from docs/FORMATS.md; the texts of faults and
 the parts that matter.
 """
 
+import hashlib
 from dataclasses import dataclass, field
 
 FIRST = b"table 2 T A SMALLINT\nappend 1 (7)\nmerge 2 1\nquery 2 SELECT COUNT(*) FROM T\n"
@@ -309,6 +310,9 @@ CASES = [
     ),
     Case("an option behind the first query is a fault of the command line", ["query", "t", "SELECT SUM(A) FROM T", "--format", "json"], 2, err=[b"options go before FILE", b"Usage: lanes query [OPTIONS] <FILE> <SQL>..."], files={"t": BOTH}),
     Case("the first query is taken as it is", ["query", "t", "--format"], 1, err=b"refused Syntax 0\nbyte 0: there are no comments\n", files={"t": BOTH}),
+    Case("one hyphen is told as two are", ["import", "-q", "t", "-"], 1, err=b"refused ReadFault\n-q: no such file or folder (and this command has no such option: options are written in full, as --help)\n", files={"t": ONE_ROW}),
+    Case("a folder is not an offer, and its parts are", ["apply", "t", "d"], 1, err=b"refused ReadFault\nd: this is a folder: apply its parts, as OFFER/*.lanes\n", files={"t": ONE_ROW, **FOLDER}, writes={"t": ONE_ROW}),
+    Case("a folder is not one for a folder either", ["apply", "d", "e"], 1, err=b"refused ReadFault\ne: this is a folder: apply its parts, as OFFER/*.lanes\n", files={"d/%s.lanes" % hashlib.sha512(ONE_ROW).hexdigest()[:32]: ONE_ROW, "e/kept": b"old"}),
     Case("a file that isn't there and is named like an option is said to be none", ["check", "--quick"], 1, err=b"refused ReadFault\n--quick: no such file or folder (and this command has no such option: options are written in full, as --help)\n"),
     Case("another form is a fault of the command line", ["query", "--format", "xml", "t", "SELECT A FROM T"], 2, err=[b"FORMAT is text, csv, json or table"]),
     Case("lines of standard input are queries", ["query", "t", "-"], 0, b"SUM(A)\n14\nCOUNT(*)\n2\n", input=b"SELECT SUM(A) FROM T\n\nSELECT COUNT(*) FROM T", files={"t": BOTH}),

@@ -339,13 +339,17 @@ fn a_sentence_names_its_input_and_what_is_known_beside(rt: HostRuntime) -> Resul
 fn what_is_quoted_is_cut_at_40_bytes_and_has_none_that_a_terminal_acts_on(
     rt: HostRuntime,
 ) -> Result<(), Fail> {
-    let cases: [(&[u8], &str); 3] = [
+    let cases: [(&[u8], &str); 4] = [
         (b"\x1b[2J\x7f\xc3\xa9~ ", "\"\\x1B[2J\\x7F\u{e9}~ \""),
         (
             b"a234567890b234567890c234567890d234567890e",
             "\"a234567890b234567890c234567890d234567890\"",
         ),
-        (b"", "\"\""),
+        (
+            b"a234567890b234567890c234567890d23456789\xc3\xa9",
+            "\"a234567890b234567890c234567890d23456789\"",
+        ),
+        (b"\xe2\x80\xae7\xff", "\"\\u{202E}7\\xFF\""),
     ];
     for &(field, want) in &cases {
         let text = said(rt.alloc(), CSV, "", hits(field))?;
@@ -359,6 +363,11 @@ fn what_is_quoted_is_cut_at_40_bytes_and_has_none_that_a_terminal_acts_on(
 fn a_caret_stands_under_the_place_in_its_line(rt: HostRuntime) -> Result<(), Fail> {
     let cases = [
         ("SELECT", Refusal::Syntax(6), "SELECT\n      ^\n"),
+        (
+            "SELECT \u{e9}A FROM T",
+            Refusal::Syntax(9),
+            "SELECT \u{e9}A FROM T\n        ^\n",
+        ),
         (
             "SELECT A\nFROM T",
             Refusal::NotGrouped(7),

@@ -1,4 +1,4 @@
-//! The commands that change a file: it is read, then its lock is taken, and it is read again and replaced whole.
+//! The commands that change a file: each takes its lock, reads it and replaces it whole.
 
 use crate::change::{Change, Done};
 use crate::failure::Failure;

@@ -74,7 +74,7 @@ fn judge<R: Files<File = File> + Clock + RandomSource + AllocGlobal + Clone + Dr
     let mut patience = Patience::new(rt);
     for _ in 0..u64::MAX {
         let since = parts.paths_since(rt, folder)?;
-        match go_together(rt, name, temporary.path(), since.as_slice()) {
+        match go_together(rt, folder, name, temporary.path(), since.as_slice()) {
             Ok(()) => return Ok(()),
             Err(Unread::Gone) | Err(Unread::Folder) => {}
             Err(Unread::Refused(failure)) => return Err(failure),
@@ -86,9 +86,10 @@ fn judge<R: Files<File = File> + Clock + RandomSource + AllocGlobal + Clone + Dr
     Err(busy(rt.alloc(), folder))
 }
 
-/// Whether a new part, which has another path until it is placed, goes with the parts of these paths.
+/// Whether a new part of a folder, which has another path until it is placed, goes with the parts of these paths.
 fn go_together<R: Files + AllocGlobal>(
     rt: &R,
+    folder: &str,
     name: &str,
     path: &str,
     others: &[String],
@@ -105,7 +106,7 @@ fn go_together<R: Files + AllocGlobal>(
     match refusal.fault {
         PartFault::Refused(Refusal::Conflict(name)) => {
             let refusal = CommandRefusal::from(Refusal::Conflict(name));
-            Err(Unread::Refused(Failure::of(rt.alloc(), refusal)))
+            Err(Unread::Refused(Failure::of_held(rt.alloc(), refusal, folder)))
         }
         fault => {
             let part = refusal.part.saturating_sub(1);
