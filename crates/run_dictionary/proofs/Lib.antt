@@ -6,7 +6,7 @@ pub mod OrderLemmas
 pub mod DictLemmas
 pub mod RangeLemmas
 pub mod KeyLemmas
-pub mod ThreeValues
+pub mod FewValues
 pub mod SizeLemmas
 pub mod SightLemmas
 pub mod DistinctLemmas

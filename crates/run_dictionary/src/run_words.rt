@@ -1,8 +1,9 @@
 //! Where the runs of 1024 values start, and what they have.
-ghost use Rattle.std.specs.Prelude.{◌≡◌, ◌≢◌, ◌==◌, ◌↔◌, ℕ, suc, ◌+◌, ◌-◌, ◌*◌, ◌<◌, ◌≤◌, ◌≤ℤ◌, true, false, IsTrue, take, length, slice_index_or, ℤ, pos};
+ghost use Rattle.std.specs.Prelude.{◌≡◌, ◌≢◌, ◌==◌, ◌↔◌, ℕ, suc, ◌+◌, ◌-◌, ◌*◌, ◌<◌, ◌≤◌, ◌≤ℤ◌, true, false, IsTrue, min, take, length, slice_index_or, ℤ, pos};
 ghost use Rattle.std.specs.Int.{bit_at};
 ghost use Rattle.transpose_order.specs.Mask.{rows_of, has, count_below};
 ghost use Rattle.bit_interleave.specs.Range.{value_at};
+ghost use Rattle.run_dictionary.specs.Dict.{distinct};
 ghost use Rattle.run_dictionary.specs.Runs.{changes_at, changed_values, run_of};
 
 use bit_interleave::Values;
@@ -155,15 +156,53 @@ pub(crate) fn extremes(values: &Values) -> (i64, i64)
     (least, greatest)
 }
 
-/// Whether there are three values at least, of which the first three differ.
-pub(crate) fn three_differ(values: &Values) -> bool
-    ensures { IsTrue result
-        ↔ ((2 < length values.now.values) × (value_at values.now.values 0 ≢ value_at values.now.values 1)
-        × (value_at values.now.values 0 ≢ value_at values.now.values 2) × (value_at values.now.values 1 ≢ value_at values.now.values 2)) }
+/// The first place whose value is not the first one, or the number of values.
+fn first_other(values: &Values) -> usize
+    requires { 0 < length values.now.values }
+    ensures within { result ≤ length values.now.values }
+    ensures before { (i : ℕ) → i < result → value_at values.now.values i ≡ value_at values.now.values 0 }
+    ensures here { result < length values.now.values → value_at values.now.values result ≢ value_at values.now.values 0 }
 {
-    if values.len() < 3 {
-        return false;
+    for k in 1..values.len() {
+        if values.get(k) != values.get(0) {
+            return k;
+        }
     }
-    let (first, second, third) = (values.get(0), values.get(1), values.get(2));
-    first != second && first != third && second != third
+    values.len()
+}
+
+/// Whether a value is neither of two.
+fn is_another(value: i64, first: i64, second: i64) -> bool
+    ensures { IsTrue result ↔ ((value ≢ first) × (value ≢ second)) }
+{
+    value != first && value != second
+}
+
+/// The first place whose value is neither of two, or the number of values.
+fn first_another(values: &Values, first: i64, second: i64) -> usize
+    ensures within { result ≤ length values.now.values }
+    ensures before { (i : ℕ) → i < result → (value_at values.now.values i ≢ first) × (value_at values.now.values i ≢ second) → ⊥ }
+    ensures here { result < length values.now.values → (value_at values.now.values result ≢ first) × (value_at values.now.values result ≢ second) }
+{
+    for k in 0..values.len() {
+        if is_another(values.get(k), first, second) {
+            return k;
+        }
+    }
+    values.len()
+}
+
+/// How many distinct values there are, and 3 if there are more.
+pub(crate) fn distinct_to_three(values: &Values) -> usize
+    requires { 0 < length values.now.values }
+    ensures { result ≡ min 3 (length (distinct values.now.values)) }
+{
+    let second = first_other(values);
+    if second == values.len() {
+        return 1;
+    }
+    if first_another(values, values.get(0), values.get(second)) == values.len() {
+        return 2;
+    }
+    3
 }

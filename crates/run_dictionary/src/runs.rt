@@ -10,9 +10,7 @@ ghost use Rattle.run_dictionary.specs.Runs.{IsRunForm, run_of, run_value, run_va
 
 use crate::counting::most_values;
 use crate::places::changes_reach;
-use crate::run_words::{
-    all_differ, changes, count_changes, extremes, three_differ, write_changed, write_rows,
-};
+use crate::run_words::{all_differ, changes, count_changes, extremes, write_changed, write_rows};
 use crate::seen::more_values;
 use bit_interleave::Values;
 use std::alloc::{AllocError, Global};
@@ -158,11 +156,7 @@ impl Runs {
         ensures { IsTrue result ↔ (dict_bytes (least_dict self.now.lane_width (run_values self.now)) < bound) }
     {
         let most = most_values(self.values.lane_width(), bound);
-        if most < 3 && three_differ(&self.values) {
-            return false;
-        }
-        let mut room = [0; 1024];
-        !more_values(self.values.in_room(&mut room), most)
+        !more_values(&self.values, most)
     }
 
     /// The same vector in memory of its own. Where memory is refused, an `AllocError`.

@@ -5,6 +5,8 @@ ghost use Rattle.run_dictionary.specs.Dict.{distinct};
 ghost use Rattle.run_dictionary.specs.Keys.{mark_of, marks_of};
 
 use crate::codes::count_distinct;
+use crate::run_words::distinct_to_three;
+use bit_interleave::Values;
 
 /// The mark of a number: the number itself where it is below 4096. Numbers that have the same twelve low bits mostly have
 /// different marks.
@@ -73,14 +75,17 @@ pub(crate) fn more_distinct(numbers: &[u64], limit: usize) -> bool
 }
 
 /// Whether there are more distinct values than `limit`.
-pub(crate) fn more_values(values: &[i64], limit: usize) -> bool
-    requires some { 0 < length values.now }
-    requires many { length values.now ≤ 1024 }
-    ensures { IsTrue result ↔ (limit < length (distinct values.now)) }
+pub(crate) fn more_values(values: &Values, limit: usize) -> bool
+    requires some { 0 < length values.now.values }
+    requires many { length values.now.values ≤ 1024 }
+    ensures { IsTrue result ↔ (limit < length (distinct values.now.values)) }
 {
+    if limit < 3 {
+        return distinct_to_three(values) > limit;
+    }
     let mut numbers = [0; 1024];
     for k in 0..values.len() {
-        numbers[k] = values[k].cast_unsigned();
+        numbers[k] = values.get(k).cast_unsigned();
     }
     more_distinct(&numbers[..values.len()], limit)
 }

@@ -1,0 +1,7 @@
+-- the values before k are one of the two
+use Rattle.std.proofs.Common.{◌≢◌, ℕ, ◌<◌}
+use Rattle.bit_interleave.specs.Range.{value_at}
+use Rattle.run_dictionary.proofs.run_words.first_another.Given as goal
+
+abbrev pub invariant-loop-k : goal.invariant-loop-k
+invariant-loop-k l = (i : ℕ) → i < l.k → (value_at l.values.values i ≢ l.first) × (value_at l.values.values i ≢ l.second) → ⊥
