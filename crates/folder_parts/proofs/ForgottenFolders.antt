@@ -136,7 +136,7 @@ module _ (table : Table) (world : List Operation) (stands : List ℕ → List Op
       elim (among_either op (all_of (each stands files)) (stands file) h) as (λ _. Among op world) [ inl g ↦ all_within files came.1 op g | inr g ↦ given.within file came.0 op g ]
 
   one_within : (gone : List ℕ) (files : List (List ℕ)) → IsOneOf gone files → Within (stands gone) (all_of (each stands files))
-  one_within gone [] one = absurd one
+  one_within gone [] one op h = absurd one
   one_within gone (file ∷ files) (inl same) op h =
       among_second op (all_of (each stands files)) (stands file) (subst (λ (f : List ℕ). Among op (stands f)) same h)
   one_within gone (file ∷ files) (inr one) op h = among_first op (all_of (each stands files)) (stands file) (one_within gone files one op h)
