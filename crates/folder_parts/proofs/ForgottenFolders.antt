@@ -1,6 +1,6 @@
 -- Folders in which batches were forgotten: their join is what is left of the state of all that their parts represent.
 use Rattle.std.specs.Prelude.{◌≡◌, ◌≢◌, ◌⊎◌, ℕ, Bool, true, false, List, [], ◌∷◌, ◌++◌, map as each, Option, Ok}
-use Rattle.std.proofs.Common.{refl, sym, ap, subst, ◌∙◌, inl, inr, append_assoc}
+use Rattle.std.proofs.Common.{sym, ap, subst, ◌∙◌, inl, inr, append_assoc}
 use Rattle.table_model.specs.Operation.{Operation, Insert, Among, AreAgreeing, SameOperations, state_of}
 use Rattle.table_model.specs.State.{live_rows}
 use Rattle.table_model.specs.Table.{Table}
@@ -9,14 +9,14 @@ use Rattle.forgotten_batches.specs.Forgotten.{forgotten}
 use Rattle.forgotten_batches.proofs.Rests.{forgets_all}
 use Rattle.replica_store.specs.Replica.{Replica}
 use Rattle.store_view.specs.Asked.{query_answer}
-use Rattle.replica_files.specs.Commands.{file_of, held_in, as_held, merged_files, Puts}
+use Rattle.replica_files.specs.Commands.{file_of, merged_files, Puts}
 use Rattle.replica_files.specs.FileLaws.{EachHolds, all_of}
 use Rattle.replica_files.specs.ForgetFileLaws.{StandsFor, EachStandsFor}
 use Rattle.replica_files.specs.Forgetting.{forgetting}
 use Rattle.replica_files.proofs.FileLaws.{file_laws_hold}
 use Rattle.replica_files.proofs.ForgetFiles.{Rests, stands_is, stands_then, files-rest, forgotten-rests, rests-mean, forgotten-alike, forget_file_laws_hold}
-use Rattle.folder_parts.specs.FolderLaws.{Joins, FolderHolds, folder_operations, IsOneOf}
-use Rattle.folder_parts.specs.Folders.{Within, Event, Comes, Goes, Came, IsThere, IsCoveredThere, AreCoveredThere}
+use Rattle.folder_parts.specs.FolderLaws.{Joins, folder_operations, IsOneOf}
+use Rattle.folder_parts.specs.Folders.{Within, Event, Comes, Goes, Came, IsCoveredThere, AreCoveredThere}
 use Rattle.folder_parts.specs.ForgetFolderLaws.{FolderStandsFor, Forgets, AppendsStanding, HeldStands, JoinStands, ForgetStands, SameForgottenFolders, FolderForgetsAsFile, AreAlike, ForgetKeeps, AllCame, IsGiven, IsReplaced, AreReplaced, ForgetsLoseNothing}
 use Rattle.folder_parts.specs.Packing.{is_removed}
 use Rattle.folder_parts.specs.PartName.{part_name}
@@ -136,7 +136,7 @@ module _ (table : Table) (world : List Operation) (stands : List ℕ → List Op
       elim (among_either op (all_of (each stands files)) (stands file) h) as (λ _. Among op world) [ inl g ↦ all_within files came.1 op g | inr g ↦ given.within file came.0 op g ]
 
   one_within : (gone : List ℕ) (files : List (List ℕ)) → IsOneOf gone files → Within (stands gone) (all_of (each stands files))
-  one_within gone [] one = absurd one
+  one_within gone [] one op h = absurd one
   one_within gone (file ∷ files) (inl same) op h =
       among_second op (all_of (each stands files)) (stands file) (subst (λ (f : List ℕ). Among op (stands f)) same h)
   one_within gone (file ∷ files) (inr one) op h = among_first op (all_of (each stands files)) (stands file) (one_within gone files one op h)

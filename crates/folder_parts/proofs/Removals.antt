@@ -68,7 +68,7 @@ after_removal holds gone file events covered has = choose (same_or_not has.0 gon
   where
     choose : (has.0 ≡ gone) ⊎ (has.0 ≢ gone) → Kept holds file (Goes gone ∷ events)
     choose (inr n) = (has.0, (n, has.1), has.2)
-    choose (inl e) = (covered.0, (covered.2.0, covered.1), λ op h. covered.2.1 op (subst (λ (f : List ℕ). Among op (holds f)) e (has.2 op h)))
+    choose (inl e) = (covered.0, (covered.2, covered.1), λ op h. covered.3 op (subst (λ (f : List ℕ). Among op (holds f)) e (has.2 op h)))
 
 keeps_there : (holds : List ℕ → List Operation) (events : List Event) (file : List ℕ) → AreCoveredThere holds events → Came file events → Kept holds file events
 keeps_there holds [] file covered came = absurd came
