@@ -137,7 +137,7 @@ pub enum Request<'a> {
     Finish {
         /// What the partial answer is read from.
         partial: Source<'a>,
-        /// Where the summaries are read from whose batches have to be counted.
+        /// What the summaries are read from whose batches have to be counted.
         expected: Vec<Source<'a>>,
         /// The form of the answer.
         format: Format,
