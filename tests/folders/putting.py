@@ -101,8 +101,8 @@ def a_pack_is_on_the_disk_before_anything_is_removed_under_the_lock(room):
 
 
 def a_pack_that_is_not_known_to_be_on_the_disk_removes_nothing(room):
-    # The syncs are those of the temporary, of the folder, and under the lock of the pack and of the folder.
-    for when in ("2", "3", "4", "2+"):
+    # The syncs are those of the temporary, and under the lock of the new part and of the folder.
+    for when in ("2", "3", "2+"):
         folder = f"d{when}"
         make_folder(room, folder, loads=3)
         before = set(parts_of(room, folder))
