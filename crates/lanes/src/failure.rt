@@ -87,11 +87,8 @@ impl Failure {
 
     /// A refusal of what is read from a file, or written to it.
     pub fn of_file<R: Files + AllocGlobal>(rt: &R, refusal: CommandRefusal, name: &str) -> Failure {
-        let mut head = [0u8; KIND_BYTES];
         let knowledge = match refusal {
-            CommandRefusal::Named(Refusal::BadMagic) => {
-                Knowledge::Beginning(beginning_of(rt, name, &mut head))
-            }
+            CommandRefusal::Named(Refusal::BadMagic) => return Failure::of_kind(rt, name),
             CommandRefusal::Named(Refusal::ReadFault) => known_of_reading(rt, name),
             CommandRefusal::Named(Refusal::WriteFault) => known_of_writing(rt, name),
             _ => Knowledge::Nothing,
@@ -104,6 +101,23 @@ impl Failure {
                 knowledge,
             },
         )
+    }
+
+    /// A refusal of a file of another kind, by its first bytes.
+    fn of_kind<R: Files + AllocGlobal>(rt: &R, name: &str) -> Failure {
+        let mut head = [0u8; KIND_BYTES];
+        let beginning = beginning_of(rt, name, &mut head);
+        Failure::of_beginning(rt.alloc(), name, beginning)
+    }
+
+    /// A refusal of an input of another kind, which begins with these bytes.
+    pub fn of_beginning(alloc: Global, name: &str, beginning: &[u8]) -> Failure {
+        let sentence = Sentence {
+            refusal: CommandRefusal::from(Refusal::BadMagic),
+            subject: name,
+            knowledge: Knowledge::Beginning(beginning),
+        };
+        Failure::new(alloc, sentence)
     }
 
     /// A refusal of batches that a file or a folder has already, with other rows.

@@ -11,7 +11,7 @@ use column_file::read_summary;
 use command_line::{ReportForm, Source};
 use partial_commands::{inspect_partial_answer, inspect_summary};
 use partial_file::read_partial_answer;
-use refusal_sentences::{CommandRefusal, Knowledge, Sentence};
+use refusal_sentences::CommandRefusal;
 use replica_files::{OpenFile, list_batches};
 use std::fs::{File, Files};
 use std::io::Read;
@@ -75,12 +75,7 @@ fn open<R: Files + AllocGlobal, D: Read + Drop>(
         Ok(held) => Ok(held),
         Err(Refusal::BadMagic) => {
             let reader = reader.into_inner();
-            let sentence = Sentence {
-                refusal: CommandRefusal::from(Refusal::BadMagic),
-                subject: file,
-                knowledge: Knowledge::Beginning(reader.front()),
-            };
-            Err(Failure::new(rt.alloc(), sentence))
+            Err(Failure::of_beginning(rt.alloc(), file, reader.front()))
         }
         Err(refusal) => Err(unread(rt, CommandRefusal::from(refusal), Source::File(file))),
     }

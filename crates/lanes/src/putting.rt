@@ -32,7 +32,13 @@ pub fn put_part<R: Files<File = File> + Clock + RandomSource + AllocGlobal + Clo
     let mut system = opened(rt, folder)?;
     for _ in 0..TRIES {
         let temporary = new_temporary(rt, folder)?;
-        match put(rt.alloc(), &mut system, temporary.as_str(), name.as_str(), bytes) {
+        match put(
+            rt.alloc(),
+            &mut system,
+            temporary.as_str(),
+            name.as_str(),
+            bytes,
+        ) {
             Ok(outcome) => {
                 if let Some(replaced) = kept(rt, folder, name.as_str(), outcome)? {
                     return Ok(replaced);
