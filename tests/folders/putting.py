@@ -81,7 +81,6 @@ def a_pack_is_on_the_disk_before_anything_is_removed_under_the_lock(room):
             r"flock\(.*/d>, LOCK_EX\|LOCK_NB\) += 0",
             r"getdents64\(",
             r"link.*\"d/\.part-[0-9a-f]{16}\".*\"d/[0-9a-f]{32}\.lanes\".* = 0",
-            r"fsync\([0-9]+<[^>]*/d>\) += 0",
             r"openat\(.*\"d/[0-9a-f]{32}\.lanes\", O_RDONLY",
             r"fsync\(.*/d/[0-9a-f]{32}\.lanes>\) += 0",
             r"fsync\([0-9]+<[^>]*/d>\) += 0",
