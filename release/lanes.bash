@@ -9,6 +9,7 @@ _lanes() {
     case $before in
         --batch) return ;;
         --columns) return ;;
+        --expect) return ;;
         --format) mapfile -t COMPREPLY < <(compgen -W 'text csv json table' -- "$word"); return ;;
         --null) return ;;
         --separator) return ;;
@@ -20,9 +21,9 @@ _lanes() {
         query) options='--format --help' ;;
         partial) options='--help' ;;
         combine) options='--help' ;;
-        finish) options='--format --help' ;;
+        finish) options='--expect --format --help' ;;
         delete) options='--quiet --help' ;;
-        delete-rows) options='--quiet --help' ;;
+        delete-rows) options='--held --quiet --help' ;;
         forget) options='--quiet --help' ;;
         dump) options='--names --where --columns --help' ;;
         inspect) options='--batches --format --help' ;;
