@@ -4,7 +4,6 @@
 #[cfg(test)]
 mod knowledge_tests;
 #[cfg(test)]
-#[cfg(test)]
 mod request_tests;
 #[cfg(test)]
 mod sentence_tests;
