@@ -147,7 +147,8 @@ pub(crate) fn commands<'a>(alloc: Global) -> Result<Command<'a>, AllocError> {
 }
 
 /// What is said of an option that comes too late.
-const LATE_OPTION: &str = "options go before FILE: after it, a word that begins with -- is not an option";
+const LATE_OPTION: &str =
+    "options go before FILE: after it, a word that begins with -- is not an option";
 
 /// Whether one of these words behind the first is written like an option. The first is taken as it is.
 fn has_late_option(words: &[&str]) -> bool {

@@ -55,7 +55,10 @@ const OTHERS: [Kind; 19] = [
 /// How files and messages of this program begin, and what reads them.
 const OWN: [Kind; 3] = [
     (b"FLCF", "this is a file or an offer of lanes"),
-    (b"FLSM", "this is a summary: lanes offer and lanes inspect read it"),
+    (
+        b"FLSM",
+        "this is a summary: lanes offer and lanes inspect read it",
+    ),
     (
         b"FLPT",
         "this is a partial answer: lanes combine, lanes finish and lanes inspect read it",
