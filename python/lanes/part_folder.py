@@ -255,9 +255,8 @@ def make(folder: str, data: bytes) -> None:
         raise FileExistsError(errno.EEXIST, "there is a file or a folder of this name already", folder)
     above, last = os.path.split(name)
     outer = os.open(above or ".", os.O_RDONLY | os.O_DIRECTORY | os.O_CLOEXEC)
-    new = os.path.join(above, f".{last}.lanes-new-{secrets.token_hex(8)}")
     try:
-        os.mkdir(new)
+        held, new = _new_folder(above, last, folder)
         try:
             put(new, data)
             os.rename(new, name)
@@ -267,9 +266,34 @@ def make(folder: str, data: bytes) -> None:
             with contextlib.suppress(OSError):
                 os.rmdir(new)
             raise
+        finally:
+            os.close(held)
         _sync(outer, name)
     finally:
         os.close(outer)
+
+
+def _new_folder(above: str, last: str, folder: str) -> tuple[int, str]:
+    """An empty folder next to the place of another one, open and locked, so that no command removes it as what a crash left; and its
+    path. Such a command may come before its lock: then another one is made."""
+    for _ in range(_TRIES):
+        new = os.path.join(above, f".{last}.lanes-new-{secrets.token_hex(8)}")
+        os.mkdir(new)
+        try:
+            held = os.open(new, os.O_RDONLY | os.O_DIRECTORY | os.O_CLOEXEC)
+        except FileNotFoundError:
+            continue
+        try:
+            fcntl.flock(held, fcntl.LOCK_EX | fcntl.LOCK_NB)
+        except BlockingIOError:
+            os.close(held)
+            continue
+        except OSError:
+            pass  # without locks, and no command removes it
+        if _is_named(held, new):
+            return held, new
+        os.close(held)
+    raise Busy("no folder can be made", folder)
 
 
 def replace(folder: str, data: bytes, joined: Iterable[str]) -> Optional[int]:

@@ -180,6 +180,8 @@ def a_folder_is_made_all_at_once(room):
         trace,
         (
             rf"mkdir.*\"{new}\"",
+            rf"openat\(.*\"{new}\", O_RDONLY",
+            rf"flock\(.*{new}>, LOCK_EX\|LOCK_NB\) += 0",
             rf"openat\(.*\"{new}/[0-9a-f]{{32}}\.lanes\", O_WRONLY\|O_CREAT\|O_EXCL",
             rf"write\(.*{new}/",
             rf"fsync\(.*{new}/[0-9a-f]{{32}}\.lanes>\) += 0",
@@ -337,6 +339,60 @@ def a_temporary_that_is_held_is_not_swept(room):
         assert os.path.exists(room.path("d/.part-00000000000000ff"))
     room.ok("pack", "d")
     only_parts(room)
+
+
+def what_a_killed_create_leaves_goes_with_the_next_of_its_name(room):
+    os.mkdir(room.path("e"))
+    for call in ("fsync:signal=SIGKILL:when=1", "fsync:signal=SIGKILL:when=2", "rename,renameat,renameat2:signal=SIGKILL"):
+        traced(room, "create", "e/d/", "T", "A", "SMALLINT", options=("-e", f"inject={call}"))
+    left = sorted(os.listdir(room.path("e")))
+    assert len(left) == 3 and all(re.fullmatch(r"\.d\.lanes-new-[0-9a-f]{16}", name) for name in left), f"left is {left}"
+    room.ok("create", "e/other/", "T", "A", "SMALLINT")
+    assert sorted(os.listdir(room.path("e"))) == sorted([*left, "other"])
+    room.refused("create", "e/other/", "T", "A", "SMALLINT", line="refused Exists")
+    room.ok("create", "e/d/", "T", "A", "SMALLINT")
+    assert sorted(os.listdir(room.path("e"))) == ["d", "other"], f"left is {os.listdir(room.path('e'))}"
+    only_parts(room, "e/d")
+
+
+def a_folder_that_is_made_by_another_is_not_swept(room):
+    make_folder(room)
+    digits = "0123456789abcdef"
+    kept = [f".m.lanes-new-{digits[::-1]}", f".m.lanes-new-{digits}0", f".m.lanes-new-{digits[:-1]}G", f".mm.lanes-new-{digits}", f"m.lanes-new-{digits}"]
+    for name in [*kept, f".m.lanes-new-{digits}"]:
+        os.mkdir(room.path(name))
+        room.put(f"{name}/{'0' * 32}.lanes", b"half")
+    os.mkdir(room.path(f".m.lanes-new-{'1' * 16}"))
+    os.mkdir(room.path(f".m.lanes-new-{'2' * 16}"))
+    room.put(f".m.lanes-new-{'2' * 16}/notes", b"of a person")
+    os.symlink(kept[0], room.path(f".m.lanes-new-{'3' * 16}"))
+    room.put(f".m.lanes-new-{'4' * 16}", b"a file")
+    kept += [f".m.lanes-new-{digit * 16}" for digit in "234"]
+    held = os.open(room.path(kept[0]), os.O_RDONLY)
+    fcntl.flock(held, fcntl.LOCK_EX)
+    room.ok("merge", "m/", "d")
+    assert sorted(os.listdir(room.path("."))) == sorted([*kept, "d", "m"]), f"there are {os.listdir(room.path('.'))}"
+    assert room.get(f"{kept[0]}/{'0' * 32}.lanes") == b"half"
+    shutil.rmtree(room.path("m"))
+    os.close(held)
+    _, status, err = traced(room, "merge", "m/", "d", options=("-e", "inject=flock:error=EOPNOTSUPP"))
+    assert status == 0 and os.path.exists(room.path(kept[0])), f"it said {err!r}"
+    shutil.rmtree(room.path("m"))
+    room.ok("merge", "m/", "d")
+    assert not os.path.exists(room.path(kept[0]))
+    assert count(room, "m") == 2
+
+
+def folders_of_one_name_that_are_made_at_once_are_made_once(room):
+    make_folder(room)
+    for turn in range(5):
+        makers = [room.start("merge", f"m{turn}/", "d") for _ in range(6)]
+        ended = [(one.wait(60), one.stderr.read()) for one in makers]
+        assert sorted(status for status, _ in ended) == [0, 1, 1, 1, 1, 1], f"they ended so: {ended}"
+        assert all(err.startswith(b"refused Exists") for status, err in ended if status), f"they ended so: {ended}"
+        only_parts(room, f"m{turn}")
+        assert count(room, f"m{turn}") == 2
+    assert sorted(os.listdir(room.path("."))) == ["d", "m0", "m1", "m2", "m3", "m4"]
 
 
 def of_two_loads_of_one_name_at_once_one_is_refused(room):
@@ -516,6 +572,9 @@ TESTS = [
     a_folder_that_has_no_room_is_as_it_was,
     what_a_kill_leaves_is_swept_and_no_part_is_half,
     a_temporary_that_is_held_is_not_swept,
+    what_a_killed_create_leaves_goes_with_the_next_of_its_name,
+    a_folder_that_is_made_by_another_is_not_swept,
+    folders_of_one_name_that_are_made_at_once_are_made_once,
     of_two_loads_of_one_name_at_once_one_is_refused,
     of_two_applies_at_once_that_disagree_one_is_refused,
     an_apply_that_is_stopped_before_its_lock_sees_what_came_meanwhile,

@@ -33,7 +33,7 @@ pub fn in_memory(refusal: Refusal) -> CommandRefusal {
 }
 
 /// Makes a folder that has the empty table as its one part.
-pub fn create<R: Print + Eprint + Files<File = File> + RandomSource + AllocGlobal>(
+pub fn create<R: Print + Eprint + Files<File = File> + RandomSource + AllocGlobal + Clone + Drop>(
     rt: &R,
     folder: &str,
     table: &str,

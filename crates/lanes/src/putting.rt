@@ -169,7 +169,7 @@ pub fn unwritten<R: AllocGlobal>(rt: &R, folder: &str, kind: ErrorKind) -> Failu
 }
 
 /// Makes a folder that has these bytes as its one part. Answers how the folder that it is in was synced.
-pub fn make_folder<R: Files<File = File> + RandomSource + AllocGlobal>(
+pub fn make_folder<R: Files<File = File> + RandomSource + AllocGlobal + Clone + Drop>(
     rt: &R,
     folder: &str,
     bytes: &[u8],

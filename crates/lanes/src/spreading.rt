@@ -124,7 +124,7 @@ fn remove_all<R: Files>(rt: &R, made: &[Made]) {
 }
 
 /// Makes an output with the share of this index.
-fn make_share<R: Eprint + Files<File = File> + Clock + RandomSource + AllocGlobal>(
+fn make_share<R: Eprint + Files<File = File> + Clock + RandomSource + AllocGlobal + Clone + Drop>(
     rt: &R,
     runs: &NameRuns,
     store: &Store,
@@ -147,7 +147,7 @@ fn make_share<R: Eprint + Files<File = File> + Clock + RandomSource + AllocGloba
 }
 
 /// Makes a folder with these bytes as its one part.
-fn make_part<R: Eprint + Files<File = File> + RandomSource + AllocGlobal>(
+fn make_part<R: Eprint + Files<File = File> + RandomSource + AllocGlobal + Clone + Drop>(
     rt: &R,
     out: &str,
     bytes: &[u8],

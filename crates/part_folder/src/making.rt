@@ -1,6 +1,8 @@
 //! A folder that is made at once, with one file in it.
 
-use crate::names::{path_in, random_digits};
+use crate::names::{path_in, unfinished_name};
+use crate::sweeping::sweep_unfinished;
+use crate::temporary::is_ours;
 use std::alloc::AllocError;
 use std::error::Error;
 use std::fmt;
@@ -40,10 +42,13 @@ impl fmt::Display for MakeFault {
 
 impl Error for MakeFault {}
 
+/// How many names are tried for a folder that is made. Each is new, so another one is wanted only if a sweep came between.
+const TRIES: u32 = 100;
+
 /// Makes a folder that has one file, of this name and with these bytes: all at once, on the disk, or not at all. It is made next to its
-/// place as `.NAME.lanes-new-` and 16 digits, which a crash may leave. Slashes at the end of the folder's name say nothing. Answers
-/// whether the folder that it is in could be synced.
-pub fn make<R: Files<File = File> + RandomSource + AllocGlobal>(
+/// place as `.NAME.lanes-new-` and 16 digits. A crash may leave that, and the next call of the same name removes it. Slashes at the end
+/// of the folder's name say nothing. Answers whether the folder that it is in could be synced.
+pub fn make<R: Files<File = File> + RandomSource + AllocGlobal + Clone + Drop>(
     rt: &R,
     folder: &str,
     file: &str,
@@ -59,17 +64,14 @@ pub fn make<R: Files<File = File> + RandomSource + AllocGlobal>(
         Some((above, last)) => (above, last),
     };
     let outer = fs::open(rt, above)?;
-    let digits = random_digits(rt)?;
-    let new = format!(in rt.alloc(); ".{last}.lanes-new-{digits}")?;
-    let new = path_in(rt.alloc(), above, new.as_str())?;
+    let (held, new) = made(rt, above, last)?;
     let path = path_in(rt.alloc(), new.as_str(), file)?;
-    fs::create_dir(rt, new.as_str())?;
-    match filled(rt, new.as_str(), path.as_str(), bytes).and_then(|_| fs::rename(
-        rt,
-        new.as_str(),
-        name,
-    )) {
-        Ok(()) => Ok(outer.sync_all().is_ok()),
+    match filled(rt, &held, path.as_str(), bytes).and_then(|_| fs::rename(rt, new.as_str(), name)) {
+        Ok(()) => {
+            let is_synced = outer.sync_all().is_ok();
+            let _ = sweep_unfinished(rt, above, last);
+            Ok(is_synced)
+        }
         Err(error) => {
             let _ = fs::remove_file(rt, path.as_str());
             let _ = fs::remove_dir(rt, new.as_str());
@@ -78,15 +80,56 @@ pub fn make<R: Files<File = File> + RandomSource + AllocGlobal>(
     }
 }
 
-/// Makes a file in a folder, and has both on the disk.
-fn filled<R: Files<File = File>>(rt: &R, folder: &str, path: &str, bytes: &[u8]) -> io::Result<()> {
+/// Makes an empty folder next to the place of another one, and takes its lock, so that no sweep removes it. If the file system has no
+/// locks it is without, and no sweep removes it.
+fn made<R: Files<File = File> + RandomSource + AllocGlobal>(
+    rt: &R,
+    above: &str,
+    last: &str,
+) -> io::Result<(File, String)> {
+    for _ in 0..TRIES {
+        let name = unfinished_name(rt, last)?;
+        let path = path_in(rt.alloc(), above, name.as_str())?;
+        match fs::create_dir(rt, path.as_str()) {
+            Ok(()) => {
+                if let Some(folder) = held(rt, path.as_str())? {
+                    return Ok((folder, path));
+                }
+            }
+            Err(error) if error.kind() == ErrorKind::AlreadyExists => {}
+            Err(error) => return Err(error),
+        }
+    }
+    Err(io::Error::from(ErrorKind::ResourceBusy))
+}
+
+/// The folder that was just made, open and with its lock. None if a sweep came first.
+fn held<R: Files<File = File>>(rt: &R, path: &str) -> io::Result<Option<File>> {
+    match fs::open(rt, path) {
+        Ok(folder) if is_ours(rt, &folder, path) => Ok(Some(folder)),
+        Ok(_) => Ok(None),
+        Err(error) if error.kind() == ErrorKind::NotFound => Ok(None),
+        Err(error) => {
+            let _ = fs::remove_dir(rt, path);
+            Err(error)
+        }
+    }
+}
+
+/// Makes a file in a folder that is open, and has both on the disk.
+fn filled<R: Files<File = File>>(
+    rt: &R,
+    folder: &File,
+    path: &str,
+    bytes: &[u8],
+) -> io::Result<()> {
     let mut file = OpenOptions::new()
         .write(true)
         .create_new(true)
         .open(rt, path)?;
     file.write_all(bytes)?;
     file.sync_all()?;
-    fs::open(rt, folder)?.sync_all()
+    folder.sync_all()
 }
 
 /// What an error of the rename means: a folder that is not empty, or a file, has the name meanwhile.

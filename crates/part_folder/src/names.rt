@@ -8,6 +8,9 @@ use std::random::RandomSource;
 /// How the name of a temporary begins.
 const TEMPORARY: &str = ".part-";
 
+/// How the name of a folder that is made ends, after a point and the name that it is to have.
+const UNFINISHED: &str = ".lanes-new-";
+
 /// How many digits follow.
 const DIGITS: usize = 16;
 
@@ -47,14 +50,30 @@ pub fn temporary_name<R: RandomSource + AllocGlobal>(rt: &R) -> io::Result<Strin
 
 /// Whether a name is that of a temporary: `.part-` and 16 digits of `0` to `9` and `a` to `f`.
 pub fn is_temporary(name: &str) -> bool {
-    match name.strip_prefix(TEMPORARY) {
-        Some(digits) => {
-            digits.len() == DIGITS
-                && digits.bytes().all(|byte| byte.is_ascii_digit()
-                    || (b'a' <= byte && byte <= b'f'))
-        }
-        None => false,
-    }
+    name.strip_prefix(TEMPORARY).is_some_and(are_digits)
+}
+
+/// Whether these are 16 digits of `0` to `9` and `a` to `f`.
+fn are_digits(digits: &str) -> bool {
+    digits.len() == DIGITS
+        && digits.bytes().all(|byte| byte.is_ascii_digit() || (b'a' <= byte && byte <= b'f'))
+}
+
+/// A new name under which a folder of this name is made.
+pub fn unfinished_name<R: RandomSource + AllocGlobal>(rt: &R, last: &str) -> io::Result<String> {
+    let digits = random_digits(rt)?;
+    Ok(format!(in rt.alloc(); ".{last}{UNFINISHED}{digits}")?)
+}
+
+/// Whether a folder of this name is made under that name.
+pub fn is_unfinished(name: &str, last: &str) -> bool {
+    let Some(rest) = name.strip_prefix('.') else {
+        return false;
+    };
+    let Some(rest) = rest.strip_prefix(last) else {
+        return false;
+    };
+    rest.strip_prefix(UNFINISHED).is_some_and(are_digits)
 }
 
 /// Whether a path is that of a symbolic link.
