@@ -17,7 +17,7 @@ _lanes() {
     esac
     case ${COMP_WORDS[1]} in
         create) options='--quiet --help' ;;
-        import) options='--batch --no-header --separator --null --columns --quiet --help' ;;
+        import) options='--batch --no-header --separator --null --columns --whole-lines --quiet --help' ;;
         query) options='--format --help' ;;
         partial) options='--help' ;;
         combine) options='--help' ;;

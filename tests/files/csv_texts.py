@@ -196,6 +196,45 @@ def what_is_at_fault_is_said_with_its_place(room):
     room.only("t", "visits.csv")
 
 
+# Texts of which --whole-lines takes each that ends with a line's end, and the line of the others.
+WHOLE = (
+    (b"A,B\n1,2\n", [], None),
+    (b"A,B\r\n1,2\r\n", [], None),
+    (b"A,B\n", [], None),
+    (b"", ["--no-header"], None),
+    (b"\n", ["--no-header"], None),
+    (b"A,B\n1,2\n\n\n", [], None),
+    (b"A,B\n1,2\n3,45", [], 3),
+    (b"A,B\n1,2\n3,4\n" + b"5,6\n" * 100_000 + b"7,", [], 100_004),
+    (b"A,B", [], 1),
+    (b"1,2", ["--no-header"], 1),
+    (b"\n\n1,2", ["--no-header"], 3),
+    (b"\xef\xbb\xbfA,B\n1,2", [], 2),
+)
+
+
+def lines_that_have_to_be_whole(room):
+    sentence = "the last line has no line end: did the command before it fail?"
+    for into in ("t", "d"):
+        room.ok("create", "d/" if into == "d" else "t", "T", "A", "SMALLINT", "B", "BIGINT")
+        for at, (text, options, line) in enumerate(WHOLE):
+            words = ["import", "--whole-lines", *options, "--batch", f"{at + 1}.1", into]
+            before = room.ok("dump", "--names", into)
+            room.put("visits.csv", text)
+            if line is None:
+                room.ok(*words, "visits.csv")
+                room.ok(*words, "-", given=text)
+                continue
+            room.refused(*words, "visits.csv", line=f"refused BadCsv {line} 0", sentence=f"visits.csv, line {line}: {sentence}")
+            room.refused(*words, "-", given=text, line=f"refused BadCsv {line} 0", sentence=f"standard input, line {line}: {sentence}")
+            room.put("whole.csv", text + b"\n")
+            room.refused(*words, "whole.csv", "visits.csv", line=f"refused BadCsv {line} 0", sentence=f"visits.csv, line {line}: {sentence}")
+            assert room.ok("dump", "--names", into) == before
+            room.ok("import", *options, into, "visits.csv")
+    room.put("visits.csv", b"A,B\n1,2\n3")
+    room.refused("import", "--whole-lines", "t", "visits.csv", line="refused BadCsv 3 0", sentence="visits.csv, line 3: the line has 1 field, and the table has 2 columns")
+
+
 def batches_have_65536_rows_and_the_last_one_what_is_left(room):
     room.ok("create", "t", "T", "A", "SMALLINT")
     text = b"1\n" * 65_536 + b"2\n" * 65_536 + b"3\n"
@@ -238,6 +277,7 @@ TESTS = [
     what_sqlite_writes_is_imported,
     what_is_dumped_loads_into_sqlite_with_the_same_sums,
     what_is_at_fault_is_said_with_its_place,
+    lines_that_have_to_be_whole,
     batches_have_65536_rows_and_the_last_one_what_is_left,
     names_are_drawn_at_random,
 ]

@@ -372,6 +372,7 @@ impl Verb {
             separator,
             null_word,
             columns,
+            is_whole: given.get_flag("whole-lines"),
         })
     }
 
@@ -652,6 +653,11 @@ fn import_command<'a>(alloc: Global, command: Command<'a>) -> Result<Command<'a>
         .value_name("NAMES")
         .help("What the fields are, as A,B,-: columns, and - for a field that is passed over")
         .allow_hyphen_values(true);
+    let whole = flag(
+        alloc,
+        "whole-lines",
+        "Refuse a CSV whose last line has no end: the command that writes it may have failed",
+    );
     command
         .about("Inserts rows of comma-separated values")
         .after_help(IMPORT_HELP)
@@ -660,6 +666,7 @@ fn import_command<'a>(alloc: Global, command: Command<'a>) -> Result<Command<'a>
         .arg(separator)?
         .arg(null_word)?
         .arg(columns)?
+        .arg(whole)?
         .arg(quiet(alloc))?
         .arg(file(alloc))?
         .arg(word(alloc, "CSV", "The files of values, or - for standard input").num_args(1..))

@@ -44,6 +44,8 @@ pub struct CsvForm<'a> {
     /// What the fields of a line are, if the header does not say it: names of columns, or `-` for a field that is passed over, with
     /// a comma between each two.
     pub columns: Option<&'a str>,
+    /// Whether the last line of each text has to have its end.
+    pub is_whole: bool,
 }
 
 /// What the command line asks for.
@@ -68,8 +70,8 @@ pub enum Request<'a> {
         /// Whether nothing is printed if all is well.
         is_quiet: bool,
     },
-    /// `lanes import [--batch O.N] [--no-header] [--separator C] [--null WORD] [--columns NAMES] [--quiet] FILE CSV..`: the rows of
-    /// texts, inserted as new batches.
+    /// `lanes import [--batch O.N] [--no-header] [--separator C] [--null WORD] [--columns NAMES] [--whole-lines] [--quiet] FILE CSV..`:
+    /// the rows of texts, inserted as new batches.
     Import {
         /// The file's name.
         file: &'a str,

@@ -86,15 +86,15 @@ const REQUESTS: [(&[&str], &str); 43] = [
     (&["create", "f", "t"], "fault"),
     (
         &["import", "f", "-"],
-        "Import { file: \"f\", csvs: [Input], first: None, form: CsvForm { has_header: true, separator: 44, null_word: None, columns: None }, is_quiet: false }",
+        "Import { file: \"f\", csvs: [Input], first: None, form: CsvForm { has_header: true, separator: 44, null_word: None, columns: None, is_whole: false }, is_quiet: false }",
     ),
     (
         &["import", "--quiet", "f", "c", "-", "-d"],
-        "Import { file: \"f\", csvs: [File(\"c\"), Input, File(\"-d\")], first: None, form: CsvForm { has_header: true, separator: 44, null_word: None, columns: None }, is_quiet: true }",
+        "Import { file: \"f\", csvs: [File(\"c\"), Input, File(\"-d\")], first: None, form: CsvForm { has_header: true, separator: 44, null_word: None, columns: None, is_whole: false }, is_quiet: true }",
     ),
     (
         &["import", "--separator", "\\t", "--null", "-", "f", "c"],
-        "Import { file: \"f\", csvs: [File(\"c\")], first: None, form: CsvForm { has_header: true, separator: 9, null_word: Some(\"-\"), columns: None }, is_quiet: false }",
+        "Import { file: \"f\", csvs: [File(\"c\")], first: None, form: CsvForm { has_header: true, separator: 9, null_word: Some(\"-\"), columns: None, is_whole: false }, is_quiet: false }",
     ),
     (
         &[
@@ -106,19 +106,19 @@ const REQUESTS: [(&[&str], &str); 43] = [
             "f",
             "c",
         ],
-        "Import { file: \"f\", csvs: [File(\"c\")], first: None, form: CsvForm { has_header: false, separator: 59, null_word: Some(\"\"), columns: None }, is_quiet: false }",
+        "Import { file: \"f\", csvs: [File(\"c\")], first: None, form: CsvForm { has_header: false, separator: 59, null_word: Some(\"\"), columns: None, is_whole: false }, is_quiet: false }",
     ),
     (
         &["import", "--separator", "\t", "--null", "9a", "f", "c"],
-        "Import { file: \"f\", csvs: [File(\"c\")], first: None, form: CsvForm { has_header: true, separator: 9, null_word: Some(\"9a\"), columns: None }, is_quiet: false }",
+        "Import { file: \"f\", csvs: [File(\"c\")], first: None, form: CsvForm { has_header: true, separator: 9, null_word: Some(\"9a\"), columns: None, is_whole: false }, is_quiet: false }",
     ),
     (
         &["import", "--columns", "A,-,b", "f", "c"],
-        "Import { file: \"f\", csvs: [File(\"c\")], first: None, form: CsvForm { has_header: true, separator: 44, null_word: None, columns: Some(\"A,-,b\") }, is_quiet: false }",
+        "Import { file: \"f\", csvs: [File(\"c\")], first: None, form: CsvForm { has_header: true, separator: 44, null_word: None, columns: Some(\"A,-,b\"), is_whole: false }, is_quiet: false }",
     ),
     (
         &["import", "--columns", "", "f", "c"],
-        "Import { file: \"f\", csvs: [File(\"c\")], first: None, form: CsvForm { has_header: true, separator: 44, null_word: None, columns: None }, is_quiet: false }",
+        "Import { file: \"f\", csvs: [File(\"c\")], first: None, form: CsvForm { has_header: true, separator: 44, null_word: None, columns: None, is_whole: false }, is_quiet: false }",
     ),
     (&["import", "--columns", "-", "f", "c"], "fault"),
     (&["import", "--columns", "-,-", "f", "c"], "fault"),
@@ -156,15 +156,15 @@ const MORE_REQUESTS: [(&[&str], &str); 48] = [
             "f",
             "c",
         ],
-        "Import { file: \"f\", csvs: [File(\"c\")], first: None, form: CsvForm { has_header: true, separator: 44, null_word: Some(\"0000000000000000000000000000001\"), columns: None }, is_quiet: false }",
+        "Import { file: \"f\", csvs: [File(\"c\")], first: None, form: CsvForm { has_header: true, separator: 44, null_word: Some(\"0000000000000000000000000000001\"), columns: None, is_whole: false }, is_quiet: false }",
     ),
     (
         &["import", "--null", "\"5\"", "f", "c"],
-        "Import { file: \"f\", csvs: [File(\"c\")], first: None, form: CsvForm { has_header: true, separator: 44, null_word: Some(\"\\\"5\\\"\"), columns: None }, is_quiet: false }",
+        "Import { file: \"f\", csvs: [File(\"c\")], first: None, form: CsvForm { has_header: true, separator: 44, null_word: Some(\"\\\"5\\\"\"), columns: None, is_whole: false }, is_quiet: false }",
     ),
     (
         &["import", "--null", "--", "f", "c"],
-        "Import { file: \"f\", csvs: [File(\"c\")], first: None, form: CsvForm { has_header: true, separator: 44, null_word: Some(\"--\"), columns: None }, is_quiet: false }",
+        "Import { file: \"f\", csvs: [File(\"c\")], first: None, form: CsvForm { has_header: true, separator: 44, null_word: Some(\"--\"), columns: None, is_whole: false }, is_quiet: false }",
     ),
     (&["import", "f", "-", "-"], "fault"),
     (&["import", "f", "c", "--batch", "1.1"], "fault"),
@@ -194,7 +194,7 @@ const MORE_REQUESTS: [(&[&str], &str); 48] = [
             "-f",
             "--batch",
         ],
-        "Import { file: \"-f\", csvs: [File(\"--batch\")], first: Some(BatchName { origin: Origin(7), number: Number(0) }), form: CsvForm { has_header: false, separator: 44, null_word: None, columns: None }, is_quiet: false }",
+        "Import { file: \"-f\", csvs: [File(\"--batch\")], first: Some(BatchName { origin: Origin(7), number: Number(0) }), form: CsvForm { has_header: false, separator: 44, null_word: None, columns: None, is_whole: false }, is_quiet: false }",
     ),
     (&["import", "--batch", "1.4294967296", "f", "c"], "fault"),
     (&["import", "--batch", "00000000001.1", "f", "c"], "fault"),

@@ -10,6 +10,7 @@ use crate::names::fault_of_names;
 use crate::progress::{LockedReading, Progress};
 use crate::reports::write_line;
 use crate::watched_folder::{Unheld, WatchedFolder};
+use crate::whole_lines::LineEnds;
 use command_line::{CsvForm, Source};
 use csv_rows::{CsvError, CsvReader, Dialect, Order, WordError};
 use file_commands::Left;
@@ -28,6 +29,9 @@ use table_model::{BatchName, ColType, Counted, Refusal, RowName, Schema};
 
 /// What to do instead of applying a folder.
 const NO_OFFER: &str = "this is a folder: apply its parts, as OFFER/*.lanes";
+
+/// What is said of a last line without its end.
+const NO_END: &str = "the last line has no line end: did the command before it fail?";
 
 /// What is said of a file if its lock may not be made.
 const NO_NEW_FILE: &str =
@@ -129,9 +133,26 @@ pub fn load_of<'r, R: Eprint + Input + Files + Clock + AllocGlobal>(
     let mut load = Load::new(rt.alloc(), schema)?;
     for csv in csvs {
         let mut reader = source_of(rt, progress, *csv);
-        add_rows(rt, *csv, &mut reader, schema, form, &mut load)?;
+        if form.is_whole {
+            let mut reader = Counted::new(LineEnds::new(reader.into_inner()));
+            add_rows(rt, *csv, &mut reader, schema, form, &mut load)?;
+            check_end(rt.alloc(), *csv, &reader.into_inner())?;
+        } else {
+            add_rows(rt, *csv, &mut reader, schema, form, &mut load)?;
+        }
     }
     Ok(load)
+}
+
+/// Refuses a text that was read whole if its last line has no end.
+fn check_end<D>(alloc: Global, source: Source<'_>, text: &LineEnds<D>) -> Result<(), Failure> {
+    match text.open_line() {
+        None => Ok(()),
+        Some(line) => {
+            let refusal = CommandRefusal::BadCsv { line, column: 0 };
+            Err(fault_of_csv(alloc, source, refusal, Knowledge::Advice(NO_END)))
+        }
+    }
 }
 
 /// Deletes the rows for which a condition is true.

@@ -29,6 +29,7 @@ mod scripts;
 mod spreading;
 mod watched;
 mod watched_folder;
+mod whole_lines;
 
 use command_line::{Format, Queries, Request};
 use failure::Failure;
