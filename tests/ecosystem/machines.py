@@ -77,7 +77,7 @@ def printed(cluster, text, seconds=60):
     """What the page's lines print on this cluster."""
     out = io.StringIO()
     with contextlib.redirect_stdout(out):
-        exec(text.replace("tcp://HOST:8786", cluster.scheduler_address).replace(PAGE_WAITS, f"timeout={seconds}"), {"__name__": "page"})
+        exec(text.replace("tcp://HOST:8786", cluster.scheduler_address).replace(PAGE_WAITS, f"timeout={seconds}"), {"__name__": "__main__"})
     return out.getvalue()
 
 
