@@ -38,7 +38,7 @@ def each_failed_read_is_told(room, words, name, subject, given=None):
     trace, status, _, err = traced(room, words, given=given)
     assert status == 0, f"{words} said {err}"
     found = reads_of(trace, room.path(name))
-    assert len(found) > 2 or name == "s", f"{words} reads {name} {len(found)} times"
+    assert len(found) > 2 or name in "sp", f"{words} reads {name} {len(found)} times"
     for entry, data in before.items():
         room.put(entry, data)
     # The first, the second, one in the middle, that of the last bytes and the one that finds the end.
@@ -74,6 +74,14 @@ def a_read_that_fails_in_the_middle_of_an_input_is_never_its_end(room):
         (("merge", "t", "t", "o"), "o", "o", None),
         (("query", "o", "SELECT COUNT(*) FROM T"), "o", "o", None),
         (("dump", "o"), "o", "o", None),
+        (("check", "o"), "o", "o", None),
+        (("summary", "o"), "o", "o", None),
+        (("spread", "o", "x", "y"), "o", "o", None),
+        (("partial", "o", "SELECT COUNT(*) FROM T"), "o", "o", None),
+        (("partial", "-", "SELECT COUNT(*) FROM T"), "o", "standard input", "o"),
+        (("combine", "p"), "p", "p", None),
+        (("finish", "p"), "p", "p", None),
+        (("finish", "-"), "p", "standard input", "p"),
     ):
         each_failed_read_is_told(room, words, name, subject, given)
 
@@ -223,6 +231,34 @@ def a_folder_that_can_not_be_synced_is_told_by_each_command_that_writes_a_file(r
         room.only("o", "rows", "t", "v")
 
 
+def a_name_that_can_not_be_drawn_is_told_and_nothing_is_changed(room):
+    """Each random word that the system refuses: those of a batch's name, and that of a temporary of a folder."""
+    held = room.make("t")
+    room.ok("create", "d/", "T", *COLUMNS)
+    room.put("rows", b"3,40\n")
+    parts = os.listdir(room.path("d"))
+    for words, draws in (
+        (("import", "--no-header", "t", "rows"), [UNREAD] * 16),
+        (("import", "--no-header", "d", "rows"), [UNREAD] * 16 + ["refused WriteFault"]),
+        (("delete-rows", "d", "1.1", "0", "0"), ["refused WriteFault"]),
+        (("create", "e/", "T", *COLUMNS), ["refused WriteFault"]),
+    ):
+        trace, status, _, err = traced(room, words, ("-e", "trace=getrandom"))
+        # The C library draws words of its own, for which it doesn't wait.
+        drawn = [at for at, line in enumerate(re.findall(r"getrandom\(.*", trace), 1) if "GRND_NONBLOCK" not in line]
+        assert status == 0 and len(drawn) == len(draws), f"{words} drew {len(drawn)} words and said {err!r}"
+        room.put("t", held)
+        for name in set(os.listdir(room.path("d"))) - set(parts):
+            os.remove(room.path("d/" + name))
+        if "e" in room.names():
+            shutil.rmtree(room.path("e"))
+        for at, line in zip(drawn, draws):
+            _, status, out, err = traced(room, words, ("-e", "trace=getrandom", "-e", f"inject=getrandom:error=EIO:when={at}"))
+            assert (status, out, err.split("\n")[0]) == (1, b"", line), f"{words}, word {at}: {status} {out!r} {err!r}"
+            assert room.get("t") == held and os.listdir(room.path("d")) == parts
+            room.only("d", "rows", "t")
+
+
 TESTS = [
     a_read_that_fails_in_the_middle_of_an_input_is_never_its_end,
     a_read_that_fails_under_the_lock_is_told_and_the_lock_is_given_back,
@@ -231,4 +267,5 @@ TESTS = [
     a_merge_reads_its_inputs_in_their_order,
     a_merge_that_is_refused_or_changes_nothing_gives_the_lock_back,
     a_folder_that_can_not_be_synced_is_told_by_each_command_that_writes_a_file,
+    a_name_that_can_not_be_drawn_is_told_and_nothing_is_changed,
 ]
