@@ -259,6 +259,58 @@ def a_name_that_can_not_be_drawn_is_told_and_nothing_is_changed(room):
             room.only("d", "rows", "t")
 
 
+def a_file_of_another_disk_is_not_the_output(room):
+    """OUT and IN have one number, each on a file system of its own. A merge that took them for one file would leave OUT as it is."""
+    room.make("one", rows=b"1,10\n")
+    room.make("two", rows=b"2,20\n")
+    os.mkdir(room.path("a"))
+    os.mkdir(room.path("b"))
+    script = 'mount -t tmpfs none a && mount -t tmpfs none b && cp one a/t && cp two b/t && stat -c %i a/t b/t > numbers && "$0" merge a/t b/t && cp a/t merged'
+    if shutil.which("unshare") is None:
+        raise Lacking("unshare is not installed")
+    done = subprocess.run(["unshare", "-m", "sh", "-c", script, room.program], cwd=room.folder, capture_output=True, timeout=120)
+    if "numbers" not in room.names():
+        raise Lacking(f"no file system can be mounted: {done.stderr[-200:]!r}")
+    numbers = room.get("numbers").split()
+    if len(set(numbers)) != 1:
+        raise Lacking(f"the files have the numbers {numbers}")
+    assert (done.returncode, done.stdout, done.stderr) == (0, b"ok\n", b""), done
+    assert room.get("merged") == room.get("two") != room.get("one")
+
+
+def a_file_in_the_root_is_replaced_too(room):
+    """The folder of FILE is the root: a folder of this test, in which are the program and the libraries that it is linked with."""
+    if os.geteuid() != 0 or shutil.which("ldd") is None:
+        raise Lacking("this is not root, or there is no ldd")
+    held = room.make("t", rows=b"1,10\n")
+    room.ok("delete", "t", "A = 1")
+    root = room.path("root")
+    libraries = re.findall(r"(/\S+) \(0x", subprocess.run(["ldd", room.program], capture_output=True, text=True, timeout=120).stdout)
+    for name in libraries:
+        os.makedirs(root + os.path.dirname(name), exist_ok=True)
+        shutil.copy(name, root + name)
+    os.makedirs(root, exist_ok=True)
+    shutil.copy(room.program, f"{root}/lanes")
+    room.put("root/t", held)
+    room.put("root/o", held)
+    before = os.listdir(root)
+
+    def enter():
+        os.chroot(root)
+        os.chdir("/")
+
+    for words, prints in (
+        (("apply", "/t", "/o"), b"ok batches=1 ranges=0 new=0\n"),
+        (("delete", "/t", "A = 1"), b"ok 1\n"),
+        (("merge", "t", "/t", "o"), b"ok\n"),
+        (("create", "/d/", "U", "A", "SMALLINT"), b"ok\n"),
+    ):
+        done = subprocess.run(["/lanes", *words], preexec_fn=enter, capture_output=True, timeout=120)
+        assert (done.returncode, done.stdout, done.stderr) == (0, prints, b""), f"{words}: {done}"
+    assert room.get("root/t") == room.get("t")
+    assert sorted(os.listdir(root)) == sorted([*before, "d"])
+
+
 TESTS = [
     a_read_that_fails_in_the_middle_of_an_input_is_never_its_end,
     a_read_that_fails_under_the_lock_is_told_and_the_lock_is_given_back,
@@ -268,4 +320,6 @@ TESTS = [
     a_merge_that_is_refused_or_changes_nothing_gives_the_lock_back,
     a_folder_that_can_not_be_synced_is_told_by_each_command_that_writes_a_file,
     a_name_that_can_not_be_drawn_is_told_and_nothing_is_changed,
+    a_file_of_another_disk_is_not_the_output,
+    a_file_in_the_root_is_replaced_too,
 ]
