@@ -1,12 +1,13 @@
 #!/usr/bin/env python3
-"""Checks a few words of the pages that are written by hand: README.md, CONTRIBUTING.md, docs/*.md but DEFINITIONS.md, and the READMEs of
-crates; and of the docstrings of some crates. A condition is told by `if` or `when`, so the word `where` comes in headings alone; and
-`is had` and `is none` are not said. Nor are they in the texts of the program's messages, in all crates. Code is passed over. It prints
-each line that is wrong, and the status is then 1."""
+"""Checks a few words of the pages that are written by hand: README.md, CONTRIBUTING.md, docs/*.md but DEFINITIONS.md, the examples, the
+READMEs of tests and benchmarks, and those of crates; and of the docstrings of some crates. A condition is told by `if` or `when`, so the
+word `where` comes in headings alone; and `is had` and `is none` are not said. Nor are they in the texts of the program's messages, in all
+crates. The pages that belong to no crate, and the messages, do not say `stands` for `is`, `lacks`, `beside` and `maybe` either. Code is passed over. It prints each line that is wrong, and the status is then 1."""
 import pathlib, re, sys
 
 TOP = pathlib.Path(__file__).resolve().parent.parent
-PAGES = ["README.md", "CONTRIBUTING.md", "docs/*.md", "crates/*/README.md"]
+PAGES = ["README.md", "CONTRIBUTING.md", "docs/*.md", "examples/*.md", "tests/README.md", "bench/README.md", "python/README.md"]
+READMES = ["crates/*/README.md"]
 WRITTEN = ["DEFINITIONS.md"]
 # The crates whose docstrings are checked, those with few contracts first. The others are still to be mended.
 CRATES = ["refusal_sentences", "command_line", "lanes_main", "answer_formats", "csv_rows", "query_parser"]
@@ -15,6 +16,8 @@ TEXT = re.compile(r'"((?:[^"\\]|\\.)* (?:[^"\\]|\\.)*)"')
 # The condition of a script's line.
 SCRIPT_WORD = "delete where"
 NOT_SAID = re.compile(r"\b[Ww]here\b|\b(?:is|are|was|were) had\b|\bis none\b")
+# A file stands for what was taken, by the second theorem, and the repository stands alone.
+NOT_SAID_TO_USERS = re.compile(NOT_SAID.pattern + r"|\b[Ss]t(?:ands?|ood)\b(?! for| alone)|\b[Ll]ack(?:s|ed|ing)?\b|\b[Bb]eside\b|\b[Mm]aybe\b")
 
 
 def lines_of(page):
@@ -35,18 +38,23 @@ def messages_of(source):
     return [(number, text.replace(SCRIPT_WORD, "")) for number, line in lines for text in TEXT.findall(line)]
 
 
-def faults_of(file, lines):
+def faults_of(file, lines, not_said=NOT_SAID):
     """The words of these lines of a file that are not said."""
-    return [f"{file.relative_to(TOP)}:{number}: {found[0]}" for number, line in lines for found in NOT_SAID.finditer(line)]
+    return [f"{file.relative_to(TOP)}:{number}: {found[0]}" for number, line in lines for found in not_said.finditer(line)]
+
+
+def pages_of(patterns):
+    """The pages that are written by hand."""
+    return [page for pattern in patterns for page in sorted(TOP.glob(pattern)) if page.name not in WRITTEN]
 
 
 def main():
-    pages = [page for pattern in PAGES for page in sorted(TOP.glob(pattern)) if page.name not in WRITTEN]
     sources = [source for crate in CRATES for source in sorted((TOP / "crates" / crate / "src").rglob("*.rt"))]
     speaking = [source for source in sorted((TOP / "crates").glob("*/src/**/*.rt")) if "_tests/" not in str(source)]
-    wrong = [fault for page in pages for fault in faults_of(page, lines_of(page))]
+    wrong = [fault for page in pages_of(PAGES) for fault in faults_of(page, lines_of(page), NOT_SAID_TO_USERS)]
+    wrong += [fault for page in pages_of(READMES) for fault in faults_of(page, lines_of(page))]
     wrong += [fault for source in sources for fault in faults_of(source, docstrings_of(source))]
-    wrong += [fault for source in speaking for fault in faults_of(source, messages_of(source))]
+    wrong += [fault for source in speaking for fault in faults_of(source, messages_of(source), NOT_SAID_TO_USERS)]
     print("".join(f"{line}\n" for line in wrong), end="")
     sys.exit(1 if wrong else 0)
 

@@ -7,16 +7,16 @@
  * it needs while it runs comes from malloc, and is freed when it returns. What lanes_open keeps comes from malloc too, and is freed when
  * the last handle of it is closed.
  *
- * Bytes that go in are a pointer and a length in bytes. The pointer is never null, also where the length is 0; it may be the same as
+ * Bytes that go in are a pointer and a length in bytes. The pointer is never null, also if the length is 0; it may be the same as
  * another one that is only read, and must not overlap what the call writes.
  *
- * Bytes that come out: a call is given `out`, which has room for `room` bytes, and tells in *length how many bytes there are. Where they
- * fit they stand at the front of `out`, and what lies behind them is as it was. Where they don't fit (*length > room) nothing is
+ * Bytes that come out: a call is given `out`, which has room for `room` bytes, and tells in *length how many bytes there are. If they
+ * fit, they are at the start of `out`, and the rest of it is unchanged. If they don't fit (*length > room), nothing is
  * written, and the call is to be made again with more room. A room of 0 asks for the length alone; `out` isn't null then either.
  *
  * What is answered: 0, or the number of a refusal. A refused call tells *length as 0, writes nothing into `out`, and tells in *place
- * where it was refused. With 0, *place is {0, 0}, and so it is where a refusal has no place. LANES_MEMORY may come in the place of any
- * other refusal, and LANES_READ_FAULT stands for more than 2^48 bytes of input. Both are refusals of the call, and not of the bytes.
+ * where it was refused. With 0, *place is {0, 0}, and so it is if a refusal has no place. LANES_MEMORY may come in place of any
+ * other refusal, and LANES_READ_FAULT means more than 2^48 bytes of input. Both are refusals of the call, and not of the bytes.
  *
  * A file is a canonical column file, as docs/FORMATS.md has it; the program `lanes` writes the same bytes. A text is UTF-8, without a
  * byte 0 at its end.
@@ -131,8 +131,8 @@ uint8_t lanes_query(const uint8_t *file, size_t file_length, const uint8_t *sql,
 /* Answers several queries over a file that is opened once. `sqls` has a line feed between each two queries, and none at its end.
  *
  * Gives: the texts of the answers, one after another, each as lanes_query gives it. The answer of query i, from 0, ends in front of the
- * byte ends[i] of `out`, and the next one begins there. `ends` has room for ends_room numbers. It is written where there is room for
- * all of them, also when `out` has too little room, and else it is as it was. It is never null, and overlaps nothing.
+ * byte ends[i] of `out`, and the next one begins there. `ends` has room for ends_room numbers. It is written if there is room for
+ * all of them, also if `out` has too little room; otherwise it is unchanged. It is never null, and overlaps nothing.
  * Refused, in this order: the file's first fault; the first query that lanes_query refuses, with what that refuses it as. place->second
  * says which query it is, from 0, and place->first is a byte of that query. */
 uint8_t lanes_queries(const uint8_t *file, size_t file_length, const uint8_t *sqls, size_t sqls_length, uint8_t *out, size_t room,
@@ -149,38 +149,38 @@ uint8_t lanes_dump(const uint8_t *file, size_t file_length, bool has_names, uint
  * in double quotes or not; an empty one, NULL and \N are nulls. Rows become batches of 65,536 rows, the last one shorter.
  *
  * The batches have consecutive names; the first is origin.number. The same rows under the same name are there already, so an import may
- * be sent twice; other rows under a name that is held are LANES_CONFLICT. Where origin and number are both 0 the name is drawn of
- * `words`, words_count random numbers of the caller: of the first of them from which all names are free. Four are plenty. Where a name is
+ * be sent twice; other rows under a name that is held are LANES_CONFLICT. If origin and number are both 0, the name is drawn from
+ * `words`, words_count random numbers of the caller: of the first of them from which all names are free. Four are plenty. If a name is
  * given, words_count may be 0.
  *
- * Gives: the new file; it is the given file where nothing was new.
- * Refused, in this order: the file's first fault; LANES_BAD_CSV, LANES_LINE_TOO_LONG; LANES_BAD_NAME where one of origin and number
- * is 0; LANES_NUMBERS_SPENT where names go past 4,294,967,295 or no word gives a free one; LANES_CONFLICT; LANES_FULL. */
+ * Gives: the new file; it is the given file if nothing was new.
+ * Refused, in this order: the file's first fault; LANES_BAD_CSV, LANES_LINE_TOO_LONG; LANES_BAD_NAME if one of origin and number
+ * is 0; LANES_NUMBERS_SPENT if names go past 4,294,967,295 or no word gives a free one; LANES_CONFLICT; LANES_FULL. */
 uint8_t lanes_import(const uint8_t *file, size_t file_length, const uint8_t *csv, size_t csv_length, bool has_heading, uint32_t origin,
                      uint32_t number, const uint64_t *words, size_t words_count, uint8_t *out, size_t room, size_t *length,
                      lanes_place *place);
 
-/* Deletes the rows at which a condition is true: what stands after WHERE in a query.
+/* Deletes the rows at which a condition is true: what comes after WHERE in a query.
  *
- * Gives: the new file; it is the given file where there was no such row.
+ * Gives: the new file; it is the given file if there was no such row.
  * Refused, in this order: LANES_SYNTAX at the first byte that is no UTF-8; the file's first fault; LANES_SYNTAX, LANES_NUMBER_TOO_LARGE,
  * LANES_TOO_DEEP; LANES_NO_SUCH_COLUMN. Their places are bytes of the condition. */
 uint8_t lanes_delete(const uint8_t *file, size_t file_length, const uint8_t *condition, size_t condition_length, uint8_t *out,
                      size_t room, size_t *length, lanes_place *place);
 
-/* Forgets: drops the batches of which every row is deleted. Their deletions stay, so that these rows never come back, and no answer
+/* Forgets: drops the batches whose rows are all deleted. Their deletions stay, so that these rows never come back, and no answer
  * changes. A name that was dropped stays used up; docs/COMMANDS.md, "Forgetting", says when to forget.
  *
- * Gives: the new file; it is the given file where there is no such batch.
+ * Gives: the new file; it is the given file if there is no such batch.
  * Refused: the file's first fault. */
 uint8_t lanes_forget(const uint8_t *file, size_t file_length, uint8_t *out, size_t room, size_t *length, lanes_place *place);
 
-/* Gives the summary of a file: the names of its batches, by which another replica knows what it lacks.
+/* Gives the summary of a file: the names of its batches, by which another replica knows what it does not have.
  *
  * Refused: the file's first fault. */
 uint8_t lanes_summary(const uint8_t *file, size_t file_length, uint8_t *out, size_t room, size_t *length, lanes_place *place);
 
-/* Gives the offer of a file to another's summary: the batches that the other lacks, and all deletions.
+/* Gives the offer of a file to another's summary: the batches that the other does not have, and all deletions.
  *
  * Refused, in this order: the summary's first fault, with its place in the summary; the file's; LANES_SCHEMA_DIFFERS. */
 uint8_t lanes_offer(const uint8_t *file, size_t file_length, const uint8_t *summary, size_t summary_length, uint8_t *out, size_t room,
@@ -188,7 +188,7 @@ uint8_t lanes_offer(const uint8_t *file, size_t file_length, const uint8_t *summ
 
 /* Applies an offer to a file. A file is an offer too.
  *
- * Gives: the new file; it is the given file where the offer brings nothing.
+ * Gives: the new file; it is the given file if the offer brings nothing.
  * Refused, in this order: the offer's first fault, with its place in the offer; the file's; LANES_SCHEMA_DIFFERS; LANES_CONFLICT with
  * the least name that has two lists of rows; LANES_FULL. */
 uint8_t lanes_apply(const uint8_t *file, size_t file_length, const uint8_t *offer, size_t offer_length, uint8_t *out, size_t room,
@@ -285,13 +285,13 @@ uint8_t lanes_finish(const uint8_t *partial, size_t partial_length, uint8_t form
  * condition: what follows WHERE; of length 0: every live row.
  *
  * Gives: *rows is how many rows there are. Column c's cells are values[c * rows] and on, 0 at a null. Its bits begin at
- * valid[c * stride], where stride is 64 * ((rows + 511) / 512): bit i % 8 of byte i / 8 is 1 where cell i is a value, and 0 where it is
- * null and past the last row. nulls[c] is how many nulls there are. The rooms are counted in numbers. Where rows * columns >
+ * valid[c * stride], where stride is 64 * ((rows + 511) / 512): bit i % 8 of byte i / 8 is 1 if cell i is a value, and 0 if it is
+ * null or past the last row. nulls[c] is how many nulls there are. The rooms are counted in numbers. If rows * columns >
  * values_room, or stride * columns > valid_room, or columns > nulls_room, nothing is written but *rows. So a call with rooms of 0 asks
  * for *rows alone. The three rooms are never null, and overlap nothing.
  * Refused, in this order: LANES_NOT_OPEN when the handle is closed; LANES_SYNTAX at the first byte of the names, and then of the
  * condition, that is no UTF-8; the condition's LANES_SYNTAX, LANES_NUMBER_TOO_LARGE, LANES_TOO_DEEP; LANES_NO_SUCH_COLUMN at a byte of
- * the names; LANES_NO_SUCH_COLUMN at a byte of the condition. place->second is 1 where the byte is one of the names, and else 0. A
+ * the names; LANES_NO_SUCH_COLUMN at a byte of the condition. place->second is 1 if the byte is one of the names, and otherwise 0. A
  * refused call tells *rows as 0. */
 uint8_t lanes_columns(lanes_table *table, const uint8_t *names, size_t names_length, const uint8_t *condition, size_t condition_length,
                       int64_t *values, size_t values_room, uint8_t *valid, size_t valid_room, uint64_t *nulls, size_t nulls_room,
@@ -363,16 +363,16 @@ uint8_t lanes_table_forget(lanes_table *table, lanes_place *place);
 /* Closes a handle. Closing a closed one does nothing. */
 void lanes_close(lanes_table *table);
 
-/* Gives the name of a refusal's number, as "NotCanonical", without a byte 0 at its end, and answers how many bytes it has: 0 where the
- * number has no name. It is written where it fits. No name has more than 32 bytes. */
+/* Gives the name of a refusal's number, as "NotCanonical", without a byte 0 at its end, and answers how many bytes it has: 0 if the
+ * number has no name. It is written if it fits. No name has more than 32 bytes. */
 size_t lanes_refusal(uint8_t number, uint8_t *out, size_t room);
 
 /* Gives a sentence for a refusal's number and place, as "byte 7: syntax error here", without a byte 0 at
- * its end, and answers how many bytes it has: 0 where the number has no sentence, or memory lacks. It is written where it fits. No sentence
+ * its end, and answers how many bytes it has: 0 if the number has no sentence, or if memory runs out. It is written if it fits. No sentence
  * has more than 256 bytes. */
 size_t lanes_sentence(uint8_t number, const lanes_place *place, uint8_t *out, size_t room);
 
-/* Gives the library's version, as "0.6.0", without a byte 0 at its end, and answers how many bytes it has. It is written where it
+/* Gives the library's version, as "0.6.0", without a byte 0 at its end, and answers how many bytes it has. It is written if it
  * fits. */
 size_t lanes_version(uint8_t *out, size_t room);
 

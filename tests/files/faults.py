@@ -38,7 +38,7 @@ def each_failed_read_is_told(room, words, name, subject, given=None):
     trace, status, _, err = traced(room, words, given=given)
     assert status == 0, f"{words} said {err}"
     found = reads_of(trace, room.path(name))
-    assert len(found) > 2 or name == "s", f"{words} reads {name} {len(found)} times"
+    assert len(found) > 2 or name in "sp", f"{words} reads {name} {len(found)} times"
     for entry, data in before.items():
         room.put(entry, data)
     # The first, the second, one in the middle, that of the last bytes and the one that finds the end.
@@ -74,6 +74,14 @@ def a_read_that_fails_in_the_middle_of_an_input_is_never_its_end(room):
         (("merge", "t", "t", "o"), "o", "o", None),
         (("query", "o", "SELECT COUNT(*) FROM T"), "o", "o", None),
         (("dump", "o"), "o", "o", None),
+        (("check", "o"), "o", "o", None),
+        (("summary", "o"), "o", "o", None),
+        (("spread", "o", "x", "y"), "o", "o", None),
+        (("partial", "o", "SELECT COUNT(*) FROM T"), "o", "o", None),
+        (("partial", "-", "SELECT COUNT(*) FROM T"), "o", "standard input", "o"),
+        (("combine", "p"), "p", "p", None),
+        (("finish", "p"), "p", "p", None),
+        (("finish", "-"), "p", "standard input", "p"),
     ):
         each_failed_read_is_told(room, words, name, subject, given)
 
@@ -223,6 +231,86 @@ def a_folder_that_can_not_be_synced_is_told_by_each_command_that_writes_a_file(r
         room.only("o", "rows", "t", "v")
 
 
+def a_name_that_can_not_be_drawn_is_told_and_nothing_is_changed(room):
+    """Each random word that the system refuses: those of a batch's name, and that of a temporary of a folder."""
+    held = room.make("t")
+    room.ok("create", "d/", "T", *COLUMNS)
+    room.put("rows", b"3,40\n")
+    parts = os.listdir(room.path("d"))
+    for words, draws in (
+        (("import", "--no-header", "t", "rows"), [UNREAD] * 16),
+        (("import", "--no-header", "d", "rows"), [UNREAD] * 16 + ["refused WriteFault"]),
+        (("delete-rows", "d", "1.1", "0", "0"), ["refused WriteFault"]),
+        (("create", "e/", "T", *COLUMNS), ["refused WriteFault"]),
+    ):
+        trace, status, _, err = traced(room, words, ("-e", "trace=getrandom"))
+        # The C library draws words of its own, for which it doesn't wait.
+        drawn = [at for at, line in enumerate(re.findall(r"getrandom\(.*", trace), 1) if "GRND_NONBLOCK" not in line]
+        assert status == 0 and len(drawn) == len(draws), f"{words} drew {len(drawn)} words and said {err!r}"
+        room.put("t", held)
+        for name in set(os.listdir(room.path("d"))) - set(parts):
+            os.remove(room.path("d/" + name))
+        if "e" in room.names():
+            shutil.rmtree(room.path("e"))
+        for at, line in zip(drawn, draws):
+            _, status, out, err = traced(room, words, ("-e", "trace=getrandom", "-e", f"inject=getrandom:error=EIO:when={at}"))
+            assert (status, out, err.split("\n")[0]) == (1, b"", line), f"{words}, word {at}: {status} {out!r} {err!r}"
+            assert room.get("t") == held and os.listdir(room.path("d")) == parts
+            room.only("d", "rows", "t")
+
+
+def a_file_of_another_disk_is_not_the_output(room):
+    """OUT and IN have one number, each on a file system of its own. A merge that took them for one file would leave OUT as it is."""
+    room.make("one", rows=b"1,10\n")
+    room.make("two", rows=b"2,20\n")
+    os.mkdir(room.path("a"))
+    os.mkdir(room.path("b"))
+    script = 'mount -t tmpfs none a && mount -t tmpfs none b && cp one a/t && cp two b/t && stat -c %i a/t b/t > numbers && "$0" merge a/t b/t && cp a/t merged'
+    if shutil.which("unshare") is None:
+        raise Lacking("unshare is not installed")
+    done = subprocess.run(["unshare", "-m", "sh", "-c", script, room.program], cwd=room.folder, capture_output=True, timeout=120)
+    if "numbers" not in room.names():
+        raise Lacking(f"no file system can be mounted: {done.stderr[-200:]!r}")
+    numbers = room.get("numbers").split()
+    if len(set(numbers)) != 1:
+        raise Lacking(f"the files have the numbers {numbers}")
+    assert (done.returncode, done.stdout, done.stderr) == (0, b"ok\n", b""), done
+    assert room.get("merged") == room.get("two") != room.get("one")
+
+
+def a_file_in_the_root_is_replaced_too(room):
+    """The folder of FILE is the root: a folder of this test, in which are the program and the libraries that it is linked with."""
+    if os.geteuid() != 0 or shutil.which("ldd") is None:
+        raise Lacking("this is not root, or there is no ldd")
+    held = room.make("t", rows=b"1,10\n")
+    room.ok("delete", "t", "A = 1")
+    root = room.path("root")
+    libraries = re.findall(r"(/\S+) \(0x", subprocess.run(["ldd", room.program], capture_output=True, text=True, timeout=120).stdout)
+    for name in libraries:
+        os.makedirs(root + os.path.dirname(name), exist_ok=True)
+        shutil.copy(name, root + name)
+    os.makedirs(root, exist_ok=True)
+    shutil.copy(room.program, f"{root}/lanes")
+    room.put("root/t", held)
+    room.put("root/o", held)
+    before = os.listdir(root)
+
+    def enter():
+        os.chroot(root)
+        os.chdir("/")
+
+    for words, prints in (
+        (("apply", "/t", "/o"), b"ok batches=1 ranges=0 new=0\n"),
+        (("delete", "/t", "A = 1"), b"ok 1\n"),
+        (("merge", "t", "/t", "o"), b"ok\n"),
+        (("create", "/d/", "U", "A", "SMALLINT"), b"ok\n"),
+    ):
+        done = subprocess.run(["/lanes", *words], preexec_fn=enter, capture_output=True, timeout=120)
+        assert (done.returncode, done.stdout, done.stderr) == (0, prints, b""), f"{words}: {done}"
+    assert room.get("root/t") == room.get("t")
+    assert sorted(os.listdir(root)) == sorted([*before, "d"])
+
+
 TESTS = [
     a_read_that_fails_in_the_middle_of_an_input_is_never_its_end,
     a_read_that_fails_under_the_lock_is_told_and_the_lock_is_given_back,
@@ -231,4 +319,7 @@ TESTS = [
     a_merge_reads_its_inputs_in_their_order,
     a_merge_that_is_refused_or_changes_nothing_gives_the_lock_back,
     a_folder_that_can_not_be_synced_is_told_by_each_command_that_writes_a_file,
+    a_name_that_can_not_be_drawn_is_told_and_nothing_is_changed,
+    a_file_of_another_disk_is_not_the_output,
+    a_file_in_the_root_is_replaced_too,
 ]

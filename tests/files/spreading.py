@@ -3,10 +3,12 @@
 import json
 import os
 import random
+import shutil
 import signal
 import subprocess
+import time
 
-from replacing import limited
+from replacing import limited, taken, traced_at
 from room import Lacking, rows_text
 
 QUERIES = (
@@ -182,6 +184,43 @@ def a_spread_that_is_killed_leaves_the_first_of_them_whole(room):
     assert seen >= set(range(1, 9)), f"kills left {seen}"
 
 
+def an_out_that_comes_meanwhile_is_not_replaced(room):
+    """The second OUT is locked by somebody, who makes it and lets the lock go, or who keeps the lock."""
+    loaded(room, "t", [3, 4])
+    for is_made, line in ((True, "refused Exists"), (False, "refused Busy")):
+        with taken(room, ".b.lanes-lock"):
+            run = room.start("spread", "t", "a", "b")
+            deadline = time.monotonic() + 20
+            while "a" not in room.names():
+                assert time.monotonic() < deadline and run.poll() is None, f"the first was not made: {run.stderr.read()!r}"
+                time.sleep(0.02)
+            time.sleep(0.3)
+            if is_made:
+                room.put("b", b"mine")
+            else:
+                run.wait(60)
+        out, err = run.communicate(timeout=60)
+        assert (run.returncode, out, err.decode().split("\n")[0]) == (1, b"", line), f"it said {err!r}"
+        assert not is_made or room.get("b") == b"mine"
+        # A lock that somebody left stays only if it was never had.
+        room.only("t", *(["b"] if is_made else [".b.lanes-lock"]))
+        for name in set(room.names()) - {"t"}:
+            os.remove(room.path(name))
+
+
+def an_out_whose_folder_can_not_be_synced_is_told_and_is_there(room):
+    loaded(room, "t", [3, 4])
+    for outs, when, told in ((["a"], 2, "a"), (["a", "b"], 4, "b"), (["a/"], 3, "a/"), (["a", "b/"], 5, "b/")):
+        trace, status, err = traced_at(room, ("spread", "t", *outs), ("-e", "trace=fsync", "-e", f"inject=fsync:error=EIO:when={when}"))
+        err = err.decode()
+        assert status == 0 and trace.count("fsync(") == when, f"{outs}: {err!r} {trace}"
+        assert err.startswith(f"{told}: ") and "could not be synced: a loss of power may" in err and err.count("\n") == 1, f"{outs} said {err!r}"
+        room.ok("merge", "m", *(out.rstrip("/") for out in outs))
+        assert room.get("m") == room.get("t")
+        for name in set(room.names()) - {"t"}:
+            shutil.rmtree(room.path(name)) if os.path.isdir(room.path(name)) else os.remove(room.path(name))
+
+
 TESTS = [
     a_spread_file_is_that_file_when_it_is_merged,
     a_thousand_batches_are_spread_evenly,
@@ -190,4 +229,6 @@ TESTS = [
     what_is_there_is_not_replaced,
     one_that_is_not_written_takes_all_away,
     a_spread_that_is_killed_leaves_the_first_of_them_whole,
+    an_out_that_comes_meanwhile_is_not_replaced,
+    an_out_whose_folder_can_not_be_synced_is_told_and_is_there,
 ]

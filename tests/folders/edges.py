@@ -3,6 +3,7 @@
 import os
 import re
 import resource
+import shutil
 
 from parts import count, make_folder, name_of, parts_of
 from putting import in_order, only_parts, traced
@@ -33,27 +34,28 @@ def a_quiet_command_does_the_same_and_says_nothing(room):
                 ("import", "--no-header", "--batch", "2.2", f"{name}{end}", "-"),
                 ("delete", f"{name}{end}", "A = 1"),
                 ("delete-rows", f"{name}{end}", "2.2", "0", "65535"),
+                ("delete-rows", "--held", f"{name}{end}", "2.1", "0", "0"),
+                ("delete-rows", "--held", f"{name}{end}", "9.9", "0", "0"),
                 ("apply", f"{name}{end}", "p"),
                 ("forget", f"{name}{end}"),
                 ("pack", "--all", f"{name}{end}") if end else ("forget", name),
                 ("merge", f"{name}-m{end}", f"{name}{end}", "o"),
                 ("merge", f"{name}-m", f"{name}-m", "o") if not end else ("merge", f"{name}-n/", "o"),
+                ("spread", f"{name}{end}", f"{name}-s{end}", f"{name}-u{end}"),
             )
             for step in steps:
                 status, out, err = room.run(step[0], *quiet, *step[1:], given=b"1,10\n2,20\n" if step[0] == "import" else b"")
                 assert status == 0 and err == b"", f"{step} with {quiet} ended with {status} and said {err!r}"
                 assert (out == b"") if quiet else out.startswith(b"ok"), f"{step} with {quiet} wrote {out!r}"
-        for name in ("", "-m", *(["-n"] if end else [])):
+        for name in ("", "-m", "-s", "-u", *(["-n"] if end else [])):
             if end:
                 assert parts_of(room, f"t{name}") == parts_of(room, f"q{name}") != []
             else:
                 assert room.get(f"t{name}") == room.get(f"q{name}")
-        for name in ("t", "t-m", "t-n", "q", "q-m", "q-n"):
+        for name in {*room.names()} - {"o", "p"}:
             if os.path.isdir(room.path(name)):
-                for part in os.listdir(room.path(name)):
-                    os.remove(room.path(f"{name}/{part}"))
-                os.rmdir(room.path(name))
-            elif os.path.exists(room.path(name)):
+                shutil.rmtree(room.path(name))
+            else:
                 os.remove(room.path(name))
 
 
@@ -68,6 +70,8 @@ def a_quiet_command_still_says_why_it_is_refused(room):
             (("delete-rows", "--quiet", name, "1.1", "1", "0"), "refused BadRange 0"),
             (("apply", "--quiet", name, "none"), "refused ReadFault"),
             (("merge", "--quiet", "m", name, "none"), "refused ReadFault"),
+            (("delete-rows", "--quiet", "--held", name, "1.1", "1", "0"), "refused BadRange 0"),
+            (("spread", "--quiet", name, "m", "m"), "refused Exists"),
         ):
             room.refused(*words, given=b"x,9\n", line=line)
     room.refused("forget", "--quiet", "none", line="refused ReadFault")

@@ -1,0 +1,112 @@
+"""The lines for Dask of docs/MANY-MACHINES.md, on a cluster of four processes, each in a folder of its own. One of them is killed while it
+is asked, and then stopped for good."""
+
+import contextlib
+import io
+import logging
+import os
+import pathlib
+import signal
+import threading
+import time
+
+import lanes
+from distributed import Client, Nanny, Scheduler, SpecCluster
+
+#: The months that the shard of each machine has.
+MONTHS = {"one": range(1, 5), "two": [5, 6, 7, 8, 13], "three": range(9, 13)}
+#: What each worker does first. If there is a file `waits`, the next partial answer that is asked of it does not come.
+PRELOAD = """
+import lanes, os, time
+os.chdir({folder!r})
+def slow_partial(folder, sql, partial=lanes.Folder.partial):
+    if os.path.exists("waits"):
+        os.rename("waits", "asked")
+        time.sleep(600)
+    return partial(folder, sql)
+lanes.Folder.partial = slow_partial
+"""
+#: How long the page waits for a machine, and a test here.
+PAGE_WAITS, SECONDS = "timeout=60", 5
+
+
+def shards(room):
+    """Makes the folder of each machine as the page has them before it asks, with a replica of the first shard in `spare`."""
+    for machine, months in MONTHS.items():
+        (room / machine).mkdir()
+        folder = lanes.Folder.create(room / machine / "visits", "VISITS", {"MONTH": "TINYINT", "SITE": "SMALLINT", "HITS": "INTEGER"})
+        for month in months:
+            folder.import_csv(f"{month},1,{month * 10}\n{month},2,{month * 7}\n", heading=False, batch=(1, month))
+        folder.delete("MONTH = 3")
+    lanes.Folder(room / "three" / "visits").delete_rows((1, 12), 0)
+    (room / "spare").mkdir()
+    lanes.Folder.of(room / "spare" / "visits", lanes.Folder(room / "one" / "visits").read())
+
+
+def cluster_of(room):
+    """A scheduler and a worker for each machine, which is a process in the folder of the machine."""
+    options = {"nthreads": 1, "host": "127.0.0.1", "dashboard": False, "local_directory": os.fspath(room)}
+    workers = {machine: {"cls": Nanny, "options": {**options, "preload": [PRELOAD.format(folder=os.fspath(room / machine))]}} for machine in [*MONTHS, "spare"]}
+    scheduler = {"cls": Scheduler, "options": {"host": "127.0.0.1", "port": 0, "dashboard": False}}
+    return SpecCluster(workers=workers, scheduler=scheduler, silence_logs=logging.CRITICAL)
+
+
+def process_of(cluster, machine):
+    """The process of a machine's worker."""
+    with Client(cluster.scheduler_address) as client:
+        return client.submit(os.getpid, workers=machine, pure=False).result(timeout=60)
+
+
+def killed_when_asked(cluster, room, machine):
+    """Kills a machine's worker once it is asked. Nothing is waited for; what is returned is the thread that does it."""
+    process = process_of(cluster, machine)
+    (room / machine / "waits").touch()
+
+    def kill():
+        end = time.monotonic() + 60
+        while not (room / machine / "asked").exists() and time.monotonic() < end:
+            time.sleep(0.05)
+        os.kill(process, signal.SIGKILL)
+
+    thread = threading.Thread(target=kill)
+    thread.start()
+    return thread
+
+
+def printed(cluster, text, seconds=60):
+    """What the page's lines print on this cluster."""
+    out = io.StringIO()
+    with contextlib.redirect_stdout(out):
+        exec(text.replace("tcp://HOST:8786", cluster.scheduler_address).replace(PAGE_WAITS, f"timeout={seconds}"), {"__name__": "__main__"})
+    return out.getvalue()
+
+
+def the_page_asks_four_machines(room, text, wanted):
+    """The page prints what it shows: with all machines, with one that is killed while it is asked, and with one that does not answer."""
+    room = pathlib.Path(room)
+    shards(room)
+    assert "tcp://HOST:8786" in text and text.count(PAGE_WAITS) == 2 and ", pure=False" in text, text
+    with cluster_of(room) as cluster:
+        assert printed(cluster, text) == wanted
+        killing = killed_when_asked(cluster, room, "one")
+        assert printed(cluster, text) == wanted
+        killing.join()
+        assert (room / "one" / "asked").exists(), "nobody was killed"
+        if not_apart := refused_without_pure(cluster, text):
+            raise AssertionError(not_apart)
+        process = process_of(cluster, "one")
+        os.kill(process, signal.SIGSTOP)
+        try:
+            begun = time.monotonic()
+            assert printed(cluster, text, SECONDS) == wanted
+            assert time.monotonic() - begun >= SECONDS, "the machine was not waited for"
+        finally:
+            os.kill(process, signal.SIGKILL)
+
+
+def refused_without_pure(cluster, text):
+    """What is wrong if the page leaves out `pure=False`: the machines are taken for one, so that is refused."""
+    try:
+        return f"nothing is refused: {printed(cluster, text.replace(', pure=False', ''))}"
+    except lanes.NotApart:
+        return None
