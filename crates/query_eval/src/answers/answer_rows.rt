@@ -20,7 +20,7 @@ fn row_of(
 ) -> Result<AnswerRow, AllocError>
     ensures { IfOk result (λ row. row ≡ seen_items schema.now.columns plan.now items.now group.now) }
 {
-    let mut fields = Vec::new(alloc);
+    let mut fields = Vec::with_capacity(alloc, items.len())?;
     for item in items {
         fields.push(item_at(schema, plan, group, &item.value))?;
     }

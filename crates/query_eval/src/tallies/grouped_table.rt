@@ -57,7 +57,7 @@ fn values_of(
 ) -> Result<Vec<Field>, AllocError>
     ensures { IfOk result (λ fields. (table : Table) (rows : List Cells) → AreFew table rows → AreHeld rows aggregates.now tallies.now place → fields.items ≡ fields_of aggregates.now rows) }
 {
-    let mut fields = Vec::new(alloc);
+    let mut fields = Vec::with_capacity(alloc, aggregates.len())?;
     for i in 0..aggregates.len() {
         let field = match tally_at(tallies, i, place) {
             None => Field::Null,
@@ -78,7 +78,7 @@ fn in_order(
     ensures ordered { IsOrdered key_cmp index.old }
     ensures value { IfOk result (λ finished. AreFinished aggregates.now index.old tallies.now finished.items) }
 {
-    let mut finished = Vec::new(alloc);
+    let mut finished = Vec::with_capacity(alloc, index.len())?;
     for _ in 0..index.len() {
         match index.pop_first() {
             None => {}
