@@ -63,6 +63,7 @@ def by_value(values, rows, *held):
 EVEN, THIRD = by_value(range(-500, 500, 2), 1, (1, 1, 1)), by_value(range(-500, 500, 3), 1, (2, 1, 1))
 ROWS_OF = {value: (value % 2 == 0) + ((value + 500) % 3 == 0) for value in range(-500, 500)}
 APART = b": batch %s is in both partial answers, or one file deletes rows of it that the other has: merge the two files, and make one partial answer from the result\n"
+MERGE = b"merge the two files%s make one partial answer from the result\n"
 FOLDER = {f"d/{hashlib.sha512(file).hexdigest()[:32]}.lanes": file for file in (ONE_ROW, SECOND_BATCH)}
 NO_BATCH = file_of(b"T")
 
@@ -87,10 +88,11 @@ PARTIAL_ANSWER_CASES = [
     Case("one partial answer alone stays as it is", ["combine", "-"], 0, DELETING, input=DELETING),
     Case("a partial answer of nothing changes nothing", ["combine", "none", "a"], 0, FIRST, files={"a": FIRST, "none": counted(0, 0)}),
     Case("deletions of batches that nobody has are kept", ["combine", "a", "b"], 0, counted(2, 14, (1, 1, 1), (3, 1, 1), strays=[(2, 1, 1)]), files={"a": DELETING, "b": counted(1, 7, (3, 1, 1))}),
-    Case("a partial answer that comes twice is refused", ["combine", "a", "b", "./a"], 1, err=b"refused NotApart 1.1\n./a" + APART % b"1.1", files={"a": FIRST, "b": SECOND}),
-    Case("partial answers of files that share a batch are refused", ["combine", "b", "a"], 1, err=b"refused NotApart 2.1\na" + APART % b"2.1", files={"a": TWO, "b": SECOND}),
-    Case("a partial answer is refused whose file deletes rows that another has", ["combine", "a", "b"], 1, err=b"refused NotApart 2.1\nb" + APART % b"2.1", files={"a": DELETING, "b": SECOND}),
-    Case("so it is the other way round", ["combine", "b", "-"], 1, err=b"refused NotApart 2.1\nstandard input" + APART % b"2.1", input=DELETING, files={"b": SECOND}),
+    Case("a partial answer that comes twice is refused", ["combine", "a", "b", "./a"], 1, err=b"refused NotApart 1.1\n./a: batch 1.1 is in a too: give each file once, or " + MERGE % b" and", files={"a": FIRST, "b": SECOND}),
+    Case("partial answers of files that share a batch are refused", ["combine", "b", "a"], 1, err=b"refused NotApart 2.1\na: batch 2.1 is in b too: give each file once, or " + MERGE % b" and", files={"a": TWO, "b": SECOND}),
+    Case("a partial answer is refused whose file deletes rows that another has", ["combine", "a", "b"], 1, err=b"refused NotApart 2.1\nb: this has batch 2.1, and the file of a deletes rows of it: " + MERGE % b", and", files={"a": DELETING, "b": SECOND}),
+    Case("so it is the other way round", ["combine", "b", "a"], 1, err=b"refused NotApart 2.1\na: its file deletes rows of batch 2.1, which b has: " + MERGE % b", and", files={"a": DELETING, "b": SECOND}),
+    Case("which of the two it is isn't known if one can't be read again", ["combine", "b", "-"], 1, err=b"refused NotApart 2.1\nstandard input" + APART % b"2.1", input=DELETING, files={"b": SECOND}),
     Case("a partial answer of another query is refused", ["combine", "a", "b"], 1, err=b"refused QueryDiffers\nb: this is of the query SELECT COUNT(*),SUM( A) FROM T, and a of SELECT COUNT(*),SUM(A) FROM T\n", files={"a": FIRST, "b": OTHER_QUESTION}),
     Case("so it is if it can't be read again", ["combine", "a", "-"], 1, err=b"refused QueryDiffers\nstandard input: the partial answers are of different queries, or the groups of one are not those of its query: make all partial answers with the same text\n", input=OTHER_QUESTION, files={"a": FIRST}),
     Case("a partial answer of another table is refused", ["combine", "a", "b", "c"], 1, err=b"refused SchemaDiffers\nc: this holds the table U (A SMALLINT), but a holds T (A SMALLINT)\n", files={"a": FIRST, "b": counted(1, 7, (3, 1, 1)), "c": OF_U}),

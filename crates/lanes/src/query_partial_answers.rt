@@ -90,6 +90,9 @@ fn combined<'r, R: Eprint + Input + Files + Clock + AllocGlobal>(
     for source in sources {
         match combine_next(rt.alloc(), before, &mut source_of(rt, progress, *source)) {
             Ok(partial) => before = Some(partial),
+            Err(PartialAnswerError::Fault(PartialAnswerFault::NotApart(name))) => {
+                return Err(not_apart(rt, sources, *source, name));
+            }
             Err(error) => return Err(not_combined(rt, sources, *source, error)),
         }
     }
@@ -308,6 +311,63 @@ fn not_combined<R: Files + AllocGlobal>(
         }
         _ => refused(rt, source, error),
     }
+}
+
+/// Why a partial answer is not apart from those before it. They are read again, up to the first that has to do with the batch. If one of
+/// them can't be read again, the sentence says all that may be.
+fn not_apart<R: Files + AllocGlobal>(
+    rt: &R,
+    sources: &[Source<'_>],
+    source: Source<'_>,
+    name: BatchName,
+) -> Failure {
+    let fault = PartialAnswerFault::NotApart(name);
+    let unknown = refused(rt, source, PartialAnswerError::Fault(fault));
+    let Some(found) = partial_answer_again(rt, source) else {
+        return unknown;
+    };
+    for other in sources {
+        let Some(before) = partial_answer_again(rt, *other) else {
+            return unknown;
+        };
+        match shared(rt, name_of(source), &found, name_of(*other), &before, name) {
+            Ok(Some(failure)) => return failure,
+            Ok(None) => {}
+            Err(lacking) => return Failure::from(lacking),
+        }
+    }
+    unknown
+}
+
+/// The refusal of a partial answer because of another one: both have counted this batch, or the file of one deletes rows of it and the
+/// other has it. None if neither is so.
+fn shared<R: AllocGlobal>(
+    rt: &R,
+    subject: &str,
+    found: &PartialAnswer,
+    other: &str,
+    before: &PartialAnswer,
+    name: BatchName,
+) -> Result<Option<Failure>, AllocError> {
+    let (alloc, other) = (rt.alloc(), Printable(other));
+    let (has, had) = (found.held().holds(name), before.held().holds(name));
+    let words = if has && had {
+        format!(in alloc;
+            "batch {name} is in {other} too: give each file once, or merge the two files and make one partial answer from the result"
+        )?
+    } else if had && found.strays().holds(name) {
+        format!(in alloc;
+            "its file deletes rows of batch {name}, which {other} has: merge the two files, and make one partial answer from the result"
+        )?
+    } else if has && before.strays().holds(name) {
+        format!(in alloc;
+            "this has batch {name}, and the file of {other} deletes rows of it: merge the two files, and make one partial answer from the result"
+        )?
+    } else {
+        return Ok(None);
+    };
+    let refusal = CommandRefusal::NotApart(name);
+    Ok(Some(Failure::advised(alloc, refusal, subject, words.as_str())))
 }
 
 /// The first partial answer's name, and the first partial answer and another one, read again.
