@@ -148,7 +148,7 @@ fn fields_from(
     ensures value { IfOk result (λ fields. fields.items ≡ map (field_at measures.now (tallies_in kept.now)) aggregates.now) }
     ensures refused { IfErr result (RefusesUnless Unit (EachCanFinish kept.now)) }
 {
-    let mut fields = Vec::new(alloc);
+    let mut fields = Vec::with_capacity(alloc, aggregates.len())?;
     for aggregate in aggregates {
         fields.push(field_at(measures, kept, *aggregate)?)?;
     }

@@ -48,7 +48,7 @@ fn kept_of_tallies(alloc: Global, tallies: &[Tally]) -> Result<Vec<Kept>, AllocE
     ensures value { IfOk result (λ all. tallies_in all.items ≡ map told tallies.now) }
     ensures kinds { IfOk result (λ all. map kept_kind all.items ≡ map running_kind tallies.now) }
 {
-    let mut all = Vec::new(alloc);
+    let mut all = Vec::with_capacity(alloc, tallies.len())?;
     for tally in tallies {
         all.push(kept_of_tally(alloc, tally)?)?;
     }
@@ -76,7 +76,7 @@ fn kept_at(alloc: Global, tallies: &[Vec<Tally>], place: usize) -> Result<Vec<Ke
     ensures value { IfOk result (λ all. (t : Running) → ((i : ℕ) (c : Items Running) → i < length tallies.now → place < length (slice_index_or tallies.now i c).items) → tallies_in all.items ≡ told_at tallies.now t place) }
     ensures kinds { IfOk result (λ all. (t : Running) → ((i : ℕ) (c : Items Running) → i < length tallies.now → place < length (slice_index_or tallies.now i c).items) → map kept_kind all.items ≡ kinds_at tallies.now t place) }
 {
-    let mut all = Vec::new(alloc);
+    let mut all = Vec::with_capacity(alloc, tallies.len())?;
     for column in tallies {
         push_at(alloc, &mut all, column.as_slice(), place)?;
     }

@@ -9,6 +9,7 @@ ghost use Rattle.partial_file.specs.PartialAnswerBytes.{cell, counted, kept, kep
 
 use crate::number_writing::{push_cell, push_extreme, push_narrow, push_number, push_wide};
 use partial_answers::{Kept, Sums};
+use query_eval::Cell;
 use std::alloc::AllocError;
 
 /// Puts values.
@@ -102,18 +103,18 @@ pub fn push_measures(bytes: &mut Vec<u8>, measures: &[Kept]) -> Result<(), Alloc
 }
 
 /// Puts cells.
-fn push_cell_list(bytes: &mut Vec<u8>, cells: &[Option<i128>]) -> Result<(), AllocError>
+fn push_cell_list(bytes: &mut Vec<u8>, cells: &[Cell]) -> Result<(), AllocError>
     ensures put { OnOk result (bytes.new.items ≡ bytes.old.items ++ flat_map cell.spell cells.now) }
     ensures valid { OnOk result (IsTrue (list_all cell.valid cells.now)) }
 {
     for one in cells {
-        push_cell(bytes, *one)?;
+        push_cell(bytes, one.number())?;
     }
     Ok(())
 }
 
 /// Puts a group's keys: how many cells there are, and these.
-pub fn push_key(bytes: &mut Vec<u8>, cells: &[Option<i128>]) -> Result<(), AllocError>
+pub fn push_key(bytes: &mut Vec<u8>, cells: &[Cell]) -> Result<(), AllocError>
     ensures put { OnOk result (bytes.new.items ≡ bytes.old.items ++ key.spell cells.now) }
     ensures valid { OnOk result (IsTrue (key.valid cells.now)) }
 {

@@ -9,6 +9,7 @@ pub mod Below
 pub mod Aggregate
 pub mod Finished
 pub mod Kept
+pub mod Cell
 pub mod Tied
 pub mod Tally
 pub mod TallyKinds

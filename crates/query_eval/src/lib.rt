@@ -11,5 +11,5 @@ pub use answer_formats::{text, write_answer};
 pub use answers::{Taken, answer, answer_of_groups, take_rows};
 pub use columns::{Columns, VectorId};
 pub use filter::{Decoded, KeptVector, Pair, kept_mask, matching};
-pub use grouping::Key;
+pub use grouping::{Cell, Key};
 pub use tallies::{Aggregate, FinishedGroup, Groups, Plan, Sums, Tally, values_field};

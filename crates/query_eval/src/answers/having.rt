@@ -1,6 +1,7 @@
 //! HAVING and the select list at a finished group.
 ghost use Rattle.std.specs.Prelude.{◌≡◌, ◌==◌, ◌*ℤ◌, pos};
 ghost use Rattle.std.specs.List.{position, position_or_len};
+ghost use Rattle.table_model.specs.Answer.{whole};
 ghost use Rattle.table_model.specs.Condition.{between, condition_truth, field_comparison, is_among, is_null, not_if, predicate_truth};
 ghost use Rattle.table_model.specs.Meaning.{is_kept};
 ghost use Rattle.table_model.specs.Query.{formula_of_factor, formula_of_primary, formula_of_term, formula_of_test};
@@ -82,13 +83,23 @@ fn aggregate_among(aggregates: &[Aggregate], aggregate: Aggregate) -> usize
     }
 }
 
+/// A whole number, or null.
+fn number_field(number: Option<i128>) -> Field
+    ensures { result ≡ whole number }
+{
+    match number {
+        Some(value) => Field::Whole(value),
+        None => Field::Null,
+    }
+}
+
 /// A grouping column's cell, by the column's place in the schema.
 fn cell_at(plan: &Plan, group: &FinishedGroup, column: usize) -> Field
     ensures { result ≡ seen_cell plan.now group.now column }
 {
     match group.cells().get(place_among(plan.grouping(), column)) {
-        Some(Some(value)) => Field::Whole(*value),
-        Some(None) | None => Field::Null,
+        Some(cell) => number_field(cell.number()),
+        None => Field::Null,
     }
 }
 

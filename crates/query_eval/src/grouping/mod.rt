@@ -1,5 +1,6 @@
 //! Groups by their keys: the places of groups, and which rows of a vector belong to which group.
 
+mod cell;
 mod code_slices;
 mod coded_runs;
 mod key;
@@ -11,6 +12,7 @@ mod slices;
 mod split;
 mod vector_keys;
 
+pub use cell::Cell;
 pub use key::Key;
 pub(crate) use places::Places;
 pub(crate) use room::Room;

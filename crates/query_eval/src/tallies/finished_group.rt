@@ -1,7 +1,7 @@
 //! Groups as HAVING and the select list see them.
 ghost use Rattle.std.specs.Prelude.{◌≡◌};
 
-use crate::grouping::Key;
+use crate::grouping::{Cell, Key};
 use std::marker::Model;
 use table_model::Field;
 
@@ -30,7 +30,7 @@ impl FinishedGroup {
     }
 
     /// The cells of the key, from the left.
-    pub fn cells(&self) -> &[Option<i128>]
+    pub fn cells(&self) -> &[Cell]
         ensures { result.now ≡ self.now.key }
     {
         self.key.cells()
