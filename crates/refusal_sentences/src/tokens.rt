@@ -21,7 +21,7 @@ pub fn first_token(text: &[u8]) -> &[u8] {
     token
 }
 
-/// The word or the symbol that a text ends with, but for white space; empty if there is none.
+/// The word or the symbol that a text ends with, but for white space; empty if the text has none.
 pub fn last_token(text: &[u8]) -> &[u8] {
     let text = text.trim_ascii_end();
     let length = match text {
