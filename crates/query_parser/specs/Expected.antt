@@ -27,23 +27,23 @@ is_syntax_at at (Some (Syntax place)) = place == at
 is_syntax_at at (Some other) = false
 
 -- whether a text of these tokens, and then one of this kind at a byte, is not refused at that byte
-abbrev pub takes : Form → ℕ → ℕ → List Token → Kind → Bool
-takes form end at front k = not (is_syntax_at at (refusal_of form end (front ++ record { kind = k; at = at } ∷ [])))
+abbrev pub may_come : Form → ℕ → ℕ → List Token → Kind → Bool
+may_come form end at front k = not (is_syntax_at at (refusal_of form end (front ++ record { kind = k; at = at } ∷ [])))
 
 -- the signs that may come at a byte, behind these tokens
 abbrev pub taken_signs : Form → ℕ → ℕ → List Token → List Sign → List Sign
-taken_signs form end at front signs = filter (λ s. takes form end at front (kind.Sign s)) signs
+taken_signs form end at front signs = filter (λ s. may_come form end at front (kind.Sign s)) signs
 
 -- The keywords and symbols, whether a name, as A, and digits, as 7, may come at a byte of a text in place of what is there, and whether
 -- the text may end there.
 pub record IsExpected (form : Form) (text : List ℕ) (e : Expected) : Type 0 where
   pub refused : refusal_of form (length text) (tokens_of text) ≡ Some (Syntax e.at)
   pub signs : e.signs.items ≡ taken_signs form (length text + 1) e.at (tokens_of (take e.at text)) (map (λ entry. entry.1) keywords) ++ taken_signs form (length text + 1) e.at (tokens_of (take e.at text)) (map (λ entry. entry.1) symbols)
-  pub name : e.has_name ≡ takes form (length text + 1) e.at (tokens_of (take e.at text)) (Identifier (65 ∷ []))
-  pub digits : e.has_digits ≡ takes form (length text + 1) e.at (tokens_of (take e.at text)) (Digits (55 ∷ []))
+  pub name : e.has_name ≡ may_come form (length text + 1) e.at (tokens_of (take e.at text)) (Identifier (65 ∷ []))
+  pub digits : e.has_digits ≡ may_come form (length text + 1) e.at (tokens_of (take e.at text)) (Digits (55 ∷ []))
   pub end : e.has_end ≡ not (is_syntax_at e.at (refusal_of form e.at (tokens_of (take e.at text))))
 
 -- what is found of a text: what may come at the byte at which it is refused, if it is refused as Syntax
-abbrev pub IsFound : Form → List ℕ → Option Expected → Type 0
-IsFound form text None = (at : ℕ) → refusal_of form (length text) (tokens_of text) ≡ Some (Syntax at) → ⊥
-IsFound form text (Some e) = IsExpected form text e
+abbrev pub FindsExpected : Form → List ℕ → Option Expected → Type 0
+FindsExpected form text None = (at : ℕ) → refusal_of form (length text) (tokens_of text) ≡ Some (Syntax at) → ⊥
+FindsExpected form text (Some e) = IsExpected form text e

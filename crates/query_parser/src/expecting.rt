@@ -1,6 +1,6 @@
 //! What the grammar takes at the byte at which a text is refused.
 ghost use Rattle.std.specs.Prelude.{◌≡◌, ℕ, ◌++◌, ◌+◌, not, length, map, take, IfOk, IfErr, OnOk, ◌∷◌, []};
-ghost use Rattle.query_parser.specs.Expected.{refusal_of, is_syntax_at, takes, taken_signs, IsExpected, IsFound};
+ghost use Rattle.query_parser.specs.Expected.{refusal_of, is_syntax_at, may_come, taken_signs, IsExpected, FindsExpected};
 ghost use Rattle.query_parser.specs.Token.{tokens_of, keywords, symbols};
 ghost use Rattle.query_parser.specs.declared.token.Kind.TheVariants.{Identifier, Digits};
 
@@ -47,7 +47,7 @@ struct Place {
 /// of token is put at the byte, and the parser asked whether it refuses it there: it reads the text before the byte some forty times.
 /// Refused only as `Memory`.
 pub fn find_expected(alloc: Global, form: Form, text: &str) -> Result<Option<Expected>, Refusal>
-    ensures found { IfOk result (λ found. IsFound form text.now found) }
+    ensures found { IfOk result (λ found. FindsExpected form text.now found) }
     ensures memory { IfErr result (λ e. e ≡ Refusal.Memory) }
 {
     let tokens = tokens_of(alloc, text.as_bytes())?;
@@ -61,8 +61,8 @@ pub fn find_expected(alloc: Global, form: Form, text: &str) -> Result<Option<Exp
 fn expected_at(alloc: Global, form: Form, text: &[u8], at: u64) -> Result<Expected, Refusal>
     ensures at { IfOk result (λ e. e.at ≡ at) }
     ensures signs { IfOk result (λ e. e.signs.items ≡ taken_signs form (length text.now + 1) at (tokens_of (take at text.now)) (map (λ entry. entry.1) keywords) ++ taken_signs form (length text.now + 1) at (tokens_of (take at text.now)) (map (λ entry. entry.1) symbols)) }
-    ensures name { IfOk result (λ e. e.has_name ≡ takes form (length text.now + 1) at (tokens_of (take at text.now)) (Identifier (65 ∷ []))) }
-    ensures digits { IfOk result (λ e. e.has_digits ≡ takes form (length text.now + 1) at (tokens_of (take at text.now)) (Digits (55 ∷ []))) }
+    ensures name { IfOk result (λ e. e.has_name ≡ may_come form (length text.now + 1) at (tokens_of (take at text.now)) (Identifier (65 ∷ []))) }
+    ensures digits { IfOk result (λ e. e.has_digits ≡ may_come form (length text.now + 1) at (tokens_of (take at text.now)) (Digits (55 ∷ []))) }
     ensures end { IfOk result (λ e. e.has_end ≡ not (is_syntax_at at (refusal_of form at (tokens_of (take at text.now))))) }
     ensures memory { IfErr result (λ e. e ≡ Refusal.Memory) }
 {
@@ -70,8 +70,8 @@ fn expected_at(alloc: Global, form: Form, text: &[u8], at: u64) -> Result<Expect
     let place = Place { form, end, at };
     let mut front = tokens_of(alloc, front_of(text, at))?;
     let has_end = !is_syntax_at(refusal_of(alloc, form, &front, at)?, at);
-    let has_name = takes(alloc, place, &mut front, Kind::Identifier(Word::new(b"A")))?;
-    let has_digits = takes(alloc, place, &mut front, Kind::Digits(Word::new(b"7")))?;
+    let has_name = may_come(alloc, place, &mut front, Kind::Identifier(Word::new(b"A")))?;
+    let has_digits = may_come(alloc, place, &mut front, Kind::Digits(Word::new(b"7")))?;
     let mut signs = Vec::new(alloc);
     add_signs(alloc, place, &mut front, &KEYWORDS, &mut signs)?;
     add_signs(alloc, place, &mut front, &SYMBOLS, &mut signs)?;
@@ -97,7 +97,7 @@ fn add_signs<'a>(
     ensures memory { IfErr result (λ e. e ≡ Refusal.Memory) }
 {
     for &(_, sign) in entries {
-        if takes(alloc, place, front, Kind::Sign(sign))? {
+        if may_come(alloc, place, front, Kind::Sign(sign))? {
             signs.push(sign)?;
         }
     }
@@ -105,14 +105,14 @@ fn add_signs<'a>(
 }
 
 /// Whether a token of this kind may come at a place, behind the tokens before it.
-fn takes<'a>(
+fn may_come<'a>(
     alloc: Global,
     place: Place,
     front: &mut Vec<Token<'a>>,
     kind: Kind<'a>,
 ) -> Result<bool, Refusal>
     ensures kept { OnOk result (front.new.items ≡ front.old.items) }
-    ensures takes { IfOk result (λ is_taken. is_taken ≡ takes place.form place.end place.at front.old.items kind.entry) }
+    ensures comes { IfOk result (λ comes. comes ≡ may_come place.form place.end place.at front.old.items kind.entry) }
     ensures memory { IfErr result (λ e. e ≡ Refusal.Memory) }
 {
     let count = front.len();
