@@ -1,6 +1,8 @@
 //! What sentences say of queries, lines of values and tables.
 
-use refusal_sentences::{CommandRefusal, Fields, Knowledge, Sentence, Text, Wanted};
+use refusal_sentences::{
+    CommandRefusal, Fields, Knowledge, Sentence, Text, Wanted, sentence_of_text,
+};
 use std::alloc::{AllocError, Global};
 use std::test::Fail;
 use table_model::{ColType, Refusal, Schema};
@@ -181,16 +183,12 @@ fn a_query_is_refused_with_what_to_write_instead(rt: HostRuntime) -> Result<(), 
     let columns = [("SITE", ColType::SmallInt), ("HITS", ColType::Integer)];
     let schema = Schema::new(rt.alloc(), "VISITS", &columns)?;
     for &(text, refusal, want) in &QUERIES {
-        let sentence = Sentence {
-            refusal: CommandRefusal::from(refusal),
-            subject: "",
-            knowledge: Knowledge::Text(Text {
-                text,
-                is_condition: false,
-                schema: Some(&schema),
-            }),
+        let asked = Text {
+            text,
+            is_condition: false,
+            schema: Some(&schema),
         };
-        let said = sentence.to_string(rt.alloc())?;
+        let said = sentence_of_text(rt.alloc(), refusal, "", asked)?;
         assert!(rt; said.as_str() == want, "said {said}");
     }
     Ok(())

@@ -3,7 +3,7 @@
 use crate::watched::Cause;
 use command_line::Fault;
 use refusal_sentences::{
-    CommandRefusal, KIND_BYTES, Knowledge, Pointer, Printable, Sentence, Text,
+    CommandRefusal, KIND_BYTES, Knowledge, Pointer, Printable, Sentence, Text, sentence_of_text,
 };
 use std::alloc::{AllocError, AllocFailed, Global};
 use std::fs::{self, Files};
@@ -197,18 +197,18 @@ impl Failure {
 
     /// A refusal of a text, which it may have a place in: that is shown at a terminal.
     pub fn of_text(alloc: Global, refusal: Refusal, subject: &str, text: Text<'_>) -> Failure {
-        let sentence = Sentence {
-            refusal: CommandRefusal::from(refusal),
-            subject,
-            knowledge: Knowledge::Text(text),
-        };
         let pointer = match Pointer::new(text.text, refusal) {
             Some(pointer) => format!(in alloc; "{pointer}").ok(),
             None => None,
         };
+        let sentence = match sentence_of_text(alloc, refusal, subject, text) {
+            Ok(sentence) => format!(in alloc; "{sentence}\n").ok(),
+            Err(_) => None,
+        };
         Failure {
+            fault: Fault::from(refusal),
+            sentence,
             pointer,
-            ..Failure::new(alloc, sentence)
         }
     }
 

@@ -1,7 +1,9 @@
 //! Notes on the lines that were refused.
 
 use cluster_history::{Sql, Step};
-use refusal_sentences::{CommandRefusal, Knowledge, Sentence, Text, Words, is_of_a_text};
+use refusal_sentences::{
+    CommandRefusal, Knowledge, Sentence, Text, Words, is_of_a_text, words_of_text,
+};
 use script_lines::{Command, expected, parse_line};
 use std::alloc::{AllocError, Global};
 use std::io::Write;
@@ -99,16 +101,17 @@ fn words_of(
         Some(schema) => Some(schema),
         None => None,
     };
-    let knowledge = match &asked {
-        Some(asked) => Knowledge::Text(Text {
+    if let Some(asked) = &asked {
+        let text = Text {
             text: asked.text.as_str(),
             is_condition: asked.is_condition,
             schema: known,
-        }),
-        None => match known {
-            Some(schema) => Knowledge::Rows(schema),
-            None => Knowledge::Nothing,
-        },
+        };
+        return words_of_text(alloc, refusal, text);
+    }
+    let knowledge = match known {
+        Some(schema) => Knowledge::Rows(schema),
+        None => Knowledge::Nothing,
     };
     let sentence = Sentence {
         knowledge,

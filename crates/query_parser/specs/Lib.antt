@@ -1,4 +1,5 @@
 pub mod Descent
+pub mod Expected
 pub mod Grammar
 pub mod Limits
 pub mod Resolve

@@ -10,7 +10,7 @@ use std::alloc::{AllocError, AllocFailed, Global};
 use table_model::{MAX_WORD, is_word_byte, same_word};
 
 /// The keywords, in upper case.
-const KEYWORDS: [(&[u8], Sign); 24] = [
+pub(crate) const KEYWORDS: [(&[u8], Sign); 24] = [
     (b"ALL", Sign::All),
     (b"AND", Sign::And),
     (b"AS", Sign::As),
@@ -38,7 +38,7 @@ const KEYWORDS: [(&[u8], Sign); 24] = [
 ];
 
 /// The symbols, of two that begin alike the longer first.
-const SYMBOLS: [(&[u8], Sign); 12] = [
+pub(crate) const SYMBOLS: [(&[u8], Sign); 12] = [
     (b"<>", Sign::NotEqual),
     (b"<=", Sign::LessOrEqual),
     (b">=", Sign::GreaterOrEqual),

@@ -46,7 +46,7 @@ fn read_text(alloc: Global, text: &str) -> Result<Query, Refusal>
 
 /// The query that the tokens are, all of them.
 #[tactic(auto, unfolding(crate::specs::Descent::read_whole))]
-fn whole_query(alloc: Global, tokens: &[Token<'_>], end: u64) -> Result<Query, Refusal>
+pub(crate) fn whole_query(alloc: Global, tokens: &[Token<'_>], end: u64) -> Result<Query, Refusal>
     ensures { Reads (λ q. q) result (read_whole end tokens.now) }
 {
     let (query, rest) = query(alloc, tokens, end)?;

@@ -42,7 +42,11 @@ fn read_condition_text(alloc: Global, text: &str) -> Result<Condition, Refusal>
 
 /// The condition that the tokens are, all of them.
 #[tactic(auto, unfolding(crate::specs::Descent::read_whole_condition))]
-fn whole_condition(alloc: Global, tokens: &[Token<'_>], end: u64) -> Result<Condition, Refusal>
+pub(crate) fn whole_condition(
+    alloc: Global,
+    tokens: &[Token<'_>],
+    end: u64,
+) -> Result<Condition, Refusal>
     ensures { Reads (λ f. f) result (read_whole_condition end tokens.now) }
 {
     let (condition, rest) = condition(alloc, Clause::Where, MAX_DEPTH, tokens, end)?;

@@ -8,6 +8,7 @@ use crate::quoted::{Printable, Quoted};
 use crate::reason::{unread, unwritten};
 use crate::tables::{Names, Table};
 use crate::text_fault::Text;
+use query_parser::Expected;
 use std::fmt;
 use std::io::ErrorKind;
 use table_model::{ColType, Refusal, Schema};
@@ -40,8 +41,11 @@ pub enum Knowledge<'a> {
         text: &'a [u8],
         schema: &'a Schema,
     },
-    /// The text of a query or a condition, and the table that it asks.
-    Text(Text<'a>),
+    /// The text of a query or a condition, the table that it asks, and what the grammar takes at its fault, if that is known.
+    Text {
+        text: Text<'a>,
+        expected: Option<&'a Expected>,
+    },
     /// A name in a list of columns, and the table that has none of this name.
     Name {
         name: &'a str,
@@ -261,8 +265,8 @@ impl<'a> Sentence<'a> {
             (CommandRefusal::Named(refusal), Knowledge::Rows(schema)) => {
                 return write_fault_of_rows(refusal, schema, f);
             }
-            (CommandRefusal::Named(refusal), Knowledge::Text(text)) => {
-                return text.write_fault(refusal, f);
+            (CommandRefusal::Named(refusal), Knowledge::Text { text, expected }) => {
+                return text.write_fault(refusal, expected, f);
             }
             (CommandRefusal::Named(Refusal::BadMagic), Knowledge::Beginning(input)) => {
                 match of_no_file(input) {

@@ -1,10 +1,10 @@
 //! What is wrong with the text of a query or of a condition, and what to write instead.
 
-use crate::grammar::Reading;
 use crate::place::Place;
 use crate::quoted::Quoted;
 use crate::tables::Names;
-use crate::tokens::{first_token, without_token};
+use crate::tokens::{first_token, is_one_of, without_token};
+use query_parser::Expected;
 use std::fmt;
 use table_model::{Refusal, Schema, same_word};
 
@@ -47,19 +47,40 @@ fn table_of(text: &[u8]) -> &[u8] {
     b""
 }
 
+/// Whether a name is one that the select list of a query gives to one of its items: no comma, parenthesis or keyword comes before it.
+fn is_alias(query: &[u8], name: &[u8]) -> bool {
+    let mut is_next = false;
+    let mut rest = query.trim_ascii_start();
+    for _ in 0..query.len() {
+        let token = first_token(rest);
+        if token.is_empty() || same_word(token, b"FROM") {
+            return false;
+        }
+        if is_next && same_word(token, name) {
+            return true;
+        }
+        is_next = !is_one_of(token, &[b"SELECT", b",", b"(", b"DISTINCT", b"ALL"]);
+        rest = without_token(rest, token);
+    }
+    false
+}
+
 impl<'a> Text<'a> {
     /// Writes why the text is refused, if more can be said of it than the refusal's name says. Answers whether it did.
     pub fn write_fault<W: fmt::Write>(
         &self,
         refusal: Refusal,
+        expected: Option<&Expected>,
         f: &mut fmt::Formatter<W>,
     ) -> Result<bool, fmt::Error> {
         match refusal {
-            Refusal::Syntax(at) => self.place(at).write(f)?,
+            Refusal::Syntax(at) => {
+                Place::new(self.text, at, self.is_condition, expected).write(f)?;
+            }
             Refusal::NoSuchTable => self.write_fault_of_table(f)?,
             Refusal::NoSuchColumn(at) => self.write_fault_of_column(at, f)?,
             Refusal::NotGrouped(at) => {
-                let name = Quoted(self.place(at).shown().as_bytes());
+                let name = Quoted(self.word(at).as_bytes());
                 write!(f, "{name} must be in GROUP BY or inside a set function")?;
             }
             _ => return Ok(false),
@@ -67,9 +88,9 @@ impl<'a> Text<'a> {
         Ok(true)
     }
 
-    /// A byte of the text.
-    fn place(&self, at: u64) -> Place<'a> {
-        Place::new(self.text, at, self.is_condition)
+    /// The word at a byte of the text.
+    fn word(&self, at: u64) -> &'a str {
+        Place::new(self.text, at, self.is_condition, None).shown()
     }
 
     /// Writes which table is not there, and which one is.
@@ -91,9 +112,9 @@ impl<'a> Text<'a> {
         at: u64,
         f: &mut fmt::Formatter<W>,
     ) -> fmt::Result {
-        let word = self.place(at).shown();
+        let word = self.word(at);
         let name = Quoted(word.as_bytes());
-        if !self.is_condition && Reading::is_alias(self.text.as_bytes(), word.as_bytes()) {
+        if !self.is_condition && is_alias(self.text.as_bytes(), word.as_bytes()) {
             return write!(
                 f,
                 "{name} is an alias, which only the heading has: write what it names"

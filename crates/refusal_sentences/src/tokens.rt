@@ -1,4 +1,4 @@
-//! The words and symbols of a query's text, as far as it is in order.
+//! The words and symbols of a query's text, for the words of cures.
 
 use table_model::{is_word_byte, same_word};
 
@@ -18,6 +18,21 @@ pub fn first_token(text: &[u8]) -> &[u8] {
         },
     };
     let (token, _) = text.split_at(length.min(text.len()));
+    token
+}
+
+/// The word or the symbol that a text ends with, but for white space; empty if the text has none.
+pub fn last_token(text: &[u8]) -> &[u8] {
+    let text = text.trim_ascii_end();
+    let length = match text {
+        [.., b'<', b'=' | b'>'] | [.., b'>', b'='] => 2,
+        _ => match text.iter().rposition(is_between) {
+            Some(at) if at.saturating_add(1) == text.len() => 1,
+            Some(at) => text.len().saturating_sub(at).saturating_sub(1),
+            None => text.len(),
+        },
+    };
+    let (_, token) = text.split_at(text.len().saturating_sub(length));
     token
 }
 
