@@ -151,17 +151,27 @@ fn count(possible: &Possible<'_>) -> usize {
         .count()
 }
 
+/// What is written before a phrase, after so many of them.
+fn separator(done: usize, count: usize) -> &'static str {
+    if done == 0 {
+        ""
+    } else if done.saturating_add(1) == count {
+        " or "
+    } else {
+        ", "
+    }
+}
+
 /// All that is possible: `a comma, HAVING or the end`.
 impl<'a> fmt::Display for Possible<'a> {
     fn fmt<W: fmt::Write>(&self, f: &mut fmt::Formatter<W>) -> fmt::Result {
-        let mut before = "";
-        let mut left = count(self);
-        for phrase in PHRASES {
+        let count = count(self);
+        let mut done = 0usize;
+        for phrase in &PHRASES {
             if let Some(words) = phrase.words(self) {
-                f.write_str(before)?;
+                f.write_str(separator(done, count))?;
                 f.write_str(words)?;
-                left = left.saturating_sub(1);
-                before = if left == 1 { " or " } else { ", " };
+                done = done.saturating_add(1);
             }
         }
         Ok(())
