@@ -39,7 +39,7 @@ extern "C" {
 
 /* Where a call was refused: one or two numbers, by the refusal's number. What isn't named here is 0.
  *
- *   LANES_CONFLICT, LANES_NOT_APART
+ *   LANES_CONFLICT, LANES_NOT_APART, LANES_MISSING
  *                       first: the batch's origin; second: its number
  *   LANES_WRONG_ARITY   first: the row, from 0
  *   LANES_OUT_OF_TYPE   first: the row, from 0; second: the column, from 0
@@ -47,6 +47,8 @@ extern "C" {
  *   LANES_LINE_TOO_LONG first: the line, from 1
  *   each refusal of a query of lanes_queries
  *                       second: the query, from 0
+ *   each refusal of a summary of lanes_finish_expected
+ *                       second: the summary, from 1
  *   LANES_SYNTAX, LANES_NO_SUCH_COLUMN of the names of lanes_columns
  *                       second: 1
  *   LANES_TRUNCATED, LANES_BAD_ORDER, LANES_BAD_COUNT, LANES_BAD_WIDTH, LANES_BAD_TAG, LANES_BAD_MASK, LANES_BAD_DICTIONARY,
@@ -103,7 +105,8 @@ enum {
     LANES_NOT_OPEN = 39,
     LANES_NOT_APART = 40,
     LANES_QUERY_DIFFERS = 41,
-    LANES_TOO_MANY = 42
+    LANES_TOO_MANY = 42,
+    LANES_MISSING = 43
 };
 
 /* Makes the file of an empty table. The words are the table's name and, column by column, the column's name and its type, with one
@@ -279,6 +282,31 @@ enum { LANES_TEXT = 0, LANES_CSV = 1, LANES_JSON = 2, LANES_TABLE = 3 };
 uint8_t lanes_finish(const uint8_t *partial, size_t partial_length, uint8_t format, uint8_t *out, size_t room, size_t *length,
                      lanes_place *place);
 
+/* Answers the query that a partial answer is of, as lanes_finish, if each batch that one of some summaries names was counted. So a file
+ * whose partial answer was lost is noticed. `summaries` has the summaries one after another, and lengths[i] is how many bytes summary i
+ * has, from 0. docs/MANY-MACHINES.md says when to take the summaries.
+ *
+ * Refused, in this order: the partial answer's first fault; that of each summary in turn, with place->second the summary, from 1;
+ * LANES_SCHEMA_DIFFERS when a summary is of another table; LANES_MISSING with the least batch that a summary names and that was not
+ * counted: it may have been forgotten since; what lanes_finish refuses after the partial answer's first fault. */
+uint8_t lanes_finish_expected(const uint8_t *partial, size_t partial_length, const uint8_t *summaries, size_t summaries_length,
+                              const size_t *lengths, size_t lengths_count, uint8_t format, uint8_t *out, size_t room, size_t *length,
+                              lanes_place *place);
+
+/* Gives what the program's command `inspect` writes of a partial answer: its table, its query, how many groups it has, and which batches
+ * were counted. The format is LANES_TEXT or LANES_JSON; another number is taken for LANES_TEXT.
+ *
+ * Refused: the partial answer's first fault. */
+uint8_t lanes_inspect_partial(const uint8_t *partial, size_t partial_length, uint8_t format, uint8_t *out, size_t room, size_t *length,
+                              lanes_place *place);
+
+/* Gives what the program's command `inspect` writes of a summary: its table, and which batches it names. The format is LANES_TEXT or
+ * LANES_JSON; another number is taken for LANES_TEXT.
+ *
+ * Refused: the summary's first fault. */
+uint8_t lanes_inspect_summary(const uint8_t *summary, size_t summary_length, uint8_t format, uint8_t *out, size_t room, size_t *length,
+                              lanes_place *place);
+
 /* Gives the cells of columns at the live rows at which a condition is true, in order of row name: the rows of lanes_dump.
  *
  * names: the columns' names with one space between, in the order that is wanted; of length 0: all, in the table's order.
@@ -325,6 +353,16 @@ uint8_t lanes_inspect(lanes_table *table, uint8_t format, uint8_t *out, size_t r
  * Refused: LANES_NOT_OPEN when the handle is closed. */
 uint8_t lanes_file(lanes_table *table, uint8_t *out, size_t room, size_t *length, lanes_place *place);
 
+/* Spreads the table of a handle over several files, its shares: as many as `ends` has room for. Each batch goes to one share, in runs of
+ * names, with all deletions that name it. Deletions that name no batch of the table go to the first share. No share has more bytes than
+ * an equal share and the largest batch, and none is without a batch when the table has as many batches as there are shares. The handle
+ * keeps its table.
+ *
+ * Gives: the files of the shares, one after another. The file of share i, from 0, ends in front of the byte ends[i] of `out`. Merged they
+ * are the table, and their partial answers are combined. `ends` is written also when the files don't fit into `out`.
+ * Refused: LANES_NOT_OPEN when the handle is closed. A refused call leaves `ends` as it was. */
+uint8_t lanes_spread(lanes_table *table, size_t *ends, size_t ends_room, uint8_t *out, size_t room, size_t *length, lanes_place *place);
+
 /* The calls that begin with lanes_table_ change the table of a handle, and check no file again. With 0 the handle has the changed
  * table; lanes_file gives its file, which is that of the call without a handle. When a call is refused, the handle has the table that
  * it had. Another handle of the same table, which lanes_share gave, has what it had in both cases. So share a handle first to keep
@@ -348,6 +386,13 @@ uint8_t lanes_table_delete(lanes_table *table, const uint8_t *condition, size_t 
  * Refused, in this order: LANES_NOT_OPEN when the handle is closed; LANES_BAD_NAME when origin or number is 0; LANES_BAD_RANGE when
  * last is less than first. */
 uint8_t lanes_table_delete_rows(lanes_table *table, uint32_t origin, uint32_t number, uint16_t first, uint16_t last, lanes_place *place);
+
+/* Deletes the same rows only when the table has the batch, and tells in *held whether it has: 1, or 0, and then nothing is deleted. So a
+ * deletion can be sent to all shares of a table: the batch is in one of them.
+ *
+ * Refused: as lanes_table_delete_rows, also when the table doesn't have the batch. With 0, *held is 1 or 0. */
+uint8_t lanes_table_delete_held_rows(lanes_table *table, uint32_t origin, uint32_t number, uint16_t first, uint16_t last, size_t *held,
+                                     lanes_place *place);
 
 /* Applies an offer, as lanes_apply. A file is an offer too.
  *

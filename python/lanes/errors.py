@@ -11,7 +11,7 @@ if TYPE_CHECKING:
 
 #: How many numbers the place of a refusal has, by the refusal's name; the others have none.
 _NUMBERS = {
-    **dict.fromkeys(["Conflict", "OutOfType", "BadCsv", "NotApart"], 2),
+    **dict.fromkeys(["Conflict", "OutOfType", "BadCsv", "NotApart", "Missing"], 2),
     **dict.fromkeys(
         ["WrongArity", "Truncated", "BadOrder", "BadCount", "BadWidth", "BadTag", "BadMask", "BadDictionary", "BadCode", "BadRange"], 1
     ),
@@ -28,9 +28,9 @@ class Refused(Error, ValueError):
     """A call was refused, and changed nothing. If memory ran out it is an `OutOfMemory`. docs/REFUSALS.md says of each refusal what to do.
 
     Attributes:
-        number: the refusal's number, from 1 to 42.
+        number: the refusal's number, from 1 to 43.
         name: its name, as `Syntax`.
-        place: where, as the name explains it: `(7,)` is a byte from 0, for `Conflict` and `NotApart` it is the batch's origin and number, and for `BadCsv`
+        place: where, as the name explains it: `(7,)` is a byte from 0, for `Conflict`, `NotApart` and `Missing` it is the batch's origin and number, and for `BadCsv`
             the line and its field, from 1. It is empty if the refusal has no place.
         sentence: what it means, in words, with the place.
     """
@@ -43,7 +43,7 @@ class Refused(Error, ValueError):
         self.sentence = sentence
 
     def __str__(self) -> str:
-        between = "." if self.name in ("Conflict", "NotApart") else " "
+        between = "." if self.name in ("Conflict", "NotApart", "Missing") else " "
         return " ".join([self.name, *filter(None, [between.join(map(str, self.place))])]) + f": {self.sentence}"
 
 

@@ -14,6 +14,7 @@ from .answer import Answer
 from .batch_name import GivenName
 from .errors import Busy, Refused
 from .holdings import Holdings
+from .partial_answers import Partial
 from .table import Csv, Schema, Table
 from .waiting import Wait
 
@@ -94,11 +95,11 @@ class Folder:
         """The answer of a query, as of `Table.query`."""
         return self.read().query(sql)
 
-    def partial(self, sql: str) -> bytes:
+    def partial(self, sql: str) -> Partial:
         """What the folder gives to the answer of a query over several tables, as of `Table.partial`."""
         return self.read().partial(sql)
 
-    def part(self, sql: str) -> bytes:
+    def part(self, sql: str) -> Partial:
         """`partial`, by its name up to 0.5. It goes with the next release."""
         return self.partial(sql)
 
@@ -155,15 +156,29 @@ class Folder:
             return self.delete(condition)
         return rows
 
-    def delete_rows(self, batch: GivenName, first: int, last: Optional[int] = None) -> None:
+    def delete_rows(self, batch: GivenName, first: int, last: Optional[int] = None, *, held: bool = False) -> bool:
         """Deletes rows by their names, as `Table.delete_rows` does, whether the folder has them or not. Of the parts the heads are read, and
         the smallest part whole.
+
+        Args:
+            held: whether to delete only if the folder has the batch. Then all parts are read. So one deletion may be sent to all shards.
+
+        Returns:
+            False if `held` is true and the folder does not have the batch, so that nothing is deleted; else True.
 
         Raises:
             Refused: `BadName`, `BadRange`; a part's first fault, or `SchemaDiffers` of a part.
             Damaged: a part has other bytes than its name says.
         """
-        self._put(self._heads().empty.delete_rows(batch, first, last))
+        if not held:
+            empty = self._heads().empty
+        else:
+            table = self.read()
+            if table.delete_rows(batch, first, last, held=True) is table:
+                return False
+            empty = _empty_of(table)
+        self._put(empty.delete_rows(batch, first, last))
+        return True
 
     def apply(self, *offers: Union[bytes, bytearray, memoryview]) -> int:
         """Adds what offers bring, all or nothing; how many batches are new. What was there already is on the disk afterwards, too.

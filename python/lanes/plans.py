@@ -9,16 +9,15 @@ The answer is that of `query` over the merged file: rows, headings and means. Th
 
 from __future__ import annotations
 
-from typing import Dict, Iterable
+import ctypes
+from typing import Dict, Iterable, Optional, Union
 
 from . import arguments, calls
 from .answer import Answer
 from .batch_name import BatchName
 from .errors import NotApart, Refused
+from .partial_answers import Partial, names_batch
 from .table import Schema, Table
-
-#: A partial answer, in bytes: docs/FORMATS.md has them. The program `lanes` reads and writes the same.
-Partial = bytes
 
 #: The name that `Partial` had up to 0.5. It goes with the next release.
 Part = Partial
@@ -26,7 +25,11 @@ Part = Partial
 #: How much room an answer's text is given at first, and a partial answer beside those that it is made of.
 _ROOM = 65_536
 
-_SCHEMA_DIFFERS, _NOT_APART = 8, 40
+#: The numbers of refusals that are looked at here.
+_SCHEMA_DIFFERS, _NOT_APART, _MISSING = 8, 40, 43
+
+#: What is taken for bytes.
+_Bytes = Union[bytes, bytearray, memoryview]
 
 
 class Plan:
@@ -52,7 +55,7 @@ class Plan:
         """The partial answer of no table, with which any other one is combined into itself."""
         return Table.create(self.name, self.columns).partial(self.sql)
 
-    def combine(self, one: Partial, other: Partial) -> Partial:
+    def combine(self, one: _Bytes, other: _Bytes) -> Partial:
         """The partial answer that is of the tables of both: `combine` of two.
 
         Raises:
@@ -60,9 +63,9 @@ class Plan:
         """
         return combine([one, other])
 
-    def finish(self, partial: Partial) -> Answer:
-        """The answer of the query over all tables of a partial answer."""
-        return finish(partial)
+    def finish(self, partial: _Bytes, expect: Iterable[_Bytes] = ()) -> Answer:
+        """The answer of the query over all tables of a partial answer: `finish` of it."""
+        return finish(partial, expect)
 
 
 def split(sql: str, table: Table) -> Plan:
@@ -75,7 +78,7 @@ def split(sql: str, table: Table) -> Plan:
     return Plan(sql, table.name, table.columns)
 
 
-def combine(partials: Iterable[Partial]) -> Partial:
+def combine(partials: Iterable[_Bytes]) -> Partial:
     """The partial answer that is of the tables of all of these partial answers, in whichever order they come.
 
     Raises:
@@ -89,25 +92,45 @@ def combine(partials: Iterable[Partial]) -> Partial:
     while len(level) > 1:  # in pairs, so that a partial answer is read as often as the tree is high, and not once for each other one
         pairs = [_joined(one, other) for one, other in zip(level[0::2], level[1::2])]
         level = pairs + level[2 * len(pairs) :]
-    return level[0]
+    return Partial(level[0])
 
 
-def finish(partial: Partial) -> Answer:
+def finish(partial: _Bytes, expect: Iterable[_Bytes] = ()) -> Answer:
     """The answer of the query that a partial answer is of, over all its tables.
 
+    Args:
+        expect: summaries of tables, as `Table.summary` gives them. There is an answer only if each batch that one of them names was
+            counted. So a table whose partial answer was lost is noticed; docs/MANY-MACHINES.md says when to take the summaries.
+
     Raises:
-        Refused: a fault of the partial answer, `QueryDiffers` if its groups are not those of its query, or `TooMany`.
+        Refused: a fault of the partial answer; of a summary, with its place in `expect`; `SchemaDiffers` if a summary is of another table;
+            `Missing` with the least batch that was not counted; `QueryDiffers` if the groups of the partial answer are not those of its
+            query; `TooMany`.
     """
-    given = arguments.bytes_of("partial", partial)
-    text = calls.given(calls.FINISH, _ROOM + calls.FIELD * len(given), given, 0).decode()
-    return Answer.from_text(text, _query_of(given))
+    given = Partial(arguments.bytes_of("partial", partial))
+    expected = [arguments.bytes_of("expect", summary) for summary in arguments.several("expect", "several summaries", expect)]
+    room = _ROOM + calls.FIELD * len(given)
+    if not expected:
+        return Answer.from_text(calls.given(calls.FINISH, room, given, 0).decode(), given.query)
+    lengths = (ctypes.c_size_t * len(expected))(*map(len, expected))
+    try:
+        text = calls.given(calls.FINISH_EXPECTED, room, given, b"".join(expected), ctypes.addressof(lengths), len(expected), 0).decode()
+    except Refused as refusal:
+        raise _of_summary(refusal, given, expected) from None
+    return Answer.from_text(text, given.query)
 
 
-def _query_of(partial: Partial) -> str:
-    """The text of a partial answer's query, which comes after the schema. The partial answer was judged already."""
-    at = len(Schema.of(partial).front)
-    length = int.from_bytes(partial[at : at + 8], "little")
-    return partial[at + 8 : at + 8 + length].decode()
+def _of_summary(refusal: Refused, given: Partial, expected: list[bytes]) -> Refused:
+    """A refusal whose sentence names the summary that it is of, if it is of one."""
+    first, second = refusal.args[2]  # of a fault of a summary the second number is the summary's, from 1
+    at: Optional[int] = None
+    if refusal.number == _MISSING:
+        at = next(at for at, summary in enumerate(expected) if names_batch(summary, BatchName(first, second)))
+    elif refusal.number == _SCHEMA_DIFFERS:
+        at = next((at for at, summary in enumerate(expected) if Schema.of(summary)[:2] != Schema.of(given)[:2]), None)
+    elif second:
+        at, second = second - 1, 0
+    return refusal if at is None else calls.refused(refusal.number, first, second, f"expect[{at}]: {refusal.sentence}")
 
 
 def check_apart(tables: Iterable[Table]) -> None:
@@ -122,7 +145,7 @@ def check_apart(tables: Iterable[Table]) -> None:
         combine(partials)
 
 
-def _joined(one: Partial, other: Partial) -> Partial:
+def _joined(one: bytes, other: bytes) -> bytes:
     """The partial answer of two."""
     try:
         return calls.given(calls.COMBINE, len(one) + len(other) + _ROOM, one, other)

@@ -14,6 +14,7 @@ from typing import IO, TYPE_CHECKING, Any, Iterable, Mapping, NamedTuple, Option
 from . import arguments, calls, conditions, replacing
 from .answer import Answer, Value
 from .batch_name import BatchName, GivenName, name_of
+from .partial_answers import Partial
 
 if TYPE_CHECKING:
     from .columns import ColumnData
@@ -222,15 +223,15 @@ class Table:
         """
         return Answer.from_text(self._asked().ask(arguments.text_of("sql", sql)).decode(), sql)
 
-    def partial(self, sql: str) -> bytes:
+    def partial(self, sql: str) -> Partial:
         """What this table gives to the answer of a query over several tables, for `lanes.combine` and `lanes.finish`.
 
         Raises:
             Refused: what `query` refuses.
         """
-        return self._asked().partial(self._length() + _ROOM, arguments.text_of("sql", sql))
+        return Partial(self._asked().partial(self._length() + _ROOM, arguments.text_of("sql", sql)))
 
-    def part(self, sql: str) -> bytes:
+    def part(self, sql: str) -> Partial:
         """`partial`, by its name up to 0.5. It goes with the next release."""
         return self.partial(sql)
 
@@ -351,9 +352,13 @@ class Table:
         with conditions.judged("condition", text, self.columns):
             return self._made(calls.made(calls.DELETE, 2 * self._length() + _ROOM, self._file, text))
 
-    def delete_rows(self: _Self, batch: GivenName, first: int, last: Optional[int] = None) -> _Self:
+    def delete_rows(self: _Self, batch: GivenName, first: int, last: Optional[int] = None, *, held: bool = False) -> _Self:
         """The table without the rows of a batch from one ordinal to another, both included; without `last` one row. Ordinals are from 0
         to 65,535, as `dump(names=True)` has them. Rows that the table doesn't have yet are deleted when they come.
+
+        Args:
+            held: whether to delete only if the table has the batch. If it does not, this same table is given. So one deletion may be sent
+                to all shares of a table.
 
         Raises:
             Refused: `BadRange` if `last` is before `first`; `BadName`.
@@ -363,6 +368,9 @@ class Table:
         end = begin if last is None else _ordinal("last", last)
         if end < begin:
             raise calls.refused(_BAD_RANGE)
+        if held:
+            file = self._asked().without_held(self._length() + _ROOM, name.origin, name.number, begin, end)
+            return self if file is None else self._made(file)
         parts = [name.origin.to_bytes(4, "little"), name.number.to_bytes(4, "little"), begin.to_bytes(2, "little"), end.to_bytes(2, "little")]
         return self.apply(self._front() + bytes(4) + (1).to_bytes(8, "little") + b"".join(parts))
 
@@ -374,6 +382,20 @@ class Table:
             Refused: a fault of the file.
         """
         return self._made(calls.made(calls.FORGET, self._length() + _ROOM, self._file))
+
+    def spread(self: _Self, count: int) -> list[_Self]:
+        """The table spread over as many shares, for as many machines: each batch goes to one of them, in runs of names, with the deletions
+        of its rows. Merged they are this table, and their partial answers are combined. No share has more bytes than an equal share and
+        the largest batch, and none is without a batch if there are as many batches. Deletions of batches that this table does not have
+        go to the first one.
+
+        Raises:
+            ValueError: `count` is less than 1.
+        """
+        shares = arguments.number_of("count", count)
+        if shares < 1:
+            raise ValueError(f"count: a table is spread over 1 share or more, and this is {shares}")
+        return [self._made(file) for file in self._asked().spread(self._length() + shares * _FRONT + _ROOM, shares)]
 
     def merge(self: _Self, *others: Table) -> _Self:
         """The table that has what all of them hold, in whichever order they come.

@@ -97,6 +97,20 @@ class Calls(InFolder):
             self.assertEqual(self.folder.apply(self.empty.delete_rows("1.1", first, last).to_bytes()), 0)
             self.assertEqual(len(self.folder.read()), rows)
 
+    def test_rows_of_a_batch_are_deleted_only_where_it_is(self) -> None:
+        self.folder.import_csv("1,10\n2,20\n", heading=False, batch="1.1")
+        before = self.folder.parts()
+        self.assertIs(self.folder.delete_rows("9.9", 0, held=True), False)
+        self.assertEqual(self.folder.parts(), before)
+        self.assertIs(self.folder.delete_rows("1.1", 0, held=True), True)
+        self.assertIs(self.folder.delete_rows("9.9", 0), True)
+        self.assertEqual(len(self.folder.parts()), len(before) + 2)
+        self.assertEqual(self.folder.query("SELECT COUNT(*),SUM(A) FROM T"), [(1, 2)])
+        for batch, first, last in ("9.9", 2, 1), ("1.1", 2, 1), ((1, 0), 0, 0):
+            with self.assertRaises(lanes.Refused):
+                self.folder.delete_rows(batch, first, last, held=True)
+        self.assertEqual(len(self.folder.parts()), len(before) + 2)
+
     def test_deletes_that_overlap_have_the_rows_of_a_table(self) -> None:
         pick = random.Random(5)
         for _ in range(12):
@@ -244,7 +258,7 @@ class Looks(InFolder):
                 ("read_part", lambda: len(self.folder.read()), 2),
                 ("read_part", lambda: self.folder.import_csv("1,1\n", heading=False, batch="1.1"), 0),
                 ("front_of", lambda: self.folder.import_csv("1,1\n", heading=False), 1),
-                ("front_of", lambda: self.folder.delete_rows("9.9", 9), None),
+                ("front_of", lambda: self.folder.delete_rows("9.9", 9), True),
             ]
         ):
             self.folder.import_csv("1,1\n", heading=False, batch="1.1")

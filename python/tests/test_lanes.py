@@ -396,7 +396,7 @@ class Threads(unittest.TestCase):
 
 def whole_sentence(name: str, shown: str, sentence: str) -> str:
     """The sentence at the place (70000, 3), from the name with its values and the sentence as the page shows them."""
-    if name in ("Conflict", "NotApart"):
+    if name in ("Conflict", "NotApart", "Missing"):
         return sentence.replace("O.N", "70000.3")
     if name == "LineTooLong":
         return f"line 70000: {sentence}"
@@ -450,7 +450,7 @@ class Module(unittest.TestCase):
                 places = len(cells[1].strip("`").replace(".", " ").split()) - 1
                 self.assertEqual(len(refused.place), places or refused.name == "LineTooLong", cells[1])
                 told.append(int(cells[0]))
-        self.assertEqual(told, [*range(1, 38), *range(39, 43)])
+        self.assertEqual(told, [*range(1, 38), *range(39, 44)])
         self.assertEqual(_refused(38, _Place(70_000, 3)).sentence, "line 70000, field 3: the field is not a whole number")
         self.assertEqual(_refused(38, _Place(70_000, 0)).sentence, "line 70000: the line has the wrong number of fields")
 

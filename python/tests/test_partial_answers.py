@@ -76,6 +76,84 @@ class PartialAnswers(unittest.TestCase):
                 ONE.partial(sql)
             self.assertEqual((told.exception.number, told.exception.place), (wanted.exception.number, wanted.exception.place))
 
+    def test_a_partial_answer_tells_what_it_covers(self) -> None:
+        stray = ONE.delete_rows((7, 2), 0, 3)
+        whole = lanes.combine([stray.partial(SQL), OTHER.partial(SQL)])
+        self.assertIsInstance(whole, bytes)
+        self.assertEqual((whole.table, whole.query, whole.groups, whole.batches), ("T", SQL, 4, 2))
+        self.assertEqual(whole.runs, [((1, 1), (1, 1)), ((2, 1), (2, 1))])
+        self.assertEqual(whole.strays, [((7, 2), (7, 2))])
+        for again in (pickle.loads(pickle.dumps(whole)), lanes.Partial(bytes(whole)), lanes.combine([bytes(whole)])):
+            self.assertEqual((type(again), again, again.batches), (lanes.Partial, whole, 2))
+        self.assertEqual(lanes.finish(bytes(whole)), lanes.finish(whole))
+        several = table("1,1\n", 9).import_csv("2,2\n" * 70_000, heading=False, batch=(9, 2)).partial("SELECT COUNT(*)\n FROM T\t")
+        self.assertEqual((several.runs, several.query), ([((9, 1), (9, 3))], "SELECT COUNT(*)\n FROM T\t"))
+        for data, name in (b"", "Truncated"), (ONE.to_bytes(), "BadMagic"), (bytes(whole) + b"x", "TrailingBytes"):
+            with self.assertRaises(lanes.Refused) as told:
+                lanes.Partial(data).batches
+            self.assertEqual(told.exception.name, name)
+        self.assertIsInstance(lanes.split(SQL, ONE).ask(ONE), lanes.Partial)
+
+    def test_a_lost_partial_answer_is_noticed(self) -> None:
+        third = table("1,1\n", 3)
+        tables, summaries = [ONE, OTHER, third], [each.summary() for each in (ONE, OTHER, third)]
+        whole = lanes.combine(each.partial(SQL) for each in tables)
+        self.assertEqual(lanes.finish(whole, expect=summaries), ONE.merge(OTHER, third).query(SQL))
+        self.assertEqual(lanes.split(SQL, ONE).finish(whole, expect=summaries[:1]), lanes.finish(whole))
+        self.assertEqual(lanes.finish(whole, expect=[]), lanes.finish(whole))
+        lost = lanes.combine([ONE.partial(SQL), third.partial(SQL)])
+        with self.assertRaises(lanes.Refused) as told:
+            lanes.finish(lost, expect=summaries)
+        self.assertEqual((told.exception.name, told.exception.number, told.exception.place), ("Missing", 43, (2, 1)))
+        self.assertRegex(str(told.exception), r"^Missing 2\.1: expect\[1\]: batch 2\.1 .*forgotten")
+        wider = lanes.Table.create("T", {"A": "SMALLINT", "B": "INTEGER"}).summary()
+        for expect, name, place, begins in (
+            ([summaries[0], wider], "SchemaDiffers", (), "expect[1]: "),
+            ([summaries[0], b"", b"x"], "Truncated", (0,), "expect[1]: "),
+            ([b"x" * 40], "BadMagic", (), "expect[0]: "),
+            ([*summaries, summaries[0] + b"x"], "TrailingBytes", (len(summaries[0]),), "expect[3]: "),
+        ):
+            with self.assertRaises(lanes.Refused) as told:
+                lanes.finish(lost, expect=expect)
+            self.assertEqual((told.exception.name, told.exception.place), (name, place))
+            self.assertTrue(told.exception.sentence.startswith(begins), told.exception.sentence)
+        with self.assertRaises(lanes.Refused) as told:
+            lanes.finish(summaries[0], expect=[b""])
+        self.assertEqual(told.exception.name, "BadMagic")
+        self.assertFalse(told.exception.sentence.startswith("expect"))
+
+    def test_a_spread_table_gives_the_same_answers(self) -> None:
+        whole = ONE.merge(OTHER, *(table(f"{at % 4},{at}\n" * at, at) for at in range(3, 12))).delete("B = 7").delete_rows((90, 1), 0, 5)
+        for count in 1, 2, 3, 11, 15:
+            shares = whole.spread(count)
+            self.assertEqual(len(shares), count)
+            self.assertEqual(shares[0].merge(*shares[1:]), whole)
+            self.assertEqual(lanes.combine(each.partial(SQL) for each in shares), whole.partial(SQL))
+            lanes.check_apart(shares)
+            self.assertEqual(sum(each.check()[0] for each in shares), 11)
+            if count <= 11:
+                self.assertTrue(all(each.check()[0] for each in shares))
+            self.assertIn(((90, 1), (90, 1)), shares[0].partial(SQL).strays)
+
+        class Own(lanes.Table):
+            pass
+
+        self.assertTrue(all(type(each) is Own for each in Own.from_bytes(whole.to_bytes()).spread(2)))
+
+    def test_one_deletion_is_sent_to_all_shares(self) -> None:
+        whole = ONE.merge(OTHER)
+        shares = whole.spread(2)
+        for batch in (1, 1), "2.1", (5, 5):
+            left = [share.delete_rows(batch, 1, 2, held=True) for share in shares]
+            self.assertEqual([before is after for before, after in zip(shares, left)].count(False), 0 if batch == (5, 5) else 1)
+            shares = left
+        self.assertEqual(shares[0].merge(shares[1]), whole.delete_rows((1, 1), 1, 2).delete_rows((2, 1), 1, 2))
+        lanes.combine(share.partial(SQL) for share in shares)
+        for batch, first, last, name in ((9, 9), 2, 1, "BadRange"), ((1, 0), 0, 0, "BadName"):
+            with self.assertRaises(lanes.Refused) as told:
+                ONE.delete_rows(batch, first, last, held=True)
+            self.assertEqual(told.exception.name, name)
+
 
 if __name__ == "__main__":
     unittest.main()

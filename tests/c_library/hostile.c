@@ -148,7 +148,7 @@ static bool is_untouched(const uint8_t *out, size_t from) {
 
 /* Whether what was told is as lanes.h has it: a refusal writes nothing, and an answer nothing but itself, where it fits. */
 static bool is_as_promised(const told *seen, size_t room) {
-    if (seen->number != 0) return seen->number <= LANES_TOO_MANY && seen->length == 0 && is_untouched(seen->out, 0);
+    if (seen->number != 0) return seen->number <= LANES_MISSING && seen->length == 0 && is_untouched(seen->out, 0);
     if (seen->place.first != 0 || seen->place.second != 0) return false;
     return is_untouched(seen->out, seen->length <= room ? seen->length : 0);
 }
@@ -313,7 +313,7 @@ static void try_sentences(void) {
     uint8_t out[ROOM];
     lanes_place place = {7, 3};
     for (unsigned number = 0; number < 256; number++) {
-        bool is_named = number >= 1 && number <= LANES_TOO_MANY;
+        bool is_named = number >= 1 && number <= LANES_MISSING;
         memset(out, FILLER, ROOM);
         size_t length = lanes_refusal((uint8_t)number, out, ROOM);
         expect((length != 0) == is_named && length <= 32 && is_untouched(out, length), "a name");

@@ -35,6 +35,13 @@ static uint8_t delete(lanes_table *table, lanes_place *place) { return lanes_tab
 
 static uint8_t delete_rows(lanes_table *table, lanes_place *place) { return lanes_table_delete_rows(table, 1, 1, 0, 1, place); }
 
+static uint8_t delete_held_rows(lanes_table *table, lanes_place *place) { return lanes_table_delete_held_rows(table, 1, 1, 0, 1, &length, place); }
+
+static uint8_t spread(lanes_table *table, lanes_place *place) {
+    static size_t ends[2];
+    return lanes_spread(table, ends, 2, room, sizeof room, &length, place);
+}
+
 static uint8_t apply(lanes_table *table, lanes_place *place) { return lanes_table_apply(table, offer.at, offer.length, place); }
 
 static uint8_t forget(lanes_table *table, lanes_place *place) { return lanes_table_forget(table, place); }
@@ -113,6 +120,8 @@ int main(void) {
     expect(refuse_each(start, import, "an import") > 5, "growths of an import");
     expect(refuse_each(start, delete, "a delete") > 3, "growths of a delete");
     expect(refuse_each(start, delete_rows, "a delete of rows") > 3, "growths of a delete of rows");
+    expect(refuse_each(start, delete_held_rows, "a delete of held rows") > 3, "growths of a delete of held rows");
+    expect(refuse_each(start, spread, "a spread") > 5, "growths of a spread");
     expect(refuse_each(start, apply, "an offer") > 5, "growths of an offer");
     expect(refuse_each(dead, forget, "a forget") > 3, "growths of a forget");
     expect(refuse_each(start, inspect, "a report") > 5, "growths of a report");

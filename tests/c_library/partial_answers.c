@@ -16,7 +16,7 @@ static bool is_untouched(const told *seen, size_t from) {
 
 /* Whether what was told is as lanes.h has it: a refusal writes nothing, and an answer nothing but itself, where it fits. */
 static bool is_as_promised(const told *seen, size_t room) {
-    if (seen->number != 0) return seen->number <= LANES_TOO_MANY && seen->length == 0 && is_untouched(seen, 0);
+    if (seen->number != 0) return seen->number <= LANES_MISSING && seen->length == 0 && is_untouched(seen, 0);
     if (seen->place.first != 0 || seen->place.second != 0) return false;
     return is_untouched(seen, seen->length <= room ? seen->length : 0);
 }

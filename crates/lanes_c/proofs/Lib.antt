@@ -9,3 +9,7 @@ pub mod PartialAnswerGivings
 pub mod TableChanging
 pub mod TableReadings
 pub mod BetweenSteps
+pub mod CoverageGivings
+pub mod SpreadGivings
+pub mod HeldChanges
+pub mod Expectations

@@ -24,11 +24,11 @@ answers_more meaning [] (other ∷ texts) query text h one = absurd h
 answers_more meaning (other ∷ queries) [] query text h one = absurd h
 answers_more meaning (other ∷ queries) (first ∷ texts) query text h one = (h.0, answers_more meaning queries texts query text h.1 one)
 
-concat_more : (texts : List (List ℕ)) (text : List ℕ) → concat (texts ++ text ∷ []) ≡ concat texts ++ text
+pub concat_more : (texts : List (List ℕ)) (text : List ℕ) → concat (texts ++ text ∷ []) ≡ concat texts ++ text
 concat_more [] text = append-nil text
 concat_more (first ∷ texts) text = ap (λ (rest : List ℕ). first ++ rest) (concat_more texts text) ∙ sym (append_assoc first (concat texts) text)
 
-ends_more : (at : ℕ) (texts : List (List ℕ)) (text : List ℕ) → ends_from at (texts ++ text ∷ []) ≡ ends_from at texts ++ (at + length (concat (texts ++ text ∷ []))) ∷ []
+pub ends_more : (at : ℕ) (texts : List (List ℕ)) (text : List ℕ) → ends_from at (texts ++ text ∷ []) ≡ ends_from at texts ++ (at + length (concat (texts ++ text ∷ []))) ∷ []
 ends_more at [] text = ap (λ (t : List ℕ). (at + length t) ∷ []) (sym (append-nil text))
 ends_more at (first ∷ texts) text =
     let rest : List ℕ = concat (texts ++ text ∷ []) in

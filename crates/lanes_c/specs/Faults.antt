@@ -7,6 +7,8 @@ use Rattle.table_model.specs.declared.refusal.Refusal.{Refusal}
 use Rattle.table_model.specs.declared.refusal.Refusal.TheVariants as refusals
 use Rattle.partial_answers.specs.declared.fault.PartialAnswerFault.{PartialAnswerFault}
 use Rattle.partial_answers.specs.declared.fault.PartialAnswerFault.TheVariants as partials
+use Rattle.partial_commands.specs.declared.expectation_error.ExpectationError.{ExpectationError}
+use Rattle.partial_commands.specs.declared.expectation_error.ExpectationError.TheVariants as expectations
 use Rattle.partial_commands.specs.declared.partial_answer_error.PartialAnswerError.{PartialAnswerError}
 use Rattle.partial_commands.specs.declared.partial_answer_error.PartialAnswerError.TheVariants as errors
 use Rattle.csv_rows.specs.declared.error.CsvError.{CsvError}
@@ -37,7 +39,7 @@ numbers_of (named.Byte at) = pair at 0
 abbrev pub place_of : Refusal → Place
 place_of refusal = numbers_of (named_by refusal)
 
--- the number of a fault: a refusal's own, 38 for comma-separated values outside the grammar, 39 for a closed handle, and 40 to 42 for partial answers that don't go together
+-- the number of a fault: a refusal's own, 38 for comma-separated values outside the grammar, 39 for a closed handle, and 40 to 43 for partial answers
 abbrev pub number_of_fault : Fault → ℕ
 number_of_fault (faults.Refused refusal) = number_of refusal
 number_of_fault (faults.BadCsv line column) = 38
@@ -48,8 +50,11 @@ number_of_fault faults.NotOpen = 39
 number_of_fault (faults.NotApart name) = 40
 number_of_fault faults.QueryDiffers = 41
 number_of_fault faults.TooMany = 42
+number_of_fault (faults.OfSummary refusal summary) = number_of refusal
+number_of_fault (faults.Missing name) = 43
 
--- the place of a fault; that of one query of several has the query, from 0, next to the byte, and that of the names of columns has 1
+-- the place of a fault; next to the byte, that of one query of several has the query, from 0, that of one summary of several the summary, from 1, and that
+-- of the names of columns 1
 abbrev pub place_of_fault : Fault → Place
 place_of_fault (faults.Refused refusal) = place_of refusal
 place_of_fault (faults.BadCsv line column) = pair line column
@@ -60,6 +65,8 @@ place_of_fault faults.NotOpen = nowhere
 place_of_fault (faults.NotApart name) = pair name.origin.0 name.number.0
 place_of_fault faults.QueryDiffers = nowhere
 place_of_fault faults.TooMany = nowhere
+place_of_fault (faults.OfSummary refusal summary) = pair (place_of refusal).first summary
+place_of_fault (faults.Missing name) = pair name.origin.0 name.number.0
 
 -- a refusal as that of one query of several
 abbrev pub of_query : Fault → ℕ → Fault
@@ -100,3 +107,9 @@ told_of_partial_answers (partials.Query refusal) = faults.Refused refusal
 abbrev pub told_of_partial_answer : PartialAnswerError → Fault
 told_of_partial_answer (errors.Refused refusal) = told refusal
 told_of_partial_answer (errors.Fault fault) = told_of_partial_answers fault
+
+-- what C gets of a partial answer that isn't answered under an expectation
+abbrev pub told_of_expectation : ExpectationError → Fault
+told_of_expectation expectations.SchemaDiffers = faults.Refused refusals.SchemaDiffers
+told_of_expectation (expectations.Missing name) = faults.Missing name
+told_of_expectation (expectations.Unanswered e) = told_of_partial_answer e

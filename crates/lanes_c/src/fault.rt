@@ -1,13 +1,13 @@
 //! Why a call gave nothing, as C gets it: a number and a place.
 ghost use Rattle.std.specs.Prelude.{◌≡◌};
-ghost use Rattle.lanes_c.specs.Faults.{number_of_fault, place_of, place_of_fault, in_names, nowhere, of_query, pair, told, told_of_choice, told_of_csv, told_of_partial_answer, told_of_partial_answers};
+ghost use Rattle.lanes_c.specs.Faults.{number_of_fault, place_of, place_of_fault, in_names, nowhere, of_query, pair, told, told_of_choice, told_of_csv, told_of_expectation, told_of_partial_answer, told_of_partial_answers};
 ghost use Rattle.lanes_c.specs.declared.fault.Fault.TheVariants.{Refused};
 ghost use Rattle.table_model.specs.declared.refusal.Refusal.TheVariants.{Memory};
 
 use csv_rows::CsvError;
 use live_columns::Unchosen;
 use partial_answers::PartialAnswerFault;
-use partial_commands::PartialAnswerError;
+use partial_commands::{ExpectationError, PartialAnswerError};
 use std::alloc::{AllocError, AllocFailed};
 use table_model::{BatchName, Refusal};
 
@@ -18,7 +18,7 @@ pub struct Place {
     /// A byte of the input from 0; a row from 0; the origin of a batch; a line from 1.
     pub first: u64,
     /// A column from 0; the number of a batch; a field of a line from 1, and 0 for a wrong number of fields; a query of several
-    /// from 0; 1 in the names of columns.
+    /// from 0; a summary of several from 1; 1 in the names of columns.
     pub second: u64,
 }
 
@@ -35,6 +35,8 @@ pub enum Fault {
     OfQuery { refusal: Refusal, query: u64 },
     /// What the names of columns are refused as.
     InNames(Refusal),
+    /// What a summary of several is refused as, and which one it is, from 1.
+    OfSummary { refusal: Refusal, summary: u64 },
     /// A handle that is closed.
     NotOpen,
     /// Two partial answers that would count a batch twice, or rows that one of their files deletes; the least batch.
@@ -43,6 +45,8 @@ pub enum Fault {
     QueryDiffers,
     /// A number of an answer that is past its range.
     TooMany,
+    /// A batch that a summary names was not counted; the least.
+    Missing(BatchName),
 }
 
 /// A refusal as it is reported: a write into memory fails only if memory runs out.
@@ -122,6 +126,18 @@ impl From<PartialAnswerError> for Fault {
     }
 }
 
+impl From<ExpectationError> for Fault {
+    ghost from_gives = { λ given fault. fault ≡ told_of_expectation given };
+
+    fn from(given: ExpectationError) -> Fault {
+        match given {
+            ExpectationError::SchemaDiffers => Fault::Refused(Refusal::SchemaDiffers),
+            ExpectationError::Missing(name) => Fault::Missing(name),
+            ExpectationError::Unanswered(error) => Fault::from(error),
+        }
+    }
+}
+
 /// The number of `BadCsv`, which is no refusal of the table's own calls.
 const BAD_CSV: u8 = 38;
 
@@ -136,6 +152,9 @@ const QUERY_DIFFERS: u8 = 41;
 
 /// The number of `TooMany`, which is no refusal of the table's own calls.
 const TOO_MANY: u8 = 42;
+
+/// The number of `Missing`, which is no refusal of the table's own calls.
+const MISSING: u8 = 43;
 
 impl Place {
     /// No place.
@@ -188,11 +207,14 @@ impl Fault {
             Fault::Refused(refusal) => refusal.number(),
             Fault::BadCsv { .. } => BAD_CSV,
             Fault::LineTooLong { .. } => Refusal::LineTooLong.number(),
-            Fault::OfQuery { refusal, .. } | Fault::InNames(refusal) => refusal.number(),
+            Fault::OfQuery { refusal, .. }
+            | Fault::InNames(refusal)
+            | Fault::OfSummary { refusal, .. } => refusal.number(),
             Fault::NotOpen => NOT_OPEN,
             Fault::NotApart(_) => NOT_APART,
             Fault::QueryDiffers => QUERY_DIFFERS,
             Fault::TooMany => TOO_MANY,
+            Fault::Missing(_) => MISSING,
         }
     }
 
@@ -235,7 +257,11 @@ impl Fault {
                 first: Place::of(refusal).first,
                 second: 1,
             },
-            Fault::NotApart(name) => Place::of_batch(name),
+            Fault::OfSummary { refusal, summary } => Place {
+                first: Place::of(refusal).first,
+                second: summary,
+            },
+            Fault::NotApart(name) | Fault::Missing(name) => Place::of_batch(name),
             Fault::NotOpen | Fault::QueryDiffers | Fault::TooMany => Place::nowhere(),
         }
     }

@@ -5,8 +5,12 @@
 mod between;
 mod changing;
 mod columns;
+mod coverage;
+mod expecting;
 mod fault;
 mod handle;
+mod held_rows;
+mod joined;
 mod loose;
 mod merging;
 mod messages;
@@ -17,14 +21,18 @@ mod queries;
 mod reading;
 mod room;
 mod shared;
+mod spreading;
 mod table_changes;
 mod table_reading;
 mod taking;
 
 pub use changing::{lanes_create, lanes_delete, lanes_forget, lanes_import};
 pub use columns::{lanes_columns, lanes_columns_between, lanes_schema};
+pub use coverage::{lanes_inspect_partial, lanes_inspect_summary};
+pub use expecting::lanes_finish_expected;
 pub use fault::Place;
 pub use handle::Table;
+pub use held_rows::lanes_table_delete_held_rows;
 pub use merging::lanes_merge;
 pub use messages::{lanes_apply, lanes_offer, lanes_summary};
 pub use names::{lanes_refusal, lanes_sentence, lanes_version};
@@ -32,6 +40,7 @@ pub use opening::{lanes_ask, lanes_close, lanes_open, lanes_share};
 pub use partials::{lanes_combine, lanes_finish, lanes_part, lanes_partial};
 pub use queries::lanes_queries;
 pub use reading::{lanes_check, lanes_dump, lanes_query};
+pub use spreading::lanes_spread;
 pub use table_changes::{
     lanes_table_apply, lanes_table_delete, lanes_table_delete_rows, lanes_table_forget,
     lanes_table_import,

@@ -120,6 +120,7 @@ fn own_name(number: u8) -> &'static str
         40 => "NotApart",
         41 => "QueryDiffers",
         42 => "TooMany",
+        43 => "Missing",
         _ => "",
     }
 }
@@ -154,6 +155,7 @@ fn own_refusal(number: u8, place: Place) -> Option<CommandRefusal> {
         40 => Some(CommandRefusal::NotApart(batch_at(place))),
         41 => Some(CommandRefusal::QueryDiffers),
         42 => Some(CommandRefusal::TooMany),
+        43 => Some(CommandRefusal::Missing(batch_at(place))),
         _ => None,
     }
 }

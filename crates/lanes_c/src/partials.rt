@@ -72,7 +72,7 @@ fn combined(alloc: Global, one: &[u8], other: &[u8]) -> Result<Vec<u8>, Fault>
 }
 
 /// The format of a number: text for 0 and each number past 3, and comma-separated values, JSON and a table for 1, 2 and 3.
-fn format_numbered(number: u8) -> Format
+pub(crate) fn format_numbered(number: u8) -> Format
     ensures { result ≡ format_numbered number }
 {
     match number {

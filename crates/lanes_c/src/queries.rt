@@ -1,44 +1,15 @@
 //! The call that answers several queries of one opening.
-ghost use Rattle.std.specs.Prelude.{◌≡◌, ◌++◌, [], ◌∷◌, length, map, OnOk, IfOk, IfErr};
+ghost use Rattle.std.specs.Prelude.{◌≡◌, map, IfOk, IfErr};
 ghost use Rattle.lanes_c.specs.Opened.{answered_at};
 ghost use Rattle.lanes_c.specs.Queries.{AsksAll, AreAnswered, IsWhyNotAnswered, queries_in};
 ghost use Rattle.lanes_c.specs.Rooms.{Tells, given_by};
 
 use crate::fault::{Fault, Place};
+use crate::joined::Joined;
 use crate::opening::{answered_over, store_of};
 use crate::room::{fill, hand_out};
 use replica_store::Store;
 use std::alloc::{AllocError, Global};
-
-/// The answers of queries: their texts, one after another, and where each ends.
-#[derive(Drop)]
-struct Answers {
-    texts: Vec<u8>,
-    ends: Vec<usize>,
-}
-
-impl Answers {
-    /// No answers.
-    fn new(alloc: Global) -> Answers
-        ensures texts { result.texts.items ≡ [] }
-        ensures ends { result.ends.items ≡ [] }
-    {
-        Answers {
-            texts: Vec::new(alloc),
-            ends: Vec::new(alloc),
-        }
-    }
-
-    /// One answer more.
-    fn push(&mut self, text: &[u8]) -> Result<(), AllocError>
-        ensures texts { OnOk result (self.new.texts.items ≡ self.old.texts.items ++ text.now) }
-        ensures ends { OnOk result (self.new.ends.items ≡ self.old.ends.items ++ length self.new.texts.items ∷ []) }
-    {
-        self.texts.extend_from_slice(text)?;
-        self.ends.push(self.texts.len())?;
-        Ok(())
-    }
-}
 
 /// The queries of a text, as the line feeds between them cut it.
 fn queries_in(alloc: Global, sqls: &[u8]) -> Result<Vec<&[u8]>, AllocError>
@@ -48,11 +19,11 @@ fn queries_in(alloc: Global, sqls: &[u8]) -> Result<Vec<&[u8]>, AllocError>
 }
 
 /// The answers of queries over a store, up to the first that is refused.
-fn answers_over(alloc: Global, store: &Store, queries: &[&[u8]]) -> Result<Answers, Fault>
-    ensures answered { IfOk result (λ answers. AreAnswered (answered_at store.now.replica) (map (λ query. query.now) queries.now) answers.texts.items answers.ends.items) }
+fn answers_over(alloc: Global, store: &Store, queries: &[&[u8]]) -> Result<Joined, Fault>
+    ensures answered { IfOk result (λ answers. AreAnswered (answered_at store.now.replica) (map (λ query. query.now) queries.now) answers.bytes.items answers.ends.items) }
     ensures refused { IfErr result (λ fault. IsWhyNotAnswered (answered_at store.now.replica) (map (λ query. query.now) queries.now) fault) }
 {
-    let mut answers = Answers::new(alloc);
+    let mut answers = Joined::new(alloc);
     for query in 0..queries.len() {
         match answered_over(alloc, store, queries[query]) {
             Ok(text) => answers.push(text.as_slice())?,
@@ -75,7 +46,7 @@ fn answered_all(
     let queries = queries_in(alloc, sqls)?;
     let answers = answers_over(alloc, &store, queries.as_slice())?;
     fill(answers.ends.as_slice(), ends);
-    Ok(answers.texts)
+    Ok(answers.bytes)
 }
 
 /// Answers several queries over a file that is opened once: the queries of a text, which has a line feed between each two. It gives the

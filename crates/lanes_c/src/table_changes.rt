@@ -21,7 +21,7 @@ use store_view::names_where;
 use table_model::{BatchName, Counted, Number, Origin, Refusal, RowName};
 
 /// A copy of a store.
-fn copy_of(alloc: Global, store: &Store) -> Result<Store, Refusal>
+pub(crate) fn copy_of(alloc: Global, store: &Store) -> Result<Store, Refusal>
     ensures { Gives (λ copy. copy.replica) result (Ok store.now.replica) }
 {
     let nothing = Summary::empty(alloc, store.schema())?;
@@ -48,7 +48,12 @@ fn without_rows_where(alloc: Global, store: &Store, condition: &[u8]) -> Result<
 }
 
 /// What a store has without a range of rows of a batch.
-fn without_range(alloc: Global, store: &Store, first: RowName, last: u16) -> Result<Store, Fault>
+pub(crate) fn without_range(
+    alloc: Global,
+    store: &Store,
+    first: RowName,
+    last: u16,
+) -> Result<Store, Fault>
     ensures { Yields (changed_by result) (without_range first last store.now.replica) }
 {
     let mut changed = copy_of(alloc, store)?;
@@ -192,7 +197,7 @@ pub extern "C" fn lanes_table_delete(
 }
 
 /// The name of a row.
-fn row_name(origin: u32, number: u32, ordinal: u16) -> RowName
+pub(crate) fn row_name(origin: u32, number: u32, ordinal: u16) -> RowName
     ensures { result ≡ row_name origin number ordinal }
 {
     let batch = BatchName {

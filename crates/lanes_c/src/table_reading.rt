@@ -29,7 +29,7 @@ fn file_of(alloc: Global, store: &Store) -> Result<Vec<u8>, Fault>
 }
 
 /// The form of a report by its number.
-fn report_form(format: u8) -> ReportForm
+pub(crate) fn report_form(format: u8) -> ReportForm
     ensures { result ≡ report_form format }
 {
     if format == 2 {

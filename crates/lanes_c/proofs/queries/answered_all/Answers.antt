@@ -11,6 +11,6 @@ returns-in_err-answers c =
 
 pub returns : goal.returns
 returns c =
-    all_given c.args.sqls.now c.args.file.now c.in_ok-answers.answers.texts.items c.in_ok-answers.answers.ends.items c.as_slice-2.result.now c.args.ends.now c.fill.new.room
+    all_given c.args.sqls.now c.args.file.now c.in_ok-answers.answers.bytes.items c.in_ok-answers.answers.ends.items c.as_slice-2.result.now c.args.ends.now c.fill.new.room
     c.in_ok-store.store.replica c.as_slice.result.now c.in_ok-queries.queries.items
     c.in_ok-store.ensures.held c.as_slice.ensures.value c.in_ok-queries.ensures c.in_ok-answers.ensures.answered c.as_slice-2.ensures.value c.fill.ensures
