@@ -15,16 +15,16 @@ from distributed import Client, Nanny, Scheduler, SpecCluster
 
 #: The months that the shard of each machine has.
 MONTHS = {"one": range(1, 5), "two": [5, 6, 7, 8, 13], "three": range(9, 13)}
-#: What each worker does first. If there is a file `waits`, the next partial answer that is asked of it does not come.
+#: What each worker does first. If there is a file `waits`, the next read of its folder does not end.
 PRELOAD = """
 import lanes, os, time
 os.chdir({folder!r})
-def slow_partial(folder, sql, partial=lanes.Folder.partial):
+def slow_read(folder, read=lanes.Folder.read):
     if os.path.exists("waits"):
         os.rename("waits", "asked")
         time.sleep(600)
-    return partial(folder, sql)
-lanes.Folder.partial = slow_partial
+    return read(folder)
+lanes.Folder.read = slow_read
 """
 #: How long the page waits for a machine, and a test here.
 PAGE_WAITS, SECONDS = "timeout=60", 5
@@ -85,6 +85,7 @@ def the_page_asks_four_machines(room, text, wanted):
     """The page prints what it shows: with all machines, with one that is killed while it is asked, and with one that does not answer."""
     room = pathlib.Path(room)
     shards(room)
+    os.chdir(room)
     assert "tcp://HOST:8786" in text and text.count(PAGE_WAITS) == 2 and ", pure=False" in text, text
     with cluster_of(room) as cluster:
         assert printed(cluster, text) == wanted
@@ -100,8 +101,19 @@ def the_page_asks_four_machines(room, text, wanted):
             begun = time.monotonic()
             assert printed(cluster, text, SECONDS) == wanted
             assert time.monotonic() - begun >= SECONDS, "the machine was not waited for"
+            missing_is_told(cluster, room, text)
         finally:
             os.kill(process, signal.SIGKILL)
+
+
+def missing_is_told(cluster, room, text):
+    """If the replica of a machine that doesn't answer has not got its last batch, that is told. The machine has answered with it once."""
+    lanes.Folder(room / "one" / "visits").import_csv("2,1,1\n", heading=False, batch=(1, 20))
+    (room / "one.summary").write_bytes(lanes.Folder(room / "one" / "visits").summary())
+    try:
+        raise AssertionError(f"nothing is refused: {printed(cluster, text, SECONDS)}")
+    except lanes.Refused as refused:
+        assert refused.name == "Missing" and refused.place == (1, 20), refused
 
 
 def refused_without_pure(cluster, text):
