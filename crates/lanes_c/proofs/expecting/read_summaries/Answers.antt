@@ -12,7 +12,7 @@ loop-index-init c =
 pub loop-index-preserved : goal.loop-index-preserved
 loop-index-preserved c =
     one_read c.args.lengths.now c.args.summaries.now c.loop-index.index c.loop-index.read.items c.push.new.self.items c.loop-index.rest.now c.cut.result.1.now _ c.in-Ok.summary c.loop-index-test.true c.loop-index.invariant
-    (ap (λ (w : Bor (List ℕ) × ℕ). w.0.now) c.new.ensures ∙ c.cut.ensures.first) c.in-Ok.ensures.read c.cut.ensures.after c.in_ok-push-in-Ok.ensures
+    (ap (λ (w : Bor (List ℕ) × ℕ). w.0.now) c.new.ensures ∙ c.cut.ensures.first) c.in-Ok.ensures.read c.cut.ensures.after c.in_ok-push-in-Ok.ensures.items
 
 pub returns-clause-read : goal.returns-clause-read
 returns-clause-read c = all_read c.args.lengths.now c.args.summaries.now c.loop-index.index c.loop-index.read.items c.loop-index.rest.now c.loop-index-test.false c.loop-index.invariant
