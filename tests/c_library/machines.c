@@ -1,5 +1,6 @@
 /* A table on many machines: spread over files that are the table when they are merged; what partial answers and summaries cover; an answer
  * only if each batch that summaries name was counted; and a deletion only where its batch is. */
+#include "opened.h"
 #include "told.h"
 
 enum { MOST_SHARES = 12, BATCHES = 7 };
@@ -33,14 +34,6 @@ static bytes loaded(bytes file, const char *rows, uint32_t origin, uint32_t numb
     uint64_t no_words = 0;
     TAKE(made, lanes_import(file.at, file.length, text_of(rows), strlen(rows), false, origin, number, &no_words, 0, out, room, &length, &place));
     return made;
-}
-
-static lanes_table opened(bytes file) {
-    lanes_table table = LANES_CLOSED;
-    lanes_place place;
-    uint8_t refused = lanes_open(file.at, file.length, &table, &place);
-    if (refused != LANES_OK) end_at("lanes_open", refused, place);
-    return table;
 }
 
 static bytes partial_answer_of(bytes file) {

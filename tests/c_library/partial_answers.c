@@ -1,5 +1,6 @@
 /* Partial answers: combined in either order they are the same and give the answer over the merged file; hostile ones, a closed handle
  * and rooms of each size are met as lanes.h has it. */
+#include "opened.h"
 #include "told.h"
 
 static told cleared(void) {
@@ -54,14 +55,6 @@ static bytes loaded(bytes empty, const char *rows, uint32_t origin) {
     uint64_t no_words = 0;
     TAKE(made, lanes_import(empty.at, empty.length, text_of(rows), strlen(rows), false, origin, 1, &no_words, 0, out, room, &length, &place));
     return made;
-}
-
-static lanes_table opened(bytes file) {
-    lanes_table table = LANES_CLOSED;
-    lanes_place place;
-    uint8_t refused = lanes_open(file.at, file.length, &table, &place);
-    if (refused != LANES_OK) end_at("lanes_open", refused, place);
-    return table;
 }
 
 static bytes partial_answer_of(bytes file, const char *sql) {
